@@ -1,0 +1,34 @@
+-- Circuits, and the value of each wire.
+use Rattle.std.specs.Prelude.{ℕ, zero, suc, ◌+◌, ◌*◌, ◌%◌, Bool, true, false, nat_eq, if◌then◌else◌}
+use Rattle.mpc_ring.specs.Sums.{difference}
+use Rattle.circuit_model.specs.declared.gate.Operation.{Operation}
+use Rattle.circuit_model.specs.declared.gate.Operation.TheVariants.{Add, Sub, Neg, Mul, Xor, And, Inv, Eq, Eqw}
+use Rattle.circuit_model.specs.declared.gate.Gate.{Gate}
+
+abbrev pub is_product : Operation → Bool
+is_product Mul = true
+is_product And = true
+is_product _ = false
+
+-- what an operation with constant c makes of a and b
+abbrev pub operate : ℕ → Operation → ℕ → ℕ → ℕ → ℕ
+operate q Add c a b = (a + b) % q
+operate q Sub c a b = difference q a b
+operate q Neg c a b = difference q 0 a
+operate q Mul c a b = a * b % q
+operate q Xor c a b = (a + b) % q
+operate q And c a b = a * b % q
+operate q Inv c a b = (a + 1) % q
+operate q Eq c a b = c % q
+operate q Eqw c a b = a
+
+-- f, but a at w
+abbrev pub set_at : {A : Type 0} → (ℕ → A) → ℕ → A → ℕ → A
+set_at f w a v = if nat_eq v w then a else f v
+
+-- the value of each wire after the first t gates
+abbrev pub values : ℕ → (ℕ → Gate) → (ℕ → ℕ) → ℕ → ℕ → ℕ
+values q gates start zero = start
+values q gates start (suc t) =
+    set_at (values q gates start t) (gates t).output
+    (operate q (gates t).operation (gates t).constant (values q gates start t (gates t).first) (values q gates start t (gates t).second))
