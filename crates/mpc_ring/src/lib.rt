@@ -1,8 +1,8 @@
 //! The ring of the numbers below a power of two: sum, difference and product are taken modulo that power.
 #![tactic(auto)]
 
-ghost use Rattle.std.specs.Prelude.{◌≡◌, ℕ, ◌+◌, ◌*◌, ◌%◌, ◌^◌, ◌<◌, ◌≤◌, ◌⊎◌, All, MatchOption, nat_lt, sum};
-ghost use Rattle.mpc_ring.specs.Sums.{difference, DifferenceUndoes};
+ghost use Rattle.std.specs.Prelude.{◌≡◌, ℕ, ◌+◌, ◌*◌, ◌%◌, ◌^◌, ◌<◌, ◌≤◌, ◌⊎◌, All, MatchOption, nat_lt, length, slice_index};
+ghost use Rattle.mpc_ring.specs.Sums.{total, difference, DifferenceUndoes};
 
 use std::marker::Model;
 
@@ -97,14 +97,14 @@ impl Ring {
     /// The sum of the words, 0 for none.
     pub fn sum(self, words: &[u64]) -> u64
         requires words { All (λ word. word < 2 ^ self) words.now }
-        ensures is { result ≡ sum words.now % 2 ^ self }
+        ensures is { result ≡ total (length words.now) (slice_index words.now) % 2 ^ self }
         ensures below { result < 2 ^ self }
     {
-        let mut total = 0;
+        let mut sum = 0;
         for word in words {
-            total = self.add(total, *word);
+            sum = self.add(sum, *word);
         }
-        total
+        sum
     }
 
     /// Whether the number is in the ring.

@@ -77,5 +77,10 @@ pub record IsRun (r : Run) : Type 0 where
   pub scheme : IsScheme r.scheme
   pub products : (t : ℕ) (x y : ℕ → ℕ) → total r.scheme.shares (r.product t x y) % r.scheme.modulus ≡ total r.scheme.shares x * total r.scheme.shares y % r.scheme.modulus
 
+-- the summands that are dealt of a value add up to it
+abbrev pub DealtAddUp : Scheme → Type 0
+DealtAddUp s = (v : ℕ) (words : ℕ → ℕ) → total s.shares (dealt s v words) % s.modulus ≡ v % s.modulus
+
+-- where the summands of each wire add up to its value before the first gate, they do after each gate
 abbrev pub SumIsPlain : Run → (ℕ → ℕ) → Type 0
 SumIsPlain r v = AddUp r.scheme r.start v → (t : ℕ) → AddUp r.scheme (summands r t) (values r.scheme.modulus r.gates v t)

@@ -1,0 +1,6 @@
+use Rattle.mpc_ring.proofs.Modular.{mods_of_same}
+use Rattle.secret_sharing.proofs.Adding.{dealt_sum}
+use Rattle.secret_sharing.proofs.dealt_add_up.Goals as goal
+
+pub returns : goal.returns
+returns c = λ s h v words. mods_of_same (dealt_sum s h v words)

@@ -1,0 +1,17 @@
+//! Maurer's protocol over replicated additive shares (Maurer 2006; Ito, Saito, Nishizeki 1987) as definitions: how a
+//! value is dealt, how a product is made of the parties' own products, and what the gates of a circuit make of the
+//! summands of their wires.
+#![tactic(auto)]
+
+ghost use Rattle.std.specs.Prelude.{◌≡◌, ℕ};
+ghost use Rattle.secret_sharing.specs.Sharing.{Scheme, IsScheme, Run, IsRun, DealtAddUp, SumIsPlain};
+
+/// What is dealt adds up to the value that is dealt, whatever the tape words are.
+pub fn dealt_add_up()
+    ensures { (scheme : Scheme) → IsScheme scheme → DealtAddUp scheme }
+{}
+
+/// The summands of every wire add up to its plain value, for all nine operations.
+pub fn summands_add_up()
+    ensures { (run : Run) → IsRun run → (start : ℕ → ℕ) → SumIsPlain run start }
+{}
