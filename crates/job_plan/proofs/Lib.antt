@@ -1,0 +1,4 @@
+pub mod Planning
+pub mod Slots
+pub mod Apart
+pub mod Counting

@@ -1,0 +1,8 @@
+use Rattle.job_plan.proofs.Apart.{places_differ, places_by_deals}
+use Rattle.job_plan.proofs.laws.places_are_apart.Goals as goal
+
+pub returns-clause-apart : goal.returns-clause-apart
+returns-clause-apart c = places_differ
+
+pub returns-clause-by_deals : goal.returns-clause-by_deals
+returns-clause-by_deals c = places_by_deals

@@ -1,0 +1,11 @@
+use Rattle.std.proofs.Common.{ap, ◌∙◌}
+use Rattle.secret_sharing.specs.Sharing.{has_pair}
+use Rattle.product_duty.specs.Duties.{scheme_of}
+use Rattle.job_plan.specs.Plans.{scheme}
+use Rattle.job_plan.proofs.plan.Plan.multiplies.Goals as goal
+
+pub returns : goal.returns
+returns c =
+    c.deals.ensures c.self.inside.ring
+    ∙ ap (λ d. has_pair (scheme_of c.self.inside.ring d) c.args.p) c.self.invariant.0
+    ∙ ap (λ plan. has_pair (scheme plan) c.args.p) c.self.view_is

@@ -1,0 +1,6 @@
+pub mod Plans
+pub mod Messages
+pub mod Numbers
+pub mod Firsts
+pub mod Sound
+pub mod Multiply

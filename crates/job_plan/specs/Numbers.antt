@@ -1,0 +1,42 @@
+-- The numbers of messages, and the places of tape words.
+use Rattle.std.specs.Prelude.{◌≡◌, ℕ, ◌+◌, ◌-◌, ◌*◌, ◌<◌, Bool, ◌&&◌, nat_eq, length, slice_index_or, if◌then◌else◌}
+use Rattle.std.specs.List.{position_or_len}
+use Rattle.mpc_ring.specs.Sums.{total}
+use Rattle.job_plan.specs.Plans.{Plan, session, slot, slots, words_in, place, deals_in}
+use Rattle.job_plan.specs.declared.key.Key.{Key}
+use Rattle.job_plan.specs.Messages.{messages}
+
+abbrev pub same_key : Key → Key → Bool
+same_key a b = nat_eq a.session b.session && (nat_eq a.slot b.slot && (nat_eq a.share b.share && (nat_eq a.sender b.sender && nat_eq a.receiver b.receiver)))
+
+abbrev pub no_key : Key
+no_key = record { session = 0; slot = 0; share = 0; sender = 0; receiver = 0 }
+
+abbrev pub message : Plan → ℕ → Key
+message plan n = slice_index_or (messages plan) n no_key
+
+-- the number of a message, and the count of messages for any other key
+abbrev pub number : Plan → Key → ℕ
+number plan key = position_or_len (same_key key) (messages plan)
+
+-- messages and numbers are each other's inverse
+abbrev pub NumbersAreInverse : Plan → Type 0
+NumbersAreInverse plan = (n : ℕ) → n < length (messages plan) → number plan (message plan n) ≡ n
+
+-- different words of a party have different places
+abbrev pub PlacesDiffer : Plan → ℕ → Type 0
+PlacesDiffer plan p =
+    (s k i s' k' i' : ℕ) → s < length plan.sessions → k < slots (session plan s) → i < words_in plan (session plan s) p (slot (session plan s) k)
+    → s' < length plan.sessions → k' < slots (session plan s') → i' < words_in plan (session plan s') p (slot (session plan s') k')
+    → place plan p s k + i ≡ place plan p s' k' + i' → (s ≡ s') × (k ≡ k') × (i ≡ i')
+
+-- how many deals of p stand before slot k of session s, and in session s
+abbrev pub deals_before : Plan → ℕ → ℕ → ℕ → ℕ
+deals_before plan p s k = total k (λ j. if deals_in plan (session plan s) p (slot (session plan s) j) then 1 else 0)
+
+abbrev pub deals : Plan → ℕ → ℕ → ℕ
+deals plan p s = deals_before plan p s (slots (session plan s))
+
+-- the place of a deal by its number
+abbrev pub PlacesByDeals : Plan → ℕ → Type 0
+PlacesByDeals plan p = (s k : ℕ) → place plan p s k ≡ (length plan.groups - 1) * (total s (deals plan p) + deals_before plan p s k)

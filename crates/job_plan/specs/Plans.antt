@@ -1,0 +1,127 @@
+-- Plans: parties, maximal groups and sessions; the slots of a session, and what a party deals in them.
+use Rattle.std.specs.Prelude.{◌≡◌, ℕ, ◌+◌, ◌-◌, ◌<◌, Bool, false, ◌&&◌, nat_eq, nat_lt, if◌then◌else◌, List, [], ◌∷◌, ◌++◌, replicate, length, slice_index, slice_index_or}
+use Rattle.mpc_ring.specs.Sums.{total}
+use Rattle.circuit_model.specs.declared.gate.Gate.{Gate}
+use Rattle.circuit_model.specs.Circuits.{is_product}
+use Rattle.circuit_model.specs.declared.gate.Operation.TheVariants.{Add}
+use Rattle.secret_sharing.specs.Sharing.{Scheme, has_pair}
+use Rattle.party_set.specs.Parties.{Structure}
+use Rattle.job_plan.specs.declared.values.InputValue.{InputValue}
+use Rattle.job_plan.specs.declared.values.OutputValue.{OutputValue}
+use Rattle.share_layout.specs.Layouts as layout
+use Rattle.product_duty.specs.Duties as duties
+
+-- a circuit, with those who give its inputs and those who read its outputs
+pub record Session : Type 0 where
+  pub gates : List Gate
+  pub wires : ℕ
+  pub inputs : List InputValue
+  pub outputs : List OutputValue
+
+pub record Plan : Type 0 where
+  pub bits : ℕ
+  pub parties : ℕ
+  pub groups : List ℕ  -- the masks of the maximal tolerated groups
+  pub sessions : List Session
+
+-- ---- parties and summands
+
+abbrev pub structure : Plan → Structure
+structure plan = record { parties = plan.parties; groups = plan.groups }
+
+-- party p is outside group i
+abbrev pub holds : Plan → ℕ → ℕ → Bool
+holds plan = layout.holds (structure plan)
+
+-- the least party that passes
+abbrev pub least_party : Plan → (ℕ → Bool) → ℕ
+least_party plan = layout.least_party (structure plan)
+
+abbrev pub least_holder : Plan → ℕ → ℕ
+least_holder plan = layout.least_holder (structure plan)
+
+-- the least party that holds both summands
+abbrev pub duty : Plan → ℕ → ℕ → ℕ
+duty plan = duties.duty (structure plan)
+
+abbrev pub scheme : Plan → Scheme
+scheme plan = duties.scheme_of plan.bits (structure plan)
+
+-- no two groups cover all parties
+abbrev pub Q2 : Plan → Type 0
+Q2 plan = duties.Q2 (structure plan)
+
+pub record IsPlan (plan : Plan) : Type 0 where
+  pub bits : 0 < plan.bits
+  pub groups : 0 < length plan.groups
+  pub q2 : Q2 plan
+
+-- ---- wires
+
+-- the owner of each input wire
+abbrev pub owners_of : List InputValue → List ℕ
+owners_of [] = []
+owners_of (v ∷ vs) = replicate v.width v.owner ++ owners_of vs
+
+abbrev pub owners : Session → List ℕ
+owners s = owners_of s.inputs
+
+-- the readers of each output wire, as a mask
+abbrev pub readers_of : List OutputValue → List ℕ
+readers_of [] = []
+readers_of (v ∷ vs) = replicate v.width v.readers.mask ++ readers_of vs
+
+abbrev pub readers : Session → List ℕ
+readers s = readers_of s.outputs
+
+-- the last wires are the output wires
+abbrev pub output_wire : Session → ℕ → ℕ
+output_wire s o = s.wires - length (readers s) + o
+
+abbrev pub no_session : Session
+no_session = record { gates = []; wires = 0; inputs = []; outputs = [] }
+
+abbrev pub session : Plan → ℕ → Session
+session plan s = slice_index_or plan.sessions s no_session
+
+abbrev pub no_gate : Gate
+no_gate = record { operation = Add; first = 0; second = 0; output = 0; constant = 0 }
+
+abbrev pub gate : Session → ℕ → Gate
+gate s t = slice_index_or s.gates t no_gate
+
+-- ---- slots: an input wire, a gate or an output wire
+
+pub data Slot : Type 0 where
+  Input : (wire : ℕ) → Slot
+  At_gate : (gate : ℕ) → Slot
+  Output : (output : ℕ) → Slot
+
+abbrev pub slot : Session → ℕ → Slot
+slot s k =
+    if nat_lt k (length (owners s)) then Input k
+    else if nat_lt k (length (owners s) + length s.gates) then At_gate (k - length (owners s))
+    else Output (k - length (owners s) - length s.gates)
+
+abbrev pub slots : Session → ℕ
+slots s = length (owners s) + length s.gates + length (readers s)
+
+-- the party deals in this slot: an input of its own, or its part of a product
+abbrev pub deals_in : Plan → Session → ℕ → Slot → Bool
+deals_in plan s p (Input v) = nat_eq (slice_index (owners s) v) p
+deals_in plan s p (At_gate t) = is_product (gate s t).operation && has_pair (scheme plan) p
+deals_in plan s p (Output o) = false
+
+-- ---- tape words
+
+-- how many tape words p draws in this slot
+abbrev pub words_in : Plan → Session → ℕ → Slot → ℕ
+words_in plan s p k = if deals_in plan s p k then length plan.groups - 1 else 0
+
+-- how many p draws in session s
+abbrev pub words : Plan → ℕ → ℕ → ℕ
+words plan p s = total (slots (session plan s)) (λ k. words_in plan (session plan s) p (slot (session plan s) k))
+
+-- the place on p's tape of the first word that it draws in slot k of session s
+abbrev pub place : Plan → ℕ → ℕ → ℕ → ℕ
+place plan p s k = total s (words plan p) + total k (λ j. words_in plan (session plan s) p (slot (session plan s) j))

@@ -1,0 +1,15 @@
+//! Laws of the numbering.
+ghost use Rattle.std.specs.Prelude.{ℕ};
+ghost use Rattle.job_plan.specs.Plans.{Plan};
+ghost use Rattle.job_plan.specs.Numbers.{NumbersAreInverse, PlacesDiffer, PlacesByDeals};
+
+/// Messages and their numbers are each other's inverse.
+pub fn numbers_are_inverse()
+    ensures { (plan : Plan) → NumbersAreInverse plan }
+{}
+
+/// No tape word of a party serves two deals, and a deal's words stand behind those of the deals before it.
+pub fn places_are_apart()
+    ensures apart { (plan : Plan) (p : ℕ) → PlacesDiffer plan p }
+    ensures by_deals { (plan : Plan) (p : ℕ) → PlacesByDeals plan p }
+{}

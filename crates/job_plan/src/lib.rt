@@ -1,0 +1,17 @@
+//! Plans: who takes part in which sessions, and the numbering of messages and tape places that all parties share.
+#![tactic(auto)]
+
+mod key;
+mod laws;
+mod place;
+mod plan;
+mod session_part;
+mod starts;
+mod values;
+
+pub use key::Key;
+pub use laws::{numbers_are_inverse, places_are_apart};
+pub use place::Place;
+pub use plan::Plan;
+pub use session_part::SessionPart;
+pub use values::{InputValue, OutputValue};

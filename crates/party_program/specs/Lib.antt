@@ -1,0 +1,4 @@
+pub mod Programs
+pub mod States
+pub mod Along
+pub mod Proper

@@ -1,0 +1,6 @@
+//! Who multiplies which pair of summands.
+#![tactic(auto)]
+
+mod duty;
+
+pub use duty::Duty;

@@ -1,0 +1,5 @@
+pub mod Taking
+pub mod Sorting
+pub mod Meeting
+pub mod Lengths
+pub mod Lawfulness

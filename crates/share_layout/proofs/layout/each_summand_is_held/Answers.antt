@@ -1,0 +1,5 @@
+use Rattle.share_layout.proofs.Holding.{held}
+use Rattle.share_layout.proofs.layout.each_summand_is_held.Goals as goal
+
+pub returns : goal.returns
+returns c = held

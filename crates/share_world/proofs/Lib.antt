@@ -1,0 +1,5 @@
+pub mod Adding
+pub mod Locality
+pub mod Solving
+pub mod Joining
+pub mod Multiplying

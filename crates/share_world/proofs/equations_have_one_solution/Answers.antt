@@ -1,0 +1,8 @@
+use Rattle.share_world.proofs.Solving.{only_solution, is_solution}
+use Rattle.share_world.proofs.equations_have_one_solution.Goals as goal
+
+pub returns-clause-solves : goal.returns-clause-solves
+returns-clause-solves c = is_solution
+
+pub returns-clause-alone : goal.returns-clause-alone
+returns-clause-alone c = only_solution

@@ -1,0 +1,5 @@
+use Rattle.share_world.proofs.Joining.{locals_join}
+use Rattle.share_world.proofs.locals_join.Goals as goal
+
+pub returns : goal.returns
+returns c = locals_join

@@ -1,0 +1,8 @@
+use Rattle.share_world.proofs.Multiplying.{plain_is, words_are}
+use Rattle.share_world.proofs.multiply_job.Goals as goal
+
+pub returns-clause-plain : goal.returns-clause-plain
+returns-clause-plain c = plain_is
+
+pub returns-clause-words : goal.returns-clause-words
+returns-clause-words c = words_are

@@ -1,0 +1,5 @@
+use Rattle.share_world.proofs.Locality.{reads_before}
+use Rattle.share_world.proofs.reads_before.Goals as goal
+
+pub returns : goal.returns
+returns c = reads_before

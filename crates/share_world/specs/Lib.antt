@@ -1,0 +1,5 @@
+pub mod Worlds
+pub mod Locals
+pub mod Laws
+pub mod Solutions
+pub mod Multiply

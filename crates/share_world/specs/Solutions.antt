@@ -1,0 +1,62 @@
+-- The equations of the protocol over the wires of a valid circuit.
+use Rattle.std.specs.Prelude.{◌≡◌, ℕ, ◌+◌, ◌%◌, ◌<◌, ◌⊎◌, Bool, true, false, if◌then◌else◌, length, slice_index}
+use Rattle.mpc_ring.specs.Sums.{total}
+use Rattle.circuit_model.specs.declared.gate.Operation.{Operation}
+use Rattle.circuit_model.specs.Circuits.{is_product}
+use Rattle.circuit_model.specs.declared.gate.Operation.TheVariants.{Neg, Inv, Eq, Eqw}
+use Rattle.secret_sharing.specs.Sharing.{dealt, local, own_product, has_pair, summands}
+use Rattle.job_plan.specs.Plans.{owners, Session, Slot, scheme, session, gate, slot}
+use Rattle.job_plan.specs.Plans.Slot.{Input, At_gate, Output}
+use Rattle.share_world.specs.Worlds.{World, run_of, input_of, tape_word}
+
+abbrev pub reads_first : Operation → Bool
+reads_first Eq = false
+reads_first _ = true
+
+abbrev pub reads_second : Operation → Bool
+reads_second Neg = false
+reads_second Inv = false
+reads_second Eq = false
+reads_second Eqw = false
+reads_second _ = true
+
+-- wire v is an input wire, or the output of one of the first t gates
+abbrev pub SetBefore : Session → ℕ → ℕ → Type 0
+SetBefore s t v = (v < length (owners s)) ⊎ ((u : ℕ) × (u < t) × ((gate s u).output ≡ v))
+
+-- each gate reads set wires and sets a wire that isn't set
+pub record IsCircuit (s : Session) : Type 0 where
+  pub first : (t : ℕ) → t < length s.gates → reads_first (gate s t).operation ≡ true → SetBefore s t (gate s t).first
+  pub second : (t : ℕ) → t < length s.gates → reads_second (gate s t).operation ≡ true → SetBefore s t (gate s t).second
+  pub output : (t : ℕ) → t < length s.gates → SetBefore s t (gate s t).output → ⊥
+
+-- summands of the wires, and of the deals by party and slot, as the protocol has them
+pub record Solves (w : World) (s : ℕ) (sh : ℕ → ℕ → ℕ) (dl : ℕ → ℕ → ℕ → ℕ) : Type 0 where
+  pub input_deals : (v i : ℕ) → v < length (owners (session w.plan s)) → dl (slice_index (owners (session w.plan s)) v) v i ≡ dealt (scheme w.plan) (input_of w s v) (tape_word w s v (slice_index (owners (session w.plan s)) v)) i
+  pub product_deals : (t p i : ℕ) → t < length (session w.plan s).gates → is_product (gate (session w.plan s) t).operation ≡ true
+      → dl p (length (owners (session w.plan s)) + t) i ≡ dealt (scheme w.plan) (own_product (scheme w.plan) p (sh (gate (session w.plan s) t).first) (sh (gate (session w.plan s) t).second)) (tape_word w s (length (owners (session w.plan s)) + t) p) i
+  pub inputs : (v i : ℕ) → v < length (owners (session w.plan s)) → sh v i ≡ dl (slice_index (owners (session w.plan s)) v) v i
+  pub linear : (t i : ℕ) → t < length (session w.plan s).gates → is_product (gate (session w.plan s) t).operation ≡ false
+      → sh (gate (session w.plan s) t).output i ≡ local (scheme w.plan).modulus (gate (session w.plan s) t).operation (gate (session w.plan s) t).constant i (sh (gate (session w.plan s) t).first i) (sh (gate (session w.plan s) t).second i)
+  pub products : (t i : ℕ) → t < length (session w.plan s).gates → is_product (gate (session w.plan s) t).operation ≡ true
+      → sh (gate (session w.plan s) t).output i ≡ total w.plan.parties (λ p. if has_pair (scheme w.plan) p then dl p (length (owners (session w.plan s)) + t) i else 0) % (scheme w.plan).modulus
+  pub unset : (v i : ℕ) → (SetBefore (session w.plan s) (length (session w.plan s).gates) v → ⊥) → sh v i ≡ 0
+
+-- the summands are the only solution
+abbrev pub OnlySolution : World → ℕ → Type 0
+OnlySolution w s =
+    IsCircuit (session w.plan s) → (sh : ℕ → ℕ → ℕ) (dl : ℕ → ℕ → ℕ → ℕ) → Solves w s sh dl
+    → (v i : ℕ) → i < length w.plan.groups → sh v i ≡ summands (run_of w s) (length (session w.plan s).gates) v i
+
+-- summand i of what party p deals in a slot, from the wires' summands at the end
+abbrev pub deal_of : World → ℕ → ℕ → ℕ → Slot → ℕ → ℕ
+deal_of w s p k (Input v) = dealt (scheme w.plan) (input_of w s v) (tape_word w s k p)
+deal_of w s p k (At_gate t) =
+    dealt (scheme w.plan)
+    (own_product (scheme w.plan) p (summands (run_of w s) (length (session w.plan s).gates) (gate (session w.plan s) t).first) (summands (run_of w s) (length (session w.plan s).gates) (gate (session w.plan s) t).second))
+    (tape_word w s k p)
+deal_of w s p k (Output o) = λ i. 0
+
+-- the summands solve the equations
+abbrev pub IsSolution : World → ℕ → Type 0
+IsSolution w s = IsCircuit (session w.plan s) → Solves w s (summands (run_of w s) (length (session w.plan s).gates)) (λ p k. deal_of w s p k (slot (session w.plan s) k))

@@ -1,0 +1,59 @@
+-- A world: a plan, the inputs of all parties, and their tapes. Its words, and what a group sees.
+use Rattle.std.specs.Prelude.{ℕ, ◌+◌, ◌-◌, ◌^◌, ◌||◌, nat_eq, nat_lt, if◌then◌else◌, List, [], map, length, slice_index, slice_index_or, filter}
+use Rattle.mpc_ring.specs.Sums.{total}
+use Rattle.circuit_model.specs.Circuits.{values}
+use Rattle.secret_sharing.specs.Sharing.{Run, dealt, product_summand, own_value, summands}
+use Rattle.job_plan.specs.Plans.{owners, output_wire, Plan, Slot, scheme, session, gate, slot, place}
+use Rattle.job_plan.specs.declared.key.Key.{Key}
+use Rattle.job_plan.specs.Messages.{messages}
+use Rattle.party_set.specs.Parties.{has_party}
+use Rattle.job_plan.specs.Plans.Slot.{Input, At_gate, Output}
+
+pub record World : Type 0 where
+  pub plan : Plan
+  pub inputs : List (List (List ℕ))  -- by party, session, position
+  pub tapes : List (List ℕ)  -- by party
+
+-- the input of wire v, which is the next of its owner's inputs
+abbrev pub input_of : World → ℕ → ℕ → ℕ
+input_of w s v =
+    let owner = slice_index (owners (session w.plan s)) in
+    let p = owner v in
+    slice_index (slice_index_or (slice_index_or w.inputs p []) s []) (total v (λ u. if nat_eq (owner u) p then 1 else 0))
+
+-- word i of those that party p draws in slot k of session s
+abbrev pub tape_word : World → ℕ → ℕ → ℕ → ℕ → ℕ
+tape_word w s k p i = slice_index (slice_index_or w.tapes p []) (place w.plan p s k + i)
+
+abbrev pub first_values : World → ℕ → ℕ → ℕ
+first_values w s v = if nat_lt v (length (owners (session w.plan s))) then input_of w s v else 0
+
+abbrev pub first_summands : World → ℕ → ℕ → ℕ → ℕ
+first_summands w s v i =
+    if nat_lt v (length (owners (session w.plan s))) then dealt (scheme w.plan) (input_of w s v) (tape_word w s v (slice_index (owners (session w.plan s)) v)) i else 0
+
+-- the gates of session s
+abbrev pub run_of : World → ℕ → Run
+run_of w s = record {
+  scheme = scheme w.plan;
+  gates = gate (session w.plan s);
+  start = first_summands w s;
+  product = λ t. product_summand (scheme w.plan) (λ p v. dealt (scheme w.plan) v (tape_word w s (length (owners (session w.plan s)) + t) p));
+}
+
+-- the value of wire v
+abbrev pub plain : World → ℕ → ℕ → ℕ
+plain w s v = values (2 ^ w.plan.bits) (gate (session w.plan s)) (first_values w s) (length (session w.plan s).gates) v
+
+abbrev pub word_in : World → Key → Slot → ℕ
+word_in w k (Input v) = first_summands w k.session v k.share
+word_in w k (At_gate t) = dealt (scheme w.plan) (own_value (run_of w k.session) t k.sender) (tape_word w k.session (length (owners (session w.plan k.session)) + t) k.sender) k.share
+word_in w k (Output o) = summands (run_of w k.session) (length (session w.plan k.session).gates) (output_wire (session w.plan k.session) o) k.share
+
+-- the word of a message
+abbrev pub word : World → Key → ℕ
+word w k = word_in w k (slot (session w.plan k.session) k.slot)
+
+-- what the group of this mask sees
+abbrev pub view : World → ℕ → List (Key × ℕ)
+view w group = map (λ k. (k, word w k)) (filter (λ k. has_party group k.sender || has_party group k.receiver) (messages w.plan))

@@ -1,0 +1,42 @@
+//! Worlds (a plan, inputs and tapes), the sharing equations over them, and the laws that hold of every world.
+#![tactic(auto)]
+
+ghost use Rattle.std.specs.Prelude.{ℕ};
+ghost use Rattle.job_plan.specs.Plans.{IsPlan};
+ghost use Rattle.share_world.specs.Worlds.{World};
+ghost use Rattle.share_world.specs.Laws.{IsWorld, SumIsPlain, LocalIsDealt};
+ghost use Rattle.share_world.specs.Locals.{LocalsJoin, ReadsBefore};
+ghost use Rattle.share_world.specs.Solutions.{IsSolution, OnlySolution};
+ghost use Rattle.share_world.specs.Multiply.{MultiplyPlain, MultiplyWords};
+
+/// The summands of every wire add up to its plain value.
+pub fn sum_is_plain()
+    ensures { (w : World) → IsWorld w → SumIsPlain w }
+{}
+
+/// Over a valid circuit the summands solve the sharing equations (Maurer 2006), and nothing else does.
+pub fn equations_have_one_solution()
+    ensures solves { (w : World) (s : ℕ) → IsSolution w s }
+    ensures alone { (w : World) (s : ℕ) → OnlySolution w s }
+{}
+
+/// What a party computes by itself from the words that it got is what the equations say.
+pub fn local_is_dealt()
+    ensures { (w : World) → IsPlan w.plan → LocalIsDealt w }
+{}
+
+/// Parties that got what the senders send have the words of the equations.
+pub fn locals_join()
+    ensures { (w : World) → IsPlan w.plan → LocalsJoin w }
+{}
+
+/// A local run of the first gates reads only what was got in the slots before.
+pub fn reads_before()
+    ensures { (w : World) → ReadsBefore w }
+{}
+
+/// The worked job of one product has these words and this output, by computation.
+pub fn multiply_job()
+    ensures plain { MultiplyPlain }
+    ensures words { MultiplyWords }
+{}

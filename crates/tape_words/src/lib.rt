@@ -1,0 +1,8 @@
+//! Tapes of random words, each of which is drawn once and spent.
+#![tactic(auto)]
+
+mod tape;
+mod word;
+
+pub use tape::{SplitFault, Tape, TapeFault};
+pub use word::TapeWord;

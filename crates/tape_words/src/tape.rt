@@ -1,0 +1,190 @@
+//! Tapes, and how they are cut.
+ghost use Rattle.std.specs.Prelude.{◌≡◌, ◌^◌, ◌<◌, ◌≤◌, [], ◌∷◌, All, IfOk, IfErr, OnOk, MatchOption, length, sum};
+ghost use Rattle.tape_words.specs.Cuts.{cut, IsFirstOutside, IsRefusal};
+
+use crate::word::TapeWord;
+use mpc_ring::Ring;
+use std::alloc::{AllocError, Global};
+use std::marker::Model;
+
+/// Why words are no tape.
+#[derive(Clone, Copy, Debug, PartialEq, Eq)]
+pub enum TapeFault {
+    /// The first word outside the ring stands at this place, counted from 0.
+    WordOutOfRing { at: u64 },
+}
+
+/// Why a tape isn't cut.
+#[derive(Clone, Copy, Debug, PartialEq, Eq)]
+pub enum SplitFault {
+    /// The pieces need more words than are left.
+    TapeShort { wanted: u64, found: u64 },
+    /// There is no memory.
+    Memory,
+}
+
+/// A tape. Contracts see it as the list of the words that are left, the next one first.
+#[derive(Drop)]
+pub struct Tape {
+    words: Vec<u64>,
+    drawn: usize,
+}
+
+impl Model for Tape {
+    ghost use Rattle.std.specs.Prelude.{ℕ, ◌≤◌, List, drop, length};
+
+    ghost Value = { List ℕ };
+
+    ghost view = { λ t. drop t.drawn t.words.items };
+
+    ghost invariant = { λ t. t.drawn ≤ length t.words.items };
+}
+
+impl Tape {
+    /// The tape of these words, if each is in the ring.
+    pub fn from_words(ring: Ring, words: Vec<u64>) -> Result<Tape, TapeFault>
+        ensures kept { IfOk result (λ tape. tape ≡ words.items) }
+        ensures inside { OnOk result (All (λ word. word < 2 ^ ring) words.items) }
+        ensures first { IfErr result (IsFirstOutside (2 ^ ring) words.items) }
+    {
+        for (at, word) in words.iter().enumerate() {
+            if !ring.fits(*word) {
+                return Err(TapeFault::WordOutOfRing { at: at as u64 });
+            }
+        }
+        Ok(Tape { words, drawn: 0 })
+    }
+
+    /// How many words are left.
+    pub fn left(&self) -> u64
+        ensures { result ≡ length self.now }
+    {
+        (self.words.len() - self.drawn) as u64
+    }
+
+    /// Takes the next word off, None exactly where no word is left.
+    pub fn draw(&mut self) -> Option<TapeWord>
+        ensures { MatchOption result ((self.old ≡ []) × (self.new ≡ [])) (λ word. self.old ≡ word ∷ self.new) }
+    {
+        if self.drawn == self.words.len() {
+            return None;
+        }
+        let word = self.words[self.drawn];
+        self.drawn += 1;
+        Some(TapeWord::new(word))
+    }
+
+    /// Cuts the tape into consecutive pieces of so many words, and lets the rest go. Each refusal gives the whole
+    /// tape back.
+    pub fn split_sessions(
+        self,
+        alloc: Global,
+        counts: &[u32],
+    ) -> Result<Vec<Tape>, (SplitFault, Tape)>
+        requires { length counts.now ≤ 16 }
+        ensures enough { OnOk result (sum counts.now ≤ length self) }
+        ensures pieces { IfOk result (λ pieces. pieces.items ≡ cut counts.now self) }
+        ensures refused { IfErr result (λ fault. IsRefusal counts.now self fault.0) }
+        ensures back { IfErr result (λ fault. fault.1 ≡ self) }
+    {
+        let found = self.left();
+        let wanted = counts.iter().map(|count| u64::from(*count)).sum();
+        if found < wanted {
+            return Err((SplitFault::TapeShort { wanted, found }, self));
+        }
+        match self.pieces(alloc, counts) {
+            Ok(pieces) => Ok(pieces),
+            Err(_) => Err((SplitFault::Memory, self)),
+        }
+    }
+
+    fn pieces(&self, alloc: Global, counts: &[u32]) -> Result<Vec<Tape>, AllocError>
+        requires { sum counts.now ≤ length self.now }
+        ensures { IfOk result (λ pieces. pieces.items ≡ cut counts.now self.now) }
+    {
+        let mut rest = &self.words[self.drawn..];
+        let mut pieces = Vec::with_capacity(alloc, counts.len())?;
+        for count in counts {
+            let (piece, left) = rest.split_at(*count as usize);
+            let words = piece.to_vec(alloc)?;
+            pieces.push(Tape { words, drawn: 0 })?;
+            rest = left;
+        }
+        Ok(pieces)
+    }
+}
+
+#[cfg(test)]
+mod tests {
+    use super::*;
+    use std::process::Abort;
+    use std::test::Fail;
+
+    fn assert_draws(rt: &impl Abort, tape: &mut Tape, words: &[u64]) {
+        for word in words {
+            let drawn = tape.draw().map(|drawn| drawn.spend());
+            assert_eq!(rt; drawn, Some(*word));
+        }
+    }
+
+    fn assert_empty(rt: &impl Abort, tape: &mut Tape) {
+        let drawn = tape.draw().map(|drawn| drawn.spend());
+        assert_eq!(rt; drawn, None);
+    }
+
+    #[test]
+    fn a_word_is_drawn_once(rt: HostRuntime) -> Result<(), Fail> {
+        let ring = Ring::new(8).ok_or("no ring")?;
+        let mut tape = Tape::from_words(ring, vec![in rt.alloc(); 10]?)?;
+        assert_eq!(rt; tape.left(), 1);
+        assert_draws(&rt, &mut tape, &[10]);
+        assert_empty(&rt, &mut tape);
+        Ok(())
+    }
+
+    #[test]
+    fn words_of_the_ring_alone(rt: HostRuntime) -> Result<(), Fail> {
+        let ring = Ring::new(8).ok_or("no ring")?;
+        let fault = Tape::from_words(ring, vec![in rt.alloc(); 10, 256, 1, 300]?).err();
+        assert_eq!(rt; fault, Some(TapeFault::WordOutOfRing { at: 1 }));
+        Ok(())
+    }
+
+    #[test]
+    fn pieces_follow_each_other(rt: HostRuntime) -> Result<(), Fail> {
+        let ring = Ring::new(8).ok_or("no ring")?;
+        let tape = Tape::from_words(ring, vec![in rt.alloc(); 10, 20, 1, 2, 11, 21, 3, 4, 9]?)?;
+        match tape.split_sessions(rt.alloc(), &[4, 0, 4]) {
+            Err(_) => return Err(Fail::from("refused")),
+            Ok(mut pieces) => {
+                assert_eq!(rt; pieces.len(), 3);
+                assert_draws(&rt, &mut pieces[0], &[10, 20, 1, 2]);
+                assert_empty(&rt, &mut pieces[0]);
+                assert_empty(&rt, &mut pieces[1]);
+                assert_draws(&rt, &mut pieces[2], &[11, 21, 3, 4]);
+                assert_empty(&rt, &mut pieces[2]);
+            }
+        }
+        Ok(())
+    }
+
+    #[test]
+    fn a_short_tape_comes_back(rt: HostRuntime) -> Result<(), Fail> {
+        let ring = Ring::new(8).ok_or("no ring")?;
+        let tape = Tape::from_words(ring, vec![in rt.alloc(); 10, 20, 1]?)?;
+        match tape.split_sessions(rt.alloc(), &[4]) {
+            Ok(_) => return Err(Fail::from("accepted")),
+            Err((fault, mut tape)) => {
+                assert_eq!(rt;
+                    fault,
+                    SplitFault::TapeShort {
+                        wanted: 4,
+                        found: 3
+                    }
+                );
+                assert_draws(&rt, &mut tape, &[10, 20, 1]);
+            }
+        }
+        Ok(())
+    }
+}
