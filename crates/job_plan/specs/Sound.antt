@@ -1,6 +1,7 @@
 -- Plans within the limits, and the tables that go with a plan.
 use Rattle.std.specs.Prelude.{◌≡◌, ℕ, ◌+◌, ◌<◌, ◌≤◌, List, [], length, slice_index, slice_index_or}
-use Rattle.job_plan.specs.Plans.{readers, owners, Plan, Session, Slot, session, gate, slots}
+use Rattle.mpc_ring.specs.Sums.{total}
+use Rattle.job_plan.specs.Plans.{readers, owners, Plan, Session, Slot, session, gate, slots, words}
 use Rattle.job_plan.specs.declared.key.Key.{Key}
 use Rattle.job_plan.specs.Messages.{messages}
 use Rattle.job_plan.specs.Plans.Slot.{Input, At_gate, Output}
@@ -19,7 +20,7 @@ pub record IsSoundSession (parties : ℕ) (s : Session) : Type 0 where
   pub second : (t : ℕ) → t < length s.gates → (gate s t).second < s.wires
   pub output : (t : ℕ) → t < length s.gates → (gate s t).output < s.wires
 
--- all is within the limits
+-- all is within the limits: ring, parties, groups, sessions, messages, tape words of a party
 pub record IsSound (plan : Plan) : Type 0 where
   pub some_bits : 0 < plan.bits
   pub bits : plan.bits ≤ 32
@@ -27,8 +28,9 @@ pub record IsSound (plan : Plan) : Type 0 where
   pub parties : plan.parties ≤ 12
   pub some_groups : 0 < length plan.groups
   pub groups : length plan.groups ≤ 64
-  pub few_messages : length (messages plan) ≤ 1048576
   pub few_sessions : length plan.sessions ≤ 16
+  pub few_messages : length (messages plan) ≤ 1048576
+  pub few_words : (p : ℕ) → p < plan.parties → total (length plan.sessions) (words plan p) ≤ 1048576
   pub sessions : (s : ℕ) → s < length plan.sessions → IsSoundSession plan.parties (session plan s)
 
 -- the keys are the plan's messages in order, and the starts say where those of each slot begin
