@@ -5,7 +5,7 @@ use Rattle.circuit_model.specs.declared.gate.Gate.{Gate}
 use Rattle.circuit_model.specs.Circuits.{is_product}
 use Rattle.circuit_model.specs.declared.gate.Operation.TheVariants.{Add}
 use Rattle.secret_sharing.specs.Sharing.{Scheme, has_pair}
-use Rattle.party_set.specs.Parties.{Structure}
+use Rattle.party_set.specs.Parties.{Structure, IsAntichain, IsQ2}
 use Rattle.job_plan.specs.declared.values.InputValue.{InputValue}
 use Rattle.job_plan.specs.declared.values.OutputValue.{OutputValue}
 use Rattle.share_layout.specs.Layouts as layout
@@ -47,14 +47,11 @@ duty plan = duties.duty (structure plan)
 abbrev pub scheme : Plan → Scheme
 scheme plan = duties.scheme_of plan.bits (structure plan)
 
--- no two groups cover all parties
-abbrev pub Q2 : Plan → Type 0
-Q2 plan = duties.Q2 (structure plan)
-
+-- no group lies within another, and no two together are all parties
 pub record IsPlan (plan : Plan) : Type 0 where
   pub bits : 0 < plan.bits
-  pub groups : 0 < length plan.groups
-  pub q2 : Q2 plan
+  pub antichain : IsAntichain (structure plan)
+  pub q2 : IsQ2 (structure plan)
 
 -- ---- wires
 

@@ -1,7 +1,8 @@
 -- Plans within the limits, and the tables that go with a plan.
 use Rattle.std.specs.Prelude.{◌≡◌, ℕ, ◌+◌, ◌<◌, ◌≤◌, List, [], length, slice_index, slice_index_or}
 use Rattle.mpc_ring.specs.Sums.{total}
-use Rattle.job_plan.specs.Plans.{readers, owners, Plan, Session, Slot, session, gate, slots, words}
+use Rattle.party_set.specs.Parties.{IsAntichain, IsQ2}
+use Rattle.job_plan.specs.Plans.{readers, owners, structure, Plan, Session, Slot, session, gate, slots, words}
 use Rattle.job_plan.specs.declared.key.Key.{Key}
 use Rattle.job_plan.specs.Messages.{messages}
 use Rattle.job_plan.specs.Plans.Slot.{Input, At_gate, Output}
@@ -20,14 +21,13 @@ pub record IsSoundSession (parties : ℕ) (s : Session) : Type 0 where
   pub second : (t : ℕ) → t < length s.gates → (gate s t).second < s.wires
   pub output : (t : ℕ) → t < length s.gates → (gate s t).output < s.wires
 
--- all is within the limits: ring, parties, groups, sessions, messages, tape words of a party
+-- the groups are maximal ones of which no two cover all parties, and all is within the limits: ring, parties, groups,
+-- sessions, messages, tape words of a party
 pub record IsSound (plan : Plan) : Type 0 where
   pub some_bits : 0 < plan.bits
   pub bits : plan.bits ≤ 32
-  pub some_parties : 0 < plan.parties
-  pub parties : plan.parties ≤ 12
-  pub some_groups : 0 < length plan.groups
-  pub groups : length plan.groups ≤ 64
+  pub antichain : IsAntichain (structure plan)
+  pub q2 : IsQ2 (structure plan)
   pub few_sessions : length plan.sessions ≤ 16
   pub few_messages : length (messages plan) ≤ 1048576
   pub few_words : (p : ℕ) → p < plan.parties → total (length plan.sessions) (words plan p) ≤ 1048576

@@ -1,7 +1,7 @@
 -- All desks of a world, on plain cells.
 use Rattle.std.specs.Prelude.{true, ◌≡◌, ◌⊎◌, ℕ, ◌+◌, ◌-◌, ◌*◌, ◌/◌, ◌%◌, ◌<◌, ◌^◌, nat_eq, if◌then◌else◌, List, [], ◌∷◌, take, drop, length, slice_index, slice_index_or, get_or, Option, Some, None}
 use Rattle.mpc_ring.specs.Sums.{total}
-use Rattle.job_plan.specs.Plans.{owners, Plan, session, words, place, Q2}
+use Rattle.job_plan.specs.Plans.{owners, Plan, session, words, place}
 use Rattle.job_plan.specs.Messages.{messages}
 use Rattle.party_set.specs.Parties.{has_party}
 use Rattle.job_plan.specs.Numbers.{message}
@@ -35,7 +35,6 @@ program_of w k = program w.plan (k % w.plan.parties) (k / w.plan.parties)
 -- a world within the limits: its inputs and tapes have the lengths that the plan asks for, and words of the ring
 pub record IsWhole (w : World) : Type 0 where
   pub sound : IsSound w.plan
-  pub q2 : Q2 w.plan
   pub tapes : (p : ℕ) → p < w.plan.parties → length (slice_index_or w.tapes p []) ≡ total (length w.plan.sessions) (words w.plan p)
   pub inputs : (p s : ℕ) → p < w.plan.parties → s < length w.plan.sessions
       → length (slice_index_or (slice_index_or w.inputs p []) s []) ≡ total (length (owners (session w.plan s))) (λ v. if nat_eq (slice_index (owners (session w.plan s)) v) p then 1 else 0)

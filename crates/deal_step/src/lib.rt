@@ -1,0 +1,71 @@
+//! Dealing a value: its replicated additive summands are words off a tape, and last what is missing to the value
+//! (Ito, Saito, Nishizeki 1987; Maurer 2006).
+#![tactic(auto)]
+
+ghost use Rattle.std.specs.Prelude.{◌≡◌, ℕ, ◌+◌, ◌-◌, ◌^◌, ◌<◌, ◌≤◌, All, length, slice_index, drop};
+ghost use Rattle.secret_sharing.specs.Sharing.{Scheme};
+ghost use Rattle.deal_step.specs.Deals.{IsDealt};
+
+use mpc_ring::Ring;
+use tape_words::Tape;
+
+/// Deals `value`: draws a word off the tape for each place of `out` but the last, spends it there, and writes into
+/// the last place what is missing to the value.
+pub fn deal(ring: Ring, value: u64, tape: &mut Tape, out: &mut [u64])
+    requires value { value < 2 ^ ring }
+    requires words { All (λ word. word < 2 ^ ring) tape.old }
+    requires some { 0 < length out.old }
+    requires enough { length out.old - 1 ≤ length tape.old }
+    ensures tape { tape.new ≡ drop (length out.old - 1) tape.old }
+    ensures dealt { (s : Scheme) → s.modulus ≡ 2 ^ ring → s.shares ≡ length out.new → IsDealt s value tape.old out.new }
+    ensures below { All (λ word. word < 2 ^ ring) out.new }
+{
+    let last = out.len() - 1;
+    let mut sum = 0;
+    for place in &mut out[..last] {
+        let word = next_word(ring, tape);
+        *place = word;
+        sum = ring.add(sum, word);
+    }
+    out[last] = ring.sub(value, sum);
+}
+
+// Draws the next word and spends it.
+fn next_word(ring: Ring, tape: &mut Tape) -> u64
+    requires words { All (λ word. word < 2 ^ ring) tape.old }
+    requires some { 0 < length tape.old }
+    ensures is { result ≡ slice_index tape.old 0 }
+    ensures tape { tape.new ≡ drop 1 tape.old }
+    ensures words { All (λ word. word < 2 ^ ring) tape.new }
+    ensures below { result < 2 ^ ring }
+{
+    tape.draw().unwrap().spend()
+}
+
+#[cfg(test)]
+mod tests {
+    use super::*;
+    use std::test::Fail;
+
+    #[test]
+    fn two_words_and_a_difference(rt: HostRuntime) -> Result<(), Fail> {
+        let ring = Ring::new(8).ok_or("no ring")?;
+        let mut tape = Tape::from_words(ring, vec![in rt.alloc(); 10, 20, 1]?)?;
+        let mut summands = [0; 3];
+        deal(ring, 5, &mut tape, &mut summands);
+        assert_eq!(rt; summands, [10, 20, 231]);
+        assert_eq!(rt; tape.left(), 1);
+        Ok(())
+    }
+
+    #[test]
+    fn one_summand_is_the_value(rt: HostRuntime) -> Result<(), Fail> {
+        let ring = Ring::new(8).ok_or("no ring")?;
+        let mut tape = Tape::from_words(ring, vec![in rt.alloc(); 10]?)?;
+        let mut summands = [0; 1];
+        deal(ring, 6, &mut tape, &mut summands);
+        assert_eq!(rt; summands, [6]);
+        assert_eq!(rt; tape.left(), 1);
+        Ok(())
+    }
+}

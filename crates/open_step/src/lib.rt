@@ -1,0 +1,31 @@
+//! Opening a value: its summands are added up (Maurer 2006).
+#![tactic(auto)]
+
+ghost use Rattle.std.specs.Prelude.{◌≡◌, ◌%◌, ◌^◌, ◌<◌, All, length, slice_index};
+ghost use Rattle.mpc_ring.specs.Sums.{total};
+
+use mpc_ring::Ring;
+
+/// The value whose summands these are.
+pub fn open_sum(ring: Ring, words: &[u64]) -> u64
+    requires words { All (λ word. word < 2 ^ ring) words.now }
+    ensures is { result ≡ total (length words.now) (slice_index words.now) % 2 ^ ring }
+    ensures below { result < 2 ^ ring }
+{
+    ring.sum(words)
+}
+
+#[cfg(test)]
+mod tests {
+    use super::*;
+    use std::test::Fail;
+
+    #[test]
+    fn summands_of_a_product(rt: HostRuntime) -> Result<(), Fail> {
+        let ring = Ring::new(8).ok_or("no ring")?;
+        assert_eq!(rt; open_sum(ring, &[9, 12, 14]), 35);
+        assert_eq!(rt; open_sum(ring, &[10, 20, 231]), 5);
+        assert_eq!(rt; open_sum(ring, &[]), 0);
+        Ok(())
+    }
+}

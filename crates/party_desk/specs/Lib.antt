@@ -1,0 +1,4 @@
+pub mod Rows
+pub mod Memories
+pub mod Desks
+pub mod Reserving
