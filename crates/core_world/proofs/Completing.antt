@@ -12,11 +12,11 @@ use Rattle.share_world.specs.Worlds.{World, word}
 use Rattle.mpc_ring.proofs.Laying.{length-joined}
 use Rattle.mpc_ring.proofs.Totals.{total_eq}
 use Rattle.message_board.specs.Plain.{plain_cell}
-use Rattle.message_board.specs.declared.cells.PlainCells.{PlainCells}
+use Rattle.message_board.specs.declared.plain.PlainCells.{PlainCells}
 use Rattle.party_desk.specs.declared.desk.Desk.{Desk}
 use Rattle.job_plan.specs.Firsts.{count, session_count, first}
 use Rattle.party_program.specs.Programs.{program, at}
-use Rattle.core_world.specs.Wholes.{IsState, AllEnded, AllFull}
+use Rattle.core_world.specs.States.{IsState, AllEnded, AllFull}
 use Rattle.program_laws.specs.Lawful.{IsWhole, program_of}
 use Rattle.program_laws.proofs.Lawfulness.{is_plan}
 use Rattle.core_world.proofs.Ranks.{posted_in, each_sender, beside}
@@ -40,7 +40,7 @@ all_full w ds cells whole h ended d0 n ln =
     let k : ℕ = b.0 in
     let j : ℕ = b.1 in
     let is : n ≡ first plan s k + j = (let x = a.4 in let y = b.4 in omega arith) in
-    let owner = (whole.sound.sessions s ls).owner in
+    let owner = (whole.sound.sessions s ls).owned in
     let post' = posted_in plan (is_plan w whole) s 0 ls owner k j b.2 b.3 in
     let m : ℕ = first plan s k + j in
     let d : ℕ = (message plan m).sender in

@@ -13,12 +13,12 @@ use Rattle.mpc_ring.proofs.Totals.{total_eq}
 use Rattle.share_world.proofs.Adding.{world_sums}
 use Rattle.share_world.proofs.Locality.{local_is_dealt}
 use Rattle.job_plan.proofs.Slots.{slot_output}
-use Rattle.message_board.specs.declared.cells.PlainCells.{PlainCells}
+use Rattle.message_board.specs.declared.plain.PlainCells.{PlainCells}
 use Rattle.party_desk.specs.declared.desk.Desk.{Desk}
 use Rattle.party_program.specs.Programs.{program}
 use Rattle.party_program.specs.States.{new_state, state}
 use Rattle.program_laws.specs.Meets.{local_output}
-use Rattle.core_world.specs.Wholes.{IsState, AllEnded, Delivers}
+use Rattle.core_world.specs.States.{IsState, AllEnded, Delivers}
 use Rattle.program_laws.specs.Lawful.{given_in, IsWhole}
 use Rattle.party_program.proofs.Along.{state_is, run_all}
 use Rattle.program_laws.proofs.Meeting.{met}

@@ -10,7 +10,7 @@ use Rattle.std.proofs.lemmas.Nat.{div-mul-add, mod-mul-add}
 use mathlib.Core.Logic.{inl, inr}
 use Rattle.mpc_ring.specs.Sums.{joined, only_if}
 use Rattle.circuit_model.specs.Circuits.{is_product}
-use Rattle.job_plan.specs.Plans.{readers, owners, Plan, Slot, session, gate, slot, slots, holds, least_holder, deals_in, IsPlan}
+use Rattle.job_plan.specs.Plans.{structure, readers, owners, Plan, Slot, session, gate, slot, slots, holds, least_holder, deals_in, IsPlan}
 use Rattle.job_plan.specs.declared.key.Key.{Key}
 use Rattle.party_set.specs.Parties.{has_party}
 use Rattle.job_plan.specs.Messages.{messages, slot_messages, deal_message, deal_messages, open_messages}
@@ -19,16 +19,16 @@ use Rattle.job_plan.specs.Numbers.{message, deals_before}
 use Rattle.share_world.specs.Worlds.{World, word}
 use Rattle.mpc_ring.proofs.Laying.{every_joined, every_only_if, every_append}
 use Rattle.job_plan.proofs.Slots.{slot_cases}
-use Rattle.job_plan.proofs.Planning.{least_party_is}
+use Rattle.share_layout.proofs.Holding.{held}
 use Rattle.message_board.specs.Plain.{plain_cell}
-use Rattle.message_board.specs.declared.cells.PlainCells.{PlainCells}
+use Rattle.message_board.specs.declared.plain.PlainCells.{PlainCells}
 use Rattle.party_program.specs.declared.program.Instruction.{Instruction}
 use Rattle.party_program.specs.declared.program.Instruction.TheVariants.{Deal, Post, Take, Linear, Own, Sum, Deliver, End}
 use Rattle.party_desk.specs.declared.desk.Desk.{Desk}
 use Rattle.job_plan.specs.Firsts.{count, first}
 use Rattle.party_program.specs.Programs.{program, at, from, to, post, take_of, opening, closing, posts, takes, slot_program}
 use Rattle.job_plan.specs.Firsts.{numbers}
-use Rattle.core_world.specs.Wholes.{IsState, AllStuck, AllEnded}
+use Rattle.core_world.specs.States.{IsState, AllStuck, AllEnded}
 use Rattle.program_laws.specs.Lawful.{IsWhole, program_of}
 use Rattle.job_plan.proofs.Counting.{each_number, every_filter}
 
@@ -120,12 +120,12 @@ module _ (plan : Plan) where
   of_slot h s k (Input v) o = every_joined (Of k) (length plan.groups) (λ i. joined plan.parties (deal_message plan s k (slice_index (owners (session plan s)) v) i)) (λ i li. every_joined (Of k) plan.parties (deal_message plan s k (slice_index (owners (session plan s)) v) i) (λ r lr. every_only_if (Of k) (not (nat_eq r (slice_index (owners (session plan s)) v)) && holds plan r i) (record { session = s; slot = k; share = i; sender = slice_index (owners (session plan s)) v; receiver = r } ∷ []) (λ e. ((refl, o v refl), tt))))
   of_slot h s k (At_gate t) o = every_joined (Of k) plan.parties _ (λ d ld. every_only_if (Of k) (deals_in plan (session plan s) d (At_gate t)) (deal_messages plan s k d) (λ e. every_joined (Of k) (length plan.groups) (λ i. joined plan.parties (deal_message plan s k d i)) (λ i li. every_joined (Of k) plan.parties (deal_message plan s k d i) (λ r lr. every_only_if (Of k) (not (nat_eq r d) && holds plan r i) (record { session = s; slot = k; share = i; sender = d; receiver = r } ∷ []) (λ e. ((refl, ld), tt))))))
   of_slot h s k (Output o') o = every_joined (Of k) plan.parties _ (λ r lr. every_only_if (Of k) (has_party (slice_index (readers (session plan s)) o') r) (open_messages plan s k r) (λ e. every_joined (Of k) (length plan.groups) (λ i. only_if (not (holds plan r i)) (record { session = s; slot = k; share = i; sender = least_holder plan i; receiver = r } ∷ [])) (λ i li. every_only_if (Of k) (not (holds plan r i)) (record { session = s; slot = k; share = i; sender = least_holder plan i; receiver = r } ∷ [])
-      (λ e. ((refl, (let a = h.q2 i i li li in (least_party_is plan (λ p. holds plan p i) a.0 a.1 a.2).0)), tt)))))
+      (λ e. ((refl, (held (structure plan) h.antichain i li).party), tt)))))
 
-  module _ (h : IsPlan plan) (s p : ℕ) (ls : s < length plan.sessions) (owners : (v : ℕ) → v < length (owners (session plan s)) → slice_index (owners (session plan s)) v < plan.parties) where
+  module _ (h : IsPlan plan) (s p : ℕ) (ls : s < length plan.sessions) (owned : (v : ℕ) → v < length (owners (session plan s)) → slice_index (owners (session plan s)) v < plan.parties) where
     input_is : (k v : ℕ) → k < slots (session plan s) → slot (session plan s) k ≡ Input v → slice_index (owners (session plan s)) v < plan.parties
     input_is k v lk = slot_cases (session plan s) (λ k z. z ≡ Input v → slice_index (owners (session plan s)) v < plan.parties)
-        (λ u lu e. let same : u ≡ v = cc in subst (λ z. slice_index (owners (session plan s)) z < plan.parties) same (owners u lu))
+        (λ u lu e. let same : u ≡ v = cc in subst (λ z. slice_index (owners (session plan s)) z < plan.parties) same (owned u lu))
         (λ t lt e. absurd (cc)) (λ o lo e. absurd (cc)) k lk
 
     each : (k : ℕ) → k < slots (session plan s) → AllByRecursion (λ n. (n < length (messages plan)) × Of k (message plan n)) (numbers plan s k)
@@ -246,7 +246,7 @@ module _ (w : World) (whole : IsWhole w) (ds : List Desk) (cells : PlainCells) (
   ]
 
   owners_of : (s : ℕ) → s < length w.plan.sessions → (v : ℕ) → v < length (owners (session w.plan s)) → slice_index (owners (session w.plan s)) v < parties
-  owners_of s ls = (whole.sound.sessions s ls).owner
+  owners_of s ls = (whole.sound.sessions s ls).owned
 
   waits : (r k : ℕ) → k < length ds → ((j : ℕ) → j < length ds → rank w.plan (here j) < r → pos j ≡ length (program_of w j)) → rank w.plan (here k) < suc r
       → (n : ℕ) × (i : ℕ) × (here k ≡ Take n i) × (plain_cell cells.cells n ≡ None) → ⊥
@@ -291,7 +291,7 @@ module _ (w : World) (whole : IsWhole w) (ds : List Desk) (cells : PlainCells) (
 pub end_is_last : (w : World) (s p q : ℕ) → IsWhole w → s < length w.plan.sessions → q < length (program w.plan p s) → at (program w.plan p s) q ≢ End
 end_is_last w s p q whole ls lq e =
     let plan' : IsPlan w.plan = record { bits = whole.sound.some_bits; antichain = whole.sound.antichain; q2 = whole.sound.q2 } in
-    let owner = (whole.sound.sessions s ls).owner in
+    let owner = (whole.sound.sessions s ls).owned in
     subst (Posted w.plan plan' s p ls owner) e (at_within (Posted w.plan plan' s p ls owner) (program w.plan p s) q lq (all_posted w.plan plan' s p ls owner))
 
 pub stuck_is_ended : (w : World) (ds : List Desk) (cells : PlainCells) → IsWhole w → IsState w ds cells → AllStuck w ds cells.cells → AllEnded w ds

@@ -12,7 +12,7 @@ use Rattle.job_plan.specs.Numbers.{message}
 use Rattle.share_world.specs.Worlds.{World, word}
 use Rattle.job_plan.specs.Plans.{output_wire}
 use Rattle.message_board.specs.Plain.{plain_cell, plain_put}
-use Rattle.message_board.specs.declared.cells.PlainCells.{PlainCells}
+use Rattle.message_board.specs.declared.plain.PlainCells.{PlainCells}
 use Rattle.party_program.specs.declared.program.Instruction.{Instruction}
 use Rattle.party_program.specs.declared.program.Instruction.TheVariants.{Deal, Post, Take, Linear, Own, Sum, Deliver, End}
 use Rattle.party_desk.specs.declared.desk.Desk.{Desk}
@@ -23,7 +23,7 @@ use Rattle.party_program.specs.States.{Given, State, slot_at, slot_of, posted, s
 use Rattle.party_desk.specs.Memories.{state_of, Alike, Fits, CanDeal, FindsInput}
 use Rattle.party_desk.specs.Desks.{Stands, Allowed, Advanced, Effect, Waits, Did, IsDesk, instruction_at}
 use Rattle.party_program.specs.Proper.{Proper, IsGiven, HasInput}
-use Rattle.core_world.specs.Wholes.{IsState, Stuck, moves_of, left, left_all, puts, takes_from}
+use Rattle.core_world.specs.States.{IsState, Stuck, moves_of, left, left_all, puts, takes_from}
 use Rattle.program_laws.specs.Lawful.{given_to, program_of, IsWhole, Lawful}
 use Rattle.party_desk.proofs.Keeping.{kept}
 use Rattle.core_world.proofs.Ranks.{end_is_last}
@@ -133,24 +133,24 @@ module _ (w : World) (lawful : Lawful w) (ds : List Desk) (cells : PlainCells) (
   -- ---- what a step leaves
 
   record CellsAfter (new : PlainCells) : Type 0 where
-    pub count : length new.cells.items ≡ length cells.cells
+    pub count : length new.cells ≡ length cells.cells
     pub bits : new.bits ≡ cells.bits
-    pub words : (n v : ℕ) → plain_cell new.cells.items n ≡ Some v → v ≡ word w (message w.plan n)
-    pub keeps : (n v : ℕ) → plain_cell cells.cells n ≡ Some v → plain_cell new.cells.items n ≡ Some v
-    pub posts : (n j : ℕ) → i ≡ Post n j → plain_cell new.cells.items n ≡ Some (word w (message w.plan n))
-    pub comes : (n v : ℕ) → plain_cell new.cells.items n ≡ Some v → (plain_cell cells.cells n ≡ Some v) ⊎ ((j : ℕ) × (i ≡ Post n j))
+    pub words : (n v : ℕ) → plain_cell new.cells n ≡ Some v → v ≡ word w (message w.plan n)
+    pub keeps : (n v : ℕ) → plain_cell cells.cells n ≡ Some v → plain_cell new.cells n ≡ Some v
+    pub posts : (n j : ℕ) → i ≡ Post n j → plain_cell new.cells n ≡ Some (word w (message w.plan n))
+    pub comes : (n v : ℕ) → plain_cell new.cells n ≡ Some v → (plain_cell cells.cells n ≡ Some v) ⊎ ((j : ℕ) × (i ≡ Post n j))
 
   same_cells : (new : PlainCells) → new ≡ cells → ((n j : ℕ) → i ≢ Post n j) → CellsAfter new
   same_cells new e none = record {
-    count = ap (λ z. length z.cells.items) e;
+    count = ap (λ z. length z.cells) e;
     bits = ap (λ z. z.bits) e;
-    words = λ n v f. h.words n v (sym (ap (λ z. plain_cell z.cells.items n) e) ∙ f);
-    keeps = λ n v f. ap (λ z. plain_cell z.cells.items n) e ∙ f;
+    words = λ n v f. h.words n v (sym (ap (λ z. plain_cell z.cells n) e) ∙ f);
+    keeps = λ n v f. ap (λ z. plain_cell z.cells n) e ∙ f;
     posts = λ n j f. absurd (none n j f);
-    comes = λ n v f. inl (sym (ap (λ z. plain_cell z.cells.items n) e) ∙ f);
+    comes = λ n v f. inl (sym (ap (λ z. plain_cell z.cells n) e) ∙ f);
   }
 
-  put_cells : (new : PlainCells) (n j : ℕ) (x : ℕ) → i ≡ Post n j → n < length cells.cells → x ≡ word w (message w.plan n) → new.cells.items ≡ plain_put cells.cells n x → new.bits ≡ cells.bits → CellsAfter new
+  put_cells : (new : PlainCells) (n j : ℕ) (x : ℕ) → i ≡ Post n j → n < length cells.cells → x ≡ word w (message w.plan n) → new.cells ≡ plain_put cells.cells n x → new.bits ≡ cells.bits → CellsAfter new
   put_cells new n j x e less is put bits = record {
     count = ap length put ∙ put_length cells.cells n x less;
     bits = bits;
@@ -166,7 +166,7 @@ module _ (w : World) (lawful : Lawful w) (ds : List Desk) (cells : PlainCells) (
 
   after_effect : (e : Instruction) (x : ℕ) (new : PlainCells) → i ≡ e → Proper w.plan l.session e → Effect puts takes_from w.plan d x cells new e → CellsAfter new
   after_effect (Deal k j) x new e p f = same_cells new f (λ n j' g. let a : Deal k j ≡ Post n j' = sym e ∙ g in cc)
-  after_effect (Post n j) x new e p f = put_cells new n j _ e (let a = p.number in let b = h.count in omega arith) (posts_right n j e) f.1.0 f.1.2
+  after_effect (Post n j) x new e p f = put_cells new n j _ e (let a = p.number in let b = h.count in omega arith) (posts_right n j e) (ap (λ z. z.cells) f.1.0) (ap (λ z. z.bits) f.1.0)
   after_effect (Take n j) x new e p f = same_cells new f.0 (λ n' j' g. let a : Take n j ≡ Post n' j' = sym e ∙ g in cc)
   after_effect (Linear k) x new e p f = same_cells new f (λ n j' g. let a : Linear k ≡ Post n j' = sym e ∙ g in cc)
   after_effect (Own k) x new e p f = same_cells new f (λ n j' g. let a : Own k ≡ Post n j' = sym e ∙ g in cc)

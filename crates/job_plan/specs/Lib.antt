@@ -4,3 +4,4 @@ pub mod Numbers
 pub mod Firsts
 pub mod Sound
 pub mod Multiply
+pub mod InputWords

@@ -1,6 +1,7 @@
 //! Plans: who takes part in which sessions, and the numbering of messages and tape places that all parties share.
 #![tactic(auto)]
 
+mod inputs;
 mod key;
 mod laws;
 mod place;
@@ -9,6 +10,7 @@ mod session_part;
 mod starts;
 mod values;
 
+pub use inputs::Inputs;
 pub use key::Key;
 pub use laws::{numbers_are_inverse, places_are_apart};
 pub use place::Place;

@@ -1,4 +1,5 @@
-//! Resharing a product: each party adds up the products of the pairs that are its duty (Maurer 2006).
+//! Multiplying: each party multiplies the pairs of summands that are its duty, deals the sum of those products anew, and
+//! adds up what was dealt to it (Maurer 2006).
 #![tactic(auto)]
 
 ghost use Rattle.std.specs.Prelude.{◌≡◌, ℕ, ◌+◌, ◌%◌, ◌^◌, ◌<◌, All, length, slice_index};
@@ -9,7 +10,8 @@ ghost use Rattle.product_duty.specs.Duties.{scheme_of};
 use mpc_ring::Ring;
 use product_duty::Duty;
 
-/// The sum of the products of the summands of x and y over the pairs that are party `p`'s duty.
+/// The sum of the products that are party `p`'s duty, for the summands `x` of one value and `y` of another. Of summands
+/// that `p` doesn't hold nothing is read.
 pub fn own_products(ring: Ring, duty: &Duty, p: u32, x: &[u64], y: &[u64]) -> u64
     requires party { p < duty.now.parties }
     requires first { length x.now ≡ length duty.now.groups }
@@ -19,19 +21,14 @@ pub fn own_products(ring: Ring, duty: &Duty, p: u32, x: &[u64], y: &[u64]) -> u6
     ensures is { result ≡ own_product (scheme_of ring duty.now) p (slice_index x.now) (slice_index y.now) }
     ensures below { result < 2 ^ ring }
 {
-    let shares = duty.shares();
-    let mut sum = ring.zero();
-    for i in 0..shares {
-        for j in 0..shares {
-            if duty.duty(i, j) == p {
-                sum = ring.add(sum, ring.mul(x[i as usize], y[j as usize]));
-            }
-        }
+    let mut sum = 0;
+    for (i, j) in duty.pairs(p) {
+        sum = ring.add(sum, ring.mul(x[i as usize], y[j as usize]));
     }
     sum
 }
 
-/// Adds a word to the sum of this summand.
+/// Adds a word that was dealt to the sum of its share.
 pub fn add_part(ring: Ring, into: &mut [u64], share: u32, word: u64)
     requires share { share < length into.old }
     requires words { All (λ word. word < 2 ^ ring) into.old }
@@ -39,6 +36,37 @@ pub fn add_part(ring: Ring, into: &mut [u64], share: u32, word: u64)
     ensures parts { (i : ℕ) → slice_index into.new i ≡ set_at (slice_index into.old) share ((slice_index into.old share + word) % 2 ^ ring) i }
     ensures below { All (λ word. word < 2 ^ ring) into.new }
 {
-    let i = share as usize;
-    into[i] = ring.add(into[i], word);
+    let sum = &mut into[share as usize];
+    *sum = ring.add(*sum, word);
+}
+
+#[cfg(test)]
+mod tests {
+    use super::*;
+    use party_set::{Group, Groups};
+    use std::test::Fail;
+
+    #[test]
+    fn products_of_three_parties(rt: HostRuntime) -> Result<(), Fail> {
+        let ring = Ring::new(8).ok_or("no ring")?;
+        let alone = |mask| Group::of_mask(mask, 3).ok_or("no group");
+        let groups = Groups::of(3, vec![in rt.alloc(); alone(1)?, alone(2)?, alone(4)?]?);
+        let duty = Duty::make(rt.alloc(), &groups)?;
+        let (x, y) = ([10, 20, 231], [30, 40, 193]);
+        assert_eq!(rt; own_products(ring, &duty, 0, &x, &y), 115);
+        assert_eq!(rt; own_products(ring, &duty, 1, &x, &y), 200);
+        assert_eq!(rt; own_products(ring, &duty, 2, &x, &y), 232);
+        Ok(())
+    }
+
+    #[test]
+    fn parts_add_up(rt: HostRuntime) -> Result<(), Fail> {
+        let ring = Ring::new(8).ok_or("no ring")?;
+        let mut parts = [112, 0, 0];
+        add_part(ring, &mut parts, 0, 193);
+        add_part(ring, &mut parts, 0, 221);
+        add_part(ring, &mut parts, 2, 6);
+        assert_eq!(rt; parts, [14, 0, 6]);
+        Ok(())
+    }
 }

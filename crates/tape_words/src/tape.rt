@@ -1,9 +1,14 @@
 //! Tapes, and how they are cut.
 ghost use Rattle.std.specs.Prelude.{◌≡◌, ◌^◌, ◌<◌, ◌≤◌, [], ◌∷◌, All, IfOk, IfErr, OnOk, MatchOption, length, sum};
+ghost use Rattle.mpc_ring.specs.Sums.{listed};
 ghost use Rattle.tape_words.specs.Cuts.{cut, IsFirstOutside, IsRefusal};
+ghost use Rattle.tape_words.specs.Seeds.{seed_word};
 
 use crate::word::TapeWord;
 use mpc_ring::Ring;
+use rand_chacha::ChaCha20Rng;
+use rand_core::SeedableRng;
+use rand_core::utils::NextWord;
 use std::alloc::{AllocError, Global};
 use std::marker::Model;
 
@@ -55,11 +60,39 @@ impl Tape {
         Ok(Tape { words, drawn: 0 })
     }
 
+    /// The tape of the first words of ChaCha20 (Bernstein 2008) under this seed, with the session's number as the
+    /// nonce. Each word is taken modulo the ring's modulus.
+    pub fn from_seed(
+        alloc: Global,
+        ring: Ring,
+        seed: &[u8; 32],
+        session: u32,
+        count: u32,
+    ) -> Result<Tape, AllocError>
+        ensures words { IfOk result (λ tape. tape ≡ listed count (seed_word (2 ^ ring) seed.now session)) }
+        ensures inside { IfOk result (λ tape. All (λ word. word < 2 ^ ring) tape) }
+    {
+        let mut generator = ChaCha20Rng::from_seed(*seed);
+        generator.set_stream(u64::from(session));
+        let mut words = Vec::with_capacity(alloc, count as usize)?;
+        for _place in 0..count {
+            words.push(ring.reduce(u64::from(generator.next_word())))?;
+        }
+        Ok(Tape { words, drawn: 0 })
+    }
+
     /// How many words are left.
     pub fn left(&self) -> u64
         ensures { result ≡ length self.now }
     {
         (self.words.len() - self.drawn) as u64
+    }
+
+    /// The numbers of the words that are left. The words stay on the tape.
+    pub fn copy_words(&self, alloc: Global) -> Result<Vec<u64>, AllocError>
+        ensures { IfOk result (λ words. words.items ≡ self.now) }
+    {
+        self.words[self.drawn..].to_vec(alloc)
     }
 
     /// Takes the next word off, None exactly where no word is left.
@@ -137,6 +170,7 @@ mod tests {
         let ring = Ring::new(8).ok_or("no ring")?;
         let mut tape = Tape::from_words(ring, vec![in rt.alloc(); 10]?)?;
         assert_eq!(rt; tape.left(), 1);
+        assert_eq!(rt; tape.copy_words(rt.alloc())?.as_slice(), [10].as_slice());
         assert_draws(&rt, &mut tape, &[10]);
         assert_empty(&rt, &mut tape);
         Ok(())
@@ -147,6 +181,15 @@ mod tests {
         let ring = Ring::new(8).ok_or("no ring")?;
         let fault = Tape::from_words(ring, vec![in rt.alloc(); 10, 256, 1, 300]?).err();
         assert_eq!(rt; fault, Some(TapeFault::WordOutOfRing { at: 1 }));
+        Ok(())
+    }
+
+    #[test]
+    fn words_of_a_seed(rt: HostRuntime) -> Result<(), Fail> {
+        let ring = Ring::new(8).ok_or("no ring")?;
+        let mut tape = Tape::from_seed(rt.alloc(), ring, &[0; 32], 0, 4)?;
+        assert_draws(&rt, &mut tape, &[118, 160, 64, 83]);
+        assert_empty(&rt, &mut tape);
         Ok(())
     }
 

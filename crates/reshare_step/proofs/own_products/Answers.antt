@@ -1,54 +1,44 @@
-use Rattle.std.proofs.Common.{◌≡◌, ℕ, ◌+◌, ◌*◌, ◌<◌, ◌%◌, ◌^◌, length, nat_eq, if◌then◌else◌, sym, ap, ◌∙◌, subst, arith}
-use Rattle.std.specs.Prelude.{slice_index}
-use Rattle.std.proofs.lemmas.Bool.{cond-true, cond-false, eq-eqb, ne_eqb}
-use Rattle.std.proofs.Math.Nat.{add-mod-mod}
-use Rattle.mpc_ring.specs.Sums.{total}
-use Rattle.product_duty.specs.Duties.{duty}
-use Rattle.mpc_ring.proofs.Totals.{total_step, total_more}
+use Rattle.std.proofs.Common.{◌≡◌, ℕ, ◌+◌, ◌*◌, ◌%◌, ◌^◌, length, sym, ap, ◌∙◌, subst, zero-add, add-zero}
+use Rattle.std.specs.Prelude.{slice_index, sum_by}
+use Rattle.std.proofs.lemmas.Nat.{pow_pos}
+use Rattle.std.proofs.lemmas.List.Sums.{sum_by-cons}
+use Rattle.std.proofs.Math.Nat.{mod-eq_of_lt}
+use Rattle.product_duty.specs.Duties.{duty, pairs_of}
+use Rattle.reshare_step.proofs.Listing.{Within, within_pairs, sum_by-pairs_where, moved}
 use Rattle.reshare_step.proofs.own_products.Goals as goal
-use Rattle.reshare_step.proofs.own_products.Goals.{then-duty-p, else-duty-p}
 
-pub loop-j-preserved : goal.loop-j-preserved
-loop-j-preserved c =
-    let q = 2 ^ c.args.ring in
-    let i = c.loop-i.i in
-    let j = c.loop-j.j in
-    let m = c.shares-shares.result in
-    let x : ℕ → ℕ = slice_index c.args.x.now in
-    let y : ℕ → ℕ = slice_index c.args.y.now in
-    let term : ℕ → ℕ → ℕ = λ i j. if nat_eq (duty c.args.duty.now i j) c.args.p then x i * y j else 0 in
-    let test = nat_eq (duty c.args.duty.now i j) c.args.p in
-    let before : ℕ = total i (λ i. total m (term i)) in
-    elim c.if-duty-p.branch [
-      | then-duty-p w ↦ record {
-        small = subst (λ z. z < q) (sym w.sum-is) w.add-sum.ensures.below;
-        sum = w.sum-is ∙ w.add-sum.ensures.is ∙ ap (λ z. (c.loop-j.sum + z) % q) w.mul.ensures.is ∙ add-mod-mod c.loop-j.sum (x i * y j) q
-            ∙ total_step q j (term i) before c.loop-j.sum (x i * y j) c.loop-j.invariant.sum (sym (cond-true test (x i * y j) 0 (eq-eqb _ _ (sym c.duty.ensures.is ∙ w.if-duty-p.true))));
-      }
-      | else-duty-p w ↦ record {
-        small = subst (λ z. z < q) (sym w.sum-is) c.loop-j.invariant.small;
-        sum = w.sum-is ∙ c.loop-j.invariant.sum ∙ ap (λ z. z % q)
-            (let none : term i j ≡ 0 = cond-false test (x i * y j) 0 (ne_eqb _ _ (λ e. w.if-duty-p.false (c.duty.ensures.is ∙ e))) in omega (arith, total_more j (term i), none));
-      }
-    ]
+pub loop-i-init : goal.loop-i-init
+loop-i-init c =
+    let s = c.args.duty.now in
+    let product : ℕ × ℕ → ℕ = λ (pair : ℕ × ℕ). slice_index c.args.x.now pair.0 * slice_index c.args.y.now pair.1 in
+    let all : c.into_iter-i-iterator.result ≡ pairs_of s c.args.p = c.into_iter-i-iterator.ensures.into_iter_gives ∙ c.pairs-i-items.ensures in record {
+      sum = ap (λ pairs. (0 + sum_by product pairs) % 2 ^ c.args.ring) all ∙ ap (λ z. z % 2 ^ c.args.ring) (zero-add (sum_by product (pairs_of s c.args.p)));
+      small = pow_pos c.args.ring;
+      within = within_pairs (duty s) c.args.p (length s.groups) _ _ _ c.requires.first c.requires.second all;
+    }
 
 pub loop-i-preserved : goal.loop-i-preserved
 loop-i-preserved c =
-    let q = 2 ^ c.args.ring in
-    let i = c.loop-i.i in
-    let m = c.shares-shares.result in
-    let term : ℕ → ℕ → ℕ = λ i j. if nat_eq (duty c.args.duty.now i j) c.args.p then slice_index c.args.x.now i * slice_index c.args.y.now j else 0 in
-    let ended : c.loop-j.j ≡ m = omega arith in record {
-      small = c.loop-j.invariant.small;
-      sum = c.loop-j.invariant.sum ∙ ap (λ z. (total i (λ i. total m (term i)) + total z (term i)) % q) ended ∙ ap (λ z. z % q) (sym (total_more i (λ i. total m (term i))));
+    let product : ℕ × ℕ → ℕ = λ (pair : ℕ × ℕ). slice_index c.args.x.now pair.0 * slice_index c.args.y.now pair.1 in
+    let h = c.loop-i.invariant in
+    let q : ℕ = 2 ^ c.args.ring in
+    let here : ℕ = product (c.in-Some.i, c.in-Some.j) in
+    let rest : ℕ = sum_by product c.next.new.self in record {
+      sum = ap (λ z. (z + rest) % q) (c.add-sum.ensures.is ∙ ap (λ z. (c.loop-i.sum + z) % q) c.mul.ensures.is)
+          ∙ moved q c.loop-i.sum here rest
+          ∙ ap (λ z. (c.loop-i.sum + z) % q) (sym (sum_by-cons product (c.in-Some.i, c.in-Some.j) c.next.new.self))
+          ∙ ap (λ pairs. (c.loop-i.sum + sum_by product pairs) % q) (sym c.in-Some.ensures.steps)
+          ∙ h.sum;
+      small = c.add-sum.ensures.below;
+      within = (subst (Within (length c.args.x.now) (length c.args.y.now)) c.in-Some.ensures.steps h.within).2;
     }
 
 pub returns-clause-is : goal.returns-clause-is
 returns-clause-is c =
-    let q = 2 ^ c.args.ring in
-    let m = c.shares-shares.result in
-    let term : ℕ → ℕ → ℕ = λ i j. if nat_eq (duty c.args.duty.now i j) c.args.p then slice_index c.args.x.now i * slice_index c.args.y.now j else 0 in
-    let ended : c.loop-i.i ≡ m = omega arith in
-    c.loop-i.invariant.sum
-    ∙ ap (λ z. total z (λ i. total m (term i)) % q) ended
-    ∙ ap (λ z. total z (λ i. total z (term i)) % q) c.shares-shares.ensures.is
+    let s = c.args.duty.now in
+    let product : ℕ × ℕ → ℕ = λ (pair : ℕ × ℕ). slice_index c.args.x.now pair.0 * slice_index c.args.y.now pair.1 in
+    let h = c.loop-i.invariant in
+    let q : ℕ = 2 ^ c.args.ring in
+    sym (ap (λ pairs. (c.loop-i.sum + sum_by product pairs) % q) c.in-None.ensures.steps.0 ∙ ap (λ z. z % q) (add-zero c.loop-i.sum) ∙ mod-eq_of_lt h.small)
+    ∙ h.sum
+    ∙ ap (λ z. z % q) (sum_by-pairs_where (duty s) c.args.p (length s.groups) (slice_index c.args.x.now) (slice_index c.args.y.now))

@@ -1,25 +1,20 @@
 -- All desks of a world, on plain cells.
-use Rattle.std.specs.Prelude.{true, ◌≡◌, ◌⊎◌, ℕ, ◌+◌, ◌-◌, ◌*◌, ◌/◌, ◌%◌, ◌<◌, ◌^◌, nat_eq, if◌then◌else◌, List, [], ◌∷◌, take, drop, length, slice_index, slice_index_or, get_or, Option, Some, None}
-use Rattle.mpc_ring.specs.Sums.{total}
-use Rattle.job_plan.specs.Plans.{owners, Plan, session, words, place}
-use Rattle.job_plan.specs.Messages.{messages}
+use Rattle.std.specs.Prelude.{true, ◌≡◌, ◌⊎◌, ℕ, ◌+◌, ◌-◌, ◌*◌, ◌/◌, ◌%◌, ◌<◌, List, [], ◌∷◌, length, slice_index, get_or, Option, Some, None}
 use Rattle.party_set.specs.Parties.{has_party}
+use Rattle.job_plan.specs.Plans.{readers, output_wire, session}
+use Rattle.job_plan.specs.Messages.{messages}
 use Rattle.job_plan.specs.Numbers.{message}
 use Rattle.share_world.specs.Worlds.{World, word, plain}
-use Rattle.job_plan.specs.Plans.{output_wire}
 use Rattle.message_board.specs.Plain.{plain_cell, plain_put, answer}
 use Rattle.message_board.specs.declared.cells.Posted.{Posted}
-use Rattle.message_board.specs.declared.cells.PlainCells.{PlainCells}
-use Rattle.party_program.specs.declared.program.Instruction.{Instruction}
-use Rattle.party_program.specs.declared.program.Instruction.TheVariants.{Deal, Post, Take}
+use Rattle.message_board.specs.declared.plain.PlainCells.{PlainCells}
+use Rattle.party_program.specs.declared.program.Instruction.TheVariants.{Post, Take}
+use Rattle.party_program.specs.Programs.{at}
 use Rattle.party_desk.specs.declared.desk.Desk.{Desk}
 use Rattle.party_desk.specs.declared.desk.Stepped.{Stepped}
 use Rattle.party_desk.specs.declared.desk.Stepped.TheVariants.{Moved, NotYet, Ended}
-use Rattle.job_plan.specs.Sound.{IsSound}
-use Rattle.party_program.specs.Programs.{program, at}
-use Rattle.party_program.specs.States.{Given, slot_of, posted, state}
-use Rattle.party_desk.specs.Desks.{IsDesk}
-use Rattle.party_program.specs.Proper.{Proper, CanDealIn}
+use Rattle.party_desk.specs.Desks.{IsDesk, output_at}
+use Rattle.program_laws.specs.Lawful.{given_to, program_of}
 
 -- every desk stands where its program leaves it, and the cells have the words that were posted, and no others
 pub record IsState (w : World) (ds : List Desk) (cells : PlainCells) : Type 0 where
@@ -39,7 +34,7 @@ moves_of Ended = 0
 
 -- a post and a take on plain cells
 abbrev pub puts : PlainCells → ℕ → ℕ → Posted → PlainCells → Type 0
-puts c n w a d = (d.cells ≡ plain_put c.cells n w) × (a ≡ answer (plain_cell c.cells n)) × (d.bits ≡ c.bits)
+puts c n w a d = (d ≡ record c { cells = plain_put c.cells n w }) × (a ≡ answer (plain_cell c.cells n))
 
 abbrev pub takes_from : PlainCells → ℕ → Option ℕ → PlainCells → Type 0
 takes_from c n a d = (d ≡ c) × (a ≡ plain_cell c.cells n)
@@ -64,13 +59,9 @@ left_all (d ∷ ds) = left d + left_all ds
 
 -- each reader has the plain value of each of its outputs
 abbrev pub Delivers : World → List Desk → Type 0
-Delivers w ds = (k o : ℕ) (d : Desk) → k < length ds → has_party (slice_index (session w.plan (k / w.plan.parties)).readers o) (k % w.plan.parties) ≡ true → o < length (session w.plan (k / w.plan.parties)).readers
-    → slice_index_or (get_or ds k d).memory.outputs.items o None ≡ Some (plain w (k / w.plan.parties) (output_wire (session w.plan (k / w.plan.parties)) o))
+Delivers w ds = (k o : ℕ) (d : Desk) → k < length ds → has_party (slice_index (readers (session w.plan (k / w.plan.parties))) o) (k % w.plan.parties) ≡ true → o < length (readers (session w.plan (k / w.plan.parties)))
+    → output_at (get_or ds k d) o ≡ Some (plain w (k / w.plan.parties) (output_wire (session w.plan (k / w.plan.parties)) o))
 
 -- the cell of each message is full
 abbrev pub AllFull : World → PlainCells → Type 0
 AllFull w cells = (n : ℕ) → n < length (messages w.plan) → plain_cell cells.cells n ≡ Some (word w (message w.plan n))
-
--- each desk stands at the begin of its program, with its tape
-abbrev pub Opened : Plan → List (List ℕ) → List Desk → Type 0
-Opened plan tapes ds = (j : ℕ) (d : Desk) (g : Given) → j < length ds → g.plan ≡ plan → g.party ≡ j % plan.parties → g.session ≡ j / plan.parties → g.inputs ≡ [] → g.tape ≡ slice_index_or tapes j [] → ((get_or ds j d).position ≡ 0) × IsDesk g (get_or ds j d)

@@ -1,0 +1,4 @@
+pub mod States
+pub mod Running
+pub mod Opening
+pub mod Opened

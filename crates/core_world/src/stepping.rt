@@ -1,0 +1,80 @@
+//! Steps of many desks on one list of cells.
+ghost use Rattle.std.specs.Prelude.{◌≡◌, ℕ, ◌+◌, ◌<◌, length};
+ghost use Rattle.share_world.specs.Worlds.{World};
+ghost use Rattle.party_desk.specs.declared.desk.Desk.{Desk};
+ghost use Rattle.program_laws.specs.Lawful.{Lawful, IsWhole};
+ghost use Rattle.core_world.specs.States.{IsState, moves_of, left_all, Stuck, AllStuck, AllEnded, Delivers, AllFull};
+
+use job_plan::Plan;
+use message_board::PlainCells;
+use party_desk::{Desk, Stepped};
+
+// Steps desk `k`.
+fn step_at(plan: &Plan, desks: &mut [Desk], cells: &mut PlainCells, k: usize) -> Stepped
+    requires within { k < length desks.old }
+    requires state { (w : World) × (w.plan ≡ plan.now) × Lawful w × IsState w desks.old cells.old }
+    ensures state { (w : World) → w.plan ≡ plan.now → Lawful w → IsState w desks.old cells.old → IsState w desks.new cells.new }
+    ensures left { moves_of result + left_all desks.new ≡ left_all desks.old }
+    ensures still { moves_of result ≡ 0 → (desks.new ≡ desks.old) × (cells.new ≡ cells.old) }
+    ensures stuck { (w : World) (d : Desk) → w.plan ≡ plan.now → IsWhole w → IsState w desks.old cells.old → moves_of result ≡ 0 → Stuck w desks.old cells.old.cells k d }
+{
+    desks[k].step(plan, cells)
+}
+
+fn count(stepped: Stepped) -> u64
+    ensures { result ≡ moves_of stepped }
+{
+    match stepped {
+        Stepped::Moved => 1,
+        Stepped::NotYet(_) | Stepped::Ended => 0,
+    }
+}
+
+// Steps each desk once, and answers how many moved.
+fn pass(plan: &Plan, desks: &mut [Desk], cells: &mut PlainCells) -> u64
+    requires state { (w : World) × (w.plan ≡ plan.now) × Lawful w × IsState w desks.old cells.old }
+    ensures state { (w : World) → w.plan ≡ plan.now → Lawful w → IsState w desks.old cells.old → IsState w desks.new cells.new }
+    ensures left { result + left_all desks.new ≡ left_all desks.old }
+    ensures still { result ≡ 0 → (desks.new ≡ desks.old) × (cells.new ≡ cells.old) }
+    ensures stuck { (w : World) → w.plan ≡ plan.now → IsWhole w → IsState w desks.old cells.old → result ≡ 0 → AllStuck w desks.old cells.old.cells }
+{
+    let mut moves = 0;
+    for k in 0..desks.len() {
+        moves += count(step_at(plan, desks, cells, k));
+    }
+    moves
+}
+
+// Steps all desks to their end, round after round.
+fn finish_all(plan: &Plan, desks: &mut [Desk], cells: &mut PlainCells)
+    requires state { (w : World) × (w.plan ≡ plan.now) × Lawful w × IsState w desks.old cells.old }
+    ensures state { (w : World) → w.plan ≡ plan.now → Lawful w → IsState w desks.old cells.old → IsState w desks.new cells.new }
+    ensures ended { (w : World) → w.plan ≡ plan.now → IsWhole w → IsState w desks.old cells.old → AllEnded w desks.new }
+    ensures delivered { (w : World) → w.plan ≡ plan.now → IsWhole w → IsState w desks.old cells.old → Delivers w desks.new }
+    ensures full { (w : World) → Desk → w.plan ≡ plan.now → IsWhole w → IsState w desks.old cells.old → AllFull w cells.new }
+{
+    let mut moves = 1;
+    while moves > 0 {
+        moves = pass(plan, desks, cells);
+    }
+}
+
+/// Steps desk `k` of a list.
+pub fn step_one(plan: &Plan, desks: &mut Vec<Desk>, cells: &mut PlainCells, k: usize)
+    requires within { k < length desks.old.items }
+    requires state { (w : World) × (w.plan ≡ plan.now) × Lawful w × IsState w desks.old.items cells.old }
+    ensures state { (w : World) → w.plan ≡ plan.now → Lawful w → IsState w desks.old.items cells.old → IsState w desks.new.items cells.new }
+{
+    let _ = step_at(plan, desks.as_mut_slice(), cells, k);
+}
+
+/// Steps all desks of a list to their end.
+pub fn finish_list(plan: &Plan, desks: &mut Vec<Desk>, cells: &mut PlainCells)
+    requires state { (w : World) × (w.plan ≡ plan.now) × Lawful w × IsState w desks.old.items cells.old }
+    ensures state { (w : World) → w.plan ≡ plan.now → Lawful w → IsState w desks.old.items cells.old → IsState w desks.new.items cells.new }
+    ensures ended { (w : World) → w.plan ≡ plan.now → IsWhole w → IsState w desks.old.items cells.old → AllEnded w desks.new.items }
+    ensures delivered { (w : World) → w.plan ≡ plan.now → IsWhole w → IsState w desks.old.items cells.old → Delivers w desks.new.items }
+    ensures full { (w : World) → Desk → w.plan ≡ plan.now → IsWhole w → IsState w desks.old.items cells.old → AllFull w cells.new }
+{
+    finish_all(plan, desks.as_mut_slice(), cells);
+}
