@@ -8,7 +8,8 @@ use Rattle.std.proofs.lemmas.List.FromFn.{length-range_with_len, get_or-range_wi
 use Rattle.std.proofs.lemmas.List.Sums.{fails_before_first, passes_at_first}
 use mathlib.Core.Logic.{inl, inr}
 use Rattle.secret_sharing.specs.Sharing.{IsScheme}
-use Rattle.job_plan.specs.Plans.{Plan, holds, duty, scheme, least_party, least_holder, Q2, IsPlan}
+use Rattle.product_duty.proofs.Dividing.{duty_holds}
+use Rattle.job_plan.specs.Plans.{Plan, structure, holds, duty, scheme, least_party, least_holder, Q2, IsPlan}
 use Rattle.std.specs.List.{range_with_len}
 
 pub least_party_is : (plan : Plan) (test : ℕ → Bool) (p : ℕ) → p < plan.parties → test p ≡ true → (least_party plan test < plan.parties) × (test (least_party plan test) ≡ true)
@@ -24,10 +25,9 @@ least_party_is plan test p l e = elim (cases_lt (least_party plan test) plan.par
 
 pub duty_is : (plan : Plan) → Q2 plan → (i j : ℕ) → i < length plan.groups → j < length plan.groups → (duty plan i j < plan.parties) × (holds plan (duty plan i j) i ≡ true) × (holds plan (duty plan i j) j ≡ true)
 duty_is plan q2 i j li lj =
-    let w = q2 i j li lj in
-    let d = least_party_is plan (λ p. holds plan p i && holds plan p j) w.0 w.1 (and_from (holds plan w.0 i) (holds plan w.0 j) w.2 w.3) in
-    let both = and_parts (holds plan (duty plan i j) i) (holds plan (duty plan i j) j) d.1 in
-    (d.0, both.0, both.1)
+    let least = duty_holds (structure plan) q2 i j li lj in
+    let both = and_parts (holds plan (duty plan i j) i) (holds plan (duty plan i j) j) least.passes in
+    (least.party, both.0, both.1)
 
 pub scheme_is : (plan : Plan) → IsPlan plan → IsScheme (scheme plan)
 scheme_is plan h = record {
@@ -39,4 +39,7 @@ scheme_is plan h = record {
 }
 
 pub least_holds : (plan : Plan) → IsPlan plan → (i : ℕ) → i < length plan.groups → holds plan (least_holder plan i) i ≡ true
-least_holds plan h i li = let w = h.q2 i i li li in (least_party_is plan (λ p. holds plan p i) w.0 w.1 w.2).1
+least_holds plan h i li = let d = duty_is plan h.q2 i i li li in (least_party_is plan (λ p. holds plan p i) (duty plan i i) d.0 d.1).1
+
+pub least_within : (plan : Plan) → IsPlan plan → (i : ℕ) → i < length plan.groups → least_holder plan i < plan.parties
+least_within plan h i li = let d = duty_is plan h.q2 i i li li in (least_party_is plan (λ p. holds plan p i) (duty plan i i) d.0 d.1).0

@@ -5,7 +5,7 @@ use Rattle.circuit_model.specs.declared.gate.Gate.{Gate}
 use Rattle.circuit_model.specs.Circuits.{is_product}
 use Rattle.circuit_model.specs.declared.gate.Operation.TheVariants.{Add}
 use Rattle.secret_sharing.specs.Sharing.{Scheme, has_pair}
-use Rattle.party_set.specs.Parties.{Structure}
+use Rattle.party_set.specs.Parties.{Structure, IsQ2}
 use Rattle.job_plan.specs.declared.values.InputValue.{InputValue}
 use Rattle.job_plan.specs.declared.values.OutputValue.{OutputValue}
 use Rattle.share_layout.specs.Layouts as layout
@@ -49,7 +49,7 @@ scheme plan = duties.scheme_of plan.bits (structure plan)
 
 -- no two groups cover all parties
 abbrev pub Q2 : Plan → Type 0
-Q2 plan = duties.Q2 (structure plan)
+Q2 plan = IsQ2 (structure plan)
 
 pub record IsPlan (plan : Plan) : Type 0 where
   pub bits : 0 < plan.bits

@@ -17,16 +17,13 @@ use Rattle.secret_sharing.proofs.Agreement.{gate_agrees, product_agrees}
 use Rattle.mpc_ring.proofs.Laying.{every_joined, every_only_if, every_both, at_joined, at_only_if}
 use Rattle.job_plan.proofs.Slots.{slot_input, slot_gate, product_within, slot_output, slot_cases}
 use Rattle.share_world.proofs.Locality.{holder_own, seen}
-use Rattle.job_plan.proofs.Planning.{least_holds, least_party_is}
+use Rattle.job_plan.proofs.Planning.{least_holds, least_within}
 
 abbrev Sent : World → (ℕ → Key → ℕ) → Key → Type 0
 Sent w got k = got k.receiver k ≡ local_word w (got k.sender) k.sender k
 
 abbrev key_of : ℕ → ℕ → ℕ → ℕ → ℕ → Key
 key_of s k i p q = record { session = s; slot = k; share = i; sender = p; receiver = q }
-
-least_within : (plan : Plan) → IsPlan plan → (i : ℕ) → i < length plan.groups → least_holder plan i < plan.parties
-least_within plan h i li = let w = h.q2 i i li li in (least_party_is plan (λ p. holds plan p i) w.0 w.1 w.2).0
 
 module _ (w : World) (h : IsPlan w.plan) (got : ℕ → Key → ℕ) (sent : AllByRecursion (Sent w got) (messages w.plan)) where
   local_at : ℕ → ℕ → Run
