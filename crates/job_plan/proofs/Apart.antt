@@ -129,7 +129,7 @@ places_differ plan p s k i s' k' i' ls lk li ls' lk' li' e =
     ∙ laid_at (length plan.sessions) count len f s' k' i' ls' lk' li' in
     (tells (λ s k i. s), tells (λ s k i. k), tells (λ s k i. i))
 
-words_by_deals : (plan : Plan) (p s k : ℕ) → total k (λ j. words_in plan (session plan s) p (slot (session plan s) j)) ≡ (length plan.groups - 1) * deals_before plan p s k
+pub words_by_deals : (plan : Plan) (p s k : ℕ) → total k (λ j. words_in plan (session plan s) p (slot (session plan s) j)) ≡ (length plan.groups - 1) * deals_before plan p s k
 words_by_deals plan p s k =
     total_eq k _ _ (λ j l. each (deals_in plan (session plan s) p (slot (session plan s) j)) (length plan.groups - 1))
     ∙ total_mul_left k (length plan.groups - 1) (λ j. if deals_in plan (session plan s) p (slot (session plan s) j) then 1 else 0)

@@ -1,9 +1,7 @@
 -- A plan without a covering pair has a scheme.
-use Rattle.std.proofs.Common.{◌≡◌, ℕ, ◌+◌, ◌%◌, ◌^◌, ◌<◌, Bool, true, false, ◌&&◌, nat_lt, length, sym, ap, ◌∙◌, subst, arith}
-use Rattle.std.specs.Prelude.{slice_index}
-use Rattle.std.proofs.lemmas.Bool.{cases_lt, cases_Bool, cond-true, cond-false, and_from, and_parts, both_ways}
-use Rattle.std.proofs.lemmas.Nat.{pow_pos, pow_below}
-use Rattle.std.proofs.Math.Nat.{mod-eq_of_lt}
+use Rattle.std.proofs.Common.{◌≡◌, ℕ, ◌<◌, Bool, true, false, length, ◌∙◌, subst, arith}
+use Rattle.std.proofs.lemmas.Bool.{cases_lt, and_parts, both_ways}
+use Rattle.std.proofs.lemmas.Nat.{pow_below}
 use Rattle.std.proofs.lemmas.List.FromFn.{length-range_with_len, get_or-range_with_len}
 use Rattle.std.proofs.lemmas.List.Sums.{fails_before_first, passes_at_first}
 use mathlib.Core.Logic.{inl, inr}

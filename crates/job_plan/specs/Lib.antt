@@ -4,3 +4,5 @@ pub mod Numbers
 pub mod Firsts
 pub mod Sound
 pub mod Multiply
+pub mod Tallies
+pub mod Limits

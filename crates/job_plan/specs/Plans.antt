@@ -1,5 +1,5 @@
 -- Plans: parties, maximal groups and sessions; the slots of a session, and what a party deals in them.
-use Rattle.std.specs.Prelude.{◌≡◌, ℕ, ◌+◌, ◌-◌, ◌<◌, Bool, false, ◌&&◌, nat_eq, nat_lt, if◌then◌else◌, List, [], ◌∷◌, ◌++◌, replicate, length, slice_index, slice_index_or}
+use Rattle.std.specs.Prelude.{ℕ, ◌+◌, ◌-◌, ◌<◌, Bool, false, ◌&&◌, nat_eq, nat_lt, if◌then◌else◌, List, [], ◌∷◌, ◌++◌, replicate, length, slice_index, slice_index_or}
 use Rattle.mpc_ring.specs.Sums.{total}
 use Rattle.circuit_model.specs.declared.gate.Gate.{Gate}
 use Rattle.circuit_model.specs.Circuits.{is_product}
@@ -25,6 +25,9 @@ pub record Plan : Type 0 where
   pub sessions : List Session
 
 -- ---- parties and summands
+
+abbrev pub plan_of : ℕ → Structure → List Session → Plan
+plan_of bits s sessions = record { bits = bits; parties = s.parties; groups = s.groups; sessions = sessions }
 
 abbrev pub structure : Plan → Structure
 structure plan = record { parties = plan.parties; groups = plan.groups }

@@ -1,14 +1,19 @@
 //! Plans: who takes part in which sessions, and the numbering of messages and tape places that all parties share.
 #![tactic(auto)]
 
+mod counts;
+mod fault;
 mod key;
 mod laws;
+mod laying;
+mod outline;
 mod place;
 mod plan;
 mod session_part;
 mod starts;
 mod values;
 
+pub use fault::PlanFault;
 pub use key::Key;
 pub use laws::{numbers_are_inverse, places_are_apart};
 pub use place::Place;
