@@ -4,3 +4,4 @@ pub mod Apart
 pub mod Counting
 pub mod Tallying
 pub mod Listing
+pub mod OneProduct

@@ -2,6 +2,7 @@
 #![tactic(auto)]
 
 mod counts;
+mod early;
 mod fault;
 mod key;
 mod laws;
