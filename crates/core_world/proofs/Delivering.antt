@@ -45,7 +45,7 @@ delivers w ds cells whole h ended k o d l reads lo =
       | inl less ↦ less
       | inr past ↦ absurd (let a = mul-le-mul_left parties past in let b = div-mul-le_self k parties in let c = h.many in omega arith)
     ] in
-    let lp : p < parties = mod-lt k whole.sound.antichain.some_party in
+    let lp : p < parties = mod-lt k whole.sound.some_parties in
     let g = given_in w s p in
     let es = program w.plan p s in
     (h.desks k d l).memory.outputs o

@@ -19,7 +19,7 @@ use Rattle.job_plan.specs.Numbers.{message, deals_before}
 use Rattle.share_world.specs.Worlds.{World, word}
 use Rattle.mpc_ring.proofs.Laying.{every_joined, every_only_if, every_append}
 use Rattle.job_plan.proofs.Slots.{slot_cases}
-use Rattle.share_layout.proofs.Holding.{held}
+use Rattle.job_plan.proofs.Planning.{least_within}
 use Rattle.message_board.specs.Plain.{plain_cell}
 use Rattle.message_board.specs.declared.plain.PlainCells.{PlainCells}
 use Rattle.party_program.specs.declared.program.Instruction.{Instruction}
@@ -120,7 +120,7 @@ module _ (plan : Plan) where
   of_slot h s k (Input v) o = every_joined (Of k) (length plan.groups) (λ i. joined plan.parties (deal_message plan s k (slice_index (owners (session plan s)) v) i)) (λ i li. every_joined (Of k) plan.parties (deal_message plan s k (slice_index (owners (session plan s)) v) i) (λ r lr. every_only_if (Of k) (not (nat_eq r (slice_index (owners (session plan s)) v)) && holds plan r i) (record { session = s; slot = k; share = i; sender = slice_index (owners (session plan s)) v; receiver = r } ∷ []) (λ e. ((refl, o v refl), tt))))
   of_slot h s k (At_gate t) o = every_joined (Of k) plan.parties _ (λ d ld. every_only_if (Of k) (deals_in plan (session plan s) d (At_gate t)) (deal_messages plan s k d) (λ e. every_joined (Of k) (length plan.groups) (λ i. joined plan.parties (deal_message plan s k d i)) (λ i li. every_joined (Of k) plan.parties (deal_message plan s k d i) (λ r lr. every_only_if (Of k) (not (nat_eq r d) && holds plan r i) (record { session = s; slot = k; share = i; sender = d; receiver = r } ∷ []) (λ e. ((refl, ld), tt))))))
   of_slot h s k (Output o') o = every_joined (Of k) plan.parties _ (λ r lr. every_only_if (Of k) (has_party (slice_index (readers (session plan s)) o') r) (open_messages plan s k r) (λ e. every_joined (Of k) (length plan.groups) (λ i. only_if (not (holds plan r i)) (record { session = s; slot = k; share = i; sender = least_holder plan i; receiver = r } ∷ [])) (λ i li. every_only_if (Of k) (not (holds plan r i)) (record { session = s; slot = k; share = i; sender = least_holder plan i; receiver = r } ∷ [])
-      (λ e. ((refl, (held (structure plan) h.antichain i li).party), tt)))))
+      (λ e. ((refl, least_within plan h i li), tt)))))
 
   module _ (h : IsPlan plan) (s p : ℕ) (ls : s < length plan.sessions) (owned : (v : ℕ) → v < length (owners (session plan s)) → slice_index (owners (session plan s)) v < plan.parties) where
     input_is : (k v : ℕ) → k < slots (session plan s) → slot (session plan s) k ≡ Input v → slice_index (owners (session plan s)) v < plan.parties
@@ -231,7 +231,7 @@ module _ (w : World) (whole : IsWhole w) (ds : List Desk) (cells : PlainCells) (
   parties = w.plan.parties
 
   is_plan : IsPlan w.plan
-  is_plan = record { bits = whole.sound.some_bits; antichain = whole.sound.antichain; q2 = whole.sound.q2 }
+  is_plan = record { bits = whole.sound.some_bits; groups = whole.sound.some_groups; q2 = whole.sound.q2 }
 
   abbrev pos : ℕ → ℕ
   pos k = (get_or ds k d0).position
@@ -290,7 +290,7 @@ module _ (w : World) (whole : IsWhole w) (ds : List Desk) (cells : PlainCells) (
 -- a program has no end in it
 pub end_is_last : (w : World) (s p q : ℕ) → IsWhole w → s < length w.plan.sessions → q < length (program w.plan p s) → at (program w.plan p s) q ≢ End
 end_is_last w s p q whole ls lq e =
-    let plan' : IsPlan w.plan = record { bits = whole.sound.some_bits; antichain = whole.sound.antichain; q2 = whole.sound.q2 } in
+    let plan' : IsPlan w.plan = record { bits = whole.sound.some_bits; groups = whole.sound.some_groups; q2 = whole.sound.q2 } in
     let owner = (whole.sound.sessions s ls).owned in
     subst (Posted w.plan plan' s p ls owner) e (at_within (Posted w.plan plan' s p ls owner) (program w.plan p s) q lq (all_posted w.plan plan' s p ls owner))
 

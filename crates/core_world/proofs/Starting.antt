@@ -34,7 +34,7 @@ module _ (plan : Plan) (sound : IsSound plan) (pieces : List (List ℕ)) (h : Ar
   n = plan.parties
 
   pub party_is : k % n < n
-  party_is = mod-lt k sound.antichain.some_party
+  party_is = mod-lt k sound.some_parties
 
   pub session_is : k / n < length plan.sessions
   session_is = elim (cases_lt (k / n) (length plan.sessions)) [

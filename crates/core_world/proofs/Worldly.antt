@@ -40,7 +40,7 @@ stuck_any w ds cells k d e l h =
 
 -- desk k is one of a session and a party
 party_within : (w : World) (k : ℕ) → Lawful w → k % w.plan.parties < w.plan.parties
-party_within w k h = mod-lt k h.sound.antichain.some_party
+party_within w k h = mod-lt k h.sound.some_parties
 
 session_within : (w : World) (k : ℕ) → Lawful w → k < w.plan.parties * length w.plan.sessions → k / w.plan.parties < length w.plan.sessions
 session_within w k h l = elim (cases_lt (k / w.plan.parties) (length w.plan.sessions)) [

@@ -85,11 +85,14 @@ every_filter F G test (n ∷ ns) h g = elim (cases_Bool (test n)) [
   | inr e ↦ subst (AllByRecursion G) (sym (cond-false (test n) (n ∷ filter test ns) (filter test ns) e)) (every_filter F G test ns h.1 g)
 ]
 
+pub length-messages : (plan : Plan) → length (messages plan) ≡ total (length plan.sessions) (session_count plan)
+length-messages plan =
+    let whole : ℕ → List Key = λ r. joined (slots (session plan r)) (λ j. slot_messages plan r j (slot (session plan r) j)) in
+    length-joined (length plan.sessions) whole ∙ total_eq (length plan.sessions) _ _ (λ r l. length-joined (slots (session plan r)) (λ j. slot_messages plan r j (slot (session plan r) j)))
+
 pub first_within : (plan : Plan) (s k : ℕ) → s < length plan.sessions → k ≤ slots (session plan s) → first plan s k ≤ length (messages plan)
 first_within plan s k ls lk =
-    let whole : ℕ → List Key = λ r. joined (slots (session plan r)) (λ j. slot_messages plan r j (slot (session plan r) j)) in
-    let lengths : (r : ℕ) → length (whole r) ≡ session_count plan r = λ r. length-joined (slots (session plan r)) (λ j. slot_messages plan r j (slot (session plan r) j)) in
-    let all : length (messages plan) ≡ total (length plan.sessions) (session_count plan) = length-joined (length plan.sessions) whole ∙ total_eq (length plan.sessions) _ _ (λ r l. lengths r) in
+    let all = length-messages plan in
     let a : total s (session_count plan) + session_count plan s ≤ total (length plan.sessions) (session_count plan) = total_within (length plan.sessions) s (session_count plan) ls in
     let b : total k (count plan s) ≤ session_count plan s = total_upto (slots (session plan s)) k (count plan s) lk in
     omega arith

@@ -4,4 +4,6 @@ pub mod Numbers
 pub mod Firsts
 pub mod Sound
 pub mod Multiply
+pub mod Tallies
+pub mod Limits
 pub mod InputWords

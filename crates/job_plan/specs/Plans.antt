@@ -1,11 +1,11 @@
 -- Plans: parties, maximal groups and sessions; the slots of a session, and what a party deals in them.
-use Rattle.std.specs.Prelude.{◌≡◌, ℕ, ◌+◌, ◌-◌, ◌<◌, Bool, false, ◌&&◌, nat_eq, nat_lt, if◌then◌else◌, List, [], ◌∷◌, ◌++◌, replicate, length, slice_index, slice_index_or}
+use Rattle.std.specs.Prelude.{ℕ, ◌+◌, ◌-◌, ◌<◌, Bool, false, ◌&&◌, nat_eq, nat_lt, if◌then◌else◌, List, [], ◌∷◌, ◌++◌, replicate, length, slice_index, slice_index_or}
 use Rattle.mpc_ring.specs.Sums.{total}
 use Rattle.circuit_model.specs.declared.gate.Gate.{Gate}
 use Rattle.circuit_model.specs.Circuits.{is_product}
 use Rattle.circuit_model.specs.declared.gate.Operation.TheVariants.{Add}
 use Rattle.secret_sharing.specs.Sharing.{Scheme, has_pair}
-use Rattle.party_set.specs.Parties.{Structure, IsAntichain, IsQ2}
+use Rattle.party_set.specs.Parties.{Structure, IsQ2}
 use Rattle.job_plan.specs.declared.values.InputValue.{InputValue}
 use Rattle.job_plan.specs.declared.values.OutputValue.{OutputValue}
 use Rattle.share_layout.specs.Layouts as layout
@@ -25,6 +25,9 @@ pub record Plan : Type 0 where
   pub sessions : List Session
 
 -- ---- parties and summands
+
+abbrev pub plan_of : ℕ → Structure → List Session → Plan
+plan_of bits s sessions = record { bits = bits; parties = s.parties; groups = s.groups; sessions = sessions }
 
 abbrev pub structure : Plan → Structure
 structure plan = record { parties = plan.parties; groups = plan.groups }
@@ -47,11 +50,14 @@ duty plan = duties.duty (structure plan)
 abbrev pub scheme : Plan → Scheme
 scheme plan = duties.scheme_of plan.bits (structure plan)
 
--- no group lies within another, and no two together are all parties
+-- no two groups cover all parties
+abbrev pub Q2 : Plan → Type 0
+Q2 plan = IsQ2 (structure plan)
+
 pub record IsPlan (plan : Plan) : Type 0 where
   pub bits : 0 < plan.bits
-  pub antichain : IsAntichain (structure plan)
-  pub q2 : IsQ2 (structure plan)
+  pub groups : 0 < length plan.groups
+  pub q2 : Q2 plan
 
 -- ---- wires
 

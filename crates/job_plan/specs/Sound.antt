@@ -1,12 +1,11 @@
 -- Plans within the limits, and the tables that go with a plan.
-use Rattle.std.specs.Prelude.{◌≡◌, ℕ, ◌+◌, ◌<◌, ◌≤◌, List, [], length, slice_index, slice_index_or}
+use Rattle.std.specs.Prelude.{◌≡◌, ℕ, ◌<◌, ◌≤◌, List, length, slice_index}
 use Rattle.mpc_ring.specs.Sums.{total}
-use Rattle.party_set.specs.Parties.{IsAntichain, IsQ2}
-use Rattle.job_plan.specs.Plans.{readers, owners, structure, Plan, Session, Slot, session, gate, slots, words}
+use Rattle.job_plan.specs.Plans.{readers, owners, Plan, Session, Slot, session, gate, words, Q2}
 use Rattle.job_plan.specs.declared.key.Key.{Key}
 use Rattle.job_plan.specs.Messages.{messages}
 use Rattle.job_plan.specs.Plans.Slot.{Input, At_gate, Output}
-use Rattle.job_plan.specs.Firsts.{first as first_number}
+use Rattle.job_plan.specs.Firsts.{starts_of, deal_starts_of}
 use Rattle.job_plan.specs.declared.place.Place.{Place}
 use Rattle.job_plan.specs.declared.place.Place.TheVariants.{Input as PlaceInput, Gate as PlaceGate, Output as PlaceOutput}
 
@@ -21,25 +20,38 @@ pub record IsSoundSession (parties : ℕ) (s : Session) : Type 0 where
   pub second : (t : ℕ) → t < length s.gates → (gate s t).second < s.wires
   pub output : (t : ℕ) → t < length s.gates → (gate s t).output < s.wires
 
--- the groups are maximal ones of which no two cover all parties, and all is within the limits: ring, parties, groups,
--- sessions, messages, tape words of a party
+-- a sharing in which products can be computed, and all is within the limits but for the messages and the tape words
+pub record IsOutline (plan : Plan) : Type 0 where
+  pub some_bits : 0 < plan.bits
+  pub bits : plan.bits ≤ 32
+  pub some_parties : 0 < plan.parties
+  pub parties : plan.parties ≤ 12
+  pub some_groups : 0 < length plan.groups
+  pub groups : length plan.groups ≤ 64
+  pub q2 : Q2 plan
+  pub few_sessions : length plan.sessions ≤ 16
+  pub sessions : (s : ℕ) → s < length plan.sessions → IsSoundSession plan.parties (session plan s)
+
+-- a sharing in which products can be computed, and all is within the limits: ring, parties, groups, sessions, messages, tape words of a party
 pub record IsSound (plan : Plan) : Type 0 where
   pub some_bits : 0 < plan.bits
   pub bits : plan.bits ≤ 32
-  pub antichain : IsAntichain (structure plan)
-  pub q2 : IsQ2 (structure plan)
+  pub some_parties : 0 < plan.parties
+  pub parties : plan.parties ≤ 12
+  pub some_groups : 0 < length plan.groups
+  pub groups : length plan.groups ≤ 64
+  pub q2 : Q2 plan
   pub few_sessions : length plan.sessions ≤ 16
   pub few_messages : length (messages plan) ≤ 1048576
   pub few_words : (p : ℕ) → p < plan.parties → total (length plan.sessions) (words plan p) ≤ 1048576
   pub sessions : (s : ℕ) → s < length plan.sessions → IsSoundSession plan.parties (session plan s)
 
--- the keys are the plan's messages in order, and the starts say where those of each slot begin
-pub record IsLaid (plan : Plan) (list : List Key) (starts : List (List ℕ)) : Type 0 where
-  pub first : (s k : ℕ) → s < length plan.sessions → k ≤ slots (session plan s) → slice_index (slice_index_or starts s []) k ≡ first_number plan s k
-  pub long : (s : ℕ) → s < length plan.sessions → length (slice_index_or starts s []) ≡ slots (session plan s) + 1
-  pub each : length starts ≡ length plan.sessions
+-- a plan's tables: its messages in order, where those of each slot begin, and each party's deals before each session
+pub record IsLaid (plan : Plan) (list : List Key) (starts deals : List (List ℕ)) : Type 0 where
   pub sound : IsSound plan
   pub keys : list ≡ messages plan
+  pub begin : starts ≡ starts_of plan
+  pub dealt : deals ≡ deal_starts_of plan
 
 abbrev pub slot_of_place : Place → Slot
 slot_of_place (PlaceInput v) = Input v

@@ -1,15 +1,21 @@
 //! Plans: who takes part in which sessions, and the numbering of messages and tape places that all parties share.
 #![tactic(auto)]
 
+mod counts;
+mod early;
+mod fault;
 mod inputs;
 mod key;
 mod laws;
+mod laying;
+mod outline;
 mod place;
 mod plan;
 mod session_part;
 mod starts;
 mod values;
 
+pub use fault::PlanFault;
 pub use inputs::Inputs;
 pub use key::Key;
 pub use laws::{numbers_are_inverse, places_are_apart};

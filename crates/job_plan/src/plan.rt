@@ -1,59 +1,96 @@
 //! Plans, with the tables that number their messages.
-ghost use Rattle.std.specs.Prelude.{◌≡◌, ℕ, ◌<◌, ◌≤◌};
+ghost use Rattle.std.specs.Prelude.{◌≡◌, ◌≤◌, MatchResult, length};
+ghost use Rattle.job_plan.specs.Messages.{messages};
+ghost use Rattle.job_plan.specs.Limits.{IsWithin, IsRefusal};
 
+use crate::counts::{message_count, word_count};
+use crate::fault::PlanFault;
 use crate::key::Key;
+use crate::laying::{list_deals, list_messages};
+use crate::outline::Outline;
 use crate::session_part::SessionPart;
 use crate::starts::Starts;
 use mpc_ring::Ring;
 use product_duty::Duty;
 use share_layout::Layout;
+use std::alloc::Global;
 use std::marker::Model;
 
 /// A ring, a structure of parties and the sessions, with tables made once: each look-up costs constant time.
 /// Contracts see a plan of the definitions.
 #[derive(Drop)]
 pub struct Plan {
-    ring: Ring,
-    layout: Layout,
-    duty: Duty,
-    parts: Vec<SessionPart>,
+    outline: Outline,
     keys: Vec<Key>,
     starts: Vec<Starts>,
+    deals: Vec<Starts>,
 }
 
 impl Model for Plan {
-    ghost use Rattle.std.specs.Prelude.{◌≡◌};
     ghost use Rattle.job_plan.specs.Plans.{Plan as Described};
     ghost use Rattle.job_plan.specs.Sound.{IsLaid};
 
     ghost Value = { Described };
 
-    ghost view = { λ p. record { bits = p.ring; parties = p.layout.parties; groups = p.layout.groups; sessions = p.parts.items } };
+    ghost view = { λ p. p.outline };
 
-    ghost invariant = { λ p. (p.duty ≡ p.layout) × IsLaid (record { bits = p.ring; parties = p.layout.parties; groups = p.layout.groups; sessions = p.parts.items }) p.keys.items p.starts.items };
+    ghost invariant = { λ p. IsLaid p.outline p.keys.items p.starts.items p.deals.items };
 }
 
 impl Plan {
-    ghost use Rattle.std.specs.Prelude.{◌≡◌, ℕ, ◌<◌, ◌≤◌, length};
-    ghost use Rattle.job_plan.specs.Plans.{structure, scheme, session, slots};
+    ghost use Rattle.std.specs.Prelude.{◌≡◌, ◌<◌, ◌≤◌, All, IfOk, IfErr, OnOk, length};
+    ghost use Rattle.job_plan.specs.Plans.{plan_of, structure, scheme, session, slots};
     ghost use Rattle.secret_sharing.specs.Sharing.{has_pair};
     ghost use Rattle.job_plan.specs.Messages.{messages};
     ghost use Rattle.job_plan.specs.Numbers.{message};
-    ghost use Rattle.job_plan.specs.Sound.{IsSound};
+    ghost use Rattle.job_plan.specs.Sound.{IsSound, IsSoundSession};
     ghost use Rattle.job_plan.specs.Firsts.{first};
+    ghost use Rattle.job_plan.specs.Limits.{IsWithin, IsRefusal};
+
+    /// The plan of these sessions. It is refused where it has more than 1,048,576 messages, or a party would draw
+    /// more tape words than that. Both are counted before any table is made.
+    pub fn make(
+        alloc: Global,
+        ring: Ring,
+        layout: Layout,
+        duty: Duty,
+        parts: Vec<SessionPart>,
+    ) -> Result<Plan, PlanFault>
+        requires structure { duty ≡ layout }
+        requires few { length parts.items ≤ 16 }
+        requires sound { All (IsSoundSession layout.parties) parts.items }
+        ensures made { IfOk result (λ plan. plan ≡ plan_of ring layout parts.items) }
+        ensures within { OnOk result (IsWithin (plan_of ring layout parts.items)) }
+        ensures refusal { IfErr result (IsRefusal (plan_of ring layout parts.items)) }
+    {
+        let outline = Outline::of(ring, layout, duty, parts);
+        let count = message_count(&outline);
+        if count > LIMIT {
+            return Err(PlanFault::TooManyMessages { count });
+        }
+        check_words(&outline)?;
+        let (keys, starts) = list_messages(alloc, &outline, count as u32)?;
+        let deals = list_deals(alloc, &outline)?;
+        Ok(Plan {
+            outline,
+            keys,
+            starts,
+            deals,
+        })
+    }
 
     pub fn ring(&self) -> Ring
         ensures is { result ≡ self.now.bits }
         ensures sound { IsSound self.now }
     {
-        self.ring
+        self.outline.ring()
     }
 
     pub fn parties(&self) -> u32
         ensures is { result ≡ self.now.parties }
         ensures sound { IsSound self.now }
     {
-        self.layout.parties()
+        self.outline.parties()
     }
 
     /// How many summands a value has.
@@ -61,32 +98,32 @@ impl Plan {
         ensures is { result ≡ length self.now.groups }
         ensures sound { IsSound self.now }
     {
-        self.layout.shares()
+        self.outline.shares()
     }
 
     pub fn sessions(&self) -> u32
         ensures { result ≡ length self.now.sessions }
     {
-        self.parts.len() as u32
+        self.outline.sessions()
     }
 
     pub fn part(&self, s: u32) -> &SessionPart
         requires { s < length self.now.sessions }
         ensures { result.now ≡ session self.now s }
     {
-        &self.parts[s as usize]
+        self.outline.part(s)
     }
 
     pub fn layout(&self) -> &Layout
         ensures { result.now ≡ structure self.now }
     {
-        &self.layout
+        self.outline.layout()
     }
 
     pub fn duty(&self) -> &Duty
         ensures { result.now ≡ structure self.now }
     {
-        &self.duty
+        self.outline.duty()
     }
 
     /// Whether party `p` deals at a product: it has a pair of summands to multiply.
@@ -94,7 +131,7 @@ impl Plan {
         requires { p < self.now.parties }
         ensures { result ≡ has_pair (scheme self.now) p }
     {
-        self.duty.deals(p)
+        self.outline.multiplies(p)
     }
 
     /// How many messages there are, over all sessions.
@@ -129,4 +166,20 @@ impl Plan {
     {
         self.starts[s as usize].at(k)
     }
+}
+
+// The most messages of a plan, and the most tape words of a party.
+const LIMIT: u64 = 1_048_576;
+
+fn check_words(outline: &Outline) -> Result<(), PlanFault>
+    requires { length (messages outline.now) ≤ 1048576 }
+    ensures { MatchResult result (λ _. IsWithin outline.now) (IsRefusal outline.now) }
+{
+    for party in 0..outline.parties() {
+        let count = word_count(outline, party);
+        if count > LIMIT {
+            return Err(PlanFault::TooManyWords { party, count });
+        }
+    }
+    Ok(())
 }

@@ -1,8 +1,12 @@
-//! Groups of parties as sets, and lists of groups.
+//! Groups of parties as sets, lists of groups, and the parties' names.
 #![tactic(auto)]
 
 mod group;
 mod groups;
+mod name_text;
+mod names;
 
 pub use group::Group;
 pub use groups::Groups;
+pub use name_text::NameText;
+pub use names::{Names, NamesFault, names_have_no_fault, read_names};

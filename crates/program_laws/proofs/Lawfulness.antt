@@ -72,7 +72,7 @@ module _ (w : World) (whole : IsWhole w) where
   positive = pow_pos w.plan.bits
 
   pub is_plan : IsPlan w.plan
-  is_plan = record { bits = whole.sound.some_bits; antichain = whole.sound.antichain; q2 = whole.sound.q2 }
+  is_plan = record { bits = whole.sound.some_bits; groups = whole.sound.some_groups; q2 = whole.sound.q2 }
 
   pub small_words : (s p k i : ℕ) → tape_word w s k p i < 2 ^ w.plan.bits
   small_words s p k i = whole.small_tapes p (place w.plan p s k + i)

@@ -5,7 +5,7 @@ use Rattle.std.specs.List.{AllByRecursion}
 use Rattle.std.proofs.lemmas.Bool.{cases_eq, cases_lt, cond-true, cond-false, and_from, not_from_false, eq-eqb, ne_eqb, lt-ltb, le-ltb}
 use mathlib.Core.Logic.{inl, inr}
 use Rattle.secret_sharing.specs.Sharing.{Run, dealt, own_product, own_value, summands}
-use Rattle.job_plan.specs.Plans.{owners, readers, structure, Plan, scheme, session, gate, holds, slot, slots, deals_in, least_holder, IsPlan}
+use Rattle.job_plan.specs.Plans.{owners, readers, Plan, scheme, session, gate, holds, slot, slots, deals_in, least_holder, IsPlan}
 use Rattle.job_plan.specs.declared.key.Key.{Key}
 use Rattle.party_set.specs.Parties.{has_party}
 use Rattle.job_plan.specs.Messages.{messages, slot_messages, deal_messages}
@@ -17,17 +17,13 @@ use Rattle.secret_sharing.proofs.Agreement.{gate_agrees, product_agrees}
 use Rattle.mpc_ring.proofs.Laying.{every_joined, every_only_if, every_both, at_joined, at_only_if}
 use Rattle.job_plan.proofs.Slots.{slot_input, slot_gate, product_within, slot_output, slot_cases}
 use Rattle.share_world.proofs.Locality.{holder_own, seen}
-use Rattle.share_layout.proofs.Holding.{held}
-use Rattle.job_plan.proofs.Planning.{least_holds}
+use Rattle.job_plan.proofs.Planning.{least_holds, least_within}
 
 abbrev Sent : World → (ℕ → Key → ℕ) → Key → Type 0
 Sent w got k = got k.receiver k ≡ local_word w (got k.sender) k.sender k
 
 abbrev key_of : ℕ → ℕ → ℕ → ℕ → ℕ → Key
 key_of s k i p q = record { session = s; slot = k; share = i; sender = p; receiver = q }
-
-least_within : (plan : Plan) → IsPlan plan → (i : ℕ) → i < length plan.groups → least_holder plan i < plan.parties
-least_within plan h i li = (held (structure plan) h.antichain i li).party
 
 module _ (w : World) (h : IsPlan w.plan) (got : ℕ → Key → ℕ) (sent : AllByRecursion (Sent w got) (messages w.plan)) where
   local_at : ℕ → ℕ → Run

@@ -2,7 +2,7 @@ use Rattle.std.proofs.Common.{ap, ◌∙◌}
 use Rattle.secret_sharing.specs.Sharing.{has_pair}
 use Rattle.product_duty.specs.Duties.{scheme_of}
 use Rattle.job_plan.specs.Plans.{scheme}
-use Rattle.job_plan.proofs.plan.Plan.multiplies.Goals as goal
+use Rattle.job_plan.proofs.outline.Outline.multiplies.Goals as goal
 
 pub returns : goal.returns
 returns c =

@@ -1,0 +1,13 @@
+use Rattle.std.proofs.Common.{◌≡◌, ap, sym, ◌∙◌, arith}
+use Rattle.mpc_ring.specs.Sums.{total}
+use Rattle.job_plan.specs.Tallies.{party_messages}
+use Rattle.job_plan.proofs.Tallying.{messages_by_party}
+use Rattle.job_plan.proofs.counts.message_count.Goals as goal
+
+pub returns : goal.returns
+returns c =
+    let plan = c.args.outline.now in
+    let ended : c.loop-p.p ≡ plan.parties = omega arith in
+    c.loop-p.invariant.is
+    ∙ ap (λ n. total n (party_messages plan)) ended
+    ∙ sym (messages_by_party plan (λ s v ls lv. (c.parties-p-end.ensures.outline.sessions s ls).owned v lv))

@@ -1,0 +1,25 @@
+-- The limits on messages and tape words, and the refusals of plans that go past them.
+use Rattle.std.specs.Prelude.{◌≡◌, ℕ, ◌<◌, ◌≤◌, length}
+use Rattle.job_plan.specs.Plans.{Plan}
+use Rattle.job_plan.specs.Messages.{messages}
+use Rattle.job_plan.specs.Tallies.{tape_length}
+use Rattle.job_plan.specs.declared.fault.PlanFault.{PlanFault}
+use Rattle.job_plan.specs.declared.fault.PlanFault.TheVariants.{TooManyMessages, TooManyWords, Memory}
+
+-- at most 1,048,576 messages, and as many tape words of each party, in all sessions
+pub record IsWithin (plan : Plan) : Type 0 where
+  pub messages : length (messages plan) ≤ 1048576
+  pub words : (p : ℕ) → p < plan.parties → tape_length plan p ≤ 1048576
+
+-- party is the first that draws too many tape words, and count is how many
+pub record IsFirstOverdrawn (plan : Plan) (party count : ℕ) : Type 0 where
+  pub there : party < plan.parties
+  pub is : count ≡ tape_length plan party
+  pub over : 1048576 < count
+  pub first : (p : ℕ) → p < party → tape_length plan p ≤ 1048576
+
+-- when each refusal comes: too many messages, or else too many words, or else memory is wanting
+abbrev pub IsRefusal : Plan → PlanFault → Type 0
+IsRefusal plan (TooManyMessages count) = (count ≡ length (messages plan)) × (1048576 < count)
+IsRefusal plan (TooManyWords party count) = (length (messages plan) ≤ 1048576) × IsFirstOverdrawn plan party count
+IsRefusal plan Memory = IsWithin plan

@@ -1,0 +1,129 @@
+//! What a plan is made of.
+ghost use Rattle.std.specs.Prelude.{◌≡◌};
+
+use crate::session_part::SessionPart;
+use mpc_ring::Ring;
+use product_duty::Duty;
+use share_layout::Layout;
+use std::marker::Model;
+
+/// A ring, a structure of parties and the sessions. Contracts see a plan of the definitions.
+#[derive(Drop)]
+pub(crate) struct Outline {
+    ring: Ring,
+    layout: Layout,
+    duty: Duty,
+    parts: Vec<SessionPart>,
+}
+
+impl Model for Outline {
+    ghost use Rattle.std.specs.Prelude.{◌≡◌};
+    ghost use Rattle.job_plan.specs.Plans.{Plan, plan_of};
+    ghost use Rattle.job_plan.specs.Sound.{IsOutline};
+
+    ghost Value = { Plan };
+
+    ghost view = { λ o. plan_of o.ring o.layout o.parts.items };
+
+    ghost invariant = { λ o. (o.duty ≡ o.layout) × IsOutline (plan_of o.ring o.layout o.parts.items) };
+}
+
+impl Outline {
+    ghost use Rattle.std.specs.Prelude.{◌≡◌, ◌<◌, ◌≤◌, All, length};
+    ghost use Rattle.secret_sharing.specs.Sharing.{has_pair};
+    ghost use Rattle.job_plan.specs.Plans.{structure, scheme, session, plan_of, holds, least_holder};
+    ghost use Rattle.job_plan.specs.Sound.{IsOutline, IsSoundSession};
+
+    pub(crate) fn of(ring: Ring, layout: Layout, duty: Duty, parts: Vec<SessionPart>) -> Outline
+        requires structure { duty ≡ layout }
+        requires few { length parts.items ≤ 16 }
+        requires sound { All (IsSoundSession layout.parties) parts.items }
+        ensures { result ≡ plan_of ring layout parts.items }
+    {
+        let _ = (
+            ring.bits(),
+            layout.parties(),
+            layout.shares(),
+            duty.shares(),
+        );
+        Outline {
+            ring,
+            layout,
+            duty,
+            parts,
+        }
+    }
+
+    pub(crate) fn ring(&self) -> Ring
+        ensures is { result ≡ self.now.bits }
+        ensures outline { IsOutline self.now }
+    {
+        self.ring
+    }
+
+    pub(crate) fn layout(&self) -> &Layout
+        ensures { result.now ≡ structure self.now }
+    {
+        &self.layout
+    }
+
+    pub(crate) fn duty(&self) -> &Duty
+        ensures { result.now ≡ structure self.now }
+    {
+        &self.duty
+    }
+
+    pub(crate) fn parties(&self) -> u32
+        ensures is { result ≡ self.now.parties }
+        ensures outline { IsOutline self.now }
+    {
+        self.layout.parties()
+    }
+
+    pub(crate) fn shares(&self) -> u32
+        ensures is { result ≡ length self.now.groups }
+        ensures outline { IsOutline self.now }
+    {
+        self.layout.shares()
+    }
+
+    pub(crate) fn sessions(&self) -> u32
+        ensures is { result ≡ length self.now.sessions }
+        ensures outline { IsOutline self.now }
+    {
+        self.parts.len() as u32
+    }
+
+    pub(crate) fn part(&self, s: u32) -> &SessionPart
+        requires { s < length self.now.sessions }
+        ensures is { result.now ≡ session self.now s }
+        ensures sound { IsSoundSession self.now.parties (session self.now s) }
+    {
+        &self.parts[s as usize]
+    }
+
+    /// Whether party `p` deals at a product.
+    pub(crate) fn multiplies(&self, p: u32) -> bool
+        requires { p < self.now.parties }
+        ensures { result ≡ has_pair (scheme self.now) p }
+    {
+        self.duty.deals(p)
+    }
+
+    /// Whether party `p` holds summand `i`.
+    pub(crate) fn holds(&self, p: u32, i: u32) -> bool
+        requires party { p < self.now.parties }
+        requires summand { i < length self.now.groups }
+        ensures { result ≡ holds self.now p i }
+    {
+        self.layout.holds(p, i)
+    }
+
+    /// The least party that holds summand `i`.
+    pub(crate) fn least_holder(&self, i: u32) -> u32
+        requires { i < length self.now.groups }
+        ensures { result ≡ least_holder self.now i }
+    {
+        self.layout.least_holder(i)
+    }
+}

@@ -1,0 +1,4 @@
+pub mod Past
+pub mod Pieces
+pub mod Room
+pub mod Writing

@@ -1,0 +1,28 @@
+-- What the forms in memory show.
+use Rattle.std.specs.Prelude.{ℕ, ◌-◌, nat_lt, Bool, List, Option, Some, String, Vec, vec_len}
+use Rattle.std.specs.Option.{option_map}
+use Rattle.std.specs.List.{list_all}
+use Rattle.std.specs.BTreeMap.{BTreeMap, get_by_text}
+use Rattle.std.specs.declared.alloc.Global.{Global}
+use Rattle.outer_io.specs.declared.map_files.MapFiles.{MapFiles}
+use Rattle.outer_io.specs.declared.vec_sink.VecSink.{VecSink}
+use Rattle.outer_io.specs.Files.{FilesReading}
+use Rattle.outer_io.specs.Sink.{SinkReading}
+
+-- none of the listed calls is still to come, after so many calls
+abbrev pub all_past : List ℕ → ℕ → Bool
+all_past listed calls = list_all (λ call. nat_lt call calls) listed
+
+-- what a map from names to contents tells
+abbrev pub contents : BTreeMap (String Global) (Vec ℕ Global) → List ℕ → Option (List ℕ)
+contents files name = option_map (λ bytes. bytes.items) (get_by_text files name)
+
+abbrev pub map_reading : MapFiles → FilesReading
+map_reading m = record { told = Some (contents m.files); faults = m.faults; taken = m.taken; steady = all_past m.failing.items m.calls }
+
+-- the bytes that a sink in memory has
+abbrev pub sink_bytes : VecSink → List ℕ
+sink_bytes s = s.bytes.items
+
+abbrev pub sink_reading : VecSink → SinkReading
+sink_reading s = record { told = Some (sink_bytes s); faults = s.faults; steady = all_past s.failing.items s.calls; room = s.limit - vec_len s.bytes }

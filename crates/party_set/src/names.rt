@@ -1,0 +1,194 @@
+//! The names of the parties.
+ghost use Rattle.std.specs.Prelude.{◌≡◌, ℕ, List, ◌<◌, ◌≤◌, ◌⊎◌, IfSome, MatchResult, Some, None, length, map, slice_get, slice_index_or};
+ghost use Rattle.std.specs.List.{list_all, list_any};
+ghost use Rattle.std.specs.Str.{bytes_eq};
+ghost use Rattle.std.specs.String.{string_bytes};
+ghost use Rattle.party_set.specs.Names.{is_name, is_name_byte, name_fault, names_fault, number_of, AreNames};
+ghost use Rattle.party_set.specs.declared.names.NamesFault.TheVariants.{Memory};
+
+use crate::name_text::NameText;
+use std::alloc::{AllocError, Global};
+use std::marker::Model;
+
+/// What is wrong with a list of names.
+#[derive(Clone, Copy, Debug, PartialEq, Eq)]
+pub enum NamesFault {
+    /// The text at this index is no name.
+    BadName { at: u64 },
+    /// The name at this index stood before.
+    TwiceNamed { at: u64 },
+    /// There are no names, or more than 12.
+    PartyCount { count: u64 },
+    /// There is not enough memory.
+    Memory,
+}
+
+impl From<AllocError> for NamesFault {
+    ghost from_gives = { λ _ fault. fault ≡ Memory };
+
+    fn from(_: AllocError) -> NamesFault {
+        NamesFault::Memory
+    }
+}
+
+/// The names of 1 to 12 parties, in the order of their numbers. Contracts see a list of texts.
+#[derive(Drop)]
+pub struct Names {
+    names: Vec<NameText>,
+}
+
+impl Model for Names {
+    ghost use Rattle.std.specs.Prelude.{ℕ, List};
+    ghost use Rattle.party_set.specs.Names.{AreNames};
+
+    ghost Value = { List (List ℕ) };
+
+    ghost view = { λ n. n.names.items };
+
+    ghost invariant = { λ n. AreNames n.names.items };
+}
+
+/// The names, if there are 1 to 12, each of 1 to 16 letters, digits and `_` after a letter, none `of` and no two equal.
+pub fn read_names(alloc: Global, texts: &[String]) -> Result<Names, NamesFault>
+    ensures { MatchResult result
+        (λ names. (names ≡ map string_bytes texts.now) × (names_fault (map string_bytes texts.now) ≡ None))
+        (λ fault. (fault ≡ Memory) ⊎ (names_fault (map string_bytes texts.now) ≡ Some fault)) }
+{
+    if texts.is_empty() || texts.len() > 12 {
+        return Err(NamesFault::PartyCount {
+            count: texts.len() as u64,
+        });
+    }
+    let mut names = Vec::new(alloc);
+    for (at, text) in texts.iter().enumerate() {
+        check_name(&names, text.as_str(), at as u64)?;
+        if names.push(NameText::of(text.clone()?)).is_err() {
+            return Err(NamesFault::Memory);
+        }
+    }
+    Ok(Names { names })
+}
+
+impl Names {
+    /// How many parties there are.
+    pub fn len(&self) -> u32
+        ensures is { result ≡ length self.now }
+        ensures some { 1 ≤ result }
+        ensures few { result ≤ 12 }
+        ensures names { AreNames self.now }
+    {
+        self.names.len() as u32
+    }
+
+    /// The name of party `p`.
+    pub fn name(&self, p: u32) -> &str
+        requires { p < length self.now }
+        ensures { slice_get self.now p ≡ Some result.now }
+    {
+        self.names[p as usize].as_str()
+    }
+
+    /// The party of this name, if there is one.
+    pub fn number(&self, name: &str) -> Option<u32>
+        ensures is { result ≡ number_of self.now name.now }
+        ensures party { IfSome result (λ p. slice_get self.now p ≡ Some name.now) }
+    {
+        let p = place_of(&self.names, name)?;
+        Some(p as u32)
+    }
+}
+
+/// A list of texts has no fault exactly where it is a list of 1 to 12 different names.
+pub fn names_have_no_fault()
+    ensures names { (names : List (List ℕ)) → names_fault names ≡ None → AreNames names }
+    ensures no_fault { (names : List (List ℕ)) → AreNames names → names_fault names ≡ None }
+{}
+
+// Tells what is wrong with the name that stands at this place after these names.
+fn check_name(before: &[NameText], name: &str, at: u64) -> Result<(), NamesFault>
+    ensures { MatchResult result (λ _. name_fault before.now name.now at ≡ None) (λ fault. name_fault before.now name.now at ≡ Some fault) }
+{
+    if !is_name(name) {
+        return Err(NamesFault::BadName { at });
+    }
+    if is_among(before, name) {
+        return Err(NamesFault::TwiceNamed { at });
+    }
+    Ok(())
+}
+
+fn is_among(names: &[NameText], name: &str) -> bool
+    ensures { result ≡ list_any (λ other. bytes_eq other name.now) names.now }
+{
+    names.iter().any(|other| other.as_str() == name)
+}
+
+fn place_of(names: &[NameText], name: &str) -> Option<usize>
+    ensures is { result ≡ number_of names.now name.now }
+    ensures within { IfSome result (λ p. p < length names.now) }
+{
+    names.iter().position(|other| other.as_str() == name)
+}
+
+fn is_name(name: &str) -> bool
+    ensures { result ≡ is_name name.now }
+{
+    let bytes = name.as_bytes();
+    if bytes.is_empty() || bytes.len() > 16 || !bytes[0].is_ascii_alphabetic() {
+        return false;
+    }
+    has_name_bytes(bytes) && name != "of"
+}
+
+fn has_name_bytes(bytes: &[u8]) -> bool
+    ensures { result ≡ list_all is_name_byte bytes.now }
+{
+    bytes.iter().all(|byte| is_name_byte(*byte))
+}
+
+fn is_name_byte(byte: u8) -> bool
+    ensures { result ≡ is_name_byte byte }
+{
+    byte.is_ascii_alphanumeric() || byte == b'_'
+}
+
+#[cfg(test)]
+mod tests {
+    use super::*;
+    use std::test::Fail;
+
+    #[test]
+    fn names_are_found(rt: HostRuntime) -> Result<(), Fail> {
+        let alloc = rt.alloc();
+        let texts = [
+            String::from_str(alloc, "a")?,
+            String::from_str(alloc, "b_2")?,
+        ];
+        let names = read_names(alloc, &texts)?;
+        assert_eq!(rt; names.len(), 2);
+        assert!(rt; names.name(1) == "b_2");
+        assert_eq!(rt; names.number("b_2"), Some(1));
+        assert_eq!(rt; names.number("b"), None);
+        Ok(())
+    }
+
+    #[test]
+    fn the_first_fault_is_told(rt: HostRuntime) -> Result<(), Fail> {
+        let alloc = rt.alloc();
+        let twice = [
+            String::from_str(alloc, "a")?,
+            String::from_str(alloc, "a")?,
+            String::from_str(alloc, "of")?,
+        ];
+        assert_eq!(rt;
+            read_names(alloc, &twice).err(),
+            Some(NamesFault::TwiceNamed { at: 1 })
+        );
+        let bad = [String::from_str(alloc, "of")?];
+        assert_eq!(rt;
+            read_names(alloc, &bad).err(),
+            Some(NamesFault::BadName { at: 0 })
+        );
+        Ok(())
+    }
+}

@@ -1,0 +1,23 @@
+//! The test whether two groups of an adversary structure together are all parties.
+#![tactic(auto)]
+
+ghost use Rattle.std.specs.Prelude.{MatchOption};
+ghost use Rattle.party_set.specs.Parties.{IsQ2};
+ghost use Rattle.q2_test.specs.Covering.{IsFirstCovering};
+
+use party_set::Groups;
+
+/// The first two groups, by the first and then the second, that together are all parties; a group counts with itself.
+/// Where there are none, the structure meets Q2 (Hirt and Maurer), and the parties can compute products.
+pub fn covering_pair(groups: &Groups) -> Option<(u32, u32)>
+    ensures { MatchOption result (IsQ2 groups.now) (λ pair. IsFirstCovering groups.now pair.0 pair.1) }
+{
+    for i in 0..groups.len() {
+        for j in i..groups.len() {
+            if groups.get(i).union(groups.get(j)).is_all() {
+                return Some((i, j));
+            }
+        }
+    }
+    None
+}
