@@ -45,15 +45,15 @@ distinct_one : {A : Type 0} (b : Bool) (x : A) → Distinct (only_if b (x ∷ []
 distinct_one true x = (tt, tt)
 distinct_one false x = tt
 
+pub every_place : {A : Type 0} (P : A → Type 0) (xs : List A) (j : ℕ) (d : A) → AllByRecursion P xs → j < length xs → P (slice_index_or xs j d)
+every_place P [] j d h l = absurd (omega arith)
+every_place P (x ∷ xs) zero d h l = h.0
+every_place P (x ∷ xs) (suc j) d h l = every_place P xs j d h.1 (omega arith)
+
 distinct_at : {A : Type 0} (xs : List A) (i j : ℕ) (d : A) → Distinct xs → i < j → j < length xs → slice_index_or xs i d ≢ slice_index_or xs j d
 distinct_at [] i j d h l b e = omega arith
 distinct_at (x ∷ xs) zero zero d h l b e = omega arith
 distinct_at (x ∷ xs) zero (suc j) d h l b e = every_place (λ y. x ≢ y) xs j d h.0 (omega arith) e
-  where
-    every_place : {A : Type 0} (P : A → Type 0) (xs : List A) (j : ℕ) (d : A) → AllByRecursion P xs → j < length xs → P (slice_index_or xs j d)
-    every_place P [] j d h l = absurd (omega arith)
-    every_place P (x ∷ xs) zero d h l = h.0
-    every_place P (x ∷ xs) (suc j) d h l = every_place P xs j d h.1 (omega arith)
 distinct_at (x ∷ xs) (suc i) zero d h l b e = omega arith
 distinct_at (x ∷ xs) (suc i) (suc j) d h l b e = distinct_at xs i j d h.1 (omega arith) (omega arith) e
 
@@ -84,7 +84,7 @@ slot_distinct plan s k (Output o) =
     distinct_joined (λ x. x.receiver) plan.parties _ (λ r lr. distinct_only_if (has_party (slice_index (readers (session plan s)) o) r) _ (open_distinct plan s k r))
     (λ r lr. every_only_if (λ x. x.receiver ≡ r) (has_party (slice_index (readers (session plan s)) o) r) _ (λ e. every_open (λ x. x.receiver ≡ r) plan s k r (λ i p. refl)))
 
-every_slot : (P : Key → Type 0) (plan : Plan) (s k : ℕ) (z : Slot) → ((i p q : ℕ) → P (record { session = s; slot = k; share = i; sender = p; receiver = q })) → AllByRecursion P (slot_messages plan s k z)
+pub every_slot : (P : Key → Type 0) (plan : Plan) (s k : ℕ) (z : Slot) → ((i p q : ℕ) → P (record { session = s; slot = k; share = i; sender = p; receiver = q })) → AllByRecursion P (slot_messages plan s k z)
 every_slot P plan s k (Input v) h = every_deal P plan s k (slice_index (owners (session plan s)) v) (λ i q. h i _ q)
 every_slot P plan s k (At_gate t) h = every_joined P plan.parties _ (λ p lp. every_only_if P _ _ (λ e. every_deal P plan s k p (λ i q. h i p q)))
 every_slot P plan s k (Output o) h = every_joined P plan.parties _ (λ r lr. every_only_if P _ _ (λ e. every_open P plan s k r (λ i p. h i p r)))
@@ -96,7 +96,7 @@ messages_distinct plan =
     (λ k lk. every_slot (λ x. x.slot ≡ k) plan s k (slot (session plan s) k) (λ i p q. refl)))
     (λ s ls. every_joined (λ x. x.session ≡ s) (slots (session plan s)) _ (λ k lk. every_slot (λ x. x.session ≡ s) plan s k (slot (session plan s) k) (λ i p q. refl)))
 
-same_key-true : (a b : Key) → same_key a b ≡ true → a ≡ b
+pub same_key-true : (a b : Key) → same_key a b ≡ true → a ≡ b
 same_key-true a b e =
     let first = and_parts (nat_eq a.session b.session) _ e in
     let second = and_parts (nat_eq a.slot b.slot) _ first.1 in
@@ -109,7 +109,7 @@ same_key-true a b e =
     let e5 = eqb-true _ _ fourth.1 in
     λ i. record { session = e1 i; slot = e2 i; share = e3 i; sender = e4 i; receiver = e5 i }
 
-same_key_self : (a : Key) → same_key a a ≡ true
+pub same_key_self : (a : Key) → same_key a a ≡ true
 same_key_self a = and_from _ _ (eq-eqb a.session a.session refl) (and_from _ _ (eq-eqb a.slot a.slot refl) (and_from _ _ (eq-eqb a.share a.share refl) (and_from _ _ (eq-eqb a.sender a.sender refl) (eq-eqb a.receiver a.receiver refl))))
 
 pub numbers_are_inverse : (plan : Plan) → NumbersAreInverse plan

@@ -5,3 +5,7 @@ pub mod Counting
 pub mod Tallying
 pub mod Listing
 pub mod OneProduct
+pub mod Rising
+pub mod Searching
+pub mod Finding
+pub mod Placing

@@ -1,9 +1,10 @@
 -- The numbers of messages, and the places of tape words.
-use Rattle.std.specs.Prelude.{◌≡◌, ℕ, ◌+◌, ◌-◌, ◌*◌, ◌<◌, Bool, ◌&&◌, nat_eq, length, slice_index_or, if◌then◌else◌}
+use Rattle.std.specs.Prelude.{◌≡◌, ℕ, ◌+◌, ◌-◌, ◌*◌, ◌<◌, Bool, true, false, ◌&&◌, nat_eq, List, length, slice_index_or, if◌then◌else◌}
 use Rattle.std.specs.List.{position_or_len}
 use Rattle.mpc_ring.specs.Sums.{total}
-use Rattle.job_plan.specs.Plans.{Plan, session, slot, slots, words_in, place, deals_in}
+use Rattle.job_plan.specs.Plans.{Plan, Slot, session, slot, slots, words_in, place, deals_in}
 use Rattle.job_plan.specs.declared.key.Key.{Key}
+use Rattle.job_plan.specs.Plans.Slot.{Output}
 use Rattle.job_plan.specs.Messages.{messages}
 
 abbrev pub same_key : Key → Key → Bool
@@ -18,6 +19,18 @@ message plan n = slice_index_or (messages plan) n no_key
 -- the number of a message, and the count of messages for any other key
 abbrev pub number : Plan → Key → ℕ
 number plan key = position_or_len (same_key key) (messages plan)
+
+-- whether a slot is one of openings
+abbrev pub opens : Slot → Bool
+opens (Output o) = true
+opens _ = false
+
+-- what rises along the messages of a slot: openings stand by receiver and share, deals by sender, share and receiver
+abbrev pub rank : Bool → Key → ℕ
+rank by_receiver key = ((if by_receiver then key.receiver else key.sender) * 64 + key.share) * 12 + key.receiver
+
+abbrev pub IsRising : (Key → ℕ) → List Key → Type 0
+IsRising f keys = (i j : ℕ) → i < j → j < length keys → f (slice_index_or keys i no_key) < f (slice_index_or keys j no_key)
 
 -- messages and numbers are each other's inverse
 abbrev pub NumbersAreInverse : Plan → Type 0
@@ -37,6 +50,10 @@ deals_before plan p s k = total k (λ j. if deals_in plan (session plan s) p (sl
 abbrev pub deals : Plan → ℕ → ℕ → ℕ
 deals plan p s = deals_before plan p s (slots (session plan s))
 
+-- the place on p's tape of the first word of deal d of session s
+abbrev pub deal_place : Plan → ℕ → ℕ → ℕ → ℕ
+deal_place plan p s d = (length plan.groups - 1) * (total s (deals plan p) + d)
+
 -- the place of a deal by its number
 abbrev pub PlacesByDeals : Plan → ℕ → Type 0
-PlacesByDeals plan p = (s k : ℕ) → place plan p s k ≡ (length plan.groups - 1) * (total s (deals plan p) + deals_before plan p s k)
+PlacesByDeals plan p = (s k : ℕ) → place plan p s k ≡ deal_place plan p s (deals_before plan p s k)

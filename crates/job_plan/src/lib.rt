@@ -11,6 +11,7 @@ mod laying;
 mod outline;
 mod place;
 mod plan;
+mod ranks;
 mod session_part;
 mod starts;
 mod values;

@@ -8,6 +8,8 @@ use crate::fault::PlanFault;
 use crate::key::Key;
 use crate::laying::{list_deals, list_messages};
 use crate::outline::Outline;
+use crate::place::Place;
+use crate::ranks::search;
 use crate::session_part::SessionPart;
 use crate::starts::Starts;
 use mpc_ring::Ring;
@@ -38,11 +40,12 @@ impl Model for Plan {
 }
 
 impl Plan {
-    ghost use Rattle.std.specs.Prelude.{◌≡◌, ◌<◌, ◌≤◌, All, IfOk, IfErr, OnOk, length};
-    ghost use Rattle.job_plan.specs.Plans.{plan_of, structure, scheme, session, slots};
+    ghost use Rattle.std.specs.Prelude.{◌≡◌, ℕ, ◌<◌, ◌≤◌, All, IfOk, IfErr, OnOk, SomeIff, length};
+    ghost use Rattle.mpc_ring.specs.Sums.{total};
+    ghost use Rattle.job_plan.specs.Plans.{plan_of, structure, scheme, session, slot, slots, words, place};
     ghost use Rattle.secret_sharing.specs.Sharing.{has_pair};
-    ghost use Rattle.job_plan.specs.Messages.{messages};
-    ghost use Rattle.job_plan.specs.Numbers.{message};
+    ghost use Rattle.job_plan.specs.Messages.{messages, slot_messages};
+    ghost use Rattle.job_plan.specs.Numbers.{message, number, opens, deals, deals_before, deal_place};
     ghost use Rattle.job_plan.specs.Sound.{IsSound, IsSoundSession};
     ghost use Rattle.job_plan.specs.Firsts.{first};
     ghost use Rattle.job_plan.specs.Limits.{IsWithin, IsRefusal};
@@ -157,6 +160,89 @@ impl Plan {
         ensures within { result ≤ length (messages self.now) }
     {
         self.start_of(s, k)
+    }
+
+    /// The number of this message, None exactly where the key is no message of the plan.
+    pub fn number(&self, key: Key) -> Option<u32>
+        ensures { SomeIff result (number self.now key < length (messages self.now)) (number self.now key) }
+    {
+        if key.session >= self.sessions() || key.slot >= self.slots(key.session) {
+            return None;
+        }
+        let keys = self.slot_keys(key.session, key.slot);
+        let at = search(keys, self.opens(key.session, key.slot), key)?;
+        Some(self.first(key.session, key.slot) + at as u32)
+    }
+
+    // The messages of slot k of session s.
+    fn slot_keys(&self, s: u32, k: u32) -> &[Key]
+        requires session { s < length self.now.sessions }
+        requires slot { k < slots (session self.now s) }
+        requires few { k < 4294967295 }
+        ensures is { result.now ≡ slot_messages self.now s k (slot (session self.now s) k) }
+        ensures sound { IsSound self.now }
+    {
+        let begin = self.first(s, k);
+        let end = self.first(s, k + 1);
+        &self.keys[begin as usize..end as usize]
+    }
+
+    // Whether slot k of session s is one of openings.
+    fn opens(&self, s: u32, k: u32) -> bool
+        requires session { s < length self.now.sessions }
+        requires slot { k < slots (session self.now s) }
+        ensures { result ≡ opens (slot (session self.now s) k) }
+    {
+        matches!(self.outline.part(s).place(k), Place::Output(_))
+    }
+
+    /// How many slots session `s` has.
+    pub fn slots(&self, s: u32) -> u32
+        requires { s < length self.now.sessions }
+        ensures { result ≡ slots (session self.now s) }
+    {
+        self.outline.part(s).slots()
+    }
+
+    /// How many deals party `p` makes in session `s`.
+    pub fn deals(&self, p: u32, s: u32) -> u32
+        requires party { p < self.now.parties }
+        requires session { s < length self.now.sessions }
+        ensures { result ≡ deals self.now p s }
+    {
+        let before = self.deals_before(p, s);
+        self.deals_before(p, s + 1) - before
+    }
+
+    /// How many tape words party `p` draws in session `s`.
+    pub fn words(&self, p: u32, s: u32) -> u32
+        requires party { p < self.now.parties }
+        requires session { s < length self.now.sessions }
+        ensures { result ≡ words self.now p s }
+    {
+        (self.shares() - 1) * self.deals(p, s)
+    }
+
+    /// The place on party `p`'s tape, which holds the words of all sessions, of the first word of deal `deal` of
+    /// session `s`. At the count of its deals, the place behind them.
+    pub fn tape_place(&self, p: u32, s: u32, deal: u32) -> u32
+        requires party { p < self.now.parties }
+        requires session { s < length self.now.sessions }
+        requires deal { deal ≤ deals self.now p s }
+        ensures is { result ≡ deal_place self.now p s deal }
+        ensures in_slot { (k : ℕ) → deal ≡ deals_before self.now p s k → result ≡ place self.now p s k }
+    {
+        (self.shares() - 1) * (self.deals_before(p, s) + deal)
+    }
+
+    // How many deals p makes in the sessions before s.
+    fn deals_before(&self, p: u32, s: u32) -> u32
+        requires party { p < self.now.parties }
+        requires session { s ≤ length self.now.sessions }
+        ensures is { result ≡ total s (deals self.now p) }
+        ensures sound { IsSound self.now }
+    {
+        self.deals[p as usize].at(s)
     }
 
     fn start_of(&self, s: u32, k: u32) -> u32

@@ -1,0 +1,13 @@
+use Rattle.std.proofs.Common.{◌≡◌, ap, ap₂, ◌∙◌}
+use Rattle.std.specs.List.{slice_range}
+use Rattle.job_plan.specs.Messages.{messages}
+use Rattle.job_plan.proofs.Finding.{slot_range}
+use Rattle.job_plan.proofs.plan.Plan.slot_keys.Goals as goal
+
+pub returns-clause-is : goal.returns-clause-is
+returns-clause-is c =
+    let plan = c.args.self.now in
+    let keys : c.deref.result.now ≡ messages plan = c.deref.ensures.value ∙ c.self.invariant.keys ∙ ap messages c.self.view_is in
+    ap (λ keys. slice_range keys c.first-begin.result c.first-end.result) keys
+    ∙ ap₂ (slice_range (messages plan)) c.first-begin.ensures.is c.first-end.ensures.is
+    ∙ slot_range plan c.args.s c.args.k c.requires.session c.requires.slot

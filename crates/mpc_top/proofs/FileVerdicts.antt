@@ -1,0 +1,46 @@
+-- What a read of a file says of the verdict.
+use Rattle.std.proofs.Common.{◌≡◌, ℕ, ◌<◌, ◌≤◌, List, length, Option, None, Some, Vec, Result, Err, refl, arith, ap, ◌∙◌, sym}
+use Rattle.std.specs.Prelude.{IfSome}
+use Rattle.std.specs.declared.alloc.Global.{Global}
+use Rattle.outer_io.specs.declared.files.ReadRefusal.{ReadRefusal}
+use Rattle.outer_io.specs.declared.files.ReadRefusal.TheVariants.{Failed, TooLong}
+use Rattle.outer_io.specs.Files.{Told, IsContent, IsLonger, IsThere}
+use Rattle.mpc_top.specs.declared.stop.FileName.{FileName}
+use Rattle.mpc_top.specs.Names.{name_text, path_of}
+use Rattle.mpc_top.specs.JobOf.{file_at, bytes_of, file_limit}
+use Rattle.mpc_top.specs.Verdict.{accepted, missing, refused}
+use Rattle.mpc_top.specs.Texts.{too_long_line}
+
+bytes_of-short : (bytes name : List ℕ) → length bytes ≤ file_limit → bytes_of (Some bytes) name ≡ accepted bytes
+unfolding bytes_of
+bytes_of-short bytes name h = grind arith
+
+bytes_of-long : (bytes name : List ℕ) → file_limit < length bytes → bytes_of (Some bytes) name ≡ refused 3 (too_long_line name)
+unfolding bytes_of
+bytes_of-long bytes name h = grind arith
+
+pub file_ok : (told : Told) (dir : List ℕ) (name : FileName) (path bytes : List ℕ) → path ≡ path_of dir (name_text name) → IsContent told path bytes → length bytes ≤ file_limit
+    → IfSome told (λ m. file_at m dir name ≡ accepted bytes)
+unfolding file_at
+file_ok None dir name path bytes same is short = tt
+file_ok (Some m) dir name path bytes same is short = ap (λ o. bytes_of o (name_text name)) (ap m (sym same) ∙ is) ∙ bytes_of-short bytes (name_text name) short
+
+pub file_long : (told : Told) (dir : List ℕ) (name : FileName) (path : List ℕ) → path ≡ path_of dir (name_text name) → IsLonger told path file_limit
+    → IfSome told (λ m. file_at m dir name ≡ refused 3 (too_long_line (name_text name)))
+unfolding file_at
+file_long None dir name path same is = tt
+file_long (Some m) dir name path same is = ap (λ o. bytes_of o (name_text name)) (ap m (sym same) ∙ is.1) ∙ bytes_of-long is.0 (name_text name) is.2
+
+missing_or : (o : Option (List ℕ)) (name : List ℕ) → ((bytes : List ℕ) × (o ≡ Some bytes) → ⊥) → bytes_of o name ≡ missing name
+unfolding bytes_of
+missing_or None name not = refl
+missing_or (Some bytes) name not = absurd (not (bytes, refl))
+
+pub file_missing : (told : Told) (dir : List ℕ) (name : FileName) (path : List ℕ) → path ≡ path_of dir (name_text name) → (IsThere told path → ⊥)
+    → IfSome told (λ m. file_at m dir name ≡ missing (name_text name))
+unfolding file_at
+file_missing None dir name path same not = tt
+file_missing (Some m) dir name path same not = missing_or (m (path_of dir (name_text name))) (name_text name) (λ h. not (h.0, ap m same ∙ h.1))
+
+pub long_is_no_fault : (result : Result (Vec ℕ Global) ReadRefusal) (refusal : ReadRefusal) → result ≡ Err refusal → refusal ≡ TooLong → result ≡ Err Failed → ⊥
+long_is_no_fault result refusal is long failed = cc

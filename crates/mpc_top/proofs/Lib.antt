@@ -1,0 +1,9 @@
+pub mod Answering
+pub mod Documents
+pub mod FileVerdicts
+pub mod Lines
+pub mod Parted
+pub mod Products
+pub mod Steps
+pub mod TomlCounts
+pub mod TomlLists

@@ -1,0 +1,42 @@
+use Rattle.std.proofs.Common.{◌∙◌, ap, Err, refl}
+use Rattle.mpc_top.proofs.FileVerdicts.{file_ok, file_long, file_missing, long_is_no_fault}
+use Rattle.mpc_top.proofs.reading.read_file.Goals as goal
+
+pub returns-in-Ok-read : goal.returns-in-Ok-read
+returns-in-Ok-read g c =
+    let e = c.as_str.ensures.value ∙ c.in-Ok.ensures in
+    let r = c.in-Ok-read.ensures in
+    record {
+      ok = file_ok _ _ _ _ _ e r.content r.within;
+      quiet = r.quiet (λ failed. (cc));
+      stop = tt;
+      same_told = r.same_told;
+      faults_grow = r.faults_grow;
+      keeps_steady = r.keeps_steady;
+    }
+
+pub returns-in-Err-Failed : goal.returns-in-Err-Failed
+returns-in-Err-Failed g c =
+    let e = c.as_str.ensures.value ∙ c.in-Ok.ensures in
+    let r = c.in-Err-Failed.ensures in
+    record {
+      ok = tt;
+      quiet = tt;
+      stop = (r.failed (ap Err c.in-Err-Failed.field-0-is), λ steady. file_missing _ _ _ _ e (λ there. r.by_itself steady there (ap Err c.in-Err-Failed.field-0-is)));
+      same_told = r.same_told;
+      faults_grow = r.faults_grow;
+      keeps_steady = r.keeps_steady;
+    }
+
+pub returns-in-Err-TooLong : goal.returns-in-Err-TooLong
+returns-in-Err-TooLong g c =
+    let e = c.as_str.ensures.value ∙ c.in-Ok.ensures in
+    let r = c.in-Err-TooLong.ensures in
+    record {
+      ok = tt;
+      quiet = tt;
+      stop = (r.quiet (long_is_no_fault _ _ refl c.in-Err-TooLong.field-0-is), file_long _ _ _ _ e (r.longer (ap Err c.in-Err-TooLong.field-0-is)));
+      same_told = r.same_told;
+      faults_grow = r.faults_grow;
+      keeps_steady = r.keeps_steady;
+    }
