@@ -1,0 +1,40 @@
+use crate::{Lines, number};
+
+#[test]
+fn blank_lines_count(rt: HostRuntime) {
+    let mut lines = Lines::new("1 3\r\n\n \t\r\n2  1\t1");
+    let first = lines.next_line().expect(&rt, "the first line");
+    assert_eq!(rt; first.number(), 1);
+    assert_eq!(rt; first.count(), 2);
+    assert_eq!(rt; first.token(1), "3");
+    let second = lines.next_line().expect(&rt, "the fourth line");
+    assert_eq!(rt; second.number(), 4);
+    assert_eq!(rt; second.count(), 3);
+    assert_eq!(rt; second.value(0), Some(2));
+    assert_eq!(rt; second.token(3), "");
+    assert!(rt; lines.next_line().is_none());
+    assert!(rt; lines.next_line().is_none());
+}
+
+#[test]
+fn other_spaces_are_no_blanks(rt: HostRuntime) {
+    let mut lines = Lines::new("\u{a0}é \u{b}\u{c}x\n");
+    let line = lines.next_line().expect(&rt, "a line");
+    assert_eq!(rt; line.token(0), "\u{a0}é");
+    assert_eq!(rt; line.token(1), "\u{b}\u{c}x");
+    let mut tokens = line.tokens();
+    assert!(rt; tokens.next().is_some());
+    assert!(rt; tokens.next().is_some());
+    assert!(rt; tokens.next().is_none());
+}
+
+#[test]
+fn numbers_below_two_to_64(rt: HostRuntime) {
+    assert_eq!(rt; number("00000000000000000000000000000007"), Some(7));
+    assert_eq!(rt; number("18446744073709551615"), Some(u64::MAX));
+    assert_eq!(rt; number("18446744073709551616"), None);
+    assert_eq!(rt; number("+1"), None);
+    assert_eq!(rt; number("-1"), None);
+    assert_eq!(rt; number("1x"), None);
+    assert_eq!(rt; number(""), None);
+}

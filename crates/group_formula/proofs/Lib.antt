@@ -1,0 +1,12 @@
+pub mod Cutting
+pub mod Reading
+pub mod Going
+pub mod Coding
+pub mod Passing
+pub mod Valuing
+pub mod Seconding
+pub mod Numbers
+pub mod Naming
+pub mod Resolved
+pub mod Meaning
+pub mod Answering

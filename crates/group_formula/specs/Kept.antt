@@ -1,0 +1,110 @@
+-- How the parser keeps a state: marks, open parentheses, and the nodes in postfix order.
+use Rattle.std.specs.Prelude.{◌≡◌, ℕ, ◌+◌, ◌⊎◌, Bool, true, false, List, [], ◌∷◌, ◌++◌, Option, Some, None, Result, Ok, Err, if◌then◌else◌}
+use Rattle.std.specs.declared.alloc.AllocError.{AllocError}
+use Rattle.group_formula.specs.declared.node.Node.{Node}
+use Rattle.group_formula.specs.declared.node.Node.TheVariants.{And, Or, AtLeast}
+use Rattle.group_formula.specs.declared.parser.Mode.{Mode}
+use Rattle.group_formula.specs.declared.parser.Mode.TheVariants as modes
+use Rattle.group_formula.specs.declared.parser.Bracket.{Bracket}
+use Rattle.group_formula.specs.declared.parser.Bracket.TheVariants as brackets
+use Rattle.group_formula.specs.declared.parser.Frame.{Frame}
+use Rattle.group_formula.specs.Trees.{count}
+use Rattle.group_formula.specs.Grammar.{Expr, Term, Parts, shape, shape_term, shape_parts}
+use Rattle.group_formula.specs.Postfix.{postfix, postfix_all}
+use Rattle.group_formula.specs.Machine.{Level, Pending, State}
+use Rattle.group_formula.specs.Machine.Level.{level}
+use Rattle.group_formula.specs.Machine.Pending.{plain, listed}
+use Rattle.group_formula.specs.Machine.State.{want, want_of, want_open, have}
+
+pub record Kept : Type 0 where
+  pub mode : Mode
+  pub or_waits : Bool
+  pub and_waits : Bool
+  pub frames : List Frame
+  pub out : List Node
+
+abbrev pub there : {A : Type 0} → Option A → Bool
+there None = false
+there (Some a) = true
+
+abbrev pub nodes_ors : Option Expr → List Node
+nodes_ors None = []
+nodes_ors (Some e) = postfix (shape e)
+
+abbrev pub nodes_ands : Option Term → List Node
+nodes_ands None = []
+nodes_ands (Some t) = postfix (shape_term t)
+
+abbrev pub nodes_done : Option Parts → List Node
+nodes_done None = []
+nodes_done (Some ps) = postfix_all (shape_parts ps)
+
+abbrev pub number_done : Option Parts → ℕ
+number_done None = 0
+number_done (Some ps) = count (shape_parts ps)
+
+abbrev pub nodes_level : Level → List Node
+nodes_level (level ors ands) = nodes_ors ors ++ nodes_ands ands
+
+abbrev pub nodes_pending : Pending → List Node
+nodes_pending (plain l) = nodes_level l
+nodes_pending (listed n l done) = nodes_level l ++ nodes_done done
+
+abbrev pub nodes_all : List Pending → List Node
+nodes_all [] = []
+nodes_all (f ∷ fs) = nodes_all fs ++ nodes_pending f
+
+abbrev pub frame_of : Pending → Frame
+frame_of (plain (level ors ands)) = record { bracket = brackets.Group; or_waits = there ors; and_waits = there ands }
+frame_of (listed n (level ors ands) done) = record { bracket = brackets.List n (number_done done); or_waits = there ors; and_waits = there ands }
+
+abbrev pub frames_of : List Pending → List Frame
+frames_of [] = []
+frames_of (f ∷ fs) = frames_of fs ++ (frame_of f ∷ [])
+
+abbrev pub kept_of : State → Kept
+kept_of (want (level ors ands) fs) = record { mode = modes.Want; or_waits = there ors; and_waits = there ands; frames = frames_of fs; out = nodes_all fs ++ (nodes_ors ors ++ nodes_ands ands) }
+kept_of (want_of n (level ors ands) fs) = record { mode = modes.WantOf n; or_waits = there ors; and_waits = there ands; frames = frames_of fs; out = nodes_all fs ++ (nodes_ors ors ++ nodes_ands ands) }
+kept_of (want_open n (level ors ands) fs) = record { mode = modes.WantOpen n; or_waits = there ors; and_waits = there ands; frames = frames_of fs; out = nodes_all fs ++ (nodes_ors ors ++ nodes_ands ands) }
+kept_of (have ors t fs) = record { mode = modes.Have; or_waits = there ors; and_waits = false; frames = frames_of fs; out = nodes_all fs ++ (nodes_ors ors ++ postfix (shape_term t)) }
+
+-- a factor was written
+abbrev pub with_factor : Kept → Kept
+with_factor c = record { mode = modes.Have; or_waits = c.or_waits; and_waits = false; frames = c.frames; out = (if c.and_waits then c.out ++ (And ∷ []) else c.out) }
+
+-- a term was written, and the expression before it is joined to it
+abbrev pub joined_out : Kept → List Node
+joined_out c = if c.or_waits then c.out ++ (Or ∷ []) else c.out
+
+-- what the end of a list makes of the nodes
+abbrev pub closed_out : Bracket → List Node → List Node
+closed_out brackets.Group out = out
+closed_out (brackets.List n parts) out = out ++ (AtLeast n (parts + 1) ∷ [])
+
+-- what a closing parenthesis makes of what is kept
+abbrev pub closed : Kept → List Frame → Frame → Kept
+closed old rest f = with_factor (record { mode = old.mode; or_waits = f.or_waits; and_waits = f.and_waits; frames = rest; out = closed_out f.bracket (joined_out old) })
+
+abbrev pub Closes : Kept → Bool → Kept → Type 0
+Closes old false new = old.frames ≡ []
+Closes old true new = (rest : List Frame) × (f : Frame) × (old.frames ≡ rest ++ (f ∷ [])) × (new ≡ closed old rest f)
+
+-- what a comma makes of it, in the list after the number n
+abbrev pub separated : Kept → List Frame → Frame → ℕ → ℕ → Kept
+separated old rest f n parts = record { mode = modes.Want; or_waits = false; and_waits = false; frames = rest ++ (record f { bracket = brackets.List n (parts + 1) } ∷ []); out = joined_out old }
+
+abbrev pub Separates : Kept → Bool → Kept → Type 0
+Separates old false new = (old.frames ≡ []) ⊎ ((rest : List Frame) × (f : Frame) × (old.frames ≡ rest ++ (f ∷ [])) × (f.bracket ≡ brackets.Group))
+Separates old true new = (rest : List Frame) × (f : Frame) × (n : ℕ) × (parts : ℕ) × (old.frames ≡ rest ++ (f ∷ [])) × (f.bracket ≡ brackets.List n parts) × (new ≡ separated old rest f n parts)
+
+-- some state is kept
+abbrev pub Keeps : Kept → Type 0
+Keeps c = (s : State) × (c ≡ kept_of s)
+
+-- what the parser answers where a step gives this
+abbrev pub Advances : Option State → Result Bool AllocError → Kept → Type 0
+Advances next (Err e) new = Unit {0}
+Advances (Some next) (Ok true) new = new ≡ kept_of next
+Advances (Some next) (Ok false) new = ⊥
+Advances None (Ok true) new = ⊥
+Advances None (Ok false) new = Unit {0}

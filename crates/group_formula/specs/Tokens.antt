@@ -1,0 +1,81 @@
+-- The tokens that a text is cut into.
+use Rattle.std.specs.Prelude.{ℕ, ◌+◌, Bool, true, false, ◌||◌, nat_eq, List, [], ◌∷◌, if◌then◌else◌, codes, drop}
+use Rattle.std.specs.List.{take_while, prefix_len}
+use Rattle.std.specs.Char.{is_ascii_alphabetic, is_ascii_alphanumeric, is_ascii_digit}
+use Rattle.std.specs.Str.{bytes_eq}
+use Rattle.group_formula.specs.declared.token.Run.{Run}
+use Rattle.group_formula.specs.declared.token.Run.TheVariants as runs
+use Rattle.group_formula.specs.declared.token.Token.{Token}
+use Rattle.group_formula.specs.declared.token.Token.TheVariants.{Name, Number, Of, Bar, Ampersand, Open, Close, Comma, Unknown}
+
+-- a token, and the place in the text where it begins
+pub record Placed : Type 0 where
+  pub at : ℕ
+  pub token : Token
+
+-- space, tab, line feed, carriage return
+abbrev pub is_blank : ℕ → Bool
+is_blank c = (nat_eq c 32 || nat_eq c 9) || (nat_eq c 10 || nat_eq c 13)
+
+-- the bytes that go on with a run: blanks, a name, a number
+abbrev pub has_byte : Run → ℕ → Bool
+has_byte runs.Blank c = is_blank c
+has_byte runs.Name c = is_ascii_alphanumeric c || nat_eq c 95
+has_byte runs.Number c = is_ascii_digit c
+
+-- the run that a byte begins; a symbol stands alone
+abbrev pub run_of : ℕ → Run
+run_of c = if is_ascii_alphabetic c then runs.Name else if is_ascii_digit c then runs.Number else runs.Blank
+
+-- the token of a byte that begins no run: | & ( ) ,
+abbrev pub symbol : ℕ → Token
+symbol c =
+    if nat_eq c 124 then Bar
+    else if nat_eq c 38 then Ampersand
+    else if nat_eq c 40 then Open
+    else if nat_eq c 41 then Close
+    else if nat_eq c 44 then Comma
+    else Unknown
+
+-- the token of the letters, digits and `_` that stand at a place: `of` is no name
+abbrev pub word : ℕ → List ℕ → Token
+word at run = if bytes_eq run (codes "of") then Of else Name at
+
+-- the token at a place, where this text stands
+abbrev pub token_at : ℕ → List ℕ → Token
+token_at at [] = Unknown
+token_at at (c ∷ cs) =
+    if is_ascii_alphabetic c then word at (take_while (has_byte runs.Name) (c ∷ cs))
+    else if is_ascii_digit c then Number at
+    else symbol c
+
+-- how many bytes the first token of a text has that begins with no blank
+abbrev pub first_length : List ℕ → ℕ
+first_length [] = 0
+first_length (c ∷ cs) =
+    if is_ascii_alphabetic c then prefix_len (has_byte runs.Name) (c ∷ cs)
+    else if is_ascii_digit c then prefix_len (has_byte runs.Number) (c ∷ cs)
+    else 1
+
+-- the tokens from a place on, where a run goes on as far as it can
+abbrev pub tokens_from : ℕ → Run → List ℕ → List Placed
+tokens_from at run [] = []
+tokens_from at run (c ∷ cs) =
+    if has_byte run c then tokens_from (at + 1) run cs
+    else if is_blank c then tokens_from (at + 1) runs.Blank cs
+    else record { at = at; token = token_at at (c ∷ cs) } ∷ tokens_from (at + 1) (run_of c) cs
+
+-- the tokens that are left from a place on, which is no place inside a name or a number
+abbrev pub tokens_after : List ℕ → ℕ → List Placed
+tokens_after text from = tokens_from from runs.Blank (drop from text)
+
+abbrev pub tokens : List ℕ → List Placed
+tokens text = tokens_from 0 runs.Blank text
+
+-- a name, `&`, `|` and `of` are one node each
+abbrev pub is_node : Token → Bool
+is_node (Name at) = true
+is_node Of = true
+is_node Bar = true
+is_node Ampersand = true
+is_node _ = false

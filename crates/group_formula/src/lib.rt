@@ -1,0 +1,26 @@
+//! Monotone formulas over the names of parties, which tell what groups are qualified (Ito, Saito, Nishizeki 1987: a
+//! monotone access structure).
+//!
+//! ```text
+//! expr   = term {"|" term}
+//! term   = factor {"&" factor}
+//! factor = name | "(" expr ")" | number "of" "(" expr {"," expr} ")"
+//! ```
+#![tactic(auto)]
+
+mod fault;
+mod formula;
+mod node;
+mod parse;
+mod parser;
+mod read;
+mod resolve;
+mod token;
+mod values;
+
+pub use fault::FormulaFault;
+pub use formula::Formula;
+pub use read::{each_text_has_one_answer, read_formula};
+
+#[cfg(test)]
+mod tests;

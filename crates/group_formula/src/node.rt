@@ -1,0 +1,12 @@
+//! The nodes of a formula in postfix order.
+
+/// A node, whose operands stand before it. A name and a number are told by their places in the text, and then by
+/// what they mean: the party and the count.
+#[derive(Clone, Copy, Debug, PartialEq, Eq)]
+pub enum Node {
+    Name(usize),
+    And,
+    Or,
+    /// At least so many of the last parts, of which there are so many.
+    AtLeast(usize, usize),
+}

@@ -1,0 +1,243 @@
+//! A parser that keeps open parentheses in a list of its own, so that their number costs no stack.
+ghost use Rattle.std.specs.Prelude.{◌≡◌, ◌++◌, ◌∷◌, [], IfOk, OnOk, length, ◌↔◌, true, false, IsTrue};
+ghost use Rattle.group_formula.specs.Machine.{State, step, start};
+ghost use Rattle.group_formula.specs.Kept.{Kept, Advances, Keeps, Closes, Separates, kept_of, with_factor, joined_out};
+
+use crate::node::Node;
+use crate::token::Token;
+use std::alloc::{AllocError, Global};
+use std::marker::Model;
+
+/// What may come next.
+#[derive(Clone, Copy)]
+pub enum Mode {
+    /// A factor.
+    Want,
+    /// The `of` after the number at this place.
+    WantOf(usize),
+    /// The `(` after it.
+    WantOpen(usize),
+    /// An operator, a comma or a `)`: a factor was read.
+    Have,
+}
+
+/// What a `(` opens.
+#[derive(Clone, Copy)]
+pub enum Bracket {
+    Group,
+    /// The list after the number at this place, of which so many parts were read.
+    List(usize, usize),
+}
+
+/// An open parenthesis, and whether the left side of a `|` and of an `&` wait before it.
+#[derive(Clone, Copy)]
+pub struct Frame {
+    pub bracket: Bracket,
+    pub or_waits: bool,
+    pub and_waits: bool,
+}
+
+/// A formula of which some tokens were read.
+#[derive(Drop)]
+pub struct Parser {
+    mode: Mode,
+    or_waits: bool,
+    and_waits: bool,
+    frames: Vec<Frame>,
+    out: Vec<Node>,
+}
+
+impl Model for Parser {
+    ghost use Rattle.group_formula.specs.Kept.{Kept};
+
+    ghost Value = { Kept };
+
+    ghost view = { λ p. record {
+      mode = p.mode;
+      or_waits = p.or_waits;
+      and_waits = p.and_waits;
+      frames = p.frames.items;
+      out = p.out.items;
+    } };
+}
+
+impl Parser {
+    pub fn new(alloc: Global) -> Parser
+        ensures { result ≡ kept_of start }
+    {
+        Parser {
+            mode: Mode::Want,
+            or_waits: false,
+            and_waits: false,
+            frames: Vec::new(alloc),
+            out: Vec::new(alloc),
+        }
+    }
+
+    /// How many parentheses are open.
+    pub fn depth(&self) -> usize
+        ensures { result ≡ length self.now.frames }
+    {
+        self.frames.len()
+    }
+
+    /// Whether the formula may end here.
+    pub fn is_done(&self) -> bool
+        ensures { IsTrue result ↔ ((self.now.mode ≡ Mode.Have) × (length self.now.frames ≡ 0)) }
+    {
+        match self.mode {
+            Mode::Have => self.frames.is_empty(),
+            _ => false,
+        }
+    }
+
+    /// The nodes in postfix order, once the formula has ended.
+    pub fn into_nodes(mut self) -> Result<Vec<Node>, AllocError>
+        ensures { IfOk result (λ nodes. nodes.items ≡ joined_out self) }
+    {
+        self.join()?;
+        Ok(self.out)
+    }
+
+    /// A factor was read.
+    fn factor(&mut self) -> Result<bool, AllocError>
+        ensures { IfOk result (λ done. (done ≡ true) × (self.new ≡ with_factor self.old)) }
+    {
+        if self.and_waits {
+            self.out.push(Node::And)?;
+        }
+        self.and_waits = false;
+        self.mode = Mode::Have;
+        Ok(true)
+    }
+
+    /// A name was read, at this place.
+    fn name(&mut self, at: usize) -> Result<bool, AllocError>
+        ensures { IfOk result (λ done. (done ≡ true)
+            × (self.new ≡ with_factor (record self.old { out = self.old.out ++ (Node.Name at ∷ []) }))) }
+    {
+        self.out.push(Node::Name(at))?;
+        self.factor()
+    }
+
+    /// A `(` was read, or the number, the `of` and the `(` of a list.
+    fn open(&mut self, bracket: Bracket) -> Result<bool, AllocError>
+        ensures { IfOk result (λ done. (done ≡ true) × (self.new ≡ record {
+          mode = Mode.Want;
+          or_waits = false;
+          and_waits = false;
+          out = self.old.out;
+          frames = self.old.frames
+              ++ (record { bracket = bracket; or_waits = self.old.or_waits; and_waits = self.old.and_waits } ∷ []);
+        })) }
+    {
+        self.frames.push(Frame {
+            bracket,
+            or_waits: self.or_waits,
+            and_waits: self.and_waits,
+        })?;
+        self.or_waits = false;
+        self.and_waits = false;
+        self.mode = Mode::Want;
+        Ok(true)
+    }
+
+    /// The term that was read ends its expression.
+    fn join(&mut self) -> Result<(), AllocError>
+        ensures { OnOk result (self.new ≡ record self.old { out = joined_out self.old }) }
+    {
+        if self.or_waits {
+            self.out.push(Node::Or)?;
+        }
+        Ok(())
+    }
+
+    /// A `)` was read. False says that none was open.
+    fn close(&mut self) -> Result<bool, AllocError>
+        requires { Keeps self.old }
+        ensures { IfOk result (λ done. Closes self.old done self.new) }
+    {
+        self.join()?;
+        match self.frames.pop() {
+            None => Ok(false),
+            Some(frame) => {
+                if let Bracket::List(at, parts) = frame.bracket {
+                    self.out.push(Node::AtLeast(at, parts + 1))?;
+                }
+                self.or_waits = frame.or_waits;
+                self.and_waits = frame.and_waits;
+                self.factor()
+            }
+        }
+    }
+
+    /// A comma was read. False says that no list was open.
+    fn separate(&mut self) -> Result<bool, AllocError>
+        requires { Keeps self.old }
+        ensures { IfOk result (λ done. Separates self.old done self.new) }
+    {
+        self.join()?;
+        match self.frames.pop() {
+            None => Ok(false),
+            Some(frame) => match frame.bracket {
+                Bracket::Group => Ok(false),
+                Bracket::List(at, parts) => {
+                    self.frames.push(Frame {
+                        bracket: Bracket::List(at, parts + 1),
+                        or_waits: frame.or_waits,
+                        and_waits: frame.and_waits,
+                    })?;
+                    self.or_waits = false;
+                    self.and_waits = false;
+                    self.mode = Mode::Want;
+                    Ok(true)
+                }
+            },
+        }
+    }
+
+    /// Reads one token. False says that no formula goes on with it.
+    pub fn advance(&mut self, token: Token) -> Result<bool, AllocError>
+        requires { Keeps self.old }
+        ensures { (s : State) → self.old ≡ kept_of s → Advances (step s token) result self.new }
+    {
+        match self.mode {
+            Mode::Want => match token {
+                Token::Name(at) => self.name(at),
+                Token::Number(at) => {
+                    self.mode = Mode::WantOf(at);
+                    Ok(true)
+                }
+                Token::Open => self.open(Bracket::Group),
+                _ => Ok(false),
+            },
+            Mode::WantOf(at) => match token {
+                Token::Of => {
+                    self.mode = Mode::WantOpen(at);
+                    Ok(true)
+                }
+                _ => Ok(false),
+            },
+            Mode::WantOpen(at) => match token {
+                Token::Open => self.open(Bracket::List(at, 0)),
+                _ => Ok(false),
+            },
+            Mode::Have => match token {
+                Token::Bar => {
+                    self.join()?;
+                    self.or_waits = true;
+                    self.mode = Mode::Want;
+                    Ok(true)
+                }
+                Token::Ampersand => {
+                    self.and_waits = true;
+                    self.mode = Mode::Want;
+                    Ok(true)
+                }
+                Token::Close => self.close(),
+                Token::Comma => self.separate(),
+                _ => Ok(false),
+            },
+        }
+    }
+}

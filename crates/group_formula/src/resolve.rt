@@ -1,0 +1,115 @@
+//! The second pass: what the names and the numbers mean.
+ghost use Rattle.std.specs.Prelude.{◌≡◌, ℕ, ◌≤◌, ◌+◌, ◌*◌, ◌^◌, ◌&&◌, nat_le, nat_lt, length, drop, map, MatchOption, MatchResult, Option, Some, None, if◌then◌else◌};
+ghost use Rattle.std.specs.List.{take_while};
+ghost use Rattle.group_formula.specs.Tokens.{has_byte};
+ghost use Rattle.group_formula.specs.Formulas.{number_at, reading, IsFormula, IsSecondFault};
+ghost use Rattle.group_formula.specs.Resolving.{good_count, meaning, earlier, least, resolved_node};
+ghost use Rattle.group_formula.specs.Parsing.{IsParsed};
+
+use crate::fault::FormulaFault;
+use crate::formula::Formula;
+use crate::node::Node;
+use crate::token::Run;
+use party_set::Names;
+
+/// The bytes of the run that stands at this place, none where the text has ended.
+fn run_at(run: Run, text: &[u8], at: usize) -> &[u8]
+    ensures { result.now ≡ take_while (has_byte run) (drop at text.now) }
+{
+    let rest = &text[at.min(text.len())..];
+    &rest[..run.length(rest)]
+}
+
+/// The party of the name that stands at this place.
+fn party_at(text: &[u8], names: &Names, at: usize) -> Option<usize>
+    ensures { result ≡ (reading text.now names.now).party at }
+{
+    let name = run_at(Run::Name, text, at);
+    for p in 0..names.len() {
+        if names.name(p).as_bytes() == name {
+            return Some(p as usize);
+        }
+    }
+    None
+}
+
+/// The number with one more decimal digit, if it fits.
+fn with_digit(number: usize, digit: u8) -> Option<usize>
+    ensures { result ≡ (if nat_lt (10 * number + digit) (2 ^ 64) then Some (10 * number + digit) else None) }
+{
+    number.checked_mul(10)?.checked_add(usize::from(digit))
+}
+
+/// The number that stands at this place, if it is at least 1 and at most `parts`.
+fn count_at(text: &[u8], at: usize, parts: usize) -> Option<usize>
+    ensures { result ≡ good_count (number_at text.now at) parts }
+{
+    let digits = run_at(Run::Number, text, at);
+    let mut number = 0;
+    for byte in digits {
+        number = with_digit(number, byte - b'0')?;
+    }
+    if 1 <= number && number <= parts {
+        Some(number)
+    } else {
+        None
+    }
+}
+
+/// What a node means that tells its name or number by the place, or its fault.
+fn resolve_node(text: &[u8], names: &Names, node: Node) -> Result<Node, FormulaFault>
+    ensures { result ≡ meaning (reading text.now names.now) node }
+{
+    match node {
+        Node::Name(at) => match party_at(text, names, at) {
+            Some(party) => Ok(Node::Name(party)),
+            None => Err(FormulaFault::UnknownName { at: at as u64 }),
+        },
+        Node::AtLeast(at, parts) => match count_at(text, at, parts) {
+            Some(count) => Ok(Node::AtLeast(count, parts)),
+            None => Err(FormulaFault::BadCount { at: at as u64 }),
+        },
+        Node::And => Ok(Node::And),
+        Node::Or => Ok(Node::Or),
+    }
+}
+
+/// The fault that stands first.
+fn earlier(known: Option<FormulaFault>, fault: FormulaFault) -> FormulaFault
+    ensures { Some result ≡ earlier known (Some fault) }
+{
+    match known {
+        Some(first) if first.at() < fault.at() => first,
+        _ => fault,
+    }
+}
+
+/// Puts what it means in the place of each node, or finds the fault that stands first in the text.
+fn resolve_nodes(text: &[u8], names: &Names, nodes: &mut [Node]) -> Option<FormulaFault>
+    ensures first { result ≡ least (reading text.now names.now) nodes.old }
+    ensures resolved { result ≡ None → nodes.new ≡ map (resolved_node (reading text.now names.now)) nodes.old }
+{
+    let mut first = None;
+    for node in nodes.iter_mut() {
+        match resolve_node(text, names, *node) {
+            Ok(meant) => *node = meant,
+            Err(fault) => first = Some(earlier(first, fault)),
+        }
+    }
+    first
+}
+
+/// The formula of nodes that tell their names and numbers by their places, or the fault that stands first.
+pub(crate) fn resolve(
+    text: &[u8],
+    names: &Names,
+    mut nodes: Vec<Node>,
+) -> Result<Formula, FormulaFault>
+    requires { IsParsed text.now nodes.items }
+    ensures { MatchResult result (IsFormula text.now names.now) (IsSecondFault text.now names.now) }
+{
+    match resolve_nodes(text, names, &mut nodes) {
+        Some(fault) => Err(fault),
+        None => Ok(Formula::of(names.len(), nodes)),
+    }
+}

@@ -1,0 +1,112 @@
+//! The truth of a formula, from its nodes in postfix order.
+ghost use Rattle.std.specs.Prelude.{◌≡◌, ◌≤◌, ◌<◌, ◌+◌, ◌∷◌, [], length, take, drop};
+ghost use Rattle.party_set.specs.Parties.{has_party};
+ghost use Rattle.group_formula.specs.Trees.{Tree, value};
+ghost use Rattle.group_formula.specs.Postfix.{postfix};
+ghost use Rattle.group_formula.specs.Values.{after_value, how_many, top};
+
+use crate::node::Node;
+use arrayvec::ArrayVec;
+use party_set::Group;
+use std::marker::Model;
+
+/// The values of at most 256 formulas, the last one first.
+#[derive(Drop)]
+struct Values {
+    bits: ArrayVec<bool, 256>,
+}
+
+impl Model for Values {
+    ghost use Rattle.std.specs.Prelude.{List, Bool, reverse};
+
+    ghost Value = { List Bool };
+
+    ghost view = { λ v. reverse v.bits.items };
+}
+
+impl Values {
+    fn new() -> Values
+        ensures { result ≡ [] }
+    {
+        Values {
+            bits: ArrayVec::new(),
+        }
+    }
+
+    fn push(&mut self, value: bool)
+        requires { length self.old < 256 }
+        ensures { self.new ≡ value ∷ self.old }
+    {
+        self.bits.push(value);
+    }
+
+    /// Takes off the last value, or tells false where there is none.
+    fn pop(&mut self) -> bool
+        ensures is { result ≡ top self.old }
+        ensures rest { self.new ≡ drop 1 self.old }
+    {
+        self.bits.pop().unwrap_or(false)
+    }
+
+    /// Takes off the last values, so many, and tells how many of them are true.
+    fn pop_many(&mut self, count: usize) -> usize
+        ensures is { result ≡ how_many (take count self.old) }
+        ensures rest { self.new ≡ drop count self.old }
+    {
+        let mut found = 0;
+        let mut left = count;
+        while left > 0 {
+            if self.pop() {
+                found += 1;
+            }
+            left -= 1;
+        }
+        found
+    }
+
+    /// What a node makes of the values before it.
+    fn take_node(&mut self, mask: u32, node: Node)
+        requires { length self.old < 256 }
+        ensures is { self.new ≡ after_value (has_party mask) node self.old }
+        ensures long { length self.new ≤ length self.old + 1 }
+    {
+        let value = match node {
+            Node::Name(party) => has(mask, party),
+            Node::And => {
+                let second = self.pop();
+                let first = self.pop();
+                first && second
+            }
+            Node::Or => {
+                let second = self.pop();
+                let first = self.pop();
+                first || second
+            }
+            Node::AtLeast(count, parts) => count <= self.pop_many(parts),
+        };
+        self.push(value);
+    }
+}
+
+/// Whether the party is a member of the group of this mask.
+#[tactic(auto, using(crate::proofs::Valuing::has_bit, crate::proofs::Valuing::has_none))]
+fn has(mask: u32, party: usize) -> bool
+    ensures { result ≡ has_party mask party }
+{
+    if party >= 32 {
+        return false;
+    }
+    mask >> party & 1 == 1
+}
+
+/// Whether the formula is true where exactly the members of the group are.
+pub fn evaluate(nodes: &[Node], group: Group) -> bool
+    requires { length nodes.now ≤ 256 }
+    ensures { (t : Tree) → nodes.now ≡ postfix t → result ≡ value (has_party group.mask) t }
+{
+    let mut values = Values::new();
+    for node in nodes {
+        values.take_node(group.mask(), *node);
+    }
+    values.pop()
+}

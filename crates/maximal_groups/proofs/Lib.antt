@@ -1,0 +1,3 @@
+pub mod Largest
+pub mod Listing
+pub mod Found

@@ -1,0 +1,28 @@
+-- Families of tolerated groups, and their maximal groups.
+use Rattle.std.specs.Prelude.{◌≡◌, ℕ, ◌^◌, ◌<◌, Bool, true, not, ◌&&◌, ◌||◌, ◌↔◌, filter, length, slice_index}
+use Rattle.std.specs.List.{range_with_len}
+use Rattle.party_set.specs.Parties.{Structure, every_below, within}
+
+-- of n parties: a part of a tolerated group is tolerated
+abbrev pub IsClosed : ℕ → (ℕ → Bool) → Type 0
+IsClosed n tolerated = (a b : ℕ) → a < 2 ^ n → b < 2 ^ n → within n a b ≡ true → tolerated b ≡ true → tolerated a ≡ true
+
+-- b has each party of a, and one more
+abbrev pub is_larger : ℕ → ℕ → ℕ → Bool
+is_larger n a b = within n a b && not (within n b a)
+
+-- a is tolerated, and no strictly larger group is
+abbrev pub is_maximal : ℕ → (ℕ → Bool) → ℕ → Bool
+is_maximal n tolerated a = tolerated a && every_below (2 ^ n) (λ b. not (is_larger n a b) || not (tolerated b))
+
+-- the maximal tolerated groups of n parties, by rising mask
+abbrev pub maximal_structure : ℕ → (ℕ → Bool) → Structure
+maximal_structure n tolerated = record { parties = n; groups = filter (is_maximal n tolerated) (range_with_len 0 (2 ^ n)) }
+
+-- a lies within a listed group
+abbrev pub LiesWithin : Structure → ℕ → Type 0
+LiesWithin s a = (i : ℕ) × (i < length s.groups) × (within s.parties a (slice_index s.groups i) ≡ true)
+
+-- the maximal groups tell which groups are tolerated
+abbrev pub Tells : ℕ → (ℕ → Bool) → Type 0
+Tells n tolerated = (a : ℕ) → a < 2 ^ n → (tolerated a ≡ true) ↔ LiesWithin (maximal_structure n tolerated) a

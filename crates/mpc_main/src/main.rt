@@ -1,0 +1,33 @@
+//! The program `mpc`: the top call over the real files and streams.
+#![tactic(auto)]
+
+use mpc_top::command;
+use outer_io::{StdFiles, StdSink};
+use std::alloc::{AllocError, Global};
+use std::env;
+use std::io::ErrorKind;
+use std::process::ExitCode;
+
+/// The words of the call; where one is no text, there are none, which the top call refuses.
+fn words(rt: &HostRuntime) -> Result<Vec<String>, AllocError> {
+    match env::args(rt) {
+        Ok(args) => args.collect(rt.alloc()),
+        Err(error) => {
+            if error.kind() == ErrorKind::OutOfMemory {
+                Err(AllocError)
+            } else {
+                Ok(Vec::new(rt.alloc()))
+            }
+        }
+    }
+}
+
+fn main(rt: HostRuntime) -> ExitCode {
+    let Ok(words) = words(&rt) else {
+        return ExitCode::from(6);
+    };
+    let mut files = StdFiles::new(&rt);
+    let mut out = StdSink::new(rt.stdout());
+    let mut err = StdSink::new(rt.stderr());
+    ExitCode::from(command(rt.alloc(), &words, &mut files, &mut out, &mut err))
+}
