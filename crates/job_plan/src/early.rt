@@ -74,3 +74,38 @@ fn one_product(alloc: Global) -> Result<SessionPart, AllocError>
     let outputs = vec![in alloc; product]?;
     SessionPart::of(alloc, gates, 3, inputs, outputs)
 }
+
+#[cfg(test)]
+mod tests {
+    use super::*;
+    use crate::key::Key;
+    use std::test::Fail;
+
+    #[test]
+    fn one_product_as_worked_by_hand(rt: HostRuntime) -> Result<(), Fail> {
+        let ring = Ring::new(8).ok_or("no ring")?;
+        let plan = Plan::early(rt.alloc(), ring)?;
+        assert_eq!(rt; plan.messages(), 21);
+        let last = Key {
+            session: 0,
+            slot: 3,
+            share: 2,
+            sender: 0,
+            receiver: 2,
+        };
+        assert_eq!(rt; plan.message(20), last);
+        assert_eq!(rt; plan.number(last), Some(20));
+        assert_eq!(rt;
+            plan.number(Key {
+                receiver: 1,
+                ..last
+            }),
+            None
+        );
+        assert_eq!(rt; plan.slots(0), 4);
+        assert_eq!(rt; plan.deals(0, 0), 2);
+        assert_eq!(rt; plan.words(2, 0), 2);
+        assert_eq!(rt; plan.tape_place(0, 0, 1), 2);
+        Ok(())
+    }
+}

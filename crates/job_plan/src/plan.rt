@@ -262,9 +262,12 @@ fn check_words(outline: &Outline) -> Result<(), PlanFault>
     ensures { MatchResult result (λ _. IsWithin outline.now) (IsRefusal outline.now) }
 {
     for party in 0..outline.parties() {
-        let count = word_count(outline, party);
-        if count > LIMIT {
-            return Err(PlanFault::TooManyWords { party, count });
+        let words = word_count(outline, party);
+        if words > LIMIT {
+            return Err(PlanFault::TooManyWords {
+                party,
+                count: words,
+            });
         }
     }
     Ok(())

@@ -1,9 +1,10 @@
-//! Where the messages of each slot begin.
+//! Where each part of a numbered row begins.
 ghost use Rattle.std.specs.Prelude.{◌≡◌, ◌<◌, length, slice_index};
 
 use std::marker::Model;
 
-/// The number of the first message of each slot of a session, and at the end that of the first one after them all.
+/// Where each part begins, counted over all parts before it, and at the end where the next one would: the messages
+/// of the slots of a session, or the deals of a party's sessions.
 #[derive(Drop)]
 pub struct Starts {
     list: Vec<u32>,
