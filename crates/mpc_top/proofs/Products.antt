@@ -11,7 +11,6 @@ use Rattle.job_plan.specs.Plans.{Plan, session, owners, words}
 use Rattle.job_plan.specs.Multiply.{multiply_plan}
 use Rattle.job_plan.specs.InputWords.{AreInputs, given}
 use Rattle.share_world.specs.Worlds.{World, plain}
-use Rattle.program_laws.specs.Lawful.{IsWhole}
 use Rattle.party_desk.specs.declared.desk.Desk.{Desk}
 use Rattle.core_world.specs.declared.world.World.{World as Running}
 use Rattle.core_world.specs.Opening.{ArePieces, world_of, piece_at}
@@ -89,33 +88,35 @@ module _ (bits : ℕ) (a b c : List ℕ) (first : 4 ≤ length a) (second : 4 �
   pub are_pieces : (plan : Plan) (pieces : List (List ℕ)) → plan ≡ multiply_plan bits → pieces ≡ three_pieces a b c → ArePieces plan pieces
   are_pieces plan pieces e f = subst (ArePieces plan) (sym f) (subst (λ plan. ArePieces plan (three_pieces a b c)) (sym e) are_three_pieces)
 
--- the plain product has no part of the tapes
-pub plain_same : (w v : World) → w.plan ≡ v.plan → w.inputs ≡ v.inputs → plain w 0 2 ≡ plain v 0 2
-plain_same w v e f = ap₂ (λ plan inputs. plain (record { plan = plan; inputs = inputs; tapes = [] }) 0 2) e f
+-- the world of one product that is opened is the one of the job
+pub world_same : (bits : ℕ) (x y z a b c : List ℕ) (plan : Plan) (inputs : List (List (List ℕ))) (pieces : List (List ℕ)) → plan ≡ multiply_plan bits → inputs ≡ three_inputs x y z → pieces ≡ three_pieces a b c
+    → world_of plan inputs pieces ≡ record { plan = multiply_plan bits; inputs = three_inputs x y z; tapes = three_pieces a b c }
+world_same bits x y z a b c plan inputs pieces e f g = ap₂ (λ plan inputs. world_of plan inputs pieces) e f ∙ ap (world_of (multiply_plan bits) (three_inputs x y z)) g
 
--- a run of the plan of one product has a desk
 some_desk : (ds : List Desk) → 0 < length ds → Desk
 some_desk [] l = absurd (omega arith)
 some_desk (d ∷ ds) l = d
 
--- The world of one product that was opened, and its finish.
-module _ (bits : ℕ) (plan : Plan) (inputs : List (List (List ℕ))) (pieces : List (List ℕ)) (r r' : Running)
-    (is : plan ≡ multiply_plan bits) (whole : IsWhole (world_of plan inputs pieces)) (run : IsRunOf (world_of plan inputs pieces) r)
-    (ends : (w : World) → Desk → w.plan ≡ plan → IsWhole w → IsRunOf w r → IsFinish w r') where
-  pub desk : Desk
-  desk = some_desk r.desks.items (omega (arith, run.state.many, ap (λ (p : Plan). p.parties * length p.sessions) is))
+-- a run of the plan of one product has a desk
+pub desk : (w : World) (r : Running) → w.plan ≡ multiply_plan w.plan.bits → IsRunOf w r → Desk
+desk w r is run = some_desk r.desks.items (omega (arith, run.state.many, ap (λ (p : Plan). p.parties * length p.sessions) is))
 
-  finish : IsFinish (world_of plan inputs pieces) r'
-  finish = ends (world_of plan inputs pieces) desk refl whole run
+-- A run of the plan of one product that came to its end.
+module _ (w : World) (r : Running) (is : w.plan ≡ multiply_plan w.plan.bits) (f : IsFinish w r) where
+  pub can_ask : (w : World) × IsRunOf w r × (0 < length w.plan.sessions) × (2 < w.plan.parties)
+  can_ask = (w, f.run, omega (arith, ap (λ (p : Plan). length p.sessions) is), omega (arith, ap (λ (p : Plan). p.parties) is))
 
-  pub can_ask : (w : World) × IsRunOf w r' × (0 < length w.plan.sessions) × (2 < w.plan.parties)
-  can_ask = (world_of plan inputs pieces, finish.run, omega (arith, ap (λ (p : Plan). length p.sessions) is), omega (arith, ap (λ (p : Plan). p.parties) is))
+  pub any_desk : Desk
+  any_desk = desk w r is f.run
+
+  abbrev at : Plan → World
+  at p = record { plan = p; inputs = w.inputs; tapes = w.tapes }
 
   abbrev Delivers : Plan → Type 0
-  Delivers p = IsFinish (world_of p inputs pieces) r' → output_of r' 0 0 2 desk ≡ Some (plain (world_of p inputs pieces) 0 2)
+  Delivers p = IsFinish (at p) r → output_of r 0 0 2 any_desk ≡ Some (plain (at p) 0 2)
 
-  delivers : Delivers (multiply_plan bits)
-  delivers f = f.delivered 0 0 2 desk (omega arith) (omega arith) (omega arith) refl
+  delivers : Delivers (multiply_plan w.plan.bits)
+  delivers f = f.delivered 0 0 2 any_desk (omega arith) (omega arith) (omega arith) refl
 
-  pub delivered : output_of r' 0 0 2 desk ≡ Some (plain (world_of plan inputs pieces) 0 2)
-  delivered = subst Delivers (sym is) delivers finish
+  pub delivered : output_of r 0 0 2 any_desk ≡ Some (plain w 0 2)
+  delivered = subst Delivers (sym is) delivers f

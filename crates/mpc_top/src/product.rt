@@ -2,9 +2,10 @@
 ghost use Rattle.std.specs.Prelude.{◌≡◌, ◌<◌, ◌≤◌, ◌^◌, [], ◌∷◌, All, IfOk, IfErr, length, take};
 ghost use Rattle.job_plan.specs.Multiply.{multiply_plan};
 ghost use Rattle.job_plan.specs.InputWords.{AreInputs, session_words, input_words};
-ghost use Rattle.share_world.specs.Worlds.{plain};
+ghost use Rattle.share_world.specs.Worlds.{World as Described, plain};
 ghost use Rattle.core_world.specs.Opening.{ArePieces, world_of};
-ghost use Rattle.mpc_top.specs.Hands.{hand_view, job_view, AreParties};
+ghost use Rattle.core_world.specs.Running.{IsFinish};
+ghost use Rattle.mpc_top.specs.Hands.{job_view, AreParties};
 
 use crate::Stop;
 use crate::job::Parties;
@@ -72,30 +73,27 @@ fn inputs(
     Ok(inputs)
 }
 
-/// The product, as party c has it when all desks came to their end.
-fn opened(
+/// The world of these inputs and pieces, when all desks came to their end.
+fn ended(
     alloc: Global,
     plan: &Plan,
     inputs: &Inputs,
     pieces: Vec<Tape>,
-) -> Result<u64, AllocError>
+) -> Result<World, AllocError>
     requires plan { plan.now ≡ multiply_plan plan.now.bits }
     requires inputs { AreInputs plan.now inputs.now }
     requires pieces { ArePieces plan.now pieces.items }
-    ensures { IfOk result (λ word. word ≡ plain (world_of plan.now inputs.now pieces.items) 0 2) }
+    ensures { IfOk result (IsFinish (world_of plan.now inputs.now pieces.items)) }
 {
     let mut world = World::open(alloc, plan, inputs, pieces)?;
     world.finish(plan);
-    match world.delivered(0, 0, 2) {
-        Some(word) => Ok(word),
-        None => unreachable!(),
-    }
+    Ok(world)
 }
 
-/// The output of the job, as party c opens it after all desks came to their end.
-pub fn product_of(alloc: Global, job: Parties) -> Result<u64, Stop>
+/// The world of the job, when all desks came to their end.
+pub fn finished(alloc: Global, job: Parties) -> Result<World, Stop>
     requires { AreParties job }
-    ensures plain { IfOk result (λ word. word ≡ plain (job_view job).world 0 2) }
+    ensures finish { IfOk result (IsFinish (job_view job).world) }
     ensures memory { IfErr result (λ stop. stop ≡ Stop.Memory) }
 {
     let Parties { bits, a, b, c } = job;
@@ -106,5 +104,16 @@ pub fn product_of(alloc: Global, job: Parties) -> Result<u64, Stop>
     let pieces = pieces(alloc, ring, a.tape, b.tape, c.tape)?;
     let words = inputs(alloc, a.inputs, b.inputs, c.inputs)?;
     let inputs = Inputs::make(&plan, words);
-    Ok(opened(alloc, &plan, &inputs, pieces)?)
+    Ok(ended(alloc, &plan, &inputs, pieces)?)
+}
+
+/// The product, as party c opened it.
+pub fn opened(world: &World) -> u64
+    requires { (w : Described) × (w.plan ≡ multiply_plan w.plan.bits) × IsFinish w world.now }
+    ensures { (w : Described) → w.plan ≡ multiply_plan w.plan.bits → IsFinish w world.now → result ≡ plain w 0 2 }
+{
+    match world.delivered(0, 0, 2) {
+        Some(word) => word,
+        None => unreachable!(),
+    }
 }

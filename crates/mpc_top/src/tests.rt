@@ -1,4 +1,13 @@
+// Jobs from their files to the bytes, and the words of the worked product.
+ghost use Rattle.std.specs.Prelude.{◌≡◌};
+ghost use Rattle.job_plan.specs.Multiply.{multiply_plan};
+ghost use Rattle.share_world.specs.Worlds.{World as Described};
+ghost use Rattle.core_world.specs.Running.{IsFinish};
+
 use crate::command;
+use crate::job::read_job;
+use crate::product::finished;
+use core_world::World;
 use outer_io::{MapFiles, VecSink};
 use std::alloc::{AllocError, Global};
 use std::collections::BTreeMap;
@@ -235,4 +244,32 @@ fn a_failing_sink_has_a_prefix(rt: HostRuntime) -> Result<(), Fail> {
     assert_eq!(rt; out.bytes(), b"".as_slice());
     assert_eq!(rt; short_err.bytes(), b"refused ea".as_slice());
     Ok(())
+}
+
+/// The words of the messages of the worked product, in the order of their numbers.
+const MESSAGES: [u64; 21] = [
+    10, 10, 20, 231, 30, 40, 40, 193, 1, 1, 2, 112, 3, 4, 4, 193, 5, 6, 221, 221, 14,
+];
+
+/// That the desks posted these words, opened 35 and drew their tapes to the end.
+fn expect_words(rt: &impl Abort, world: &World) -> Result<(), Fail>
+    requires { (w : Described) × (w.plan ≡ multiply_plan w.plan.bits) × IsFinish w world.now }
+{
+    for number in 0..21 {
+        assert_eq!(rt; world.cell(number), Some(MESSAGES[number as usize]));
+    }
+    assert_eq!(rt; world.delivered(0, 0, 0), None);
+    assert_eq!(rt; world.delivered(0, 0, 2), Some(35));
+    assert_eq!(rt; world.drawn(0, 0), 4);
+    assert_eq!(rt; world.drawn(1, 0), 4);
+    assert_eq!(rt; world.drawn(2, 0), 2);
+    Ok(())
+}
+
+#[test]
+fn worked_product_has_its_words(rt: HostRuntime) -> Result<(), Fail> {
+    let mut files = files(rt.alloc(), [JOB, MUL, A, B, C])?;
+    let job = read_job(rt.alloc(), &mut files, "d")?;
+    let world = finished(rt.alloc(), job)?;
+    expect_words(&rt, &world)
 }

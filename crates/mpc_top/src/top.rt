@@ -5,8 +5,8 @@ ghost use Rattle.mpc_top.specs.Hands.{job_view};
 ghost use Rattle.mpc_top.specs.Command.{command_of, words_view, Runs, Answers};
 
 use crate::Stop;
-use crate::product::product_of;
 use crate::job::read_job;
+use crate::product::{finished, opened};
 use crate::text::{write_out_line, write_stop};
 use outer_io::{Files, Sink};
 use std::alloc::Global;
@@ -41,8 +41,8 @@ fn run<F: Files, O: Sink>(
         return Err(Stop::Words);
     };
     let job = read_job(alloc, files, folder)?;
-    let word = product_of(alloc, job)?;
-    match write_out_line(out, 0, 0, "c", &[word]) {
+    let world = finished(alloc, job)?;
+    match write_out_line(out, 0, 0, "c", &[opened(&world)]) {
         Ok(()) => Ok(()),
         Err(_) => Err(Stop::Out),
     }

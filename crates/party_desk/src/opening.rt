@@ -20,7 +20,13 @@ impl Reserved {
     ghost use Rattle.party_desk.specs.Reserving.{IsReserved};
 
     /// Reserves what party `p` needs in session `s`.
-    pub fn make(alloc: Global, plan: &Plan, p: u32, s: u32, inputs: &[u64]) -> Result<Reserved, AllocError>
+    pub fn make(
+        alloc: Global,
+        plan: &Plan,
+        p: u32,
+        s: u32,
+        inputs: &[u64],
+    ) -> Result<Reserved, AllocError>
         requires party { p < plan.now.parties }
         requires session { s < length plan.now.sessions }
         ensures { IfOk result (IsReserved plan.now p s inputs.now) }

@@ -14,14 +14,7 @@ use share_layout::Layout;
 use tape_words::Tape;
 
 /// Deals `value` into row `v`.
-pub fn deal_row(
-    ring: Ring,
-    shares: usize,
-    value: u64,
-    tape: &mut Tape,
-    table: &mut [u64],
-    v: usize,
-)
+pub fn deal_row(ring: Ring, shares: usize, value: u64, tape: &mut Tape, table: &mut [u64], v: usize)
     requires value { value < 2 ^ ring }
     requires words { All (λ x. x < 2 ^ ring) tape.old }
     requires many { (0 < shares) × (shares - 1 ≤ length tape.old) }
@@ -119,7 +112,14 @@ fn put_held(layout: &Layout, p: u32, table: &[u64], v: usize, parts: &mut [u64])
 
 /// The value of row `v` as party `p` opens it: the sum of the summands that it holds and of those that it got. The
 /// sums begin anew.
-pub fn open_row(ring: Ring, layout: &Layout, p: u32, table: &[u64], v: usize, parts: &mut [u64]) -> u64
+pub fn open_row(
+    ring: Ring,
+    layout: &Layout,
+    p: u32,
+    table: &[u64],
+    v: usize,
+    parts: &mut [u64],
+) -> u64
     requires party { p < layout.now.parties }
     requires small { All (λ x. x < 2 ^ ring) table.now }
     requires row { (v + 1) * length layout.now.groups ≤ length table.now }

@@ -210,12 +210,7 @@ impl Program {
 }
 
 // What party p does in session s.
-fn push_program(
-    plan: &Plan,
-    p: u32,
-    s: u32,
-    list: &mut Vec<Instruction>,
-) -> Result<(), AllocError>
+fn push_program(plan: &Plan, p: u32, s: u32, list: &mut Vec<Instruction>) -> Result<(), AllocError>
     requires sound { IsSound plan.now }
     requires party { p < plan.now.parties }
     requires session { s < length plan.now.sessions }
