@@ -1,1 +1,7 @@
 pub mod Setting
+pub mod Along
+pub mod Passing
+pub mod Telling
+pub mod Drafting
+pub mod Solving
+pub mod Reading

@@ -1,1 +1,7 @@
 pub mod Circuits
+pub mod FaultTexts
+pub mod Checks
+pub mod Netlists
+pub mod Building
+pub mod Drafts
+pub mod Equations

@@ -1,0 +1,190 @@
+//! The checks of a header and of a gate.
+ghost use Rattle.std.specs.Prelude.{◌≡◌, ◌^◌, ◌≤◌, ◌<◌, Result, Ok, Err, length, sum, slice_index, slice_index_or, nat_lt, not, ◌&&◌, ◌||◌, ◌==◌, true, false, if◌then◌else◌};
+ghost use Rattle.std.specs.List.{list_all};
+ghost use Rattle.circuit_model.specs.Checks.{or_fault, first_fault};
+ghost use Rattle.circuit_model.specs.Netlists.{arity, is_constant, reads};
+ghost use Rattle.circuit_model.specs.Building.{header_checks, gate_checks, gate_of};
+
+use crate::fault::CircuitFault;
+use crate::gate::{Gate, Operation};
+use mpc_ring::Ring;
+
+/// The fault, where a check failed.
+pub fn check(failed: bool, fault: CircuitFault) -> Result<(), CircuitFault>
+    ensures { result ≡ (if failed then Err fault else Ok tt) }
+{
+    if failed { Err(fault) } else { Ok(()) }
+}
+
+/// Whether the values with these widths have more wires than there are.
+pub fn exceeds(widths: &[u64], wires: u64) -> bool
+    ensures { result ≡ nat_lt wires (sum widths.now) }
+{
+    let mut left = wires;
+    for width in widths {
+        if *width > left {
+            return true;
+        }
+        left -= *width;
+    }
+    false
+}
+
+fn is_large(gates: u64, wires: u64) -> bool
+    ensures { result ≡ (nat_lt 65536 gates || nat_lt 131072 wires) }
+{
+    gates > 65_536 || wires > 131_072
+}
+
+fn is_long(widths: &[u64]) -> bool
+    ensures { result ≡ nat_lt 1024 (length widths.now) }
+{
+    widths.len() > 1024
+}
+
+/// The first fault of the counts in a header, whose three lines have these numbers.
+#[tactic(auto, unfolding(crate::specs::Building::header_checks))]
+pub(crate) fn check_header(
+    gates: u64,
+    wires: u64,
+    inputs: &[u64],
+    outputs: &[u64],
+    lines: [u64; 3],
+) -> Result<(), CircuitFault>
+    ensures { result ≡ or_fault (first_fault (header_checks gates wires inputs.now outputs.now lines)) tt }
+{
+    let [counts, input_line, output_line] = lines;
+    check(
+        is_large(gates, wires),
+        CircuitFault::TooLarge { line: counts },
+    )?;
+    check(is_long(inputs), CircuitFault::TooLarge { line: input_line })?;
+    check(
+        exceeds(inputs, wires),
+        CircuitFault::HeaderWidths { line: input_line },
+    )?;
+    check(
+        is_long(outputs),
+        CircuitFault::TooLarge { line: output_line },
+    )?;
+    check(
+        exceeds(outputs, wires),
+        CircuitFault::HeaderWidths { line: output_line },
+    )
+}
+
+fn arity(operation: Operation) -> usize
+    ensures { result ≡ arity operation }
+{
+    match operation {
+        Operation::Add | Operation::Sub | Operation::Mul | Operation::Xor | Operation::And => 2,
+        Operation::Neg | Operation::Inv | Operation::Eq | Operation::Eqw => 1,
+    }
+}
+
+fn is_constant(operation: Operation) -> bool
+    ensures { result ≡ is_constant operation }
+{
+    match operation {
+        Operation::Eq => true,
+        _ => false,
+    }
+}
+
+fn has_arity(operation: Operation, inputs: &[u64], outputs: &[u64]) -> bool
+    ensures { result ≡ ((length inputs.now == arity operation) && (length outputs.now == 1)) }
+{
+    inputs.len() == arity(operation) && outputs.len() == 1
+}
+
+fn is_bad_constant(ring: Ring, operation: Operation, inputs: &[u64]) -> bool
+    ensures { result ≡ (is_constant operation && not (nat_lt (slice_index inputs.now 0) (2 ^ ring))) }
+{
+    is_constant(operation) && !ring.fits(word(inputs, 0))
+}
+
+// The word at a place, 0 past the end.
+fn word(words: &[u64], at: usize) -> u64
+    ensures { result ≡ slice_index words.now at }
+{
+    words.get(at).copied().unwrap_or(0)
+}
+
+// The wires that a gate reads.
+fn reads(operation: Operation, inputs: &[u64]) -> &[u64]
+    ensures { result.now ≡ reads operation inputs.now }
+{
+    if is_constant(operation) { &[] } else { inputs }
+}
+
+fn all_below(wires: u64, read: &[u64]) -> bool
+    ensures { result ≡ list_all (λ w. nat_lt w wires) read.now }
+{
+    read.iter().all(|wire| *wire < wires)
+}
+
+fn are_below(wires: u64, read: &[u64], output: u64) -> bool
+    ensures { result ≡ (list_all (λ w. nat_lt w wires) read.now && nat_lt output wires) }
+{
+    all_below(wires, read) && output < wires
+}
+
+fn are_set(set: &[bool], read: &[u64]) -> bool
+    requires { list_all (λ w. nat_lt w (length set.now)) read.now ≡ true }
+    ensures { result ≡ list_all (λ w. slice_index_or set.now w false) read.now }
+{
+    for wire in read {
+        if !set[*wire as usize] {
+            return false;
+        }
+    }
+    true
+}
+
+/// The gate, or the first of its faults.
+#[tactic(auto, unfolding(crate::specs::Building::gate_checks))]
+pub(crate) fn check_gate(
+    ring: Ring,
+    set: &[bool],
+    line: u64,
+    operation: Operation,
+    inputs: &[u64],
+    outputs: &[u64],
+) -> Result<Gate, CircuitFault>
+    requires { length set.now ≤ 131072 }
+    ensures { result ≡ or_fault (first_fault (gate_checks ring (length set.now) (λ w. slice_index_or set.now w false) line operation inputs.now outputs.now)) (gate_of operation inputs.now outputs.now) }
+{
+    check(
+        !has_arity(operation, inputs, outputs),
+        CircuitFault::WrongArity { line },
+    )?;
+    check(
+        is_bad_constant(ring, operation, inputs),
+        CircuitFault::BadConstant { line },
+    )?;
+    let read = reads(operation, inputs);
+    let output = word(outputs, 0);
+    check(
+        !are_below(set.len() as u64, read, output),
+        CircuitFault::WireOutOfRange { line },
+    )?;
+    check(!are_set(set, read), CircuitFault::ReadBeforeSet { line })?;
+    check(set[output as usize], CircuitFault::SetTwice { line })?;
+    Ok(Gate {
+        operation,
+        first: word(read, 0) as u32,
+        second: word(read, 1) as u32,
+        output: output as u32,
+        constant: constant(operation, inputs),
+    })
+}
+
+fn constant(operation: Operation, inputs: &[u64]) -> u64
+    ensures { result ≡ (if is_constant operation then slice_index inputs.now 0 else 0) }
+{
+    if is_constant(operation) {
+        word(inputs, 0)
+    } else {
+        0
+    }
+}
