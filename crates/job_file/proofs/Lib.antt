@@ -1,0 +1,5 @@
+pub mod Lists
+pub mod Hosts
+pub mod Readers
+pub mod Ports
+pub mod Growing

@@ -1,0 +1,68 @@
+-- One turn of the loops over readers, values and sessions.
+use Rattle.std.proofs.Common.{◌≡◌, ℕ, ◌+◌, ◌<◌, ◌≤◌, Bool, List, [], ◌∷◌, ◌++◌, ◌∙◌, ap, sym, map, length, take, drop, get_or, length-take-le, Option, Some, None, cond, refl, arith}
+use Rattle.std.specs.Prelude.{◌||◌}
+use Rattle.std.specs.List.{list_any}
+use Rattle.std.specs.Option.{option_or, option_map}
+use Rattle.std.specs.Str.{bytes_eq}
+use Rattle.std.proofs.lemmas.List.{drop_more, take_more, map-append, length-map}
+use Rattle.toml.specs.Data.{Members}
+use Rattle.toml.specs.View.{view}
+use Rattle.toml.specs.declared.value.Value.{Value}
+use Rattle.toml_fields.specs.Fields.{text_of, texts_of, fields_of}
+use Rattle.toml_fields.proofs.Lists.{list_any-map}
+use Rattle.job_file.specs.declared.fault.JobFault.{JobFault}
+use Rattle.job_file.specs.declared.fault.JobFault.TheVariants.{BadReader}
+use Rattle.job_file.specs.Faults.{bad_reader, readers_fault, sessions_fault, session_fields_fault, session_values_fault, is_no_party}
+
+abbrev pub reader_of : Value → List ℕ
+reader_of v = text_of (view v)
+
+abbrev pub readers_of : Value → List (List ℕ)
+readers_of v = texts_of (view v)
+
+abbrev pub session_of : Value → Members
+session_of v = fields_of (view v)
+
+cut : (vs : List Value) (i : ℕ) (v : Value) → i < length vs → v ≡ get_or vs i v → drop i vs ≡ v ∷ drop (i + 1) vs
+cut vs i v within is = drop_more vs i v within ∙ ap (λ x. x ∷ drop (i + 1) vs) (sym is)
+
+abbrev pub is_bad : List (List ℕ) → List Value → List ℕ → Bool
+is_bad names before reader = is_no_party names reader || list_any (λ item. bytes_eq (text_of (view item)) reader) before
+
+pub reader_turn : (names : List (List ℕ)) (vs : List Value) (at : ℕ) (v : Value) → at < length vs → v ≡ get_or vs at v
+    → bad_reader names (map reader_of (take at vs)) (map reader_of (drop at vs))
+    ≡ cond (is_bad names (take at vs) (reader_of v)) (Some at) (bad_reader names (map reader_of (take (at + 1) vs)) (map reader_of (drop (at + 1) vs)))
+unfolding bad_reader
+reader_turn names vs at v within is =
+    let before : List (List ℕ) = map reader_of (take at vs) in
+    let rest : List (List ℕ) = map reader_of (drop (at + 1) vs) in
+    let grown : map reader_of (take (at + 1) vs) ≡ before ++ reader_of v ∷ [] =
+    ap (map reader_of) (take_more vs at v within ∙ ap (λ x. take at vs ++ x ∷ []) (sym is)) ∙ map-append reader_of (take at vs) (v ∷ []) in
+    let among : list_any (λ other. bytes_eq other (reader_of v)) before ≡ list_any (λ item. bytes_eq (text_of (view item)) (reader_of v)) (take at vs) =
+    list_any-map (λ other. bytes_eq other (reader_of v)) reader_of (take at vs) in
+    let below : at ≤ length vs = omega arith in
+    let long : length before ≡ at = length-map (take at vs) reader_of ∙ length-take-le at vs below in
+    ap (λ xs. bad_reader names before (map reader_of xs)) (cut vs at v within is)
+    ∙ ap (λ b. cond (is_no_party names (reader_of v) || b) (Some (length before)) (bad_reader names (before ++ reader_of v ∷ []) rest)) among
+    ∙ ap (λ n. cond (is_bad names (take at vs) (reader_of v)) (Some n) (bad_reader names (before ++ reader_of v ∷ []) rest)) long
+    ∙ ap (λ xs. cond (is_bad names (take at vs) (reader_of v)) (Some at) (bad_reader names xs rest)) (sym grown)
+
+pub readers_turn : (names : List (List ℕ)) (session : ℕ) (vs : List Value) (value : ℕ) (v : Value) → value < length vs → v ≡ get_or vs value v
+    → readers_fault names session value (map readers_of (drop value vs))
+    ≡ option_or (option_map (λ at. BadReader session value at) (bad_reader names [] (readers_of v))) (readers_fault names session (value + 1) (map readers_of (drop (value + 1) vs)))
+unfolding readers_fault
+readers_turn names session vs value v within is = ap (λ xs. readers_fault names session value (map readers_of xs)) (cut vs value v within is)
+
+or_none : (o : Option JobFault) → option_or o None ≡ o
+or_none None = refl
+or_none (Some fault) = refl
+
+pub sessions_turn : (names : List (List ℕ)) (vs : List Value) (session : ℕ) (v : Value) (fields : Members) → session < length vs → v ≡ get_or vs session v → session_of v ≡ fields
+    → sessions_fault names session (map session_of (drop session vs))
+    ≡ option_or (session_fields_fault session fields) (option_or (session_values_fault names session fields) (sessions_fault names (session + 1) (map session_of (drop (session + 1) vs))))
+unfolding sessions_fault
+sessions_turn names vs session v fields within is same =
+    let rest : Option JobFault = sessions_fault names (session + 1) (map session_of (drop (session + 1) vs)) in
+    ap (λ xs. sessions_fault names session (map session_of xs)) (cut vs session v within is)
+    ∙ ap (λ ms. option_or (session_fields_fault session ms) (option_or (session_values_fault names session ms) (option_or rest None))) same
+    ∙ ap (λ o. option_or (session_fields_fault session fields) (option_or (session_values_fault names session fields) o)) (or_none rest)

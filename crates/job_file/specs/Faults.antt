@@ -1,0 +1,164 @@
+-- The faults of a job's file, in the order in which they are checked.
+use Rattle.std.specs.Prelude.{ℕ, ◌+◌, nat_lt, ◌==◌, min, Bool, not, ◌&&◌, ◌||◌, if◌then◌else◌, ℤ, pos, int_le, List, [], ◌∷◌, ◌++◌, length, map, position, Option, Some, None, Result, Ok, Err}
+use Rattle.std.specs.List.{list_any}
+use Rattle.std.specs.Option.{is_none, option_map, option_or, option_map_or}
+use Rattle.std.specs.Ordering.{int_eq}
+use Rattle.std.specs.Str.{bytes_eq}
+use Rattle.toml.specs.Data.{Members}
+use Rattle.toml_fields.specs.Documents.{document_of}
+use Rattle.toml_fields.specs.Fields.{has_field, is_misfit}
+use Rattle.toml_fields.specs.Keys.{least_unknown}
+use Rattle.party_set.specs.Names.{number_of, names_fault}
+use Rattle.job_file.specs.declared.field.Field.{Field}
+use Rattle.job_file.specs.declared.field.Field.TheVariants.{Version, RingBits, Parties, Formula, Hosts, Port, Session, Circuit, Layout, Owners, Readers}
+use Rattle.job_file.specs.declared.fault.JobFault.{JobFault}
+use Rattle.job_file.specs.declared.fault.JobFault.TheVariants.{NotToml, Version as OtherVersion, Missing, Unknown, WrongKind, BadRing, Names, SessionCount, BadFileName, BadLayout, BadOwner, BadReader, BadHost, BadPort}
+use Rattle.job_file.specs.Names.{field_text, field_kind, top_fields, session_fields, is_file_name, is_host, layout_of}
+use Rattle.job_file.specs.Forms.{JobForm, job_form, integer, text, texts, items, lists, tables}
+
+-- a row of the table: a test, and the fault that it tells
+infix 4 ◌answers◌
+abbrev pub ◌answers◌ : Bool → JobFault → Option JobFault
+failed answers fault = if failed then Some fault else None
+
+-- the first fault of some rows
+abbrev pub first_fault : List (Option JobFault) → Option JobFault
+first_fault [] = None
+first_fault (row ∷ rows) = option_or row (first_fault rows)
+
+-- ---- rows on one field
+
+abbrev pub is_there : Field → Members → Bool
+is_there field fields = has_field (field_text field) fields
+
+abbrev pub is_of_other_kind : Field → Members → Bool
+is_of_other_kind field fields = is_misfit (field_kind field) (field_text field) fields
+
+-- a field that must be there, in a session or (without one) in the top table
+unfoldable pub required_fault : Option ℕ → Field → Members → Option JobFault
+required_fault session field fields = first_fault
+    ((not (is_there field fields) answers Missing session field)
+    ∷ (is_of_other_kind field fields answers WrongKind session field)
+    ∷ [])
+
+-- a field that may be missing
+unfoldable pub optional_fault : Field → Members → Option JobFault
+optional_fault field fields = is_of_other_kind field fields answers WrongKind None field
+
+-- a field that must be there for a node
+abbrev pub node_fault : Bool → Field → Members → Option JobFault
+node_fault node field fields = if node then required_fault None field fields else optional_fault field fields
+
+-- a field that is not among these, the least by bytes
+unfoldable pub unknown_fault : Option ℕ → List Field → Members → Option JobFault
+unknown_fault session known fields = option_map (λ name. Unknown session name) (least_unknown (map field_text known) fields)
+
+-- ---- the top table
+
+unfoldable pub version_fault : Members → Option JobFault
+version_fault fields = first_fault
+    (required_fault None Version fields
+    ∷ (not (int_eq (integer Version fields) (pos 1)) answers OtherVersion (integer Version fields))
+    ∷ [])
+
+unfoldable pub fields_fault : Bool → Members → Option JobFault
+fields_fault node fields = first_fault
+    (required_fault None RingBits fields
+    ∷ required_fault None Parties fields
+    ∷ required_fault None Formula fields
+    ∷ node_fault node Hosts fields
+    ∷ node_fault node Port fields
+    ∷ required_fault None Session fields
+    ∷ [])
+
+abbrev pub is_within : ℤ → ℤ → ℤ → Bool
+is_within low high z = int_le low z && int_le z high
+
+unfoldable pub ring_fault : Members → Option JobFault
+ring_fault fields = not (is_within (pos 1) (pos 32) (integer RingBits fields)) answers BadRing (integer RingBits fields)
+
+unfoldable pub parties_fault : Members → Option JobFault
+parties_fault fields = option_map (λ fault. Names fault) (names_fault (texts Parties fields))
+
+-- 1 to 16 sessions
+unfoldable pub count_fault : ℕ → Option JobFault
+count_fault count = ((count == 0) || nat_lt 16 count) answers SessionCount count
+
+-- one host for each party, each well formed
+unfoldable pub hosts_fault : Members → Option JobFault
+hosts_fault fields = first_fault
+    (((is_there Hosts fields && not (length (texts Hosts fields) == length (texts Parties fields))) answers BadHost (min (length (texts Hosts fields)) (length (texts Parties fields))))
+    ∷ option_map (λ at. BadHost at) (position (λ host. not (is_host host)) (texts Hosts fields))
+    ∷ [])
+
+unfoldable pub port_fault : Members → Option JobFault
+port_fault fields = (is_there Port fields && not (is_within (pos 1) (pos 65392) (integer Port fields))) answers BadPort (integer Port fields)
+
+-- ---- a session
+
+abbrev pub is_no_party : List (List ℕ) → List ℕ → Bool
+is_no_party names name = is_none (number_of names name)
+
+-- the place of the first reader that is no party, or stands before
+unfoldable pub bad_reader : List (List ℕ) → List (List ℕ) → List (List ℕ) → Option ℕ
+bad_reader names before [] = None
+bad_reader names before (reader ∷ rest) =
+    if is_no_party names reader || list_any (λ other. bytes_eq other reader) before then Some (length before)
+    else bad_reader names (before ++ reader ∷ []) rest
+
+-- the first bad reader of the values from this one on
+unfoldable pub readers_fault : List (List ℕ) → ℕ → ℕ → List (List (List ℕ)) → Option JobFault
+readers_fault names session value [] = None
+readers_fault names session value (readers ∷ rest) =
+    option_or (option_map (λ at. BadReader session value at) (bad_reader names [] readers)) (readers_fault names session (value + 1) rest)
+
+unfoldable pub session_fields_fault : ℕ → Members → Option JobFault
+session_fields_fault session fields = first_fault
+    (unknown_fault (Some session) session_fields fields
+    ∷ required_fault (Some session) Circuit fields
+    ∷ required_fault (Some session) Layout fields
+    ∷ required_fault (Some session) Owners fields
+    ∷ required_fault (Some session) Readers fields
+    ∷ [])
+
+unfoldable pub session_values_fault : List (List ℕ) → ℕ → Members → Option JobFault
+session_values_fault names session fields = first_fault
+    ((not (is_file_name (text Circuit fields)) answers BadFileName session)
+    ∷ (is_none (layout_of (text Layout fields)) answers BadLayout session)
+    ∷ option_map (λ at. BadOwner session at) (position (is_no_party names) (texts Owners fields))
+    ∷ readers_fault names session 0 (lists Readers fields)
+    ∷ [])
+
+-- the first fault of the sessions from this one on: all of one session's before the next one's
+unfoldable pub sessions_fault : List (List ℕ) → ℕ → List Members → Option JobFault
+sessions_fault names session [] = None
+sessions_fault names session (fields ∷ rest) = first_fault
+    (session_fields_fault session fields
+    ∷ session_values_fault names session fields
+    ∷ sessions_fault names (session + 1) rest
+    ∷ [])
+
+-- ---- the whole file
+
+-- the first fault of a document, read for a node or not
+unfoldable pub job_fault : Bool → Members → Option JobFault
+job_fault node fields = first_fault
+    (version_fault fields
+    ∷ unknown_fault None top_fields fields
+    ∷ fields_fault node fields
+    ∷ ring_fault fields
+    ∷ parties_fault fields
+    ∷ count_fault (length (items Session fields))
+    ∷ sessions_fault (texts Parties fields) 0 (tables Session fields)
+    ∷ hosts_fault fields
+    ∷ port_fault fields
+    ∷ [])
+
+-- a value, where there is no fault
+abbrev pub value_or_fault : {A : Type 0} → A → Option JobFault → Result A JobFault
+value_or_fault value None = Ok value
+value_or_fault value (Some fault) = Err fault
+
+-- the job that some bytes stand for, or the first fault
+unfoldable pub job_in : Bool → List ℕ → Result JobForm JobFault
+job_in node bytes = option_map_or (λ fields. value_or_fault (job_form fields) (job_fault node fields)) (document_of bytes) (Err NotToml)

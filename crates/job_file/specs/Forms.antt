@@ -1,0 +1,77 @@
+-- What a job's file gives, where it has no fault: values are total, with a default where there is none.
+use Rattle.std.specs.Prelude.{ℕ, ◌^◌, ℤ, nat_abs, bit_or, List, map, fold}
+use Rattle.std.specs.Option.{unwrap_or}
+use Rattle.toml.specs.Data.{Data, Members}
+use Rattle.toml_fields.specs.Fields.{integer_at, text_at, items_at, texts_at, texts_of, fields_of}
+use Rattle.party_set.specs.Names.{number_of}
+use Rattle.job_file.specs.declared.field.Field.{Field}
+use Rattle.job_file.specs.declared.field.Field.TheVariants.{RingBits, Parties, Formula, Hosts, Port, Session, Circuit, Layout, Owners, Readers}
+use Rattle.job_file.specs.declared.job.CircuitLayout.{CircuitLayout}
+use Rattle.job_file.specs.declared.job.CircuitLayout.TheVariants.{Ring}
+use Rattle.job_file.specs.Names.{field_text, layout_of}
+
+-- a session: the file of its circuit and its layout, the party that gives each input value, and for each output value the
+-- mask of the parties that read it
+pub record SessionForm : Type 0 where
+  pub circuit : List ℕ
+  pub layout : CircuitLayout
+  pub owners : List ℕ
+  pub readers : List ℕ
+
+pub record JobForm : Type 0 where
+  pub bits : ℕ
+  pub names : List (List ℕ)
+  pub formula : List ℕ
+  pub hosts : List (List ℕ)
+  pub port : ℕ
+  pub sessions : List SessionForm
+
+-- ---- the value of a field
+
+abbrev pub integer : Field → Members → ℤ
+integer field fields = integer_at (field_text field) fields
+
+abbrev pub text : Field → Members → List ℕ
+text field fields = text_at (field_text field) fields
+
+abbrev pub texts : Field → Members → List (List ℕ)
+texts field fields = texts_at (field_text field) fields
+
+abbrev pub items : Field → Members → List Data
+items field fields = items_at (field_text field) fields
+
+-- the lists of texts
+abbrev pub lists : Field → Members → List (List (List ℕ))
+lists field fields = map texts_of (items field fields)
+
+-- the tables
+abbrev pub tables : Field → Members → List Members
+tables field fields = map fields_of (items field fields)
+
+-- ---- the job
+
+-- the party of this name
+abbrev pub party_of : List (List ℕ) → List ℕ → ℕ
+party_of names name = unwrap_or (number_of names name) 0
+
+-- the mask of these parties: the bit of each is 1
+unfoldable pub mask_of : List (List ℕ) → List (List ℕ) → ℕ
+mask_of names readers = fold (λ mask reader. bit_or mask (2 ^ party_of names reader)) 0 readers
+
+unfoldable pub session_form : List (List ℕ) → Members → SessionForm
+session_form names fields = record {
+  circuit = text Circuit fields;
+  layout = unwrap_or (layout_of (text Layout fields)) Ring;
+  owners = map (party_of names) (texts Owners fields);
+  readers = map (mask_of names) (lists Readers fields);
+}
+
+unfoldable pub job_form : Members → JobForm
+job_form fields = record {
+  bits = nat_abs (integer RingBits fields);
+  names = texts Parties fields;
+  formula = text Formula fields;
+  hosts = texts Hosts fields;
+  port = nat_abs (integer Port fields);
+  sessions = map (session_form (texts Parties fields)) (tables Session fields);
+}

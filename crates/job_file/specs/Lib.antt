@@ -1,0 +1,6 @@
+pub mod Names
+pub mod Forms
+pub mod Faults
+pub mod Answers
+pub mod Jobs
+pub mod Keys

@@ -1,0 +1,68 @@
+-- The fields of a job's file, their kinds, and the texts that are taken.
+use Rattle.std.specs.Prelude.{ℕ, nat_lt, ◌==◌, Bool, not, ◌&&◌, ◌||◌, if◌then◌else◌, List, [], ◌∷◌, length, slice_index, codes, Option, Some, None}
+use Rattle.std.specs.Char.{is_ascii_alphanumeric}
+use Rattle.std.specs.List.{list_all}
+use Rattle.std.specs.Str.{bytes_eq}
+use Rattle.toml_fields.specs.declared.kind.Kind.{Kind}
+use Rattle.toml_fields.specs.declared.kind.Kind.TheVariants.{Integer, Text, Texts, TextLists, Tables}
+use Rattle.job_file.specs.declared.field.Field.{Field}
+use Rattle.job_file.specs.declared.field.Field.TheVariants.{Version, RingBits, Parties, Formula, Hosts, Port, Session, Circuit, Layout, Owners, Readers}
+use Rattle.job_file.specs.declared.job.CircuitLayout.{CircuitLayout}
+use Rattle.job_file.specs.declared.job.CircuitLayout.TheVariants.{Bristol, Ring}
+
+-- how the file names a field
+unfoldable pub field_text : Field → List ℕ
+field_text Version = codes "version"
+field_text RingBits = codes "ring_bits"
+field_text Parties = codes "parties"
+field_text Formula = codes "formula"
+field_text Hosts = codes "hosts"
+field_text Port = codes "port"
+field_text Session = codes "session"
+field_text Circuit = codes "circuit"
+field_text Layout = codes "layout"
+field_text Owners = codes "owners"
+field_text Readers = codes "readers"
+
+unfoldable pub field_kind : Field → Kind
+field_kind Version = Integer
+field_kind RingBits = Integer
+field_kind Parties = Texts
+field_kind Formula = Text
+field_kind Hosts = Texts
+field_kind Port = Integer
+field_kind Session = Tables
+field_kind Circuit = Text
+field_kind Layout = Text
+field_kind Owners = Texts
+field_kind Readers = TextLists
+
+-- the fields of the top table, and those of a session
+abbrev pub top_fields : List Field
+top_fields = Version ∷ RingBits ∷ Parties ∷ Formula ∷ Hosts ∷ Port ∷ Session ∷ []
+
+abbrev pub session_fields : List Field
+session_fields = Circuit ∷ Layout ∷ Owners ∷ Readers ∷ []
+
+-- a letter, a digit, `.`, `_` or `-`
+abbrev pub is_file_byte : ℕ → Bool
+is_file_byte c = is_ascii_alphanumeric c || ((c == 46) || ((c == 95) || (c == 45)))
+
+-- 1 to 64 such bytes, of which the first is no `.`
+unfoldable pub is_file_name : List ℕ → Bool
+is_file_name name = (nat_lt 0 (length name) && nat_lt (length name) 65) && (not (slice_index name 0 == 46) && list_all is_file_byte name)
+
+-- a letter, a digit, `.`, `-` or `:`
+abbrev pub is_host_byte : ℕ → Bool
+is_host_byte c = is_ascii_alphanumeric c || ((c == 46) || ((c == 45) || (c == 58)))
+
+-- 1 to 64 such bytes
+unfoldable pub is_host : List ℕ → Bool
+is_host host = (nat_lt 0 (length host) && nat_lt (length host) 65) && list_all is_host_byte host
+
+-- the layout of this name
+unfoldable pub layout_of : List ℕ → Option CircuitLayout
+layout_of name =
+    if bytes_eq name (codes "bristol") then Some Bristol
+    else if bytes_eq name (codes "ring") then Some Ring
+    else None

@@ -1,0 +1,117 @@
+//! Rows of the table of faults that speak of one field.
+ghost use Rattle.std.specs.Prelude.{◌≡◌, IfOk};
+ghost use Rattle.toml.specs.View.{table_view};
+ghost use Rattle.job_file.specs.Names.{top_fields, session_fields};
+ghost use Rattle.job_file.specs.Faults.{◌answers◌, is_there, is_of_other_kind, required_fault, optional_fault, node_fault, unknown_fault};
+ghost use Rattle.job_file.specs.Answers.{Tells, TellsOrMemory};
+ghost use Rattle.job_file.specs.declared.fault.JobFault.TheVariants.{Unknown};
+
+use crate::fault::JobFault;
+use crate::field::Field;
+use party_set::NameText;
+use std::alloc::{AllocError, Global};
+use toml::Table;
+use toml_fields::{has_field, is_misfit, least_unknown};
+
+/// The fault, where the test failed.
+pub fn check(failed: bool, fault: JobFault) -> Result<(), JobFault>
+    ensures { Tells result (failed answers fault) }
+{
+    if failed { Err(fault) } else { Ok(()) }
+}
+
+pub fn is_there(table: &Table, field: Field) -> bool
+    ensures { result ≡ is_there field (table_view table.now) }
+{
+    has_field(table, field.text())
+}
+
+fn is_of_other_kind(table: &Table, field: Field) -> bool
+    ensures { result ≡ is_of_other_kind field (table_view table.now) }
+{
+    is_misfit(table, field.text(), field.kind())
+}
+
+/// Checks a field that must be there.
+#[tactic(auto, unfolding(crate::specs::Faults::required_fault))]
+pub fn check_required(table: &Table, session: Option<u32>, field: Field) -> Result<(), JobFault>
+    ensures { Tells result (required_fault session field (table_view table.now)) }
+{
+    check(
+        !is_there(table, field),
+        JobFault::Missing { session, field },
+    )?;
+    check(
+        is_of_other_kind(table, field),
+        JobFault::WrongKind { session, field },
+    )
+}
+
+/// Checks a field of the top table that may be missing.
+#[tactic(auto, unfolding(crate::specs::Faults::optional_fault))]
+fn check_optional(table: &Table, field: Field) -> Result<(), JobFault>
+    ensures { Tells result (optional_fault field (table_view table.now)) }
+{
+    check(
+        is_of_other_kind(table, field),
+        JobFault::WrongKind {
+            session: None,
+            field,
+        },
+    )
+}
+
+/// Checks a field of the top table that may be missing, unless the job is read for a node.
+pub fn check_for_node(table: &Table, node: bool, field: Field) -> Result<(), JobFault>
+    ensures { Tells result (node_fault node field (table_view table.now)) }
+{
+    if node {
+        check_required(table, None, field)
+    } else {
+        check_optional(table, field)
+    }
+}
+
+fn unknown(alloc: Global, session: Option<u32>, name: &str) -> Result<JobFault, AllocError>
+    ensures { IfOk result (λ fault. fault ≡ Unknown session name.now) }
+{
+    let name = NameText::of(String::from_str(alloc, name)?);
+    Ok(JobFault::Unknown { session, name })
+}
+
+/// Checks that the top table has no other fields.
+#[tactic(auto, unfolding(crate::specs::Faults::unknown_fault))]
+pub fn check_top_known(alloc: Global, table: &Table) -> Result<(), JobFault>
+    ensures { TellsOrMemory result (unknown_fault None top_fields (table_view table.now)) }
+{
+    let known = [
+        Field::Version.text(),
+        Field::RingBits.text(),
+        Field::Parties.text(),
+        Field::Formula.text(),
+        Field::Hosts.text(),
+        Field::Port.text(),
+        Field::Session.text(),
+    ];
+    match least_unknown(table, &known) {
+        None => Ok(()),
+        Some(name) => Err(unknown(alloc, None, name)?),
+    }
+}
+
+/// Checks that the table of a session has no other fields.
+#[tactic(auto, unfolding(crate::specs::Faults::unknown_fault))]
+pub fn check_session_known(alloc: Global, table: &Table, session: u32) -> Result<(), JobFault>
+    ensures { TellsOrMemory result (unknown_fault (Some session) session_fields (table_view table.now)) }
+{
+    let known = [
+        Field::Circuit.text(),
+        Field::Layout.text(),
+        Field::Owners.text(),
+        Field::Readers.text(),
+    ];
+    match least_unknown(table, &known) {
+        None => Ok(()),
+        Some(name) => Err(unknown(alloc, Some(session), name)?),
+    }
+}

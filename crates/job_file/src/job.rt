@@ -1,0 +1,33 @@
+//! Jobs.
+use mpc_ring::Ring;
+use party_set::{Group, NameText, Names};
+
+/// The layout of a circuit's file.
+#[derive(Clone, Copy, Debug, PartialEq, Eq)]
+pub enum CircuitLayout {
+    /// Gates on bits.
+    Bristol,
+    /// Gates on words of the ring.
+    Ring,
+}
+
+/// A session of a job: the file of its circuit, the party that gives each input value, and the group that reads each
+/// output value.
+#[derive(Drop)]
+pub struct JobSession {
+    pub circuit: NameText,
+    pub layout: CircuitLayout,
+    pub owners: Vec<u32>,
+    pub readers: Vec<Group>,
+}
+
+/// A job. Hosts are empty and the port is 0 where the file does not give them.
+#[derive(Drop)]
+pub struct Job {
+    pub ring: Ring,
+    pub names: Names,
+    pub formula: NameText,
+    pub hosts: Vec<NameText>,
+    pub port: u16,
+    pub sessions: Vec<JobSession>,
+}

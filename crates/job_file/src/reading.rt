@@ -1,0 +1,62 @@
+//! Reading a job's file.
+ghost use Rattle.std.specs.Prelude.{◌≡◌, ◌≢◌, ◌∷◌, [], IfOk, MatchResult, Some, None, Ok, Err, map, length};
+ghost use Rattle.toml.specs.View.{table_view};
+ghost use Rattle.job_file.specs.Answers.{TellsOrMemory};
+ghost use Rattle.job_file.specs.Names.{top_fields};
+ghost use Rattle.job_file.specs.Forms.{job_form};
+ghost use Rattle.job_file.specs.Jobs.{job_view, IsJob};
+ghost use Rattle.job_file.specs.Faults.{first_fault, version_fault, unknown_fault, fields_fault, ring_fault, job_fault, job_in};
+ghost use Rattle.job_file.specs.declared.fault.JobFault.TheVariants.{Memory};
+
+use crate::check::check_top_known;
+use crate::fault::JobFault;
+use crate::field::Field;
+use crate::job::Job;
+use crate::session::check_sessions;
+use crate::top::{
+    check_count, check_fields, check_hosts, check_port, check_ring, check_version, read_parties,
+};
+use crate::values::job_of;
+use std::alloc::Global;
+use toml::Table;
+use toml_fields::{document, items_at};
+
+fn check_head(alloc: Global, table: &Table, node: bool) -> Result<(), JobFault>
+    ensures { let fields = table_view table.now in TellsOrMemory result (first_fault (version_fault fields ∷ unknown_fault None top_fields fields ∷ fields_fault node fields ∷ ring_fault fields ∷ [])) }
+{
+    check_version(table)?;
+    check_top_known(alloc, table)?;
+    check_fields(table, node)?;
+    check_ring(table)?;
+    Ok(())
+}
+
+#[tactic(auto, unfolding(crate::specs::Faults::job_fault))]
+fn read_table(alloc: Global, table: &Table, node: bool) -> Result<Job, JobFault>
+    ensures job { MatchResult result
+        (λ job. (job_fault node (table_view table.now) ≡ None) × (job_view job ≡ job_form (table_view table.now)))
+        (λ fault. fault ≢ Memory → job_fault node (table_view table.now) ≡ Some fault) }
+    ensures facts { IfOk result IsJob }
+{
+    check_head(alloc, table, node)?;
+    let names = read_parties(alloc, table)?;
+    let sessions = items_at(table, Field::Session.text());
+    check_count(sessions.len())?;
+    check_sessions(alloc, sessions, &names)?;
+    check_hosts(table, names.len())?;
+    check_port(table)?;
+    Ok(job_of(alloc, table, names)?)
+}
+
+/// The job that the bytes of a job's file stand for, or the first fault in the order of `JobFault`'s table. For a node,
+/// hosts and a port must be there.
+#[tactic(auto, unfolding(crate::specs::Faults::job_in))]
+pub fn read_job(alloc: Global, bytes: &[u8], node: bool) -> Result<Job, JobFault>
+    ensures job { MatchResult result (λ job. job_in node bytes.now ≡ Ok (job_view job)) (λ fault. fault ≢ Memory → job_in node bytes.now ≡ Err fault) }
+    ensures facts { IfOk result IsJob }
+{
+    match document(alloc, bytes)? {
+        Some(table) => read_table(alloc, &table, node),
+        None => Err(JobFault::NotToml),
+    }
+}

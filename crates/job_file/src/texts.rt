@@ -1,0 +1,66 @@
+//! The texts that a job's file may give.
+ghost use Rattle.std.specs.Prelude.{◌≡◌};
+ghost use Rattle.std.specs.List.{list_all};
+ghost use Rattle.job_file.specs.Names.{is_file_byte, is_file_name, is_host_byte, is_host, layout_of};
+
+use crate::job::CircuitLayout;
+
+fn is_file_byte(byte: u8) -> bool
+    ensures { result ≡ is_file_byte byte }
+{
+    byte.is_ascii_alphanumeric() || byte == b'.' || byte == b'_' || byte == b'-'
+}
+
+fn has_file_bytes(bytes: &[u8]) -> bool
+    ensures { result ≡ list_all is_file_byte bytes.now }
+{
+    bytes.iter().all(|byte| is_file_byte(*byte))
+}
+
+/// Whether the text is the name of a file: 1 to 64 letters, digits, `.`, `_` and `-`, not beginning with `.`.
+#[tactic(auto, unfolding(crate::specs::Names::is_file_name))]
+pub fn is_file_name(name: &str) -> bool
+    ensures { result ≡ is_file_name name.now }
+{
+    let bytes = name.as_bytes();
+    if bytes.is_empty() || bytes.len() > 64 {
+        return false;
+    }
+    bytes[0] != b'.' && has_file_bytes(bytes)
+}
+
+fn is_host_byte(byte: u8) -> bool
+    ensures { result ≡ is_host_byte byte }
+{
+    byte.is_ascii_alphanumeric() || byte == b'.' || byte == b'-' || byte == b':'
+}
+
+fn has_host_bytes(bytes: &[u8]) -> bool
+    ensures { result ≡ list_all is_host_byte bytes.now }
+{
+    bytes.iter().all(|byte| is_host_byte(*byte))
+}
+
+/// Whether the text is a host: 1 to 64 letters, digits, `.`, `-` and `:`.
+#[tactic(auto, unfolding(crate::specs::Names::is_host))]
+pub fn is_host(host: &str) -> bool
+    ensures { result ≡ is_host host.now }
+{
+    let bytes = host.as_bytes();
+    if bytes.is_empty() || bytes.len() > 64 {
+        return false;
+    }
+    has_host_bytes(bytes)
+}
+
+/// The layout of this name.
+#[tactic(auto, unfolding(crate::specs::Names::layout_of))]
+pub fn layout_of(name: &str) -> Option<CircuitLayout>
+    ensures { result ≡ layout_of name.now }
+{
+    match name {
+        "bristol" => Some(CircuitLayout::Bristol),
+        "ring" => Some(CircuitLayout::Ring),
+        _ => None,
+    }
+}

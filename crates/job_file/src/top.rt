@@ -1,0 +1,134 @@
+//! Rows of the table of faults that speak of the top table.
+ghost use Rattle.std.specs.Prelude.{◌≡◌, ◌≢◌, ◌≤◌, ◌==◌, OnOk, ◌&&◌, min, map, not, Some, None, position, length, MatchResult};
+ghost use Rattle.std.specs.Option.{option_map};
+ghost use Rattle.toml.specs.View.{view, table_view};
+ghost use Rattle.toml_fields.specs.Fields.{text_of};
+ghost use Rattle.job_file.specs.Answers.{Tells, TellsOrMemory};
+ghost use Rattle.job_file.specs.Names.{is_host};
+ghost use Rattle.job_file.specs.Forms.{texts};
+ghost use Rattle.job_file.specs.Faults.{version_fault, fields_fault, ring_fault, parties_fault, count_fault, hosts_fault, port_fault, is_there, ◌answers◌};
+ghost use Rattle.job_file.specs.declared.field.Field.TheVariants.{Parties, Hosts};
+ghost use Rattle.job_file.specs.declared.fault.JobFault.TheVariants.{Memory, BadHost};
+
+use crate::check::{check, check_for_node, check_required, is_there};
+use crate::fault::JobFault;
+use crate::field::Field;
+use crate::texts::is_host;
+use party_set::{Names, NamesFault, read_names};
+use std::alloc::Global;
+use toml::{Table, Value};
+use toml_fields::{integer_at, items_at, text_of, texts_at};
+
+#[tactic(auto, unfolding(crate::specs::Faults::version_fault))]
+pub fn check_version(table: &Table) -> Result<(), JobFault>
+    ensures { Tells result (version_fault (table_view table.now)) }
+{
+    check_required(table, None, Field::Version)?;
+    let found = integer_at(table, Field::Version.text());
+    check(found != 1, JobFault::Version { found })
+}
+
+#[tactic(auto, unfolding(crate::specs::Faults::fields_fault))]
+pub fn check_fields(table: &Table, node: bool) -> Result<(), JobFault>
+    ensures { Tells result (fields_fault node (table_view table.now)) }
+{
+    check_required(table, None, Field::RingBits)?;
+    check_required(table, None, Field::Parties)?;
+    check_required(table, None, Field::Formula)?;
+    check_for_node(table, node, Field::Hosts)?;
+    check_for_node(table, node, Field::Port)?;
+    check_required(table, None, Field::Session)
+}
+
+#[tactic(auto, unfolding(crate::specs::Faults::ring_fault))]
+pub fn check_ring(table: &Table) -> Result<(), JobFault>
+    ensures { Tells result (ring_fault (table_view table.now)) }
+{
+    let bits = integer_at(table, Field::RingBits.text());
+    check(bits < 1 || bits > 32, JobFault::BadRing { bits })
+}
+
+/// The names of the parties.
+pub fn read_parties(alloc: Global, table: &Table) -> Result<Names, JobFault>
+    ensures { MatchResult result
+        (λ names. (names ≡ texts Parties (table_view table.now)) × (parties_fault (table_view table.now) ≡ None))
+        (λ fault. fault ≢ Memory → parties_fault (table_view table.now) ≡ Some fault) }
+{
+    let texts = texts_at(alloc, table, Field::Parties.text())?;
+    match read_names(alloc, &texts) {
+        Ok(names) => Ok(names),
+        Err(fault) => Err(of_names(fault)),
+    }
+}
+
+fn of_names(fault: NamesFault) -> JobFault
+    ensures names { result ≢ Memory → result ≡ JobFault.Names fault }
+    ensures memory { fault ≡ NamesFault.Memory → result ≡ Memory }
+{
+    match fault {
+        NamesFault::Memory => JobFault::Memory,
+        fault => JobFault::Names { fault },
+    }
+}
+
+/// Checks that there are 1 to 16 sessions.
+#[tactic(auto, unfolding(crate::specs::Faults::count_fault))]
+pub fn check_count(count: usize) -> Result<(), JobFault>
+    ensures told { Tells result (count_fault count) }
+    ensures some { OnOk result (1 ≤ count) }
+    ensures few { OnOk result (count ≤ 16) }
+{
+    check(
+        count == 0 || count > 16,
+        JobFault::SessionCount {
+            count: count as u64,
+        },
+    )
+}
+
+/// Checks that there is a host for each party, if there are hosts.
+pub fn check_hosts(table: &Table, parties: u32) -> Result<(), JobFault>
+    requires { parties ≡ length (texts Parties (table_view table.now)) }
+    ensures { Tells result (hosts_fault (table_view table.now)) }
+{
+    let hosts = items_at(table, Field::Hosts.text());
+    check_host_count(table, hosts.len(), parties as usize)?;
+    check_host_texts(hosts)
+}
+
+fn check_host_count(table: &Table, hosts: usize, parties: usize) -> Result<(), JobFault>
+    ensures { Tells result ((is_there Hosts (table_view table.now) && not (hosts == parties)) answers BadHost (min hosts parties)) }
+{
+    check(
+        is_there(table, Field::Hosts) && hosts != parties,
+        JobFault::BadHost {
+            at: hosts.min(parties) as u64,
+        },
+    )
+}
+
+fn check_host_texts(hosts: &[Value]) -> Result<(), JobFault>
+    ensures { Tells result (option_map (λ at. BadHost at) (position (λ host. not (is_host (text_of (view host)))) hosts.now)) }
+{
+    match bad_host(hosts) {
+        Some(at) => Err(JobFault::BadHost { at: at as u64 }),
+        None => Ok(()),
+    }
+}
+
+fn bad_host(hosts: &[Value]) -> Option<usize>
+    ensures { result ≡ position (λ host. not (is_host (text_of (view host)))) hosts.now }
+{
+    hosts.iter().position(|host| !is_host(text_of(host)))
+}
+
+#[tactic(auto, unfolding(crate::specs::Faults::port_fault))]
+pub fn check_port(table: &Table) -> Result<(), JobFault>
+    ensures { Tells result (port_fault (table_view table.now)) }
+{
+    let port = integer_at(table, Field::Port.text());
+    check(
+        is_there(table, Field::Port) && (port < 1 || port > 65392),
+        JobFault::BadPort { port },
+    )
+}

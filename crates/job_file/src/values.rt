@@ -1,0 +1,177 @@
+//! What a job's file gives, where it has no fault.
+ghost use Rattle.std.specs.Prelude.{◌≡◌, ◌<◌, ◌≤◌, ◌^◌, All, bit_or, IfOk, nat_abs, None, map, length};
+ghost use Rattle.party_set.specs.Parties.{Members};
+ghost use Rattle.toml.specs.View.{view, table_view};
+ghost use Rattle.toml_fields.specs.Fields.{text_of, texts_of, fields_of};
+ghost use Rattle.job_file.specs.Forms.{party_of, mask_of, session_form, job_form, integer, texts, items};
+ghost use Rattle.job_file.specs.Faults.{ring_fault, port_fault};
+ghost use Rattle.job_file.specs.Jobs.{session_view, job_view, IsSession, IsJob};
+ghost use Rattle.job_file.specs.declared.field.Field.TheVariants.{RingBits, Parties, Port, Session};
+
+use crate::check::is_there;
+use crate::field::Field;
+use crate::job::{CircuitLayout, Job, JobSession};
+use crate::session::fields_or;
+use crate::texts::layout_of;
+use mpc_ring::Ring;
+use party_set::{Group, NameText, Names};
+use std::alloc::{AllocError, Global};
+use toml::{Table, Value};
+use toml_fields::{integer_at, items_at, items_of, text_at, text_of};
+
+/// The party of this name, or 0.
+fn party_of(names: &Names, name: &str) -> u32
+    ensures is { result ≡ party_of names.now name.now }
+    ensures within { result < length names.now }
+{
+    let _ = names.len();
+    names.number(name).unwrap_or(0)
+}
+
+fn owners_of(alloc: Global, owners: &[Value], names: &Names) -> Result<Vec<u32>, AllocError>
+    ensures is { IfOk result (λ parties. parties.items ≡ map (party_of names.now) (map text_of (map view owners.now))) }
+    ensures within { IfOk result (λ parties. All (λ owner. owner < length names.now) parties.items) }
+{
+    let mut parties = Vec::new(alloc);
+    for owner in owners {
+        parties.push(party_of(names, text_of(owner)))?;
+    }
+    Ok(parties)
+}
+
+fn mask_of(readers: &[Value], names: &Names) -> u32
+    ensures is { result ≡ mask_of names.now (map text_of (map view readers.now)) }
+    ensures below { result < 2 ^ length names.now }
+{
+    let _ = names.len();
+    let mut mask = 0;
+    for reader in readers {
+        mask = with_party(mask, party_of(names, text_of(reader)));
+    }
+    mask
+}
+
+fn with_party(mask: u32, party: u32) -> u32
+    requires { party < 12 }
+    ensures { result ≡ bit_or mask (2 ^ party) }
+{
+    mask | 1 << party
+}
+
+fn group_of(readers: &[Value], names: &Names) -> Group
+    ensures { result ≡ record { parties = length names.now; mask = mask_of names.now (map text_of (map view readers.now)) } }
+{
+    let parties = names.len();
+    Group::of_mask(mask_of(readers, names), parties).unwrap_or(Group::empty(parties))
+}
+
+fn groups_of(alloc: Global, values: &[Value], names: &Names) -> Result<Vec<Group>, AllocError>
+    ensures is { IfOk result (λ groups. map (λ (group : Members). group.mask) groups.items ≡ map (mask_of names.now) (map texts_of (map view values.now))) }
+    ensures parties { IfOk result (λ groups. All (λ (group : Members). group.parties ≡ length names.now) groups.items) }
+{
+    let mut groups = Vec::new(alloc);
+    for readers in values {
+        groups.push(group_of(items_of(readers), names))?;
+    }
+    Ok(groups)
+}
+
+fn copy_of(alloc: Global, text: &str) -> Result<NameText, AllocError>
+    ensures { IfOk result (λ copy. copy ≡ text.now) }
+{
+    Ok(NameText::of(String::from_str(alloc, text)?))
+}
+
+#[tactic(auto, unfolding(crate::specs::Forms::session_form, toml_fields::specs::Fields::texts_at))]
+fn session_of(alloc: Global, table: &Table, names: &Names) -> Result<JobSession, AllocError>
+    ensures form { IfOk result (λ session. session_view session ≡ session_form names.now (table_view table.now)) }
+    ensures parties { IfOk result (IsSession (length names.now)) }
+{
+    let circuit = copy_of(alloc, text_at(table, Field::Circuit.text()))?;
+    let layout = layout_of(text_at(table, Field::Layout.text())).unwrap_or(CircuitLayout::Ring);
+    let owners = owners_of(alloc, items_at(table, Field::Owners.text()), names)?;
+    let readers = groups_of(alloc, items_at(table, Field::Readers.text()), names)?;
+    Ok(JobSession {
+        circuit,
+        layout,
+        owners,
+        readers,
+    })
+}
+
+fn sessions_of(
+    alloc: Global,
+    tables: &[Value],
+    names: &Names,
+) -> Result<Vec<JobSession>, AllocError>
+    ensures form { IfOk result (λ sessions. map session_view sessions.items ≡ map (session_form names.now) (map fields_of (map view tables.now))) }
+    ensures parties { IfOk result (λ sessions. All (IsSession (length names.now)) sessions.items) }
+    ensures count { IfOk result (λ sessions. length sessions.items ≡ length tables.now) }
+{
+    let empty = Table::new(alloc);
+    let mut sessions = Vec::new(alloc);
+    for table in tables {
+        sessions.push(session_of(alloc, fields_or(table, &empty), names)?)?;
+    }
+    Ok(sessions)
+}
+
+fn hosts_of(alloc: Global, hosts: &[Value]) -> Result<Vec<NameText>, AllocError>
+    ensures { IfOk result (λ texts. texts.items ≡ map text_of (map view hosts.now)) }
+{
+    let mut texts = Vec::new(alloc);
+    for host in hosts {
+        texts.push(copy_of(alloc, text_of(host))?)?;
+    }
+    Ok(texts)
+}
+
+#[tactic(auto, unfolding(crate::specs::Faults::ring_fault))]
+fn ring_of(table: &Table) -> Ring
+    requires { ring_fault (table_view table.now) ≡ None }
+    ensures is { result ≡ nat_abs (integer RingBits (table_view table.now)) }
+    ensures some { 0 < result }
+    ensures few { result ≤ 32 }
+{
+    let bits = integer_at(table, Field::RingBits.text());
+    Ring::new(bits as u32).unwrap()
+}
+
+#[tactic(auto, unfolding(crate::specs::Faults::port_fault))]
+fn port_of(table: &Table) -> u16
+    requires { port_fault (table_view table.now) ≡ None }
+    ensures { result ≡ nat_abs (integer Port (table_view table.now)) }
+{
+    if is_there(table, Field::Port) {
+        integer_at(table, Field::Port.text()) as u16
+    } else {
+        0
+    }
+}
+
+/// The job of a table without a fault.
+#[tactic(auto, unfolding(crate::specs::Forms::job_form, toml_fields::specs::Fields::texts_at))]
+pub fn job_of(alloc: Global, table: &Table, names: Names) -> Result<Job, AllocError>
+    requires ring { ring_fault (table_view table.now) ≡ None }
+    requires port { port_fault (table_view table.now) ≡ None }
+    requires names { names ≡ texts Parties (table_view table.now) }
+    requires some { 1 ≤ length (items Session (table_view table.now)) }
+    requires few { length (items Session (table_view table.now)) ≤ 16 }
+    ensures form { IfOk result (λ job. job_view job ≡ job_form (table_view table.now)) }
+    ensures facts { IfOk result IsJob }
+{
+    let ring = ring_of(table);
+    let formula = copy_of(alloc, text_at(table, Field::Formula.text()))?;
+    let hosts = hosts_of(alloc, items_at(table, Field::Hosts.text()))?;
+    let port = port_of(table);
+    let sessions = sessions_of(alloc, items_at(table, Field::Session.text()), &names)?;
+    let _ = names.len();
+    Ok(Job {
+        ring,
+        names,
+        formula,
+        hosts,
+        port,
+        sessions,
+    })
+}

@@ -1,0 +1,14 @@
+//! Texts of words: numbers parted by blanks.
+//!
+//! Blanks are space, tab, LF and CR, so a long list of words may stand on several lines.
+#![tactic(auto)]
+
+mod fault;
+mod pieces;
+mod words;
+
+pub use fault::WordsFault;
+pub use words::read_words;
+
+#[cfg(test)]
+mod tests;

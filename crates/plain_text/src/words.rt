@@ -1,0 +1,44 @@
+//! The numbers that a text writes.
+ghost use Rattle.std.specs.Prelude.{◌≡◌, ◌⊎◌, ℕ, Ok, Err, IfOk, IfErr};
+ghost use Rattle.plain_text.specs.Words.{is_digits, word_in, words_in};
+ghost use Rattle.plain_text.specs.declared.fault.WordsFault.TheVariants.{Memory};
+
+use crate::fault::WordsFault;
+use crate::pieces::Pieces;
+use std::alloc::Global;
+
+fn is_digits(word: &str) -> bool
+    ensures { result ≡ is_digits word.now }
+{
+    !word.is_empty() && word.as_bytes().iter().all(|byte| byte.is_ascii_digit())
+}
+
+/// The number that the word at a place writes.
+fn read_word(at: u64, word: &str) -> Result<u64, WordsFault>
+    ensures { result ≡ word_in at word.now }
+{
+    if !is_digits(word) {
+        return Err(WordsFault::NotNumber { at });
+    }
+    match word.parse() {
+        Ok(number) => Ok(number),
+        Err(_) => Err(WordsFault::TooLarge { at }),
+    }
+}
+
+/// The numbers of a text, in order. They are written in decimal digits, may have leading zeros and any length, and
+/// are parted by blanks: space, tab, LF and CR.
+///
+/// # Errors
+///
+/// The fault of the first word that writes no number below `2^64`.
+pub fn read_words(alloc: Global, text: &str) -> Result<Vec<u64>, WordsFault>
+    ensures words { IfOk result (λ words. words_in text.now ≡ Ok words.items) }
+    ensures fault { IfErr result (λ fault. (fault ≡ Memory) ⊎ (words_in text.now ≡ Err fault)) }
+{
+    let mut words = Vec::new(alloc);
+    for word in Pieces::of(text) {
+        words.push(read_word(words.len() as u64, word)?)?;
+    }
+    Ok(words)
+}
