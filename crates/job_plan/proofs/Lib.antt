@@ -9,3 +9,4 @@ pub mod Rising
 pub mod Searching
 pub mod Finding
 pub mod Placing
+pub mod Parting

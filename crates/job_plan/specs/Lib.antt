@@ -7,3 +7,4 @@ pub mod Multiply
 pub mod Tallies
 pub mod Limits
 pub mod InputWords
+pub mod Parts

@@ -3,8 +3,8 @@ use Rattle.std.specs.Prelude.{◌≡◌, ℕ, ◌<◌, ◌≤◌, length}
 use Rattle.job_plan.specs.Plans.{Plan}
 use Rattle.job_plan.specs.Messages.{messages}
 use Rattle.job_plan.specs.Tallies.{tape_length}
-use Rattle.job_plan.specs.declared.fault.PlanFault.{PlanFault}
-use Rattle.job_plan.specs.declared.fault.PlanFault.TheVariants.{TooManyMessages, TooManyWords, Memory}
+use Rattle.plan_faults.specs.declared.plan_fault.PlanFault.{PlanFault}
+use Rattle.plan_faults.specs.declared.plan_fault.PlanFault.TheVariants.{TooManyMessages, TooManyWords, Memory}
 
 -- at most 1,048,576 messages, and as many tape words of each party, in all sessions
 pub record IsWithin (plan : Plan) : Type 0 where

@@ -3,13 +3,13 @@ ghost use Rattle.std.specs.Prelude.{◌≡◌, ◌<◌, IfOk};
 ghost use Rattle.party_set.specs.Parties.{IsQ2};
 ghost use Rattle.job_plan.specs.Multiply.{multiply_session, three_parties};
 
-use crate::fault::PlanFault;
 use crate::plan::Plan;
 use crate::session_part::SessionPart;
 use crate::values::{InputValue, OutputValue};
 use circuit_model::{Gate, Operation};
 use mpc_ring::Ring;
 use party_set::{Group, Groups};
+use plan_faults::PlanFault;
 use product_duty::Duty;
 use share_layout::Layout;
 use std::alloc::{AllocError, Global};

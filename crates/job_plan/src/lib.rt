@@ -3,7 +3,6 @@
 
 mod counts;
 mod early;
-mod fault;
 mod inputs;
 mod key;
 mod laws;
@@ -16,11 +15,11 @@ mod session_part;
 mod starts;
 mod values;
 
-pub use fault::PlanFault;
 pub use inputs::Inputs;
 pub use key::Key;
 pub use laws::{numbers_are_inverse, places_are_apart};
 pub use place::Place;
 pub use plan::Plan;
+pub use plan_faults::{PartFault, PlanFault};
 pub use session_part::SessionPart;
 pub use values::{InputValue, OutputValue};

@@ -4,7 +4,6 @@ ghost use Rattle.job_plan.specs.Messages.{messages};
 ghost use Rattle.job_plan.specs.Limits.{IsWithin, IsRefusal};
 
 use crate::counts::{message_count, word_count};
-use crate::fault::PlanFault;
 use crate::key::Key;
 use crate::laying::{list_deals, list_messages};
 use crate::outline::Outline;
@@ -13,6 +12,7 @@ use crate::ranks::search;
 use crate::session_part::SessionPart;
 use crate::starts::Starts;
 use mpc_ring::Ring;
+use plan_faults::PlanFault;
 use product_duty::Duty;
 use share_layout::Layout;
 use std::alloc::Global;

@@ -1,11 +1,14 @@
 //! A session of a plan.
-ghost use Rattle.std.specs.Prelude.{◌≡◌, ◌<◌, ◌++◌, OnOk, IfOk, replicate};
+ghost use Rattle.std.specs.Prelude.{◌≡◌, ◌<◌, ◌^◌, ◌++◌, OnOk, IfOk, length, replicate, sum};
+ghost use Rattle.job_plan.specs.Parts.{input_values, output_values};
 ghost use Rattle.job_plan.specs.Plans.{owners_of, readers_of};
 ghost use Rattle.job_plan.specs.Tallies.{products_of};
 
 use crate::place::Place;
 use crate::values::{InputValue, OutputValue};
-use circuit_model::Gate;
+use circuit_model::{Circuit, Gate};
+use party_set::Group;
+use plan_faults::{PartFault, check_counts};
 use std::alloc::{AllocError, Global};
 use std::marker::Model;
 
@@ -35,7 +38,9 @@ impl Model for SessionPart {
 }
 
 impl SessionPart {
-    ghost use Rattle.std.specs.Prelude.{◌≡◌, ℕ, ◌<◌, IfOk, length, slice_index};
+    ghost use Rattle.std.specs.Prelude.{◌≡◌, ℕ, ◌<◌, All, IfOk, length, slice_index};
+    ghost use Rattle.circuit_model.specs.Netlists.{IsCircuit};
+    ghost use Rattle.job_plan.specs.Parts.{Makes};
     ghost use Rattle.job_plan.specs.Plans.{gate, slot, slots, owners, readers};
     ghost use Rattle.job_plan.specs.Tallies.{products, owned, read_by};
     ghost use Rattle.job_plan.specs.Sound.{slot_of_place, Inside, IsSoundSession};
@@ -62,6 +67,31 @@ impl SessionPart {
             readers,
             products,
         })
+    }
+
+    /// The session of a circuit, an owner for each of its input values, and a group of readers for each of its output
+    /// values. It is refused where there are other than as many.
+    pub fn make(
+        alloc: Global,
+        circuit: Circuit,
+        owners: Vec<u32>,
+        readers: Vec<Group>,
+    ) -> Result<SessionPart, PartFault>
+        ensures made { Makes circuit owners.items readers.items result }
+        ensures valid { IsCircuit circuit }
+        ensures sound { IfOk result (λ part. (parties : ℕ) → All (λ owner. owner < parties) owners.items → IsSoundSession parties part) }
+    {
+        let wires = circuit.wires();
+        check_counts(
+            circuit.input_widths().len() as u64,
+            owners.len() as u64,
+            circuit.output_widths().len() as u64,
+            readers.len() as u64,
+        )?;
+        let inputs = input_values(alloc, circuit.input_widths(), &owners)?;
+        let outputs = output_values(alloc, circuit.output_widths(), &readers)?;
+        let part = SessionPart::of(alloc, circuit.into_gates(), wires, inputs, outputs)?;
+        Ok(part)
     }
 
     pub fn gate(&self, t: u32) -> Gate
@@ -180,6 +210,46 @@ impl SessionPart {
     }
 }
 
+// Each input value with its owner.
+fn input_values(
+    alloc: Global,
+    widths: &[u64],
+    owners: &[u32],
+) -> Result<Vec<InputValue>, AllocError>
+    requires few { sum widths.now < 2 ^ 32 }
+    requires owned { length owners.now ≡ length widths.now }
+    ensures { IfOk result (λ list. list.items ≡ input_values widths.now owners.now) }
+{
+    let mut list = Vec::with_capacity(alloc, widths.len())?;
+    for (i, width) in widths.iter().enumerate() {
+        list.push(InputValue {
+            width: *width as u32,
+            owner: owners[i],
+        })?;
+    }
+    Ok(list)
+}
+
+// Each output value with its readers.
+fn output_values(
+    alloc: Global,
+    widths: &[u64],
+    readers: &[Group],
+) -> Result<Vec<OutputValue>, AllocError>
+    requires few { sum widths.now < 2 ^ 32 }
+    requires read { length readers.now ≡ length widths.now }
+    ensures { IfOk result (λ list. list.items ≡ output_values widths.now readers.now) }
+{
+    let mut list = Vec::with_capacity(alloc, widths.len())?;
+    for (i, width) in widths.iter().enumerate() {
+        list.push(OutputValue {
+            width: *width as u32,
+            readers: readers[i],
+        })?;
+    }
+    Ok(list)
+}
+
 // The owner of each input wire.
 fn owners_by_wire(alloc: Global, inputs: &[InputValue]) -> Result<Vec<u32>, AllocError>
     ensures { IfOk result (λ list. list.items ≡ owners_of inputs.now) }
@@ -215,4 +285,63 @@ fn count_products(gates: &[Gate]) -> usize
         .iter()
         .filter(|gate| gate.operation.is_product())
         .count()
+}
+
+#[cfg(test)]
+mod tests {
+    use super::*;
+    use circuit_model::{Builder, CircuitFault, Operation};
+    use mpc_ring::Ring;
+    use std::test::Fail;
+
+    // The product of two wires, each of a value of its own.
+    fn product(alloc: Global, ring: Ring) -> Result<Circuit, CircuitFault> {
+        let inputs = [1, 1].iter().copied().collect(alloc)?;
+        let outputs = [1].iter().copied().collect(alloc)?;
+        let mut builder = Builder::start(alloc, ring, 1, 3, inputs, outputs, [1, 2, 3])?;
+        if !builder.is_full() {
+            builder.gate(4, Operation::Mul, &[0, 1], &[2])?;
+        }
+        builder.finish()
+    }
+
+    #[test]
+    fn a_session_of_a_product(rt: HostRuntime) -> Result<(), Fail> {
+        let alloc = rt.alloc();
+        let ring = Ring::new(8).ok_or("no ring")?;
+        for (owners, groups, fault) in [
+            (
+                3,
+                0,
+                Some(PartFault::OwnersDiffer {
+                    wanted: 2,
+                    found: 3,
+                }),
+            ),
+            (
+                2,
+                0,
+                Some(PartFault::ReadersDiffer {
+                    wanted: 1,
+                    found: 0,
+                }),
+            ),
+            (2, 1, None),
+        ] {
+            let circuit = product(alloc, ring).ok().ok_or("no circuit")?;
+            let owners = vec![in alloc; 1; owners]?;
+            let readers = vec![in alloc; Group::empty(3); groups]?;
+            let part = SessionPart::make(alloc, circuit, owners, readers);
+            if let Ok(part) = &part {
+                assert_eq!(rt; (part.gates(), part.wires(), part.products()), (1, 3, 1));
+                assert_eq!(rt; (part.input_wires(), part.output_wires()), (2, 1));
+                assert_eq!(rt;
+                    part.inputs().get(1).copied(),
+                    Some(InputValue { width: 1, owner: 1 })
+                );
+            }
+            assert_eq!(rt; part.err(), fault);
+        }
+        Ok(())
+    }
 }

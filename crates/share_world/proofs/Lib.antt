@@ -3,3 +3,4 @@ pub mod Locality
 pub mod Solving
 pub mod Joining
 pub mod Multiplying
+pub mod Making

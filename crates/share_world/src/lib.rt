@@ -7,6 +7,7 @@ ghost use Rattle.share_world.specs.Worlds.{World};
 ghost use Rattle.share_world.specs.Laws.{IsWorld, SumIsPlain, LocalIsDealt};
 ghost use Rattle.share_world.specs.Locals.{LocalsJoin, ReadsBefore};
 ghost use Rattle.share_world.specs.Solutions.{IsSolution, OnlySolution};
+ghost use Rattle.share_world.specs.Made.{MadeIsCircuit, MadeHasValues};
 ghost use Rattle.share_world.specs.Multiply.{MultiplyPlain, MultiplyWords};
 
 /// The summands of every wire add up to its plain value.
@@ -33,6 +34,12 @@ pub fn locals_join()
 /// A local run of the first gates reads only what was got in the slots before.
 pub fn reads_before()
     ensures { (w : World) → ReadsBefore w }
+{}
+
+/// The session of a valid circuit is valid, and its plain values are the values of the circuit's wires.
+pub fn made_sessions_are_circuits()
+    ensures valid { MadeIsCircuit }
+    ensures values { (w : World) (s : ℕ) → MadeHasValues w s }
 {}
 
 /// The worked job of one product has these words and this output, by computation.

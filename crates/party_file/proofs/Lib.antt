@@ -1,0 +1,5 @@
+pub mod BySession
+pub mod Rows
+pub mod Chains
+pub mod Fitting
+pub mod Wording

@@ -1,0 +1,7 @@
+use Rattle.std.proofs.Common.{◌≡◌}
+use Rattle.mpc_ring.specs.Sums.{listed}
+use Rattle.job_plan.specs.Plans.{words}
+use Rattle.party_file.proofs.tapes.word_counts.Given as goal
+
+abbrev pub invariant-loop-session : goal.invariant-loop-session
+invariant-loop-session l = l.counts.items ≡ listed l.session (words l.plan l.party)

@@ -1,0 +1,164 @@
+-- The file of a party: its checks in order, what it gives, and the first fault.
+use Rattle.std.specs.Prelude.{ℕ, ◌^◌, nat_lt, ◌==◌, not, ◌&&◌, ◌||◌, pos, List, [], ◌∷◌, ◌++◌, length, map, sum, slice_index_or, Option, Some, None, Result, Err, if◌then◌else◌, codes}
+use Rattle.std.specs.List.{position_or_len}
+use Rattle.std.specs.Option.{is_some, unwrap_or}
+use Rattle.std.specs.Ordering.{int_eq}
+use Rattle.std.specs.Result.{is_err, result_unwrap_or}
+use Rattle.hex.specs.Hex.{decode_sized}
+use Rattle.toml.specs.Data.{Members}
+use Rattle.mpc_ring.specs.Sums.{joined, listed}
+use Rattle.plain_text.specs.Words.{words_in}
+use Rattle.plain_text.specs.declared.fault.WordsFault.{WordsFault}
+use Rattle.plain_text.specs.declared.fault.WordsFault.TheVariants.{NotNumber, TooLarge}
+use Rattle.tape_words.specs.Cuts.{cut}
+use Rattle.tape_words.specs.Seeds.{seed_word}
+use Rattle.toml_fields.specs.Documents.{document_of}
+use Rattle.toml_fields.specs.Fields.{has_field, is_misfit, integer_at, text_at, texts_at}
+use Rattle.toml_fields.specs.Keys.{least_unknown}
+use Rattle.toml_fields.specs.declared.kind.Kind.TheVariants as kind
+use Rattle.job_plan.specs.Plans.{Plan, session, words}
+use Rattle.job_plan.specs.Tallies.{owned}
+use Rattle.party_file.specs.Checks.{Check, ◌answers◌, first_fault, or_fault}
+use Rattle.party_file.specs.declared.field.Field.TheVariants as field
+use Rattle.party_file.specs.declared.fault.WordCause.{WordCause}
+use Rattle.party_file.specs.declared.fault.WordCause.TheVariants as cause
+use Rattle.party_file.specs.declared.fault.PartyFault.{PartyFault}
+use Rattle.party_file.specs.declared.fault.PartyFault.TheVariants.{NotToml, Version, Missing, Unknown, WrongKind, CountDiffers, BadWords, WordOutOfRing, TapeAndSeed, BadSeed, TapeShort}
+
+-- ---- the fields
+
+-- the version is there, an integer, and 1
+unfoldable pub version_checks : Members → List Check
+version_checks fields =
+    (not (has_field (codes "version") fields) answers Missing field.Version)
+    ∷ (is_misfit kind.Integer (codes "version") fields answers WrongKind field.Version)
+    ∷ (not (int_eq (integer_at (codes "version") fields) (pos 1)) answers Version (integer_at (codes "version") fields))
+    ∷ []
+
+-- the names that fields may have
+abbrev pub field_names : List (List ℕ)
+field_names = codes "version" ∷ codes "inputs" ∷ codes "tape" ∷ codes "seed" ∷ []
+
+-- no field has another name; the least one that has is told
+unfoldable pub name_checks : Members → List Check
+name_checks fields = (is_some (least_unknown field_names fields) answers Unknown (unwrap_or (least_unknown field_names fields) [])) ∷ []
+
+-- the inputs are there, and each field is of its kind
+unfoldable pub kind_checks : Members → List Check
+kind_checks fields =
+    (not (has_field (codes "inputs") fields) answers Missing field.Inputs)
+    ∷ (is_misfit kind.Texts (codes "inputs") fields answers WrongKind field.Inputs)
+    ∷ (is_misfit kind.Text (codes "tape") fields answers WrongKind field.Tape)
+    ∷ (is_misfit kind.Text (codes "seed") fields answers WrongKind field.Seed)
+    ∷ []
+
+-- one of tape and seed, and a text of inputs for each of so many sessions
+unfoldable pub count_checks : ℕ → Members → List Check
+count_checks sessions fields =
+    ((has_field (codes "tape") fields && has_field (codes "seed") fields) answers TapeAndSeed)
+    ∷ (not (has_field (codes "tape") fields || has_field (codes "seed") fields) answers Missing field.Tape)
+    ∷ (not (length (texts_at (codes "inputs") fields) == sessions) answers CountDiffers None sessions (length (texts_at (codes "inputs") fields)))
+    ∷ []
+
+-- ---- words
+
+-- the numbers of a text; none, where a word is bad
+unfoldable pub numbers_in : List ℕ → List ℕ
+numbers_in text = result_unwrap_or (words_in text) []
+
+-- where the bad word stands
+abbrev pub bad_place : Result (List ℕ) WordsFault → ℕ
+bad_place (Err (NotNumber at)) = at
+bad_place (Err (TooLarge at)) = at
+bad_place _ = 0
+
+-- what is wrong with the bad word
+abbrev pub bad_cause : Result (List ℕ) WordsFault → WordCause
+bad_cause (Err (TooLarge at)) = cause.TooLarge
+bad_cause _ = cause.NotNumber
+
+-- some word of the text is bad
+unfoldable pub bad_words : Option ℕ → List ℕ → Check
+bad_words session text = is_err (words_in text) answers BadWords session (bad_place (words_in text)) (bad_cause (words_in text))
+
+-- the place of the first word that isn't below q
+unfoldable pub first_outside : ℕ → List ℕ → ℕ
+first_outside q words = position_or_len (λ word. not (nat_lt word q)) words
+
+-- some word isn't in the ring of so many bits
+unfoldable pub out_of_ring : ℕ → Option ℕ → List ℕ → Check
+out_of_ring bits session words = nat_lt (first_outside (2 ^ bits) words) (length words) answers WordOutOfRing session (first_outside (2 ^ bits) words)
+
+-- ---- inputs
+
+-- the inputs of a session in which so many words are wanted
+unfoldable pub session_checks : ℕ → ℕ → ℕ → List ℕ → List Check
+session_checks bits wanted s text =
+    bad_words (Some s) text
+    ∷ out_of_ring bits (Some s) (numbers_in text)
+    ∷ (not (length (numbers_in text) == wanted) answers CountDiffers (Some s) wanted (length (numbers_in text)))
+    ∷ []
+
+-- the inputs of party p, session by session
+unfoldable pub input_checks : Plan → ℕ → List (List ℕ) → List Check
+input_checks plan p texts = joined (length plan.sessions) (λ s. session_checks plan.bits (owned (session plan s) p) s (slice_index_or texts s []))
+
+-- ---- tape or seed
+
+-- how many words party p draws in each session
+unfoldable pub word_counts : Plan → ℕ → List ℕ
+word_counts plan p = listed (length plan.sessions) (words plan p)
+
+-- a tape of which so many words are drawn
+unfoldable pub tape_checks : ℕ → ℕ → List ℕ → List Check
+tape_checks bits wanted text =
+    bad_words None text
+    ∷ out_of_ring bits None (numbers_in text)
+    ∷ (nat_lt (length (numbers_in text)) wanted answers TapeShort wanted (length (numbers_in text)))
+    ∷ []
+
+-- 64 hexadecimal digits
+unfoldable pub seed_checks : List ℕ → List Check
+seed_checks text = (is_err (decode_sized text 32) answers BadSeed) ∷ []
+
+-- the bytes of a seed; none, where it is bad
+unfoldable pub seed_in : List ℕ → List ℕ
+seed_in text = result_unwrap_or (decode_sized text 32) []
+
+-- the tape or the seed, whichever stands there
+unfoldable pub random_checks : Plan → ℕ → Members → List Check
+random_checks plan p fields =
+    if has_field (codes "seed") fields then seed_checks (text_at (codes "seed") fields)
+    else tape_checks plan.bits (sum (word_counts plan p)) (text_at (codes "tape") fields)
+
+-- a tape is cut session by session, and a seed has a stream for each session
+unfoldable pub tapes_of : Plan → ℕ → Members → List (List ℕ)
+tapes_of plan p fields =
+    if has_field (codes "seed") fields
+    then listed (length plan.sessions) (λ s. listed (words plan p s) (seed_word (2 ^ plan.bits) (seed_in (text_at (codes "seed") fields)) s))
+    else cut (word_counts plan p) (numbers_in (text_at (codes "tape") fields))
+
+-- ---- the file
+
+-- what a party's file gives, by session
+pub record PartyForm : Type 0 where
+  pub inputs : List (List ℕ)
+  pub tapes : List (List ℕ)
+
+unfoldable pub party_of : Plan → ℕ → Members → PartyForm
+party_of plan p fields = record { inputs = map numbers_in (texts_at (codes "inputs") fields); tapes = tapes_of plan p fields }
+
+-- all checks, in order
+unfoldable pub party_checks : Plan → ℕ → Members → List Check
+party_checks plan p fields =
+    version_checks fields ++ (name_checks fields ++ (kind_checks fields ++ (count_checks (length plan.sessions) fields
+    ++ (input_checks plan p (texts_at (codes "inputs") fields) ++ random_checks plan p fields))))
+
+-- what the fields stand for, or their first fault
+abbrev pub party_in_fields : Plan → ℕ → Option Members → Result PartyForm PartyFault
+party_in_fields plan p None = Err NotToml
+party_in_fields plan p (Some fields) = or_fault (first_fault (party_checks plan p fields)) (party_of plan p fields)
+
+-- what the bytes of the file of party p stand for, or their first fault
+unfoldable pub party_in : Plan → ℕ → List ℕ → Result PartyForm PartyFault
+party_in plan p bytes = party_in_fields plan p (document_of bytes)

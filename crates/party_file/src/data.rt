@@ -1,0 +1,10 @@
+//! What a party's file gives.
+use tape_words::Tape;
+
+/// What a party's file gives, by session: the words of the party's input wires in the order of the wires, and the
+/// tape of as many words as the party draws.
+#[derive(Drop)]
+pub struct PartyData {
+    pub inputs: Vec<Vec<u64>>,
+    pub tapes: Vec<Tape>,
+}

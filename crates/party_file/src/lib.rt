@@ -1,0 +1,19 @@
+//! The file of a party: the inputs that it gives, and the random words that it draws, session by session.
+#![tactic(auto)]
+
+mod data;
+mod fault;
+mod field;
+mod fields;
+mod inputs;
+mod numbers;
+mod party;
+mod tapes;
+
+pub use data::PartyData;
+pub use fault::{PartyFault, WordCause};
+pub use field::Field;
+pub use party::read_party;
+
+#[cfg(test)]
+mod tests;
