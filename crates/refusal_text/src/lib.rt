@@ -1,0 +1,19 @@
+//! The line of each refusal.
+#![tactic(auto)]
+
+mod circuit;
+mod job;
+mod line;
+mod masked;
+mod party;
+mod plan;
+mod session;
+mod structure;
+
+pub use circuit::circuit_line;
+pub use job::job_line;
+pub use line::too_long_line;
+pub use party::party_line;
+pub use plan::plan_line;
+pub use session::session_line;
+pub use structure::{covering_line, formula_line, groups_line};

@@ -1,0 +1,28 @@
+-- Texts of words, of groups, and the parts of the line of a refusal.
+use Rattle.std.specs.Prelude.{ℕ, ◌^◌, ◌%◌, nat_eq, not, if◌then◌else◌, List, [], ◌∷◌, ◌++◌, length, Option, None, Some, slice_index, slice_index_or, codes, decimal}
+use Rattle.mpc_ring.specs.Sums.{joined, only_if}
+use Rattle.party_set.specs.Parties.{has_party}
+
+-- words, each after a space
+abbrev pub words_text : List ℕ → List ℕ
+words_text words = joined (length words) (λ i. codes " " ++ decimal (slice_index words i))
+
+-- a party's name, if it is in the group; after a `+` where a lower party is in it
+abbrev pub member_text : List (List ℕ) → ℕ → ℕ → List ℕ
+member_text names mask p = only_if (has_party mask p) (only_if (not (nat_eq (mask % 2 ^ p) 0)) (codes "+") ++ slice_index_or names p [])
+
+-- the names of the group's members, in order and joined by `+`, or `0` for the empty group
+abbrev pub group_text : List (List ℕ) → ℕ → List ℕ
+group_text names mask = if nat_eq mask 0 then codes "0" else joined (length names) (member_text names mask)
+
+-- the part that refuses, and the number and the name of its fault
+abbrev pub refusal_head : List ℕ → ℕ → List ℕ → List ℕ
+refusal_head part number name = codes "refused " ++ (part ++ (codes " " ++ (decimal number ++ (codes " " ++ name))))
+
+abbrev pub key_head : List ℕ → List ℕ
+key_head key = codes " " ++ (key ++ codes "=")
+
+-- a key and what it tells, if it tells anything
+abbrev pub key_text : List ℕ → Option (List ℕ) → List ℕ
+key_text key None = []
+key_text key (Some value) = key_head key ++ value

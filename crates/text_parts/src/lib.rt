@@ -1,0 +1,11 @@
+//! Parts of texts: numbers, words, groups of parties, and the parts of the line of a refusal.
+#![tactic(auto)]
+
+mod parts;
+mod refusal;
+
+pub use parts::{push_group, push_number, push_text, push_words};
+pub use refusal::{push_head, push_number_key, push_signed_key, push_text_key};
+
+#[cfg(test)]
+mod tests;

@@ -1,0 +1,74 @@
+//! Numbers, words and groups, written at the end of a text.
+ghost use Rattle.std.specs.Prelude.{◌≡◌, ◌<◌, ◌++◌, OnOk, codes, decimal, length};
+ghost use Rattle.mpc_ring.specs.Sums.{only_if};
+ghost use Rattle.text_parts.specs.Parts.{words_text, group_text, member_text};
+
+use itoa::Buffer;
+use party_set::{Group, Names};
+use std::alloc::AllocError;
+
+/// Adds these bytes.
+pub fn push_text(text: &mut Vec<u8>, piece: &[u8]) -> Result<(), AllocError>
+    ensures { OnOk result (text.new.items ≡ text.old.items ++ piece.now) }
+{
+    text.extend_from_slice(piece)
+}
+
+/// Adds the digits of a number.
+pub fn push_number(text: &mut Vec<u8>, number: u64) -> Result<(), AllocError>
+    ensures { OnOk result (text.new.items ≡ text.old.items ++ decimal number) }
+{
+    text.extend_from_slice(Buffer::new().format(number).as_bytes())
+}
+
+/// Adds words, each after a space.
+pub fn push_words(text: &mut Vec<u8>, words: &[u64]) -> Result<(), AllocError>
+    ensures { OnOk result (text.new.items ≡ text.old.items ++ words_text words.now) }
+{
+    for word in words {
+        push_text(text, b" ")?;
+        push_number(text, *word)?;
+    }
+    Ok(())
+}
+
+/// Adds the names of a group's members, in order and joined by `+`, or `0` for the empty group.
+pub fn push_group(text: &mut Vec<u8>, group: Group, names: &Names) -> Result<(), AllocError>
+    requires { group.parties ≡ length names.now }
+    ensures { OnOk result (text.new.items ≡ text.old.items ++ group_text names.now group.mask) }
+{
+    if group.mask() == 0 {
+        return push_text(text, b"0");
+    }
+    for party in 0..names.len() {
+        push_member(text, group, names, party)?;
+    }
+    Ok(())
+}
+
+// Adds the name of a party, if it is a member, after a `+` where a lower party is one.
+fn push_member(
+    text: &mut Vec<u8>,
+    group: Group,
+    names: &Names,
+    party: u32,
+) -> Result<(), AllocError>
+    requires parties { group.parties ≡ length names.now }
+    requires party { party < length names.now }
+    ensures { OnOk result (text.new.items ≡ text.old.items ++ member_text names.now group.mask party) }
+{
+    if !group.has(party) {
+        return Ok(());
+    }
+    push_plus(text, group.mask() % (1 << party) != 0)?;
+    push_text(text, names.name(party).as_bytes())
+}
+
+fn push_plus(text: &mut Vec<u8>, wanted: bool) -> Result<(), AllocError>
+    ensures { OnOk result (text.new.items ≡ text.old.items ++ only_if wanted (codes "+")) }
+{
+    if wanted {
+        push_text(text, b"+")?;
+    }
+    Ok(())
+}
