@@ -1,9 +1,6 @@
-pub mod Answering
-pub mod Documents
-pub mod FileVerdicts
-pub mod Lines
-pub mod Parted
-pub mod Products
-pub mod Steps
-pub mod TomlCounts
-pub mod TomlLists
+mod Answering
+mod FileEnds
+mod Jobs
+mod Looping
+mod Renaming
+mod Steps

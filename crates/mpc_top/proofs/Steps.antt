@@ -1,62 +1,101 @@
--- How steps that read files follow each other.
-use Rattle.std.proofs.Common.{◌≡◌, ℕ, ◌≤◌, List, Option, None, Some, Result, Ok, Err, Vec, refl, arith, ap, ◌∙◌, sym, subst}
-use Rattle.std.specs.Prelude.{IfSome, IfOk, IfErr, IsErrAnd, IsTrue}
-use Rattle.std.specs.Option.{option_map}
-use Rattle.std.proofs.lemmas.Result.{err_from_is_err_and}
+-- How the steps of the walk follow each other.
+use Rattle.std.proofs.Common.{◌≡◌, ℕ, ◌≤◌, ◌<◌, List, length, Option, None, Some, Result, Ok, Err, Vec, refl, arith, ap, ◌∙◌, sym, subst, inl, inr}
+use Rattle.std.specs.Prelude.{IfSome, IfOk, IfErr, IsErrAnd, IsTrue, MatchResult}
 use Rattle.std.specs.declared.alloc.Global.{Global}
+use Rattle.std.specs.declared.alloc.AllocError.{AllocError}
+use Rattle.std.proofs.lemmas.Result.{err_from_is_err_and}
 use Rattle.outer_io.specs.Count.{Rose}
 use Rattle.outer_io.specs.Files.{FilesReading, Told}
-use Rattle.mpc_top.specs.declared.stop.FileName.{FileName}
-use Rattle.mpc_top.specs.declared.stop.Refusal.TheVariants.{NotYet}
 use Rattle.mpc_top.specs.declared.stop.Stop.{Stop}
-use Rattle.mpc_top.specs.declared.stop.Stop.TheVariants.{Memory, Words, Out, Files, Refused}
-use Rattle.mpc_top.specs.Names.{name_text}
-use Rattle.mpc_top.specs.Texts.{not_yet_line}
-use Rattle.mpc_top.specs.Verdict.{Verdict, accepted, missing, refused, and_then, or_refused}
-use Rattle.mpc_top.specs.Stops.{line_of}
-use Rattle.mpc_top.specs.JobOf.{Contents, file_at, form_at}
-use Rattle.mpc_top.specs.Reading.{ReadsAs, StopsAt, Meets}
+use Rattle.mpc_top.specs.declared.stop.Stop.TheVariants.{Memory, Words, Out, Files, Refused, Covering}
+use Rattle.mpc_top.specs.Verdict.{Verdict, accepted, missing, refused, Ends, Then}
+use Rattle.mpc_top.specs.JobOf.{Contents}
+use Rattle.mpc_top.specs.Reading.{ReadsAs, StopsAt, Meets, WalksAs, StopsBy}
 
 le_trans : {a b c : ℕ} → a ≤ b → b ≤ c → a ≤ c
 le_trans {a} {b} {c} p q = omega arith
 
-module _ {A B : Type 0} (v : Contents → Verdict A) (f : Contents → A → Verdict B) where
-  accepted_then : (told : Told) (a : A) (b : Verdict B) → IfSome told (λ m. v m ≡ accepted a) → IfSome told (λ m. f m a ≡ b)
-      → IfSome told (λ m. and_then (v m) (f m) ≡ b)
-  accepted_then None a b is then = tt
-  accepted_then (Some m) a b is then = ap (λ w. and_then w (f m)) is ∙ then
+-- ---- walks
 
-  missing_then : (told : Told) (name : List ℕ) → IfSome told (λ m. v m ≡ missing name) → IfSome told (λ m. and_then (v m) (f m) ≡ missing name)
-  missing_then None name is = tt
-  missing_then (Some m) name is = ap (λ w. and_then w (f m)) is
+module _ {A B : Type 0} (first : Verdict A → Type 0) (next : A → Verdict B → Type 0) where
+  -- what the first accepted goes on
+  then_goes_on : (a : A) (end : Verdict B) → first (accepted a) → next a end → Then first next end
+  unfolding Then
+  then_goes_on a (accepted b) is then = (a, is, then)
+  then_goes_on a (missing name) is then = inr (a, is, then)
+  then_goes_on a (refused status line) is then = inr (a, is, then)
 
-  refused_then : (told : Told) (status : ℕ) (line : List ℕ) → IfSome told (λ m. v m ≡ refused status line) → IfSome told (λ m. and_then (v m) (f m) ≡ refused status line)
-  refused_then None status line is = tt
-  refused_then (Some m) status line is = ap (λ w. and_then w (f m)) is
+  walk_stops_first : (stop : Stop) → StopsBy first stop → StopsBy (Then first next) stop
+  unfolding Then
+  walk_stops_first Memory cause = tt
+  walk_stops_first Words cause = cause
+  walk_stops_first Out cause = cause
+  walk_stops_first (Files name) cause = cause
+  walk_stops_first (Refused line) cause = inl cause
+  walk_stops_first (Covering line) cause = inl cause
 
-  stops_first : (before after : FilesReading) (stop : Stop) → StopsAt v before after stop → StopsAt (λ m. and_then (v m) (f m)) before after stop
+  walk_stops_later : (a : A) (stop : Stop) → first (accepted a) → StopsBy (next a) stop → StopsBy (Then first next) stop
+  unfolding Then
+  walk_stops_later a Memory is cause = tt
+  walk_stops_later a Words is cause = cause
+  walk_stops_later a Out is cause = cause
+  walk_stops_later a (Files name) is cause = cause
+  walk_stops_later a (Refused line) is cause = inr (a, is, cause)
+  walk_stops_later a (Covering line) is cause = inr (a, is, cause)
+
+  module _ {C D : Type 0} (seen : C → A) (seen' : D → B) where
+    -- a step that stops stops the whole, at the exit of a `?`
+    pub walks_exit : (stop : Stop) (result : Result D Stop) → IsErrAnd result (λ e. e ≡ stop) → WalksAs seen first (Err stop) → WalksAs seen' (Then first next) result
+    walks_exit stop result is w = let p = err_from_is_err_and result is in rw (p.1, p.2) (record { ok = tt; stop = walk_stops_first stop w.stop })
+
+    -- what follows a step that accepted decides for the whole
+    pub walks_then : (c : C) (result : Result D Stop) → WalksAs seen first (Ok c) → WalksAs seen' (next (seen c)) result → WalksAs seen' (Then first next) result
+    walks_then c (Ok d) w v = record { ok = then_goes_on (seen c) (accepted (seen' d)) w.ok v.ok; stop = tt }
+    walks_then c (Err stop) w v = record { ok = tt; stop = walk_stops_later (seen c) stop w.ok v.stop }
+
+-- ---- walks through files
+
+module _ {A B : Type 0} (v : Contents → Verdict A → Type 0) (f : Contents → A → Verdict B → Type 0) where
+  goes_on : (told : Told) (a : A) (end : Verdict B) → IfSome told (λ m. v m (accepted a)) → IfSome told (λ m. f m a end) → IfSome told (λ m. Then (v m) (f m) end)
+  goes_on None a end is then = tt
+  goes_on (Some m) a end is then = then_goes_on (v m) (f m) a end is then
+
+  missing_first : (told : Told) (name : List ℕ) → IfSome told (λ m. v m (missing name)) → IfSome told (λ m. Then (v m) (f m) (missing name))
+  unfolding Then
+  missing_first None name is = tt
+  missing_first (Some m) name is = inl is
+
+  refused_first : (told : Told) (status : ℕ) (line : List ℕ) → IfSome told (λ m. v m (refused status line)) → IfSome told (λ m. Then (v m) (f m) (refused status line))
+  unfolding Then
+  refused_first None status line is = tt
+  refused_first (Some m) status line is = inl is
+
+  stops_first : (before after : FilesReading) (stop : Stop) → StopsAt v before after stop → StopsAt (λ m. Then (v m) (f m)) before after stop
   stops_first before after Memory cause = cause
   stops_first before after Words cause = cause
   stops_first before after Out cause = cause
-  stops_first before after (Files name) cause = (cause.0, λ steady. missing_then before.told (name_text name) (cause.1 steady))
-  stops_first before after (Refused refusal) cause = (cause.0, refused_then before.told 3 (line_of refusal) cause.1)
+  stops_first before after (Files name) cause = (cause.0, λ steady. missing_first before.told name.items (cause.1 steady))
+  stops_first before after (Refused line) cause = (cause.0, refused_first before.told 3 line.items cause.1)
+  stops_first before after (Covering line) cause = (cause.0, refused_first before.told 4 line.items cause.1)
 
   stops_later : (before mid after : FilesReading) (a : A) (stop : Stop)
       → Meets v before mid (accepted a) → mid.told ≡ before.told → (IsTrue before.steady → IsTrue mid.steady) → mid.faults ≡ before.faults
-      → StopsAt (λ m. f m a) mid after stop → StopsAt (λ m. and_then (v m) (f m)) before after stop
+      → StopsAt (λ m. f m a) mid after stop → StopsAt (λ m. Then (v m) (f m)) before after stop
   stops_later before mid after a Memory is same keeps quiet cause = cause ∙ quiet
   stops_later before mid after a Words is same keeps quiet cause = cause
   stops_later before mid after a Out is same keeps quiet cause = cause
   stops_later before mid after a (Files name) is same keeps quiet cause = (
     subst (λ n. Rose n after.faults) quiet cause.0,
-    λ steady. accepted_then before.told a _ is (subst (λ told. IfSome told (λ m. f m a ≡ missing (name_text name))) same (cause.1 (keeps steady))),
+    λ steady. goes_on before.told a (missing name.items) is (subst (λ told. IfSome told (λ m. f m a (missing name.items))) same (cause.1 (keeps steady))),
   )
-  stops_later before mid after a (Refused refusal) is same keeps quiet cause =
-      (cause.0 ∙ quiet, accepted_then before.told a _ is (subst (λ told. IfSome told (λ m. f m a ≡ refused 3 (line_of refusal))) same cause.1))
+  stops_later before mid after a (Refused line) is same keeps quiet cause =
+      (cause.0 ∙ quiet, goes_on before.told a (refused 3 line.items) is (subst (λ told. IfSome told (λ m. f m a (refused 3 line.items))) same cause.1))
+  stops_later before mid after a (Covering line) is same keeps quiet cause =
+      (cause.0 ∙ quiet, goes_on before.told a (refused 4 line.items) is (subst (λ told. IfSome told (λ m. f m a (refused 4 line.items))) same cause.1))
 
   module _ {C D : Type 0} (seen : C → A) (seen' : D → B) where
     -- a step that stops stops the whole
-    pub reads_stop : (before after : FilesReading) (stop : Stop) → ReadsAs seen v before after (Err stop) → ReadsAs seen' (λ m. and_then (v m) (f m)) before after (Err stop)
+    pub reads_stop : (before after : FilesReading) (stop : Stop) → ReadsAs seen v before after (Err stop) → ReadsAs seen' (λ m. Then (v m) (f m)) before after (Err stop)
     reads_stop before after stop r = record {
       ok = tt;
       quiet = tt;
@@ -68,14 +107,14 @@ module _ {A B : Type 0} (v : Contents → Verdict A) (f : Contents → A → Ver
 
     -- the same at the exit of a `?`
     pub reads_exit : (before after : FilesReading) (stop : Stop) (result : Result D Stop) → IsErrAnd result (λ e. e ≡ stop)
-        → ReadsAs seen v before after (Err stop) → ReadsAs seen' (λ m. and_then (v m) (f m)) before after result
+        → ReadsAs seen v before after (Err stop) → ReadsAs seen' (λ m. Then (v m) (f m)) before after result
     reads_exit before after stop result is r = let p = err_from_is_err_and result is in rw (p.1, p.2) (reads_stop before after stop r)
 
     -- what follows a step that accepted decides for the whole
     pub reads_then : (before mid after : FilesReading) (c : C) (result : Result D Stop) → ReadsAs seen v before mid (Ok c)
-        → ReadsAs seen' (λ m. f m (seen c)) mid after result → ReadsAs seen' (λ m. and_then (v m) (f m)) before after result
+        → ReadsAs seen' (λ m. f m (seen c)) mid after result → ReadsAs seen' (λ m. Then (v m) (f m)) before after result
     reads_then before mid after c (Ok d) r s = record {
-      ok = accepted_then before.told (seen c) _ r.ok (subst (λ told. IfSome told (λ m. f m (seen c) ≡ accepted (seen' d))) r.same_told s.ok);
+      ok = goes_on before.told (seen c) (accepted (seen' d)) r.ok (subst (λ told. IfSome told (λ m. f m (seen c) (accepted (seen' d)))) r.same_told s.ok);
       quiet = s.quiet ∙ r.quiet;
       stop = tt;
       same_told = s.same_told ∙ r.same_told;
@@ -91,67 +130,79 @@ module _ {A B : Type 0} (v : Contents → Verdict A) (f : Contents → A → Ver
       keeps_steady = λ steady. s.keeps_steady (r.keeps_steady steady);
     }
 
-pub option_map_same : {A : Type 0} (o : Option A) → option_map (λ a. a) o ≡ o
-option_map_same None = refl
-option_map_same (Some a) = refl
+-- ---- steps that read nothing
 
-same_verdict : {A : Type 0} (told : Told) (b : Verdict A) → IfSome told (λ m. b ≡ b)
-same_verdict None b = tt
-same_verdict (Some m) b = refl
+any_told : {P : Contents → Type 0} (told : Told) → ((m : Contents) → P m) → IfSome told P
+any_told None all = tt
+any_told (Some m) all = all m
 
--- no step at all
-pub reads_nothing : {A C : Type 0} (seen : C → A) (now : FilesReading) (c : C) → ReadsAs seen (λ m. accepted (seen c)) now now (Ok c)
-reads_nothing seen now c = record {
-  ok = same_verdict now.told (accepted (seen c));
-  quiet = refl;
-  stop = tt;
-  same_told = refl;
-  faults_grow = omega arith;
-  keeps_steady = λ steady. steady;
-}
+module _ {A C : Type 0} (seen : C → A) where
+  walk_stop : (walk : Verdict A → Type 0) (now : FilesReading) (stop : Stop) → StopsBy walk stop → StopsAt (λ m. walk) now now stop
+  walk_stop walk now Memory cause = refl
+  walk_stop walk now Words cause = cause
+  walk_stop walk now Out cause = cause
+  walk_stop walk now (Files name) cause = absurd cause
+  walk_stop walk now (Refused line) cause = (refl, any_told now.told (λ m. cause))
+  walk_stop walk now (Covering line) cause = (refl, any_told now.told (λ m. cause))
 
--- memory was wanting after a step
-pub reads_memory : {A B C D : Type 0} (seen : C → A) (seen' : D → B) (v : Contents → Verdict A) (v' : Contents → Verdict B) (before after : FilesReading) (c : C) (result : Result D Stop)
-    → IsErrAnd result (λ e. e ≡ Memory) → ReadsAs seen v before after (Ok c) → ReadsAs seen' v' before after result
-reads_memory {A} {B} {C} {D} seen seen' v v' before after c result is r =
-    let whole : ReadsAs seen' v' before after (Err Memory) = record { ok = tt; quiet = tt; stop = r.quiet; same_told = r.same_told; faults_grow = r.faults_grow; keeps_steady = r.keeps_steady } in
-    let p = err_from_is_err_and result is in rw (p.1, p.2) whole
-
-module _ {A C : Type 0} (seen : C → A) (form : List ℕ → Option A) (dir : List ℕ) (name : FileName) where
-  taken_reads : (now : FilesReading) (found : Option C) (a : Option A) (result : Result C Stop) → option_map seen found ≡ a → IfOk result (λ c. found ≡ Some c)
-      → IfErr result (λ stop. (found ≡ None) × (stop ≡ Refused (NotYet name))) → ReadsAs seen (λ m. or_refused a 3 (not_yet_line (name_text name))) now now result
-  taken_reads now found a (Ok c) gives is none = record {
-    ok = let e : a ≡ Some (seen c) = sym gives ∙ ap (option_map seen) is in rw e (same_verdict now.told (accepted (seen c)));
+  -- a step that reads no file
+  pub reads_walk : (walk : Verdict A → Type 0) (now : FilesReading) (result : Result C Stop) → WalksAs seen walk result → ReadsAs seen (λ m. walk) now now result
+  reads_walk walk now (Ok c) w = record {
+    ok = any_told now.told (λ m. w.ok);
     quiet = refl;
     stop = tt;
     same_told = refl;
     faults_grow = omega arith;
     keeps_steady = λ steady. steady;
   }
-  taken_reads now found a (Err stop) gives is none =
-      let e : a ≡ None = sym gives ∙ ap (option_map seen) none.0 in
-      rw none.1 (record {
-        ok = tt;
-        quiet = tt;
-        stop = (refl, rw e (same_verdict now.told (refused 3 (not_yet_line (name_text name)))));
-        same_told = refl;
-        faults_grow = omega arith;
-        keeps_steady = λ steady. steady;
-      })
+  reads_walk walk now (Err stop) w = record {
+    ok = tt;
+    quiet = tt;
+    stop = walk_stop walk now stop w.stop;
+    same_told = refl;
+    faults_grow = omega arith;
+    keeps_steady = λ steady. steady;
+  }
 
-  -- the form of a file that was read
-  pub reads_form : (before after : FilesReading) (bytes : Vec ℕ Global) (items : List ℕ) (found : Option C) (result : Result C Stop)
-      → ReadsAs (λ (b : Vec ℕ Global). b.items) (λ m. file_at m dir name) before after (Ok bytes) → items ≡ bytes.items → option_map seen found ≡ form items
-      → IfOk result (λ c. found ≡ Some c) → IfErr result (λ stop. (found ≡ None) × (stop ≡ Refused (NotYet name)))
-      → ReadsAs seen (λ m. form_at m dir name form) before after result
-  unfolding form_at
-  reads_form before after bytes items found result r same gives ok err =
-      reads_then (λ m. file_at m dir name) (λ m b. or_refused (form b) 3 (not_yet_line (name_text name))) (λ (b : Vec ℕ Global). b.items) seen before after after bytes result r
-      (taken_reads after found (form bytes.items) result (gives ∙ ap form same) ok err)
+  -- memory was wanting, whatever the walk
+  pub reads_memory : (walk : Contents → Verdict A → Type 0) (now : FilesReading) (result : Result C Stop) → IsErrAnd result (λ stop. stop ≡ Memory) → ReadsAs seen walk now now result
+  reads_memory walk now result is = let p = err_from_is_err_and result is in rw (p.1, p.2) (record {
+    ok = tt;
+    quiet = tt;
+    stop = refl;
+    same_told = refl;
+    faults_grow = omega arith;
+    keeps_steady = λ steady. steady;
+  })
 
-  -- the exit of a `?` after the file
-  pub form_exit : (before after : FilesReading) (stop : Stop) (result : Result C Stop) → IsErrAnd result (λ e. e ≡ stop)
-      → ReadsAs (λ (b : Vec ℕ Global). b.items) (λ m. file_at m dir name) before after (Err stop) → ReadsAs seen (λ m. form_at m dir name form) before after result
-  unfolding form_at
-  form_exit before after stop result is r =
-      reads_exit (λ m. file_at m dir name) (λ m b. or_refused (form b) 3 (not_yet_line (name_text name))) (λ (b : Vec ℕ Global). b.items) seen before after stop result is r
+  pub walks_memory : (walk : Verdict A → Type 0) (result : Result C Stop) → IsErrAnd result (λ stop. stop ≡ Memory) → WalksAs seen walk result
+  walks_memory walk result is = let p = err_from_is_err_and result is in rw (p.1, p.2) (record { ok = tt; stop = tt })
+
+-- a value that is known
+pub walks_end : {A : Type 0} (verdict : Verdict A) (a : A) → verdict ≡ accepted a → WalksAs (λ (c : A). c) (Ends verdict) (Ok a)
+walks_end verdict a is = record { ok = sym is; stop = tt }
+
+-- ---- refusals with a line
+
+module _ (line : Result (Vec ℕ Global) AllocError) (stop : Stop) (text : List ℕ) (made : MatchResult line (λ l. stop ≡ Refused l) (λ e. stop ≡ Memory)) (written : IfOk line (λ l. l.items ≡ text)) where
+  -- the line of a refusal of a walk
+  pub refusal_walks : {A : Type 0} (walk : Verdict A → Type 0) → walk (refused 3 text) → StopsBy walk stop
+  refusal_walks walk is = line_walks line made written where
+    line_walks : (line : Result (Vec ℕ Global) AllocError) → MatchResult line (λ l. stop ≡ Refused l) (λ e. stop ≡ Memory) → IfOk line (λ l. l.items ≡ text) → StopsBy walk stop
+    line_walks (Ok l) made written = subst (StopsBy walk) (sym made) (subst (λ t. walk (refused 3 t)) (sym written) is)
+    line_walks (Err e) made written = subst (StopsBy walk) (sym made) tt
+
+  -- and of a walk through files
+  pub refusal_stops : {A : Type 0} (walk : Contents → Verdict A → Type 0) (before after : FilesReading) → after.faults ≡ before.faults → Meets walk before after (refused 3 text) → StopsAt walk before after stop
+  refusal_stops walk before after quiet is = line_stops line made written where
+    line_stops : (line : Result (Vec ℕ Global) AllocError) → MatchResult line (λ l. stop ≡ Refused l) (λ e. stop ≡ Memory) → IfOk line (λ l. l.items ≡ text) → StopsAt walk before after stop
+    line_stops (Ok l) made written = subst (StopsAt walk before after) (sym made) (quiet, subst (λ t. Meets walk before after (refused 3 t)) (sym written) is)
+    line_stops (Err e) made written = subst (StopsAt walk before after) (sym made) quiet
+
+-- nothing is left to read
+pub reads_end : {A C : Type 0} (seen : C → A) (now : FilesReading) (c : C) → ReadsAs seen (λ m. Ends (accepted (seen c))) now now (Ok c)
+reads_end seen now c = reads_walk seen (Ends (accepted (seen c))) now (Ok c) (record { ok = refl; stop = tt })
+
+-- a text that is known
+pub reads_text : (now : FilesReading) (text : Vec ℕ Global) (wanted : List ℕ) → text.items ≡ wanted → ReadsAs (λ (t : Vec ℕ Global). t.items) (λ m. Ends (accepted wanted)) now now (Ok text)
+reads_text now text wanted is = reads_walk (λ (t : Vec ℕ Global). t.items) (Ends (accepted wanted)) now (Ok text) (record { ok = ap accepted is; stop = tt })

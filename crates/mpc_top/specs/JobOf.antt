@@ -1,17 +1,38 @@
 -- The job that files stand for, where they tell what they hold: one walk, in which each file is judged before the next is read.
-use Rattle.std.specs.Prelude.{ℕ, nat_le, if◌then◌else◌, List, [], ◌∷◌, length, take, Option, None, Some, codes}
-use Rattle.mpc_top.specs.declared.stop.FileName.{FileName}
-use Rattle.mpc_top.specs.declared.stop.FileName.TheVariants as file
-use Rattle.mpc_top.specs.Names.{name_text, path_of}
-use Rattle.mpc_top.specs.Texts.{not_yet_line, too_long_line}
-use Rattle.mpc_top.specs.Verdict.{Verdict, accepted, missing, refused, and_then, or_refused}
-use Rattle.mpc_top.specs.Forms.{Hand, job_form, circuit_form, party_form}
-use Rattle.job_plan.specs.Multiply.{multiply_plan}
+use Rattle.std.specs.Prelude.{◌≡◌, ℕ, nat_le, if◌then◌else◌, false, List, [], ◌∷◌, ◌++◌, length, map, Option, None, Some, Result, Ok, Err, slice_index}
+use Rattle.party_set.specs.Parties.{Structure, Members, IsQ2}
+use Rattle.group_formula.specs.Trees.{Meaning}
+use Rattle.group_formula.specs.Formulas.{IsFormula, IsFault}
+use Rattle.group_formula.specs.declared.fault.FormulaFault.{FormulaFault}
+use Rattle.group_formula.specs.Trees.{is_tolerated}
+use Rattle.maximal_groups.specs.Families.{maximal_structure}
+use Rattle.q2_test.specs.Covering.{IsFirstCovering}
+use Rattle.circuit_model.specs.Netlists.{Netlist}
+use Rattle.circuit_file.specs.declared.layout.FileLayout.{FileLayout}
+use Rattle.circuit_file.specs.declared.layout.FileLayout.TheVariants as file
+use Rattle.circuit_file.specs.CircuitFiles.{circuit_in}
+use Rattle.job_plan.specs.Plans.{Plan, Session, plan_of}
+use Rattle.job_plan.specs.Limits.{IsWithin, IsRefusal}
+use Rattle.job_plan.specs.Parts.{part_fault, session_of}
+use Rattle.plan_faults.specs.declared.part_fault.PartFault.{PartFault}
+use Rattle.plan_faults.specs.declared.plan_fault.PlanFault.{PlanFault}
+use Rattle.plan_faults.specs.declared.plan_fault.PlanFault.TheVariants as plan_fault
+use Rattle.job_file.specs.Forms.{JobForm, SessionForm}
+use Rattle.job_file.specs.Faults.{job_in}
+use Rattle.job_file.specs.declared.job.CircuitLayout.{CircuitLayout}
+use Rattle.job_file.specs.declared.job.CircuitLayout.TheVariants as layout
+use Rattle.party_file.specs.Table.{PartyForm, party_in}
 use Rattle.share_world.specs.Worlds.{World}
+use Rattle.job_run.specs.Hands.{world_of}
+use Rattle.refusal_text.specs.Lines.{too_long_line, job_line, formula_line, groups_line, covering_line, circuit_line, session_line, plan_line, party_line}
+use Rattle.mpc_top.specs.Names as names
+use Rattle.mpc_top.specs.Verdict.{Verdict, accepted, missing, refused, Ends, Then, verdict_of, unless}
 
 -- what files hold: for each path its bytes, or none where no file is there
 abbrev pub Contents : Type 0
 Contents = List ℕ → Option (List ℕ)
+
+-- ---- a file
 
 -- the most bytes that a file may have
 abbrev pub file_limit : ℕ
@@ -22,39 +43,109 @@ unfoldable pub bytes_of : Option (List ℕ) → List ℕ → Verdict (List ℕ)
 bytes_of None name = missing name
 bytes_of (Some bytes) name = if nat_le (length bytes) file_limit then accepted bytes else refused 3 (too_long_line name)
 
-unfoldable pub file_at : Contents → List ℕ → FileName → Verdict (List ℕ)
-file_at files dir name = bytes_of (files (path_of dir (name_text name))) (name_text name)
+unfoldable pub file_at : Contents → List ℕ → List ℕ → Verdict (List ℕ)
+file_at files dir name = bytes_of (files (names.path_of dir name)) name
 
--- what a file of the folder stands for: it has the one form that is taken so far, or is refused
-unfoldable pub form_at : {A : Type 0} → Contents → List ℕ → FileName → (List ℕ → Option A) → Verdict A
-form_at files dir name form = and_then (file_at files dir name) (λ bytes. or_refused (form bytes) 3 (not_yet_line (name_text name)))
+-- ---- the job's file
+
+unfoldable pub JobText : Contents → List ℕ → Verdict JobForm → Type 0
+JobText files dir = Then (Ends (file_at files dir names.job_file)) (λ bytes. Ends (verdict_of job_line (job_in false bytes)))
+
+-- ---- the structure
+
+-- the formula of the qualified groups
+unfoldable pub FormulaOf : JobForm → Verdict Meaning → Type 0
+FormulaOf job (accepted formula) = IsFormula job.formula job.names formula
+FormulaOf job (missing name) = ⊥
+FormulaOf job (refused status line) = (fault : FormulaFault) × IsFault job.formula job.names fault × (status ≡ 3) × (line ≡ formula_line fault)
+
+-- at most 64 maximal tolerated groups
+unfoldable pub few_groups : Structure → Verdict Structure
+few_groups s = if nat_le (length s.groups) 64 then accepted s else refused 3 (groups_line 65)
+
+-- the maximal tolerated groups
+unfoldable pub groups_of : Meaning → Verdict Structure
+groups_of formula = few_groups (maximal_structure formula.parties (is_tolerated formula))
+
+-- no two groups that together are all parties
+unfoldable pub Q2Of : JobForm → Structure → Verdict Structure → Type 0
+Q2Of job s (accepted same) = (same ≡ s) × IsQ2 s
+Q2Of job s (missing name) = ⊥
+Q2Of job s (refused status line) =
+    (i : ℕ) × (j : ℕ) × IsFirstCovering s i j × (status ≡ 4) × (line ≡ covering_line job.names (slice_index s.groups i) (slice_index s.groups j))
+
+unfoldable pub StructureOf : JobForm → Verdict Structure → Type 0
+StructureOf job = Then (FormulaOf job) (λ formula. Then (Ends (groups_of formula)) (Q2Of job))
+
+-- ---- the sessions
+
+abbrev pub layout_of : CircuitLayout → FileLayout
+layout_of layout.Bristol = file.Bristol
+layout_of layout.Ring = file.Ring
+
+-- the groups of so many parties that these masks tell
+abbrev pub groups_in : ℕ → List ℕ → List Members
+groups_in parties masks = map (λ mask. record { parties = parties; mask = mask }) masks
+
+-- the session of a circuit, where the counts of owners and readers are the circuit's
+abbrev pub part_of : (PartFault → List ℕ) → Netlist → List ℕ → List Members → Verdict Session
+part_of line circuit owners readers = unless (part_fault circuit owners readers) line (session_of circuit owners readers)
+
+-- session s: its circuit's file, and its counts of owners and readers
+unfoldable pub SessionAt : Contents → List ℕ → JobForm → ℕ → SessionForm → Verdict Session → Type 0
+SessionAt files dir job s form =
+    Then (Ends (file_at files dir form.circuit)) (λ bytes.
+    Then (Ends (verdict_of (circuit_line form.circuit s) (circuit_in (layout_of form.layout) job.bits bytes))) (λ circuit.
+    Ends (part_of (session_line s) circuit form.owners (groups_in (length job.names) form.readers))))
+
+-- these sessions, after those that were read
+unfoldable pub SessionsAfter : Contents → List ℕ → JobForm → List Session → List SessionForm → Verdict (List Session) → Type 0
+SessionsAfter files dir job before [] = Ends (accepted before)
+SessionsAfter files dir job before (form ∷ forms) =
+    Then (SessionAt files dir job (length before) form) (λ s. SessionsAfter files dir job (before ++ (s ∷ [])) forms)
+
+-- ---- the plan
+
+-- a plan within the limits
+unfoldable pub PlanOf : JobForm → Plan → Verdict Plan → Type 0
+PlanOf job plan (accepted same) = (same ≡ plan) × IsWithin plan
+PlanOf job plan (missing name) = ⊥
+PlanOf job plan (refused status line) = (fault : PlanFault) × IsRefusal plan fault × ¬ (fault ≡ plan_fault.Memory) × (status ≡ 3) × (line ≡ plan_line job.names fault)
+
+-- the names of the parties, and the plan
+pub record Planned : Type 0 where
+  pub names : List (List ℕ)
+  pub plan : Plan
+
+unfoldable pub PlannedOf : Contents → List ℕ → JobForm → Structure → Verdict Planned → Type 0
+PlannedOf files dir job s =
+    Then (SessionsAfter files dir job [] job.sessions) (λ sessions.
+    Then (PlanOf job (plan_of job.bits s sessions)) (λ plan.
+    Ends (accepted (record { names = job.names; plan = plan }))))
+
+-- the plan of a folder, for which no party's file is read
+unfoldable pub PlanAt : Contents → List ℕ → Verdict Planned → Type 0
+PlanAt files dir = Then (JobText files dir) (λ job. Then (StructureOf job) (PlannedOf files dir job))
+
+-- ---- the parties
+
+-- what party p gives
+unfoldable pub HandAt : Contents → List ℕ → Plan → ℕ → List ℕ → Verdict PartyForm → Type 0
+HandAt files dir plan p name =
+    Then (Ends (file_at files dir (names.party_file name))) (λ bytes. Ends (verdict_of (party_line (names.party_file name)) (party_in plan p bytes)))
+
+-- what the parties of these names give, after those whose files were read
+unfoldable pub HandsAfter : Contents → List ℕ → Plan → List PartyForm → List (List ℕ) → Verdict (List PartyForm) → Type 0
+HandsAfter files dir plan before [] = Ends (accepted before)
+HandsAfter files dir plan before (name ∷ more) = Then (HandAt files dir plan (length before) name) (λ hand. HandsAfter files dir plan (before ++ (hand ∷ [])) more)
 
 -- the names of the parties, and the world
 pub record Job : Type 0 where
   pub names : List (List ℕ)
   pub world : World
 
--- the job of one product, of these parties' inputs and of the tape words that it uses
-abbrev pub product_job : ℕ → Hand → Hand → Hand → Job
-product_job bits a b c = record {
-  names = codes "a" ∷ codes "b" ∷ codes "c" ∷ [];
-  world = record {
-    plan = multiply_plan bits;
-    inputs = (a.0 ∷ []) ∷ (b.0 ∷ []) ∷ (c.0 ∷ []) ∷ [];
-    tapes = take 4 a.1 ∷ take 4 b.1 ∷ take 2 c.1 ∷ [];
-  };
-}
-
--- the files of the parties: a and b give one input each and deal twice, c deals once
-unfoldable pub parties_of : Contents → List ℕ → ℕ → Verdict Job
-parties_of files dir bits =
-    and_then (form_at files dir file.PartyA (party_form bits 1 4)) (λ a.
-    and_then (form_at files dir file.PartyB (party_form bits 1 4)) (λ b.
-    and_then (form_at files dir file.PartyC (party_form bits 0 2)) (λ c.
-    accepted (product_job bits a b c))))
-
-unfoldable pub job_of : Contents → List ℕ → Verdict Job
-job_of files dir =
-    and_then (form_at files dir file.Job job_form) (λ bits.
-    and_then (form_at files dir file.Circuit circuit_form) (λ _.
-    parties_of files dir bits))
+-- the job of a folder
+unfoldable pub JobAt : Contents → List ℕ → Verdict Job → Type 0
+JobAt files dir =
+    Then (PlanAt files dir) (λ planned. Then (HandsAfter files dir planned.plan [] planned.names) (λ hands.
+    Ends (accepted (record { names = planned.names; world = world_of planned.plan hands }))))

@@ -1,12 +1,8 @@
 pub mod Names
 pub mod Texts
 pub mod Verdict
-pub mod NumberWords
-pub mod Fields
-pub mod Forms
 pub mod JobOf
-pub mod OutText
-pub mod Hands
 pub mod Stops
 pub mod Reading
+pub mod Seen
 pub mod Command

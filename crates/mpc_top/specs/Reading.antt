@@ -1,35 +1,49 @@
--- What a step that reads files promises.
+-- What a step of the walk promises: one that reads files, and one that reads none.
 use Rattle.std.specs.Prelude.{◌≡◌, ◌≤◌, IsTrue, Result, IfOk, OnOk, IfErr, IfSome}
 use Rattle.outer_io.specs.Count.{Rose}
 use Rattle.outer_io.specs.Files.{FilesReading}
 use Rattle.mpc_top.specs.declared.stop.Stop.{Stop}
-use Rattle.mpc_top.specs.declared.stop.Stop.TheVariants.{Memory, Words, Out, Files, Refused}
-use Rattle.mpc_top.specs.Names.{name_text}
+use Rattle.mpc_top.specs.declared.stop.Stop.TheVariants.{Memory, Words, Out, Files, Refused, Covering}
 use Rattle.mpc_top.specs.Verdict.{Verdict, accepted, missing, refused}
-use Rattle.mpc_top.specs.Stops.{line_of}
 use Rattle.mpc_top.specs.JobOf.{Contents}
 
-module _ {A : Type 0} (verdict : Contents → Verdict A) (before after : FilesReading) where
-  -- where the files tell, their verdict is this one
-  abbrev pub Meets : Verdict A → Type 0
-  Meets found = IfSome before.told (λ files. verdict files ≡ found)
+module _ {A : Type 0} (walk : Verdict A → Type 0) where
+  -- why a step that reads no file stopped: the refusal is the walk's. Want of memory is free.
+  abbrev pub StopsBy : Stop → Type 0
+  StopsBy Memory = Unit {0}
+  StopsBy Words = ⊥
+  StopsBy Out = ⊥
+  StopsBy (Files name) = ⊥
+  StopsBy (Refused line) = walk (refused 3 line.items)
+  StopsBy (Covering line) = walk (refused 4 line.items)
 
-  -- Why a reading stopped. A refusal is the verdict's. A fault of files comes only where their count rose, and over
+-- a step that reads no file, where contracts see what it gives by `seen`
+pub record WalksAs {A C : Type 0} (seen : C → A) (walk : Verdict A → Type 0) (result : Result C Stop) : Type 0 where
+  pub ok : IfOk result (λ found. walk (accepted (seen found)))
+  pub stop : IfErr result (StopsBy walk)
+
+module _ {A : Type 0} (walk : Contents → Verdict A → Type 0) (before after : FilesReading) where
+  -- where the files tell, the walk through them ends so
+  abbrev pub Meets : Verdict A → Type 0
+  Meets end = IfSome before.told (λ files. walk files end)
+
+  -- Why a reading stopped. A refusal is the walk's. A fault of files comes only where their count rose, and over
   -- steady files only at a file that is missing. Want of memory is free.
   abbrev pub StopsAt : Stop → Type 0
   StopsAt Memory = after.faults ≡ before.faults
   StopsAt Words = ⊥
   StopsAt Out = ⊥
-  StopsAt (Files name) = Rose before.faults after.faults × (IsTrue before.steady → Meets (missing (name_text name)))
-  StopsAt (Refused refusal) = (after.faults ≡ before.faults) × Meets (refused 3 (line_of refusal))
+  StopsAt (Files name) = Rose before.faults after.faults × (IsTrue before.steady → Meets (missing name.items))
+  StopsAt (Refused line) = (after.faults ≡ before.faults) × Meets (refused 3 line.items)
+  StopsAt (Covering line) = (after.faults ≡ before.faults) × Meets (refused 4 line.items)
 
--- A step that reads files by this verdict, where contracts see what was read by `seen`.
-pub record ReadsAs {A C : Type 0} (seen : C → A) (verdict : Contents → Verdict A) (before after : FilesReading) (result : Result C Stop) : Type 0 where
-  -- what was read is what the verdict accepts, and no fault was met
-  pub ok : IfOk result (λ found. Meets verdict before after (accepted (seen found)))
+-- a step that reads files, where contracts see what was read by `seen`
+pub record ReadsAs {A C : Type 0} (seen : C → A) (walk : Contents → Verdict A → Type 0) (before after : FilesReading) (result : Result C Stop) : Type 0 where
+  -- what was read is what the walk accepts, and no fault was met
+  pub ok : IfOk result (λ found. Meets walk before after (accepted (seen found)))
   pub quiet : OnOk result (after.faults ≡ before.faults)
   -- otherwise there is a cause
-  pub stop : IfErr result (StopsAt verdict before after)
+  pub stop : IfErr result (StopsAt walk before after)
   -- what is told stays, no count falls, and steady files stay steady
   pub same_told : after.told ≡ before.told
   pub faults_grow : before.faults ≤ after.faults

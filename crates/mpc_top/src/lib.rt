@@ -1,20 +1,18 @@
 //! The top call: from the words and the files to the bytes.
 #![tactic(auto)]
 
-mod circuit_form;
-mod document;
-mod fields;
-mod job;
-mod job_form;
-mod number_words;
-mod party_form;
-mod product;
+mod job_text;
+mod parties;
+mod planned;
 mod reading;
+mod running;
+mod sessions;
 mod stop;
+mod structure;
 mod text;
 mod top;
 
-pub use stop::{FileName, Refusal, Stop};
+pub use stop::Stop;
 pub use top::command;
 
 #[cfg(test)]

@@ -1,46 +1,10 @@
-// Why a call stops.
-ghost use Rattle.std.specs.Prelude.{◌≡◌};
+//! Why a call stops.
+ghost use Rattle.std.specs.Prelude.{◌≡◌, MatchResult};
 
 use std::alloc::{AllocError, AllocFailed};
 
-/// A file of a job.
-#[derive(Clone, Copy, Debug, PartialEq, Eq)]
-pub enum FileName {
-    Job,
-    Circuit,
-    PartyA,
-    PartyB,
-    PartyC,
-}
-
-impl FileName {
-    ghost use Rattle.mpc_top.specs.Names.{name_text};
-
-    /// Its name in the job's folder.
-    pub fn text(self) -> &'static str
-        ensures { result.now ≡ name_text self }
-    {
-        match self {
-            FileName::Job => "job.toml",
-            FileName::Circuit => "mul.txt",
-            FileName::PartyA => "party_a.toml",
-            FileName::PartyB => "party_b.toml",
-            FileName::PartyC => "party_c.toml",
-        }
-    }
-}
-
-/// Why a job is refused.
-#[derive(Clone, Copy, Debug, PartialEq, Eq)]
-pub enum Refusal {
-    /// A file is too long.
-    TooLong(FileName),
-    /// A file does not have the form that is taken so far.
-    NotYet(FileName),
-}
-
 /// Why a call stops before its end.
-#[derive(Clone, Copy, Debug, PartialEq, Eq)]
+#[derive(Drop)]
 pub enum Stop {
     /// Memory was wanting.
     Memory,
@@ -48,25 +12,39 @@ pub enum Stop {
     Words,
     /// `out` failed.
     Out,
-    /// A file could not be read.
-    Files(FileName),
-    /// The job is refused.
-    Refused(Refusal),
+    /// The file of this name could not be read.
+    Files(Vec<u8>),
+    /// The job is refused, with this line.
+    Refused(Vec<u8>),
+    /// Two tolerated groups together are all parties, as this line tells.
+    Covering(Vec<u8>),
 }
 
 impl Stop {
+    ghost use Rattle.std.specs.Prelude.{◌≡◌};
     ghost use Rattle.mpc_top.specs.Stops.{status_of};
 
     /// The exit status that it gives.
-    pub fn status(self) -> u8
-        ensures { result ≡ status_of self }
+    pub fn status(&self) -> u8
+        ensures { result ≡ status_of self.now }
     {
         match self {
             Stop::Memory => 6,
             Stop::Words => 2,
             Stop::Out | Stop::Files(_) => 5,
             Stop::Refused(_) => 3,
+            Stop::Covering(_) => 4,
         }
+    }
+}
+
+/// A refusal with this line.
+pub(crate) fn refusal(line: Result<Vec<u8>, AllocError>) -> Stop
+    ensures { MatchResult line (λ text. result ≡ Stop.Refused text) (λ _. result ≡ Stop.Memory) }
+{
+    match line {
+        Ok(line) => Stop::Refused(line),
+        Err(_) => Stop::Memory,
     }
 }
 

@@ -1,13 +1,6 @@
-// Jobs from their files to the bytes, and the words of the worked product.
-ghost use Rattle.std.specs.Prelude.{◌≡◌};
-ghost use Rattle.job_plan.specs.Multiply.{multiply_plan};
-ghost use Rattle.share_world.specs.Worlds.{World as Described};
-ghost use Rattle.core_world.specs.Running.{IsFinish};
+// Commands from their words and files to the bytes.
 
 use crate::command;
-use crate::job::read_job;
-use crate::product::finished;
-use core_world::World;
 use outer_io::{MapFiles, VecSink};
 use std::alloc::{AllocError, Global};
 use std::collections::BTreeMap;
@@ -86,7 +79,7 @@ fn expect(
 ) -> Result<(), Fail> {
     let words = words(alloc, texts)?;
     let mut files = files(alloc, contents)?;
-    let mut out = sink(alloc, 100)?;
+    let mut out = sink(alloc, 300)?;
     let mut err = sink(alloc, 300)?;
     assert_eq!(rt;
         command(alloc, &words, &mut files, &mut out, &mut err),
@@ -126,16 +119,16 @@ fn accepted_jobs_write_their_output(rt: HostRuntime) -> Result<(), Fail> {
         &rt,
         alloc,
         &run,
-        [WIDE_JOB, MUL, A, B, C],
+        [WIDE_JOB, ADD, A, B, C],
         0,
-        "out 0 0 c 35\n",
+        "out 0 0 c 12\n",
         "",
     )?;
     expect(
         &rt,
         alloc,
         &run,
-        [JOB, MUL, spaced, B, C],
+        [ONE_OF_JOB, MUL, spaced, B, C],
         0,
         "out 0 0 c 35\n",
         "",
@@ -152,23 +145,37 @@ fn accepted_jobs_write_their_output(rt: HostRuntime) -> Result<(), Fail> {
 }
 
 #[test]
-fn each_refusal_names_its_file(rt: HostRuntime) -> Result<(), Fail> {
+fn each_refusal_names_its_place(rt: HostRuntime) -> Result<(), Fail> {
     let alloc = rt.alloc();
     let no_toml = "version =";
     let short = "version = 1\ninputs = [\"5\"]\ntape = \"10 20 1\"\n";
-    let outside = "version = 1\ninputs = [\"5\"]\ntape = \"10 256 1 2\"\n";
     let no_word = "version = 1\ninputs = [\"5x\"]\ntape = \"10 20 1 2\"\n";
-    let job = "refused early 1 NotYet file=job.toml\n";
-    let circuit = "refused early 1 NotYet file=mul.txt\n";
-    let party = "refused early 1 NotYet file=party_a.toml\n";
-    let last = "refused early 1 NotYet file=party_c.toml\n";
-    expect_refusal(&rt, alloc, [ONE_OF_JOB, MUL, A, B, C], job)?;
-    expect_refusal(&rt, alloc, [no_toml, ADD, A, B, ""], job)?;
-    expect_refusal(&rt, alloc, [JOB, ADD, A, B, C], circuit)?;
-    expect_refusal(&rt, alloc, [JOB, MUL, short, B, C], party)?;
-    expect_refusal(&rt, alloc, [JOB, MUL, outside, B, C], party)?;
-    expect_refusal(&rt, alloc, [JOB, MUL, no_word, "", C], party)?;
-    expect_refusal(&rt, alloc, [JOB, MUL, A, B, A], last)
+    let unset = "1 3\n2 1 1\n1 1\n2 1 2 1 2 ADD\n";
+    let job = "refused job 1 NotToml\n";
+    let circuit = "refused circuit 13 ReadBeforeSet file=mul.txt session=0 line=4\n";
+    let tape = "refused party 11 TapeShort file=party_a.toml wanted=4 found=3\n";
+    let word = "refused party 7 BadWords file=party_b.toml session=0 at=0 cause=NotNumber\n";
+    expect_refusal(&rt, alloc, [no_toml, unset, A, B, ""], job)?;
+    expect_refusal(&rt, alloc, [JOB, unset, A, B, C], circuit)?;
+    expect_refusal(&rt, alloc, [JOB, MUL, short, B, C], tape)?;
+    expect_refusal(&rt, alloc, [JOB, MUL, A, no_word, C], word)
+}
+
+#[test]
+fn two_that_can_cover_all_are_refused(rt: HostRuntime) -> Result<(), Fail> {
+    let job =
+        "version = 1\nring_bits = 8\nparties = [\"a\", \"b\"]\nformula = \"a & b\"\n[[session]]\ncircuit = \"mul.txt\"\nlayout = \"ring\"\nowners = [\"a\", \"b\"]\nreaders = [[\"b\"]]\n";
+    let line = "refused q2 1 Covering first=a second=b\n";
+    let words = ["mpc", "check", "d"];
+    expect(&rt, rt.alloc(), &words, [job, "", "", "", ""], 4, "", line)
+}
+
+#[test]
+fn a_check_tells_structure_and_counts(rt: HostRuntime) -> Result<(), Fail> {
+    let text =
+        "parties 3\ngroups 3\ngroup 0 a\ngroup 1 b\ngroup 2 c\nduty a 4\nduty b 3\nduty c 2\nsession 0 gates 1 products 1 messages 21\nwords a 4\nwords b 4\nwords c 2\nmessages 21\n";
+    let words = ["mpc", "check", "d"];
+    expect(&rt, rt.alloc(), &words, [JOB, MUL, "", "", ""], 0, text, "")
 }
 
 #[test]
@@ -226,7 +233,7 @@ fn a_failing_sink_has_a_prefix(rt: HostRuntime) -> Result<(), Fail> {
     let alloc = rt.alloc();
     let run = words(alloc, &["mpc", "run", "d"])?;
     let mut accepted = files(alloc, [JOB, MUL, A, B, C])?;
-    let mut refused = files(alloc, [JOB, ADD, A, B, C])?;
+    let mut refused = files(alloc, [JOB, "1 3", A, B, C])?;
     let mut short_out = sink(alloc, 4)?;
     let mut out = sink(alloc, 100)?;
     let mut short_err = sink(alloc, 10)?;
@@ -242,34 +249,6 @@ fn a_failing_sink_has_a_prefix(rt: HostRuntime) -> Result<(), Fail> {
         5
     );
     assert_eq!(rt; out.bytes(), b"".as_slice());
-    assert_eq!(rt; short_err.bytes(), b"refused ea".as_slice());
+    assert_eq!(rt; short_err.bytes(), b"refused ci".as_slice());
     Ok(())
-}
-
-/// The words of the messages of the worked product, in the order of their numbers.
-const MESSAGES: [u64; 21] = [
-    10, 10, 20, 231, 30, 40, 40, 193, 1, 1, 2, 112, 3, 4, 4, 193, 5, 6, 221, 221, 14,
-];
-
-/// That the desks posted these words, opened 35 and drew their tapes to the end.
-fn expect_words(rt: &impl Abort, world: &World) -> Result<(), Fail>
-    requires { (w : Described) × (w.plan ≡ multiply_plan w.plan.bits) × IsFinish w world.now }
-{
-    for number in 0..21 {
-        assert_eq!(rt; world.cell(number), Some(MESSAGES[number as usize]));
-    }
-    assert_eq!(rt; world.delivered(0, 0, 0), None);
-    assert_eq!(rt; world.delivered(0, 0, 2), Some(35));
-    assert_eq!(rt; world.drawn(0, 0), 4);
-    assert_eq!(rt; world.drawn(1, 0), 4);
-    assert_eq!(rt; world.drawn(2, 0), 2);
-    Ok(())
-}
-
-#[test]
-fn worked_product_has_its_words(rt: HostRuntime) -> Result<(), Fail> {
-    let mut files = files(rt.alloc(), [JOB, MUL, A, B, C])?;
-    let job = read_job(rt.alloc(), &mut files, "d")?;
-    let world = finished(rt.alloc(), job)?;
-    expect_words(&rt, &world)
 }

@@ -1,34 +1,16 @@
-// The top call.
-ghost use Rattle.std.specs.Prelude.{◌≡◌, ◌≤◌, IfOk, IfErr};
-ghost use Rattle.std.specs.Option.{option_map};
-ghost use Rattle.mpc_top.specs.Hands.{job_view};
-ghost use Rattle.mpc_top.specs.Command.{command_of, words_view, Runs, Answers};
+//! The top call.
+ghost use Rattle.std.specs.Prelude.{◌≡◌};
+ghost use Rattle.command_words.specs.Commands.{command_of};
+ghost use Rattle.mpc_top.specs.Command.{words_view, Runs, Answers};
 
 use crate::Stop;
-use crate::job::read_job;
-use crate::product::{finished, opened};
-use crate::text::{write_out_line, write_stop};
+use crate::running::text_of;
+use crate::text::write_stop;
+use command_words::read_command;
 use outer_io::{Files, Sink};
 use std::alloc::Global;
 
-/// The folder that the words ask for, if they are taken.
-fn read_words(words: &[String]) -> Option<&str>
-    ensures { option_map (λ folder. folder.now) result ≡ command_of (words_view words.now) }
-{
-    if words.len() != 3 {
-        return None;
-    }
-    if words[1].as_str() != "run" {
-        return None;
-    }
-    let folder = words[2].as_str();
-    match folder.as_bytes().first() {
-        Some(first) if *first != b'-' => Some(folder),
-        _ => None,
-    }
-}
-
-/// Runs the job of the words' folder, and writes its output.
+/// Reads what the command of the words is due, and writes it.
 fn run<F: Files, O: Sink>(
     alloc: Global,
     words: &[String],
@@ -37,19 +19,19 @@ fn run<F: Files, O: Sink>(
 ) -> Result<(), Stop>
     ensures { Runs (command_of (words_view words.now)) (F.reading files.old) (F.reading files.new) (O.reading out.old) (O.reading out.new) result }
 {
-    let Some(folder) = read_words(words) else {
+    let Ok(command) = read_command(words) else {
         return Err(Stop::Words);
     };
-    let job = read_job(alloc, files, folder)?;
-    let world = finished(alloc, job)?;
-    match write_out_line(out, 0, 0, "c", &[opened(&world)]) {
+    let text = text_of(alloc, files, command)?;
+    match out.write(&text) {
         Ok(()) => Ok(()),
         Err(_) => Err(Stop::Out),
     }
 }
 
 /// Runs the command of the words over the files, and gives the exit status: 0 where it was done, 2 where the words are
-/// refused, 3 where the files are, 5 where the outside failed, 6 where memory was wanting.
+/// refused, 3 where the files are, 4 where two tolerated groups together are all parties, 5 where the outside failed,
+/// 6 where memory was wanting.
 pub fn command<F: Files, O: Sink, E: Sink>(
     alloc: Global,
     words: &[String],
@@ -62,7 +44,7 @@ pub fn command<F: Files, O: Sink, E: Sink>(
 {
     match run(alloc, words, files, out) {
         Ok(()) => 0,
-        Err(stop) => match write_stop(err, stop) {
+        Err(stop) => match write_stop(err, &stop) {
             Ok(()) => stop.status(),
             Err(_) => 5,
         },

@@ -10,6 +10,6 @@ pub returns-in-Ok-write_stop : goal.returns-in-Ok-write_stop
 returns-in-Ok-write_stop g c =
     rw c.status.ensures (told _ _ _ _ _ _ _ _ c.in-Err.stop (λ memory. (c.in-Ok-write_stop.ensures.memory memory).0) c.in-Err.ensures c.in-Ok-write_stop.ensures.text)
 
-pub returns-in-Err-write_stop : goal.returns-in-Err-write_stop
-returns-in-Err-write_stop g c =
+pub returns : goal.returns
+returns g c =
     failed _ _ _ _ _ _ _ _ c.in-Err.stop (λ memory. absurd (false≢true (c.in-Err-write_stop.ensures.memory memory).1)) c.in-Err.ensures c.in-Err-write_stop.ensures.text

@@ -1,0 +1,20 @@
+use Rattle.std.proofs.Common.{◌≡◌, All, List, [], length, drop, map, Result, Vec}
+use Rattle.std.specs.declared.alloc.Global.{Global}
+use Rattle.outer_io.specs.Files.{FilesReading}
+use Rattle.job_plan.specs.Plans.{Session}
+use Rattle.job_plan.specs.Sound.{IsSoundSession}
+use Rattle.job_file.specs.Jobs.{job_view, session_view}
+use Rattle.mpc_top.specs.declared.stop.Stop.{Stop}
+use Rattle.mpc_top.specs.JobOf.{SessionsAfter}
+use Rattle.mpc_top.specs.Reading.{ReadsAs}
+use Rattle.mpc_top.proofs.sessions.read_sessions.Given as goal
+
+-- whatever reads the sessions that are left reads them all
+abbrev pub invariant-loop-s : goal.invariant-loop-s
+invariant-loop-s g l = record {
+  reads : (after : FilesReading) (result : Result (Vec Session Global) Stop)
+      → ReadsAs (λ (parts : Vec Session Global). parts.items) (λ m. SessionsAfter m l.dir (job_view l.job) l.parts.items (drop l.s (map session_view l.job.sessions.items))) (g.F.Files.reading l.files) after result
+      → ReadsAs (λ (parts : Vec Session Global). parts.items) (λ m. SessionsAfter m l.dir (job_view l.job) [] (map session_view l.job.sessions.items)) (g.F.Files.reading l.initial.files) after result;
+  count : length l.parts.items ≡ l.s;
+  sound : All (IsSoundSession (length l.job.names)) l.parts.items;
+}

@@ -1,0 +1,14 @@
+-- What contracts see of what was read.
+use Rattle.std.specs.Prelude.{List, map, Vec}
+use Rattle.std.specs.declared.alloc.Global.{Global}
+use Rattle.party_file.specs.Table.{PartyForm}
+use Rattle.party_file.specs.Forms.{form_of}
+use Rattle.party_file.specs.declared.data.PartyData.{PartyData}
+use Rattle.mpc_top.specs.declared.planned.Planned as code
+use Rattle.mpc_top.specs.JobOf.{Planned}
+
+abbrev pub planned_view : code.Planned → Planned
+planned_view p = record { names = p.names; plan = p.plan }
+
+abbrev pub hands_view : Vec PartyData Global → List PartyForm
+hands_view hands = map form_of hands.items
