@@ -1,0 +1,59 @@
+-- The whole walk ends once.
+use Rattle.std.proofs.Common.{ℕ, List, [], ◌∷◌, ◌++◌, length, Option, None, Some}
+use Rattle.party_set.specs.Parties.{Structure}
+use Rattle.job_plan.specs.Plans.{Plan, Session}
+use Rattle.job_file.specs.Forms.{JobForm, SessionForm}
+use Rattle.party_file.specs.Table.{PartyForm}
+use Rattle.command_words.specs.Commands.{CommandForm, run, check}
+use Rattle.mpc_top.specs.Verdict.{EndsOnce}
+use Rattle.mpc_top.specs.JobOf.{Contents, JobText, StructureOf, SessionAt, SessionsAfter, PlannedOf, PlanAt, HandAt, HandsAfter, JobAt}
+use Rattle.mpc_top.specs.Command.{TextOf, IsDue}
+use Rattle.walk_laws.proofs.Walks.{ends_once, then_once}
+use Rattle.walk_laws.proofs.Plans.{formula_once, q2_once, plan_once}
+
+structure_once : (job : JobForm) → EndsOnce (StructureOf job)
+unfolding StructureOf
+structure_once job = then_once _ _ (formula_once job) (λ formula. then_once _ _ (ends_once _) (q2_once job))
+
+text_once : (files : Contents) (dir : List ℕ) → EndsOnce (JobText files dir)
+unfolding JobText
+text_once files dir = then_once _ _ (ends_once _) (λ bytes. ends_once _)
+
+session_once : (files : Contents) (dir : List ℕ) (job : JobForm) (s : ℕ) (form : SessionForm) → EndsOnce (SessionAt files dir job s form)
+unfolding SessionAt
+session_once files dir job s form = then_once _ _ (ends_once _) (λ bytes. then_once _ _ (ends_once _) (λ circuit. ends_once _))
+
+sessions_once : (files : Contents) (dir : List ℕ) (job : JobForm) (before : List Session) (forms : List SessionForm) → EndsOnce (SessionsAfter files dir job before forms)
+unfolding SessionsAfter
+sessions_once files dir job before [] = ends_once _
+sessions_once files dir job before (form ∷ forms) = then_once _ _ (session_once files dir job (length before) form) (λ s. sessions_once files dir job (before ++ s ∷ []) forms)
+
+planned_once : (files : Contents) (dir : List ℕ) (job : JobForm) (s : Structure) → EndsOnce (PlannedOf files dir job s)
+unfolding PlannedOf
+planned_once files dir job s = then_once _ _ (sessions_once files dir job [] job.sessions) (λ sessions. then_once _ _ (plan_once job _) (λ plan. ends_once _))
+
+plan_at_once : (files : Contents) (dir : List ℕ) → EndsOnce (PlanAt files dir)
+unfolding PlanAt
+plan_at_once files dir = then_once _ _ (text_once files dir) (λ job. then_once _ _ (structure_once job) (planned_once files dir job))
+
+hand_once : (files : Contents) (dir : List ℕ) (plan : Plan) (p : ℕ) (name : List ℕ) → EndsOnce (HandAt files dir plan p name)
+unfolding HandAt
+hand_once files dir plan p name = then_once _ _ (ends_once _) (λ bytes. ends_once _)
+
+hands_once : (files : Contents) (dir : List ℕ) (plan : Plan) (before : List PartyForm) (names : List (List ℕ)) → EndsOnce (HandsAfter files dir plan before names)
+unfolding HandsAfter
+hands_once files dir plan before [] = ends_once _
+hands_once files dir plan before (name ∷ names) = then_once _ _ (hand_once files dir plan (length before) name) (λ hand. hands_once files dir plan (before ++ hand ∷ []) names)
+
+job_once : (files : Contents) (dir : List ℕ) → EndsOnce (JobAt files dir)
+unfolding JobAt
+job_once files dir = then_once _ _ (plan_at_once files dir) (λ planned. then_once _ _ (hands_once files dir planned.plan [] planned.names) (λ hands. ends_once _))
+
+command_once : (command : CommandForm) (files : Contents) → EndsOnce (TextOf command files)
+unfolding TextOf
+command_once (run dir) files = then_once _ _ (job_once files dir) (λ job. ends_once _)
+command_once (check dir) files = then_once _ _ (plan_at_once files dir) (λ planned. ends_once _)
+
+pub due_once : (command : Option CommandForm) (files : Contents) → EndsOnce (IsDue command files)
+due_once None files = ends_once _
+due_once (Some command) files = command_once command files

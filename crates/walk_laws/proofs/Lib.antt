@@ -1,0 +1,3 @@
+mod Walks
+mod Plans
+mod Jobs

@@ -1,0 +1,10 @@
+-- That a walk ends with one verdict at most.
+use Rattle.std.specs.Prelude.{Option}
+use Rattle.command_words.specs.Commands.{CommandForm}
+use Rattle.mpc_top.specs.Verdict.{EndsOnce}
+use Rattle.mpc_top.specs.JobOf.{Contents}
+use Rattle.mpc_top.specs.Command.{IsDue}
+
+-- any words over any files are due one verdict at most
+abbrev pub AreDueOnce : Type 0
+AreDueOnce = (command : Option CommandForm) (files : Contents) → EndsOnce (IsDue command files)
