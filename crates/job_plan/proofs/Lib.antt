@@ -4,7 +4,6 @@ pub mod Apart
 pub mod Counting
 pub mod Tallying
 pub mod Listing
-pub mod OneProduct
 pub mod Rising
 pub mod Searching
 pub mod Finding

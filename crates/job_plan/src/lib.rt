@@ -2,7 +2,6 @@
 #![tactic(auto)]
 
 mod counts;
-mod early;
 mod inputs;
 mod key;
 mod laws;

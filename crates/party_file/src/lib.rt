@@ -14,6 +14,3 @@ pub use data::PartyData;
 pub use fault::{PartyFault, WordCause};
 pub use field::Field;
 pub use party::read_party;
-
-#[cfg(test)]
-mod tests;
