@@ -1,3 +1,4 @@
+pub mod Packing
 pub mod Programs
 pub mod States
 pub mod Along

@@ -1,29 +1,25 @@
 //! Makes programs.
-ghost use Rattle.std.specs.Prelude.{◌≡◌, ℕ, ◌+◌, ◌<◌, ◌≤◌, ◌++◌, ◌∷◌, [], suc, OnOk, IfOk, length, map, filter};
+ghost use Rattle.std.specs.Prelude.{◌≡◌, ℕ, ◌+◌, ◌-◌, ◌*◌, ◌<◌, ◌≤◌, ◌++◌, ◌∷◌, [], suc, OnOk, IfOk, length, map, filter};
 ghost use Rattle.mpc_ring.specs.Sums.{joined, only_if};
 ghost use Rattle.job_plan.specs.Plans.{session, slot, slots};
 ghost use Rattle.job_plan.specs.Messages.{messages};
 ghost use Rattle.job_plan.specs.Sound.{IsSound};
 ghost use Rattle.job_plan.specs.Numbers.{deals_before};
 ghost use Rattle.job_plan.specs.Firsts.{first, count};
-ghost use Rattle.party_program.specs.Programs.{program, post, take_of, from, to, posts, takes, opening, closing, slot_program};
+ghost use Rattle.party_program.specs.Programs.{program as list_of, post, take_of, from, to, posts, takes, opening, closing, slot_program};
 
 use crate::program::{Instruction, Program};
 use job_plan::{Place, Plan};
 use std::alloc::{AllocError, Global};
 
-fn push_post(
-    plan: &Plan,
-    p: u32,
-    number: u32,
-    list: &mut Vec<Instruction>,
-) -> Result<(), AllocError>
-    requires { number < length (messages plan.now) }
-    ensures { OnOk result (list.new.items ≡ list.old.items ++ map (post plan.now) (filter (from plan.now p) (number ∷ []))) }
+fn push_post(plan: &Plan, p: u32, number: u32, program: &mut Program) -> Result<(), AllocError>
+    requires sound { IsSound plan.now }
+    requires number { number < length (messages plan.now) }
+    ensures { OnOk result (program.new ≡ program.old ++ map (post plan.now) (filter (from plan.now p) (number ∷ []))) }
 {
     let message = plan.message(number);
     if message.sender == p {
-        list.push(Instruction::Post {
+        program.push(Instruction::Post {
             number,
             share: message.share,
         })?;
@@ -32,38 +28,29 @@ fn push_post(
 }
 
 // The posts of party p in slot k.
-fn push_posts(
-    plan: &Plan,
-    p: u32,
-    s: u32,
-    k: u32,
-    list: &mut Vec<Instruction>,
-) -> Result<(), AllocError>
+fn push_posts(plan: &Plan, p: u32, s: u32, k: u32, program: &mut Program) -> Result<(), AllocError>
+    requires sound { IsSound plan.now }
     requires session { s < length plan.now.sessions }
     requires slot { k < slots (session plan.now s) }
-    requires few { k < 4294967295 }
-    ensures { OnOk result (list.new.items ≡ list.old.items ++ posts plan.now p s k) }
+    requires small { k < 536870912 }
+    ensures { OnOk result (program.new ≡ program.old ++ posts plan.now p s k) }
 {
     let begin = plan.first(s, k);
     let end = plan.first(s, k + 1);
     for number in begin..end {
-        push_post(plan, p, number, list)?;
+        push_post(plan, p, number, program)?;
     }
     Ok(())
 }
 
-fn push_take(
-    plan: &Plan,
-    p: u32,
-    number: u32,
-    list: &mut Vec<Instruction>,
-) -> Result<(), AllocError>
-    requires { number < length (messages plan.now) }
-    ensures { OnOk result (list.new.items ≡ list.old.items ++ map (take_of plan.now) (filter (to plan.now p) (number ∷ []))) }
+fn push_take(plan: &Plan, p: u32, number: u32, program: &mut Program) -> Result<(), AllocError>
+    requires sound { IsSound plan.now }
+    requires number { number < length (messages plan.now) }
+    ensures { OnOk result (program.new ≡ program.old ++ map (take_of plan.now) (filter (to plan.now p) (number ∷ []))) }
 {
     let message = plan.message(number);
     if message.receiver == p {
-        list.push(Instruction::Take {
+        program.push(Instruction::Take {
             number,
             share: message.share,
         })?;
@@ -72,22 +59,17 @@ fn push_take(
 }
 
 // The takes of party p in slot k.
-fn push_takes(
-    plan: &Plan,
-    p: u32,
-    s: u32,
-    k: u32,
-    list: &mut Vec<Instruction>,
-) -> Result<(), AllocError>
+fn push_takes(plan: &Plan, p: u32, s: u32, k: u32, program: &mut Program) -> Result<(), AllocError>
+    requires sound { IsSound plan.now }
     requires session { s < length plan.now.sessions }
     requires slot { k < slots (session plan.now s) }
-    requires few { k < 4294967295 }
-    ensures { OnOk result (list.new.items ≡ list.old.items ++ takes plan.now p s k) }
+    requires small { k < 536870912 }
+    ensures { OnOk result (program.new ≡ program.old ++ takes plan.now p s k) }
 {
     let begin = plan.first(s, k);
     let end = plan.first(s, k + 1);
     for number in begin..end {
-        push_take(plan, p, number, list)?;
+        push_take(plan, p, number, program)?;
     }
     Ok(())
 }
@@ -99,7 +81,7 @@ fn push_opening(
     s: u32,
     k: u32,
     deal: u32,
-    list: &mut Vec<Instruction>,
+    program: &mut Program,
 ) -> Result<u32, AllocError>
     requires sound { IsSound plan.now }
     requires session { s < length plan.now.sessions }
@@ -107,14 +89,15 @@ fn push_opening(
     requires slot { k < slots (session plan.now s) }
     requires deal { deal ≡ deals_before plan.now p s k }
     requires few { deal < 4294967295 }
-    ensures list { OnOk result (list.new.items ≡ list.old.items ++ opening plan.now p s k (slot (session plan.now s) k)) }
+    requires small { k < 536870912 }
+    ensures list { OnOk result (program.new ≡ program.old ++ opening plan.now p s k (slot (session plan.now s) k)) }
     ensures deal { IfOk result (λ d. (d ≡ deals_before plan.now p s (suc k)) × (d ≤ deal + 1)) }
 {
     let part = plan.part(s);
     match part.place(k) {
         Place::Input(v) => {
             if part.wire_owner(v) == p {
-                list.push(Instruction::Deal { slot: k, deal })?;
+                program.push(Instruction::Deal { slot: k, deal })?;
                 Ok(deal + 1)
             } else {
                 Ok(deal)
@@ -122,8 +105,8 @@ fn push_opening(
         }
         Place::Gate(t) => {
             if part.gate(t).operation.is_product() && plan.multiplies(p) {
-                list.push(Instruction::Own { slot: k })?;
-                list.push(Instruction::Deal { slot: k, deal })?;
+                program.push(Instruction::Own { slot: k })?;
+                program.push(Instruction::Deal { slot: k, deal })?;
                 Ok(deal + 1)
             } else {
                 Ok(deal)
@@ -139,29 +122,30 @@ fn push_closing(
     p: u32,
     s: u32,
     k: u32,
-    list: &mut Vec<Instruction>,
+    program: &mut Program,
 ) -> Result<(), AllocError>
     requires sound { IsSound plan.now }
     requires session { s < length plan.now.sessions }
     requires party { p < plan.now.parties }
     requires slot { k < slots (session plan.now s) }
-    ensures { OnOk result (list.new.items ≡ list.old.items ++ closing plan.now p s k (slot (session plan.now s) k)) }
+    requires small { k < 536870912 }
+    ensures { OnOk result (program.new ≡ program.old ++ closing plan.now p s k (slot (session plan.now s) k)) }
 {
     let part = plan.part(s);
     match part.place(k) {
         Place::Input(_) => Ok(()),
         Place::Gate(t) => {
             if part.gate(t).operation.is_product() {
-                list.push(Instruction::Sum { slot: k })?;
+                program.push(Instruction::Sum { slot: k })?;
                 Ok(())
             } else {
-                list.push(Instruction::Linear { slot: k })?;
+                program.push(Instruction::Linear { slot: k })?;
                 Ok(())
             }
         }
         Place::Output(o) => {
             if part.wire_readers(o) >> p & 1 == 1 {
-                list.push(Instruction::Deliver { slot: k })?;
+                program.push(Instruction::Deliver { slot: k })?;
             }
             Ok(())
         }
@@ -175,20 +159,20 @@ fn push_slot(
     s: u32,
     k: u32,
     deal: u32,
-    list: &mut Vec<Instruction>,
+    program: &mut Program,
 ) -> Result<u32, AllocError>
     requires sound { IsSound plan.now }
     requires session { s < length plan.now.sessions }
     requires party { p < plan.now.parties }
-    requires slot { (k < slots (session plan.now s)) × (k < 4294967295) }
+    requires slot { (k < slots (session plan.now s)) × (k < 536870912) }
     requires deal { (deal ≡ deals_before plan.now p s k) × (deal ≤ k) }
-    ensures list { OnOk result (list.new.items ≡ list.old.items ++ slot_program plan.now p s k) }
+    ensures list { OnOk result (program.new ≡ program.old ++ slot_program plan.now p s k) }
     ensures deal { IfOk result (λ d. (d ≡ deals_before plan.now p s (suc k)) × (d ≤ k + 1)) }
 {
-    let deals = push_opening(plan, p, s, k, deal, list)?;
-    push_posts(plan, p, s, k, list)?;
-    push_takes(plan, p, s, k, list)?;
-    push_closing(plan, p, s, k, list)?;
+    let deals = push_opening(plan, p, s, k, deal, program)?;
+    push_posts(plan, p, s, k, program)?;
+    push_takes(plan, p, s, k, program)?;
+    push_closing(plan, p, s, k, program)?;
     Ok(deals)
 }
 
@@ -202,24 +186,35 @@ impl Program {
         requires session { s < length plan.now.sessions }
         ensures { IfOk result (λ made. made ≡ program plan.now p s) }
     {
-        let mut list = Vec::new(alloc);
         let _ = plan.parties();
-        push_program(plan, p, s, &mut list)?;
-        Ok(Program::of(list))
+        let mut program = Program::with_room(alloc, room(plan, s))?;
+        push_program(plan, p, s, &mut program)?;
+        program.give_back();
+        Ok(program)
     }
 }
 
+// As many instructions as no party has more of in session s: at most three in a slot beside its messages.
+fn room(plan: &Plan, s: u32) -> usize
+    requires { s < length plan.now.sessions }
+    ensures { result ≡ 3 * slots (session plan.now s) + (first plan.now s (slots (session plan.now s)) - first plan.now s 0) }
+{
+    let slots = plan.slots(s);
+    let messages = plan.first(s, slots).saturating_sub(plan.first(s, 0));
+    3 * slots as usize + messages as usize
+}
+
 // What party p does in session s.
-fn push_program(plan: &Plan, p: u32, s: u32, list: &mut Vec<Instruction>) -> Result<(), AllocError>
+fn push_program(plan: &Plan, p: u32, s: u32, program: &mut Program) -> Result<(), AllocError>
     requires sound { IsSound plan.now }
     requires party { p < plan.now.parties }
     requires session { s < length plan.now.sessions }
-    ensures { OnOk result (list.new.items ≡ list.old.items ++ program plan.now p s) }
+    ensures { OnOk result (program.new ≡ program.old ++ list_of plan.now p s) }
 {
     let mut deal = 0;
     let slots = plan.part(s).slots();
     for k in 0..slots {
-        deal = push_slot(plan, p, s, k, deal, list)?;
+        deal = push_slot(plan, p, s, k, deal, program)?;
     }
     Ok(())
 }

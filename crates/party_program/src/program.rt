@@ -2,6 +2,7 @@
 ghost use Rattle.std.specs.Prelude.{◌≡◌, ◌==◌, length};
 ghost use Rattle.party_program.specs.Programs.{at};
 
+use std::alloc::{AllocError, Global};
 use std::marker::Model;
 
 /// One instruction of a party in a session. Slots are numbered within the session, messages within the plan, deals
@@ -25,26 +26,115 @@ pub enum Instruction {
     End,
 }
 
-/// The instructions of a party in a session, in order. Contracts see the list, after which comes the end.
+/// An instruction in eight bytes: its kind beside the slot or message that it names, and what else it has.
+#[derive(Clone, Copy)]
+struct Packed {
+    code: u32,
+    other: u32,
+}
+
+impl Packed {
+    ghost use Rattle.std.specs.Prelude.{◌≡◌, ◌<◌, slice_index_or};
+    ghost use Rattle.party_program.specs.declared.program.Instruction.TheVariants.{End};
+    ghost use Rattle.party_program.specs.Packing.{kinds, named, unpacked};
+
+    fn new(number: u32, kind: u32, other: u32) -> Packed
+        requires number { number < 536870912 }
+        requires kind { kind < 8 }
+        ensures { unpacked result ≡ slice_index_or (kinds number other) kind End }
+    {
+        Packed {
+            code: number * 8 + kind,
+            other,
+        }
+    }
+
+    fn of(instruction: Instruction) -> Packed
+        requires { named instruction < 536870912 }
+        ensures { unpacked result ≡ instruction }
+    {
+        match instruction {
+            Instruction::Deal { slot, deal } => Packed::new(slot, 0, deal),
+            Instruction::Post { number, share } => Packed::new(number, 1, share),
+            Instruction::Take { number, share } => Packed::new(number, 2, share),
+            Instruction::Linear { slot } => Packed::new(slot, 3, 0),
+            Instruction::Own { slot } => Packed::new(slot, 4, 0),
+            Instruction::Sum { slot } => Packed::new(slot, 5, 0),
+            Instruction::Deliver { slot } => Packed::new(slot, 6, 0),
+            Instruction::End => Packed::new(0, 7, 0),
+        }
+    }
+
+    fn instruction(self) -> Instruction
+        ensures { result ≡ unpacked self }
+    {
+        let number = self.code / 8;
+        let other = self.other;
+        match self.code % 8 {
+            0 => Instruction::Deal {
+                slot: number,
+                deal: other,
+            },
+            1 => Instruction::Post {
+                number,
+                share: other,
+            },
+            2 => Instruction::Take {
+                number,
+                share: other,
+            },
+            3 => Instruction::Linear { slot: number },
+            4 => Instruction::Own { slot: number },
+            5 => Instruction::Sum { slot: number },
+            6 => Instruction::Deliver { slot: number },
+            _ => Instruction::End,
+        }
+    }
+}
+
+/// The instructions of a party in a session, in order, in eight bytes each. Contracts see the list, after which comes
+/// the end.
 #[derive(Drop)]
 pub struct Program {
-    list: Vec<Instruction>,
+    list: Vec<Packed>,
 }
 
 impl Model for Program {
-    ghost use Rattle.std.specs.Prelude.{List};
+    ghost use Rattle.std.specs.Prelude.{List, map};
     ghost use Rattle.party_program.specs.declared.program.Instruction.{Instruction};
+    ghost use Rattle.party_program.specs.Packing.{unpacked};
 
     ghost Value = { List Instruction };
 
-    ghost view = { λ p. p.list.items };
+    ghost view = { λ p. map unpacked p.list.items };
 }
 
 impl Program {
-    pub(crate) fn of(list: Vec<Instruction>) -> Program
-        ensures { result ≡ list.items }
+    ghost use Rattle.std.specs.Prelude.{◌≡◌, ◌<◌, ◌++◌, [], ◌∷◌, IfOk, OnOk};
+    ghost use Rattle.party_program.specs.Packing.{named};
+
+    // No instruction yet, and room for so many.
+    pub(crate) fn with_room(alloc: Global, room: usize) -> Result<Program, AllocError>
+        ensures { IfOk result (λ made. made ≡ []) }
     {
-        Program { list }
+        let list = Vec::with_capacity(alloc, room)?;
+        Ok(Program { list })
+    }
+
+    // Adds an instruction.
+    pub(crate) fn push(&mut self, instruction: Instruction) -> Result<(), AllocError>
+        requires { named instruction < 536870912 }
+        ensures { OnOk result (self.new ≡ self.old ++ instruction ∷ []) }
+    {
+        self.list.push(Packed::of(instruction))?;
+        Ok(())
+    }
+
+    // Gives back the room that was not needed.
+    pub(crate) fn give_back(&mut self)
+        ensures { self.new ≡ self.old }
+    {
+        self.list.shrink_to_fit();
     }
 
     /// How many instructions come before the end.
@@ -67,7 +157,7 @@ impl Program {
     {
         match self.list.get(position as usize) {
             None => Instruction::End,
-            Some(instruction) => *instruction,
+            Some(packed) => packed.instruction(),
         }
     }
 }
