@@ -8,7 +8,7 @@ use Rattle.party_program.specs.Programs.{program}
 use Rattle.party_desk.specs.Rows.{row}
 use Rattle.party_program.specs.States.{Given, new_state, state}
 use Rattle.party_desk.specs.Memories.{state_of, Alike}
-use Rattle.party_desk.specs.Desks.{IsDesk}
+use Rattle.party_desk.specs.Desks.{IsDesk, posts_before, takes_before}
 
 same_at : {A : Type 0} (n i : ℕ) (a : A) → get_or (replicate n a) i a ≡ a
 same_at zero i a = refl
@@ -24,10 +24,10 @@ small_at q zero k d pos l = absurd (omega arith)
 small_at q (suc n) zero d pos l = pos
 small_at q (suc n) (suc k) d pos l = small_at q n k d pos (omega arith)
 
-pub begins : (l : Given) (d : Desk) → d.party ≡ l.party → d.session ≡ l.session → d.program ≡ program l.plan l.party l.session → d.position ≡ 0 → d.piece ≡ length l.tape → d.memory.inputs.items ≡ l.inputs → d.memory.tape ≡ l.tape
+pub begins : (l : Given) (d : Desk) → d.party ≡ l.party → d.session ≡ l.session → d.program ≡ program l.plan l.party l.session → d.position ≡ 0 → d.sent ≡ 0 → d.taken ≡ 0 → d.piece ≡ length l.tape → d.memory.inputs.items ≡ l.inputs → d.memory.tape ≡ l.tape
     → d.memory.rows.items ≡ replicate ((session l.plan l.session).wires * length l.plan.groups) 0 → d.memory.own ≡ 0 → d.memory.parts.items ≡ replicate (length l.plan.groups) 0 → d.memory.deals ≡ 0
     → d.memory.outputs.items ≡ replicate (length (readers (session l.plan l.session))) None → All (λ x. x < 2 ^ l.plan.bits) l.inputs → All (λ x. x < 2 ^ l.plan.bits) l.tape → IsDesk l d
-begins l d party session' list position piece inputs tape rows own parts deals outputs small words =
+begins l d party session' list position sent taken piece inputs tape rows own parts deals outputs small words =
     let q : ℕ = 2 ^ l.plan.bits in
     let m : ℕ = length l.plan.groups in
     let n : ℕ = (session l.plan l.session).wires * m in
@@ -38,6 +38,8 @@ begins l d party session' list position piece inputs tape rows own parts deals o
       session = session';
       list = list;
       position = omega arith;
+      sent = sent ∙ ap (posts_before (program l.plan l.party l.session)) (sym position);
+      taken = taken ∙ ap (takes_before (program l.plan l.party l.session)) (sym position);
       fits = record {
         rows = ap length rows ∙ many n 0;
         parts = ap length parts ∙ many m 0;

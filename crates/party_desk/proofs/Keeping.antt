@@ -18,7 +18,7 @@ use Rattle.party_program.specs.Programs.{program, at}
 use Rattle.party_desk.specs.Rows.{SameRow, SameRows}
 use Rattle.party_program.specs.States.{Given, State, slot_at, slot_of, gate_of, output_of, after, state, next, word_of, dealt_in, took_in, opened}
 use Rattle.party_desk.specs.Memories.{state_of, Alike, Fits}
-use Rattle.party_desk.specs.Desks.{Advanced, IsDesk, instruction_at}
+use Rattle.party_desk.specs.Desks.{Advanced, IsDesk, instruction_at, posts_in, takes_in, posts_before, takes_before}
 use Rattle.party_program.specs.Proper.{Deals, Proper, IsGiven, drawn_by}
 use Rattle.circuit_model.proofs.Setting.{set_here, set_there}
 
@@ -128,6 +128,8 @@ kept l d e w h proper inside given a =
       session = a.session ∙ h.session;
       list = a.program ∙ h.list;
       position = omega (arith, more, inside);
+      sent = a.sent ∙ ap₂ (λ x y. x + posts_in y) h.sent here ∙ ap (posts_before (program l.plan l.party l.session)) (sym more);
+      taken = a.taken ∙ ap₂ (λ x y. x + takes_in y) h.taken here ∙ ap (takes_before (program l.plan l.party l.session)) (sym more);
       fits = subst (λ z. Fits l.plan z e.memory) h.session a.fits;
       inputs = ap (λ z. z.items) a.inputs ∙ h.inputs;
       piece = a.piece ∙ h.piece;

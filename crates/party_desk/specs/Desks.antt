@@ -1,17 +1,15 @@
 -- A desk, and what a step does to it.
 use Rattle.std.specs.Prelude.{◌≡◌, ℕ, ◌+◌, ◌-◌, ◌*◌, ◌<◌, ◌≤◌, List, length, drop, slice_index, slice_index_or, Option, Some, None}
-use Rattle.job_plan.specs.Plans.{Plan, Slot, session, slots}
-use Rattle.job_plan.specs.Messages.{messages}
-use Rattle.job_plan.specs.Plans.Slot.{Input, At_gate, Output}
-use Rattle.job_plan.specs.Numbers.{message}
+use Rattle.mpc_ring.specs.Sums.{total}
+use Rattle.job_plan.specs.Plans.{Plan, session}
 use Rattle.message_board.specs.declared.cells.Posted.{Posted}
 use Rattle.party_program.specs.declared.program.Instruction.{Instruction}
-use Rattle.party_program.specs.declared.program.Instruction.TheVariants.{Deal, Post, Take, Linear, Own, Sum, Deliver, End}
+use Rattle.party_program.specs.declared.program.Instruction.TheVariants.{Deal, Post, Take, End}
 use Rattle.party_desk.specs.declared.desk.Desk.{Desk}
 use Rattle.party_desk.specs.declared.desk.Stepped.{Stepped}
 use Rattle.party_desk.specs.declared.desk.Stepped.TheVariants.{Moved, NotYet, Ended}
 use Rattle.party_program.specs.Programs.{program, at}
-use Rattle.party_program.specs.States.{Given, State, slot_at, slot_of, posted, after, state}
+use Rattle.party_program.specs.States.{Given, slot_at, slot_of, posted, after, state}
 use Rattle.job_plan.specs.Sound.{IsSound}
 use Rattle.party_program.specs.Proper.{drawn_by}
 use Rattle.party_desk.specs.Memories.{state_of, Alike, Fits, CanDeal}
@@ -27,12 +25,30 @@ module _ {C : Type 0} where
   Allowed may_post may_take c plan d (Take n i) = may_take c n
   Allowed may_post may_take c plan d _ = Unit {0}
 
+-- 1 for a post, and 1 for a take
+abbrev pub posts_in : Instruction → ℕ
+posts_in (Post n i) = 1
+posts_in _ = 0
+
+abbrev pub takes_in : Instruction → ℕ
+takes_in (Take n i) = 1
+takes_in _ = 0
+
+-- how many posts and takes stand before position q of a program
+abbrev pub posts_before : List Instruction → ℕ → ℕ
+posts_before es q = total q (λ j. posts_in (at es j))
+
+abbrev pub takes_before : List Instruction → ℕ → ℕ
+takes_before es q = total q (λ j. takes_in (at es j))
+
 -- the desk is one of the plan
 pub record Stands (plan : Plan) (d : Desk) : Type 0 where
   pub sound : IsSound plan
   pub session : d.session < length plan.sessions
   pub party : d.party < plan.parties
   pub position : d.position < 4294967295
+  pub sent : d.sent ≤ d.position
+  pub taken : d.taken ≤ d.position
   pub fits : Fits plan d.session d.memory
 
 -- the desk did this instruction, in which w was taken
@@ -41,6 +57,8 @@ pub record Advanced (plan : Plan) (w : ℕ) (e : Instruction) (before now : Desk
   pub session : now.session ≡ before.session
   pub program : now.program ≡ before.program
   pub position : now.position ≡ before.position + 1
+  pub sent : now.sent ≡ before.sent + posts_in e
+  pub taken : now.taken ≡ before.taken + takes_in e
   pub piece : now.piece ≡ before.piece
   pub fits : Fits plan before.session now.memory
   pub inputs : now.memory.inputs ≡ before.memory.inputs
@@ -67,13 +85,16 @@ module _ {C : Type 0} (put : C → ℕ → ℕ → Posted → C → Type 0) (too
   Did plan d c e f i (NotYet m) = Waits d c e f m i
   Did plan d c e f i Ended = (i ≡ End) × (e ≡ d) × (f ≡ c)
 
--- the desk stands where the first instructions of its program leave it: it has drawn as many words as they draw, the
--- first ones of its piece, and has the summands, sums and outputs that they make
+-- the desk stands where the first instructions of its program leave it: it has made as many posts and takes as stand
+-- among them, has drawn as many words as they draw, the first ones of its piece, and has the summands, sums and outputs
+-- that they make
 pub record IsDesk (l : Given) (d : Desk) : Type 0 where
   pub party : d.party ≡ l.party
   pub session : d.session ≡ l.session
   pub list : d.program ≡ program l.plan l.party l.session
   pub position : d.position ≤ length (program l.plan l.party l.session)
+  pub sent : d.sent ≡ posts_before (program l.plan l.party l.session) d.position
+  pub taken : d.taken ≡ takes_before (program l.plan l.party l.session) d.position
   pub fits : Fits l.plan l.session d.memory
   pub inputs : d.memory.inputs.items ≡ l.inputs
   pub piece : d.piece ≡ length l.tape

@@ -28,6 +28,8 @@ pub struct Desk {
     session: u32,
     program: Program,
     position: u32,
+    sent: u32,
+    taken: u32,
     piece: u32,
     memory: Memory,
 }
@@ -68,6 +70,8 @@ impl Desk {
             session,
             program: reserved.program,
             position: 0,
+            sent: 0,
+            taken: 0,
             piece,
             memory: Memory {
                 inputs: reserved.inputs,
@@ -142,6 +146,7 @@ impl Desk {
         let place = part.place(plan.message(number).slot);
         self.memory.take(plan, self.session, place, share, word);
         self.position += 1;
+        self.taken += 1;
     }
 
     fn pass(&mut self, plan: &Plan, number: u32, share: u32)
@@ -152,6 +157,7 @@ impl Desk {
         let _ = share;
         let _ = plan.parties();
         self.position += 1;
+        self.sent += 1;
     }
 
     fn linear(&mut self, plan: &Plan, slot: u32)
@@ -209,6 +215,20 @@ impl Desk {
         ensures { result ≡ self.now.position }
     {
         self.position
+    }
+
+    /// How many messages the desk has posted.
+    pub fn sent(&self) -> u32
+        ensures { result ≡ self.now.sent }
+    {
+        self.sent
+    }
+
+    /// How many messages the desk has taken.
+    pub fn taken(&self) -> u32
+        ensures { result ≡ self.now.taken }
+    {
+        self.taken
     }
 
     /// How many tape words the desk has drawn.

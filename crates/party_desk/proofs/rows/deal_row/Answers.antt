@@ -1,4 +1,4 @@
-use Rattle.std.proofs.Common.{◌≡◌, ℕ, ◌<◌, ◌∙◌, arith, ap, refl, length, drop}
+use Rattle.std.proofs.Common.{◌≡◌, ◌∙◌, arith, refl, length}
 use Rattle.std.specs.Prelude.{slice_index}
 use Rattle.secret_sharing.specs.Sharing.{dealt}
 use Rattle.party_desk.specs.Rows.{row}

@@ -1,4 +1,4 @@
-use Rattle.std.proofs.Common.{◌≡◌, ℕ, ◌∙◌, ap, arith, length}
+use Rattle.std.proofs.Common.{◌∙◌, ap, arith}
 use Rattle.product_duty.specs.Duties.{scheme_of}
 use Rattle.party_desk.specs.Rows.{row}
 use Rattle.party_desk.proofs.Tables.{row_part}
