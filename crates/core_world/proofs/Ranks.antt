@@ -10,7 +10,7 @@ use Rattle.std.proofs.lemmas.Nat.{div-mul-add, mod-mul-add}
 use mathlib.Core.Logic.{inl, inr}
 use Rattle.mpc_ring.specs.Sums.{joined, only_if}
 use Rattle.circuit_model.specs.Circuits.{is_product}
-use Rattle.job_plan.specs.Plans.{structure, readers, owners, Plan, Slot, session, gate, slot, slots, holds, least_holder, deals_in, IsPlan}
+use Rattle.job_plan.specs.Plans.{readers, owners, Plan, Slot, session, gate, slot, slots, holds, least_holder, deals_in, IsPlan}
 use Rattle.job_plan.specs.declared.key.Key.{Key}
 use Rattle.party_set.specs.Parties.{has_party}
 use Rattle.job_plan.specs.Messages.{messages, slot_messages, deal_message, deal_messages, open_messages}

@@ -1,6 +1,7 @@
 -- A step of a desk keeps the state of a world.
-use Rattle.std.proofs.Common.{◌≡◌, ◌⊎◌, ℕ, zero, suc, ◌+◌, ◌-◌, ◌*◌, ◌/◌, ◌%◌, ◌<◌, ◌≤◌, ◌≢◌, ◌^◌, List, [], ◌∷◌, length, get_or, set, get_or-set_other, get_or-set_same, refl, sym, ap, ◌∙◌, subst, arith, inl, inr, ⊎_elim}
-use Rattle.std.specs.Prelude.{Option, Some, None}
+use Rattle.std.proofs.Common.{◌≡◌, ◌⊎◌, ℕ, zero, suc, ◌+◌, ◌-◌, ◌*◌, ◌/◌, ◌%◌, ◌<◌, ◌≤◌, ◌≢◌, ◌^◌, List, [], ◌∷◌, length, get_or, set, get_or-set_other, get_or-set_same, refl, sym, ap, ap₂, ◌∙◌, subst, arith, inl, inr, ⊎_elim}
+use Rattle.std.specs.Prelude.{Option, Some, None, is_some, if◌then◌else◌, slice_get, map}
+use Rattle.std.specs.Option.{option_map}
 use Rattle.std.proofs.Math.ListN.{length-set}
 use Rattle.std.proofs.lemmas.List.{set-get_or, length-drop, get_or_default}
 use Rattle.std.proofs.lemmas.Bool.{cases_eq, cases_lt}
@@ -21,8 +22,9 @@ use Rattle.party_desk.specs.declared.desk.Stepped.TheVariants.{Moved, NotYet, En
 use Rattle.party_program.specs.Programs.{program, at}
 use Rattle.party_program.specs.States.{Given, State, slot_at, slot_of, posted, state}
 use Rattle.party_desk.specs.Memories.{state_of, Alike, Fits, CanDeal, FindsInput}
-use Rattle.party_desk.specs.Desks.{Stands, Allowed, Advanced, Effect, Waits, Did, IsDesk, instruction_at}
+use Rattle.party_desk.specs.Desks.{posts_in, takes_in, posts_before, takes_before, Stands, Allowed, Advanced, Effect, Waits, Did, IsDesk, instruction_at}
 use Rattle.party_program.specs.Proper.{Proper, IsGiven, HasInput}
+use Rattle.core_world.specs.Schedules.{Standing, standing, told, cells_after, step_from, step, tells}
 use Rattle.core_world.specs.States.{IsState, Stuck, moves_of, left, left_all, puts, takes_from}
 use Rattle.program_laws.specs.Lawful.{given_to, program_of, IsWhole, Lawful}
 use Rattle.party_desk.proofs.Keeping.{kept}
@@ -34,9 +36,54 @@ left_set [] k e d l = absurd (omega arith)
 left_set (x ∷ ds) zero e d l = omega arith
 left_set (x ∷ ds) (suc k) e d l = let a = left_set ds k e d (omega arith) in omega arith
 
+-- the positions of desks
+pub position_at : (ds : List Desk) (k : ℕ) (d : Desk) → k < length ds → slice_get (map (λ z. z.position) ds) k ≡ Some (get_or ds k d).position
+position_at [] k d l = absurd (omega arith)
+position_at (x ∷ ds) zero d l = refl
+position_at (x ∷ ds) (suc k) d l = position_at ds k d (omega arith)
+
+pub no_position : (ds : List Desk) (k : ℕ) → length ds ≤ k → slice_get (map (λ z. z.position) ds) k ≡ None
+no_position [] k l = refl
+no_position (x ∷ ds) zero l = absurd (omega arith)
+no_position (x ∷ ds) (suc k) l = no_position ds k (omega arith)
+
+positions_set : (ds : List Desk) (k : ℕ) (e : Desk) → map (λ z. z.position) (set ds k e) ≡ set (map (λ z. z.position) ds) k e.position
+positions_set [] k e = refl
+positions_set (x ∷ ds) zero e = refl
+positions_set (x ∷ ds) (suc k) e = ap (λ z. x.position ∷ z) (positions_set ds k e)
+
 pub stuck_any : (w : World) (ds : List Desk) (cells : List (Option ℕ)) (k : ℕ) (d e : Desk) → k < length ds → Stuck w ds cells k d → Stuck w ds cells k e
 stuck_any w ds cells k d e l h =
     subst (λ (x : Desk). (x.position ≡ length (program_of w k)) ⊎ ((n : ℕ) × (i : ℕ) × (at (program_of w k) x.position ≡ Take n i) × (plain_cell cells n ≡ None))) (get_or_default ds k d e l) h
+
+-- at most one message for each instruction
+one_post : (e : Instruction) → posts_in e ≤ 1
+one_post (Post n i) = omega arith
+one_post (Deal k d) = omega arith
+one_post (Take n i) = omega arith
+one_post (Linear k) = omega arith
+one_post (Own k) = omega arith
+one_post (Sum k) = omega arith
+one_post (Deliver k) = omega arith
+one_post End = omega arith
+
+one_take : (e : Instruction) → takes_in e ≤ 1
+one_take (Take n i) = omega arith
+one_take (Deal k d) = omega arith
+one_take (Post n i) = omega arith
+one_take (Linear k) = omega arith
+one_take (Own k) = omega arith
+one_take (Sum k) = omega arith
+one_take (Deliver k) = omega arith
+one_take End = omega arith
+
+posts_few : (es : List Instruction) (q : ℕ) → posts_before es q ≤ q
+posts_few es zero = omega arith
+posts_few es (suc q) = let a = posts_few es q in let b = one_post (at es q) in omega arith
+
+takes_few : (es : List Instruction) (q : ℕ) → takes_before es q ≤ q
+takes_few es zero = omega arith
+takes_few es (suc q) = let a = takes_few es q in let b = one_take (at es q) in omega arith
 
 -- desk k is one of a session and a party
 party_within : (w : World) (k : ℕ) → Lawful w → k % w.plan.parties < w.plan.parties
@@ -88,6 +135,8 @@ module _ (w : World) (lawful : Lawful w) (ds : List Desk) (cells : PlainCells) (
     session = subst (λ z. z < length w.plan.sessions) (sym is_desk.session) within;
     party = subst (λ z. z < w.plan.parties) (sym is_desk.party) party;
     position = (let a : d.position ≤ length (program w.plan l.party l.session) = is_desk.position in let b : length (program w.plan l.party l.session) < 4294967295 = lawful.short l.party l.session in omega arith);
+    sent = (let a : d.sent ≡ posts_before (program w.plan l.party l.session) d.position = is_desk.sent in let b = posts_few (program w.plan l.party l.session) d.position in omega arith);
+    taken = (let a : d.taken ≡ takes_before (program w.plan l.party l.session) d.position = is_desk.taken in let b = takes_few (program w.plan l.party l.session) d.position in omega arith);
     fits = subst (λ z. Fits w.plan z d.memory) (sym is_desk.session) is_desk.fits;
   }
 
@@ -258,6 +307,57 @@ module _ (w : World) (lawful : Lawful w) (ds : List Desk) (cells : PlainCells) (
   stepped e new Moved f = moved e new f.0 f.1 f.2
   stepped e new (NotYet m) f = waited e new m i f
   stepped e new Ended f = stayed e new f.1 f.2
+
+  -- ---- where a step leaves the desks and the cells
+
+  record StepsAs (e : Desk) (new : PlainCells) (r : Stepped) (j : Instruction) : Type 0 where
+    pub position : e.position ≡ d.position + moves_of r
+    pub holds : new.cells ≡ cells_after w j cells.cells
+    pub tells : r ≡ told cells.cells j
+
+  moved_as : (e : Desk) (new : PlainCells) (x : ℕ) (j : Instruction) → i ≡ j → e.position ≡ d.position + 1 → Effect puts takes_from w.plan d x cells new j → StepsAs e new Moved j
+  moved_as e new x (Deal k j) is a f = record { position = a; holds = ap (λ z. z.cells) f; tells = refl }
+  moved_as e new x (Post n j) is a f = record { position = a; holds = ap (λ z. z.cells) f.1.0 ∙ ap (plain_put cells.cells n) (posts_right n j is); tells = refl }
+  moved_as e new x (Take n j) is a f = record { position = a; holds = ap (λ z. z.cells) f.0; tells = ap (λ z. if is_some z then Moved else NotYet n) f.1 }
+  moved_as e new x (Linear k) is a f = record { position = a; holds = ap (λ z. z.cells) f; tells = refl }
+  moved_as e new x (Own k) is a f = record { position = a; holds = ap (λ z. z.cells) f; tells = refl }
+  moved_as e new x (Sum k) is a f = record { position = a; holds = ap (λ z. z.cells) f; tells = refl }
+  moved_as e new x (Deliver k) is a f = record { position = a; holds = ap (λ z. z.cells) f; tells = refl }
+  moved_as e new x End is a f = absurd f
+
+  waited_as : (e : Desk) (new : PlainCells) (m : ℕ) (j : Instruction) → Waits puts takes_from d cells e new m j → StepsAs e new (NotYet m) j
+  waited_as e new m (Take n j) f = record { position = ap (λ z. z.position) f.1 ∙ omega arith; holds = ap (λ z. z.cells) f.2.0; tells = ap NotYet f.0 ∙ ap (λ z. if is_some z then Moved else NotYet n) f.2.1 }
+  waited_as e new m (Deal k j) f = absurd f
+  waited_as e new m (Post k j) f = absurd f
+  waited_as e new m (Linear k) f = absurd f
+  waited_as e new m (Own k) f = absurd f
+  waited_as e new m (Sum k) f = absurd f
+  waited_as e new m (Deliver k) f = absurd f
+  waited_as e new m End f = absurd f
+
+  steps_as : (e : Desk) (new : PlainCells) (r : Stepped) → Did puts takes_from w.plan d cells e new i r → StepsAs e new r i
+  steps_as e new Moved f = moved_as e new f.0 i refl f.1.position f.2
+  steps_as e new (NotYet m) f = waited_as e new m i f
+  steps_as e new Ended f = subst (StepsAs e new Ended) (sym f.0) (record { position = ap (λ z. z.position) f.1 ∙ omega arith; holds = ap (λ z. z.cells) f.2; tells = refl })
+
+  found : slice_get (map (λ z. z.position) ds) k ≡ Some d.position
+  found = position_at ds k d0 inside
+
+  next : Instruction
+  next = at (program_of w k) d.position
+
+  pub stands_as : (e : Desk) (new : PlainCells) (r : Stepped) → Did puts takes_from w.plan d cells e new i r → standing (set ds k e) new ≡ step w k (standing ds cells)
+  stands_as e new r f =
+      let a = subst (StepsAs e new r) here (steps_as e new r f) in
+      ap₂ (λ (xs : List ℕ) (ys : List (Option ℕ)). let both : Standing = record { positions = xs; cells = ys } in both)
+      (positions_set ds k e ∙ ap (set (map (λ z. z.position) ds) k) (a.position ∙ ap (λ z. d.position + moves_of z) a.tells))
+      a.holds
+      ∙ ap (step_from w k (standing ds cells)) (sym found)
+
+  pub tells_as : (e : Desk) (new : PlainCells) (r : Stepped) → Did puts takes_from w.plan d cells e new i r → Some r ≡ tells w k (standing ds cells)
+  tells_as e new r f =
+      ap Some (subst (StepsAs e new r) here (steps_as e new r f)).tells
+      ∙ ap (option_map (λ q. told cells.cells (at (program_of w k) q))) (sym found)
 
   -- ---- what a step counts
 

@@ -1,9 +1,10 @@
 //! Steps of many desks on one list of cells.
-ghost use Rattle.std.specs.Prelude.{◌≡◌, ℕ, ◌+◌, ◌<◌, length};
+ghost use Rattle.std.specs.Prelude.{◌≡◌, ℕ, ◌+◌, ◌<◌, length, Some};
 ghost use Rattle.share_world.specs.Worlds.{World};
 ghost use Rattle.party_desk.specs.declared.desk.Desk.{Desk};
 ghost use Rattle.program_laws.specs.Lawful.{Lawful, IsWhole};
 ghost use Rattle.core_world.specs.States.{IsState, moves_of, left_all, Stuck, AllStuck, AllEnded, Delivers, AllFull};
+ghost use Rattle.core_world.specs.Schedules.{standing, step, tells};
 
 use job_plan::Plan;
 use message_board::PlainCells;
@@ -14,6 +15,8 @@ fn step_at(plan: &Plan, desks: &mut [Desk], cells: &mut PlainCells, k: usize) ->
     requires within { k < length desks.old }
     requires state { (w : World) × (w.plan ≡ plan.now) × Lawful w × IsState w desks.old cells.old }
     ensures state { (w : World) → w.plan ≡ plan.now → Lawful w → IsState w desks.old cells.old → IsState w desks.new cells.new }
+    ensures stands { (w : World) → w.plan ≡ plan.now → Lawful w → IsState w desks.old cells.old → standing desks.new cells.new ≡ step w k (standing desks.old cells.old) }
+    ensures tells { (w : World) → w.plan ≡ plan.now → Lawful w → IsState w desks.old cells.old → Some result ≡ tells w k (standing desks.old cells.old) }
     ensures left { moves_of result + left_all desks.new ≡ left_all desks.old }
     ensures still { moves_of result ≡ 0 → (desks.new ≡ desks.old) × (cells.new ≡ cells.old) }
     ensures stuck { (w : World) (d : Desk) → w.plan ≡ plan.now → IsWhole w → IsState w desks.old cells.old → moves_of result ≡ 0 → Stuck w desks.old cells.old.cells k d }
@@ -60,12 +63,14 @@ fn finish_all(plan: &Plan, desks: &mut [Desk], cells: &mut PlainCells)
 }
 
 /// Steps desk `k` of a list.
-pub fn step_one(plan: &Plan, desks: &mut Vec<Desk>, cells: &mut PlainCells, k: usize)
+pub fn step_one(plan: &Plan, desks: &mut Vec<Desk>, cells: &mut PlainCells, k: usize) -> Stepped
     requires within { k < length desks.old.items }
     requires state { (w : World) × (w.plan ≡ plan.now) × Lawful w × IsState w desks.old.items cells.old }
     ensures state { (w : World) → w.plan ≡ plan.now → Lawful w → IsState w desks.old.items cells.old → IsState w desks.new.items cells.new }
+    ensures stands { (w : World) → w.plan ≡ plan.now → Lawful w → IsState w desks.old.items cells.old → standing desks.new.items cells.new ≡ step w k (standing desks.old.items cells.old) }
+    ensures tells { (w : World) → w.plan ≡ plan.now → Lawful w → IsState w desks.old.items cells.old → Some result ≡ tells w k (standing desks.old.items cells.old) }
 {
-    let _ = step_at(plan, desks.as_mut_slice(), cells, k);
+    step_at(plan, desks.as_mut_slice(), cells, k)
 }
 
 /// Steps all desks of a list to their end.

@@ -5,7 +5,7 @@ use crate::opening::open_desks;
 use crate::stepping::{finish_list, step_one};
 use job_plan::{Inputs, Plan};
 use message_board::PlainCells;
-use party_desk::Desk;
+use party_desk::{Desk, Stepped};
 use std::alloc::{AllocError, Global};
 use tape_words::Tape;
 
@@ -26,7 +26,8 @@ impl World {
     ghost use Rattle.program_laws.specs.Lawful.{IsWhole};
     ghost use Rattle.job_plan.specs.InputWords.{AreInputs};
     ghost use Rattle.core_world.specs.Opening.{world_of, ArePieces};
-    ghost use Rattle.core_world.specs.Running.{IsStart, IsRunOf, Runs, IsFinish, desk_number, cell_of, output_of, drawn_by};
+    ghost use Rattle.core_world.specs.Running.{IsStart, IsRunOf, IsMoment, Runs, IsFinish, desk_number, cell_of, output_of, position_of, drawn_by, standing_of};
+    ghost use Rattle.core_world.specs.Schedules.{step, tells, run};
 
     /// The world of these inputs and pieces of tape, before its first step. The pieces stand in the order of the
     /// desks' numbers.
@@ -54,19 +55,26 @@ impl World {
     /// Steps the desk of each entry in turn. An entry that is no desk's number changes nothing.
     pub fn run(&mut self, plan: &Plan, schedule: &[u32])
         requires { Runs plan.now self.old }
-        ensures { (w : Described) → w.plan ≡ plan.now → IsWhole w → IsRunOf w self.old → IsRunOf w self.new }
+        ensures moment { (w : Described) → w.plan ≡ plan.now → IsWhole w → IsRunOf w self.old → IsMoment w self.new }
+        ensures stands { (w : Described) → w.plan ≡ plan.now → IsWhole w → IsRunOf w self.old → standing_of self.new ≡ run w schedule.now (standing_of self.old) }
     {
         for k in schedule {
-            self.step_one(plan, *k);
+            let _ = self.step(plan, *k);
         }
     }
 
-    fn step_one(&mut self, plan: &Plan, k: u32)
+    /// Steps the desk of this number, and tells what the step did; None where no desk has the number, and then nothing
+    /// changes.
+    pub fn step(&mut self, plan: &Plan, k: u32) -> Option<Stepped>
         requires { Runs plan.now self.old }
-        ensures { (w : Described) → w.plan ≡ plan.now → IsWhole w → IsRunOf w self.old → IsRunOf w self.new }
+        ensures moment { (w : Described) → w.plan ≡ plan.now → IsWhole w → IsRunOf w self.old → IsMoment w self.new }
+        ensures stands { (w : Described) → w.plan ≡ plan.now → IsWhole w → IsRunOf w self.old → standing_of self.new ≡ step w k (standing_of self.old) }
+        ensures tells { (w : Described) → w.plan ≡ plan.now → IsWhole w → IsRunOf w self.old → result ≡ tells w k (standing_of self.old) }
     {
         if (k as usize) < self.desks.len() {
-            step_one(plan, &mut self.desks, &mut self.cells, k as usize);
+            Some(step_one(plan, &mut self.desks, &mut self.cells, k as usize))
+        } else {
+            None
         }
     }
 
@@ -102,6 +110,14 @@ impl World {
         ensures { (d : Desk) → result ≡ output_of self.now session output reader d }
     {
         self.desk(session, reader).delivered(output)
+    }
+
+    /// How many instructions the party has done in the session.
+    pub fn position(&self, party: u32, session: u32) -> u32
+        requires { (w : Described) × IsRunOf w self.now × (session < length w.plan.sessions) × (party < w.plan.parties) }
+        ensures { (d : Desk) → result ≡ position_of self.now session party d }
+    {
+        self.desk(session, party).position()
     }
 
     /// How many tape words the party has drawn in the session.
