@@ -1,3 +1,4 @@
+pub mod Gathers
 pub mod Past
 pub mod Pieces
 pub mod Room

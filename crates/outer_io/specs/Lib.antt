@@ -1,4 +1,5 @@
 pub mod Count
 pub mod Files
 pub mod Sink
+pub mod Gathering
 pub mod Memory
