@@ -1,7 +1,7 @@
-//! Numbers, words and groups, written at the end of a text.
+//! Numbers and groups, written at the end of a text.
 ghost use Rattle.std.specs.Prelude.{◌≡◌, ◌<◌, ◌++◌, OnOk, codes, decimal, length};
 ghost use Rattle.mpc_ring.specs.Sums.{only_if};
-ghost use Rattle.text_parts.specs.Parts.{words_text, group_text, member_text};
+ghost use Rattle.text_parts.specs.Parts.{group_text, member_text};
 
 use itoa::Buffer;
 use party_set::{Group, Names};
@@ -19,17 +19,6 @@ pub fn push_number(text: &mut Vec<u8>, number: u64) -> Result<(), AllocError>
     ensures { OnOk result (text.new.items ≡ text.old.items ++ decimal number) }
 {
     text.extend_from_slice(Buffer::new().format(number).as_bytes())
-}
-
-/// Adds words, each after a space.
-pub fn push_words(text: &mut Vec<u8>, words: &[u64]) -> Result<(), AllocError>
-    ensures { OnOk result (text.new.items ≡ text.old.items ++ words_text words.now) }
-{
-    for word in words {
-        push_text(text, b" ")?;
-        push_number(text, *word)?;
-    }
-    Ok(())
 }
 
 /// Adds the names of a group's members, in order and joined by `+`, or `0` for the empty group.

@@ -1,4 +1,8 @@
-use crate::{push_group, push_head, push_number_key, push_signed_key, push_text_key, push_words};
+use crate::{
+    gather_group, gather_number, gather_word, push_group, push_head, push_number_key,
+    push_signed_key, push_text_key,
+};
+use outer_io::{Blocks, Gather, VecSink};
 use party_set::{Group, read_names};
 use std::test::Fail;
 
@@ -27,8 +31,16 @@ fn members_are_joined(rt: HostRuntime) -> Result<(), Fail> {
     let names = read_names(alloc, &texts)?;
     let mut text = Vec::new(alloc);
     push_group(&mut text, Group::empty(3).with(2).with(0), &names)?;
-    push_words(&mut text, &[7, 10])?;
     push_group(&mut text, Group::empty(3), &names)?;
-    assert!(rt; text.as_slice() == b"a+c 7 100".as_slice());
+    assert!(rt; text.as_slice() == b"a+c0".as_slice());
+    let mut sink = VecSink::new(Vec::with_capacity(alloc, 20)?, 20, Vec::new(alloc));
+    let mut blocks = Blocks::new(&mut sink);
+    gather_group(&mut blocks, Group::empty(3).with(2).with(0), &names);
+    blocks.push(b" ");
+    gather_number(&mut blocks, 7);
+    gather_word(&mut blocks, 10);
+    gather_group(&mut blocks, Group::empty(3), &names);
+    assert!(rt; blocks.finish().is_ok());
+    assert_eq!(rt; sink.bytes(), b"a+c 7 100".as_slice());
     Ok(())
 }
