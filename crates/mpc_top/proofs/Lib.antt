@@ -4,3 +4,4 @@ mod Jobs
 mod Looping
 mod Renaming
 mod Steps
+mod Writing

@@ -1,6 +1,7 @@
 //! Why a call stops.
 ghost use Rattle.std.specs.Prelude.{◌≡◌, MatchResult};
 
+use outer_io::Failed;
 use std::alloc::{AllocError, AllocFailed};
 
 /// Why a call stops before its end.
@@ -67,5 +68,16 @@ impl<T: Drop> From<AllocFailed<T>> for Stop {
 
     fn from(_: AllocFailed<T>) -> Self {
         Stop::Memory
+    }
+}
+
+impl From<Failed> for Stop {
+    ghost use Rattle.std.specs.Prelude.{◌≡◌};
+    ghost use Rattle.mpc_top.specs.declared.stop.Stop.TheVariants.{Out};
+
+    ghost from_gives = { λ _ stop. stop ≡ Out };
+
+    fn from(_: Failed) -> Self {
+        Stop::Out
     }
 }

@@ -4,7 +4,7 @@ ghost use Rattle.command_words.specs.Commands.{command_of};
 ghost use Rattle.mpc_top.specs.Command.{words_view, Runs, Answers};
 
 use crate::Stop;
-use crate::running::text_of;
+use crate::running::run_command;
 use crate::text::write_stop;
 use command_words::read_command;
 use outer_io::{Files, Sink};
@@ -22,11 +22,7 @@ fn run<F: Files, O: Sink>(
     let Ok(command) = read_command(words) else {
         return Err(Stop::Words);
     };
-    let text = text_of(alloc, files, command)?;
-    match out.write(&text) {
-        Ok(()) => Ok(()),
-        Err(_) => Err(Stop::Out),
-    }
+    run_command(alloc, files, out, command)
 }
 
 /// Runs the command of the words over the files, and gives the exit status: 0 where it was done, 2 where the words are

@@ -1,11 +1,15 @@
-use Rattle.mpc_top.specs.Command.{TextOf}
-use Rattle.mpc_top.proofs.Steps.{reads_exit, reads_then, reads_text}
-use Rattle.mpc_top.proofs.running.check_text_of.Goals as goal
+use Rattle.std.proofs.Common.{List, ℕ, refl}
+use Rattle.command_words.specs.Commands.{check}
+use Rattle.output_text.specs.CheckText.{check_text}
+use Rattle.mpc_top.proofs.Writing.{runs_stop, runs_written, runs_cut, check_stops, check_read}
+use Rattle.mpc_top.proofs.running.check_job.Goals as goal
 
 pub returns-in_err-planned : goal.returns-in_err-planned
-unfolding TextOf
-returns-in_err-planned g c = reads_exit _ _ _ _ _ _ _ _ c.from_residual.ensures.1 c.in_err-planned.ensures.reads
+returns-in_err-planned g c =
+    runs_stop (check c.args.dir.now) _ _ _ _ (λ (t : List ℕ). t) _ _ c.from_residual.ensures.1 refl (check_stops c.args.dir.now _ _ _ c.in_err-planned.ensures.reads)
+
+pub returns-in_err-write_check : goal.returns-in_err-write_check
+returns-in_err-write_check g c = ?
 
 pub returns : goal.returns
-unfolding TextOf
-returns g c = reads_then _ _ _ _ _ _ _ _ _ c.in_ok-planned.ensures.reads (reads_text _ _ _ c.in_ok-check_text.ensures)
+returns g c = ?

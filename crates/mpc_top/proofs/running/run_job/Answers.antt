@@ -1,21 +1,26 @@
-use Rattle.std.proofs.Common.{refl}
+use Rattle.std.proofs.Common.{List, ℕ, refl, ◌∙◌}
 use Rattle.job_run.specs.Hands.{world_of}
+use Rattle.command_words.specs.Commands.{run}
+use Rattle.output_text.specs.OutText.{out_text}
 use Rattle.mpc_top.specs.Seen.{hands_view}
-use Rattle.mpc_top.specs.Command.{TextOf}
-use Rattle.mpc_top.proofs.Steps.{reads_exit, reads_then, reads_text}
-use Rattle.mpc_top.proofs.Jobs.{job_stops, job_stops_later, job_read}
-use Rattle.mpc_top.proofs.running.run_text.Goals as goal
+use Rattle.mpc_top.proofs.Writing.{runs_stop, runs_memory, runs_written, runs_cut, run_stops, run_stops_later, run_read}
+use Rattle.mpc_top.proofs.running.run_job.Goals as goal
 
 pub returns-in_err-planned : goal.returns-in_err-planned
-unfolding TextOf
-returns-in_err-planned g c = reads_exit _ _ _ _ _ _ _ _ c.from_residual.ensures.1 (job_stops c.args.dir.now _ _ _ c.in_err-planned.ensures.reads)
+returns-in_err-planned g c =
+    runs_stop (run c.args.dir.now) _ _ _ _ (λ (t : List ℕ). t) _ _ c.from_residual.ensures.1 refl (run_stops c.args.dir.now _ _ _ c.in_err-planned.ensures.reads)
 
 pub returns-in_err-hands : goal.returns-in_err-hands
-unfolding TextOf
 returns-in_err-hands g c =
-    reads_exit _ _ _ _ _ _ _ _ c.from_residual-in_err-hands.ensures.1 (job_stops_later c.args.dir.now c.in_ok-planned.planned _ _ _ c.in_ok-planned.ensures.reads _ c.in_err-hands.ensures.reads)
+    runs_stop (run c.args.dir.now) _ _ _ _ (λ (t : List ℕ). t) _ _ c.from_residual-in_err-hands.ensures.1 refl
+    (run_stops_later c.args.dir.now c.in_ok-planned.planned _ _ _ c.in_ok-planned.ensures.reads _ c.in_err-hands.ensures.reads)
+
+pub returns-in_err-world : goal.returns-in_err-world
+returns-in_err-world g c =
+    runs_memory (run c.args.dir.now) _ _ _ _ _ c.from_residual-in_err-world.ensures.1 refl (c.in_ok-hands.ensures.reads.quiet ∙ c.in_ok-planned.ensures.reads.quiet)
+
+pub returns-in_err-write_out : goal.returns-in_err-write_out
+returns-in_err-write_out g c = ?
 
 pub returns : goal.returns
-unfolding TextOf
-returns g c =
-    reads_then _ _ _ _ _ _ _ _ _ (job_read c.args.dir.now c.in_ok-planned.planned _ _ _ c.in_ok-planned.ensures.reads c.in_ok-hands.hands c.in_ok-hands.ensures.reads) (reads_text _ _ _ (c.in_ok-out_text.ensures (world_of c.in_ok-planned.planned.plan (hands_view c.in_ok-hands.hands)) refl c.in_ok-world.ensures))
+returns g c = ?
