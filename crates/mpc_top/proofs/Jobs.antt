@@ -1,5 +1,5 @@
 -- A job that was read, step by step.
-use Rattle.std.proofs.Common.{ℕ, List, [], Result, Ok, Err, Vec}
+use Rattle.std.proofs.Common.{ℕ, List, [], Ok, Err, Vec}
 use Rattle.std.specs.declared.alloc.Global.{Global}
 use Rattle.outer_io.specs.Files.{FilesReading}
 use Rattle.party_file.specs.declared.data.PartyData.{PartyData}

@@ -1,6 +1,6 @@
 -- How the steps of the walk follow each other.
-use Rattle.std.proofs.Common.{◌≡◌, ℕ, ◌≤◌, ◌<◌, List, length, Option, None, Some, Result, Ok, Err, Vec, refl, arith, ap, ◌∙◌, sym, subst, inl, inr}
-use Rattle.std.specs.Prelude.{IfSome, IfOk, IfErr, IsErrAnd, IsTrue, MatchResult}
+use Rattle.std.proofs.Common.{◌≡◌, ℕ, ◌≤◌, List, None, Some, Result, Ok, Err, Vec, refl, arith, ◌∙◌, sym, subst, inl, inr}
+use Rattle.std.specs.Prelude.{IfSome, IfOk, IsErrAnd, IsTrue, MatchResult}
 use Rattle.std.specs.declared.alloc.Global.{Global}
 use Rattle.std.specs.declared.alloc.AllocError.{AllocError}
 use Rattle.std.proofs.lemmas.Result.{err_from_is_err_and}
@@ -202,7 +202,3 @@ module _ (line : Result (Vec ℕ Global) AllocError) (stop : Stop) (text : List 
 -- nothing is left to read
 pub reads_end : {A C : Type 0} (seen : C → A) (now : FilesReading) (c : C) → ReadsAs seen (λ m. Ends (accepted (seen c))) now now (Ok c)
 reads_end seen now c = reads_walk seen (Ends (accepted (seen c))) now (Ok c) (record { ok = refl; stop = tt })
-
--- a text that is known
-pub reads_text : (now : FilesReading) (text : Vec ℕ Global) (wanted : List ℕ) → text.items ≡ wanted → ReadsAs (λ (t : Vec ℕ Global). t.items) (λ m. Ends (accepted wanted)) now now (Ok text)
-reads_text now text wanted is = reads_walk (λ (t : Vec ℕ Global). t.items) (Ends (accepted wanted)) now (Ok text) (record { ok = ap accepted is; stop = tt })

@@ -1,5 +1,5 @@
 -- Commands that read all that their text is made of, and then write it.
-use Rattle.std.proofs.Common.{◌≡◌, List, [], ℕ, Result, Ok, Err, refl, sym, ◌∙◌}
+use Rattle.std.proofs.Common.{◌≡◌, List, [], ℕ, Result, Ok, Err}
 use Rattle.std.specs.Prelude.{Some, IsErrAnd, Vec}
 use Rattle.std.specs.declared.alloc.Global.{Global}
 use Rattle.std.proofs.lemmas.Result.{err_from_is_err_and}
@@ -14,7 +14,7 @@ use Rattle.output_text.specs.CheckText.{check_text}
 use Rattle.mpc_top.specs.declared.planned.Planned as code
 use Rattle.mpc_top.specs.declared.stop.Stop.{Stop}
 use Rattle.mpc_top.specs.declared.stop.Stop.TheVariants.{Memory, Words, Out, Files, Refused, Covering}
-use Rattle.mpc_top.specs.JobOf.{Job, PlanAt, HandsAfter, JobAt}
+use Rattle.mpc_top.specs.JobOf.{Job, PlanAt, HandsAfter}
 use Rattle.mpc_top.specs.Seen.{planned_view, hands_view}
 use Rattle.mpc_top.specs.Reading.{ReadsAs, StopsAt}
 use Rattle.mpc_top.specs.Command.{TextOf, HasCause, Runs}
@@ -46,7 +46,7 @@ module _ (command : CommandForm) (files files' : FilesReading) (out out' : SinkR
   -- a text that was read, and could not be written
   pub runs_cut : (text : List ℕ) (failed : Failed) (result : Result Unit Stop) → IsErrAnd result (λ e. e ≡ Out)
       → ReadsAs (λ (t : List ℕ). t) (TextOf command) files files' (Ok text) → Writes text out out' (Err failed) → Runs (Some command) files files' out out' result
-  runs_cut text failed result is r w = let p = err_from_is_err_and result is in rw (p.1, p.2) (record { ok = tt; quiet = tt; stop = (r.quiet, text, r.ok, failed, w) })
+  runs_cut text failed result is r w = let p = err_from_is_err_and result is in rw (p.1, p.2) (record { ok = tt; quiet = tt; stop = (r.quiet, (text, r.ok, (failed, w))) })
 
 -- ---- what is read for each command
 

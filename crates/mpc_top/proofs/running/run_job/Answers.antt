@@ -20,7 +20,13 @@ returns-in_err-world g c =
     runs_memory (run c.args.dir.now) _ _ _ _ _ c.from_residual-in_err-world.ensures.1 refl (c.in_ok-hands.ensures.reads.quiet ∙ c.in_ok-planned.ensures.reads.quiet)
 
 pub returns-in_err-write_out : goal.returns-in_err-write_out
-returns-in_err-write_out g c = ?
+returns-in_err-write_out g c =
+    let read = run_read c.args.dir.now c.in_ok-planned.planned _ _ _ c.in_ok-planned.ensures.reads c.in_ok-hands.hands c.in_ok-hands.ensures.reads in
+    let w = world_of c.in_ok-planned.planned.plan (hands_view c.in_ok-hands.hands) in
+    runs_cut (run c.args.dir.now) _ _ _ _ (out_text c.in_ok-planned.planned.names w) _ _ c.from_residual-in_err-write_out.ensures.1 read (c.in_err-write_out.ensures w refl c.in_ok-world.ensures)
 
 pub returns : goal.returns
-returns g c = ?
+returns g c =
+    let read = run_read c.args.dir.now c.in_ok-planned.planned _ _ _ c.in_ok-planned.ensures.reads c.in_ok-hands.hands c.in_ok-hands.ensures.reads in
+    let w = world_of c.in_ok-planned.planned.plan (hands_view c.in_ok-hands.hands) in
+    runs_written (run c.args.dir.now) _ _ _ _ (out_text c.in_ok-planned.planned.names w) _ read (c.in_ok-write_out.ensures w refl c.in_ok-world.ensures)
