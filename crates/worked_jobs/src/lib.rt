@@ -2,4 +2,8 @@
 #![tactic(auto)]
 
 #[cfg(test)]
+mod party_files;
+#[cfg(test)]
+mod product_plan;
+#[cfg(test)]
 mod tests;

@@ -6,6 +6,7 @@ ghost use Rattle.core_world.specs.Running.{IsFinish};
 ghost use Rattle.party_file.specs.Forms.{form_of, Fits};
 ghost use Rattle.job_run.specs.Hands.{AllFit};
 
+use crate::product_plan::multiply_plan;
 use core_world::World;
 use job_plan::Plan;
 use job_run::finished;
@@ -70,7 +71,7 @@ fn expect_words(rt: &impl Abort, world: &World) -> Result<(), Fail>
 fn worked_product_has_its_words(rt: HostRuntime) -> Result<(), Fail> {
     let alloc = rt.alloc();
     let ring = Ring::new(8).ok_or("no ring")?;
-    let plan = Plan::early(alloc, ring)?;
+    let plan = multiply_plan(alloc, ring)?;
     let world = finished(alloc, &plan, hands(alloc, &plan)?)?;
     expect_words(&rt, &world)
 }
