@@ -13,6 +13,8 @@ no_desk alloc = record {
   session = 0;
   program = [];
   position = 0;
+  sent = 0;
+  taken = 0;
   piece = 0;
   memory = record { inputs = no_items alloc; tape = []; rows = no_items alloc; own = 0; parts = no_items alloc; deals = 0; outputs = no_items alloc };
 }
