@@ -11,7 +11,13 @@ use std::process::ExitCode;
 /// The words of the call; where one is no text, there are none, which the top call refuses.
 fn words(rt: &HostRuntime) -> Result<Vec<String>, AllocError> {
     match env::args(rt) {
-        Ok(args) => args.collect(rt.alloc()),
+        Ok(args) => {
+            let mut words = Vec::new(rt.alloc());
+            for word in args {
+                words.push(word)?;
+            }
+            Ok(words)
+        }
         Err(error) => {
             if error.kind() == ErrorKind::OutOfMemory {
                 Err(AllocError)
