@@ -178,31 +178,31 @@ passed_arity c line o is os g e =
     let both : (nat_eq (length is) (arity o) && nat_eq (length os) 1) ≡ true = true_from_not _ a.0 in
     (eqb-true (length is) (arity o) (and_first _ _ both), eqb-true (length os) 1 (and_second (nat_eq (length is) (arity o)) _ both), k.1)
 
-line_of : (layout : FileLayout) (row : Row) (o : Operation) (is os : List ℕ) → IsFormed layout row → o ≡ unwrap_or (operation_in layout row) Eqw → is ≡ take (input_count row) (wires_in row) → os ≡ drop (input_count row) (wires_in row)
-    → length is ≡ arity o → length os ≡ 1 → IsGateLine layout row (gate_of o is os)
-line_of layout row o is os f oe ie oe2 li lo =
-    let k2 : ℕ = wire_count row + 2 in
-    let ts : List (List ℕ) = row.tokens in
-    let all : length (wires_in row) ≡ wire_count row =
-    length-map (tokens_after 2 (wire_count row) row) number_in ∙ length-take-le (wire_count row) (drop 2 row.tokens) (omega (arith, length-drop 2 row.tokens, f.long)) in
-    let ins_is : input_count row ≡ arity o = sym (length-take-le (input_count row) (wires_in row) (omega (arith, all))) ∙ ap length (sym ie) ∙ li in
-    let left : length (drop (input_count row) (wires_in row)) ≡ 1 = ap length (sym oe2) ∙ lo in
-    let outs_is : output_count row ≡ 1 = omega (arith, all, left, length-drop (input_count row) (wires_in row)) in
+line_of : (layout : FileLayout) (line : Row) (o : Operation) (is os : List ℕ) → IsFormed layout line → o ≡ unwrap_or (operation_in layout line) Eqw → is ≡ take (input_count line) (wires_in line) → os ≡ drop (input_count line) (wires_in line)
+    → length is ≡ arity o → length os ≡ 1 → IsGateLine layout line (gate_of o is os)
+line_of layout line o is os f oe ie oe2 li lo =
+    let k2 : ℕ = wire_count line + 2 in
+    let ts : List (List ℕ) = line.tokens in
+    let all : length (wires_in line) ≡ wire_count line =
+    length-map (tokens_after 2 (wire_count line) line) number_in ∙ length-take-le (wire_count line) (drop 2 line.tokens) (omega (arith, length-drop 2 line.tokens, f.long)) in
+    let ins_is : input_count line ≡ arity o = sym (length-take-le (input_count line) (wires_in line) (omega (arith, all))) ∙ ap length (sym ie) ∙ li in
+    let left : length (drop (input_count line) (wires_in line)) ≡ 1 = ap length (sym oe2) ∙ lo in
+    let outs_is : output_count line ≡ 1 = omega (arith, all, left, length-drop (input_count line) (wires_in line)) in
     let more : take (k2 + 1) ts ≡ take k2 ts ++ (get_or ts k2 [] ∷ []) = take_more ts k2 [] (omega (arith, f.long)) in
     let whole : take (k2 + 1) ts ≡ ts = ap (λ n. take n ts) (let e : k2 + 1 ≡ length ts = omega (arith, f.long) in e) ∙ take-length ts in
-    let head : take k2 ts ≡ token row 0 ∷ token row 1 ∷ tokens_after 2 (wire_count row) row = front ts (wire_count row) f.two in
-    let split : wires_in row ≡ listed (gate_of o is os) ++ (slice_index os 0 ∷ []) =
-    sym (take-append-drop (input_count row) (wires_in row)) ∙ ap₂ (λ a b. a ++ b) (sym ie ∙ inputs_are o is os li) (sym oe2 ∙ one_long os lo) in
+    let head : take k2 ts ≡ token line 0 ∷ token line 1 ∷ tokens_after 2 (wire_count line) line = front ts (wire_count line) f.two in
+    let split : wires_in line ≡ listed (gate_of o is os) ++ (slice_index os 0 ∷ []) =
+    sym (take-append-drop (input_count line) (wires_in line)) ∙ ap₂ (λ a b. a ++ b) (sym ie ∙ inputs_are o is os li) (sym oe2 ∙ one_long os lo) in
     let heads = front_numbers ts f.two f.counts in
-    let write : Write (token row 0 ∷ token row 1 ∷ tokens_after 2 (wire_count row) row) (input_count row ∷ output_count row ∷ wires_in row) =
-    write_all (token row 0 ∷ token row 1 ∷ tokens_after 2 (wire_count row) row)
-    (and_true (is_number (token row 0)) _ heads.0 (and_true (is_number (token row 1)) _ heads.1 f.wires)) in
+    let write : Write (token line 0 ∷ token line 1 ∷ tokens_after 2 (wire_count line) line) (input_count line ∷ output_count line ∷ wires_in line) =
+    write_all (token line 0 ∷ token line 1 ∷ tokens_after 2 (wire_count line) line)
+    (and_true (is_number (token line 0)) _ heads.0 (and_true (is_number (token line 1)) _ heads.1 f.wires)) in
     record {
-      numbers = token row 0 ∷ token row 1 ∷ tokens_after 2 (wire_count row) row;
-      name = token row k2;
-      tokens = sym whole ∙ more ∙ ap (λ xs. xs ++ (token row k2 ∷ [])) head;
-      write = subst (λ (ns : List ℕ). Write (token row 0 ∷ token row 1 ∷ tokens_after 2 (wire_count row) row) ns) (ap (λ n. n ∷ output_count row ∷ wires_in row) ins_is ∙ ap₂ (λ n ns. arity o ∷ n ∷ ns) outs_is split) write;
-      operation = some_operation (operation_in layout row) f.operation ∙ ap Some (sym oe);
+      numbers = token line 0 ∷ token line 1 ∷ tokens_after 2 (wire_count line) line;
+      name = token line k2;
+      tokens = sym whole ∙ more ∙ ap (λ xs. xs ++ (token line k2 ∷ [])) head;
+      write = subst (λ (ns : List ℕ). Write (token line 0 ∷ token line 1 ∷ tokens_after 2 (wire_count line) line) ns) (ap (λ n. n ∷ output_count line ∷ wires_in line) ins_is ∙ ap₂ (λ n ns. arity o ∷ n ∷ ns) outs_is split) write;
+      operation = some_operation (operation_in layout line) f.operation ∙ ap Some (sym oe);
     }
 
 pub line_grounded : (layout : FileLayout) (c : Netlist) (row : Row) (g : Gate) → gate_in layout c row ≡ Ok g → IsGateLine layout row g × (next_gate c row.number (gate_line_of layout row).operation (gate_line_of layout row).inputs (gate_line_of layout row).outputs ≡ Ok g)

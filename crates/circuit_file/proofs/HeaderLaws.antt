@@ -18,22 +18,22 @@ two_written (a ∷ []) l m e = absurd (omega arith)
 two_written (a ∷ b ∷ []) l m e = write_all (a ∷ b ∷ []) e
 two_written (a ∷ b ∷ c ∷ ts) l m e = absurd (omega arith)
 
-pub record AreCounts (row : Row) (k : Counts) : Type 0 where
-  pub written : Write row.tokens (k.gates ∷ k.wires ∷ [])
+pub record AreCounts (line : Row) (k : Counts) : Type 0 where
+  pub written : Write line.tokens (k.gates ∷ k.wires ∷ [])
   pub gates : k.gates ≤ 65536
   pub wires : k.wires ≤ 131072
 
-pub counts_grounded : (row : Row) (k : Counts) → counts_in row ≡ Ok k → AreCounts row k
+pub counts_grounded : (line : Row) (k : Counts) → counts_in line ≡ Ok k → AreCounts line k
 unfolding counts_in count_checks
-counts_grounded row k e =
-    let o = or_ok _ (counts_of row) k e in
+counts_grounded line k e =
+    let o = or_ok _ (counts_of line) k e in
     let a = none_failed _ _ _ o.0 in
     let b = none_failed _ _ _ a.1 in
     let c = none_failed _ _ _ b.1 in
     let d = none_failed _ _ _ c.1 in
-    let n = neither (nat_lt 65536 (number_in (token row 0))) (nat_lt 131072 (number_in (token row 1))) d.0 in
-    subst (λ (h : Counts). AreCounts row h) o.1 (record {
-      written = two_written row.tokens (ltb-false _ _ a.0) (ltb-false _ _ b.0) (true_from_not _ c.0);
+    let n = neither (nat_lt 65536 (number_in (token line 0))) (nat_lt 131072 (number_in (token line 1))) d.0 in
+    subst (λ (h : Counts). AreCounts line h) o.1 (record {
+      written = two_written line.tokens (ltb-false _ _ a.0) (ltb-false _ _ b.0) (true_from_not _ c.0);
       gates = ltb-false _ _ n.0;
       wires = ltb-false _ _ n.1;
     })
@@ -43,15 +43,15 @@ two_tokens : (line g w : ℕ) (t u : List ℕ) → number_of t ≡ Some g → nu
 unfolding counts_in count_checks
 two_tokens line g w t u eg ew lg lw = simp (eg, ew, lg, lw)
 
-pub counts_related : (row : Row) (g w : ℕ) → Write row.tokens (g ∷ w ∷ []) → g ≤ 65536 → w ≤ 131072 → counts_in row ≡ Ok (record { gates = g; wires = w })
-counts_related row g w written lg lw =
+pub counts_related : (line : Row) (g w : ℕ) → Write line.tokens (g ∷ w ∷ []) → g ≤ 65536 → w ≤ 131072 → counts_in line ≡ Ok (record { gates = g; wires = w })
+counts_related line g w written lg lw =
     let a = write_some _ _ _ written in
     let b = write_some _ _ _ a.4 in
-    let all : row.tokens ≡ a.0 ∷ b.0 ∷ [] = a.2 ∙ ap (λ ts. a.0 ∷ ts) (b.2 ∙ ap (λ ts. b.0 ∷ ts) (write_none b.1 b.4)) in
-    ap (λ ts. counts_in (record { number = row.number; tokens = ts })) all ∙ two_tokens row.number g w a.0 b.0 a.3 b.3 (le-ltb _ _ lg) (le-ltb _ _ lw)
+    let all : line.tokens ≡ a.0 ∷ b.0 ∷ [] = a.2 ∙ ap (λ ts. a.0 ∷ ts) (b.2 ∙ ap (λ ts. b.0 ∷ ts) (write_none b.1 b.4)) in
+    ap (λ ts. counts_in (record { number = line.number; tokens = ts })) all ∙ two_tokens line.number g w a.0 b.0 a.3 b.3 (le-ltb _ _ lg) (le-ltb _ _ lw)
 
-pub record AreWidths (wires : ℕ) (row : Row) (ws : List ℕ) : Type 0 where
-  pub written : Write row.tokens (length ws ∷ ws)
+pub record AreWidths (wires : ℕ) (line : Row) (ws : List ℕ) : Type 0 where
+  pub written : Write line.tokens (length ws ∷ ws)
   pub few : length ws ≤ 1024
   pub within : sum ws ≤ wires
 
@@ -66,22 +66,22 @@ widths_written (t ∷ ts) n first is long all =
 between : (a b : ℕ) → b ≤ a → a ≤ b → a ≡ b
 between a b below above = omega (arith, below, above)
 
-pub widths_grounded : (wires : ℕ) (row : Row) (ws : List ℕ) → widths_in wires row ≡ Ok ws → AreWidths wires row ws
+pub widths_grounded : (wires : ℕ) (line : Row) (ws : List ℕ) → widths_in wires line ≡ Ok ws → AreWidths wires line ws
 unfolding widths_in width_checks
-widths_grounded wires row ws e =
-    let o = or_ok _ (numbers_in (width_tokens row)) ws e in
+widths_grounded wires line ws e =
+    let o = or_ok _ (numbers_in (width_tokens line)) ws e in
     let a = none_failed _ _ _ o.0 in
     let b = none_failed _ _ _ a.1 in
     let c = none_failed _ _ _ b.1 in
     let d = none_failed _ _ _ c.1 in
     let f = none_failed _ _ _ d.1 in
     let g = none_failed _ _ _ f.1 in
-    let n : ℕ = number_in (token row 0) in
-    let below : n + 1 ≤ length row.tokens = ltb-false _ _ c.0 in
-    let above : length row.tokens ≤ n + 1 = ltb-false _ _ d.0 in
-    let long : length row.tokens ≡ n + 1 = between (length row.tokens) (n + 1) below above in
-    let w = widths_written row.tokens n (true_from_not _ a.0) refl long (true_from_not _ f.0) in
-    subst (λ (h : List ℕ). AreWidths wires row h) o.1 (record {
+    let n : ℕ = number_in (token line 0) in
+    let below : n + 1 ≤ length line.tokens = ltb-false _ _ c.0 in
+    let above : length line.tokens ≤ n + 1 = ltb-false _ _ d.0 in
+    let long : length line.tokens ≡ n + 1 = between (length line.tokens) (n + 1) below above in
+    let w = widths_written line.tokens n (true_from_not _ a.0) refl long (true_from_not _ f.0) in
+    subst (λ (h : List ℕ). AreWidths wires line h) o.1 (record {
       written = w.0;
       few = subst (λ k. k ≤ 1024) (sym w.1) (ltb-false _ _ b.0);
       within = ltb-false _ _ g.0;
@@ -92,10 +92,10 @@ some_widths : (wires line n : ℕ) (t : List ℕ) (ts : List (List ℕ)) (ws : L
 unfolding widths_in width_checks
 some_widths wires line n t ts ws e few below above whole all are within = simp (e, few, below, above, whole, all, are, within)
 
-pub widths_related : (wires : ℕ) (row : Row) (ws : List ℕ) → Write row.tokens (length ws ∷ ws) → length ws ≤ 1024 → sum ws ≤ wires → widths_in wires row ≡ Ok ws
-widths_related wires row ws written few within =
+pub widths_related : (wires : ℕ) (line : Row) (ws : List ℕ) → Write line.tokens (length ws ∷ ws) → length ws ≤ 1024 → sum ws ≤ wires → widths_in wires line ≡ Ok ws
+widths_related wires line ws written few within =
     let a = write_some _ _ _ written in
     let long : length a.1 ≡ length ws = written_long a.1 ws a.4 in
-    ap (λ ts. widths_in wires (record { number = row.number; tokens = ts })) a.2
-    ∙ some_widths wires row.number (length ws) a.0 a.1 ws a.3 (le-ltb _ _ few) (le-ltb _ _ (omega (arith, long))) (le-ltb _ _ (omega (arith, long)))
+    ap (λ ts. widths_in wires (record { number = line.number; tokens = ts })) a.2
+    ∙ some_widths wires line.number (length ws) a.0 a.1 ws a.3 (le-ltb _ _ few) (le-ltb _ _ (omega (arith, long))) (le-ltb _ _ (omega (arith, long)))
     (take_all (length ws) a.1 (omega (arith, long))) (written_all a.1 ws a.4) (written_are a.1 ws a.4) (le-ltb _ _ within)

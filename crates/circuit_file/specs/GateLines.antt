@@ -38,33 +38,33 @@ operation_of layouts.Ring name = ring_operation name
 
 -- the counts of input and output wires
 abbrev pub input_count : Row → ℕ
-input_count row = number_in (token row 0)
+input_count line = number_in (token line 0)
 
 abbrev pub output_count : Row → ℕ
-output_count row = number_in (token row 1)
+output_count line = number_in (token line 1)
 
 abbrev pub wire_count : Row → ℕ
-wire_count row = input_count row + output_count row
+wire_count line = input_count line + output_count line
 
 -- what stands after the wires
 abbrev pub operation_in : FileLayout → Row → Option Operation
-operation_in layout row = operation_of layout (token row (wire_count row + 2))
+operation_in layout line = operation_of layout (token line (wire_count line + 2))
 
 unfoldable pub form_checks : FileLayout → Row → List Check
-form_checks layout row =
-    (nat_lt (length row.tokens) 2 answers ShortLine row.number)
-    ∷ (not (all_numbers (tokens_after 0 2 row)) answers BadNumber row.number)
-    ∷ (nat_lt (length row.tokens) (wire_count row + 3) answers ShortLine row.number)
-    ∷ (nat_lt (wire_count row + 3) (length row.tokens) answers LongLine row.number)
-    ∷ (not (all_numbers (tokens_after 2 (wire_count row) row)) answers BadNumber row.number)
-    ∷ (not (is_some (operation_in layout row)) answers UnknownOperation row.number)
+form_checks layout line =
+    (nat_lt (length line.tokens) 2 answers ShortLine line.number)
+    ∷ (not (all_numbers (tokens_after 0 2 line)) answers BadNumber line.number)
+    ∷ (nat_lt (length line.tokens) (wire_count line + 3) answers ShortLine line.number)
+    ∷ (nat_lt (wire_count line + 3) (length line.tokens) answers LongLine line.number)
+    ∷ (not (all_numbers (tokens_after 2 (wire_count line) line)) answers BadNumber line.number)
+    ∷ (not (is_some (operation_in layout line)) answers UnknownOperation line.number)
     ∷ []
 
 abbrev pub wires_in : Row → List ℕ
-wires_in row = numbers_in (tokens_after 2 (wire_count row) row)
+wires_in line = numbers_in (tokens_after 2 (wire_count line) line)
 
 abbrev pub form_of : FileLayout → Row → Form
-form_of layout row = record { operation = unwrap_or (operation_in layout row) Eqw; inputs = input_count row; wires = wire_count row }
+form_of layout line = record { operation = unwrap_or (operation_in layout line) Eqw; inputs = input_count line; wires = wire_count line }
 
 -- what a gate line says
 pub record GateLine : Type 0 where
@@ -73,11 +73,11 @@ pub record GateLine : Type 0 where
   pub outputs : List ℕ
 
 abbrev pub gate_line_of : FileLayout → Row → GateLine
-gate_line_of layout row = record {
-  operation = unwrap_or (operation_in layout row) Eqw;
-  inputs = take (input_count row) (wires_in row);
-  outputs = drop (input_count row) (wires_in row);
+gate_line_of layout line = record {
+  operation = unwrap_or (operation_in layout line) Eqw;
+  inputs = take (input_count line) (wires_in line);
+  outputs = drop (input_count line) (wires_in line);
 }
 
 unfoldable pub gate_line_in : FileLayout → Row → Result GateLine CircuitFault
-gate_line_in layout row = or_fault (first_fault (form_checks layout row)) (gate_line_of layout row)
+gate_line_in layout line = or_fault (first_fault (form_checks layout line)) (gate_line_of layout line)

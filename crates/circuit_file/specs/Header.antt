@@ -9,32 +9,32 @@ use Rattle.circuit_file.specs.declared.header.Counts.{Counts}
 
 -- line one: how many gates and how many wires
 unfoldable pub count_checks : Row → List Check
-count_checks row =
-    (nat_lt (length row.tokens) 2 answers ShortLine row.number)
-    ∷ (nat_lt 2 (length row.tokens) answers LongLine row.number)
-    ∷ (not (all_numbers (tokens_after 0 2 row)) answers BadNumber row.number)
-    ∷ ((nat_lt 65536 (number_in (token row 0)) || nat_lt 131072 (number_in (token row 1))) answers TooLarge row.number)
+count_checks line =
+    (nat_lt (length line.tokens) 2 answers ShortLine line.number)
+    ∷ (nat_lt 2 (length line.tokens) answers LongLine line.number)
+    ∷ (not (all_numbers (tokens_after 0 2 line)) answers BadNumber line.number)
+    ∷ ((nat_lt 65536 (number_in (token line 0)) || nat_lt 131072 (number_in (token line 1))) answers TooLarge line.number)
     ∷ []
 
 abbrev pub counts_of : Row → Counts
-counts_of row = record { gates = number_in (token row 0); wires = number_in (token row 1) }
+counts_of line = record { gates = number_in (token line 0); wires = number_in (token line 1) }
 
 unfoldable pub counts_in : Row → Result Counts CircuitFault
-counts_in row = or_fault (first_fault (count_checks row)) (counts_of row)
+counts_in line = or_fault (first_fault (count_checks line)) (counts_of line)
 
 -- lines two and three: how many values, then the width of each, which together are at most the wires
 abbrev pub width_tokens : Row → List (List ℕ)
-width_tokens row = tokens_after 1 (number_in (token row 0)) row
+width_tokens line = tokens_after 1 (number_in (token line 0)) line
 
 unfoldable pub width_checks : ℕ → Row → List Check
-width_checks wires row =
-    (not (is_number (token row 0)) answers BadNumber row.number)
-    ∷ (nat_lt 1024 (number_in (token row 0)) answers TooLarge row.number)
-    ∷ (nat_lt (length row.tokens) (number_in (token row 0) + 1) answers ShortLine row.number)
-    ∷ (nat_lt (number_in (token row 0) + 1) (length row.tokens) answers LongLine row.number)
-    ∷ (not (all_numbers (width_tokens row)) answers BadNumber row.number)
-    ∷ (nat_lt wires (sum (numbers_in (width_tokens row))) answers HeaderWidths row.number)
+width_checks wires line =
+    (not (is_number (token line 0)) answers BadNumber line.number)
+    ∷ (nat_lt 1024 (number_in (token line 0)) answers TooLarge line.number)
+    ∷ (nat_lt (length line.tokens) (number_in (token line 0) + 1) answers ShortLine line.number)
+    ∷ (nat_lt (number_in (token line 0) + 1) (length line.tokens) answers LongLine line.number)
+    ∷ (not (all_numbers (width_tokens line)) answers BadNumber line.number)
+    ∷ (nat_lt wires (sum (numbers_in (width_tokens line))) answers HeaderWidths line.number)
     ∷ []
 
 unfoldable pub widths_in : ℕ → Row → Result (List ℕ) CircuitFault
-widths_in wires row = or_fault (first_fault (width_checks wires row)) (numbers_in (width_tokens row))
+widths_in wires line = or_fault (first_fault (width_checks wires line)) (numbers_in (width_tokens line))
