@@ -187,21 +187,49 @@ impl Program {
         ensures { IfOk result (λ made. made ≡ program plan.now p s) }
     {
         let _ = plan.parties();
-        let mut program = Program::with_room(alloc, room(plan, s))?;
+        let mut program = Program::with_room(alloc, room(plan, p, s))?;
         push_program(plan, p, s, &mut program)?;
-        program.give_back();
         Ok(program)
     }
 }
 
-// As many instructions as no party has more of in session s: at most three in a slot beside its messages.
-fn room(plan: &Plan, s: u32) -> usize
-    requires { s < length plan.now.sessions }
-    ensures { result ≡ 3 * slots (session plan.now s) + (first plan.now s (slots (session plan.now s)) - first plan.now s 0) }
+// How many instructions party p has in session s. It is the room that is taken for them, and no clause depends on it.
+fn room(plan: &Plan, p: u32, s: u32) -> usize
+    requires sound { IsSound plan.now }
+    requires party { p < plan.now.parties }
+    requires session { s < length plan.now.sessions }
 {
     let slots = plan.slots(s);
-    let messages = plan.first(s, slots).saturating_sub(plan.first(s, 0));
-    3 * slots as usize + messages as usize
+    let mut count = 0usize;
+    for number in plan.first(s, 0)..plan.first(s, slots) {
+        let message = plan.message(number);
+        if message.sender == p || message.receiver == p {
+            count = count.saturating_add(1);
+        }
+    }
+    for k in 0..slots {
+        count = count.saturating_add(own_steps(plan, p, s, k));
+    }
+    count
+}
+
+// How many instructions party p has in slot k beside its posts and takes.
+fn own_steps(plan: &Plan, p: u32, s: u32, k: u32) -> usize
+    requires sound { IsSound plan.now }
+    requires party { p < plan.now.parties }
+    requires session { s < length plan.now.sessions }
+    requires slot { k < slots (session plan.now s) }
+    ensures { result ≤ 3 }
+{
+    let part = plan.part(s);
+    match part.place(k) {
+        Place::Input(v) => (part.wire_owner(v) == p) as usize,
+        Place::Gate(t) => {
+            let product = part.gate(t).operation.is_product();
+            if product && plan.multiplies(p) { 3 } else { 1 }
+        }
+        Place::Output(o) => (part.wire_readers(o) >> p & 1 == 1) as usize,
+    }
 }
 
 // What party p does in session s.

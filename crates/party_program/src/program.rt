@@ -130,13 +130,6 @@ impl Program {
         Ok(())
     }
 
-    // Gives back the room that was not needed.
-    pub(crate) fn give_back(&mut self)
-        ensures { self.new ≡ self.old }
-    {
-        self.list.shrink_to_fit();
-    }
-
     /// How many instructions come before the end.
     pub fn len(&self) -> usize
         ensures { result ≡ length self.now }
