@@ -3,8 +3,9 @@
 #
 #     bench/run.sh crates/mpc_main/out/mpc_main [OPTION..]
 #
-# The options are given on to 'mpc run FOLDER', as '--workers 4'. Makes the jobs in a temporary folder, runs each once, compares
-# what it writes with what the plain circuit gives, and prints a row of a table for each. Ends with status 1 where a run failed.
+# The options are given on to 'mpc run FOLDER', as '--workers 4'. Makes the jobs in a temporary folder, goes through them ROUNDS times
+# (50, where the environment doesn't say), compares what each run writes with what the plain circuit gives, and prints a row of a
+# table for each job, with the best of its runs. Ends with status 1 where a run failed.
 set -u
 here=$(cd "$(dirname "$0")" && pwd)
 if [ $# -lt 1 ] || [ ! -x "$1" ] || [ -d "$1" ]; then
@@ -16,17 +17,4 @@ shift
 work=$(mktemp -d) || exit 1
 trap 'rm -rf "$work"' EXIT
 python3 "$here/make_jobs.py" "$work" >"$work/list" || exit 1
-
-echo '| Job | Gates | Products | Messages | Seconds | Processor seconds | Peak memory, MiB |'
-echo '|---|---|---|---|---|---|---|'
-status=0
-while read -r name gates products messages; do
-    if took=$(python3 "$here/measure.py" "$work/$name/expected" "$program" run "$work/$name" "$@"); then
-        read -r seconds user peak <<<"$took"
-        echo "| $name | $gates | $products | $messages | $seconds | $user | $peak |"
-    else
-        echo "| $name | $gates | $products | $messages | failed | | |"
-        status=1
-    fi
-done <"$work/list"
-exit "$status"
+python3 "$here/measure.py" "$work" "${ROUNDS:-50}" "$program" "$@" <"$work/list"

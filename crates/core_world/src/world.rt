@@ -43,7 +43,7 @@ impl World {
         ensures start { IfOk result (IsStart (world_of plan.now inputs.now pieces.items)) }
     {
         let parties = plan.parties();
-        let cells = PlainCells::make(alloc, plan.messages(), plan.ring().bits())?;
+        let cells = PlainCells::make(alloc, plan.messages(), plan.ring())?;
         let desks = open_desks(alloc, plan, inputs, pieces)?;
         Ok(World {
             parties,

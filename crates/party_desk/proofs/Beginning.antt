@@ -26,8 +26,8 @@ small_at q (suc n) (suc k) d pos l = small_at q n k d pos (omega arith)
 
 pub begins : (l : Given) (d : Desk) → d.party ≡ l.party → d.session ≡ l.session → d.program ≡ program l.plan l.party l.session → d.position ≡ 0 → d.sent ≡ 0 → d.taken ≡ 0 → d.piece ≡ length l.tape → d.memory.inputs.items ≡ l.inputs → d.memory.tape ≡ l.tape
     → d.memory.rows.items ≡ replicate ((session l.plan l.session).wires * length l.plan.groups) 0 → d.memory.own ≡ 0 → d.memory.parts.items ≡ replicate (length l.plan.groups) 0 → d.memory.deals ≡ 0
-    → d.memory.outputs.items ≡ replicate (length (readers (session l.plan l.session))) None → All (λ x. x < 2 ^ l.plan.bits) l.inputs → All (λ x. x < 2 ^ l.plan.bits) l.tape → IsDesk l d
-begins l d party session' list position sent taken piece inputs tape rows own parts deals outputs small words =
+    → d.memory.outputs.items ≡ replicate (length (readers (session l.plan l.session))) None → length d.memory.first.items ≡ length l.plan.groups → length d.memory.second.items ≡ length l.plan.groups → All (λ x. x < 2 ^ l.plan.bits) l.inputs → All (λ x. x < 2 ^ l.plan.bits) l.tape → IsDesk l d
+begins l d party session' list position sent taken piece inputs tape rows own parts deals outputs first second small words =
     let q : ℕ = 2 ^ l.plan.bits in
     let m : ℕ = length l.plan.groups in
     let n : ℕ = (session l.plan l.session).wires * m in
@@ -44,6 +44,8 @@ begins l d party session' list position sent taken piece inputs tape rows own pa
         rows = ap length rows ∙ many n 0;
         parts = ap length parts ∙ many m 0;
         outputs = ap length outputs ∙ many o None;
+        first = first;
+        second = second;
         small_rows = subst (All (λ x. x < q)) (sym rows) (λ k d l'. small_at q n k d (pow_pos l.plan.bits) l');
         small_parts = subst (All (λ x. x < q)) (sym parts) (λ k d l'. small_at q m k d (pow_pos l.plan.bits) l');
         small_inputs = subst (All (λ x. x < q)) (sym inputs) small;

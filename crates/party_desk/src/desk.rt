@@ -81,6 +81,8 @@ impl Desk {
                 parts: reserved.parts,
                 deals: 0,
                 outputs: reserved.outputs,
+                first: reserved.first,
+                second: reserved.second,
             },
         })
     }
