@@ -3,14 +3,14 @@ use Rattle.std.proofs.Common.{◌≡◌, ℕ, zero, suc, ◌+◌, ◌-◌, ◌*�
 use Rattle.std.specs.Prelude.{slice_index, slice_index_or}
 use Rattle.std.specs.List.{AllByRecursion}
 use Rattle.std.proofs.lemmas.Bool.{and_parts, and_from, eq-eqb, eqb-true, false_from_ne_true}
-use Rattle.std.proofs.lemmas.List.Sums.{position_or_len_is}
+use Rattle.std.proofs.lemmas.List.Sums.{position_or_len_is, passes_at_first}
 use Rattle.mpc_ring.specs.Sums.{total, joined, listed, only_if}
 use Rattle.job_plan.specs.Plans.{readers, owners, Plan, Slot, session, slot, slots, words_in, deals_in}
 use Rattle.job_plan.specs.declared.key.Key.{Key}
 use Rattle.party_set.specs.Parties.{has_party}
 use Rattle.job_plan.specs.Messages.{messages, slot_messages, deal_messages, open_messages}
 use Rattle.job_plan.specs.Plans.Slot.{Input, At_gate, Output}
-use Rattle.job_plan.specs.Numbers.{same_key, no_key, message, NumbersAreInverse, PlacesDiffer, deals_before, deals, PlacesByDeals}
+use Rattle.job_plan.specs.Numbers.{same_key, no_key, message, number, NumbersAreInverse, PlacesDiffer, deals_before, deals, PlacesByDeals}
 use Rattle.mpc_ring.proofs.Totals.{total_eq, total_mul_left}
 use Rattle.mpc_ring.proofs.Laying.{every_append, every_joined, every_only_if, every_weaker, laid_at}
 
@@ -112,11 +112,14 @@ same_key-true a b e =
 pub same_key_self : (a : Key) → same_key a a ≡ true
 same_key_self a = and_from _ _ (eq-eqb a.session a.session refl) (and_from _ _ (eq-eqb a.slot a.slot refl) (and_from _ _ (eq-eqb a.share a.share refl) (and_from _ _ (eq-eqb a.sender a.sender refl) (eq-eqb a.receiver a.receiver refl))))
 
-pub numbers_are_inverse : (plan : Plan) → NumbersAreInverse plan
-numbers_are_inverse plan n l =
+pub number_of_message : (plan : Plan) (n : ℕ) → n < length (messages plan) → number plan (message plan n) ≡ n
+number_of_message plan n l =
     position_or_len_is (same_key (message plan n)) (messages plan) n no_key (omega arith)
     (λ k b. false_from_ne_true _ (λ e. distinct_at (messages plan) k n no_key (messages_distinct plan) b l (sym (same_key-true (message plan n) (message plan k) e))))
     (λ b. same_key_self (message plan n))
+
+pub numbers_are_inverse : (plan : Plan) → NumbersAreInverse plan
+numbers_are_inverse plan = (number_of_message plan, λ key l. sym (same_key-true key (message plan (number plan key)) (passes_at_first (same_key key) (messages plan) no_key l)))
 
 -- ---- places
 

@@ -15,7 +15,7 @@ use Rattle.job_plan.specs.Messages.{slot_messages, session_messages, messages}
 use Rattle.job_plan.specs.Numbers.{no_key, same_key, number}
 use Rattle.job_plan.specs.Firsts.{count, first}
 use Rattle.job_plan.proofs.Counting.{joined_place, message_at, number_within, first_within}
-use Rattle.job_plan.proofs.Apart.{numbers_are_inverse, every_place, every_slot, same_key-true}
+use Rattle.job_plan.proofs.Apart.{number_of_message, every_place, every_slot, same_key-true}
 
 -- the part in which place m of joined parts lies
 record IsIn {A : Type 0} (n : ℕ) (f : ℕ → List A) (m : ℕ) : Type 0 where
@@ -79,4 +79,4 @@ module _ (plan : Plan) where
   pub number_is : (key : Key) (s k i : ℕ) → s < length plan.sessions → k < slots (session plan s) → i < count plan s k → slice_index_or (slot_messages plan s k (slot (session plan s) k)) i no_key ≡ key
       → number plan key ≡ first plan s k + i
   number_is key s k i ls lk li e =
-      ap (number plan) (sym (message_at plan s k ls lk i li ∙ e)) ∙ numbers_are_inverse plan (first plan s k + i) (number_within plan s k ls lk i li)
+      ap (number plan) (sym (message_at plan s k ls lk i li ∙ e)) ∙ number_of_message plan (first plan s k + i) (number_within plan s k ls lk i li)

@@ -34,7 +34,9 @@ IsRising f keys = (i j : ℕ) → i < j → j < length keys → f (slice_index_o
 
 -- messages and numbers are each other's inverse
 abbrev pub NumbersAreInverse : Plan → Type 0
-NumbersAreInverse plan = (n : ℕ) → n < length (messages plan) → number plan (message plan n) ≡ n
+NumbersAreInverse plan =
+    ((n : ℕ) → n < length (messages plan) → number plan (message plan n) ≡ n)
+    × ((key : Key) → number plan key < length (messages plan) → message plan (number plan key) ≡ key)
 
 -- different words of a party have different places
 abbrev pub PlacesDiffer : Plan → ℕ → Type 0
