@@ -5,6 +5,7 @@ pub mod Counting
 pub mod Tallying
 pub mod Listing
 pub mod Rising
+pub mod Naming
 pub mod Searching
 pub mod Finding
 pub mod Placing

@@ -1,5 +1,5 @@
 -- Sessions of circuits.
-use Rattle.std.proofs.Common.{◌≡◌, ℕ, zero, suc, ◌+◌, ◌-◌, ◌^◌, ◌≤◌, ◌<◌, List, [], ◌∷◌, ◌++◌, inl, inr, length, get_or, replicate, refl, sym, ◌∙◌, ap, subst, arith, cond, sum, length-append}
+use Rattle.std.proofs.Common.{◌≡◌, ℕ, suc, ◌+◌, ◌-◌, ◌<◌, List, [], ◌∷◌, ◌++◌, inl, inr, length, replicate, refl, sym, ◌∙◌, ap, subst, arith, cond, sum, length-append}
 use Rattle.std.specs.Prelude.{slice_index, All, ◌==◌, Bool, true, false, not, Option, Some, None}
 use Rattle.std.proofs.Math.ListN.{get_or-append}
 use Rattle.std.proofs.Math.Seq.{get_or-append_right}
@@ -9,7 +9,7 @@ use Rattle.std.proofs.lemmas.Bool.{cases_lt, eqb-true}
 use Rattle.party_set.specs.Parties.{Members}
 use Rattle.circuit_model.specs.Netlists.{Netlist, IsCircuit}
 use Rattle.circuit_model.proofs.Reading.{first_below, second_below, output_below}
-use Rattle.job_plan.specs.Plans.{Session, owners_of, readers_of}
+use Rattle.job_plan.specs.Plans.{owners_of, readers_of}
 use Rattle.job_plan.specs.Sound.{IsSoundSession}
 use Rattle.plan_faults.specs.declared.part_fault.PartFault.{PartFault}
 use Rattle.plan_faults.specs.declared.part_fault.PartFault.TheVariants.{OwnersDiffer, ReadersDiffer}

@@ -1,5 +1,5 @@
 //! Lists the messages of a plan in the order of their numbers.
-ghost use Rattle.std.specs.Prelude.{◌≡◌, ◌+◌, ◌<◌, ◌≤◌, ◌∷◌, [], ◌++◌, OnOk, IfOk, length};
+ghost use Rattle.std.specs.Prelude.{◌≡◌, ◌+◌, ◌<◌, ◌≤◌, ◌++◌, OnOk, IfOk, length};
 ghost use Rattle.mpc_ring.specs.Sums.{joined, only_if};
 ghost use Rattle.secret_sharing.specs.Sharing.{has_pair};
 ghost use Rattle.party_set.specs.Parties.{has_party};
@@ -9,29 +9,17 @@ ghost use Rattle.job_plan.specs.Firsts.{session_starts, starts_of, deal_starts, 
 
 use crate::counts::{deal_count, sends};
 use crate::key::Key;
+use crate::keys::Keys;
 use crate::outline::Outline;
 use crate::place::Place;
 use crate::starts::Starts;
 use std::alloc::{AllocError, Global};
 
-fn push_if(wanted: bool, key: Key, keys: &mut Vec<Key>) -> Result<(), AllocError>
-    ensures { OnOk result (keys.new.items ≡ keys.old.items ++ only_if wanted (key ∷ [])) }
-{
-    if wanted {
-        keys.push(key)?;
-    }
-    Ok(())
-}
-
 // The messages of a deal of p in slot k.
-fn push_deal(
-    outline: &Outline,
-    s: u32,
-    k: u32,
-    p: u32,
-    keys: &mut Vec<Key>,
-) -> Result<(), AllocError>
-    ensures { OnOk result (keys.new.items ≡ keys.old.items ++ deal_messages outline.now s k p) }
+fn push_deal(outline: &Outline, s: u32, k: u32, p: u32, keys: &mut Keys) -> Result<(), AllocError>
+    requires session { s < length outline.now.sessions }
+    requires sender { p < outline.now.parties }
+    ensures { OnOk result (keys.new ≡ keys.old ++ deal_messages outline.now s k p) }
 {
     for share in 0..outline.shares() {
         push_summand(outline, s, k, p, share, keys)?;
@@ -46,10 +34,12 @@ fn push_summand(
     k: u32,
     p: u32,
     share: u32,
-    keys: &mut Vec<Key>,
+    keys: &mut Keys,
 ) -> Result<(), AllocError>
-    requires { share < length outline.now.groups }
-    ensures { OnOk result (keys.new.items ≡ keys.old.items ++ joined outline.now.parties (deal_message outline.now s k p share)) }
+    requires session { s < length outline.now.sessions }
+    requires sender { p < outline.now.parties }
+    requires summand { share < length outline.now.groups }
+    ensures { OnOk result (keys.new ≡ keys.old ++ joined outline.now.parties (deal_message outline.now s k p share)) }
 {
     for receiver in 0..outline.parties() {
         let key = Key {
@@ -59,7 +49,7 @@ fn push_summand(
             sender: p,
             receiver,
         };
-        push_if(sends(outline, p, receiver, share), key, keys)?;
+        keys.push_if(sends(outline, p, receiver, share), key)?;
     }
     Ok(())
 }
@@ -70,10 +60,11 @@ fn push_opening(
     s: u32,
     k: u32,
     r: u32,
-    keys: &mut Vec<Key>,
+    keys: &mut Keys,
 ) -> Result<(), AllocError>
-    requires { r < outline.now.parties }
-    ensures { OnOk result (keys.new.items ≡ keys.old.items ++ open_messages outline.now s k r) }
+    requires session { s < length outline.now.sessions }
+    requires party { r < outline.now.parties }
+    ensures { OnOk result (keys.new ≡ keys.old ++ open_messages outline.now s k r) }
 {
     for share in 0..outline.shares() {
         let key = Key {
@@ -83,7 +74,7 @@ fn push_opening(
             sender: outline.least_holder(share),
             receiver: r,
         };
-        push_if(!outline.holds(r, share), key, keys)?;
+        keys.push_if(!outline.holds(r, share), key)?;
     }
     Ok(())
 }
@@ -94,10 +85,11 @@ fn push_product_of(
     s: u32,
     k: u32,
     p: u32,
-    keys: &mut Vec<Key>,
+    keys: &mut Keys,
 ) -> Result<(), AllocError>
-    requires { p < outline.now.parties }
-    ensures { OnOk result (keys.new.items ≡ keys.old.items ++ only_if (has_pair (scheme outline.now) p) (deal_messages outline.now s k p)) }
+    requires session { s < length outline.now.sessions }
+    requires party { p < outline.now.parties }
+    ensures { OnOk result (keys.new ≡ keys.old ++ only_if (has_pair (scheme outline.now) p) (deal_messages outline.now s k p)) }
 {
     if outline.multiplies(p) {
         push_deal(outline, s, k, p, keys)?;
@@ -106,8 +98,9 @@ fn push_product_of(
 }
 
 // The messages of a product in slot k.
-fn push_product(outline: &Outline, s: u32, k: u32, keys: &mut Vec<Key>) -> Result<(), AllocError>
-    ensures { OnOk result (keys.new.items ≡ keys.old.items ++ joined outline.now.parties (λ p. only_if (has_pair (scheme outline.now) p) (deal_messages outline.now s k p))) }
+fn push_product(outline: &Outline, s: u32, k: u32, keys: &mut Keys) -> Result<(), AllocError>
+    requires { s < length outline.now.sessions }
+    ensures { OnOk result (keys.new ≡ keys.old ++ joined outline.now.parties (λ p. only_if (has_pair (scheme outline.now) p) (deal_messages outline.now s k p))) }
 {
     for p in 0..outline.parties() {
         push_product_of(outline, s, k, p, keys)?;
@@ -122,11 +115,12 @@ fn push_output_to(
     k: u32,
     readers: u32,
     r: u32,
-    keys: &mut Vec<Key>,
+    keys: &mut Keys,
 ) -> Result<(), AllocError>
+    requires session { s < length outline.now.sessions }
     requires party { r < outline.now.parties }
     requires few { r < 32 }
-    ensures { OnOk result (keys.new.items ≡ keys.old.items ++ only_if (has_party readers r) (open_messages outline.now s k r)) }
+    ensures { OnOk result (keys.new ≡ keys.old ++ only_if (has_party readers r) (open_messages outline.now s k r)) }
 {
     if readers >> r & 1 == 1 {
         push_opening(outline, s, k, r, keys)?;
@@ -140,9 +134,10 @@ fn push_output(
     s: u32,
     k: u32,
     readers: u32,
-    keys: &mut Vec<Key>,
+    keys: &mut Keys,
 ) -> Result<(), AllocError>
-    ensures { OnOk result (keys.new.items ≡ keys.old.items ++ joined outline.now.parties (λ r. only_if (has_party readers r) (open_messages outline.now s k r))) }
+    requires { s < length outline.now.sessions }
+    ensures { OnOk result (keys.new ≡ keys.old ++ joined outline.now.parties (λ r. only_if (has_party readers r) (open_messages outline.now s k r))) }
 {
     for r in 0..outline.parties() {
         push_output_to(outline, s, k, readers, r, keys)?;
@@ -151,10 +146,10 @@ fn push_output(
 }
 
 // The messages of slot k of session s.
-fn push_slot(outline: &Outline, s: u32, k: u32, keys: &mut Vec<Key>) -> Result<(), AllocError>
+fn push_slot(outline: &Outline, s: u32, k: u32, keys: &mut Keys) -> Result<(), AllocError>
     requires session { s < length outline.now.sessions }
     requires slot { k < slots (session outline.now s) }
-    ensures { OnOk result (keys.new.items ≡ keys.old.items ++ slot_messages outline.now s k (slot (session outline.now s) k)) }
+    ensures { OnOk result (keys.new ≡ keys.old ++ slot_messages outline.now s k (slot (session outline.now s) k)) }
 {
     let part = outline.part(s);
     match part.place(k) {
@@ -174,12 +169,12 @@ fn push_session(
     alloc: Global,
     outline: &Outline,
     s: u32,
-    keys: &mut Vec<Key>,
+    keys: &mut Keys,
 ) -> Result<Starts, AllocError>
     requires session { s < length outline.now.sessions }
     requires few { length (messages outline.now) ≤ 1048576 }
-    requires before { keys.old.items ≡ joined s (session_messages outline.now) }
-    ensures keys { OnOk result (keys.new.items ≡ joined (s + 1) (session_messages outline.now)) }
+    requires before { keys.old ≡ joined s (session_messages outline.now) }
+    ensures keys { OnOk result (keys.new ≡ joined (s + 1) (session_messages outline.now)) }
     ensures starts { IfOk result (λ starts. starts ≡ session_starts outline.now s) }
 {
     let mut starts = Vec::new(alloc);
@@ -196,13 +191,13 @@ pub(crate) fn list_messages(
     alloc: Global,
     outline: &Outline,
     count: u32,
-) -> Result<(Vec<Key>, Vec<Starts>), AllocError>
+) -> Result<(Keys, Vec<Starts>), AllocError>
     requires count { count ≡ length (messages outline.now) }
     requires few { count ≤ 1048576 }
-    ensures keys { IfOk result (λ made. made.0.items ≡ messages outline.now) }
+    ensures keys { IfOk result (λ made. made.0 ≡ messages outline.now) }
     ensures starts { IfOk result (λ made. made.1.items ≡ starts_of outline.now) }
 {
-    let mut keys = Vec::with_capacity(alloc, count as usize)?;
+    let mut keys = Keys::with_room(alloc, count as usize)?;
     let mut starts = Vec::new(alloc);
     for s in 0..outline.sessions() {
         starts.push(push_session(alloc, outline, s, &mut keys)?)?;

@@ -4,6 +4,7 @@
 mod counts;
 mod inputs;
 mod key;
+mod keys;
 mod laws;
 mod laying;
 mod outline;

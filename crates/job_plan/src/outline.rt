@@ -122,7 +122,8 @@ impl Outline {
     /// The least party that holds summand `i`.
     pub(crate) fn least_holder(&self, i: u32) -> u32
         requires { i < length self.now.groups }
-        ensures { result ≡ least_holder self.now i }
+        ensures is { result ≡ least_holder self.now i }
+        ensures party { result < self.now.parties }
     {
         self.layout.least_holder(i)
     }

@@ -4,7 +4,8 @@ ghost use Rattle.job_plan.specs.Messages.{messages};
 ghost use Rattle.job_plan.specs.Limits.{IsWithin, IsRefusal};
 
 use crate::counts::{message_count, word_count};
-use crate::key::Key;
+use crate::key::{Key, PackedKey};
+use crate::keys::Keys;
 use crate::laying::{list_deals, list_messages};
 use crate::outline::Outline;
 use crate::place::Place;
@@ -23,7 +24,7 @@ use std::marker::Model;
 #[derive(Drop)]
 pub struct Plan {
     outline: Outline,
-    keys: Vec<Key>,
+    keys: Keys,
     starts: Vec<Starts>,
     deals: Vec<Starts>,
 }
@@ -36,7 +37,7 @@ impl Model for Plan {
 
     ghost view = { λ p. p.outline };
 
-    ghost invariant = { λ p. IsLaid p.outline p.keys.items p.starts.items p.deals.items };
+    ghost invariant = { λ p. IsLaid p.outline p.keys p.starts.items p.deals.items };
 }
 
 impl Plan {
@@ -45,6 +46,7 @@ impl Plan {
     ghost use Rattle.job_plan.specs.Plans.{plan_of, structure, scheme, session, slot, slots, words, place};
     ghost use Rattle.secret_sharing.specs.Sharing.{has_pair};
     ghost use Rattle.job_plan.specs.Messages.{messages, slot_messages};
+    ghost use Rattle.job_plan.specs.Packing.{names};
     ghost use Rattle.job_plan.specs.Numbers.{message, number, opens, deals, deals_before, deal_place};
     ghost use Rattle.job_plan.specs.Sound.{IsSound, IsSoundSession};
     ghost use Rattle.job_plan.specs.Firsts.{first};
@@ -147,9 +149,10 @@ impl Plan {
     /// The message of this number.
     pub fn message(&self, n: u32) -> Key
         requires { n < length (messages self.now) }
-        ensures { result ≡ message self.now n }
+        ensures is { result ≡ message self.now n }
+        ensures few { result.share < 64 }
     {
-        self.keys[n as usize]
+        self.keys.at(n)
     }
 
     /// The number of the first message of slot `k` of session `s`; at the count of slots, of the first one after.
@@ -159,7 +162,7 @@ impl Plan {
         ensures is { result ≡ first self.now s k }
         ensures within { result ≤ length (messages self.now) }
     {
-        self.start_of(s, k)
+        self.starts[s as usize].at(k)
     }
 
     /// The number of this message, None exactly where the key is no message of the plan.
@@ -175,16 +178,16 @@ impl Plan {
     }
 
     // The messages of slot k of session s.
-    fn slot_keys(&self, s: u32, k: u32) -> &[Key]
+    fn slot_keys(&self, s: u32, k: u32) -> &[PackedKey]
         requires session { s < length self.now.sessions }
         requires slot { k < slots (session self.now s) }
         requires few { k < 4294967295 }
-        ensures is { result.now ≡ slot_messages self.now s k (slot (session self.now s) k) }
+        ensures is { names result.now ≡ slot_messages self.now s k (slot (session self.now s) k) }
         ensures sound { IsSound self.now }
     {
         let begin = self.first(s, k);
         let end = self.first(s, k + 1);
-        &self.keys[begin as usize..end as usize]
+        self.keys.stretch(begin, end)
     }
 
     // Whether slot k of session s is one of openings.
@@ -243,14 +246,6 @@ impl Plan {
         ensures sound { IsSound self.now }
     {
         self.deals[p as usize].at(s)
-    }
-
-    fn start_of(&self, s: u32, k: u32) -> u32
-        requires session { s < length self.now.sessions }
-        requires slot { k ≤ slots (session self.now s) }
-        ensures { result ≡ first self.now s k }
-    {
-        self.starts[s as usize].at(k)
     }
 }
 

@@ -1,8 +1,9 @@
 //! Searches among the messages of a slot, which stand there by rising rank.
 ghost use Rattle.std.specs.Prelude.{◌≡◌, ◌≢◌, ℕ, ◌<◌, IfSome, IfNone, length, slice_index_or};
 ghost use Rattle.job_plan.specs.Numbers.{no_key, rank, IsRising};
+ghost use Rattle.job_plan.specs.Packing.{names};
 
-use crate::key::Key;
+use crate::key::{Key, PackedKey};
 
 // Openings stand by receiver and share, deals by sender, share and receiver.
 fn rank(by_receiver: bool, key: Key) -> u64
@@ -17,15 +18,15 @@ fn rank(by_receiver: bool, key: Key) -> u64
 }
 
 /// Where the key stands among these, None exactly where it isn't there.
-pub(crate) fn search(keys: &[Key], by_receiver: bool, key: Key) -> Option<usize>
-    requires { IsRising (rank by_receiver) keys.now }
-    ensures within { IfSome result (λ i. i < length keys.now) }
-    ensures found { IfSome result (λ i. slice_index_or keys.now i no_key ≡ key) }
-    ensures absent { IfNone result ((i : ℕ) → i < length keys.now → slice_index_or keys.now i no_key ≢ key) }
+pub(crate) fn search(keys: &[PackedKey], by_receiver: bool, key: Key) -> Option<usize>
+    requires { IsRising (rank by_receiver) (names keys.now) }
+    ensures within { IfSome result (λ i. i < length (names keys.now)) }
+    ensures found { IfSome result (λ i. slice_index_or (names keys.now) i no_key ≡ key) }
+    ensures absent { IfNone result ((i : ℕ) → i < length (names keys.now) → slice_index_or (names keys.now) i no_key ≢ key) }
 {
     let wanted = rank(by_receiver, key);
-    match keys.binary_search_by_key(&wanted, |held| rank(by_receiver, *held)) {
-        Ok(at) if keys[at] == key => Some(at),
+    match keys.binary_search_by_key(&wanted, |held| rank(by_receiver, held.key())) {
+        Ok(at) if keys[at].key() == key => Some(at),
         _ => None,
     }
 }

@@ -6,6 +6,6 @@ use Rattle.job_plan.proofs.laying.list_messages.Given as goal
 
 abbrev pub invariant-loop-s : goal.invariant-loop-s
 invariant-loop-s l = record {
-  keys : l.keys.items ≡ joined l.s (session_messages l.outline);
+  keys : l.keys ≡ joined l.s (session_messages l.outline);
   starts : l.starts.items ≡ listed l.s (session_starts l.outline);
 }

@@ -4,4 +4,4 @@ use Rattle.job_plan.specs.Messages.{deal_message}
 use Rattle.job_plan.proofs.laying.push_deal.Given as goal
 
 abbrev pub invariant-loop-share : goal.invariant-loop-share
-invariant-loop-share l = l.keys.items ≡ l.fn.keys.items ++ joined l.share (λ i. joined l.outline.parties (deal_message l.outline l.s l.k l.p i))
+invariant-loop-share l = l.keys ≡ l.fn.keys ++ joined l.share (λ i. joined l.outline.parties (deal_message l.outline l.s l.k l.p i))

@@ -5,4 +5,4 @@ use Rattle.job_plan.specs.Messages.{open_messages}
 use Rattle.job_plan.proofs.laying.push_output.Given as goal
 
 abbrev pub invariant-loop-r : goal.invariant-loop-r
-invariant-loop-r l = l.keys.items ≡ l.fn.keys.items ++ joined l.r (λ r. only_if (has_party l.readers r) (open_messages l.outline l.s l.k r))
+invariant-loop-r l = l.keys ≡ l.fn.keys ++ joined l.r (λ r. only_if (has_party l.readers r) (open_messages l.outline l.s l.k r))

@@ -6,4 +6,4 @@ use Rattle.job_plan.specs.Messages.{deal_messages}
 use Rattle.job_plan.proofs.laying.push_product.Given as goal
 
 abbrev pub invariant-loop-p : goal.invariant-loop-p
-invariant-loop-p l = l.keys.items ≡ l.fn.keys.items ++ joined l.p (λ p. only_if (has_pair (scheme l.outline) p) (deal_messages l.outline l.s l.k p))
+invariant-loop-p l = l.keys ≡ l.fn.keys ++ joined l.p (λ p. only_if (has_pair (scheme l.outline) p) (deal_messages l.outline l.s l.k p))

@@ -14,7 +14,7 @@ overflow_cast-len c =
     let plan = c.args.outline.now in
     let within = first_within plan c.args.s c.loop-k.k c.requires.session (omega (arith, c.slots-k-end.ensures, ap slots c.part.ensures.is)) in
     let long = ap length c.loop-k.invariant.keys ∙ length-before plan c.args.s c.loop-k.k in
-    omega (arith, c.len.ensures, c.loop-k.keys.ok.0)
+    omega (arith, c.len.ensures)
 
 pub loop-k-preserved : goal.loop-k-preserved
 loop-k-preserved c =
@@ -24,8 +24,8 @@ loop-k-preserved c =
     let slot_at : ℕ → List Key = λ j. slot_messages plan s j (slot (session plan s) j) in
     let long = ap length c.loop-k.invariant.keys ∙ length-before plan s k in
     record {
-      keys = c.in_ok-push_slot.ensures ∙ joined_step k slot_at (joined s (session_messages plan)) c.loop-k.keys.items (slot_at k) c.loop-k.invariant.keys refl;
-      starts = c.in_ok-push.ensures.items ∙ listed_push k (first plan s) c.loop-k.starts.items c.len.result c.loop-k.invariant.starts (omega (arith, c.len.ensures, c.loop-k.keys.ok.0));
+      keys = c.in_ok-push_slot.ensures ∙ joined_step k slot_at (joined s (session_messages plan)) c.loop-k.keys (slot_at k) c.loop-k.invariant.keys refl;
+      starts = c.in_ok-push.ensures.items ∙ listed_push k (first plan s) c.loop-k.starts.items c.len.result c.loop-k.invariant.starts (omega (arith, c.len.ensures));
     }
 
 pub overflow_cast-len-2 : goal.overflow_cast-len-2
@@ -33,7 +33,7 @@ overflow_cast-len-2 c =
     let plan = c.args.outline.now in
     let within = first_within plan c.args.s c.loop-k.k c.requires.session (omega (arith, c.slots-k-end.ensures, ap slots c.part.ensures.is)) in
     let long = ap length c.loop-k.invariant.keys ∙ length-before plan c.args.s c.loop-k.k in
-    omega (arith, c.len-2.ensures, c.loop-k.keys.ok.0)
+    omega (arith, c.len-2.ensures)
 
 pub returns-clause-keys : goal.returns-clause-keys
 returns-clause-keys c =
@@ -50,5 +50,5 @@ returns-clause-starts c =
     let long = ap length c.loop-k.invariant.keys ∙ length-before plan s k in
     c.of.ensures
     ∙ c.in_ok-push-2.ensures.items
-    ∙ listed_push k (first plan s) c.loop-k.starts.items c.len-2.result c.loop-k.invariant.starts (omega (arith, c.len-2.ensures, c.loop-k.keys.ok.0))
+    ∙ listed_push k (first plan s) c.loop-k.starts.items c.len-2.result c.loop-k.invariant.starts (omega (arith, c.len-2.ensures))
     ∙ ap (λ n. listed (n + 1) (first plan s)) ended

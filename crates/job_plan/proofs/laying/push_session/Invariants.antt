@@ -7,6 +7,6 @@ use Rattle.job_plan.proofs.laying.push_session.Given as goal
 
 abbrev pub invariant-loop-k : goal.invariant-loop-k
 invariant-loop-k l = record {
-  keys : l.keys.items ≡ joined l.s (session_messages l.outline) ++ joined l.k (λ k. slot_messages l.outline l.s k (slot (session l.outline l.s) k));
+  keys : l.keys ≡ joined l.s (session_messages l.outline) ++ joined l.k (λ k. slot_messages l.outline l.s k (slot (session l.outline l.s) k));
   starts : l.starts.items ≡ listed l.k (first l.outline l.s);
 }

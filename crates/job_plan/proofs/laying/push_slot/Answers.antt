@@ -14,4 +14,4 @@ returns-else-is_product c =
     ap (λ part. is_product (gate part c.in-Gate.t).operation) (sym part) ∙ ap (λ g. is_product g.operation) (sym c.gate.ensures) ∙ sym c.is_product.ensures ∙ c.if-is_product.false in
     let none = none_at_linear plan c.args.s c.args.k c.in-Gate.t linear in
     let here = c.in-Gate.ensures.is ∙ ap (λ part. slot part c.args.k) part in
-    sym (append-nil c.args.keys.now.items) ∙ ap (λ z. c.args.keys.now.items ++ z) (sym none ∙ ap (slot_messages plan c.args.s c.args.k) here)
+    sym (append-nil c.args.keys.now) ∙ ap (λ z. c.args.keys.now ++ z) (sym none ∙ ap (slot_messages plan c.args.s c.args.k) here)

@@ -11,4 +11,4 @@ loop-receiver-preserved c =
     let row = deal_message c.args.outline.now c.args.s c.args.k c.args.p c.args.share in
     let key : Key = record { session = c.args.s; slot = c.args.k; share = c.args.share; sender = c.args.p; receiver = receiver } in
     c.in_ok-push_if.ensures
-    ∙ joined_step receiver row c.args.keys.now.items c.loop-receiver.keys.items (only_if c.sends.result (key ∷ [])) c.loop-receiver.invariant (ap (λ b. only_if b (key ∷ [])) c.sends.ensures)
+    ∙ joined_step receiver row c.args.keys.now c.loop-receiver.keys (only_if c.sends.result (key ∷ [])) c.loop-receiver.invariant (ap (λ b. only_if b (key ∷ [])) c.sends.ensures)

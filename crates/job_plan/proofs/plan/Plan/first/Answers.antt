@@ -1,6 +1,30 @@
-use Rattle.std.proofs.Common.{arith}
+use Rattle.std.proofs.Common.{◌≡◌, ◌+◌, length, ap, ◌∙◌, arith}
+use Rattle.std.specs.Prelude.{slice_index}
+use Rattle.mpc_ring.proofs.Laying.{length-listed, listed_at}
+use Rattle.job_plan.specs.Plans.{session, slots}
+use Rattle.job_plan.specs.Firsts.{first, session_starts, starts_of}
 use Rattle.job_plan.proofs.Counting.{first_within}
+use Rattle.job_plan.proofs.Listing.{row_is}
 use Rattle.job_plan.proofs.plan.Plan.first.Goals as goal
 
-pub returns-clause-within : goal.returns-clause-within
-returns-clause-within c = let a = first_within c.args.self.now c.args.s c.args.k c.requires.session c.requires.slot in let e = c.start_of.ensures in omega arith
+pub index-requires : goal.index-requires
+index-requires c =
+    let plan = c.args.self.now in
+    let begin : c.self.inside.starts.items ≡ starts_of plan = c.self.invariant.begin ∙ ap starts_of c.self.view_is in
+    omega (arith, c.self.inside.starts.ok.0, ap length begin, length-listed (length plan.sessions) (session_starts plan))
+
+pub at-requires : goal.at-requires
+at-requires c =
+    let plan = c.args.self.now in
+    let begin : c.self.inside.starts.items ≡ starts_of plan = c.self.invariant.begin ∙ ap starts_of c.self.view_is in
+    let row = row_is c.self.inside.starts.items (length plan.sessions) (session_starts plan) c.args.s c.index.result.now begin c.requires.session c.index.ensures in
+    omega (arith, ap length row, length-listed (slots (session plan c.args.s) + 1) (first plan c.args.s))
+
+pub returns : goal.returns
+returns c =
+    let plan = c.args.self.now in
+    let begin : c.self.inside.starts.items ≡ starts_of plan = c.self.invariant.begin ∙ ap starts_of c.self.view_is in
+    let row = row_is c.self.inside.starts.items (length plan.sessions) (session_starts plan) c.args.s c.index.result.now begin c.requires.session c.index.ensures in
+    let is : c.at.result ≡ first plan c.args.s c.args.k = c.at.ensures ∙ ap (λ xs. slice_index xs c.args.k) row ∙ listed_at (slots (session plan c.args.s) + 1) (first plan c.args.s) c.args.k 0 (omega arith) in
+    let within = first_within plan c.args.s c.args.k c.requires.session c.requires.slot in
+    record { is = is; within = omega arith }

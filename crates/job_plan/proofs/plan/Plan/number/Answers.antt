@@ -2,6 +2,7 @@ use Rattle.std.proofs.Common.{◌<◌, length, ap, sym, subst, ◌∙◌, arith}
 use Rattle.std.specs.Prelude.{slice_index_or, SomeIff}
 use Rattle.job_plan.specs.Plans.{session, slot, slots}
 use Rattle.job_plan.specs.Messages.{messages, slot_messages}
+use Rattle.job_plan.specs.Packing.{names}
 use Rattle.job_plan.specs.Numbers.{number, no_key, opens, rank, IsRising}
 use Rattle.job_plan.specs.Firsts.{count}
 use Rattle.job_plan.proofs.Counting.{number_within}
@@ -24,7 +25,7 @@ search-requires c =
     let sound = c.slot_keys-keys.ensures.sound in
     let at = slot (session plan c.args.key.session) c.args.key.slot in
     let rising : IsRising (rank (opens at)) (slot_messages plan c.args.key.session c.args.key.slot at) = slot_is_rising plan c.args.key.session c.args.key.slot sound.parties sound.groups at in
-    subst (λ o. IsRising (rank o) c.slot_keys-keys.result.now) (sym c.opens.ensures) (subst (IsRising (rank (opens at))) (sym c.slot_keys-keys.ensures.is) rising)
+    subst (λ o. IsRising (rank o) (names c.slot_keys-keys.result.now)) (sym c.opens.ensures) (subst (IsRising (rank (opens at))) (sym c.slot_keys-keys.ensures.is) rising)
 
 pub returns-in_err-at : goal.returns-in_err-at
 returns-in_err-at c =
