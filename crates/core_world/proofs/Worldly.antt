@@ -421,8 +421,3 @@ module _ (w : World) (lawful : Lawful w) (ds : List Desk) (cells : PlainCells) (
     | left' b ↦ absurd (end_is_last w l.session l.party d.position whole within b (sym here ∙ f.0))
     | right past ↦ (let a : d.position ≤ length (program w.plan l.party l.session) = is_desk.position in omega arith)
   ])
-
-pub one_at_most : (r : Stepped) → moves_of r ≤ 1
-one_at_most Moved = omega arith
-one_at_most (NotYet n) = omega arith
-one_at_most Ended = omega arith

@@ -1,5 +1,5 @@
 //! Steps of many desks on one list of cells.
-ghost use Rattle.std.specs.Prelude.{◌≡◌, ℕ, ◌+◌, ◌<◌, length, Some};
+ghost use Rattle.std.specs.Prelude.{◌≡◌, ℕ, ◌+◌, ◌<◌, true, false, nat_lt, length, Some};
 ghost use Rattle.share_world.specs.Worlds.{World};
 ghost use Rattle.party_desk.specs.declared.desk.Desk.{Desk};
 ghost use Rattle.program_laws.specs.Lawful.{Lawful, IsWhole};
@@ -24,28 +24,43 @@ fn step_at(plan: &Plan, desks: &mut [Desk], cells: &mut PlainCells, k: usize) ->
     desks[k].step(plan, cells)
 }
 
-fn count(stepped: Stepped) -> u64
-    ensures { result ≡ moves_of stepped }
+fn is_move(stepped: Stepped) -> bool
+    ensures { result ≡ nat_lt 0 (moves_of stepped) }
 {
-    match stepped {
-        Stepped::Moved => 1,
-        Stepped::NotYet(_) | Stepped::Ended => 0,
-    }
+    matches!(stepped, Stepped::Moved)
 }
 
-// Steps each desk once, and answers how many moved.
-fn pass(plan: &Plan, desks: &mut [Desk], cells: &mut PlainCells) -> u64
+// Steps desk `k` as far as it goes, and answers whether it moved.
+fn walk(plan: &Plan, desks: &mut [Desk], cells: &mut PlainCells, k: usize) -> bool
+    requires within { k < length desks.old }
     requires state { (w : World) × (w.plan ≡ plan.now) × Lawful w × IsState w desks.old cells.old }
     ensures state { (w : World) → w.plan ≡ plan.now → Lawful w → IsState w desks.old cells.old → IsState w desks.new cells.new }
-    ensures left { result + left_all desks.new ≡ left_all desks.old }
-    ensures still { result ≡ 0 → (desks.new ≡ desks.old) × (cells.new ≡ cells.old) }
-    ensures stuck { (w : World) → w.plan ≡ plan.now → IsWhole w → IsState w desks.old cells.old → result ≡ 0 → AllStuck w desks.old cells.old.cells }
+    ensures moved { result ≡ true → left_all desks.new < left_all desks.old }
+    ensures still { result ≡ false → (desks.new ≡ desks.old) × (cells.new ≡ cells.old) }
+    ensures stuck { (w : World) (d : Desk) → w.plan ≡ plan.now → IsWhole w → IsState w desks.old cells.old → result ≡ false → Stuck w desks.old cells.old.cells k d }
 {
-    let mut moves = 0;
-    for k in 0..desks.len() {
-        moves += count(step_at(plan, desks, cells, k));
+    let mut moved = false;
+    while is_move(step_at(plan, desks, cells, k)) {
+        moved = true;
     }
-    moves
+    moved
+}
+
+// Steps the desks in turn, each as far as it goes, and answers whether any moved.
+fn round(plan: &Plan, desks: &mut [Desk], cells: &mut PlainCells) -> bool
+    requires state { (w : World) × (w.plan ≡ plan.now) × Lawful w × IsState w desks.old cells.old }
+    ensures state { (w : World) → w.plan ≡ plan.now → Lawful w → IsState w desks.old cells.old → IsState w desks.new cells.new }
+    ensures moved { result ≡ true → left_all desks.new < left_all desks.old }
+    ensures still { result ≡ false → (desks.new ≡ desks.old) × (cells.new ≡ cells.old) }
+    ensures stuck { (w : World) → w.plan ≡ plan.now → IsWhole w → IsState w desks.old cells.old → result ≡ false → AllStuck w desks.old cells.old.cells }
+{
+    let mut moved = false;
+    for k in 0..desks.len() {
+        if walk(plan, desks, cells, k) {
+            moved = true;
+        }
+    }
+    moved
 }
 
 // Steps all desks to their end, round after round.
@@ -56,9 +71,9 @@ fn finish_all(plan: &Plan, desks: &mut [Desk], cells: &mut PlainCells)
     ensures delivered { (w : World) → w.plan ≡ plan.now → IsWhole w → IsState w desks.old cells.old → Delivers w desks.new }
     ensures full { (w : World) → Desk → w.plan ≡ plan.now → IsWhole w → IsState w desks.old cells.old → AllFull w cells.new }
 {
-    let mut moves = 1;
-    while moves > 0 {
-        moves = pass(plan, desks, cells);
+    let mut moved = true;
+    while moved {
+        moved = round(plan, desks, cells);
     }
 }
 
