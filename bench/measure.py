@@ -3,9 +3,8 @@
 
 LIST has a line 'NAME GATES PRODUCTS MESSAGES' for each job, and FOLDER/NAME is the job, with the text that the program must write in
 its file 'expected'. Goes through all jobs ROUNDS times, and prints a row of a table for each job: the least time that a run took, how many
-times as long that is as for the job above, where that has half as many gates, the least of the processor's time outside of the
-system, and the most memory. Ends with status 1, and says why on standard error, where a run doesn't end with status 0 or writes anything else
-than it must.
+times as long that is as for the job above, where that has half as many gates, and the most memory that a run took. Ends with status 1,
+and says why on standard error, where a run doesn't end with status 0 or writes anything else than it must.
 """
 
 import os
@@ -27,7 +26,7 @@ class Job:
         self.folder = os.path.join(folder, self.name)
         with open(os.path.join(self.folder, 'expected'), 'rb') as file:
             self.expected = file.read()
-        self.seconds = self.user = float('inf')
+        self.seconds = float('inf')
         self.peak = 0
 
     def run(self, program, options):
@@ -45,7 +44,6 @@ class Job:
         if written != self.expected:
             raise Wrong(f'{self.name}: did not write what its file "expected" says')
         self.seconds = min(self.seconds, seconds)
-        self.user = min(self.user, usage.ru_utime)
         # Linux counts the peak in KiB, macOS in bytes.
         self.peak = max(self.peak, usage.ru_maxrss / (2**20 if sys.platform == 'darwin' else 2**10))
 
@@ -53,7 +51,7 @@ class Job:
         """The job's row of the table, below that of the job above."""
         doubles = above and int(self.gates) == 2 * int(above.gates)
         times = f'{self.seconds / above.seconds:.2f}' if doubles else ''
-        figures = [f'{self.seconds * 1000:.1f}', times, f'{self.user * 1000:.1f}', f'{self.peak:.1f}']
+        figures = [f'{self.seconds * 1000:.1f}', times, f'{self.peak:.1f}']
         return '| ' + ' | '.join([self.name, self.gates, self.products, self.messages, *figures]) + ' |'
 
 
@@ -68,8 +66,8 @@ def main(words):
                 job.run(program, options)
     except Wrong as wrong:
         sys.exit(str(wrong))
-    print('| Job | Gates | Products | Messages | Milliseconds | Times the job above | Processor milliseconds | Peak memory, MiB |')
-    print('|---|---|---|---|---|---|---|---|')
+    print('| Job | Gates | Products | Messages | Milliseconds | Times the job above | Peak memory, MiB |')
+    print('|---|---|---|---|---|---|---|')
     for above, job in zip([None, *jobs], jobs):
         print(job.row(above))
 
