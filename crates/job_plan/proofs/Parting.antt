@@ -1,5 +1,5 @@
 -- Sessions of circuits.
-use Rattle.std.proofs.Common.{◌≡◌, ℕ, suc, ◌+◌, ◌-◌, ◌<◌, List, [], ◌∷◌, ◌++◌, inl, inr, length, replicate, refl, sym, ◌∙◌, ap, subst, arith, cond, sum, length-append}
+use Rattle.std.proofs.Common.{◌≡◌, ℕ, suc, ◌+◌, ◌-◌, ◌<◌, ◌^◌, List, [], ◌∷◌, ◌++◌, inl, inr, length, replicate, refl, sym, ◌∙◌, ap, subst, arith, cond, sum, length-append}
 use Rattle.std.specs.Prelude.{slice_index, All, ◌==◌, Bool, true, false, not, Option, Some, None}
 use Rattle.std.proofs.Math.ListN.{get_or-append}
 use Rattle.std.proofs.Math.Seq.{get_or-append_right}
@@ -14,7 +14,7 @@ use Rattle.job_plan.specs.Sound.{IsSoundSession}
 use Rattle.plan_faults.specs.declared.part_fault.PartFault.{PartFault}
 use Rattle.plan_faults.specs.declared.part_fault.PartFault.TheVariants.{OwnersDiffer, ReadersDiffer}
 use Rattle.plan_faults.specs.Counts.{counts_fault}
-use Rattle.job_plan.specs.Parts.{input_values, output_values, session_of}
+use Rattle.job_plan.specs.Parts.{input_values, output_values, session_of, AreOf, AreWithin}
 
 sum_cons : (w : ℕ) (ws : List ℕ) → sum (w ∷ ws) ≡ w + sum ws
 sum_cons w ws = sum_by-cons (λ x. x) w ws
@@ -48,14 +48,30 @@ owners_below (w ∷ ws) (p ∷ ps) parties v e all l =
           (owners_below ws ps parties (v - w) (omega (arith, e)) (λ k d h. all (suc k) d (omega (arith, h))) (omega (arith, past, l, long, length-append (replicate w p) more))))
     ]
 
+readers_below : (ws : List ℕ) (gs : List Members) (parties o : ℕ) → length gs ≡ length ws → All (λ (g : Members). g.parties ≡ parties) gs → AreWithin (output_values ws gs)
+    → o < length (readers_of (output_values ws gs)) → slice_index (readers_of (output_values ws gs)) o < 2 ^ parties
+readers_below [] gs parties o e all within l = absurd (omega (arith, l))
+readers_below (w ∷ ws) [] parties o e all within l = absurd (omega (arith, e))
+readers_below (w ∷ ws) (g ∷ gs) parties o e all within l =
+    let more = readers_of (output_values ws gs) in
+    let long : length (replicate w g.mask) ≡ w = length-replicate {A = ℕ} w g.mask in
+    elim (cases_lt o w) [
+      | inl less ↦ (let here : slice_index (replicate w g.mask ++ more) o ≡ g.mask = get_or-append (replicate w g.mask) more 0 o (omega (arith, less, long)) ∙ get_or-replicate w o g.mask 0 less in
+          subst (λ (n : ℕ). n < 2 ^ parties) (sym here) (subst (λ n. g.mask < 2 ^ n) (all 0 g (omega arith)) (within 0 (record { width = w; readers = g }) (omega arith))))
+      | inr past ↦ (let there : slice_index (replicate w g.mask ++ more) o ≡ slice_index more (o - w) = get_or-append_right (replicate w g.mask) more o 0 (omega (arith, past, long)) ∙ ap (λ n. slice_index more (o - n)) long in
+          subst (λ (n : ℕ). n < 2 ^ parties) (sym there)
+          (readers_below ws gs parties (o - w) (omega (arith, e)) (λ k d h. all (suc k) d (omega (arith, h))) (λ k d h. within (suc k) d (omega (arith, h))) (omega (arith, past, l, long, length-append (replicate w g.mask) more))))
+    ]
+
 pub sound_session : (c : Netlist) (owners : List ℕ) (readers : List Members) (parties : ℕ) → IsCircuit c → length owners ≡ length c.inputs → length readers ≡ length c.outputs
-    → All (λ p. p < parties) owners → IsSoundSession parties (session_of c owners readers)
-sound_session c owners readers parties v o r all = record {
+    → AreOf parties owners readers → AreWithin (output_values c.outputs readers) → IsSoundSession parties (session_of c owners readers)
+sound_session c owners readers parties v o r all within = record {
   wires = v.within.wires;
   gates = v.within.gates;
   input_wires = omega (arith, owners_long c.inputs owners o, v.within.input_wires);
   output_wires = omega (arith, readers_long c.outputs readers r, v.within.output_wires);
-  owned = λ w l. owners_below c.inputs owners parties w o all l;
+  owned = λ w l. owners_below c.inputs owners parties w o all.owned l;
+  read = λ w l. readers_below c.outputs readers parties w r all.read within l;
   first = λ t l. first_below c t v l;
   second = λ t l. second_below c t v l;
   output = λ t l. output_below c t v l;

@@ -1,5 +1,5 @@
 -- Circuits made into sessions.
-use Rattle.std.specs.Prelude.{◌≡◌, ℕ, List, [], ◌∷◌, length, Option, Some, None, Result, Ok, Err, ◌⊎◌}
+use Rattle.std.specs.Prelude.{◌≡◌, ℕ, ◌<◌, ◌^◌, All, List, [], ◌∷◌, length, Option, Some, None, Result, Ok, Err, ◌⊎◌}
 use Rattle.party_set.specs.Parties.{Members}
 use Rattle.circuit_model.specs.Netlists.{Netlist}
 use Rattle.plan_faults.specs.declared.part_fault.PartFault.{PartFault}
@@ -25,6 +25,15 @@ output_values (w ∷ ws) (g ∷ gs) = record { width = w; readers = g } ∷ outp
 abbrev pub session_of : Netlist → List ℕ → List Members → Session
 session_of c owners readers =
     record { gates = c.gates; wires = c.wires; inputs = input_values c.inputs owners; outputs = output_values c.outputs readers }
+
+-- each owner is one of so many parties, and each group of readers is of so many
+pub record AreOf (parties : ℕ) (owners : List ℕ) (readers : List Members) : Type 0 where
+  pub owned : All (λ owner. owner < parties) owners
+  pub read : All (λ (group : Members). group.parties ≡ parties) readers
+
+-- each member of these groups is one of their parties
+abbrev pub AreWithin : List OutputValue → Type 0
+AreWithin outputs = All (λ (value : OutputValue). value.readers.mask < 2 ^ value.readers.parties) outputs
 
 -- what is wrong with the counts of owners and of groups of readers
 abbrev pub part_fault : Netlist → List ℕ → List Members → Option PartFault

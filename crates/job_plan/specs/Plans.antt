@@ -5,7 +5,7 @@ use Rattle.circuit_model.specs.declared.gate.Gate.{Gate}
 use Rattle.circuit_model.specs.Circuits.{is_product}
 use Rattle.circuit_model.specs.declared.gate.Operation.TheVariants.{Add}
 use Rattle.secret_sharing.specs.Sharing.{Scheme, has_pair}
-use Rattle.party_set.specs.Parties.{Structure, IsQ2}
+use Rattle.party_set.specs.Parties.{Structure, IsQ2, has_party}
 use Rattle.job_plan.specs.declared.values.InputValue.{InputValue}
 use Rattle.job_plan.specs.declared.values.OutputValue.{OutputValue}
 use Rattle.share_layout.specs.Layouts as layout
@@ -86,6 +86,10 @@ no_session = record { gates = []; wires = 0; inputs = []; outputs = [] }
 
 abbrev pub session : Plan → ℕ → Session
 session plan s = slice_index_or plan.sessions s no_session
+
+-- party p reads output wire o of session s
+abbrev pub reads : Plan → ℕ → ℕ → ℕ → Bool
+reads plan p s o = has_party (slice_index (readers (session plan s)) o) p
 
 abbrev pub no_gate : Gate
 no_gate = record { operation = Add; first = 0; second = 0; output = 0; constant = 0 }

@@ -1,5 +1,5 @@
 -- Plans within the limits, and the tables that go with a plan.
-use Rattle.std.specs.Prelude.{◌≡◌, ℕ, ◌<◌, ◌≤◌, List, length, slice_index}
+use Rattle.std.specs.Prelude.{◌≡◌, ℕ, ◌<◌, ◌≤◌, ◌^◌, List, length, slice_index}
 use Rattle.mpc_ring.specs.Sums.{total}
 use Rattle.job_plan.specs.Plans.{readers, owners, Plan, Session, Slot, session, gate, words, Q2}
 use Rattle.job_plan.specs.declared.key.Key.{Key}
@@ -9,13 +9,14 @@ use Rattle.job_plan.specs.Firsts.{starts_of, deal_starts_of}
 use Rattle.job_plan.specs.declared.place.Place.{Place}
 use Rattle.job_plan.specs.declared.place.Place.TheVariants.{Input as PlaceInput, Gate as PlaceGate, Output as PlaceOutput}
 
--- the wires of each gate are wires, the owners are parties, and all is within the limits
+-- the wires of each gate are wires, owners and readers are parties, and all is within the limits
 pub record IsSoundSession (parties : ℕ) (s : Session) : Type 0 where
   pub wires : s.wires ≤ 131072
   pub gates : length s.gates ≤ 65536
   pub input_wires : length (owners s) ≤ s.wires
   pub output_wires : length (readers s) ≤ s.wires
   pub owned : (v : ℕ) → v < length (owners s) → slice_index (owners s) v < parties
+  pub read : (o : ℕ) → o < length (readers s) → slice_index (readers s) o < 2 ^ parties
   pub first : (t : ℕ) → t < length s.gates → (gate s t).first < s.wires
   pub second : (t : ℕ) → t < length s.gates → (gate s t).second < s.wires
   pub output : (t : ℕ) → t < length s.gates → (gate s t).output < s.wires

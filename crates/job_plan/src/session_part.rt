@@ -1,6 +1,6 @@
 //! A session of a plan.
 ghost use Rattle.std.specs.Prelude.{◌≡◌, ◌<◌, ◌^◌, ◌++◌, OnOk, IfOk, length, replicate, sum};
-ghost use Rattle.job_plan.specs.Parts.{input_values, output_values};
+ghost use Rattle.job_plan.specs.Parts.{input_values, output_values, AreWithin};
 ghost use Rattle.job_plan.specs.Plans.{owners_of, readers_of};
 ghost use Rattle.job_plan.specs.Tallies.{products_of};
 
@@ -38,9 +38,9 @@ impl Model for SessionPart {
 }
 
 impl SessionPart {
-    ghost use Rattle.std.specs.Prelude.{◌≡◌, ℕ, ◌<◌, All, IfOk, length, slice_index};
+    ghost use Rattle.std.specs.Prelude.{◌≡◌, ℕ, ◌<◌, IfOk, IsSomeAnd, length, slice_get, slice_index};
     ghost use Rattle.circuit_model.specs.Netlists.{IsCircuit};
-    ghost use Rattle.job_plan.specs.Parts.{Makes};
+    ghost use Rattle.job_plan.specs.Parts.{Makes, AreOf, AreWithin};
     ghost use Rattle.job_plan.specs.Plans.{gate, slot, slots, owners, readers};
     ghost use Rattle.job_plan.specs.Tallies.{products, owned, read_by};
     ghost use Rattle.job_plan.specs.Sound.{slot_of_place, Inside, IsSoundSession};
@@ -53,7 +53,8 @@ impl SessionPart {
         inputs: Vec<InputValue>,
         outputs: Vec<OutputValue>,
     ) -> Result<SessionPart, AllocError>
-        ensures { IfOk result (λ part. part ≡ record { gates = gates.items; wires = wires; inputs = inputs.items; outputs = outputs.items }) }
+        ensures made { IfOk result (λ part. part ≡ record { gates = gates.items; wires = wires; inputs = inputs.items; outputs = outputs.items }) }
+        ensures within { IfOk result (λ part. AreWithin part.outputs) }
     {
         let owners = owners_by_wire(alloc, &inputs)?;
         let readers = readers_by_wire(alloc, &outputs)?;
@@ -79,7 +80,7 @@ impl SessionPart {
     ) -> Result<SessionPart, PartFault>
         ensures made { Makes circuit owners.items readers.items result }
         ensures valid { IsCircuit circuit }
-        ensures sound { IfOk result (λ part. (parties : ℕ) → All (λ owner. owner < parties) owners.items → IsSoundSession parties part) }
+        ensures sound { IfOk result (λ part. (parties : ℕ) → AreOf parties owners.items readers.items → IsSoundSession parties part) }
     {
         let wires = circuit.wires();
         check_counts(
@@ -167,6 +168,22 @@ impl SessionPart {
             .iter()
             .filter(|readers| **readers >> r & 1 == 1)
             .count()
+    }
+
+    /// The party that gives input value `value`.
+    pub fn owner(&self, value: u32) -> u32
+        requires { value < length self.now.inputs }
+        ensures { IsSomeAnd (slice_get self.now.inputs value) (λ found. result ≡ found.owner) }
+    {
+        self.inputs[value as usize].owner
+    }
+
+    /// The parties that read output value `value`.
+    pub fn reader(&self, value: u32) -> Group
+        requires { value < length self.now.outputs }
+        ensures { IsSomeAnd (slice_get self.now.outputs value) (λ found. result ≡ found.readers) }
+    {
+        self.outputs[value as usize].readers
     }
 
     /// The input values, in order.
@@ -263,7 +280,8 @@ fn owners_by_wire(alloc: Global, inputs: &[InputValue]) -> Result<Vec<u32>, Allo
 
 // The readers of each output wire, as a mask.
 fn readers_by_wire(alloc: Global, outputs: &[OutputValue]) -> Result<Vec<u32>, AllocError>
-    ensures { IfOk result (λ list. list.items ≡ readers_of outputs.now) }
+    ensures masks { IfOk result (λ list. list.items ≡ readers_of outputs.now) }
+    ensures within { IfOk result (λ list. AreWithin outputs.now) }
 {
     let mut list = Vec::new(alloc);
     for value in outputs {

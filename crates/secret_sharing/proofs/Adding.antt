@@ -1,6 +1,6 @@
 -- The summands of what is dealt, of a product and of a wire add up.
 use Rattle.std.proofs.Common.{◌≡◌, ℕ, zero, suc, ◌+◌, ◌-◌, ◌*◌, ◌%◌, ◌<◌, ◌≤◌, ◌≢◌, Bool, true, false, nat_eq, nat_lt, if◌then◌else◌, refl, sym, ap, ◌∙◌, subst, arith}
-use Rattle.std.proofs.lemmas.Bool.{cases_eq, cases_Bool, cond-true, cond-false, cond_both, lt-ltb, le-ltb, or_parts, both_ways}
+use Rattle.std.proofs.lemmas.Bool.{cases_eq, cases_lt, cases_Bool, cond-true, cond-false, cond_both, lt-ltb, le-ltb, or_parts, both_ways}
 use Rattle.std.proofs.Math.Nat.{mod-eq_of_lt, mod-lt}
 use mathlib.Core.Logic.{inl, inr}
 use Rattle.mpc_ring.specs.Sums.{total, some_below, difference}
@@ -18,6 +18,20 @@ dealt_word s v words i l = cond-true (nat_lt (suc i) s.shares) (words i) _ (lt-l
 
 pub dealt_last : (s : Scheme) (v : ℕ) (words : ℕ → ℕ) (i : ℕ) → s.shares ≤ suc i → dealt s v words i ≡ difference s.modulus v (total (s.shares - 1) words)
 dealt_last s v words i l = cond-false (nat_lt (suc i) s.shares) (words i) _ (le-ltb (suc i) s.shares l)
+
+-- it is a number of the ring, where the words are
+pub dealt_small : (s : Scheme) (v : ℕ) (words : ℕ → ℕ) (i : ℕ) → 0 < s.modulus → ((j : ℕ) → words j < s.modulus) → dealt s v words i < s.modulus
+dealt_small s v words i positive small = elim (cases_lt (suc i) s.shares) [
+  | inl l ↦ subst (λ z. z < s.modulus) (sym (dealt_word s v words i l)) (small i)
+  | inr past ↦ subst (λ z. z < s.modulus) (sym (dealt_last s v words i past)) (mod-lt _ positive)
+]
+
+-- it reads the words of all summands but the last
+pub dealt_eq : (s : Scheme) (v : ℕ) (words others : ℕ → ℕ) (i : ℕ) → ((j : ℕ) → j < s.shares - 1 → words j ≡ others j) → dealt s v words i ≡ dealt s v others i
+dealt_eq s v words others i same = elim (cases_lt (suc i) s.shares) [
+  | inl l ↦ dealt_word s v words i l ∙ same i (omega arith) ∙ sym (dealt_word s v others i l)
+  | inr past ↦ dealt_last s v words i past ∙ ap (difference s.modulus v) (total_eq (s.shares - 1) words others same) ∙ sym (dealt_last s v others i past)
+]
 
 pub dealt_sum : (s : Scheme) → IsScheme s → (v : ℕ) (words : ℕ → ℕ) → Same s.modulus (total s.shares (dealt s v words)) v
 dealt_sum s h v words =

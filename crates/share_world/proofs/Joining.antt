@@ -10,13 +10,14 @@ use Rattle.job_plan.specs.declared.key.Key.{Key}
 use Rattle.party_set.specs.Parties.{has_party}
 use Rattle.job_plan.specs.Messages.{messages, slot_messages, deal_messages}
 use Rattle.job_plan.specs.Plans.Slot.{Input, At_gate, Output}
-use Rattle.share_world.specs.Worlds.{World, run_of, word, word_in, first_summands, tape_word}
+use Rattle.share_world.specs.Worlds.{World, run_of, word, word_in, first_summands, input_of, tape_word}
 use Rattle.job_plan.specs.Plans.{output_wire}
 use Rattle.share_world.specs.Locals.{local_run, local_word, local_word_in, LocalsJoin}
 use Rattle.secret_sharing.proofs.Agreement.{gate_agrees, product_agrees}
 use Rattle.mpc_ring.proofs.Laying.{every_joined, every_only_if, every_both, at_joined, at_only_if}
 use Rattle.job_plan.proofs.Slots.{slot_input, slot_gate, product_within, slot_output, slot_cases}
 use Rattle.share_world.proofs.Locality.{holder_own, seen}
+use Rattle.share_world.proofs.Sending.{SendsWord, all_sent}
 use Rattle.job_plan.proofs.Planning.{least_holds, least_within}
 
 abbrev Sent : World → (ℕ → Key → ℕ) → Key → Type 0
@@ -38,7 +39,7 @@ module _ (w : World) (h : IsPlan w.plan) (got : ℕ → Key → ℕ) (sent : All
       (at_joined (Sent w got) w.plan.parties _ q lq (at_joined (Sent w got) (length w.plan.groups) _ i li all))).0
 
   input_sent : (s v i q : ℕ) → s < length w.plan.sessions → v < length (owners (session w.plan s)) → i < length w.plan.groups → q < w.plan.parties → q ≢ slice_index (owners (session w.plan s)) v → holds w.plan q i ≡ true
-      → got q (key_of s v i (slice_index (owners (session w.plan s)) v) q) ≡ (local_run w (got (slice_index (owners (session w.plan s)) v)) (slice_index (owners (session w.plan s)) v) s).start v i
+      → got q (key_of s v i (slice_index (owners (session w.plan s)) v) q) ≡ dealt (scheme w.plan) (input_of w s v) (tape_word w s v (slice_index (owners (session w.plan s)) v)) i
   input_sent s v i q ls lv li lq ne has =
       let owner = slice_index (owners (session w.plan s)) v in
       let at : slot (session w.plan s) v ≡ Input v = slot_input (session w.plan s) v lv in
@@ -69,7 +70,7 @@ module _ (w : World) (h : IsPlan w.plan) (got : ℕ → Key → ℕ) (sent : All
         | inl lv ↦ elim (cases_eq owner p) [
           | inl e ↦ subst (λ z. (local_run w (got z) z s).start v i ≡ first_summands w s v i) e (owner_start s v i lv)
           | inr ne ↦ cond-true (nat_lt v (length owners)) _ 0 (lt-ltb v (length owners) lv) ∙ cond-false (nat_eq owner p) _ _ (ne_eqb owner p ne)
-              ∙ input_sent s v i p ls lv li lp (λ e. ne (sym e)) has ∙ owner_start s v i lv
+              ∙ input_sent s v i p ls lv li lp (λ e. ne (sym e)) has ∙ sym (cond-true (nat_lt v (length owners)) _ 0 (lt-ltb v (length owners) lv))
         ]
         | inr past ↦ cond-false (nat_lt v (length owners)) _ 0 (le-ltb v (length owners) past) ∙ sym (cond-false (nat_lt v (length owners)) _ 0 (le-ltb v (length owners) past))
       ]
@@ -92,54 +93,8 @@ module _ (w : World) (h : IsPlan w.plan) (got : ℕ → Key → ℕ) (sent : All
       ]))
       v i li has
 
-  Right : Key → Type 0
-  Right k = local_word w (got k.sender) k.sender k ≡ word w k
-
-  input_right : (s v : ℕ) → v < length (owners (session w.plan s)) → AllByRecursion Right (slot_messages w.plan s v (Input v))
-  unfolding Right
-  input_right s v lv =
-      let owner = slice_index (owners (session w.plan s)) v in
-      let at : slot (session w.plan s) v ≡ Input v = slot_input (session w.plan s) v lv in
-      every_joined Right (length w.plan.groups) _ (λ i li. every_joined Right w.plan.parties _ (λ q lq. every_only_if Right (not (nat_eq q owner) && holds w.plan q i) (key_of s v i owner q ∷ []) (λ e.
-      (ap (local_word_in w (got owner) owner (key_of s v i owner q)) at ∙ owner_start s v i lv ∙ sym (ap (word_in w (key_of s v i owner q)) at), tt))))
-
-  gate_right : (s t : ℕ) → s < length w.plan.sessions → t < length (session w.plan s).gates → AllByRecursion Right (slot_messages w.plan s (length (owners (session w.plan s)) + t) (At_gate t))
-  unfolding Right
-  gate_right s t ls lt =
-      let k = length (owners (session w.plan s)) + t in
-      let g = gate (session w.plan s) t in
-      let at : slot (session w.plan s) k ≡ At_gate t = slot_gate (session w.plan s) t lt in
-      every_joined Right w.plan.parties _ (λ p lp. every_only_if Right (deals_in w.plan (session w.plan s) p (At_gate t)) _ (λ deals.
-      every_joined Right (length w.plan.groups) _ (λ i li. every_joined Right w.plan.parties _ (λ q lq. every_only_if Right (not (nat_eq q p) && holds w.plan q i) (key_of s k i p q ∷ []) (λ e. (
-        ap (local_word_in w (got p) p (key_of s k i p q)) at
-            ∙ ap (λ z. dealt (scheme w.plan) z (tape_word w s k p) i) (holder_own w.plan h p _ _ _ _ (λ i li has. joined_run s ls t p g.first i lp li has) (λ i li has. joined_run s ls t p g.second i lp li has))
-            ∙ sym (ap (word_in w (key_of s k i p q)) at),
-        tt,
-      ))))))
-
-  output_right : (s o : ℕ) → s < length w.plan.sessions → AllByRecursion Right (slot_messages w.plan s (length (owners (session w.plan s)) + length (session w.plan s).gates + o) (Output o))
-  unfolding Right
-  output_right s o ls =
-      let sess = session w.plan s in
-      let k = length (owners sess) + length sess.gates + o in
-      let at : slot sess k ≡ Output o = slot_output sess o in
-      every_joined Right w.plan.parties _ (λ r lr. every_only_if Right (has_party (slice_index (readers sess) o) r) _ (λ reads.
-      every_joined Right (length w.plan.groups) _ (λ i li.
-      let p = least_holder w.plan i in
-      every_only_if Right (not (holds w.plan r i)) (key_of s k i p r ∷ []) (λ lacks. (
-        ap (local_word_in w (got p) p (key_of s k i p r)) at
-            ∙ joined_run s ls (length sess.gates) p (output_wire sess o) i (least_within w.plan h i li) li (least_holds w.plan h i li)
-            ∙ sym (ap (word_in w (key_of s k i p r)) at),
-        tt,
-      )))))
-
-  all_right : AllByRecursion Right (messages w.plan)
-  all_right = every_joined Right (length w.plan.sessions) _ (λ s ls. every_joined Right (slots (session w.plan s)) _ (λ k lk.
-      slot_cases (session w.plan s) (λ k z. AllByRecursion Right (slot_messages w.plan s k z)) (λ v lv. input_right s v lv) (λ t lt. gate_right s t ls lt) (λ o lo. output_right s o ls) k lk))
-
   all_got : AllByRecursion (λ k. got k.receiver k ≡ word w k) (messages w.plan)
-  unfolding Right
-  all_got = every_both (Sent w got) Right (λ k. got k.receiver k ≡ word w k) (messages w.plan) (λ k a b. a ∙ b) sent all_right
+  all_got = every_both (Sent w got) (SendsWord w got) (λ k. got k.receiver k ≡ word w k) (messages w.plan) (λ k a b. a ∙ b) sent (all_sent w h got (λ s t p v i ls. joined_run s ls t p v i))
 
 pub locals_join : (w : World) → IsPlan w.plan → LocalsJoin w
 locals_join w h got sent = all_got w h got sent

@@ -11,7 +11,7 @@ use Rattle.job_plan.specs.declared.key.Key.{Key}
 use Rattle.job_plan.specs.Plans.Slot.{Input, At_gate}
 use Rattle.share_world.specs.Worlds.{World, run_of, word, word_in, first_summands, input_of, tape_word}
 use Rattle.share_world.specs.Locals.{local_run, ReadsBefore}
-use Rattle.share_world.specs.Laws.{LocalIsDealt}
+use Rattle.share_world.specs.Laws.{HeldAreDealt}
 use Rattle.mpc_ring.proofs.Modular.{same_refl}
 use Rattle.secret_sharing.proofs.Agreement.{own_same, runs_agree, gates_agree, product_agrees}
 use Rattle.job_plan.proofs.Planning.{duty_is}
@@ -33,6 +33,7 @@ starts w p s v i =
           ∙ elim (cases_eq (slice_index owners v) p) [
             | inl e ↦ cond-true (nat_eq (slice_index owners v) p) _ _ (eq-eqb (slice_index owners v) p e) ∙ ap deal (sym e) ∙ sym (cond-true (nat_lt v (length owners)) _ 0 yes')
             | inr ne ↦ cond-false (nat_eq (slice_index owners v) p) _ (word w key) (ne_eqb (slice_index owners v) p ne) ∙ ap (word_in w key) (slot_input (session w.plan s) v (ltb-true v (length owners) yes'))
+                ∙ sym (cond-true (nat_lt v (length owners)) _ 0 yes')
           ]
       | inr no' ↦ cond-false (nat_lt v (length owners)) _ 0 no' ∙ sym (cond-false (nat_lt v (length owners)) _ 0 no')
     ]
@@ -58,8 +59,8 @@ deals w h p s t q i ih product =
           ∙ ap (word_in w (record { session = s; slot = k; share = i; sender = q; receiver = p })) (slot_gate (session w.plan s) t (product_within (session w.plan s) t product))
     ]
 
-pub local_is_dealt : (w : World) → IsPlan w.plan → LocalIsDealt w
-local_is_dealt w h p s t v i li hi =
+pub held_are_dealt : (w : World) → IsPlan w.plan → HeldAreDealt w
+held_are_dealt w h p s t v i li hi =
     runs_agree (run_of w s) (local_run w (word w) p s).start (local_run w (word w) p s).product (λ i. holds w.plan p i ≡ true)
     (λ v i li hi. starts w p s v i)
     (λ t ih product i li hi. product_agrees (scheme w.plan) (λ q v. dealt (scheme w.plan) v (tape_word w s (length (owners (session w.plan s)) + t) q)) (seen w (word w) p s t) _ _ _ _ i (λ q lq pair. deals w h p s t q i ih product))

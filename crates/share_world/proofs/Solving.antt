@@ -1,16 +1,17 @@
 -- The equations have one solution.
 use Rattle.std.proofs.Common.{◌≡◌, ℕ, zero, suc, ◌+◌, ◌-◌, ◌*◌, ◌%◌, ◌<◌, ◌≤◌, ◌≢◌, ◌⊎◌, true, false, nat_eq, nat_lt, if◌then◌else◌, length, refl, sym, ap, ap₂, ◌∙◌, subst, arith}
 use Rattle.std.specs.Prelude.{slice_index}
-use Rattle.std.proofs.lemmas.Bool.{cases_eq, cases_lt, cases_Bool, cond-true, cond-false, eq-eqb, ne_eqb, lt-ltb, le-ltb, both_ways}
+use Rattle.std.proofs.lemmas.Bool.{cases_eq, cases_lt, cases_Bool, cond-true, cond-false, eq-eqb, eqb-true, ne_eqb, lt-ltb, le-ltb, and_parts, both_ways}
 use mathlib.Core.Logic.{inl, inr}
 use Rattle.circuit_model.specs.declared.gate.Operation.{Operation}
 use Rattle.circuit_model.specs.Circuits.{is_product}
 use Rattle.circuit_model.specs.declared.gate.Operation.TheVariants.{Add, Sub, Neg, Mul, Xor, And, Inv, Eq, Eqw}
-use Rattle.secret_sharing.specs.Sharing.{dealt, local, own_product, has_pair, gate_summands, summands}
-use Rattle.job_plan.specs.Plans.{owners, Session, scheme, session, gate}
-use Rattle.share_world.specs.Worlds.{World, run_of, tape_word}
-use Rattle.share_world.specs.Solutions.{reads_first, reads_second, SetBefore, IsCircuit, Solves, OnlySolution, IsSolution, deal_of}
-use Rattle.job_plan.proofs.Slots.{slot_input, slot_gate}
+use Rattle.secret_sharing.specs.Sharing.{dealt, local, own_product, own_value, has_pair, gate_summands, summands}
+use Rattle.job_plan.specs.Plans.{owners, Session, scheme, session, gate, slot, slots, deals_in}
+use Rattle.job_plan.specs.Plans.Slot.{Input, At_gate, Output}
+use Rattle.share_world.specs.Worlds.{World, run_of, tape_word, deal_of}
+use Rattle.share_world.specs.Solutions.{reads_first, reads_second, SetBefore, IsCircuit, Solves, OnlySolution, IsSolution}
+use Rattle.job_plan.proofs.Slots.{slot_input, slot_gate, slot_cases}
 use Rattle.mpc_ring.proofs.Modular.{same_refl}
 use Rattle.mpc_ring.proofs.Totals.{total_eq}
 use Rattle.secret_sharing.proofs.Agreement.{own_same}
@@ -106,11 +107,37 @@ unset_zero w s (suc t) v i no' =
     ap (λ f. f i) (cond-false (nat_eq v g.output) _ (summands (run_of w s) t v) (ne_eqb v g.output (λ e. no' (inr (t, omega arith, sym e)))))
     ∙ unset_zero w s t v i (λ b. no' (set_later (session w.plan s) t v b))
 
-pub only_solution : (w : World) (s : ℕ) → OnlySolution w s
-only_solution w s c sh dl h v i li = elim (decide_set (session w.plan s) (length (session w.plan s).gates) v) [
+wires_are : (w : World) (s : ℕ) → IsCircuit (session w.plan s) → (sh : ℕ → ℕ → ℕ) (dl : ℕ → ℕ → ℕ → ℕ) → Solves w s sh dl
+    → (v i : ℕ) → i < length w.plan.groups → sh v i ≡ summands (run_of w s) (length (session w.plan s).gates) v i
+wires_are w s c sh dl h v i li = elim (decide_set (session w.plan s) (length (session w.plan s).gates) v) [
   | inl yes' ↦ solved w s c sh dl h (length (session w.plan s).gates) (omega arith) v i yes' li
   | inr no' ↦ h.unset v i no' ∙ sym (unset_zero w s (length (session w.plan s).gates) v i no')
 ]
+
+-- what a party deals at a product is of the summands of wires that are set
+gate_deal : (w : World) (s : ℕ) → IsCircuit (session w.plan s) → (sh : ℕ → ℕ → ℕ) (dl : ℕ → ℕ → ℕ → ℕ) → Solves w s sh dl
+    → (t p i : ℕ) → t < length (session w.plan s).gates → is_product (gate (session w.plan s) t).operation ≡ true
+    → dl p (length (owners (session w.plan s)) + t) i ≡ deal_of w s p (length (owners (session w.plan s)) + t) (At_gate t) i
+gate_deal w s c sh dl h t p i lt product =
+    let g = gate (session w.plan s) t in
+    let reads = product_reads g.operation product in
+    let before : (v i : ℕ) → SetBefore (session w.plan s) t v → i < length w.plan.groups → sh v i ≡ summands (run_of w s) t v i = solved w s c sh dl h t (omega arith) in
+    h.product_deals t p i lt product
+    ∙ ap (λ z. dealt (scheme w.plan) z (tape_word w s (length (owners (session w.plan s)) + t) p) i)
+    (own_same (scheme w.plan) p _ _ _ _ (λ i j li lj e. same_refl _ _ _ (ap₂ (λ a b. a * b) (before g.first i (c.first t lt reads.0) li) (before g.second j (c.second t lt reads.1) lj))))
+
+deals_are : (w : World) (s : ℕ) → IsCircuit (session w.plan s) → (sh : ℕ → ℕ → ℕ) (dl : ℕ → ℕ → ℕ → ℕ) → Solves w s sh dl
+    → (p i k : ℕ) → k < slots (session w.plan s) → deals_in w.plan (session w.plan s) p (slot (session w.plan s) k) ≡ true → dl p k i ≡ deal_of w s p k (slot (session w.plan s) k) i
+deals_are w s c sh dl h p i = slot_cases (session w.plan s) (λ k z. deals_in w.plan (session w.plan s) p z ≡ true → dl p k i ≡ deal_of w s p k z i)
+    (λ v lv owns. subst (λ z. dl z v i ≡ deal_of w s z v (Input v) i) (eqb-true _ _ owns) (h.input_deals v i lv))
+    (λ t lt deals. gate_deal w s c sh dl h t p i lt (and_parts (is_product (gate (session w.plan s) t).operation) _ deals).0)
+    (λ o lo none. absurd (both_ways false refl none))
+
+pub only_solution : (w : World) (s : ℕ) → OnlySolution w s
+only_solution w s c sh dl h = record {
+  wires = wires_are w s c sh dl h;
+  deals = λ p k i lk deals. deals_are w s c sh dl h p i k lk deals;
+}
 
 -- ---- the summands at the end solve the equations
 
@@ -139,7 +166,7 @@ at_end w s c t v le b =
 pub is_solution : (w : World) (s : ℕ) → IsSolution w s
 is_solution w s c = record {
   input_deals = λ v i l. ap (λ z. deal_of w s (slice_index (owners (session w.plan s)) v) v z i) (slot_input (session w.plan s) v l);
-  product_deals = λ t p i l e. ap (λ z. deal_of w s p (length (owners (session w.plan s)) + t) z i) (slot_gate (session w.plan s) t l);
+  product_deals = λ t p i l e. deal_is t p i l ∙ ap (λ z. dealt (scheme w.plan) z (tape_word w s (length (owners (session w.plan s)) + t) p) i) (own_at_end t p l e);
   inputs = λ v i l. ap (λ f. f i) (at_end w s c 0 v (omega arith) (inl l)) ∙ cond-true (nat_lt v (length (owners (session w.plan s)))) _ 0 (lt-ltb v (length (owners (session w.plan s))) l)
       ∙ sym (ap (λ z. deal_of w s (slice_index (owners (session w.plan s)) v) v z i) (slot_input (session w.plan s) v l));
   linear = λ t i l e.
@@ -148,13 +175,8 @@ is_solution w s c = record {
       ∙ local_reads (scheme w.plan).modulus g.operation g.constant i _ _ _ _ e
       (λ r. sym (ap (λ f. f i) (at_end w s c t g.first (omega arith) (c.first t l r)))) (λ r. sym (ap (λ f. f i) (at_end w s c t g.second (omega arith) (c.second t l r))));
   products = λ t i l e.
-      let g = gate (session w.plan s) t in
-      let reads = product_reads g.operation e in
-      output t i l ∙ cond-true (is_product g.operation) _ _ e
-      ∙ ap (λ z. z % (scheme w.plan).modulus) (total_eq w.plan.parties _ _ (λ p lp. ap (λ z. if has_pair (scheme w.plan) p then z else 0)
-      (ap₂ (λ x y. dealt (scheme w.plan) (own_product (scheme w.plan) p x y) (tape_word w s (length (owners (session w.plan s)) + t) p) i)
-      (sym (at_end w s c t g.first (omega arith) (c.first t l reads.0))) (sym (at_end w s c t g.second (omega arith) (c.second t l reads.1)))
-      ∙ sym (ap (λ z. deal_of w s p (length (owners (session w.plan s)) + t) z i) (slot_gate (session w.plan s) t l)))));
+      output t i l ∙ cond-true (is_product (gate (session w.plan s) t).operation) _ _ e
+      ∙ ap (λ z. z % (scheme w.plan).modulus) (total_eq w.plan.parties _ _ (λ p lp. ap (λ z. if has_pair (scheme w.plan) p then z else 0) (sym (deal_is t p i l))));
   unset = λ v i no'. unset_zero w s (length (session w.plan s).gates) v i no';
 }
   where
@@ -164,3 +186,15 @@ is_solution w s c = record {
         let g = gate (session w.plan s) t in
         ap (λ f. f i) (at_end w s c (suc t) g.output (omega arith) (inr (t, omega arith, refl)))
         ∙ ap (λ f. f i) (cond-true (nat_eq g.output g.output) _ (summands (run_of w s) t g.output) (eq-eqb g.output g.output refl))
+
+    deal_is : (t p i : ℕ) → t < length (session w.plan s).gates
+        → deal_of w s p (length (owners (session w.plan s)) + t) (slot (session w.plan s) (length (owners (session w.plan s)) + t)) i ≡ deal_of w s p (length (owners (session w.plan s)) + t) (At_gate t) i
+    deal_is t p i l = ap (λ z. deal_of w s p (length (owners (session w.plan s)) + t) z i) (slot_gate (session w.plan s) t l)
+
+    -- the own product is of summands that stay to the end
+    own_at_end : (t p : ℕ) → t < length (session w.plan s).gates → is_product (gate (session w.plan s) t).operation ≡ true
+        → own_value (run_of w s) t p ≡ own_product (scheme w.plan) p (summands (run_of w s) (length (session w.plan s).gates) (gate (session w.plan s) t).first) (summands (run_of w s) (length (session w.plan s).gates) (gate (session w.plan s) t).second)
+    own_at_end t p l e =
+        let g = gate (session w.plan s) t in
+        let reads = product_reads g.operation e in
+        ap₂ (own_product (scheme w.plan) p) (sym (at_end w s c t g.first (omega arith) (c.first t l reads.0))) (sym (at_end w s c t g.second (omega arith) (c.second t l reads.1)))

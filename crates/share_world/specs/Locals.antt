@@ -1,9 +1,10 @@
 -- What one party computes by itself, from its inputs, its tape and the words that it got.
 use Rattle.std.specs.List.{AllByRecursion}
-use Rattle.std.specs.Prelude.{◌≡◌, ℕ, ◌<◌, ◌≤◌, ◌+◌, nat_eq, nat_lt, if◌then◌else◌, length, slice_index}
+use Rattle.std.specs.Prelude.{◌≡◌, ℕ, ◌<◌, ◌≤◌, ◌+◌, ◌%◌, ◌^◌, nat_eq, nat_lt, if◌then◌else◌, length, slice_index}
+use Rattle.mpc_ring.specs.Sums.{total}
 use Rattle.secret_sharing.specs.Sharing.{Run, dealt, product_summand, own_value, summands}
 use Rattle.job_plan.specs.declared.key.Key.{Key}
-use Rattle.job_plan.specs.Plans.{owners, scheme, session, gate, Slot, slot}
+use Rattle.job_plan.specs.Plans.{owners, holds, least_holder, scheme, session, gate, Slot, slot}
 use Rattle.job_plan.specs.Messages.{messages}
 use Rattle.job_plan.specs.Plans.Slot.{Input, At_gate, Output}
 use Rattle.share_world.specs.Worlds.{World, input_of, tape_word, word}
@@ -24,14 +25,28 @@ local_run w got p s = record {
       else got (record { session = s; slot = length (owners (session w.plan s)) + t; share = i; sender = q; receiver = p }));
 }
 
+-- what p deals in a slot: its input, or its own product
+abbrev pub local_value : World → (Key → ℕ) → ℕ → ℕ → Slot → ℕ
+local_value w got p s (Input v) = input_of w s v
+local_value w got p s (At_gate t) = own_value (local_run w got p s) t p
+local_value w got p s (Output o) = 0
+
 -- the word of a message as its sender p has it
 abbrev pub local_word_in : World → (Key → ℕ) → ℕ → Key → Slot → ℕ
-local_word_in w got p k (Input v) = (local_run w got p k.session).start v k.share
-local_word_in w got p k (At_gate t) = dealt (scheme w.plan) (own_value (local_run w got p k.session) t p) (tape_word w k.session (length (owners (session w.plan k.session)) + t) p) k.share
 local_word_in w got p k (Output o) = summands (local_run w got p k.session) (length (session w.plan k.session).gates) (output_wire (session w.plan k.session) o) k.share
+local_word_in w got p k z = dealt (scheme w.plan) (local_value w got p k.session z) (tape_word w k.session k.slot p) k.share
 
 abbrev pub local_word : World → (Key → ℕ) → ℕ → Key → ℕ
 local_word w got p k = local_word_in w got p k (slot (session w.plan k.session) k.slot)
+
+-- output wire o of session s as p opens it: the sum of the summands that it holds and got
+abbrev pub local_output : World → (Key → ℕ) → ℕ → ℕ → ℕ → ℕ
+local_output w got p s o =
+    let x = session w.plan s in
+    total (length w.plan.groups) (λ i.
+    if holds w.plan p i then summands (local_run w got p s) (length x.gates) (output_wire x o) i
+    else got (record { session = s; slot = length (owners x) + length x.gates + o; share = i; sender = least_holder w.plan i; receiver = p }))
+    % 2 ^ w.plan.bits
 
 -- if each party got what the senders send, all words are those of the equations
 abbrev pub LocalsJoin : World → Type 0

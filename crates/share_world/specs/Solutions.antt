@@ -5,9 +5,8 @@ use Rattle.circuit_model.specs.declared.gate.Operation.{Operation}
 use Rattle.circuit_model.specs.Circuits.{is_product}
 use Rattle.circuit_model.specs.declared.gate.Operation.TheVariants.{Neg, Inv, Eq, Eqw}
 use Rattle.secret_sharing.specs.Sharing.{dealt, local, own_product, has_pair, summands}
-use Rattle.job_plan.specs.Plans.{owners, Session, Slot, scheme, session, gate, slot}
-use Rattle.job_plan.specs.Plans.Slot.{Input, At_gate, Output}
-use Rattle.share_world.specs.Worlds.{World, run_of, input_of, tape_word}
+use Rattle.job_plan.specs.Plans.{owners, Session, scheme, session, gate, slot, slots, deals_in}
+use Rattle.share_world.specs.Worlds.{World, run_of, input_of, tape_word, deal_of}
 
 abbrev pub reads_first : Operation → Bool
 reads_first Eq = false
@@ -42,21 +41,16 @@ pub record Solves (w : World) (s : ℕ) (sh : ℕ → ℕ → ℕ) (dl : ℕ →
       → sh (gate (session w.plan s) t).output i ≡ total w.plan.parties (λ p. if has_pair (scheme w.plan) p then dl p (length (owners (session w.plan s)) + t) i else 0) % (scheme w.plan).modulus
   pub unset : (v i : ℕ) → (SetBefore (session w.plan s) (length (session w.plan s).gates) v → ⊥) → sh v i ≡ 0
 
--- the summands are the only solution
+-- these summands of the wires and of the deals are the world's
+pub record AreSummands (w : World) (s : ℕ) (sh : ℕ → ℕ → ℕ) (dl : ℕ → ℕ → ℕ → ℕ) : Type 0 where
+  pub wires : (v i : ℕ) → i < length w.plan.groups → sh v i ≡ summands (run_of w s) (length (session w.plan s).gates) v i
+  pub deals : (p k i : ℕ) → k < slots (session w.plan s) → deals_in w.plan (session w.plan s) p (slot (session w.plan s) k) ≡ true → dl p k i ≡ deal_of w s p k (slot (session w.plan s) k) i
+
+-- the world's summands are the only solution
 abbrev pub OnlySolution : World → ℕ → Type 0
 OnlySolution w s =
-    IsCircuit (session w.plan s) → (sh : ℕ → ℕ → ℕ) (dl : ℕ → ℕ → ℕ → ℕ) → Solves w s sh dl
-    → (v i : ℕ) → i < length w.plan.groups → sh v i ≡ summands (run_of w s) (length (session w.plan s).gates) v i
+    IsCircuit (session w.plan s) → (sh : ℕ → ℕ → ℕ) (dl : ℕ → ℕ → ℕ → ℕ) → Solves w s sh dl → AreSummands w s sh dl
 
--- summand i of what party p deals in a slot, from the wires' summands at the end
-abbrev pub deal_of : World → ℕ → ℕ → ℕ → Slot → ℕ → ℕ
-deal_of w s p k (Input v) = dealt (scheme w.plan) (input_of w s v) (tape_word w s k p)
-deal_of w s p k (At_gate t) =
-    dealt (scheme w.plan)
-    (own_product (scheme w.plan) p (summands (run_of w s) (length (session w.plan s).gates) (gate (session w.plan s) t).first) (summands (run_of w s) (length (session w.plan s).gates) (gate (session w.plan s) t).second))
-    (tape_word w s k p)
-deal_of w s p k (Output o) = λ i. 0
-
--- the summands solve the equations
+-- and they are a solution
 abbrev pub IsSolution : World → ℕ → Type 0
 IsSolution w s = IsCircuit (session w.plan s) → Solves w s (summands (run_of w s) (length (session w.plan s).gates)) (λ p k. deal_of w s p k (slot (session w.plan s) k))

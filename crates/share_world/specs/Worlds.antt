@@ -1,5 +1,5 @@
 -- A world: a plan, the inputs of all parties, and their tapes. Its words, and what a group sees.
-use Rattle.std.specs.Prelude.{ℕ, ◌+◌, ◌-◌, ◌^◌, ◌||◌, nat_eq, nat_lt, if◌then◌else◌, List, [], map, length, slice_index, slice_index_or, filter}
+use Rattle.std.specs.Prelude.{ℕ, ◌+◌, ◌-◌, ◌^◌, Bool, ◌||◌, nat_eq, nat_lt, if◌then◌else◌, List, [], map, length, slice_index, slice_index_or, filter}
 use Rattle.mpc_ring.specs.Sums.{total}
 use Rattle.circuit_model.specs.Circuits.{values}
 use Rattle.secret_sharing.specs.Sharing.{Run, dealt, product_summand, own_value, summands}
@@ -41,19 +41,40 @@ run_of w s = record {
   product = λ t. product_summand (scheme w.plan) (λ p v. dealt (scheme w.plan) v (tape_word w s (length (owners (session w.plan s)) + t) p));
 }
 
--- the value of wire v
-abbrev pub plain : World → ℕ → ℕ → ℕ
-plain w s v = values (2 ^ w.plan.bits) (gate (session w.plan s)) (first_values w s) (length (session w.plan s).gates) v
+-- the value of wire v before gate t, and at the end
+abbrev pub value_before : World → ℕ → ℕ → ℕ → ℕ
+value_before w s t v = values (2 ^ w.plan.bits) (gate (session w.plan s)) (first_values w s) t v
 
+abbrev pub plain : World → ℕ → ℕ → ℕ
+plain w s v = value_before w s (length (session w.plan s).gates) v
+
+-- ---- deals
+
+-- what party p deals in a slot: its input, or its own product
+abbrev pub dealt_value : World → ℕ → ℕ → Slot → ℕ
+dealt_value w s p (Input v) = input_of w s v
+dealt_value w s p (At_gate t) = own_value (run_of w s) t p
+dealt_value w s p (Output o) = 0
+
+-- summand i of what party p deals in slot k, which is of this kind
+abbrev pub deal_of : World → ℕ → ℕ → ℕ → Slot → ℕ → ℕ
+deal_of w s p k z = dealt (scheme w.plan) (dealt_value w s p z) (tape_word w s k p)
+
+-- ---- messages
+
+-- a summand of the sender's deal, or of the wire that is opened
 abbrev pub word_in : World → Key → Slot → ℕ
-word_in w k (Input v) = first_summands w k.session v k.share
-word_in w k (At_gate t) = dealt (scheme w.plan) (own_value (run_of w k.session) t k.sender) (tape_word w k.session (length (owners (session w.plan k.session)) + t) k.sender) k.share
 word_in w k (Output o) = summands (run_of w k.session) (length (session w.plan k.session).gates) (output_wire (session w.plan k.session) o) k.share
+word_in w k z = deal_of w k.session k.sender k.slot z k.share
 
 -- the word of a message
 abbrev pub word : World → Key → ℕ
 word w k = word_in w k (slot (session w.plan k.session) k.slot)
 
--- what the group of this mask sees
+-- a member of the group of this mask sends or receives the message
+abbrev pub touches : ℕ → Key → Bool
+touches group k = has_party group k.sender || has_party group k.receiver
+
+-- what the group sees
 abbrev pub view : World → ℕ → List (Key × ℕ)
-view w group = map (λ k. (k, word w k)) (filter (λ k. has_party group k.sender || has_party group k.receiver) (messages w.plan))
+view w group = map (λ k. (k, word w k)) (filter (touches group) (messages w.plan))

@@ -4,7 +4,7 @@
 ghost use Rattle.std.specs.Prelude.{ℕ};
 ghost use Rattle.job_plan.specs.Plans.{IsPlan};
 ghost use Rattle.share_world.specs.Worlds.{World};
-ghost use Rattle.share_world.specs.Laws.{IsWorld, SumIsPlain, LocalIsDealt};
+ghost use Rattle.share_world.specs.Laws.{IsWorld, SumIsPlain, HeldAreDealt, SentAreWords, OpenedArePlain};
 ghost use Rattle.share_world.specs.Locals.{LocalsJoin, ReadsBefore};
 ghost use Rattle.share_world.specs.Solutions.{IsSolution, OnlySolution};
 ghost use Rattle.share_world.specs.Made.{MadeIsCircuit, MadeHasValues};
@@ -15,15 +15,19 @@ pub fn sum_is_plain()
     ensures { (w : World) → IsWorld w → SumIsPlain w }
 {}
 
-/// Over a valid circuit the summands solve the sharing equations (Maurer 2006), and nothing else does.
+/// Over a valid circuit the summands of the wires and of the deals solve the sharing equations (Maurer 2006), and no
+/// others do.
 pub fn equations_have_one_solution()
     ensures solves { (w : World) (s : ℕ) → IsSolution w s }
     ensures alone { (w : World) (s : ℕ) → OnlySolution w s }
 {}
 
-/// What a party computes by itself from the words that it got is what the equations say.
+/// What a party computes by itself from the words of the equations is what the equations say: the summands that it
+/// holds, the words that it sends, and the outputs that it opens.
 pub fn local_is_dealt()
-    ensures { (w : World) → IsPlan w.plan → LocalIsDealt w }
+    ensures held { (w : World) → IsPlan w.plan → HeldAreDealt w }
+    ensures sent { (w : World) → IsPlan w.plan → SentAreWords w }
+    ensures opened { (w : World) → IsWorld w → OpenedArePlain w }
 {}
 
 /// Parties that got what the senders send have the words of the equations.

@@ -2,7 +2,7 @@ use Rattle.std.proofs.Common.{◌≡◌, length, sym, ap, subst, arith}
 use Rattle.std.proofs.lemmas.Grind.{common_steps}
 use Rattle.job_plan.specs.Plans.{Session}
 use Rattle.job_plan.specs.Sound.{IsSoundSession}
-use Rattle.job_plan.specs.Parts.{session_of}
+use Rattle.job_plan.specs.Parts.{session_of, AreWithin}
 use Rattle.job_plan.proofs.Parting.{sound_session, counts_agree}
 use Rattle.job_plan.proofs.session_part.SessionPart.make.Goals as goal
 
@@ -13,4 +13,5 @@ returns-clause-sound c = λ parties all.
     let owned : length c.args.owners.items ≡ length c.args.circuit.inputs = omega (arith, counts.0, c.len.ensures, ap length c.input_widths.ensures, c.deref.ensures.len, ap length c.deref.ensures.value) in
     let read : length c.args.readers.items ≡ length c.args.circuit.outputs = omega (arith, counts.1, c.len-2.ensures, ap length c.output_widths.ensures, c.deref-2.ensures.len, ap length c.deref-2.ensures.value) in
     subst (λ (s : Session). IsSoundSession parties s) (sym part_is)
-    (sound_session c.args.circuit c.args.owners.items c.args.readers.items parties c.wires-wires.ensures.valid owned read all)
+    (sound_session c.args.circuit c.args.owners.items c.args.readers.items parties c.wires-wires.ensures.valid owned read all
+    (subst (λ (s : Session). AreWithin s.outputs) part_is c.in_ok-part.ensures.within))
