@@ -5,20 +5,17 @@ use Rattle.std.specs.List.{AllByRecursion}
 use Rattle.std.proofs.lemmas.Bool.{cases_eq, cases_lt, cond-true, cond-false, and_from, not_from_false, eq-eqb, ne_eqb, lt-ltb, le-ltb}
 use mathlib.Core.Logic.{inl, inr}
 use Rattle.secret_sharing.specs.Sharing.{Run, dealt, own_product, own_value, summands}
-use Rattle.job_plan.specs.Plans.{owners, readers, Plan, scheme, session, gate, holds, slot, slots, deals_in, least_holder, IsPlan}
+use Rattle.job_plan.specs.Plans.{owners, scheme, session, gate, holds, slot, slots, deals_in, IsPlan}
 use Rattle.job_plan.specs.declared.key.Key.{Key}
-use Rattle.party_set.specs.Parties.{has_party}
 use Rattle.job_plan.specs.Messages.{messages, slot_messages, deal_messages}
-use Rattle.job_plan.specs.Plans.Slot.{Input, At_gate, Output}
-use Rattle.share_world.specs.Worlds.{World, run_of, word, word_in, first_summands, input_of, tape_word}
-use Rattle.job_plan.specs.Plans.{output_wire}
+use Rattle.job_plan.specs.Plans.Slot.{Input, At_gate}
+use Rattle.share_world.specs.Worlds.{World, run_of, word, first_summands, input_of, tape_word}
 use Rattle.share_world.specs.Locals.{local_run, local_word, local_word_in, LocalsJoin}
 use Rattle.secret_sharing.proofs.Agreement.{gate_agrees, product_agrees}
-use Rattle.mpc_ring.proofs.Laying.{every_joined, every_only_if, every_both, at_joined, at_only_if}
-use Rattle.job_plan.proofs.Slots.{slot_input, slot_gate, product_within, slot_output, slot_cases}
+use Rattle.mpc_ring.proofs.Laying.{every_both, at_joined, at_only_if}
+use Rattle.job_plan.proofs.Slots.{slot_input, slot_gate, product_within}
 use Rattle.share_world.proofs.Locality.{holder_own, seen}
 use Rattle.share_world.proofs.Sending.{SendsWord, all_sent}
-use Rattle.job_plan.proofs.Planning.{least_holds, least_within}
 
 abbrev Sent : World → (ℕ → Key → ℕ) → Key → Type 0
 Sent w got k = got k.receiver k ≡ local_word w (got k.sender) k.sender k

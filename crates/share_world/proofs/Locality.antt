@@ -1,14 +1,12 @@
 -- What a party computes by itself is what the equations say.
-use Rattle.std.proofs.Common.{◌≡◌, ℕ, ◌+◌, ◌-◌, ◌*◌, ◌<◌, true, nat_eq, nat_lt, if◌then◌else◌, length, sym, ap, ap₂, ◌∙◌, subst, arith, refl}
+use Rattle.std.proofs.Common.{◌≡◌, ℕ, ◌+◌, ◌*◌, ◌<◌, true, nat_eq, nat_lt, if◌then◌else◌, length, sym, ap, ap₂, ◌∙◌, subst, arith, refl}
 use Rattle.std.specs.Prelude.{slice_index}
-use Rattle.std.proofs.lemmas.Bool.{cases_eq, cases_lt, cases_Bool, cond-true, cond-false, eq-eqb, ne_eqb, ltb-true, both_ways, lt-ltb, le-ltb}
-use Rattle.std.proofs.lemmas.List.{get_or_past}
+use Rattle.std.proofs.lemmas.Bool.{cases_eq, cases_lt, cases_Bool, cond-true, cond-false, eq-eqb, ne_eqb, ltb-true, le-ltb}
 use mathlib.Core.Logic.{inl, inr}
 use Rattle.circuit_model.specs.Circuits.{is_product}
 use Rattle.secret_sharing.specs.Sharing.{dealt, own_product, own_value, summands}
-use Rattle.job_plan.specs.Plans.{owners, Plan, Session, scheme, session, gate, holds, slot, no_gate, IsPlan}
+use Rattle.job_plan.specs.Plans.{owners, Plan, scheme, session, gate, holds, IsPlan}
 use Rattle.job_plan.specs.declared.key.Key.{Key}
-use Rattle.job_plan.specs.Plans.Slot.{Input, At_gate}
 use Rattle.share_world.specs.Worlds.{World, run_of, word, word_in, first_summands, input_of, tape_word}
 use Rattle.share_world.specs.Locals.{local_run, ReadsBefore}
 use Rattle.share_world.specs.Laws.{HeldAreDealt}

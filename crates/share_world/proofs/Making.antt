@@ -1,5 +1,5 @@
 -- Sessions that are made of valid circuits.
-use Rattle.std.proofs.Common.{◌≡◌, ℕ, zero, suc, ◌+◌, ◌^◌, ◌<◌, ◌≤◌, ◌⊎◌, inl, inr, Bool, true, false, ◌&&◌, ◌||◌, List, [], ◌∷◌, length, get_or, take, nat_lt, if◌then◌else◌, refl, sym, ◌∙◌, ap, ap₂, subst, arith}
+use Rattle.std.proofs.Common.{◌≡◌, ℕ, suc, ◌^◌, ◌<◌, ◌≤◌, inl, inr, Bool, true, false, ◌&&◌, ◌||◌, List, [], ◌∷◌, length, get_or, take, nat_lt, if◌then◌else◌, refl, sym, ◌∙◌, ap, ap₂, arith}
 use Rattle.std.specs.Prelude.{◌==◌}
 use Rattle.std.specs.List.{list_all, list_any}
 use Rattle.std.proofs.lemmas.List.{get_or-take, length-take-le}
@@ -10,12 +10,12 @@ use Rattle.circuit_model.specs.declared.gate.Gate.{Gate}
 use Rattle.circuit_model.specs.declared.gate.Operation.{Operation}
 use Rattle.circuit_model.specs.declared.gate.Operation.TheVariants.{Add, Sub, Neg, Mul, Xor, And, Inv, Eq, Eqw}
 use Rattle.circuit_model.specs.Circuits.{values}
-use Rattle.circuit_model.specs.Netlists.{Netlist, IsCircuit as IsValid, arity, reads, no_gate, is_set, input_wires, plain as value}
+use Rattle.circuit_model.specs.Netlists.{Netlist, IsCircuit as IsValid, arity, reads, no_gate, is_set, input_wires}
 use Rattle.circuit_model.specs.Netlists.{gate as gate_of}
 use Rattle.job_plan.specs.Plans.{Session, session, gate, owners}
 use Rattle.job_plan.specs.Parts.{session_of}
 use Rattle.job_plan.proofs.Parting.{owners_long}
-use Rattle.share_world.specs.Worlds.{World, input_of, plain}
+use Rattle.share_world.specs.Worlds.{World, input_of}
 use Rattle.share_world.specs.Solutions.{IsCircuit, SetBefore, reads_first, reads_second}
 use Rattle.share_world.specs.Made.{MadeHasValues}
 

@@ -1,10 +1,10 @@
 -- Summands and words are numbers of the ring.
-use Rattle.std.proofs.Common.{◌≡◌, ℕ, ◌+◌, ◌<◌, ◌^◌, true, false, nat_lt, length, sym, subst}
+use Rattle.std.proofs.Common.{ℕ, ◌+◌, ◌<◌, ◌^◌, nat_lt, length}
 use Rattle.std.specs.Prelude.{slice_index}
 use Rattle.std.proofs.lemmas.Bool.{cond_both}
 use Rattle.std.proofs.lemmas.Nat.{pow_pos}
 use Rattle.std.proofs.Math.Nat.{mod-lt}
-use Rattle.secret_sharing.specs.Sharing.{dealt, summands}
+use Rattle.secret_sharing.specs.Sharing.{summands}
 use Rattle.secret_sharing.proofs.Adding.{dealt_small, summands_below}
 use Rattle.job_plan.specs.declared.key.Key.{Key}
 use Rattle.job_plan.specs.Plans.{Slot, owners, scheme, session, slot, place, IsPlan}
