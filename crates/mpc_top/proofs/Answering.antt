@@ -9,8 +9,7 @@ use Rattle.command_words.specs.Commands.{CommandForm, command_of}
 use Rattle.mpc_top.specs.declared.stop.Stop.{Stop}
 use Rattle.mpc_top.specs.declared.stop.Stop.TheVariants.{Memory, Words, Out, Files, Refused, Covering}
 use Rattle.mpc_top.specs.Texts.{files_fault_line, usage_text}
-use Rattle.mpc_top.specs.Verdict.{Verdict, accepted, missing, refused}
-use Rattle.mpc_top.specs.Reading.{KeepsFiles}
+use Rattle.mpc_top.specs.Verdict.{accepted, missing, refused}
 use Rattle.mpc_top.specs.Due.{IsDue}
 use Rattle.mpc_top.specs.Stops.{status_of, text_of, HasCause, Runs, Tells}
 use Rattle.mpc_top.specs.Command.{Outside, KeepsSink, GivesDue, Answers}
