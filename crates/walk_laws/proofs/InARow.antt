@@ -1,9 +1,8 @@
 -- Calls in a row.
-use Rattle.std.proofs.Common.{◌≡◌, ℕ, ◌+◌, ◌≤◌, ◌⊎◌, inl, inr, List, length, Option, None, Some, Ok, sym, ap, subst, ◌∙◌, arith}
+use Rattle.std.proofs.Common.{◌≡◌, ℕ, ◌+◌, ◌≤◌, inl, inr, List, length, Some, Ok, sym, ap, subst, ◌∙◌, arith}
 use Rattle.std.specs.Prelude.{IsTrue}
-use Rattle.outer_io.specs.Files.{Told}
 use Rattle.outer_io.specs.Sink.{SinkReading, Writes}
-use Rattle.command_words.specs.Commands.{CommandForm, command_of}
+use Rattle.command_words.specs.Commands.{command_of}
 use Rattle.mpc_top.specs.declared.stop.Stop.{Stop}
 use Rattle.mpc_top.specs.declared.stop.Stop.TheVariants.{Memory, Words, Out, Files, Refused, Covering}
 use Rattle.mpc_top.specs.Verdict.{Verdict, accepted, missing, refused}
@@ -85,11 +84,10 @@ pub both_given : (words next_words : List (List ℕ)) (start middle end : Outsid
     → InARow words next_words start middle end status next_status → AreDueTogether words next_words start files verdict next_verdict → IsSteady start
     → IsGiven start middle status verdict × IsGiven middle end next_status next_verdict
 both_given words next_words start middle end status next_status files verdict next_verdict r due s =
-    let g : IsGiven start middle status verdict = given words start middle status r.call files verdict due.told due.due (inr (s, due.room)) r.memory in
-    (
+    let g : IsGiven start middle status verdict = given words start middle status r.call files verdict due.told due.due (inr (s, due.room)) r.memory in (
       g,
       given next_words middle end next_status r.next_call files next_verdict (r.call.keeps.files.same_told ∙ due.told) due.next_due
-      (inr (steady_after words start middle status r.call s, next_room words start middle status r.call files due.told s verdict next_verdict due.due g due.room_for_both)) r.next_memory,
+          (inr (steady_after words start middle status r.call s, next_room words start middle status r.call files due.told s verdict next_verdict due.due g due.room_for_both)) r.next_memory,
     )
 
 pub one_status : (words : List (List ℕ)) (start middle end : Outside) (status next_status : ℕ) (files : Contents)
@@ -98,5 +96,5 @@ one_status words start middle end status next_status files r told none next_none
     let g = (r.call.due r.memory).quiet none in
     let due : IsDue (command_of words) (Some files) g.0 = subst (λ t. IsDue (command_of words) t g.0) told g.1 in
     let again : IsGiven middle end next_status g.0 =
-      given words middle end next_status r.next_call files g.0 (r.call.keeps.files.same_told ∙ told) due (inl next_none) r.next_memory in
+    given words middle end next_status r.next_call files g.0 (r.call.keeps.files.same_told ∙ told) due (inl next_none) r.next_memory in
     again.0 ∙ sym g.2.0
