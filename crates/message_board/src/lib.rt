@@ -1,8 +1,19 @@
-//! Numbered cells that messages are left in, each empty or holding one word for good.
+//! Numbered cells that messages are left in, each empty or holding one word for good, and slots that pass items on.
 #![tactic(auto)]
 
+mod board;
 mod cells;
+mod closed;
+mod making;
 mod plain;
+mod seat_at;
+mod steps;
+#[cfg(test)]
+mod tests;
 
+pub use board::{Board, BoardSeat};
 pub use cells::{Cells, Posted};
+pub use closed::ClosedBoard;
 pub use plain::PlainCells;
+pub use seat_at::SeatAt;
+pub use steps::{About, Promise, SlotItem, View};

@@ -1,0 +1,362 @@
+//! Cells and slots that threads share. A cell is a value word and a full word: a post is a store of the value and then
+//! one compare-and-exchange of the full word, and a take is one load of the full word and, where that is 1, one of the
+//! value. A slot's turn word says whether its item is at home. No step waits for another thread.
+ghost use Rattle.std.specs.Prelude.{◌≡◌, ℕ, ◌+◌, ◌⊎◌, ◌<◌, ◌≤◌, ◌^◌, [], ◌∷◌, length, slice_get, Some};
+ghost use Rattle.std.specs.Prelude.{IfSome, IfNone, IfOk, IfErr, vec_len, vec_capacity};
+ghost use Rattle.message_board.specs.Words.{posted_as};
+
+use crate::cells::Posted;
+use crate::closed::ClosedBoard;
+use crate::making::{Room, fill, give_back, make_room, start_words};
+use crate::steps::{
+    About, BoardRule, BringsHome, Finds, Parts, Posts, Promise, SlotItem, Stores, Takes, TakesOut,
+    View,
+};
+use atomic_table::{Refused, Seat, Table};
+use std::alloc::{AllocError, Global};
+use std::marker::Model;
+
+/// Cells and slots that threads share, each step of which keeps the rule of boards.
+#[derive(Drop)]
+pub struct Board<W: Promise, T: SlotItem<W>> {
+    table: Table<Option<T>, View<W>, About<W>, BoardRule, Global>,
+}
+
+// To a contract a board is which table it is, and what it is about.
+impl<W: Promise, T: SlotItem<W>> Model for Board<W, T> {
+    ghost use Rattle.std.specs.Prelude.{length};
+    ghost use Rattle.message_board.specs.Seats.{HasWords, Place, place_coded};
+
+    ghost Value = { Place W };
+
+    ghost coded = { place_coded W.code };
+
+    ghost view = { λ b. record { id = b.table.shared.table_id; about = b.table.shared.key } };
+
+    ghost invariant = { λ b. HasWords (length (W.list b.table.shared.key.world)) b.table.shared.table_id };
+}
+
+/// What one thread uses a board with. It knows what it posted, took and found, and holds the slots that it took. It has
+/// no bytes.
+#[derive(Drop)]
+pub struct BoardSeat<W, T> {
+    seat: Seat<Option<T>, View<W>>,
+}
+
+impl<W, T> Model for BoardSeat<W, T> {
+    ghost use Rattle.std.specs.Prelude.{◌≡◌, ◌<◌, []};
+    ghost use Rattle.message_board.specs.Words.{blanks};
+    ghost use Rattle.message_board.specs.Seats.{Sitting, sitting_coded};
+
+    ghost Value = { Sitting W };
+
+    ghost coded = { sitting_coded W.code };
+
+    ghost view = { λ s. record { id = s.seat.table_id; view = s.seat.me.0 } };
+
+    ghost invariant = { λ s. (s.seat.me.1 ≡ blanks s.seat.me.0.out) × (0 < s.seat.me.0.parts) };
+}
+
+// What a post of the word says of the full word that it found.
+fn posted_of(found: u64, word: u64) -> Posted
+    ensures { result ≡ posted_as found word }
+{
+    if found == 0 {
+        Posted::Done
+    } else {
+        Posted::Occupied(word)
+    }
+}
+
+impl<W: Promise, T: SlotItem<W>> Board<W, T> {
+    ghost use Rattle.atomic_table.specs.Table.{opening};
+    ghost use Rattle.message_board.specs.Pairs.{Knows, Grows, times};
+    ghost use Rattle.message_board.specs.Plain.{plain_cell};
+    ghost use Rattle.message_board.specs.Rule.{IsBoard, posts, takes, brings_home, others, folds};
+    ghost use Rattle.message_board.specs.Rule.{less_one, one_part, newcomer};
+    ghost use Rattle.message_board.specs.Seats.{IsBoardOf, IsSeatOf, IsFreeSeatOf, IsPosted};
+    ghost use Rattle.message_board.specs.Seats.{TookOut, FoundOut, AreFresh, AreSeatsOf, CanClose};
+    ghost use Rattle.message_board.specs.Seats.{AreNew, KnownBy, times_by, HasCells};
+
+    /// A board with so many empty cells and no slots, and its seats.
+    pub fn make(
+        alloc: Global,
+        words: W,
+        messages: u32,
+        seats: u32,
+    ) -> Result<(Board<W, T>, Vec<BoardSeat<W, T>>), AllocError>
+    where
+        W: Drop,
+        requires seats { 0 < seats }
+        requires messages { length (W.list words) ≡ messages }
+        ensures board { IfOk result (λ r. IsBoardOf words seats 0 r.0) }
+        ensures count { IfOk result (λ r. vec_len r.1 ≡ seats) }
+        ensures seats { IfOk result (λ r. AreNew r.0 r.1.items) }
+    {
+        let made = Vec::with_capacity(alloc, seats as usize)?;
+        let start = start_words(alloc, messages, 0)?;
+        let about = About {
+            world: words,
+            seats,
+        };
+        let (table, seat) = Table::of_words(alloc, start.as_slice(), &about)?;
+        let board = Board { table };
+        let made = board.seats(made, BoardSeat { seat }, seats);
+        Ok((board, made))
+    }
+
+    /// A board with so many empty cells and a slot for each item, and its seats. Out of memory, the items come back.
+    pub fn with_slots(
+        alloc: Global,
+        words: W,
+        messages: u32,
+        seats: u32,
+        mut items: Vec<T>,
+    ) -> Result<(Board<W, T>, Vec<BoardSeat<W, T>>), (AllocError, Vec<T>)>
+    where
+        W: Drop,
+        T: Drop,
+        requires seats { 0 < seats }
+        requires messages { length (W.list words) ≡ messages }
+        requires few { vec_len items < 2 ^ 32 }
+        requires items { AreFresh T.good T.posted words items.items }
+        ensures board { IfOk result (λ r. IsBoardOf words seats (vec_len items) r.0) }
+        ensures count { IfOk result (λ r. vec_len r.1 ≡ seats) }
+        ensures seats { IfOk result (λ r. AreNew r.0 r.1.items) }
+        ensures back { IfErr result (λ r. r.1.items ≡ items.items) }
+    {
+        let Ok(Room { made, start, slots }) = make_room(alloc, messages, seats, items.len()) else {
+            return Err((AllocError, items));
+        };
+        let slots = fill(&mut items, slots);
+        let about = About {
+            world: words,
+            seats,
+        };
+        match Board::open(alloc, about, start, slots) {
+            Ok((board, first)) => {
+                let made = board.seats(made, first, seats);
+                Ok((board, made))
+            }
+            Err(slots) => Err((AllocError, give_back(items, slots))),
+        }
+    }
+
+    // A board of these words and slots, with its first seat.
+    fn open(
+        alloc: Global,
+        about: About<W>,
+        start: Vec<u64>,
+        slots: Vec<Option<T>>,
+    ) -> Result<(Board<W, T>, BoardSeat<W, T>), Vec<Option<T>>>
+    where
+        W: Drop,
+        T: Drop,
+        requires seats { 0 < about.seats }
+        requires few { (vec_len slots < 2 ^ 32) × (length (W.list about.world) < 2 ^ 32) }
+        requires words { vec_len start ≡ length (W.list about.world) + length (W.list about.world) + vec_len slots + 1 }
+        requires rule { IsBoard W.list T.good T.posted about (opening start.items slots.items (newcomer about about.seats)) }
+        ensures board { IfOk result (λ r. (r.0.about ≡ about) × (r.0.id.slots ≡ vec_len slots)) }
+        ensures seat { IfOk result (λ r. IsSeatOf r.0 r.1 × (r.1.view ≡ newcomer about about.seats)) }
+        ensures back { IfErr result (λ r. r.items ≡ slots.items) }
+    {
+        match Table::new(alloc, start.as_slice(), slots, &about) {
+            Ok(opened) => {
+                let (table, seat) = opened;
+                Ok((Board { table }, BoardSeat { seat }))
+            }
+            Err(refused) => {
+                let Refused { slots } = refused;
+                Err(slots)
+            }
+        }
+    }
+
+    // So many seats of a new board, of one part each.
+    fn seats(
+        &self,
+        mut made: Vec<BoardSeat<W, T>>,
+        mut first: BoardSeat<W, T>,
+        count: u32,
+    ) -> Vec<BoardSeat<W, T>>
+        requires count { 0 < count }
+        requires first { IsSeatOf self.now first × (first.view ≡ newcomer self.now.about count) }
+        requires room { (made.items ≡ []) × (count ≤ vec_capacity made) }
+        ensures count { vec_len result ≡ count }
+        ensures seats { AreNew self.now result.items }
+    {
+        for _ in 1..count {
+            made.push_reserved(self.another(&mut first));
+        }
+        made.push_reserved(first);
+        made
+    }
+
+    // Makes another seat, which takes one of the parts of this one.
+    fn another(&self, seat: &mut BoardSeat<W, T>) -> BoardSeat<W, T>
+        requires seat { IsSeatOf self.now seat.old }
+        requires parts { 1 < seat.old.view.parts }
+        ensures seat { IsSeatOf self.now seat.new × (seat.new.view ≡ less_one seat.old.view) }
+        ensures other { IsSeatOf self.now result × (result.view ≡ one_part seat.old.view) }
+    {
+        BoardSeat {
+            seat: self.table.shared.split_seat::<Parts>(&mut seat.seat),
+        }
+    }
+
+    /// Fills the cell with its word: Done, or the word that the cell had.
+    pub fn post(&self, seat: &mut BoardSeat<W, T>, number: u32, word: u64) -> Posted
+        requires seat { IsSeatOf self.now seat.old }
+        requires promised { slice_get (W.list self.now.about.world) number ≡ Some word }
+        ensures seat { IsSeatOf self.now seat.new }
+        ensures view { seat.new.view ≡ posts seat.old.view number word result }
+        ensures found { IsPosted word result }
+    {
+        let messages = self.messages();
+        self.table
+            .shared
+            .store::<Stores<W, T>>(&mut seat.seat, number as usize + 1, word);
+        let found = self
+            .table
+            .shared
+            .compare_exchange::<Posts<W, T>>(&mut seat.seat, messages + number as usize + 1, 0, 1);
+        posted_of(found, word)
+    }
+
+    /// The word of a cell, or nothing where it was empty. A cell that the seat knows is never empty.
+    pub fn take(&self, seat: &mut BoardSeat<W, T>, number: u32) -> Option<u64>
+        requires seat { IsSeatOf self.now seat.old }
+        requires inside { number < length (W.list self.now.about.world) }
+        ensures seat { IsSeatOf self.now seat.new }
+        ensures view { seat.new.view ≡ takes seat.old.view number result }
+        ensures promised { IfSome result (λ w. slice_get (W.list self.now.about.world) number ≡ Some w) }
+        ensures known { (w : ℕ) → Knows seat.old.view.seen number w → result ≡ Some w }
+    {
+        let messages = self.messages();
+        let full = self
+            .table
+            .shared
+            .load::<Finds<W, T>>(&mut seat.seat, messages + number as usize + 1);
+        if full == 0 {
+            return None;
+        }
+        let value = self
+            .table
+            .shared
+            .load::<Takes<W, T>>(&mut seat.seat, number as usize + 1);
+        Some(value)
+    }
+
+    /// How many slots there are, which are numbered from 0.
+    pub fn slots(&self) -> u32
+        ensures { result ≡ self.now.id.slots }
+    {
+        self.table.slot_count() as u32
+    }
+
+    /// The item of a slot, which the seat holds then, or nothing where the slot is out. Where the seat
+    /// has the parts of all seats, it is out only with this seat.
+    pub fn take_out(&self, seat: &mut BoardSeat<W, T>, slot: u32) -> Option<T>
+        requires seat { IsSeatOf self.now seat.old }
+        requires inside { slot < self.now.id.slots }
+        ensures seat { IsSeatOf self.now seat.new }
+        ensures found { IfSome result (TookOut T.good T.posted self.now.about.world seat.old seat.new slot) }
+        ensures none { IfNone result (FoundOut W.list self.now seat.old seat.new slot) }
+    {
+        let place = self.turn_place(slot);
+        let found = self
+            .table
+            .shared
+            .compare_exchange::<TakesOut<W, T>>(&mut seat.seat, place, 1, 0);
+        if found == 0 {
+            return None;
+        }
+        self.table
+            .shared
+            .exchange(&mut seat.seat, slot as usize, None)
+    }
+
+    /// Puts an item into the slot that the seat took last.
+    pub fn bring_home(&self, seat: &mut BoardSeat<W, T>, slot: u32, item: T)
+        requires seat { IsSeatOf self.now seat.old }
+        requires inside { slot < self.now.id.slots }
+        requires held { seat.old.view.out ≡ slot ∷ others seat.old.view.out }
+        requires good { T.good self.now.about.world item slot }
+        requires posts { Grows (T.posted self.now.about.world item) seat.old.view.seen }
+        ensures seat { IsSeatOf self.now seat.new }
+        ensures view { seat.new.view ≡ brings_home seat.old.view }
+    {
+        let place = self.turn_place(slot);
+        let old = self
+            .table
+            .shared
+            .exchange(&mut seat.seat, slot as usize, Some(item));
+        let None = old else { unreachable!() };
+        self.table
+            .shared
+            .store::<BringsHome<W, T>>(&mut seat.seat, place, 1);
+    }
+
+    /// One seat that knows what both knew. The other holds no slot.
+    pub fn fold(&self, mut seat: BoardSeat<W, T>, other: BoardSeat<W, T>) -> BoardSeat<W, T>
+        requires seat { IsSeatOf self.now seat }
+        requires other { IsFreeSeatOf self.now other }
+        ensures seat { IsSeatOf self.now result }
+        ensures view { result.view ≡ folds seat.view other.view }
+    {
+        let BoardSeat { seat: spent } = other;
+        self.table.shared.join_seat::<Parts>(&mut seat.seat, spent);
+        seat
+    }
+
+    // One seat that knows what all knew.
+    fn fold_all(&self, first: BoardSeat<W, T>, mut seats: Vec<BoardSeat<W, T>>) -> BoardSeat<W, T>
+        requires first { IsSeatOf self.now first }
+        requires seats { AreSeatsOf self.now seats.items }
+        ensures seat { IsSeatOf self.now result }
+        ensures seen { (k w : ℕ) → Knows first.view.seen k w ⊎ KnownBy seats.items k w → Knows result.view.seen k w }
+        ensures mine { (k : ℕ) → times k result.view.mine ≡ times k first.view.mine + times_by k seats.items }
+    {
+        let mut seat = first;
+        while let Some(other) = seats.pop() {
+            seat = self.fold(seat, other);
+        }
+        seat
+    }
+
+    /// The cells, once no thread has a seat any more. Only the last seat may still hold slots.
+    pub fn close(self, mut seats: Vec<BoardSeat<W, T>>) -> ClosedBoard<T>
+        requires some { 0 < vec_len seats }
+        requires seats { CanClose self seats.items }
+        ensures cells { HasCells (W.list self.about.world) result }
+        ensures seen { (k w : ℕ) → KnownBy seats.items k w → plain_cell result k ≡ Some w }
+        ensures once { (k : ℕ) → times_by k seats.items ≤ 1 }
+    {
+        let Some(first) = seats.pop() else {
+            unreachable!()
+        };
+        let keeper = self.fold_all(first, seats);
+        let messages = self.messages();
+        let Board { table } = self;
+        let BoardSeat { seat } = keeper;
+        ClosedBoard {
+            closed: table.close_with(seat),
+            messages,
+        }
+    }
+
+    // How many cells there are.
+    fn messages(&self) -> usize
+        ensures { result ≡ length (W.list self.now.about.world) }
+    {
+        (self.table.word_count() - self.table.slot_count() - 1) / 2
+    }
+
+    // The place of a slot's turn word.
+    fn turn_place(&self, slot: u32) -> usize
+        requires { slot < self.now.id.slots }
+        ensures { result ≡ length (W.list self.now.about.world) + length (W.list self.now.about.world) + slot + 1 }
+    {
+        self.table.word_count() - self.table.slot_count() + slot as usize
+    }
+}

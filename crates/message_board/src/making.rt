@@ -1,0 +1,74 @@
+//! What a board is made of.
+ghost use Rattle.std.specs.Prelude.{◌≡◌, ◌+◌, ◌<◌, ◌≤◌, ◌^◌, [], ◌++◌, replicate, map, Some, IfOk};
+ghost use Rattle.std.specs.Prelude.{vec_len, vec_capacity};
+ghost use Rattle.message_board.specs.Words.{held};
+
+use crate::board::BoardSeat;
+use std::alloc::{AllocError, Global};
+
+/// What a board with slots is made of, before the items lie in it.
+pub struct Room<W, T> {
+    pub made: Vec<BoardSeat<W, T>>,
+    pub start: Vec<u64>,
+    pub slots: Vec<Option<T>>,
+}
+
+/// Reserves all that a board of so many cells, seats and slots needs but its table.
+pub fn make_room<W, T: Drop>(
+    alloc: Global,
+    messages: u32,
+    seats: u32,
+    slots: usize,
+) -> Result<Room<W, T>, AllocError>
+    requires { slots < 2 ^ 32 }
+    ensures made { IfOk result (λ r. (r.made.items ≡ []) × (seats ≤ vec_capacity r.made)) }
+    ensures start { IfOk result (λ r. r.start.items ≡ replicate (messages + messages + 1) 0 ++ replicate slots 1) }
+    ensures slots { IfOk result (λ r. (r.slots.items ≡ []) × (slots ≤ vec_capacity r.slots)) }
+{
+    let made = Vec::with_capacity(alloc, seats as usize)?;
+    let start = start_words(alloc, messages, slots)?;
+    let slots = Vec::with_capacity(alloc, slots)?;
+    Ok(Room { made, start, slots })
+}
+
+/// The words of a table at its start: empty cells, and each slot at home.
+pub fn start_words(alloc: Global, messages: u32, slots: usize) -> Result<Vec<u64>, AllocError>
+    requires { slots < 2 ^ 32 }
+    ensures { IfOk result (λ v. v.items ≡ replicate (messages + messages + 1) 0 ++ replicate slots 1) }
+{
+    let mut words = Vec::new(alloc);
+    let cells = messages as usize + messages as usize + 1;
+    words.resize(cells, 0u64)?;
+    words.resize(cells + slots, 1)?;
+    Ok(words)
+}
+
+/// Moves the items into slots, in order.
+pub fn fill<T>(items: &mut Vec<T>, mut slots: Vec<Option<T>>) -> Vec<Option<T>>
+    requires { (slots.items ≡ []) × (vec_len items.old ≤ vec_capacity slots) }
+    ensures slots { result.items ≡ map (λ x. Some x) items.old.items }
+    ensures items { items.new.items ≡ [] }
+    ensures capacity { vec_capacity items.new ≡ vec_capacity items.old }
+{
+    while let Some(item) = items.pop() {
+        slots.push_reserved(Some(item));
+    }
+    slots.reverse();
+    slots
+}
+
+/// Moves the items back, in order.
+pub fn give_back<T>(mut items: Vec<T>, mut slots: Vec<Option<T>>) -> Vec<T>
+    requires { (items.items ≡ []) × (vec_len slots ≤ vec_capacity items) }
+    ensures { result.items ≡ held slots.items }
+{
+    while let Some(slot) = slots.pop() {
+        match slot {
+            Some(item) => items.push_reserved(item),
+            None => {}
+        }
+    }
+    slots.destroy_empty();
+    items.reverse();
+    items
+}
