@@ -13,9 +13,10 @@ use Rattle.group_formula.specs.Machine.{Level, Pending, State, step, join_expr}
 use Rattle.group_formula.specs.Machine.Level.{level}
 use Rattle.group_formula.specs.Machine.State.{want, want_of, want_open, have}
 use Rattle.group_formula.specs.Faults.{IsShallow, IsSmall, IsFine, AreFine, bare, StopsAt, Parses, IsFirstFault}
-use Rattle.group_formula.specs.Trees.{Meaning}
+use Rattle.group_formula.specs.Trees.{Tree, Meaning, postfix, tree_of}
 use Rattle.group_formula.specs.Formulas.{reading, resolved, bad, IsFormula, IsFault}
 use Rattle.group_formula.specs.Laws.{HasOneAnswer}
+use Rattle.group_formula.proofs.Writing.{tree_of-postfix}
 use Rattle.group_formula.proofs.Reading.{run}
 use Rattle.group_formula.proofs.Going.{run_viable, stuck_no, formula_read, run_formula, have_expr, one_formula}
 use Rattle.group_formula.proofs.Passing.{frames_in, opened, run_last, fine_more, fine_none, bare_last}
@@ -104,7 +105,9 @@ passes text = decide text [] (tokens text) (want (level None None) []) refl fine
 decide_second : (text : List ℕ) (names : List (List ℕ)) (e : Expr) (b : Option FormulaFault) → Parses text e → bad (reading text names) (shape e) ≡ b
     → ((f : Meaning) × IsFormula text names f) ⊎ ((fault : FormulaFault) × IsFault text names fault)
 decide_second text names e None p is =
-    inl (record { parties = length names; tree = resolved (reading text names) (shape e) }, record { expr = e; parsed = p; good = is; parties = refl; tree = refl })
+    let tree : Tree = resolved (reading text names) (shape e) in
+    let same : tree_of (postfix tree) ≡ tree = tree_of-postfix tree in
+    inl (record { parties = length names; nodes = postfix tree }, record { expr = e; parsed = p; good = is; parties = refl; tree = same; written = ap postfix same })
 decide_second text names e (Some fault) p is = inr (fault, inr (record { expr = e; parsed = p; found = is }))
 
 some_answer : (text : List ℕ) (names : List (List ℕ)) → ((f : Meaning) × IsFormula text names f) ⊎ ((fault : FormulaFault) × IsFault text names fault)
@@ -248,8 +251,8 @@ not_both text names f fault p (inr s) =
 
 one_meaning : (text : List ℕ) (names : List (List ℕ)) (f g : Meaning) → IsFormula text names f → IsFormula text names g → f ≡ g
 one_meaning text names f g p q =
-    ap₂ (λ n t. record { parties = n; tree = t }) (p.parties ∙ sym q.parties)
-    (p.tree ∙ ap (λ e. resolved (reading text names) (shape e)) (same_expr text p.expr q.expr p.parsed q.parsed) ∙ sym q.tree)
+    let tree : tree_of f.nodes ≡ tree_of g.nodes = p.tree ∙ ap (λ e. resolved (reading text names) (shape e)) (same_expr text p.expr q.expr p.parsed q.parsed) ∙ sym q.tree in
+    ap₂ (λ n ns. record { parties = n; nodes = ns }) (p.parties ∙ sym q.parties) (sym p.written ∙ ap postfix tree ∙ q.written)
 
 pub one_answer : (text : List ℕ) (names : List (List ℕ)) → HasOneAnswer text names
 one_answer text names = record {

@@ -10,10 +10,9 @@ use Rattle.group_formula.specs.declared.parser.Mode.TheVariants as modes
 use Rattle.group_formula.specs.declared.parser.Bracket.{Bracket}
 use Rattle.group_formula.specs.declared.parser.Bracket.TheVariants as brackets
 use Rattle.group_formula.specs.declared.parser.Frame.{Frame}
-use Rattle.group_formula.specs.Trees.{Tree, Trees, count}
+use Rattle.group_formula.specs.Trees.{Tree, Trees, count, postfix, postfix_all}
 use Rattle.group_formula.specs.Trees.Tree.{leaf, both, either, at_least}
 use Rattle.group_formula.specs.Trees.Trees.{one_tree, more_trees}
-use Rattle.group_formula.specs.Postfix.{postfix, postfix_all}
 use Rattle.group_formula.specs.Grammar.{Expr, Term, Factor, Parts, shape, shape_term, shape_factor, shape_parts}
 use Rattle.group_formula.specs.Grammar.Factor.{grouped, counted}
 use Rattle.group_formula.specs.Machine.{Pending, State, step, join_expr, join_parts, take_factor, close, separate}

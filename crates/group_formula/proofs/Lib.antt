@@ -1,3 +1,5 @@
+pub mod Monotone
+pub mod Writing
 pub mod Cutting
 pub mod Reading
 pub mod Going

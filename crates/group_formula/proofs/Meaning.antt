@@ -14,7 +14,7 @@ use Rattle.group_formula.specs.declared.node.Node.TheVariants.{And, Or, AtLeast}
 use Rattle.group_formula.specs.declared.fault.FormulaFault.{FormulaFault}
 use Rattle.group_formula.specs.declared.fault.FormulaFault.TheVariants.{UnknownName, BadCount}
 use Rattle.group_formula.specs.Tokens.{is_node, tokens}
-use Rattle.group_formula.specs.Trees.{Tree, Trees, count, IsSound, AreSound}
+use Rattle.group_formula.specs.Trees.{Tree, Trees, count, IsSound, AreSound, postfix, postfix_all, tree_of}
 use Rattle.group_formula.specs.Trees.Tree.{leaf, both, either, at_least}
 use Rattle.group_formula.specs.Trees.Trees.{one_tree, more_trees}
 use Rattle.group_formula.specs.Grammar.{Expr, Term, Factor, Parts, spell, spell_term, spell_factor, spell_parts, shape, shape_term, shape_factor, shape_parts}
@@ -22,8 +22,7 @@ use Rattle.group_formula.specs.Grammar.Expr.{one_term, or_term}
 use Rattle.group_formula.specs.Grammar.Term.{one_factor, and_factor}
 use Rattle.group_formula.specs.Grammar.Factor.{named, grouped, counted}
 use Rattle.group_formula.specs.Grammar.Parts.{one_part, more_parts}
-use Rattle.group_formula.specs.Postfix.{postfix, postfix_all, tree_of}
-use Rattle.group_formula.specs.Writing.{tree_of-postfix}
+use Rattle.group_formula.proofs.Writing.{tree_of-postfix}
 use Rattle.group_formula.specs.Faults.{IsFine, bare}
 use Rattle.group_formula.specs.Parsing.{IsParsed}
 use Rattle.group_formula.specs.Formulas.{Reading, reading, name_at, resolved, all_resolved, or_else, bad_count, bad, some_bad}

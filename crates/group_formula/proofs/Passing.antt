@@ -11,7 +11,7 @@ use Rattle.group_formula.specs.declared.node.Node.{Node}
 use Rattle.group_formula.specs.declared.parser.Mode.TheVariants as modes
 use Rattle.group_formula.specs.Tokens.{Placed, is_node, tokens, tokens_from}
 use Rattle.group_formula.specs.Grammar.{Expr, Term, shape, IsViable}
-use Rattle.group_formula.specs.Postfix.{postfix}
+use Rattle.group_formula.specs.Trees.{postfix}
 use Rattle.group_formula.specs.Grammar.Expr.{one_term, or_term}
 use Rattle.group_formula.specs.Grammar.Factor.{named, grouped, counted}
 use Rattle.group_formula.specs.Machine.{Pending, State, step, join_expr, join_term, join_parts}

@@ -14,13 +14,12 @@ use Rattle.group_formula.specs.declared.node.Node.TheVariants.{Name, And, Or, At
 use Rattle.group_formula.specs.declared.fault.FormulaFault.{FormulaFault}
 use Rattle.group_formula.specs.declared.fault.FormulaFault.TheVariants.{UnknownName, BadCount}
 use Rattle.group_formula.specs.Tokens.{is_blank, has_byte, run_of, symbol, word, token_at, tokens_from}
-use Rattle.group_formula.specs.Trees.{count}
+use Rattle.group_formula.specs.Trees.{count, postfix, postfix_all}
 use Rattle.group_formula.specs.Grammar.{Expr, Term, Factor, Parts, spell, spell_term, spell_factor, spell_parts, shape, shape_term, shape_factor, shape_parts}
 use Rattle.group_formula.specs.Grammar.Expr.{one_term, or_term}
 use Rattle.group_formula.specs.Grammar.Term.{one_factor, and_factor}
 use Rattle.group_formula.specs.Grammar.Factor.{named, grouped, counted}
 use Rattle.group_formula.specs.Grammar.Parts.{one_part, more_parts}
-use Rattle.group_formula.specs.Postfix.{postfix, postfix_all}
 use Rattle.group_formula.specs.Faults.{bare}
 use Rattle.group_formula.specs.Formulas.{Reading, or_else, bad_name, bad_count, bad, some_bad}
 use Rattle.group_formula.specs.Resolving.{place, earlier, bad_node, least}

@@ -7,10 +7,12 @@ use Rattle.group_formula.specs.declared.fault.FormulaFault.TheVariants.{Syntax, 
 use Rattle.group_formula.specs.Tokens.{Placed, tokens, is_node}
 use Rattle.group_formula.specs.Grammar.{Expr, spell, IsViable}
 
+-- an opening parenthesis
 abbrev pub is_open : Token → Bool
 is_open Open = true
 is_open _ = false
 
+-- a closing parenthesis
 abbrev pub is_close : Token → Bool
 is_close Close = true
 is_close _ = false
@@ -33,6 +35,7 @@ pub record IsFine (ts : List Token) : Type 0 where
 abbrev pub AreFine : List Token → Type 0
 AreFine ts = (k : ℕ) → IsFine (take k ts)
 
+-- the tokens without their places
 abbrev pub bare : List Placed → List Token
 bare ts = map (λ (t : Placed). t.token) ts
 

@@ -6,7 +6,7 @@ use Rattle.group_formula.specs.declared.token.Run.TheVariants as runs
 use Rattle.group_formula.specs.declared.fault.FormulaFault.{FormulaFault}
 use Rattle.group_formula.specs.declared.fault.FormulaFault.TheVariants.{UnknownName, BadCount, Memory}
 use Rattle.group_formula.specs.Tokens.{has_byte}
-use Rattle.group_formula.specs.Trees.{Tree, Trees, Meaning, count}
+use Rattle.group_formula.specs.Trees.{Tree, Trees, Meaning, count, postfix, tree_of}
 use Rattle.group_formula.specs.Trees.Tree.{leaf, both, either, at_least}
 use Rattle.group_formula.specs.Trees.Trees.{one_tree, more_trees}
 use Rattle.group_formula.specs.Grammar.{Expr, shape}
@@ -17,6 +17,7 @@ abbrev pub decimal_after : ℕ → List ℕ → ℕ
 decimal_after n [] = n
 decimal_after n (c ∷ cs) = decimal_after (10 * n + (c - 48)) cs
 
+-- the number that the digits write
 abbrev pub decimal : List ℕ → ℕ
 decimal digits = decimal_after 0 digits
 
@@ -25,12 +26,15 @@ pub record Reading : Type 0 where
   pub party : ℕ → Option ℕ
   pub number : ℕ → ℕ
 
+-- the name at a place of the text
 abbrev pub name_at : List ℕ → ℕ → List ℕ
 name_at text at = take_while (has_byte runs.Name) (drop at text)
 
+-- the number at a place of the text
 abbrev pub number_at : List ℕ → ℕ → ℕ
 number_at text at = decimal (take_while (has_byte runs.Number) (drop at text))
 
+-- what stands at the places of a text, over these names
 abbrev pub reading : List ℕ → List (List ℕ) → Reading
 reading text names = record { party = λ at. number_of names (name_at text at); number = number_at text }
 
@@ -46,13 +50,16 @@ abbrev mutual
   all_resolved r (one_tree t) = one_tree (resolved r t)
   all_resolved r (more_trees ts t) = more_trees (all_resolved r ts) (resolved r t)
 
+-- the first fault, if there is one, and else the second
 abbrev pub or_else : Option FormulaFault → Option FormulaFault → Option FormulaFault
 or_else None y = y
 or_else (Some x) y = Some x
 
+-- the fault of the name at a place, if it is no party's
 abbrev pub bad_name : Reading → ℕ → Option FormulaFault
 bad_name r at = if is_some (r.party at) then None else Some (UnknownName at)
 
+-- the fault of the number at a place, if it is 0 or more than its parts
 abbrev pub bad_count : Reading → ℕ → ℕ → Option FormulaFault
 bad_count r at parts = if nat_le 1 (r.number at) && nat_le (r.number at) parts then None else Some (BadCount at)
 
@@ -74,7 +81,8 @@ pub record IsFormula (text : List ℕ) (names : List (List ℕ)) (f : Meaning) :
   pub parsed : Parses text expr
   pub good : bad (reading text names) (shape expr) ≡ None
   pub parties : f.parties ≡ length names
-  pub tree : f.tree ≡ resolved (reading text names) (shape expr)
+  pub tree : tree_of f.nodes ≡ resolved (reading text names) (shape expr)
+  pub written : postfix (tree_of f.nodes) ≡ f.nodes
 
 -- the text has no fault of the first pass, and this one in the second
 pub record IsSecondFault (text : List ℕ) (names : List (List ℕ)) (fault : FormulaFault) : Type 0 where

@@ -8,14 +8,14 @@ use Rattle.group_formula.specs.declared.parser.Mode.TheVariants as modes
 use Rattle.group_formula.specs.declared.parser.Bracket.{Bracket}
 use Rattle.group_formula.specs.declared.parser.Bracket.TheVariants as brackets
 use Rattle.group_formula.specs.declared.parser.Frame.{Frame}
-use Rattle.group_formula.specs.Trees.{count}
+use Rattle.group_formula.specs.Trees.{count, postfix, postfix_all}
 use Rattle.group_formula.specs.Grammar.{Expr, Term, Parts, shape, shape_term, shape_parts}
-use Rattle.group_formula.specs.Postfix.{postfix, postfix_all}
 use Rattle.group_formula.specs.Machine.{Level, Pending, State}
 use Rattle.group_formula.specs.Machine.Level.{level}
 use Rattle.group_formula.specs.Machine.Pending.{plain, listed}
 use Rattle.group_formula.specs.Machine.State.{want, want_of, want_open, have}
 
+-- what the parser expects next, what waits for a factor, the open parentheses, and the nodes so far
 pub record Kept : Type 0 where
   pub mode : Mode
   pub or_waits : Bool
@@ -23,45 +23,56 @@ pub record Kept : Type 0 where
   pub frames : List Frame
   pub out : List Node
 
+-- whether there is one
 abbrev pub there : {A : Type 0} → Option A → Bool
 there None = false
 there (Some a) = true
 
+-- the nodes of the left side of a `|`
 abbrev pub nodes_ors : Option Expr → List Node
 nodes_ors None = []
 nodes_ors (Some e) = postfix (shape e)
 
+-- the nodes of the left side of an `&`
 abbrev pub nodes_ands : Option Term → List Node
 nodes_ands None = []
 nodes_ands (Some t) = postfix (shape_term t)
 
+-- the nodes of the parts of a list that were read
 abbrev pub nodes_done : Option Parts → List Node
 nodes_done None = []
 nodes_done (Some ps) = postfix_all (shape_parts ps)
 
+-- how many parts of a list were read
 abbrev pub number_done : Option Parts → ℕ
 number_done None = 0
 number_done (Some ps) = count (shape_parts ps)
 
+-- the nodes of both left sides
 abbrev pub nodes_level : Level → List Node
 nodes_level (level ors ands) = nodes_ors ors ++ nodes_ands ands
 
+-- the nodes of what stands before an open parenthesis, and of the parts of its list that were read
 abbrev pub nodes_pending : Pending → List Node
 nodes_pending (plain l) = nodes_level l
 nodes_pending (listed n l done) = nodes_level l ++ nodes_done done
 
+-- the nodes of what stands before the last open parenthesis, in the order of the text
 abbrev pub nodes_all : List Pending → List Node
 nodes_all [] = []
 nodes_all (f ∷ fs) = nodes_all fs ++ nodes_pending f
 
+-- how an open parenthesis is kept
 abbrev pub frame_of : Pending → Frame
 frame_of (plain (level ors ands)) = record { bracket = brackets.Group; or_waits = there ors; and_waits = there ands }
 frame_of (listed n (level ors ands) done) = record { bracket = brackets.List n (number_done done); or_waits = there ors; and_waits = there ands }
 
+-- how the open parentheses are kept, the first one first
 abbrev pub frames_of : List Pending → List Frame
 frames_of [] = []
 frames_of (f ∷ fs) = frames_of fs ++ (frame_of f ∷ [])
 
+-- how a state is kept
 abbrev pub kept_of : State → Kept
 kept_of (want (level ors ands) fs) = record { mode = modes.Want; or_waits = there ors; and_waits = there ands; frames = frames_of fs; out = nodes_all fs ++ (nodes_ors ors ++ nodes_ands ands) }
 kept_of (want_of n (level ors ands) fs) = record { mode = modes.WantOf n; or_waits = there ors; and_waits = there ands; frames = frames_of fs; out = nodes_all fs ++ (nodes_ors ors ++ nodes_ands ands) }
@@ -85,6 +96,7 @@ closed_out (brackets.List n parts) out = out ++ (AtLeast n (parts + 1) ∷ [])
 abbrev pub closed : Kept → List Frame → Frame → Kept
 closed old rest f = with_factor (record { mode = old.mode; or_waits = f.or_waits; and_waits = f.and_waits; frames = rest; out = closed_out f.bracket (joined_out old) })
 
+-- what a closing parenthesis leaves: false where none is open
 abbrev pub Closes : Kept → Bool → Kept → Type 0
 Closes old false new = old.frames ≡ []
 Closes old true new = (rest : List Frame) × (f : Frame) × (old.frames ≡ rest ++ (f ∷ [])) × (new ≡ closed old rest f)
@@ -93,6 +105,7 @@ Closes old true new = (rest : List Frame) × (f : Frame) × (old.frames ≡ rest
 abbrev pub separated : Kept → List Frame → Frame → ℕ → ℕ → Kept
 separated old rest f n parts = record { mode = modes.Want; or_waits = false; and_waits = false; frames = rest ++ (record f { bracket = brackets.List n (parts + 1) } ∷ []); out = joined_out old }
 
+-- what a comma leaves: false where no list is open
 abbrev pub Separates : Kept → Bool → Kept → Type 0
 Separates old false new = (old.frames ≡ []) ⊎ ((rest : List Frame) × (f : Frame) × (old.frames ≡ rest ++ (f ∷ [])) × (f.bracket ≡ brackets.Group))
 Separates old true new = (rest : List Frame) × (f : Frame) × (n : ℕ) × (parts : ℕ) × (old.frames ≡ rest ++ (f ∷ [])) × (f.bracket ≡ brackets.List n parts) × (new ≡ separated old rest f n parts)

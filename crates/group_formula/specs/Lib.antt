@@ -1,15 +1,11 @@
 pub mod Tokens
 pub mod Trees
 pub mod Grammar
-pub mod Postfix
-pub mod Writing
 pub mod Machine
 pub mod Kept
 pub mod Faults
 pub mod Parsing
 pub mod Formulas
-pub mod Codes
-pub mod Monotone
 pub mod Resolving
 pub mod Values
 pub mod Laws

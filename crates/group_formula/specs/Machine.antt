@@ -17,20 +17,24 @@ pub data Pending : Type 0 where
   plain : Level → Pending
   listed : ℕ → Level → Option Parts → Pending
 
+-- what was read: a factor is wanted, or `of` or `(` after a number, or a term is there
 pub data State : Type 0 where
   want : Level → List Pending → State
   want_of : ℕ → Level → List Pending → State
   want_open : ℕ → Level → List Pending → State
   have : Option Expr → Term → List Pending → State
 
+-- the term, with one more factor
 abbrev pub join_term : Option Term → Factor → Term
 join_term None f = one_factor f
 join_term (Some t) f = and_factor t f
 
+-- the expression, with one more term
 abbrev pub join_expr : Option Expr → Term → Expr
 join_expr None t = one_term t
 join_expr (Some e) t = or_term e t
 
+-- the parts, with one more
 abbrev pub join_parts : Option Parts → Expr → Parts
 join_parts None e = one_part e
 join_parts (Some ps) e = more_parts ps e
@@ -51,9 +55,11 @@ separate e [] = None
 separate e (plain l ∷ fs) = None
 separate e (listed n l done ∷ fs) = Some (want (level None None) (listed n l (Some (join_parts done e)) ∷ fs))
 
+-- nothing waits for a factor
 abbrev pub empty : Level
 empty = level None None
 
+-- the state after one more token, None where no formula goes on with it
 abbrev pub step : State → Token → Option State
 step (want l fs) (Name p) = Some (take_factor l (named p) fs)
 step (want l fs) (Number n) = Some (want_of n l fs)
@@ -66,5 +72,6 @@ step (have ors t fs) Close = close (join_expr ors t) fs
 step (have ors t fs) Comma = separate (join_expr ors t) fs
 step _ _ = None
 
+-- the state before the first token
 abbrev pub start : State
 start = want (level None None) []

@@ -4,7 +4,7 @@ use Rattle.group_formula.specs.declared.node.Node.{Node}
 use Rattle.group_formula.specs.declared.fault.FormulaFault.{FormulaFault}
 use Rattle.group_formula.specs.declared.fault.FormulaFault.TheVariants.{Memory}
 use Rattle.group_formula.specs.Grammar.{Expr, shape}
-use Rattle.group_formula.specs.Postfix.{postfix}
+use Rattle.group_formula.specs.Trees.{postfix}
 use Rattle.group_formula.specs.Faults.{Parses, IsFirstFault}
 
 -- the nodes of the text's formula, by their places
@@ -13,6 +13,7 @@ pub record IsParsed (text : List ℕ) (nodes : List Node) : Type 0 where
   pub parsed : Parses text expr
   pub written : nodes ≡ postfix (shape expr)
 
+-- what the first pass answers in place of the nodes
 abbrev pub StopsParsing : List ℕ → FormulaFault → Type 0
 StopsParsing text Memory = Unit {0}
 StopsParsing text fault = IsFirstFault text fault

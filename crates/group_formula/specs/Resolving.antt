@@ -25,18 +25,21 @@ earlier None y = y
 earlier (Some x) None = Some x
 earlier (Some x) (Some y) = if nat_lt (place x) (place y) then Some x else Some y
 
+-- the fault of a node
 abbrev pub bad_node : Reading → Node → Option FormulaFault
 bad_node r (Name at) = bad_name r at
 bad_node r And = None
 bad_node r Or = None
 bad_node r (AtLeast at parts) = bad_count r at parts
 
+-- the node of parties and counts, from the node of places
 abbrev pub resolved_node : Reading → Node → Node
 resolved_node r (Name at) = Name (unwrap_or (r.party at) 0)
 resolved_node r And = And
 resolved_node r Or = Or
 resolved_node r (AtLeast at parts) = AtLeast (r.number at) parts
 
+-- the node, if there is no fault
 abbrev pub unless : Option FormulaFault → Node → Result Node FormulaFault
 unless None node = Ok node
 unless (Some fault) node = Err fault

@@ -69,6 +69,7 @@ tokens_from at run (c ∷ cs) =
 abbrev pub tokens_after : List ℕ → ℕ → List Placed
 tokens_after text from = tokens_from from runs.Blank (drop from text)
 
+-- the tokens of a text
 abbrev pub tokens : List ℕ → List Placed
 tokens text = tokens_from 0 runs.Blank text
 

@@ -3,10 +3,12 @@ use Rattle.std.specs.Prelude.{ℕ, ◌+◌, nat_le, Bool, false, ◌&&◌, ◌||
 use Rattle.group_formula.specs.declared.node.Node.{Node}
 use Rattle.group_formula.specs.declared.node.Node.TheVariants.{Name, And, Or, AtLeast}
 
+-- the last value, false where there is none
 abbrev pub top : List Bool → Bool
 top [] = false
 top (b ∷ bs) = b
 
+-- how many values are true
 abbrev pub how_many : List Bool → ℕ
 how_many [] = 0
 how_many (b ∷ bs) = (if b then 1 else 0) + how_many bs

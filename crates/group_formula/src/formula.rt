@@ -1,9 +1,7 @@
 //! Formulas as families of tolerated groups.
 ghost use Rattle.std.specs.Prelude.{◌≡◌, ◌≤◌};
 ghost use Rattle.party_set.specs.Parties.{has_party};
-ghost use Rattle.group_formula.specs.Trees.{value, is_tolerated, HasParties};
-ghost use Rattle.group_formula.specs.Postfix.{Writes, tree_of};
-ghost use Rattle.group_formula.specs.Monotone.{closed_of, nobody_of, everybody_of};
+ghost use Rattle.group_formula.specs.Trees.{value, tree_of, is_tolerated, Writes};
 
 use crate::node::Node;
 use crate::values::evaluate;
@@ -12,7 +10,7 @@ use party_set::Group;
 use std::marker::Model;
 
 /// A monotone formula over 1 to 12 parties, which tells what groups are qualified. Contracts see the number of
-/// parties and the tree of the formula.
+/// parties and the nodes of the formula.
 #[derive(Drop)]
 pub struct Formula {
     parties: u32,
@@ -20,15 +18,11 @@ pub struct Formula {
 }
 
 impl Model for Formula {
-    ghost use Rattle.group_formula.specs.Trees.{Meaning};
-    ghost use Rattle.group_formula.specs.Postfix.{Writes, tree_of};
-    ghost use Rattle.group_formula.specs.Codes.{meaning_code};
+    ghost use Rattle.group_formula.specs.Trees.{Meaning, Writes};
 
     ghost Value = { Meaning };
 
-    ghost coded = { meaning_code };
-
-    ghost view = { λ f. record { parties = f.parties; tree = tree_of f.nodes.items } };
+    ghost view = { λ f. record { parties = f.parties; nodes = f.nodes.items } };
 
     ghost invariant = { λ f. Writes f.parties f.nodes.items };
 }
@@ -37,7 +31,7 @@ impl Formula {
     /// The formula whose nodes stand in postfix order.
     pub(crate) fn of(parties: u32, nodes: Vec<Node>) -> Formula
         requires { Writes parties nodes.items }
-        ensures { result ≡ record { parties = parties; tree = tree_of nodes.items } }
+        ensures { result ≡ record { parties = parties; nodes = nodes.items } }
     {
         Formula { parties, nodes }
     }
@@ -54,7 +48,7 @@ impl Formula {
     /// Whether the formula is true where exactly the names of the group's members are.
     pub fn qualified(&self, g: Group) -> bool
         requires { g.parties ≡ self.now.parties }
-        ensures { result ≡ value (has_party g.mask) self.now.tree }
+        ensures { result ≡ value (has_party g.mask) (tree_of self.now.nodes) }
     {
         evaluate(&self.nodes, g)
     }
@@ -65,8 +59,6 @@ impl Family for Formula {
 
     ghost is_tolerated = { is_tolerated };
 
-    ghost sound = { HasParties };
-
     fn parties(&self) -> u32 {
         self.parties
     }
@@ -74,10 +66,4 @@ impl Family for Formula {
     fn tolerated(&self, g: Group) -> bool {
         !self.qualified(g)
     }
-
-    ghost parts = { closed_of };
-
-    ghost nobody = { nobody_of };
-
-    ghost everybody = { everybody_of };
 }

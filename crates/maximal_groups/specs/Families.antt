@@ -1,11 +1,17 @@
 -- Families of tolerated groups, and their maximal groups.
-use Rattle.std.specs.Prelude.{◌≡◌, ℕ, ◌^◌, ◌<◌, Bool, true, not, ◌&&◌, ◌||◌, ◌↔◌, filter, length, slice_index}
+use Rattle.std.specs.Prelude.{◌≡◌, ℕ, ◌-◌, ◌^◌, ◌<◌, Bool, true, false, not, ◌&&◌, ◌||◌, ◌↔◌, filter, length, slice_index}
 use Rattle.std.specs.List.{range_with_len}
 use Rattle.party_set.specs.Parties.{Structure, every_below, within}
 
 -- of n parties: a part of a tolerated group is tolerated
 abbrev pub IsClosed : ℕ → (ℕ → Bool) → Type 0
 IsClosed n tolerated = (a b : ℕ) → a < 2 ^ n → b < 2 ^ n → within n a b ≡ true → tolerated b ≡ true → tolerated a ≡ true
+
+-- what a family of n parties keeps: it is closed, the empty group is tolerated, and the group of all isn't
+pub record IsFamily (n : ℕ) (tolerated : ℕ → Bool) : Type 0 where
+  pub parts : IsClosed n tolerated
+  pub nobody : tolerated 0 ≡ true
+  pub everybody : tolerated (2 ^ n - 1) ≡ false
 
 -- b has each party of a, and one more
 abbrev pub is_larger : ℕ → ℕ → ℕ → Bool

@@ -16,7 +16,7 @@ returns-then-tolerated g c =
 pub returns : goal.returns
 returns g c =
     sym (maximal_yes (g.F.Family.count c.args.family.now) (g.F.Family.is_tolerated c.args.family.now) c.args.group.mask (omega arith) c.requires.mask
-    (g.met.F.Family.parts c.args.family.now c.parties-p-end.ensures.sound) (sym c.tolerated.ensures ∙ c.if-not-tolerated.false)
+    c.parties-p-end.ensures.family.parts (sym c.tolerated.ensures ∙ c.if-not-tolerated.false)
     (λ p l e. c.loop-p.invariant p (omega arith) e))
 
 pub loop-p-preserved : goal.loop-p-preserved

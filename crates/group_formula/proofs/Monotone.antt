@@ -5,8 +5,8 @@ use Rattle.std.proofs.lemmas.Bool.{le-leb, leb-true}
 use Rattle.std.proofs.lemmas.Nat.Bits.{bit_at_ones, bit_at-zero}
 use Rattle.party_set.specs.Parties.{has_party}
 use Rattle.party_set.proofs.Every.{every_at, implies_at, false_from, not_true, true_not}
-use Rattle.maximal_groups.specs.Families.{IsClosed}
-use Rattle.group_formula.specs.Trees.{Tree, Trees, Meaning, count, value, true_ones, IsSound, AreSound, is_tolerated, HasParties}
+use Rattle.maximal_groups.specs.Families.{IsClosed, IsFamily}
+use Rattle.group_formula.specs.Trees.{Tree, Trees, Meaning, count, value, true_ones, IsSound, AreSound, tree_of, is_tolerated}
 use Rattle.group_formula.specs.Trees.Tree.{leaf, both, either, at_least}
 use Rattle.group_formula.specs.Trees.Trees.{one_tree, more_trees}
 
@@ -83,20 +83,24 @@ mutual
   none_true n g i (more_trees ts t) s = none_more (value g t) (true_ones g ts) (false_for n g i t s.1) (none_true n g i ts s.0)
 
 -- a part of a tolerated group is tolerated
-pub closed_of : (f : Meaning) → HasParties f → IsClosed f.parties (is_tolerated f)
+closed_of : (f : Meaning) → IsSound f.parties (tree_of f.nodes) → IsClosed f.parties (is_tolerated f)
 closed_of f s a b la lb w e =
-    not_true (value (has_party a) f.tree) (false_from (value (has_party a) f.tree) (λ va.
-    let vb : value (has_party b) f.tree ≡ true = grows f.parties (has_party a) (has_party b) (λ p lp. implies_at (has_party a p) (has_party b p) (every_at f.parties (λ q. not (has_party a q) || has_party b q) w p lp)) f.tree s va in
-    let no_b : value (has_party b) f.tree ≡ false = true_not (value (has_party b) f.tree) e in
+    let t : Tree = tree_of f.nodes in
+    not_true (value (has_party a) t) (false_from (value (has_party a) t) (λ va.
+    let vb : value (has_party b) t ≡ true = grows f.parties (has_party a) (has_party b) (λ p lp. implies_at (has_party a p) (has_party b p) (every_at f.parties (λ q. not (has_party a q) || has_party b q) w p lp)) t s va in
+    let no_b : value (has_party b) t ≡ false = true_not (value (has_party b) t) e in
     cc))
 
 zero_bit : (p : ℕ) → has_party 0 p ≡ false
 zero_bit p = ap (λ bit. nat_eq bit 1) (bit_at-zero p)
 
 -- the empty group is tolerated
-pub nobody_of : (f : Meaning) → HasParties f → is_tolerated f 0 ≡ true
-nobody_of f s = not_true (value (has_party 0) f.tree) (false_for f.parties (has_party 0) zero_bit f.tree s)
+nobody_of : (f : Meaning) → IsSound f.parties (tree_of f.nodes) → is_tolerated f 0 ≡ true
+nobody_of f s = not_true (value (has_party 0) (tree_of f.nodes)) (false_for f.parties (has_party 0) zero_bit (tree_of f.nodes) s)
 
 -- the group of all parties isn't
-pub everybody_of : (f : Meaning) → HasParties f → is_tolerated f (2 ^ f.parties - 1) ≡ false
-everybody_of f s = ap not (true_for f.parties (has_party (2 ^ f.parties - 1)) (λ p lp. eq-eqb _ 1 (bit_at_ones f.parties p lp)) f.tree s)
+everybody_of : (f : Meaning) → IsSound f.parties (tree_of f.nodes) → is_tolerated f (2 ^ f.parties - 1) ≡ false
+everybody_of f s = ap not (true_for f.parties (has_party (2 ^ f.parties - 1)) (λ p lp. eq-eqb _ 1 (bit_at_ones f.parties p lp)) (tree_of f.nodes) s)
+
+pub family_of : (f : Meaning) → IsSound f.parties (tree_of f.nodes) → IsFamily f.parties (is_tolerated f)
+family_of f s = record { parts = closed_of f s; nobody = nobody_of f s; everybody = everybody_of f s }

@@ -2,10 +2,9 @@
 use Rattle.std.proofs.Common.{◌≡◌, suc, ◌+◌, List, [], ◌∷◌, ◌++◌, take, drop, refl, ◌∙◌, ap, ap₂, arith}
 use Rattle.group_formula.specs.declared.node.Node.{Node}
 use Rattle.group_formula.specs.declared.node.Node.TheVariants.{Name, And, Or, AtLeast}
-use Rattle.group_formula.specs.Trees.{Tree, Trees, count}
+use Rattle.group_formula.specs.Trees.{Tree, Trees, count, postfix, postfix_all, last, joined, after_node, after_nodes, tree_of}
 use Rattle.group_formula.specs.Trees.Tree.{leaf, both, either, at_least}
 use Rattle.group_formula.specs.Trees.Trees.{one_tree, more_trees}
-use Rattle.group_formula.specs.Postfix.{postfix, postfix_all, last, joined, after_node, after_nodes, tree_of}
 
 pub after_append : (xs ys : List Node) (s : List Tree) → after_nodes (xs ++ ys) s ≡ after_nodes ys (after_nodes xs s)
 unfolding after_nodes

@@ -1,0 +1,23 @@
+//! Calls of the program whose answers were worked out by hand, each from its words and files to its bytes.
+#![tactic(auto)]
+
+#[cfg(test)]
+mod accepted;
+#[cfg(test)]
+mod circuit_faults;
+#[cfg(test)]
+mod expect;
+#[cfg(test)]
+mod job_faults;
+#[cfg(test)]
+mod long_files;
+#[cfg(test)]
+mod other_words;
+#[cfg(test)]
+mod party_faults;
+#[cfg(test)]
+mod product;
+#[cfg(test)]
+mod row;
+#[cfg(test)]
+mod tests;

@@ -1,0 +1,29 @@
+//! The files of the product of two words, of which the other jobs are changes.
+
+pub const JOB: &str =
+    "version = 1\nring_bits = 8\nparties = [\"a\", \"b\", \"c\"]\nformula = \"2 of (a, b, c)\"\n[[session]]\ncircuit = \"mul.txt\"\nlayout = \"ring\"\nowners = [\"a\", \"b\"]\nreaders = [[\"c\"]]\n";
+
+pub const CIRCUIT: &str = "1 3\n2 1 1\n1 1\n2 1 0 1 2 MUL\n";
+
+pub const PARTY_A: &str = "version = 1\ninputs = [\"5\"]\ntape = \"10 20 1 2\"\n";
+
+pub const PARTY_B: &str = "version = 1\ninputs = [\"7\"]\ntape = \"30 40 3 4\"\n";
+
+pub const PARTY_C: &str = "version = 1\ninputs = [\"\"]\ntape = \"5 6\"\n";
+
+/// The files by name.
+pub const PRODUCT: [(&str, &str); 5] = [
+    ("job.toml", JOB),
+    ("mul.txt", CIRCUIT),
+    ("party_a.toml", PARTY_A),
+    ("party_b.toml", PARTY_B),
+    ("party_c.toml", PARTY_C),
+];
+
+/// The lines of the job's session.
+pub const SESSION: &str =
+    "[[session]]\ncircuit = \"mul.txt\"\nlayout = \"ring\"\nowners = [\"a\", \"b\"]\nreaders = [[\"c\"]]\n";
+
+/// The same session twice.
+pub const TWO_SESSIONS: &str =
+    "[[session]]\ncircuit = \"mul.txt\"\nlayout = \"ring\"\nowners = [\"a\", \"b\"]\nreaders = [[\"c\"]]\n[[session]]\ncircuit = \"mul.txt\"\nlayout = \"ring\"\nowners = [\"a\", \"b\"]\nreaders = [[\"c\"]]\n";
