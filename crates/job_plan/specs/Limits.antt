@@ -18,7 +18,7 @@ pub record IsFirstOverdrawn (plan : Plan) (party count : ℕ) : Type 0 where
   pub over : 1048576 < count
   pub first : (p : ℕ) → p < party → tape_length plan p ≤ 1048576
 
--- when each refusal comes: too many messages, or else too many words, or else memory is wanting
+-- when each refusal comes: too many messages, or else too many words, or else out of memory
 abbrev pub IsRefusal : Plan → PlanFault → Type 0
 IsRefusal plan (TooManyMessages count) = (count ≡ length (messages plan)) × (1048576 < count)
 IsRefusal plan (TooManyWords party count) = (length (messages plan) ≤ 1048576) × IsFirstOverdrawn plan party count

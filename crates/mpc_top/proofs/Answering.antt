@@ -1,9 +1,7 @@
--- What the answer of the top call follows from: the run of its words, and the text that is due.
-use Rattle.std.proofs.Common.{◌≡◌, ◌≢◌, ◌⊎◌, inl, inr, ℕ, ◌≤◌, List, length, Option, None, Some, Ok, Err, refl, sym, ap, subst, lit<, arith}
-use Rattle.std.specs.Prelude.{IfSome, IsSomeAnd, IsTrue, Vec}
-use Rattle.std.specs.declared.alloc.Global.{Global}
+-- What the answer of the top call follows from: the run of its words, and what `err` was told.
+use Rattle.std.proofs.Common.{◌≡◌, ◌≢◌, ◌⊎◌, inl, inr, ℕ, ◌≤◌, List, length, Option, None, Ok, Err, Result, refl, sym, subst, arith}
+use Rattle.std.specs.Prelude.{IsTrue}
 use Rattle.std.proofs.lemmas.Bool.{false≢true}
-use Rattle.outer_io.specs.Count.{Rose}
 use Rattle.outer_io.specs.Files.{FilesReading, Told}
 use Rattle.outer_io.specs.Sink.{SinkReading, Writes, FailsToWrite}
 use Rattle.outer_io.specs.declared.sink.Failed.{Failed}
@@ -11,55 +9,27 @@ use Rattle.command_words.specs.Commands.{CommandForm, command_of}
 use Rattle.mpc_top.specs.declared.stop.Stop.{Stop}
 use Rattle.mpc_top.specs.declared.stop.Stop.TheVariants.{Memory, Words, Out, Files, Refused, Covering}
 use Rattle.mpc_top.specs.Texts.{files_fault_line, usage_text}
-use Rattle.mpc_top.specs.Verdict.{Verdict, accepted, missing, refused}
-use Rattle.mpc_top.specs.Stops.{status_of, text_of}
-use Rattle.mpc_top.specs.Reading.{ReadsAs}
-use Rattle.mpc_top.specs.Command.{TextOf, IsDue, DueHas, Accepts, HasCause, Runs, Outside, Tells, status_due, HasRoom, HasText, Answers}
+use Rattle.mpc_top.specs.Verdict.{accepted, missing, refused}
+use Rattle.mpc_top.specs.Due.{IsDue}
+use Rattle.mpc_top.specs.Stops.{status_of, text_of, HasCause, Runs, Tells}
+use Rattle.mpc_top.specs.Command.{Outside, KeepsSink, GivesDue, Answers}
 
 -- ---- what is due
 
-module _ (command : Option CommandForm) (told : Told) where
-  -- the verdict of a command over the files, where they tell
-  abbrev Ending : Verdict (List ℕ) → Type 0
-  Ending verdict = IsSomeAnd command (λ c. IfSome told (λ contents. TextOf c contents verdict))
+none_due : (command : Option CommandForm) (told : Told) → command ≡ None → IsDue command told (refused 2 usage_text)
+none_due command told is = subst (λ c. IsDue c told (refused 2 usage_text)) (sym is) refl
 
-  -- an accepted text with this fact
-  abbrev Accepting : (List ℕ → Type 0) → Type 0
-  Accepting P = IsSomeAnd command (λ c. (text : List ℕ) × IfSome told (λ contents. TextOf c contents (accepted text)) × P text)
+-- a steady sink with room for a text takes it
+never_fails : (text : List ℕ) (sink sink' : SinkReading) → IsTrue sink.steady → FailsToWrite text sink sink' → length text ≤ sink.room → ⊥
+never_fails text sink sink' steady (failed, w) room = false≢true ((w.by_itself steady).1 room)
 
-ending_due : (command : Option CommandForm) (told : Told) (verdict : Verdict (List ℕ)) (Q : Verdict (List ℕ) → Type 0) → Ending command told verdict → Q verdict → DueHas command told Q
-ending_due None told verdict Q is q = absurd is
-ending_due (Some c) None verdict Q is q = tt
-ending_due (Some c) (Some contents) verdict Q is q = (verdict, is, q)
+-- ---- what sinks keep
 
-accepting_due : (command : Option CommandForm) (told : Told) (P : List ℕ → Type 0) (Q : Verdict (List ℕ) → Type 0) → Accepting command told P → ((text : List ℕ) → P text → Q (accepted text)) → DueHas command told Q
-accepting_due None told P Q is all = absurd is
-accepting_due (Some c) None P Q is all = tt
-accepting_due (Some c) (Some contents) P Q is all = (accepted is.0, is.1, all is.0 is.2)
+keeps_written : (text : List ℕ) (sink sink' : SinkReading) (result : Result Unit Failed) → Writes text sink sink' result → KeepsSink sink sink'
+keeps_written text sink sink' result w = record { faults_grow = w.faults_grow; keeps_steady = w.keeps_steady }
 
-accepting_any : (command : Option CommandForm) (told : Told) (P : List ℕ → Type 0) (R : Type 0) → Accepting command told P → ((text : List ℕ) → P text → R) → R
-accepting_any None told P R is all = absurd is
-accepting_any (Some c) told P R is all = all is.0 is.2
-
-accepting_weaker : (command : Option CommandForm) (told : Told) (P Q : List ℕ → Type 0) → Accepting command told P → ((text : List ℕ) → P text → Q text) → Accepting command told Q
-accepting_weaker None told P Q is all = is
-accepting_weaker (Some c) told P Q is all = (is.0, is.1, all is.0 is.2)
-
-none_due : (command : Option CommandForm) (told : Told) (Q : Verdict (List ℕ) → Type 0) → command ≡ None → Q (refused 2 usage_text) → DueHas command told Q
-none_due None None Q is q = tt
-none_due None (Some contents) Q is q = (refused 2 usage_text, refl, q)
-none_due (Some c) told Q is q = let f : Some c ≡ None = is in cc
-
--- what follows from a fact of any command
-command_any : (command : Option CommandForm) (P : CommandForm → Type 0) (R : Type 0) → IsSomeAnd command P → ((c : CommandForm) → P c → R) → R
-command_any None P R is all = absurd is
-command_any (Some c) P R is all = all c is
-
-command_weaker : (command : Option CommandForm) (P Q : CommandForm → Type 0) → IsSomeAnd command P → ((c : CommandForm) → P c → Q c) → IsSomeAnd command Q
-command_weaker None P Q is all = is
-command_weaker (Some c) P Q is all = all c is
-
--- ---- the answer
+keeps_same : (sink sink' : SinkReading) → sink' ≡ sink → KeepsSink sink sink'
+keeps_same sink sink' same = subst (KeepsSink sink) (sym same) (record { faults_grow = omega arith; keeps_steady = λ steady. steady })
 
 module _ (words : List (List ℕ)) (files files' : FilesReading) (out out' err err' : SinkReading) where
   abbrev before : Outside
@@ -68,198 +38,114 @@ module _ (words : List (List ℕ)) (files files' : FilesReading) (out out' err e
   abbrev after : Outside
   after = record { files = files'; out = out'; err = err' }
 
+  abbrev RunsTo : Result Unit Stop → Type 0
+  RunsTo result = Runs (command_of words) files files' out out' result
+
   abbrev Caused : Stop → Type 0
   Caused = HasCause (command_of words) files files' out out'
 
-  -- `out` failed, and was steady with room for the text
-  never_out : (text : List ℕ) → IsTrue out.steady → FailsToWrite text out out' → length text ≤ out.room → ⊥
-  never_out text steady (failed, w) room = false≢true ((w.by_itself steady).1 room)
+  -- ---- what stops keep
 
-  counts_at_out : Accepting (command_of words) files.told (λ text. Writes text out out' (Ok tt)) → out'.faults ≡ out.faults
-  counts_at_out is = accepting_any (command_of words) files.told _ _ is (λ text w. w.quiet)
+  out_kept : (stop : Stop) → Caused stop → KeepsSink out out'
+  out_kept Memory cause = keeps_same out out' cause.2
+  out_kept Words cause = keeps_same out out' cause.2
+  out_kept Out cause = keeps_written cause.0 out out' _ cause.2.1
+  out_kept (Files name) cause = keeps_same out out' cause.1
+  out_kept (Refused line) cause = keeps_same out out' cause.1
+  out_kept (Covering line) cause = keeps_same out out' cause.1
 
-  rose_out : Accepting (command_of words) files.told (λ text. FailsToWrite text out out') → Rose out.faults out'.faults
-  rose_out is = accepting_any (command_of words) files.told _ _ is (λ text fails. fails.1.failed)
+  text_kept : (status due : ℕ) (text : List ℕ) → ((status ≡ due) × Writes text err err' (Ok tt)) ⊎ ((status ≡ 5) × FailsToWrite text err err') → KeepsSink err err'
+  text_kept status due text (inl w) = keeps_written text err err' _ w.1
+  text_kept status due text (inr w) = keeps_written text err err' _ w.1.1
 
-  -- nothing was due on `err`
-  module _ (same : err' ≡ err) where
-    pub done : (u : Unit {0}) → Runs (command_of words) files files' out out' (Ok u) → Answers words before after 0
-    done u r = record {
-      one_of = (0, lit< tt, refl);
-      done = λ _. (accepting_weaker (command_of words) files.told _ _ r.ok (λ text w. w.ok), same);
-      usage = λ is. absurd (omega arith);
-      refused = λ is. elim is [ inl e ↦ absurd (omega arith) | inr e ↦ absurd (omega arith) ];
-      fault = λ is. absurd (omega arith);
-      memory = λ is. absurd (omega arith);
-      quiet = λ _. (r.quiet, counts_at_out r.ok, ap (λ e. e.faults) same);
-      stopped = λ not. absurd (not refl);
-      due = λ _ _. accepting_due (command_of words) files.told _ _ r.ok (λ text w. refl);
-      steady = λ f o e _. accepting_due (command_of words) files.told _ _ r.ok (λ text w room. (refl, w.ok));
-    }
+  err_kept : (stop : Stop) (status : ℕ) → Tells err err' stop status → KeepsSink err err'
+  err_kept Memory status tells = keeps_same err err' tells.1
+  err_kept Words status tells = text_kept _ _ _ tells
+  err_kept Out status tells = text_kept _ _ _ tells
+  err_kept (Files name) status tells = text_kept _ _ _ tells
+  err_kept (Refused line) status tells = text_kept _ _ _ tells
+  err_kept (Covering line) status tells = text_kept _ _ _ tells
 
-    no_memory : Runs (command_of words) files files' out out' (Err Memory) → Answers words before after 6
-    no_memory r = record {
-      one_of = (5, lit< tt, refl);
-      done = λ is. absurd (omega arith);
-      usage = λ is. absurd (omega arith);
-      refused = λ is. elim is [ inl e ↦ absurd (omega arith) | inr e ↦ absurd (omega arith) ];
-      fault = λ is. absurd (omega arith);
-      memory = λ _. (r.stop.1, same);
-      quiet = λ _. (command_any (command_of words) _ _ r.stop.0 (λ c quiet. quiet), ap (λ o. o.faults) r.stop.1, ap (λ e. e.faults) same);
-      stopped = λ _ not. absurd (not refl);
-      due = λ _ not. absurd (not refl);
-      steady = λ f o e not. absurd (not refl);
-    }
+  -- ---- what is due is given
 
-  -- the text that is due was written to `err`
-  module _ (u : Unit {0}) where
-    told_words : Caused Words → Writes (text_of Words) err err' (Ok u) → Answers words before after 2
-    told_words cause w = record {
-      one_of = (1, lit< tt, refl);
-      done = λ is. absurd (omega arith);
-      usage = λ _. (cause.0, cause.2, w.ok);
-      refused = λ is. elim is [ inl e ↦ absurd (omega arith) | inr e ↦ absurd (omega arith) ];
-      fault = λ is. absurd (omega arith);
-      memory = λ is. absurd (omega arith);
-      quiet = λ _. (ap (λ f. f.faults) cause.1, ap (λ o. o.faults) cause.2, w.quiet);
-      stopped = λ _ _. (Words, cause, inl (refl, w));
-      due = λ _ _. none_due (command_of words) files.told _ cause.0 refl;
-      steady = λ f o e _. none_due (command_of words) files.told _ cause.0 (λ room. (refl, w.ok));
-    }
+  refusal_given : (due status : ℕ) (line : List ℕ) → IsDue (command_of words) files.told (refused due line)
+      → ((status ≡ due) × Writes line err err' (Ok tt)) ⊎ ((status ≡ 5) × FailsToWrite line err err') → GivesDue words before after status
+  refusal_given due status line is (inl w) = record { quiet = λ none. (refused due line, is, w); steady = λ s. (refused due line, is, λ room. w) }
+  refusal_given due status line is (inr w) = record {
+    quiet = λ none. absurd (none (inr (inr w.1.1.failed)));
+    steady = λ s. (refused due line, is, λ room. absurd (never_fails line err err' s.err w.1 room));
+  }
 
-    told_out : Caused Out → Writes (text_of Out) err err' (Ok u) → Answers words before after 5
-    told_out cause w = record {
-      one_of = (4, lit< tt, refl);
-      done = λ is. absurd (omega arith);
-      usage = λ is. absurd (omega arith);
-      refused = λ is. elim is [ inl e ↦ absurd (omega arith) | inr e ↦ absurd (omega arith) ];
-      fault = λ _. inr (inl (rose_out cause.1));
-      memory = λ is. absurd (omega arith);
-      quiet = λ not. absurd (not refl);
-      stopped = λ _ _. (Out, cause, inl (refl, w));
-      due = λ none. absurd (none (inr (inl (rose_out cause.1))));
-      steady = λ f o e _. accepting_due (command_of words) files.told _ _ cause.1 (λ text fails room. absurd (never_out text o fails room));
-    }
+  given : (stop : Stop) (status : ℕ) → Caused stop → Tells err err' stop status → ¬ (status ≡ 6) → GivesDue words before after status
+  given Memory status cause tells not = absurd (not tells.0)
+  given Words status cause tells not = refusal_given 2 status usage_text (none_due (command_of words) files.told cause.0) tells
+  given Out status cause tells not = record {
+    quiet = λ none. absurd (none (inr (inl cause.2.1.failed)));
+    steady = λ s. (accepted cause.0, cause.1.0, λ room. absurd (never_fails cause.0 out out' s.out cause.2 room));
+  }
+  given (Files name) status cause tells not = record {
+    quiet = λ none. absurd (none (inl cause.0.rose));
+    steady = λ s. (
+      missing name.items,
+      cause.0.is_missing s.files,
+      λ room. elim tells [
+        | inl w ↦ w
+        | inr w ↦ absurd (never_fails (files_fault_line name.items) err err' s.err w.1 room)
+      ],
+    );
+  }
+  given (Refused line) status cause tells not = refusal_given 3 status line.items cause.0.0 tells
+  given (Covering line) status cause tells not = refusal_given 4 status line.items cause.0.0 tells
 
-    told_files : (name : Vec ℕ Global) → Caused (Files name) → Writes (text_of (Files name)) err err' (Ok u) → Answers words before after 5
-    told_files name cause w = record {
-      one_of = (4, lit< tt, refl);
-      done = λ is. absurd (omega arith);
-      usage = λ is. absurd (omega arith);
-      refused = λ is. elim is [ inl e ↦ absurd (omega arith) | inr e ↦ absurd (omega arith) ];
-      fault = λ _. inl (command_any (command_of words) _ _ cause.0 (λ c stop. stop.0));
-      memory = λ is. absurd (omega arith);
-      quiet = λ not. absurd (not refl);
-      stopped = λ _ _. (Files name, cause, inl (refl, w));
-      due = λ none. absurd (none (inl (command_any (command_of words) _ _ cause.0 (λ c stop. stop.0))));
-      steady = λ f o e _. ending_due (command_of words) files.told (missing name.items) _ (command_weaker (command_of words) _ _ cause.0 (λ c stop. stop.1 f)) (λ room. (refl, w.ok));
-    }
+  -- ---- the answer
 
-    told_refused : (line : Vec ℕ Global) → Caused (Refused line) → Writes (text_of (Refused line)) err err' (Ok u) → Answers words before after 3
-    told_refused line cause w = record {
-      one_of = (2, lit< tt, refl);
-      done = λ is. absurd (omega arith);
-      usage = λ is. absurd (omega arith);
-      refused = λ _. (line.items, command_weaker (command_of words) _ _ cause.0 (λ c stop. stop.1), cause.1, w.ok);
-      fault = λ is. absurd (omega arith);
-      memory = λ is. absurd (omega arith);
-      quiet = λ _. (command_any (command_of words) _ _ cause.0 (λ c stop. stop.0), ap (λ o. o.faults) cause.1, w.quiet);
-      stopped = λ _ _. (Refused line, cause, inl (refl, w));
-      due = λ _ _. ending_due (command_of words) files.told (refused 3 line.items) _ (command_weaker (command_of words) _ _ cause.0 (λ c stop. stop.1)) refl;
-      steady = λ f o e _. ending_due (command_of words) files.told (refused 3 line.items) _ (command_weaker (command_of words) _ _ cause.0 (λ c stop. stop.1)) (λ room. (refl, w.ok));
-    }
+  pub done : (u : Unit {0}) → err' ≡ err → RunsTo (Ok u) → Answers words before after 0
+  done u same r = record {
+    done = λ _. (r.ok, same);
+    stopped = λ not. absurd (not refl);
+    due = λ _. record {
+      quiet = λ none. (accepted r.ok.0, r.ok.1.0, (refl, r.ok.2));
+      steady = λ s. (accepted r.ok.0, r.ok.1.0, λ room. (refl, r.ok.2));
+    };
+    keeps = record { files = r.keeps; out = keeps_written r.ok.0 out out' _ r.ok.2; err = keeps_same err err' same };
+  }
 
-    told_covering : (line : Vec ℕ Global) → Caused (Covering line) → Writes (text_of (Covering line)) err err' (Ok u) → Answers words before after 4
-    told_covering line cause w = record {
-      one_of = (3, lit< tt, refl);
-      done = λ is. absurd (omega arith);
-      usage = λ is. absurd (omega arith);
-      refused = λ _. (line.items, command_weaker (command_of words) _ _ cause.0 (λ c stop. stop.1), cause.1, w.ok);
-      fault = λ is. absurd (omega arith);
-      memory = λ is. absurd (omega arith);
-      quiet = λ _. (command_any (command_of words) _ _ cause.0 (λ c stop. stop.0), ap (λ o. o.faults) cause.1, w.quiet);
-      stopped = λ _ _. (Covering line, cause, inl (refl, w));
-      due = λ _ _. ending_due (command_of words) files.told (refused 4 line.items) _ (command_weaker (command_of words) _ _ cause.0 (λ c stop. stop.1)) refl;
-      steady = λ f o e _. ending_due (command_of words) files.told (refused 4 line.items) _ (command_weaker (command_of words) _ _ cause.0 (λ c stop. stop.1)) (λ room. (refl, w.ok));
-    }
+  stopped : (stop : Stop) (status : ℕ) → RunsTo (Err stop) → Tells err err' stop status → ¬ (status ≡ 0) → Answers words before after status
+  stopped stop status r tells some = record {
+    done = λ is. absurd (some is);
+    stopped = λ _. (stop, r.stop, tells);
+    due = given stop status r.stop tells;
+    keeps = record { files = r.keeps; out = out_kept stop r.stop; err = err_kept stop status tells };
+  }
 
-    pub told : (stop : Stop) → (stop ≡ Memory → err' ≡ err) → Runs (command_of words) files files' out out' (Err stop) → Writes (text_of stop) err err' (Ok u) → Answers words before after (status_of stop)
-    told Memory same r w = no_memory (same refl) r
-    told Words same r w = told_words r.stop w
-    told Out same r w = told_out r.stop w
-    told (Files name) same r w = told_files name r.stop w
-    told (Refused line) same r w = told_refused line r.stop w
-    told (Covering line) same r w = told_covering line r.stop w
+  some_status : (stop : Stop) → ¬ (status_of stop ≡ 0)
+  some_status Memory is = absurd (omega arith)
+  some_status Words is = absurd (omega arith)
+  some_status Out is = absurd (omega arith)
+  some_status (Files name) is = absurd (omega arith)
+  some_status (Refused line) is = absurd (omega arith)
+  some_status (Covering line) is = absurd (omega arith)
 
-  -- `err` failed
-  module _ (e : Failed) where
-    -- `err` failed, and was steady with room for the text
-    never_err : (text : List ℕ) → Writes text err err' (Err e) → IsTrue err.steady → length text ≤ err.room → ⊥
-    never_err text w steady room = false≢true ((w.by_itself steady).1 room)
+  told_by : (stop : Stop) → (stop ≡ Memory → err' ≡ err) → (u : Unit {0}) → Writes (text_of stop) err err' (Ok u) → Tells err err' stop (status_of stop)
+  told_by Memory same u w = (refl, same refl)
+  told_by Words same u w = inl (refl, w)
+  told_by Out same u w = inl (refl, w)
+  told_by (Files name) same u w = inl (refl, w)
+  told_by (Refused line) same u w = inl (refl, w)
+  told_by (Covering line) same u w = inl (refl, w)
 
-    steady_due : (stop : Stop) → Caused stop → stop ≢ Memory → Writes (text_of stop) err err' (Err e) → IsTrue files.steady → IsTrue out.steady → IsTrue err.steady
-        → DueHas (command_of words) files.told (λ verdict. HasRoom before verdict → (5 ≡ status_due verdict) × HasText before after verdict)
-    steady_due Memory cause not w f o s = absurd (not refl)
-    steady_due Words cause not w f o s = none_due (command_of words) files.told _ cause.0 (λ room. absurd (never_err usage_text w s room))
-    steady_due Out cause not w f o s = accepting_due (command_of words) files.told _ _ cause.1 (λ text fails room. absurd (never_out text o fails room))
-    steady_due (Files name) cause not w f o s =
-        ending_due (command_of words) files.told (missing name.items) _ (command_weaker (command_of words) _ _ cause.0 (λ c stop. stop.1 f)) (λ room. absurd (never_err (files_fault_line name.items) w s room))
-    steady_due (Refused line) cause not w f o s =
-        ending_due (command_of words) files.told (refused 3 line.items) _ (command_weaker (command_of words) _ _ cause.0 (λ c stop. stop.1)) (λ room. absurd (never_err line.items w s room))
-    steady_due (Covering line) cause not w f o s =
-        ending_due (command_of words) files.told (refused 4 line.items) _ (command_weaker (command_of words) _ _ cause.0 (λ c stop. stop.1)) (λ room. absurd (never_err line.items w s room))
+  -- `err` took the text of the cause
+  pub told : (stop : Stop) → (stop ≡ Memory → err' ≡ err) → (u : Unit {0}) → RunsTo (Err stop) → Writes (text_of stop) err err' (Ok u) → Answers words before after (status_of stop)
+  told stop same u r w = stopped stop (status_of stop) r (told_by stop same u w) (some_status stop)
 
-    tells : (stop : Stop) → stop ≢ Memory → Writes (text_of stop) err err' (Err e) → Tells err err' stop 5
-    tells Memory not w = absurd (not refl)
-    tells Words not w = inr (refl, (e, w))
-    tells Out not w = inr (refl, (e, w))
-    tells (Files name) not w = inr (refl, (e, w))
-    tells (Refused line) not w = inr (refl, (e, w))
-    tells (Covering line) not w = inr (refl, (e, w))
+  cut_by : (stop : Stop) → stop ≢ Memory → FailsToWrite (text_of stop) err err' → Tells err err' stop 5
+  cut_by Memory not w = absurd (not refl)
+  cut_by Words not w = inr (refl, w)
+  cut_by Out not w = inr (refl, w)
+  cut_by (Files name) not w = inr (refl, w)
+  cut_by (Refused line) not w = inr (refl, w)
+  cut_by (Covering line) not w = inr (refl, w)
 
-    pub failed : (stop : Stop) → stop ≢ Memory → Runs (command_of words) files files' out out' (Err stop) → Writes (text_of stop) err err' (Err e) → Answers words before after 5
-    failed stop not r w = record {
-      one_of = (4, lit< tt, refl);
-      done = λ is. absurd (omega arith);
-      usage = λ is. absurd (omega arith);
-      refused = λ is. elim is [ inl e ↦ absurd (omega arith) | inr e ↦ absurd (omega arith) ];
-      fault = λ _. inr (inr w.failed);
-      memory = λ is. absurd (omega arith);
-      quiet = λ no. absurd (no refl);
-      stopped = λ _ _. (stop, r.stop, tells stop not w);
-      due = λ none. absurd (none (inr (inr w.failed)));
-      steady = λ f o s _. steady_due stop r.stop not w f o s;
-    }
-
--- ---- the run of words that ask for something, whose text was read and written
-
-module _ (command : Option CommandForm) (c : CommandForm) (files files' : FilesReading) (out out' : SinkReading) (asked : command ≡ Some c) where
-  module _ (text : Vec ℕ Global) (reads : ReadsAs (λ (t : Vec ℕ Global). t.items) (TextOf c) files files' (Ok text)) where
-    run_accepts : (P : List ℕ → Type 0) → P text.items → Accepts command files files' out out' P
-    run_accepts P p = subst (λ f. Accepts f files files' out out' P) (sym asked) (text.items, reads.ok, p)
-
-    pub run_done : (u : Unit {0}) → Writes text.items out out' (Ok u) → Runs command files files' out out' (Ok u)
-    run_done u w = record {
-      ok = run_accepts _ w;
-      quiet = reads.quiet;
-      stop = tt;
-    }
-
-    pub run_failed : (e : Failed) → Writes text.items out out' (Err e) → Runs command files files' out out' (Err Out)
-    run_failed e w = record {
-      ok = tt;
-      quiet = tt;
-      stop = (reads.quiet, run_accepts _ (e, w));
-    }
-
-  some_cause : (P : CommandForm → Type 0) → P c → IsSomeAnd command P
-  some_cause P p = subst (λ f. IsSomeAnd f P) (sym asked) p
-
-  -- the text could not be read
-  pub run_stopped : (stop : Stop) → out' ≡ out → ReadsAs {A = List ℕ} {C = Vec ℕ Global} (λ t. t.items) (TextOf c) files files' (Err stop) → Runs command files files' out out' (Err stop)
-  run_stopped Memory same r = record { ok = tt; quiet = tt; stop = (some_cause _ r.stop, same) }
-  run_stopped Words same r = absurd r.stop
-  run_stopped Out same r = absurd r.stop
-  run_stopped (Files name) same r = record { ok = tt; quiet = tt; stop = (some_cause _ r.stop, same) }
-  run_stopped (Refused line) same r = record { ok = tt; quiet = tt; stop = (some_cause _ r.stop, same) }
-  run_stopped (Covering line) same r = record { ok = tt; quiet = tt; stop = (some_cause _ r.stop, same) }
+  -- `err` failed to take it
+  pub failed : (stop : Stop) → stop ≢ Memory → (e : Failed) → RunsTo (Err stop) → Writes (text_of stop) err err' (Err e) → Answers words before after 5
+  failed stop not e r w = stopped stop 5 r (cut_by stop not (e, w)) (λ is. absurd (omega arith))

@@ -4,11 +4,20 @@ use Rattle.std.specs.Prelude.{IfSome}
 use Rattle.std.specs.declared.alloc.Global.{Global}
 use Rattle.outer_io.specs.declared.files.ReadRefusal.{ReadRefusal}
 use Rattle.outer_io.specs.declared.files.ReadRefusal.TheVariants.{Failed, TooLong}
-use Rattle.outer_io.specs.Files.{Told, IsContent, IsLonger, IsThere}
+use Rattle.outer_io.specs.Files.{FilesReading, Told, Reads, IsContent, IsLonger, IsThere}
 use Rattle.mpc_top.specs.Names.{path_of}
 use Rattle.mpc_top.specs.JobOf.{file_at, bytes_of, file_limit}
 use Rattle.mpc_top.specs.Verdict.{accepted, missing, refused}
+use Rattle.mpc_top.specs.Reading.{KeepsFiles}
 use Rattle.refusal_text.specs.Lines.{too_long_line}
+
+pub read_keeps : (name : List ℕ) (limit : ℕ) (before after : FilesReading) (result : Result (Vec ℕ Global) ReadRefusal) → Reads name limit before after result → KeepsFiles before after
+read_keeps name limit before after result r = record {
+  same_told = r.same_told;
+  faults_grow = r.faults_grow;
+  taken_grows = r.taken_grows;
+  keeps_steady = r.keeps_steady;
+}
 
 bytes_of-short : (bytes name : List ℕ) → length bytes ≤ file_limit → bytes_of (Some bytes) name ≡ accepted bytes
 unfolding bytes_of

@@ -1,5 +1,5 @@
 -- How the sessions, and the parties' files, are read one after another.
-use Rattle.std.proofs.Common.{◌≡◌, ℕ, ◌<◌, ◌≤◌, ◌+◌, List, [], ◌∷◌, ◌++◌, length, drop, map, get_or, Result, Ok, Err, Vec, zero, suc, inl, inr, refl, sym, ap, ◌∙◌, subst, arith}
+use Rattle.std.proofs.Common.{◌≡◌, ℕ, ◌<◌, ◌≤◌, ◌+◌, List, [], ◌∷◌, ◌++◌, length, drop, map, get_or, Result, Ok, Err, Vec, zero, suc, inl, inr, refl, sym, ap, ◌∙◌, subst}
 use Rattle.std.specs.Prelude.{IsErrAnd, Some, ◌⊎◌, slice_get}
 use Rattle.job_run.specs.Hands.{AllFit}
 use Rattle.std.specs.declared.alloc.Global.{Global}
@@ -12,11 +12,10 @@ use Rattle.party_file.specs.Table.{PartyForm}
 use Rattle.party_file.specs.Forms.{form_of, Fits}
 use Rattle.party_file.specs.declared.data.PartyData.{PartyData}
 use Rattle.mpc_top.specs.declared.stop.Stop.{Stop}
-use Rattle.mpc_top.specs.Verdict.{Verdict, Ends}
 use Rattle.mpc_top.specs.JobOf.{SessionAt, SessionsAfter, HandAt, HandsAfter}
 use Rattle.mpc_top.specs.Seen.{hands_view}
 use Rattle.mpc_top.specs.Reading.{ReadsAs}
-use Rattle.mpc_top.proofs.Steps.{reads_exit, reads_then, reads_walk, reads_end}
+use Rattle.mpc_top.proofs.Steps.{reads_exit, reads_then, reads_end}
 use Rattle.mpc_top.proofs.Renaming.{left_of, none_left}
 
 abbrev pub seen_parts : Vec Session Global → List Session

@@ -1,6 +1,5 @@
 -- The same steps over equal names, bytes and lists.
-use Rattle.std.proofs.Common.{◌≡◌, ℕ, ◌<◌, ◌≤◌, ◌+◌, zero, suc, All, List, [], ◌∷◌, ◌++◌, length, drop, map, get_or, Result, refl, sym, ap, ap₂, ◌∙◌, subst, arith}
-use Rattle.std.specs.Prelude.{Option, Some, slice_get}
+use Rattle.std.proofs.Common.{◌≡◌, ℕ, ◌<◌, ◌≤◌, ◌+◌, zero, suc, All, List, [], ◌∷◌, length, drop, map, get_or, Result, refl, ap, ap₂, ◌∙◌, subst, arith}
 use Rattle.std.proofs.lemmas.List.Elements.{All-head, All-tail}
 use Rattle.outer_io.specs.Files.{FilesReading}
 use Rattle.party_set.specs.Parties.{Members}
@@ -9,7 +8,7 @@ use Rattle.circuit_model.specs.Netlists.{Netlist}
 use Rattle.job_plan.specs.Plans.{Session}
 use Rattle.mpc_top.specs.declared.stop.Stop.{Stop}
 use Rattle.mpc_top.specs.Verdict.{Verdict, Ends}
-use Rattle.mpc_top.specs.JobOf.{Contents, file_at, groups_in, part_of}
+use Rattle.mpc_top.specs.JobOf.{file_at, groups_in, part_of}
 use Rattle.mpc_top.specs.Reading.{ReadsAs, WalksAs}
 
 pub file_named : {C : Type 0} (seen : C → List ℕ) (dir name other : List ℕ) (before after : FilesReading) (result : Result C Stop) → name ≡ other

@@ -10,10 +10,28 @@ use Rattle.mpc_top.specs.declared.stop.Stop.{Stop}
 use Rattle.mpc_top.specs.declared.stop.Stop.TheVariants.{Memory, Words, Out, Files, Refused, Covering}
 use Rattle.mpc_top.specs.Verdict.{Verdict, accepted, missing, refused, Ends, Then}
 use Rattle.mpc_top.specs.JobOf.{Contents}
-use Rattle.mpc_top.specs.Reading.{ReadsAs, StopsAt, Meets, WalksAs, StopsBy}
+use Rattle.mpc_top.specs.Reading.{KeepsFiles, ReadsAs, StopsAt, Meets, WalksAs, StopsBy}
 
 le_trans : {a b c : ℕ} → a ≤ b → b ≤ c → a ≤ c
 le_trans {a} {b} {c} p q = omega arith
+
+-- ---- what reading keeps
+
+pub keeps_now : (now : FilesReading) → KeepsFiles now now
+keeps_now now = record {
+  same_told = refl;
+  faults_grow = omega arith;
+  taken_grows = omega arith;
+  keeps_steady = λ steady. steady;
+}
+
+pub keeps_then : (before mid after : FilesReading) → KeepsFiles before mid → KeepsFiles mid after → KeepsFiles before after
+keeps_then before mid after first next = record {
+  same_told = next.same_told ∙ first.same_told;
+  faults_grow = le_trans first.faults_grow next.faults_grow;
+  taken_grows = le_trans first.taken_grows next.taken_grows;
+  keeps_steady = λ steady. next.keeps_steady (first.keeps_steady steady);
+}
 
 -- ---- walks
 
@@ -100,9 +118,7 @@ module _ {A B : Type 0} (v : Contents → Verdict A → Type 0) (f : Contents �
       ok = tt;
       quiet = tt;
       stop = stops_first before after stop r.stop;
-      same_told = r.same_told;
-      faults_grow = r.faults_grow;
-      keeps_steady = r.keeps_steady;
+      keeps = r.keeps;
     }
 
     -- the same at the exit of a `?`
@@ -114,20 +130,16 @@ module _ {A B : Type 0} (v : Contents → Verdict A → Type 0) (f : Contents �
     pub reads_then : (before mid after : FilesReading) (c : C) (result : Result D Stop) → ReadsAs seen v before mid (Ok c)
         → ReadsAs seen' (λ m. f m (seen c)) mid after result → ReadsAs seen' (λ m. Then (v m) (f m)) before after result
     reads_then before mid after c (Ok d) r s = record {
-      ok = goes_on before.told (seen c) (accepted (seen' d)) r.ok (subst (λ told. IfSome told (λ m. f m (seen c) (accepted (seen' d)))) r.same_told s.ok);
+      ok = goes_on before.told (seen c) (accepted (seen' d)) r.ok (subst (λ told. IfSome told (λ m. f m (seen c) (accepted (seen' d)))) r.keeps.same_told s.ok);
       quiet = s.quiet ∙ r.quiet;
       stop = tt;
-      same_told = s.same_told ∙ r.same_told;
-      faults_grow = le_trans r.faults_grow s.faults_grow;
-      keeps_steady = λ steady. s.keeps_steady (r.keeps_steady steady);
+      keeps = keeps_then before mid after r.keeps s.keeps;
     }
     reads_then before mid after c (Err stop) r s = record {
       ok = tt;
       quiet = tt;
-      stop = stops_later before mid after (seen c) stop r.ok r.same_told r.keeps_steady r.quiet s.stop;
-      same_told = s.same_told ∙ r.same_told;
-      faults_grow = le_trans r.faults_grow s.faults_grow;
-      keeps_steady = λ steady. s.keeps_steady (r.keeps_steady steady);
+      stop = stops_later before mid after (seen c) stop r.ok r.keeps.same_told r.keeps.keeps_steady r.quiet s.stop;
+      keeps = keeps_then before mid after r.keeps s.keeps;
     }
 
 -- ---- steps that read nothing
@@ -151,28 +163,22 @@ module _ {A C : Type 0} (seen : C → A) where
     ok = any_told now.told (λ m. w.ok);
     quiet = refl;
     stop = tt;
-    same_told = refl;
-    faults_grow = omega arith;
-    keeps_steady = λ steady. steady;
+    keeps = keeps_now now;
   }
   reads_walk walk now (Err stop) w = record {
     ok = tt;
     quiet = tt;
     stop = walk_stop walk now stop w.stop;
-    same_told = refl;
-    faults_grow = omega arith;
-    keeps_steady = λ steady. steady;
+    keeps = keeps_now now;
   }
 
-  -- memory was wanting, whatever the walk
+  -- memory ran out, whatever the walk
   pub reads_memory : (walk : Contents → Verdict A → Type 0) (now : FilesReading) (result : Result C Stop) → IsErrAnd result (λ stop. stop ≡ Memory) → ReadsAs seen walk now now result
   reads_memory walk now result is = let p = err_from_is_err_and result is in rw (p.1, p.2) (record {
     ok = tt;
     quiet = tt;
     stop = refl;
-    same_told = refl;
-    faults_grow = omega arith;
-    keeps_steady = λ steady. steady;
+    keeps = keeps_now now;
   })
 
   pub walks_memory : (walk : Verdict A → Type 0) (result : Result C Stop) → IsErrAnd result (λ stop. stop ≡ Memory) → WalksAs seen walk result

@@ -1,5 +1,5 @@
 -- Commands that read all that their text is made of, and then write it.
-use Rattle.std.proofs.Common.{◌≡◌, List, [], ℕ, Result, Ok, Err}
+use Rattle.std.proofs.Common.{◌≡◌, List, [], ℕ, Result, Ok, Err, refl}
 use Rattle.std.specs.Prelude.{Some, IsErrAnd, Vec}
 use Rattle.std.specs.declared.alloc.Global.{Global}
 use Rattle.std.proofs.lemmas.Result.{err_from_is_err_and}
@@ -16,37 +16,41 @@ use Rattle.mpc_top.specs.declared.stop.Stop.{Stop}
 use Rattle.mpc_top.specs.declared.stop.Stop.TheVariants.{Memory, Words, Out, Files, Refused, Covering}
 use Rattle.mpc_top.specs.JobOf.{Job, PlanAt, HandsAfter}
 use Rattle.mpc_top.specs.Seen.{planned_view, hands_view}
-use Rattle.mpc_top.specs.Reading.{ReadsAs, StopsAt}
-use Rattle.mpc_top.specs.Command.{TextOf, HasCause, Runs}
+use Rattle.mpc_top.specs.Reading.{KeepsFiles, ReadsAs, StopsAt}
+use Rattle.mpc_top.specs.Due.{TextOf}
+use Rattle.mpc_top.specs.Stops.{HasCause, Runs}
 use Rattle.mpc_top.proofs.Steps.{reads_stop, reads_then, reads_end}
 use Rattle.mpc_top.proofs.Jobs.{job_seen, job_stops, job_stops_later, job_read}
 
 module _ (command : CommandForm) (files files' : FilesReading) (out out' : SinkReading) where
+  abbrev RunsAs : Result Unit Stop → Type 0
+  RunsAs result = Runs (Some command) files files' out out' result
+
   cause_of : (stop : Stop) → out' ≡ out → StopsAt (TextOf command) files files' stop → HasCause (Some command) files files' out out' stop
-  cause_of Memory same cause = (cause, same)
+  cause_of Memory same cause = (refl, cause, same)
   cause_of Words same cause = absurd cause
   cause_of Out same cause = absurd cause
-  cause_of (Files name) same cause = (cause, same)
-  cause_of (Refused line) same cause = (cause, same)
-  cause_of (Covering line) same cause = (cause, same)
+  cause_of (Files name) same cause = (record { asked = refl; rose = cause.0; is_missing = cause.1 }, same)
+  cause_of (Refused line) same cause = ((cause.1, cause.0), same)
+  cause_of (Covering line) same cause = ((cause.1, cause.0), same)
 
   -- a reading that stops, with nothing written
   pub runs_stop : {C : Type 0} (seen : C → List ℕ) (stop : Stop) (result : Result Unit Stop) → IsErrAnd result (λ e. e ≡ stop) → out' ≡ out
-      → ReadsAs seen (TextOf command) files files' (Err stop) → Runs (Some command) files files' out out' result
-  runs_stop seen stop result is same r = let p = err_from_is_err_and result is in rw (p.1, p.2) (record { ok = tt; quiet = tt; stop = cause_of stop same r.stop })
+      → ReadsAs seen (TextOf command) files files' (Err stop) → RunsAs result
+  runs_stop seen stop result is same r = let p = err_from_is_err_and result is in rw (p.1, p.2) (record { ok = tt; stop = cause_of stop same r.stop; keeps = r.keeps })
 
-  -- memory was wanting after the reading
-  pub runs_memory : (result : Result Unit Stop) → IsErrAnd result (λ e. e ≡ Memory) → out' ≡ out → files'.faults ≡ files.faults → Runs (Some command) files files' out out' result
-  runs_memory result is same quiet = let p = err_from_is_err_and result is in rw (p.1, p.2) (record { ok = tt; quiet = tt; stop = (quiet, same) })
+  -- memory ran out after the reading
+  pub runs_memory : (result : Result Unit Stop) → IsErrAnd result (λ e. e ≡ Memory) → out' ≡ out → files'.faults ≡ files.faults → KeepsFiles files files' → RunsAs result
+  runs_memory result is same quiet keeps = let p = err_from_is_err_and result is in rw (p.1, p.2) (record { ok = tt; stop = (refl, quiet, same); keeps = keeps })
 
   -- a text that was read, and then written
-  pub runs_written : (text : List ℕ) (u : Unit {0}) → ReadsAs (λ (t : List ℕ). t) (TextOf command) files files' (Ok text) → Writes text out out' (Ok u) → Runs (Some command) files files' out out' (Ok u)
-  runs_written text u r w = record { ok = (text, r.ok, w); quiet = r.quiet; stop = tt }
+  pub runs_written : (text : List ℕ) (u : Unit {0}) → ReadsAs (λ (t : List ℕ). t) (TextOf command) files files' (Ok text) → Writes text out out' (Ok u) → RunsAs (Ok u)
+  runs_written text u r w = record { ok = (text, (r.ok, r.quiet), w); stop = tt; keeps = r.keeps }
 
   -- a text that was read, and could not be written
   pub runs_cut : (text : List ℕ) (failed : Failed) (result : Result Unit Stop) → IsErrAnd result (λ e. e ≡ Out)
-      → ReadsAs (λ (t : List ℕ). t) (TextOf command) files files' (Ok text) → Writes text out out' (Err failed) → Runs (Some command) files files' out out' result
-  runs_cut text failed result is r w = let p = err_from_is_err_and result is in rw (p.1, p.2) (record { ok = tt; quiet = tt; stop = (r.quiet, (text, r.ok, (failed, w))) })
+      → ReadsAs (λ (t : List ℕ). t) (TextOf command) files files' (Ok text) → Writes text out out' (Err failed) → RunsAs result
+  runs_cut text failed result is r w = let p = err_from_is_err_and result is in rw (p.1, p.2) (record { ok = tt; stop = (text, (r.ok, r.quiet), (failed, w)); keeps = r.keeps })
 
 -- ---- what is read for each command
 

@@ -1,5 +1,5 @@
 -- The job that files stand for, where they tell what they hold: one walk, in which each file is judged before the next is read.
-use Rattle.std.specs.Prelude.{◌≡◌, ℕ, nat_le, if◌then◌else◌, false, List, [], ◌∷◌, ◌++◌, length, map, Option, None, Some, Result, Ok, Err, slice_index}
+use Rattle.std.specs.Prelude.{◌≡◌, ℕ, nat_le, if◌then◌else◌, false, List, [], ◌∷◌, ◌++◌, length, map, Option, None, Some, slice_index}
 use Rattle.party_set.specs.Parties.{Structure, Members, IsQ2}
 use Rattle.group_formula.specs.Trees.{Meaning}
 use Rattle.group_formula.specs.Formulas.{IsFormula, IsFault}
@@ -41,7 +41,8 @@ file_limit = 16777216
 -- the bytes of a file, unless it is missing or too long
 unfoldable pub bytes_of : Option (List ℕ) → List ℕ → Verdict (List ℕ)
 bytes_of None name = missing name
-bytes_of (Some bytes) name = if nat_le (length bytes) file_limit then accepted bytes else refused 3 (too_long_line name)
+bytes_of (Some bytes) name =
+    if nat_le (length bytes) file_limit then accepted bytes else refused 3 (too_long_line name)
 
 unfoldable pub file_at : Contents → List ℕ → List ℕ → Verdict (List ℕ)
 file_at files dir name = bytes_of (files (names.path_of dir name)) name
@@ -49,7 +50,9 @@ file_at files dir name = bytes_of (files (names.path_of dir name)) name
 -- ---- the job's file
 
 unfoldable pub JobText : Contents → List ℕ → Verdict JobForm → Type 0
-JobText files dir = Then (Ends (file_at files dir names.job_file)) (λ bytes. Ends (verdict_of job_line (job_in false bytes)))
+JobText files dir =
+    Then (Ends (file_at files dir names.job_file)) (λ bytes.
+    Ends (verdict_of job_line (job_in false bytes)))
 
 -- ---- the structure
 
@@ -57,7 +60,11 @@ JobText files dir = Then (Ends (file_at files dir names.job_file)) (λ bytes. En
 unfoldable pub FormulaOf : JobForm → Verdict Meaning → Type 0
 FormulaOf job (accepted formula) = IsFormula job.formula job.names formula
 FormulaOf job (missing name) = ⊥
-FormulaOf job (refused status line) = (fault : FormulaFault) × IsFault job.formula job.names fault × (status ≡ 3) × (line ≡ formula_line fault)
+FormulaOf job (refused status line) =
+    (fault : FormulaFault)
+    × IsFault job.formula job.names fault
+    × (status ≡ 3)
+    × (line ≡ formula_line fault)
 
 -- at most 64 maximal tolerated groups
 unfoldable pub few_groups : Structure → Verdict Structure
@@ -72,7 +79,10 @@ unfoldable pub Q2Of : JobForm → Structure → Verdict Structure → Type 0
 Q2Of job s (accepted same) = (same ≡ s) × IsQ2 s
 Q2Of job s (missing name) = ⊥
 Q2Of job s (refused status line) =
-    (i : ℕ) × (j : ℕ) × IsFirstCovering s i j × (status ≡ 4) × (line ≡ covering_line job.names (slice_index s.groups i) (slice_index s.groups j))
+    (i : ℕ) × (j : ℕ)
+    × IsFirstCovering s i j
+    × (status ≡ 4)
+    × (line ≡ covering_line job.names (slice_index s.groups i) (slice_index s.groups j))
 
 unfoldable pub StructureOf : JobForm → Verdict Structure → Type 0
 StructureOf job = Then (FormulaOf job) (λ formula. Then (Ends (groups_of formula)) (Q2Of job))
@@ -89,20 +99,25 @@ groups_in parties masks = map (λ mask. record { parties = parties; mask = mask 
 
 -- the session of a circuit, where the counts of owners and readers are the circuit's
 abbrev pub part_of : (PartFault → List ℕ) → Netlist → List ℕ → List Members → Verdict Session
-part_of line circuit owners readers = unless (part_fault circuit owners readers) line (session_of circuit owners readers)
+part_of line circuit owners readers =
+    unless (part_fault circuit owners readers) line (session_of circuit owners readers)
 
 -- session s: its circuit's file, and its counts of owners and readers
 unfoldable pub SessionAt : Contents → List ℕ → JobForm → ℕ → SessionForm → Verdict Session → Type 0
 SessionAt files dir job s form =
     Then (Ends (file_at files dir form.circuit)) (λ bytes.
-    Then (Ends (verdict_of (circuit_line form.circuit s) (circuit_in (layout_of form.layout) job.bits bytes))) (λ circuit.
-    Ends (part_of (session_line s) circuit form.owners (groups_in (length job.names) form.readers))))
+    Then (Ends (verdict_of (circuit_line form.circuit s)
+    (circuit_in (layout_of form.layout) job.bits bytes))) (λ circuit.
+    Ends (part_of (session_line s) circuit form.owners
+    (groups_in (length job.names) form.readers))))
 
 -- these sessions, after those that were read
-unfoldable pub SessionsAfter : Contents → List ℕ → JobForm → List Session → List SessionForm → Verdict (List Session) → Type 0
+unfoldable pub SessionsAfter :
+    Contents → List ℕ → JobForm → List Session → List SessionForm → Verdict (List Session) → Type 0
 SessionsAfter files dir job before [] = Ends (accepted before)
 SessionsAfter files dir job before (form ∷ forms) =
-    Then (SessionAt files dir job (length before) form) (λ s. SessionsAfter files dir job (before ++ (s ∷ [])) forms)
+    Then (SessionAt files dir job (length before) form) (λ s.
+    SessionsAfter files dir job (before ++ (s ∷ [])) forms)
 
 -- ---- the plan
 
@@ -110,7 +125,12 @@ SessionsAfter files dir job before (form ∷ forms) =
 unfoldable pub PlanOf : JobForm → Plan → Verdict Plan → Type 0
 PlanOf job plan (accepted same) = (same ≡ plan) × IsWithin plan
 PlanOf job plan (missing name) = ⊥
-PlanOf job plan (refused status line) = (fault : PlanFault) × IsRefusal plan fault × ¬ (fault ≡ plan_fault.Memory) × (status ≡ 3) × (line ≡ plan_line job.names fault)
+PlanOf job plan (refused status line) =
+    (fault : PlanFault)
+    × IsRefusal plan fault
+    × ¬ (fault ≡ plan_fault.Memory)
+    × (status ≡ 3)
+    × (line ≡ plan_line job.names fault)
 
 -- the names of the parties, and the plan
 pub record Planned : Type 0 where
@@ -125,19 +145,24 @@ PlannedOf files dir job s =
 
 -- the plan of a folder, for which no party's file is read
 unfoldable pub PlanAt : Contents → List ℕ → Verdict Planned → Type 0
-PlanAt files dir = Then (JobText files dir) (λ job. Then (StructureOf job) (PlannedOf files dir job))
+PlanAt files dir =
+    Then (JobText files dir) (λ job. Then (StructureOf job) (PlannedOf files dir job))
 
 -- ---- the parties
 
 -- what party p gives
 unfoldable pub HandAt : Contents → List ℕ → Plan → ℕ → List ℕ → Verdict PartyForm → Type 0
 HandAt files dir plan p name =
-    Then (Ends (file_at files dir (names.party_file name))) (λ bytes. Ends (verdict_of (party_line (names.party_file name)) (party_in plan p bytes)))
+    Then (Ends (file_at files dir (names.party_file name))) (λ bytes.
+    Ends (verdict_of (party_line (names.party_file name)) (party_in plan p bytes)))
 
 -- what the parties of these names give, after those whose files were read
-unfoldable pub HandsAfter : Contents → List ℕ → Plan → List PartyForm → List (List ℕ) → Verdict (List PartyForm) → Type 0
+unfoldable pub HandsAfter :
+    Contents → List ℕ → Plan → List PartyForm → List (List ℕ) → Verdict (List PartyForm) → Type 0
 HandsAfter files dir plan before [] = Ends (accepted before)
-HandsAfter files dir plan before (name ∷ more) = Then (HandAt files dir plan (length before) name) (λ hand. HandsAfter files dir plan (before ++ (hand ∷ [])) more)
+HandsAfter files dir plan before (name ∷ more) =
+    Then (HandAt files dir plan (length before) name) (λ hand.
+    HandsAfter files dir plan (before ++ (hand ∷ [])) more)
 
 -- the names of the parties, and the world
 pub record Job : Type 0 where
@@ -147,5 +172,6 @@ pub record Job : Type 0 where
 -- the job of a folder
 unfoldable pub JobAt : Contents → List ℕ → Verdict Job → Type 0
 JobAt files dir =
-    Then (PlanAt files dir) (λ planned. Then (HandsAfter files dir planned.plan [] planned.names) (λ hands.
+    Then (PlanAt files dir) (λ planned.
+    Then (HandsAfter files dir planned.plan [] planned.names) (λ hands.
     Ends (accepted (record { names = planned.names; world = world_of planned.plan hands }))))

@@ -2,6 +2,7 @@ pub mod Names
 pub mod Texts
 pub mod Verdict
 pub mod JobOf
+pub mod Due
 pub mod Stops
 pub mod Reading
 pub mod Seen

@@ -12,10 +12,15 @@ abbrev pub Ends : {A : Type 0} → Verdict A → Verdict A → Type 0
 Ends verdict end = end ≡ verdict
 
 -- one walk, and after it another that is given what the first accepted
-unfoldable pub Then : {A B : Type 0} → (Verdict A → Type 0) → (A → Verdict B → Type 0) → Verdict B → Type 0
+unfoldable pub Then :
+    {A B : Type 0} → (Verdict A → Type 0) → (A → Verdict B → Type 0) → Verdict B → Type 0
 Then {A} first next (accepted b) = (a : A) × first (accepted a) × next a (accepted b)
-Then {A} first next (missing name) = first (missing name) ⊎ ((a : A) × first (accepted a) × next a (missing name))
-Then {A} first next (refused status line) = first (refused status line) ⊎ ((a : A) × first (accepted a) × next a (refused status line))
+Then {A} first next (missing name) =
+    first (missing name)
+    ⊎ ((a : A) × first (accepted a) × next a (missing name))
+Then {A} first next (refused status line) =
+    first (refused status line)
+    ⊎ ((a : A) × first (accepted a) × next a (refused status line))
 
 -- a value, or with its line a fault that is refused with status 3
 abbrev pub verdict_of : {A F : Type 0} → (F → List ℕ) → Result A F → Verdict A

@@ -17,7 +17,8 @@ use std::alloc::Global;
 
 /// Reads the job's file.
 pub(crate) fn read_job_text<F: Files>(alloc: Global, files: &mut F, dir: &str) -> Result<Job, Stop>
-    ensures reads { ReadsAs job_view (λ contents. JobText contents dir.now) (F.reading files.old) (F.reading files.new) result }
+    ensures reads { ReadsAs job_view (λ contents. JobText contents dir.now)
+        (F.reading files.old) (F.reading files.new) result }
     ensures is { IfOk result IsJob }
 {
     let bytes = read_file(alloc, files, dir, "job.toml")?;

@@ -29,7 +29,9 @@ pub(crate) fn read_hands<F: Files>(
     plan: &Plan,
 ) -> Result<Vec<PartyData>, Stop>
     requires { length names.now ≡ plan.now.parties }
-    ensures reads { ReadsAs hands_view (λ contents. HandsAfter contents dir.now plan.now [] names.now) (F.reading files.old) (F.reading files.new) result }
+    ensures reads { ReadsAs hands_view
+        (λ contents. HandsAfter contents dir.now plan.now [] names.now)
+        (F.reading files.old) (F.reading files.new) result }
     ensures count { IfOk result (λ hands. length hands.items ≡ plan.now.parties) }
     ensures fit { IfOk result (λ hands. AllFit plan.now hands.items) }
 {
@@ -50,7 +52,8 @@ fn read_hand<F: Files>(
     name: &str,
 ) -> Result<PartyData, Stop>
     requires { p < plan.now.parties }
-    ensures reads { ReadsAs form_of (λ contents. HandAt contents dir.now plan.now p name.now) (F.reading files.old) (F.reading files.new) result }
+    ensures reads { ReadsAs form_of (λ contents. HandAt contents dir.now plan.now p name.now)
+        (F.reading files.old) (F.reading files.new) result }
     ensures fits { IfOk result (λ hand. Fits plan.now p (form_of hand)) }
 {
     let file = file_of(alloc, name)?;
@@ -71,7 +74,8 @@ fn file_of(alloc: Global, name: &str) -> Result<String, AllocError>
 
 fn hand_of(alloc: Global, bytes: &[u8], plan: &Plan, p: u32, file: &str) -> Result<PartyData, Stop>
     requires { p < plan.now.parties }
-    ensures walks { WalksAs form_of (Ends (verdict_of (party_line file.now) (party_in plan.now p bytes.now))) result }
+    ensures walks { WalksAs form_of
+        (Ends (verdict_of (party_line file.now) (party_in plan.now p bytes.now))) result }
     ensures fits { IfOk result (λ hand. Fits plan.now p (form_of hand)) }
 {
     match read_party(alloc, bytes, plan, p) {

@@ -37,7 +37,8 @@ pub(crate) fn read_planned<F: Files>(
     files: &mut F,
     dir: &str,
 ) -> Result<Planned, Stop>
-    ensures reads { ReadsAs planned_view (λ contents. PlanAt contents dir.now) (F.reading files.old) (F.reading files.new) result }
+    ensures reads { ReadsAs planned_view (λ contents. PlanAt contents dir.now)
+        (F.reading files.old) (F.reading files.new) result }
     ensures names { IfOk result (λ planned. length planned.names ≡ planned.plan.parties) }
     ensures groups { IfOk result (λ planned. planned.groups ≡ structure planned.plan) }
 {
@@ -64,7 +65,8 @@ fn make_plan(
     requires q2 { IsQ2 groups.now }
     requires few { length parts.items ≤ 16 }
     requires sound { All (IsSoundSession (length job.now.names)) parts.items }
-    ensures walks { WalksAs (λ plan. plan) (PlanOf (job_view job.now) (plan_of job.now.ring groups.now parts.items)) result }
+    ensures walks { WalksAs (λ plan. plan)
+        (PlanOf (job_view job.now) (plan_of job.now.ring groups.now parts.items)) result }
     ensures is { IfOk result (λ plan. plan ≡ plan_of job.now.ring groups.now parts.items) }
 {
     let layout = Layout::make(alloc, groups)?;

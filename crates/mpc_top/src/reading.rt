@@ -31,7 +31,8 @@ pub(crate) fn read_file<F: Files>(
     dir: &str,
     name: &str,
 ) -> Result<Vec<u8>, Stop>
-    ensures { ReadsAs (λ bytes. bytes.items) (λ contents. Ends (file_at contents dir.now name.now)) (F.reading files.old) (F.reading files.new) result }
+    ensures { ReadsAs (λ bytes. bytes.items) (λ contents. Ends (file_at contents dir.now name.now))
+        (F.reading files.old) (F.reading files.new) result }
 {
     let (path, missing) = match names_of(alloc, dir, name) {
         Ok(names) => names,
@@ -47,7 +48,8 @@ pub(crate) fn read_file<F: Files>(
 
 // The path of a file, and its name to tell where it is missing.
 fn names_of(alloc: Global, dir: &str, name: &str) -> Result<(String, Vec<u8>), AllocError>
-    ensures { IfOk result (λ names. (string_bytes names.0 ≡ path_of dir.now name.now) × (names.1.items ≡ name.now)) }
+    ensures { IfOk result (λ names.
+        (string_bytes names.0 ≡ path_of dir.now name.now) × (names.1.items ≡ name.now)) }
 {
     let path = path_in(alloc, dir, name)?;
     Ok((path, Vec::from_slice(alloc, name.as_bytes())?))

@@ -1,7 +1,7 @@
 //! The commands.
 ghost use Rattle.std.specs.Prelude.{Some};
 ghost use Rattle.command_words.specs.Commands.{form_of, run, check};
-ghost use Rattle.mpc_top.specs.Command.{Runs};
+ghost use Rattle.mpc_top.specs.Stops.{Runs};
 
 use crate::Stop;
 use crate::parties::read_hands;
@@ -19,7 +19,8 @@ pub(crate) fn run_command<F: Files, O: Sink>(
     out: &mut O,
     command: Command<'_>,
 ) -> Result<(), Stop>
-    ensures { Runs (Some (form_of command.entry)) (F.reading files.old) (F.reading files.new) (O.reading out.old) (O.reading out.new) result }
+    ensures { Runs (Some (form_of command.entry)) (F.reading files.old) (F.reading files.new)
+        (O.reading out.old) (O.reading out.new) result }
 {
     match command {
         Command::Run { dir } => run_job(alloc, files, out, dir),
@@ -34,7 +35,8 @@ fn run_job<F: Files, O: Sink>(
     out: &mut O,
     dir: &str,
 ) -> Result<(), Stop>
-    ensures { Runs (Some (run dir.now)) (F.reading files.old) (F.reading files.new) (O.reading out.old) (O.reading out.new) result }
+    ensures { Runs (Some (run dir.now)) (F.reading files.old) (F.reading files.new)
+        (O.reading out.old) (O.reading out.new) result }
 {
     let planned = read_planned(alloc, files, dir)?;
     let hands = read_hands(alloc, files, dir, &planned.names, &planned.plan)?;
@@ -49,7 +51,8 @@ fn check_job<F: Files, O: Sink>(
     out: &mut O,
     dir: &str,
 ) -> Result<(), Stop>
-    ensures { Runs (Some (check dir.now)) (F.reading files.old) (F.reading files.new) (O.reading out.old) (O.reading out.new) result }
+    ensures { Runs (Some (check dir.now)) (F.reading files.old) (F.reading files.new)
+        (O.reading out.old) (O.reading out.new) result }
 {
     let planned = read_planned(alloc, files, dir)?;
     Ok(write_check(out, &planned.names, &planned.groups, &planned.plan)?)

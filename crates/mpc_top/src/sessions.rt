@@ -30,7 +30,10 @@ pub(crate) fn read_sessions<F: Files>(
     job: &Job,
 ) -> Result<Vec<SessionPart>, Stop>
     requires { IsJob job.now }
-    ensures reads { ReadsAs (λ parts. parts.items) (λ contents. SessionsAfter contents dir.now (job_view job.now) [] (job_view job.now).sessions) (F.reading files.old) (F.reading files.new) result }
+    ensures reads { ReadsAs (λ parts. parts.items)
+        (λ contents. SessionsAfter contents dir.now (job_view job.now) []
+        (job_view job.now).sessions)
+        (F.reading files.old) (F.reading files.new) result }
     ensures count { IfOk result (λ parts. length parts.items ≤ 16) }
     ensures sound { IfOk result (λ parts. All (IsSoundSession (length job.now.names)) parts.items) }
 {
@@ -52,7 +55,9 @@ fn read_session<F: Files>(
 ) -> Result<SessionPart, Stop>
     requires job { IsJob job.now }
     requires session { IsSession (length job.now.names) session.now }
-    ensures reads { ReadsAs (λ part. part) (λ contents. SessionAt contents dir.now (job_view job.now) s (session_view session.now)) (F.reading files.old) (F.reading files.new) result }
+    ensures reads { ReadsAs (λ part. part)
+        (λ contents. SessionAt contents dir.now (job_view job.now) s (session_view session.now))
+        (F.reading files.old) (F.reading files.new) result }
     ensures sound { IfOk result (IsSoundSession (length job.now.names)) }
 {
     let bytes = read_file(alloc, files, dir, session.circuit.as_str())?;
@@ -76,7 +81,9 @@ fn circuit_of(
     ring: Ring,
     s: u32,
 ) -> Result<Circuit, Stop>
-    ensures { WalksAs (λ circuit. circuit) (Ends (verdict_of (circuit_line session.now.circuit s) (circuit_in (layout_of session.now.layout) ring bytes.now))) result }
+    ensures { WalksAs (λ circuit. circuit)
+        (Ends (verdict_of (circuit_line session.now.circuit s)
+        (circuit_in (layout_of session.now.layout) ring bytes.now))) result }
 {
     match read(alloc, bytes, file_layout(session.layout), ring) {
         Ok(circuit) => Ok(circuit),
@@ -93,7 +100,9 @@ fn part_of(
     job: &Job,
 ) -> Result<SessionPart, Stop>
     requires { IsSession (length job.now.names) session.now }
-    ensures walks { WalksAs (λ part. part) (Ends (part_of (session_line s) circuit session.now.owners.items session.now.readers.items)) result }
+    ensures walks { WalksAs (λ part. part)
+        (Ends (part_of (session_line s) circuit session.now.owners.items session.now.readers.items))
+        result }
     ensures sound { IfOk result (IsSoundSession (length job.now.names)) }
 {
     let _ = job;

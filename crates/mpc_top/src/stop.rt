@@ -7,7 +7,7 @@ use std::alloc::{AllocError, AllocFailed};
 /// Why a call stops before its end.
 #[derive(Drop)]
 pub enum Stop {
-    /// Memory was wanting.
+    /// Memory ran out.
     Memory,
     /// The words are refused.
     Words,

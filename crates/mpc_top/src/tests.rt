@@ -252,3 +252,19 @@ fn a_failing_sink_has_a_prefix(rt: HostRuntime) -> Result<(), Fail> {
     assert_eq!(rt; short_err.bytes(), b"refused ci".as_slice());
     Ok(())
 }
+
+#[test]
+fn calls_in_a_row_add_their_texts(rt: HostRuntime) -> Result<(), Fail> {
+    let alloc = rt.alloc();
+    let run = words(alloc, &["mpc", "run", "d"])?;
+    let mut files = files(alloc, [JOB, MUL, A, B, C])?;
+    let mut out = sink(alloc, 30)?;
+    let mut err = sink(alloc, 300)?;
+    assert_eq!(rt; command(alloc, &run, &mut files, &mut out, &mut err), 0);
+    assert_eq!(rt; command(alloc, &run, &mut files, &mut out, &mut err), 0);
+    assert_eq!(rt; out.bytes(), b"out 0 0 c 35\nout 0 0 c 35\n".as_slice());
+    assert_eq!(rt; command(alloc, &run, &mut files, &mut out, &mut err), 5);
+    assert_eq!(rt; out.bytes(), b"out 0 0 c 35\nout 0 0 c 35\nout ".as_slice());
+    assert_eq!(rt; err.bytes(), b"fault out\n".as_slice());
+    Ok(())
+}

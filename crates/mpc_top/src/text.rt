@@ -6,11 +6,12 @@ ghost use Rattle.mpc_top.specs.Stops.{text_of};
 use crate::Stop;
 use outer_io::{Failed, Sink, write_pieces};
 
-/// Writes the text of a stop; for want of memory there is none, and the sink is left alone.
+/// Writes the text of a stop; where memory ran out there is none, and the sink is left alone.
 #[tactic(auto, unfolding(crate::specs::Texts::usage_text, crate::specs::Texts::out_fault_line, crate::specs::Texts::files_fault_line))]
 pub(crate) fn write_stop<S: Sink>(sink: &mut S, stop: &Stop) -> Result<(), Failed>
     ensures text { Writes (text_of stop.now) (S.reading sink.old) (S.reading sink.new) result }
-    ensures memory { stop.now ≡ Stop.Memory → (S.reading sink.new ≡ S.reading sink.old) × IsOk result }
+    ensures memory { stop.now ≡ Stop.Memory
+        → (S.reading sink.new ≡ S.reading sink.old) × IsOk result }
 {
     match stop {
         Stop::Memory => Ok(()),

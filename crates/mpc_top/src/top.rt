@@ -1,7 +1,9 @@
 //! The top call.
 ghost use Rattle.std.specs.Prelude.{◌≡◌};
 ghost use Rattle.command_words.specs.Commands.{command_of};
-ghost use Rattle.mpc_top.specs.Command.{words_view, Runs, Answers};
+ghost use Rattle.mpc_top.specs.Due.{words_view};
+ghost use Rattle.mpc_top.specs.Stops.{Runs};
+ghost use Rattle.mpc_top.specs.Command.{Answers};
 
 use crate::Stop;
 use crate::running::run_command;
@@ -17,7 +19,8 @@ fn run<F: Files, O: Sink>(
     files: &mut F,
     out: &mut O,
 ) -> Result<(), Stop>
-    ensures { Runs (command_of (words_view words.now)) (F.reading files.old) (F.reading files.new) (O.reading out.old) (O.reading out.new) result }
+    ensures { Runs (command_of (words_view words.now)) (F.reading files.old) (F.reading files.new)
+        (O.reading out.old) (O.reading out.new) result }
 {
     let Ok(command) = read_command(words) else {
         return Err(Stop::Words);
@@ -27,7 +30,7 @@ fn run<F: Files, O: Sink>(
 
 /// Runs the command of the words over the files, and gives the exit status: 0 where it was done, 2 where the words are
 /// refused, 3 where the files are, 4 where two tolerated groups together are all parties, 5 where the outside failed,
-/// 6 where memory was wanting.
+/// 6 where memory ran out.
 pub fn command<F: Files, O: Sink, E: Sink>(
     alloc: Global,
     words: &[String],
@@ -35,8 +38,10 @@ pub fn command<F: Files, O: Sink, E: Sink>(
     out: &mut O,
     err: &mut E,
 ) -> u8
-    ensures { Answers (words_view words.now) (record { files = F.reading files.old; out = O.reading out.old; err = E.reading err.old })
-        (record { files = F.reading files.new; out = O.reading out.new; err = E.reading err.new }) result }
+    ensures { Answers (words_view words.now)
+        (record { files = F.reading files.old; out = O.reading out.old; err = E.reading err.old })
+        (record { files = F.reading files.new; out = O.reading out.new; err = E.reading err.new })
+        result }
 {
     match run(alloc, words, files, out) {
         Ok(()) => 0,

@@ -1,4 +1,4 @@
-//! Texts of words: numbers parted by blanks.
+//! Texts of words: numbers separated by blanks.
 //!
 //! Blanks are space, tab, LF and CR, so a long list of words may stand on several lines.
 #![tactic(auto)]

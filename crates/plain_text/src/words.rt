@@ -27,7 +27,7 @@ fn read_word(at: u64, word: &str) -> Result<u64, WordsFault>
 }
 
 /// The numbers of a text, in order. They are written in decimal digits, may have leading zeros and any length, and
-/// are parted by blanks: space, tab, LF and CR.
+/// are separated by blanks: space, tab, LF and CR.
 ///
 /// # Errors
 ///

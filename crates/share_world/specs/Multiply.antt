@@ -3,6 +3,7 @@ use Rattle.std.specs.Prelude.{◌≡◌, [], ◌∷◌, map}
 use Rattle.job_plan.specs.Messages.{messages}
 use Rattle.job_plan.specs.Multiply.{multiply_plan}
 use Rattle.share_world.specs.Worlds.{World, word, plain}
+use Rattle.share_world.specs.Laws.{IsWhole}
 
 abbrev pub multiply_world : World
 multiply_world = record {
@@ -17,3 +18,6 @@ MultiplyWords = map (word multiply_world) (messages (multiply_plan 8)) ≡ 10 �
 
 abbrev pub MultiplyPlain : Type 0
 MultiplyPlain = plain multiply_world 0 2 ≡ 35
+
+abbrev pub MultiplyWhole : Type 0
+MultiplyWhole = IsWhole multiply_world

@@ -8,7 +8,7 @@ ghost use Rattle.share_world.specs.Laws.{IsWorld, SumIsPlain, HeldAreDealt, Sent
 ghost use Rattle.share_world.specs.Locals.{LocalsJoin, ReadsBefore};
 ghost use Rattle.share_world.specs.Solutions.{IsSolution, OnlySolution};
 ghost use Rattle.share_world.specs.Made.{MadeIsCircuit, MadeHasValues};
-ghost use Rattle.share_world.specs.Multiply.{MultiplyPlain, MultiplyWords};
+ghost use Rattle.share_world.specs.Multiply.{MultiplyPlain, MultiplyWhole, MultiplyWords};
 
 /// The summands of every wire add up to its plain value.
 pub fn sum_is_plain()
@@ -46,8 +46,9 @@ pub fn made_sessions_are_circuits()
     ensures values { (w : World) (s : ℕ) → MadeHasValues w s }
 {}
 
-/// The worked job of one product has these words and this output, by computation.
+/// The worked job of one product is whole, and has these words and this output, by computation.
 pub fn multiply_job()
+    ensures whole { MultiplyWhole }
     ensures plain { MultiplyPlain }
     ensures words { MultiplyWords }
 {}

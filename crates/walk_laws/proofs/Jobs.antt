@@ -7,7 +7,7 @@ use Rattle.party_file.specs.Table.{PartyForm}
 use Rattle.command_words.specs.Commands.{CommandForm, run, check}
 use Rattle.mpc_top.specs.Verdict.{EndsOnce}
 use Rattle.mpc_top.specs.JobOf.{Contents, JobText, StructureOf, SessionAt, SessionsAfter, PlannedOf, PlanAt, HandAt, HandsAfter, JobAt}
-use Rattle.mpc_top.specs.Command.{TextOf, IsDue}
+use Rattle.mpc_top.specs.Due.{TextOf, IsDue}
 use Rattle.walk_laws.proofs.Walks.{ends_once, then_once}
 use Rattle.walk_laws.proofs.Plans.{formula_once, q2_once, plan_once}
 
@@ -54,6 +54,6 @@ unfolding TextOf
 command_once (run dir) files = then_once _ _ (job_once files dir) (λ job. ends_once _)
 command_once (check dir) files = then_once _ _ (plan_at_once files dir) (λ planned. ends_once _)
 
-pub due_once : (command : Option CommandForm) (files : Contents) → EndsOnce (IsDue command files)
+pub due_once : (command : Option CommandForm) (files : Contents) → EndsOnce (IsDue command (Some files))
 due_once None files = ends_once _
 due_once (Some command) files = command_once command files

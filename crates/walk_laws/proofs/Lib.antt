@@ -1,3 +1,5 @@
 mod Walks
 mod Plans
 mod Jobs
+mod Statuses
+mod InARow

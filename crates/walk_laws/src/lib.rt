@@ -1,6 +1,9 @@
-//! The law that the top call's words and files are due one verdict.
+//! Laws of the top call: its words and files are due one verdict, what its statuses say, and what calls in a row do.
 #![tactic(auto)]
 
 mod laws;
 
-pub use laws::each_call_is_due_one_verdict;
+pub use laws::{
+    a_call_again_has_the_same_status, each_call_is_due_one_verdict, each_status_says_why,
+    two_calls_give_what_both_are_due, what_is_due_is_given,
+};

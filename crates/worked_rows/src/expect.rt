@@ -8,8 +8,19 @@ use std::process::Abort;
 use std::test::Fail;
 
 /// A sink that takes so many bytes.
-pub fn sink(alloc: Global, room: usize) -> Result<VecSink, AllocError> {
+fn sink(alloc: Global, room: usize) -> Result<VecSink, AllocError> {
     Ok(VecSink::new(Vec::with_capacity(alloc, room)?, room, Vec::new(alloc)))
+}
+
+/// That an answer is that of the row.
+fn compare(rt: &impl Abort, row: &Row<'_>, status: u8, out: &[u8], err: &[u8]) {
+    assert!(rt;
+        status == row.status,
+        "{}: the status is {status}",
+        row.name
+    );
+    assert!(rt; out == row.out.as_bytes(), "{}: another output", row.name);
+    assert!(rt; err == row.err.as_bytes(), "{}: another refusal", row.name);
 }
 
 /// That the call of the row gives its answer, over sinks that take so many bytes.
@@ -25,23 +36,14 @@ pub fn expect_within(
     let mut out = sink(alloc, room_out)?;
     let mut err = sink(alloc, room_err)?;
     let status = command(alloc, &words, &mut files, &mut out, &mut err);
-    assert_eq!(rt; status, row.status, "the status of {}", row.name);
-    assert_eq!(rt;
-        out.bytes(),
-        row.out.as_bytes(),
-        "the output of {}",
-        row.name
-    );
-    assert_eq!(rt;
-        err.bytes(),
-        row.err.as_bytes(),
-        "the refusal of {}",
-        row.name
-    );
+    compare(rt, row, status, out.bytes(), err.bytes());
     Ok(())
 }
 
-/// That the call of the row gives its answer.
-pub fn expect(rt: &impl Abort, alloc: Global, row: &Row<'_>) -> Result<(), Fail> {
-    expect_within(rt, alloc, row, 300, 300)
+/// That the call of each row gives its answer.
+pub fn expect_all(rt: &impl Abort, alloc: Global, rows: &[Row<'_>]) -> Result<(), Fail> {
+    for row in rows {
+        expect_within(rt, alloc, row, 300, 300)?;
+    }
+    Ok(())
 }

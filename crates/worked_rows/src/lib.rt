@@ -8,6 +8,8 @@ mod circuit_faults;
 #[cfg(test)]
 mod expect;
 #[cfg(test)]
+mod failing_sinks;
+#[cfg(test)]
 mod job_faults;
 #[cfg(test)]
 mod long_files;

@@ -1,19 +1,91 @@
 //! Words that are no command.
 
+use crate::row::Row;
+
 /// The text on `err` for each of them.
-pub const USAGE: &str =
+const USAGE: &str =
     "refused words\nusage: mpc check DIR\n       mpc run DIR [--workers W] [--view GROUP]\n       mpc pair DIR --group GROUP\n       mpc node DIR NAME\n       mpc sample N\n";
 
-/// What is shown, and the words.
-pub const OTHER_WORDS: [(&str, &[&str]); 10] = [
-    ("no_words", &[]),
-    ("no_folder", &["mpc", "run"]),
-    ("an_empty_folder", &["mpc", "run", ""]),
-    ("a_folder_like_an_option", &["mpc", "run", "-d"]),
-    ("two_folders", &["mpc", "run", "d", "d"]),
-    ("another_command", &["mpc", "walk", "d"]),
-    ("an_audit", &["mpc", "audit", "d"]),
-    ("seventeen_workers", &["mpc", "run", "d", "--workers", "17"]),
-    ("no_workers", &["mpc", "run", "d", "--workers", "0"]),
-    ("a_sample_of_none", &["mpc", "sample", "0"]),
+/// Calls whose words are refused.
+pub const OTHER_WORDS: [Row<'static>; 10] = [
+    Row {
+        name: "no_words",
+        words: &[],
+        changes: &[],
+        status: 2,
+        out: "",
+        err: USAGE,
+    },
+    Row {
+        name: "no_folder",
+        words: &["mpc", "run"],
+        changes: &[],
+        status: 2,
+        out: "",
+        err: USAGE,
+    },
+    Row {
+        name: "an_empty_folder",
+        words: &["mpc", "run", ""],
+        changes: &[],
+        status: 2,
+        out: "",
+        err: USAGE,
+    },
+    Row {
+        name: "a_folder_like_an_option",
+        words: &["mpc", "run", "-d"],
+        changes: &[],
+        status: 2,
+        out: "",
+        err: USAGE,
+    },
+    Row {
+        name: "two_folders",
+        words: &["mpc", "run", "d", "d"],
+        changes: &[],
+        status: 2,
+        out: "",
+        err: USAGE,
+    },
+    Row {
+        name: "another_command",
+        words: &["mpc", "walk", "d"],
+        changes: &[],
+        status: 2,
+        out: "",
+        err: USAGE,
+    },
+    Row {
+        name: "an_audit",
+        words: &["mpc", "audit", "d"],
+        changes: &[],
+        status: 2,
+        out: "",
+        err: USAGE,
+    },
+    Row {
+        name: "seventeen_workers",
+        words: &["mpc", "run", "d", "--workers", "17"],
+        changes: &[],
+        status: 2,
+        out: "",
+        err: USAGE,
+    },
+    Row {
+        name: "no_workers",
+        words: &["mpc", "run", "d", "--workers", "0"],
+        changes: &[],
+        status: 2,
+        out: "",
+        err: USAGE,
+    },
+    Row {
+        name: "a_sample_of_none",
+        words: &["mpc", "sample", "0"],
+        changes: &[],
+        status: 2,
+        out: "",
+        err: USAGE,
+    },
 ];

@@ -1,4 +1,4 @@
-use Rattle.share_world.proofs.Multiplying.{plain_is, words_are}
+use Rattle.share_world.proofs.Multiplying.{plain_is, words_are, whole_is}
 use Rattle.share_world.proofs.multiply_job.Goals as goal
 
 pub returns-clause-plain : goal.returns-clause-plain
@@ -6,3 +6,6 @@ returns-clause-plain c = plain_is
 
 pub returns-clause-words : goal.returns-clause-words
 returns-clause-words c = words_are
+
+pub returns-clause-whole : goal.returns-clause-whole
+returns-clause-whole c = whole_is

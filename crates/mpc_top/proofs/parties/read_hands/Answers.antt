@@ -1,4 +1,4 @@
-use Rattle.std.proofs.Common.{◌≡◌, List, ℕ, ◌<◌, ◌+◌, ◌++◌, ◌∷◌, [], length, map, length-append, refl, sym, ap, subst, ◌∙◌, arith, get_or}
+use Rattle.std.proofs.Common.{List, ℕ, ◌+◌, ◌∷◌, [], length, map, length-append, sym, ap, subst, ◌∙◌, arith}
 use Rattle.std.proofs.lemmas.Option.{get_or_from_slice_get}
 use Rattle.party_file.specs.Forms.{form_of}
 use Rattle.mpc_top.specs.JobOf.{HandsAfter}

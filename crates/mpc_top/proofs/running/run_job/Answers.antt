@@ -3,6 +3,7 @@ use Rattle.job_run.specs.Hands.{world_of}
 use Rattle.command_words.specs.Commands.{run}
 use Rattle.output_text.specs.OutText.{out_text}
 use Rattle.mpc_top.specs.Seen.{hands_view}
+use Rattle.mpc_top.proofs.Steps.{keeps_then}
 use Rattle.mpc_top.proofs.Writing.{runs_stop, runs_memory, runs_written, runs_cut, run_stops, run_stops_later, run_read}
 use Rattle.mpc_top.proofs.running.run_job.Goals as goal
 
@@ -18,6 +19,7 @@ returns-in_err-hands g c =
 pub returns-in_err-world : goal.returns-in_err-world
 returns-in_err-world g c =
     runs_memory (run c.args.dir.now) _ _ _ _ _ c.from_residual-in_err-world.ensures.1 refl (c.in_ok-hands.ensures.reads.quiet ∙ c.in_ok-planned.ensures.reads.quiet)
+    (keeps_then _ _ _ c.in_ok-planned.ensures.reads.keeps c.in_ok-hands.ensures.reads.keeps)
 
 pub returns-in_err-write_out : goal.returns-in_err-write_out
 returns-in_err-write_out g c =

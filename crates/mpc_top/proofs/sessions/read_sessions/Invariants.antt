@@ -1,4 +1,4 @@
-use Rattle.std.proofs.Common.{◌≡◌, All, List, [], length, drop, map, Result, Vec}
+use Rattle.std.proofs.Common.{◌≡◌, All, [], length, drop, map, Result, Vec}
 use Rattle.std.specs.declared.alloc.Global.{Global}
 use Rattle.outer_io.specs.Files.{FilesReading}
 use Rattle.job_plan.specs.Plans.{Session}

@@ -1,4 +1,4 @@
-use Rattle.std.proofs.Common.{List, ℕ, ◌∷◌, [], sym, subst, ap, ◌∙◌}
+use Rattle.std.proofs.Common.{◌∷◌, [], sym, subst}
 use Rattle.std.specs.Prelude.{codes}
 use Rattle.std.specs.List.{concat}
 use Rattle.outer_io.specs.Sink.{Writes}

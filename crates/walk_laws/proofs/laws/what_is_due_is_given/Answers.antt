@@ -1,0 +1,5 @@
+use Rattle.walk_laws.proofs.InARow.{given_exactly}
+use Rattle.walk_laws.proofs.laws.what_is_due_is_given.Goals as goal
+
+pub returns : goal.returns
+returns c = given_exactly

@@ -1,0 +1,11 @@
+use Rattle.std.proofs.Common.{ℕ}
+use Rattle.share_world.specs.Worlds.{World}
+use Rattle.worked_jobs.specs.Recording.{HasWords}
+use Rattle.worked_jobs.proofs.Recording.{left}
+use Rattle.worked_jobs.proofs.recorder.finish_desk.Given as goal
+
+abbrev pub invariant-steps : goal.invariant-steps
+invariant-steps l = (w : World) (s p : ℕ) → HasWords l.plan w s p l.fn.desk l.fn.cells → HasWords l.plan w s p l.desk l.cells
+
+abbrev pub decreases-steps : goal.decreases-steps
+decreases-steps l = left l.desk

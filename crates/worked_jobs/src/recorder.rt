@@ -1,0 +1,155 @@
+//! A desk over cells of another kind: a recorder, which has the words of all messages beforehand and keeps each call.
+ghost use Rattle.std.specs.Prelude.{◌≡◌, ℕ, ◌<◌, ◌^◌, All, Some, IfOk, length, slice_get};
+ghost use Rattle.job_plan.specs.Multiply.{multiply_plan as described};
+ghost use Rattle.share_world.specs.Worlds.{World};
+ghost use Rattle.share_world.specs.Multiply.{multiply_world};
+ghost use Rattle.program_laws.specs.Lawful.{given_in};
+ghost use Rattle.party_desk.specs.Desks.{IsDesk};
+ghost use Rattle.desk_laws.specs.InWorld.{IsDone};
+ghost use Rattle.worked_jobs.specs.Recording.{HasWords};
+
+use crate::product_plan::{MESSAGES, multiply_plan};
+use arrayvec::ArrayVec;
+use desk_laws::{ended_desks_are_done, next_instructions_are_served, step_in_world};
+use job_plan::Plan;
+use message_board::{Cells, Posted};
+use mpc_ring::Ring;
+use party_desk::{Desk, Stepped};
+use program_laws::worlds_are_lawful;
+use share_world::multiply_job;
+use std::alloc::{AllocError, Global};
+use std::marker::Model;
+use std::test::Fail;
+use tape_words::Tape;
+
+/// What was asked of a recorder.
+#[derive(Clone, Copy, Debug, PartialEq, Eq)]
+enum Call {
+    Post(u32, u64),
+    Take(u32),
+}
+
+impl Default for Call {
+    fn default() -> Call {
+        Call::Take(0)
+    }
+}
+
+/// Cells that have a word for each number beforehand, whatever is posted, and keep the first 64 calls in their order.
+/// Contracts see the words.
+#[derive(Drop)]
+struct Recorder {
+    words: Vec<u64>,
+    calls: ArrayVec<Call, 64>,
+}
+
+impl Model for Recorder {
+    ghost use Rattle.std.specs.Prelude.{ℕ, List};
+
+    ghost Value = { List ℕ };
+
+    ghost view = { λ r. r.words.items };
+}
+
+impl Recorder {
+    fn new(words: Vec<u64>) -> Recorder
+        ensures { result ≡ words.items }
+    {
+        Recorder {
+            words,
+            calls: ArrayVec::new(),
+        }
+    }
+
+    // Keeps the call, where there is room.
+    fn keep(&mut self, call: Call)
+        ensures { self.new ≡ self.old }
+    {
+        let _ = self.calls.try_push(call);
+    }
+}
+
+impl Cells for Recorder {
+    ghost may_post = { λ c n w. Unit {0} };
+
+    ghost may_take = { λ c n. n < length c };
+
+    ghost got = { λ c n w. slice_get c n ≡ Some w };
+
+    ghost put = { λ c n w a d. d ≡ c };
+
+    ghost took = { λ c n a d. (d ≡ c) × (a ≡ slice_get c n) };
+
+    ghost below = { λ c k. All (λ w. w < 2 ^ k) c };
+
+    fn post(&mut self, number: u32, word: u64) -> Posted {
+        self.keep(Call::Post(number, word));
+        Posted::Done
+    }
+
+    fn take(&mut self, number: u32) -> Option<u64> {
+        self.keep(Call::Take(number));
+        self.words.get(number as usize).copied()
+    }
+}
+
+// Steps the desk to its end.
+fn finish_desk(plan: &Plan, desk: &mut Desk, cells: &mut Recorder)
+    requires { (w : World) × (s : ℕ) × (p : ℕ) × HasWords plan.now w s p desk.old cells.old }
+    ensures stays { (w : World) (s p : ℕ) → HasWords plan.now w s p desk.old cells.old → HasWords plan.now w s p desk.new cells.new }
+    ensures done { (w : World) (s p : ℕ) → HasWords plan.now w s p desk.old cells.old → IsDone w s p desk.new }
+{
+    worlds_are_lawful();
+    next_instructions_are_served();
+    ended_desks_are_done();
+    'steps: while let Stepped::Moved = step_in_world(desk, plan, cells) {}
+}
+
+// The third party's desk, where 5 and 7 are multiplied.
+fn reader(alloc: Global, plan: &Plan, ring: Ring) -> Result<Desk, Fail>
+    requires ring { ring ≡ 8 }
+    requires plan { plan.now ≡ described 8 }
+    ensures { IfOk result (IsDesk (given_in multiply_world 0 2)) }
+{
+    let tape = match Tape::from_words(ring, vec![in alloc; 5, 6]?) {
+        Ok(tape) => tape,
+        Err(_) => return Err(Fail::from("no tape")),
+    };
+    match Desk::open(alloc, plan, 2, 0, &[], tape) {
+        Ok(desk) => Ok(desk),
+        Err((refused, _)) => Err(Fail::from(refused)),
+    }
+}
+
+#[test]
+fn a_reader_over_a_recorder(rt: HostRuntime) -> Result<(), Fail> {
+    let alloc = rt.alloc();
+    let ring = Ring::new(8).ok_or("no ring")?;
+    let plan = multiply_plan(alloc, ring)?;
+    let mut desk = reader(alloc, &plan, ring)?;
+    let mut cells = Recorder::new(MESSAGES.to_vec(alloc)?);
+    multiply_job();
+    finish_desk(&plan, &mut desk, &mut cells);
+    assert_eq!(rt; step_in_world(&mut desk, &plan, &mut cells), Stepped::Ended);
+    let calls = [
+        Call::Take(1),
+        Call::Take(2),
+        Call::Take(4),
+        Call::Take(6),
+        Call::Post(16, 5),
+        Call::Post(17, 6),
+        Call::Post(18, 221),
+        Call::Post(19, 221),
+        Call::Take(9),
+        Call::Take(10),
+        Call::Take(12),
+        Call::Take(14),
+        Call::Take(20),
+    ];
+    assert_eq!(rt; cells.calls.as_slice(), calls.as_slice());
+    assert_eq!(rt; desk.delivered(0), Some(35));
+    assert_eq!(rt; desk.drawn(), 2);
+    assert_eq!(rt; desk.sent(), 4);
+    assert_eq!(rt; desk.taken(), 9);
+    Ok(())
+}
