@@ -98,9 +98,9 @@ zero_bit p = ap (λ bit. nat_eq bit 1) (bit_at-zero p)
 nobody_of : (f : Meaning) → IsSound f.parties (tree_of f.nodes) → is_tolerated f 0 ≡ true
 nobody_of f s = not_true (value (has_party 0) (tree_of f.nodes)) (false_for f.parties (has_party 0) zero_bit (tree_of f.nodes) s)
 
--- the group of all parties isn't
-everybody_of : (f : Meaning) → IsSound f.parties (tree_of f.nodes) → is_tolerated f (2 ^ f.parties - 1) ≡ false
-everybody_of f s = ap not (true_for f.parties (has_party (2 ^ f.parties - 1)) (λ p lp. eq-eqb _ 1 (bit_at_ones f.parties p lp)) (tree_of f.nodes) s)
+-- the group of all parties is qualified
+pub everybody_of : (f : Meaning) → IsSound f.parties (tree_of f.nodes) → value (has_party (2 ^ f.parties - 1)) (tree_of f.nodes) ≡ true
+everybody_of f s = true_for f.parties (has_party (2 ^ f.parties - 1)) (λ p lp. eq-eqb _ 1 (bit_at_ones f.parties p lp)) (tree_of f.nodes) s
 
 pub family_of : (f : Meaning) → IsSound f.parties (tree_of f.nodes) → IsFamily f.parties (is_tolerated f)
-family_of f s = record { parts = closed_of f s; nobody = nobody_of f s; everybody = everybody_of f s }
+family_of f s = record { parts = closed_of f s; nobody = nobody_of f s }

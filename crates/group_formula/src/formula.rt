@@ -1,7 +1,7 @@
 //! Formulas as families of tolerated groups.
-ghost use Rattle.std.specs.Prelude.{◌≡◌, ◌≤◌};
+ghost use Rattle.std.specs.Prelude.{◌≡◌, ◌-◌, ◌^◌, ◌≤◌, true};
 ghost use Rattle.party_set.specs.Parties.{has_party};
-ghost use Rattle.group_formula.specs.Trees.{value, tree_of, is_tolerated, Writes};
+ghost use Rattle.group_formula.specs.Trees.{value, tree_of, is_tolerated, IsSound, Meaning, Writes};
 
 use crate::node::Node;
 use crate::values::evaluate;
@@ -67,3 +67,9 @@ impl Family for Formula {
         !self.qualified(g)
     }
 }
+
+/// A formula is true where every name is, since it has no negation: the group of all parties is never tolerated.
+pub fn all_parties_are_qualified()
+    ensures { (f : Meaning) → IsSound f.parties (tree_of f.nodes)
+        → value (has_party (2 ^ f.parties - 1)) (tree_of f.nodes) ≡ true }
+{}

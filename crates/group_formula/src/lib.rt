@@ -19,7 +19,7 @@ mod token;
 mod values;
 
 pub use fault::FormulaFault;
-pub use formula::Formula;
+pub use formula::{Formula, all_parties_are_qualified};
 pub use read::{each_text_has_one_answer, read_formula};
 
 #[cfg(test)]

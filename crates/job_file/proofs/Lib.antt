@@ -3,3 +3,4 @@ pub mod Hosts
 pub mod Readers
 pub mod Ports
 pub mod Growing
+pub mod Rows

@@ -11,8 +11,7 @@ use Rattle.toml.specs.declared.value.Value.{Value}
 use Rattle.toml_fields.specs.Fields.{text_of, texts_of, fields_of}
 use Rattle.toml_fields.proofs.Lists.{list_any-map}
 use Rattle.job_file.specs.declared.fault.JobFault.{JobFault}
-use Rattle.job_file.specs.declared.fault.JobFault.TheVariants.{BadReader}
-use Rattle.job_file.specs.Faults.{bad_reader, readers_fault, sessions_fault, session_fields_fault, session_values_fault, is_no_party}
+use Rattle.job_file.specs.Faults.{bad_name, bad_in_lists, sessions_fault, session_fields_fault, session_values_fault, is_no_party}
 
 abbrev pub reader_of : Value → List ℕ
 reader_of v = text_of (view v)
@@ -30,9 +29,9 @@ abbrev pub is_bad : List (List ℕ) → List Value → List ℕ → Bool
 is_bad names before reader = is_no_party names reader || list_any (λ item. bytes_eq (text_of (view item)) reader) before
 
 pub reader_turn : (names : List (List ℕ)) (vs : List Value) (at : ℕ) (v : Value) → at < length vs → v ≡ get_or vs at v
-    → bad_reader names (map reader_of (take at vs)) (map reader_of (drop at vs))
-    ≡ cond (is_bad names (take at vs) (reader_of v)) (Some at) (bad_reader names (map reader_of (take (at + 1) vs)) (map reader_of (drop (at + 1) vs)))
-unfolding bad_reader
+    → bad_name names (map reader_of (take at vs)) (map reader_of (drop at vs))
+    ≡ cond (is_bad names (take at vs) (reader_of v)) (Some at) (bad_name names (map reader_of (take (at + 1) vs)) (map reader_of (drop (at + 1) vs)))
+unfolding bad_name
 reader_turn names vs at v within is =
     let before : List (List ℕ) = map reader_of (take at vs) in
     let rest : List (List ℕ) = map reader_of (drop (at + 1) vs) in
@@ -42,16 +41,16 @@ reader_turn names vs at v within is =
     list_any-map (λ other. bytes_eq other (reader_of v)) reader_of (take at vs) in
     let below : at ≤ length vs = omega arith in
     let long : length before ≡ at = length-map (take at vs) reader_of ∙ length-take-le at vs below in
-    ap (λ xs. bad_reader names before (map reader_of xs)) (cut vs at v within is)
-    ∙ ap (λ b. cond (is_no_party names (reader_of v) || b) (Some (length before)) (bad_reader names (before ++ reader_of v ∷ []) rest)) among
-    ∙ ap (λ n. cond (is_bad names (take at vs) (reader_of v)) (Some n) (bad_reader names (before ++ reader_of v ∷ []) rest)) long
-    ∙ ap (λ xs. cond (is_bad names (take at vs) (reader_of v)) (Some at) (bad_reader names xs rest)) (sym grown)
+    ap (λ xs. bad_name names before (map reader_of xs)) (cut vs at v within is)
+    ∙ ap (λ b. cond (is_no_party names (reader_of v) || b) (Some (length before)) (bad_name names (before ++ reader_of v ∷ []) rest)) among
+    ∙ ap (λ n. cond (is_bad names (take at vs) (reader_of v)) (Some n) (bad_name names (before ++ reader_of v ∷ []) rest)) long
+    ∙ ap (λ xs. cond (is_bad names (take at vs) (reader_of v)) (Some at) (bad_name names xs rest)) (sym grown)
 
-pub readers_turn : (names : List (List ℕ)) (session : ℕ) (vs : List Value) (value : ℕ) (v : Value) → value < length vs → v ≡ get_or vs value v
-    → readers_fault names session value (map readers_of (drop value vs))
-    ≡ option_or (option_map (λ at. BadReader session value at) (bad_reader names [] (readers_of v))) (readers_fault names session (value + 1) (map readers_of (drop (value + 1) vs)))
-unfolding readers_fault
-readers_turn names session vs value v within is = ap (λ xs. readers_fault names session value (map readers_of xs)) (cut vs value v within is)
+pub lists_turn : (names : List (List ℕ)) (vs : List Value) (value : ℕ) (v : Value) → value < length vs → v ≡ get_or vs value v
+    → bad_in_lists names value (map readers_of (drop value vs))
+    ≡ option_or (option_map (λ at. (value, at)) (bad_name names [] (readers_of v))) (bad_in_lists names (value + 1) (map readers_of (drop (value + 1) vs)))
+unfolding bad_in_lists
+lists_turn names vs value v within is = ap (λ xs. bad_in_lists names value (map readers_of xs)) (cut vs value v within is)
 
 or_none : (o : Option JobFault) → option_or o None ≡ o
 or_none None = refl

@@ -2,7 +2,6 @@
 use Rattle.std.specs.Prelude.{ℕ, ◌+◌, nat_lt, ◌==◌, min, Bool, not, ◌&&◌, ◌||◌, if◌then◌else◌, ℤ, pos, int_le, List, [], ◌∷◌, ◌++◌, length, map, position, Option, Some, None, Result, Ok, Err}
 use Rattle.std.specs.List.{list_any}
 use Rattle.std.specs.Option.{is_none, option_map, option_or, option_map_or}
-use Rattle.std.specs.Ordering.{int_eq}
 use Rattle.std.specs.Str.{bytes_eq}
 use Rattle.toml.specs.Data.{Members}
 use Rattle.toml_fields.specs.Documents.{document_of}
@@ -10,11 +9,11 @@ use Rattle.toml_fields.specs.Fields.{has_field, is_misfit}
 use Rattle.toml_fields.specs.Keys.{least_unknown}
 use Rattle.party_set.specs.Names.{number_of, names_fault}
 use Rattle.job_file.specs.declared.field.Field.{Field}
-use Rattle.job_file.specs.declared.field.Field.TheVariants.{Version, RingBits, Parties, Formula, Hosts, Port, Session, Circuit, Layout, Owners, Readers}
+use Rattle.job_file.specs.declared.field.Field.TheVariants.{Version, RingBits, Parties, Tolerated, Hosts, Port, Session, Circuit, Layout, Owners, Readers}
 use Rattle.job_file.specs.declared.fault.JobFault.{JobFault}
-use Rattle.job_file.specs.declared.fault.JobFault.TheVariants.{NotToml, Version as OtherVersion, Missing, Unknown, WrongKind, BadRing, Names, SessionCount, BadFileName, BadLayout, BadOwner, BadReader, BadHost, BadPort}
+use Rattle.job_file.specs.declared.fault.JobFault.TheVariants.{NotToml, Version as OtherVersion, Missing, Unknown, WrongKind, BadRing, Names, SessionCount, BadFileName, BadLayout, BadOwner, BadReader, BadHost, BadPort, BadTolerated, TooManyTolerated}
 use Rattle.job_file.specs.Names.{field_text, field_kind, top_fields, session_fields, is_file_name, is_host, layout_of}
-use Rattle.job_file.specs.Forms.{JobForm, job_form, integer, text, texts, items, lists, tables}
+use Rattle.job_file.specs.Forms.{JobForm, job_form, is_listed, adversary_field, integer, text, texts, items, lists, tables}
 
 -- a row of the table: a test, and the fault that it tells
 infix 4 ◌answers◌
@@ -25,6 +24,24 @@ failed answers fault = if failed then Some fault else None
 abbrev pub first_fault : List (Option JobFault) → Option JobFault
 first_fault [] = None
 first_fault (row ∷ rows) = option_or row (first_fault rows)
+
+-- ---- lists of parties' names
+
+abbrev pub is_no_party : List (List ℕ) → List ℕ → Bool
+is_no_party names name = is_none (number_of names name)
+
+-- the place of the first text that is no party's name, or stands before
+unfoldable pub bad_name : List (List ℕ) → List (List ℕ) → List (List ℕ) → Option ℕ
+bad_name names before [] = None
+bad_name names before (text ∷ rest) =
+    if is_no_party names text || list_any (λ other. bytes_eq other text) before then Some (length before)
+    else bad_name names (before ++ text ∷ []) rest
+
+-- the first such text of the lists from this one on: its list, and its place there
+unfoldable pub bad_in_lists : List (List ℕ) → ℕ → List (List (List ℕ)) → Option (ℕ × ℕ)
+bad_in_lists names value [] = None
+bad_in_lists names value (list ∷ rest) =
+    option_or (option_map (λ at. (value, at)) (bad_name names [] list)) (bad_in_lists names (value + 1) rest)
 
 -- ---- rows on one field
 
@@ -55,30 +72,41 @@ unknown_fault session known fields = option_map (λ name. Unknown session name) 
 
 -- ---- the top table
 
+abbrev pub is_within : ℤ → ℤ → ℤ → Bool
+is_within low high z = int_le low z && int_le z high
+
 unfoldable pub version_fault : Members → Option JobFault
 version_fault fields = first_fault
     (required_fault None Version fields
-    ∷ (not (int_eq (integer Version fields) (pos 1)) answers OtherVersion (integer Version fields))
+    ∷ (not (is_within (pos 1) (pos 2) (integer Version fields)) answers OtherVersion (integer Version fields))
     ∷ [])
 
 unfoldable pub fields_fault : Bool → Members → Option JobFault
 fields_fault node fields = first_fault
     (required_fault None RingBits fields
     ∷ required_fault None Parties fields
-    ∷ required_fault None Formula fields
+    ∷ required_fault None (adversary_field fields) fields
     ∷ node_fault node Hosts fields
     ∷ node_fault node Port fields
     ∷ required_fault None Session fields
     ∷ [])
-
-abbrev pub is_within : ℤ → ℤ → ℤ → Bool
-is_within low high z = int_le low z && int_le z high
 
 unfoldable pub ring_fault : Members → Option JobFault
 ring_fault fields = not (is_within (pos 1) (pos 32) (integer RingBits fields)) answers BadRing (integer RingBits fields)
 
 unfoldable pub parties_fault : Members → Option JobFault
 parties_fault fields = option_map (λ fault. Names fault) (names_fault (texts Parties fields))
+
+-- at most 4,096 tolerated groups, each of different parties
+unfoldable pub groups_fault : List (List ℕ) → List (List (List ℕ)) → Option JobFault
+groups_fault names groups = first_fault
+    ((nat_lt 4096 (length groups) answers TooManyTolerated (length groups))
+    ∷ option_map (λ bad. BadTolerated bad.0 bad.1) (bad_in_lists names 0 groups)
+    ∷ [])
+
+-- the faults of the field that tells the tolerated groups: a formula's are told later
+abbrev pub adversary_fault : Members → Option JobFault
+adversary_fault fields = if is_listed fields then groups_fault (texts Parties fields) (lists Tolerated fields) else None
 
 -- 1 to 16 sessions
 unfoldable pub count_fault : ℕ → Option JobFault
@@ -96,22 +124,6 @@ port_fault fields = (is_there Port fields && not (is_within (pos 1) (pos 65392) 
 
 -- ---- a session
 
-abbrev pub is_no_party : List (List ℕ) → List ℕ → Bool
-is_no_party names name = is_none (number_of names name)
-
--- the place of the first reader that is no party, or stands before
-unfoldable pub bad_reader : List (List ℕ) → List (List ℕ) → List (List ℕ) → Option ℕ
-bad_reader names before [] = None
-bad_reader names before (reader ∷ rest) =
-    if is_no_party names reader || list_any (λ other. bytes_eq other reader) before then Some (length before)
-    else bad_reader names (before ++ reader ∷ []) rest
-
--- the first bad reader of the values from this one on
-unfoldable pub readers_fault : List (List ℕ) → ℕ → ℕ → List (List (List ℕ)) → Option JobFault
-readers_fault names session value [] = None
-readers_fault names session value (readers ∷ rest) =
-    option_or (option_map (λ at. BadReader session value at) (bad_reader names [] readers)) (readers_fault names session (value + 1) rest)
-
 unfoldable pub session_fields_fault : ℕ → Members → Option JobFault
 session_fields_fault session fields = first_fault
     (unknown_fault (Some session) session_fields fields
@@ -126,7 +138,7 @@ session_values_fault names session fields = first_fault
     ((not (is_file_name (text Circuit fields)) answers BadFileName session)
     ∷ (is_none (layout_of (text Layout fields)) answers BadLayout session)
     ∷ option_map (λ at. BadOwner session at) (position (is_no_party names) (texts Owners fields))
-    ∷ readers_fault names session 0 (lists Readers fields)
+    ∷ option_map (λ bad. BadReader session bad.0 bad.1) (bad_in_lists names 0 (lists Readers fields))
     ∷ [])
 
 -- the first fault of the sessions from this one on: all of one session's before the next one's
@@ -144,10 +156,11 @@ sessions_fault names session (fields ∷ rest) = first_fault
 unfoldable pub job_fault : Bool → Members → Option JobFault
 job_fault node fields = first_fault
     (version_fault fields
-    ∷ unknown_fault None top_fields fields
+    ∷ unknown_fault None (top_fields (adversary_field fields)) fields
     ∷ fields_fault node fields
     ∷ ring_fault fields
     ∷ parties_fault fields
+    ∷ adversary_fault fields
     ∷ count_fault (length (items Session fields))
     ∷ sessions_fault (texts Parties fields) 0 (tables Session fields)
     ∷ hosts_fault fields

@@ -1,11 +1,12 @@
 -- What a job's file gives, where it has no fault: values are total, with a default where there is none.
-use Rattle.std.specs.Prelude.{ℕ, ◌^◌, ℤ, nat_abs, bit_or, List, map, fold}
+use Rattle.std.specs.Prelude.{ℕ, ◌^◌, ℤ, pos, nat_abs, bit_or, Bool, if◌then◌else◌, List, map, fold}
 use Rattle.std.specs.Option.{unwrap_or}
+use Rattle.std.specs.Ordering.{int_eq}
 use Rattle.toml.specs.Data.{Data, Members}
 use Rattle.toml_fields.specs.Fields.{integer_at, text_at, items_at, texts_at, texts_of, fields_of}
 use Rattle.party_set.specs.Names.{number_of}
 use Rattle.job_file.specs.declared.field.Field.{Field}
-use Rattle.job_file.specs.declared.field.Field.TheVariants.{RingBits, Parties, Formula, Hosts, Port, Session, Circuit, Layout, Owners, Readers}
+use Rattle.job_file.specs.declared.field.Field.TheVariants.{Version, RingBits, Parties, Formula, Tolerated, Hosts, Port, Session, Circuit, Layout, Owners, Readers}
 use Rattle.job_file.specs.declared.job.CircuitLayout.{CircuitLayout}
 use Rattle.job_file.specs.declared.job.CircuitLayout.TheVariants.{Ring}
 use Rattle.job_file.specs.Names.{field_text, layout_of}
@@ -18,10 +19,15 @@ pub record SessionForm : Type 0 where
   pub owners : List ℕ
   pub readers : List ℕ
 
+-- what tells the tolerated groups: the text of a formula, or the masks of the listed groups
+pub data AdversaryForm : Type 0 where
+  by_formula : List ℕ → AdversaryForm
+  by_list : List ℕ → AdversaryForm
+
 pub record JobForm : Type 0 where
   pub bits : ℕ
   pub names : List (List ℕ)
-  pub formula : List ℕ
+  pub adversary : AdversaryForm
   pub hosts : List (List ℕ)
   pub port : ℕ
   pub sessions : List SessionForm
@@ -50,13 +56,21 @@ tables field fields = map fields_of (items field fields)
 
 -- ---- the job
 
+-- the file is of version 2, which lists the tolerated groups
+abbrev pub is_listed : Members → Bool
+is_listed fields = int_eq (integer Version fields) (pos 2)
+
+-- the field that tells the tolerated groups
+abbrev pub adversary_field : Members → Field
+adversary_field fields = if is_listed fields then Tolerated else Formula
+
 -- the party of this name
 abbrev pub party_of : List (List ℕ) → List ℕ → ℕ
 party_of names name = unwrap_or (number_of names name) 0
 
 -- the mask of these parties: the bit of each is 1
 unfoldable pub mask_of : List (List ℕ) → List (List ℕ) → ℕ
-mask_of names readers = fold (λ mask reader. bit_or mask (2 ^ party_of names reader)) 0 readers
+mask_of names group = fold (λ mask name. bit_or mask (2 ^ party_of names name)) 0 group
 
 unfoldable pub session_form : List (List ℕ) → Members → SessionForm
 session_form names fields = record {
@@ -66,11 +80,16 @@ session_form names fields = record {
   readers = map (mask_of names) (lists Readers fields);
 }
 
+unfoldable pub adversary_form : Members → AdversaryForm
+adversary_form fields =
+    if is_listed fields then by_list (map (mask_of (texts Parties fields)) (lists Tolerated fields))
+    else by_formula (text Formula fields)
+
 unfoldable pub job_form : Members → JobForm
 job_form fields = record {
   bits = nat_abs (integer RingBits fields);
   names = texts Parties fields;
-  formula = text Formula fields;
+  adversary = adversary_form fields;
   hosts = texts Hosts fields;
   port = nat_abs (integer Port fields);
   sessions = map (session_form (texts Parties fields)) (tables Session fields);

@@ -4,7 +4,9 @@ use Rattle.party_set.specs.Names.{AreNames}
 use Rattle.party_set.specs.Parties.{Members}
 use Rattle.job_file.specs.declared.job.Job.{Job}
 use Rattle.job_file.specs.declared.job.JobSession.{JobSession}
-use Rattle.job_file.specs.Forms.{JobForm, SessionForm}
+use Rattle.job_file.specs.declared.job.Adversary.{Adversary}
+use Rattle.job_file.specs.declared.job.Adversary.TheVariants.{Formula, Tolerated}
+use Rattle.job_file.specs.Forms.{JobForm, SessionForm, AdversaryForm, by_formula, by_list}
 
 abbrev pub session_view : JobSession → SessionForm
 session_view session = record {
@@ -14,11 +16,15 @@ session_view session = record {
   readers = map (λ (group : Members). group.mask) session.readers.items;
 }
 
+abbrev pub adversary_view : Adversary → AdversaryForm
+adversary_view (Formula text) = by_formula text
+adversary_view (Tolerated groups) = by_list (map (λ (group : Members). group.mask) groups.items)
+
 abbrev pub job_view : Job → JobForm
 job_view job = record {
   bits = job.ring;
   names = job.names;
-  formula = job.formula;
+  adversary = adversary_view job.adversary;
   hosts = job.hosts.items;
   port = job.port;
   sessions = map session_view job.sessions.items;
@@ -29,10 +35,16 @@ pub record IsSession (parties : ℕ) (session : JobSession) : Type 0 where
   pub owners : All (λ owner. owner < parties) session.owners.items
   pub readers : All (λ (group : Members). group.parties ≡ parties) session.readers.items
 
+-- the listed groups, if any, are of so many parties
+abbrev pub HasParties : ℕ → Adversary → Type 0
+HasParties parties (Formula text) = Unit {0}
+HasParties parties (Tolerated groups) = All (λ (group : Members). group.parties ≡ parties) groups.items
+
 pub record IsJob (job : Job) : Type 0 where
   pub some_bits : 0 < job.ring
   pub few_bits : job.ring ≤ 32
   pub names : AreNames job.names
+  pub adversary : HasParties (length job.names) job.adversary
   pub some_sessions : 1 ≤ length job.sessions.items
   pub few_sessions : length job.sessions.items ≤ 16
   pub sessions : All (IsSession (length job.names)) job.sessions.items

@@ -4,7 +4,7 @@ use Rattle.party_set.specs.declared.names.NamesFault.{NamesFault}
 use Rattle.party_set.specs.declared.names.NamesFault.TheVariants.{BadName, TwiceNamed, PartyCount, Memory as NoMemory}
 use Rattle.job_file.specs.declared.field.Field.{Field}
 use Rattle.job_file.specs.declared.fault.JobFault.{JobFault}
-use Rattle.job_file.specs.declared.fault.JobFault.TheVariants.{NotToml, Version, Missing, Unknown, WrongKind, BadRing, Names, SessionCount, BadFileName, BadLayout, BadOwner, BadReader, BadHost, BadPort, Memory}
+use Rattle.job_file.specs.declared.fault.JobFault.TheVariants.{NotToml, Version, Missing, Unknown, WrongKind, BadRing, Names, SessionCount, BadFileName, BadLayout, BadOwner, BadReader, BadHost, BadPort, BadTolerated, TooManyTolerated, Memory}
 
 abbrev pub fault_part : JobFault → List ℕ
 fault_part (Names fault) = codes "names"
@@ -31,6 +31,8 @@ fault_number (BadLayout session) = 11
 fault_number (SessionCount count) = 12
 fault_number (BadHost at) = 13
 fault_number (BadPort port) = 14
+fault_number (BadTolerated value at) = 15
+fault_number (TooManyTolerated count) = 16
 fault_number (Names fault) = names_number fault
 fault_number Memory = 0
 
@@ -54,6 +56,8 @@ fault_name (BadLayout session) = codes "BadLayout"
 fault_name (SessionCount count) = codes "SessionCount"
 fault_name (BadHost at) = codes "BadHost"
 fault_name (BadPort port) = codes "BadPort"
+fault_name (BadTolerated value at) = codes "BadTolerated"
+fault_name (TooManyTolerated count) = codes "TooManyTolerated"
 fault_name (Names fault) = names_name fault
 fault_name Memory = codes "Memory"
 
@@ -69,6 +73,7 @@ session_key _ = None
 
 abbrev pub value_key : JobFault → Option ℕ
 value_key (BadReader session value at) = Some value
+value_key (BadTolerated value at) = Some value
 value_key _ = None
 
 abbrev pub field_key : JobFault → Option Field
@@ -89,6 +94,7 @@ abbrev pub at_key : JobFault → Option ℕ
 at_key (BadOwner session at) = Some at
 at_key (BadReader session value at) = Some at
 at_key (BadHost at) = Some at
+at_key (BadTolerated value at) = Some at
 at_key (Names fault) = names_at fault
 at_key _ = None
 
@@ -102,6 +108,7 @@ names_count _ = None
 
 abbrev pub count_key : JobFault → Option ℕ
 count_key (SessionCount count) = Some count
+count_key (TooManyTolerated count) = Some count
 count_key (Names fault) = names_count fault
 count_key _ = None
 

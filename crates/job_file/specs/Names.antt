@@ -6,7 +6,7 @@ use Rattle.std.specs.Str.{bytes_eq}
 use Rattle.toml_fields.specs.declared.kind.Kind.{Kind}
 use Rattle.toml_fields.specs.declared.kind.Kind.TheVariants.{Integer, Text, Texts, TextLists, Tables}
 use Rattle.job_file.specs.declared.field.Field.{Field}
-use Rattle.job_file.specs.declared.field.Field.TheVariants.{Version, RingBits, Parties, Formula, Hosts, Port, Session, Circuit, Layout, Owners, Readers}
+use Rattle.job_file.specs.declared.field.Field.TheVariants.{Version, RingBits, Parties, Formula, Tolerated, Hosts, Port, Session, Circuit, Layout, Owners, Readers}
 use Rattle.job_file.specs.declared.job.CircuitLayout.{CircuitLayout}
 use Rattle.job_file.specs.declared.job.CircuitLayout.TheVariants.{Bristol, Ring}
 
@@ -16,6 +16,7 @@ field_text Version = codes "version"
 field_text RingBits = codes "ring_bits"
 field_text Parties = codes "parties"
 field_text Formula = codes "formula"
+field_text Tolerated = codes "tolerated"
 field_text Hosts = codes "hosts"
 field_text Port = codes "port"
 field_text Session = codes "session"
@@ -29,6 +30,7 @@ field_kind Version = Integer
 field_kind RingBits = Integer
 field_kind Parties = Texts
 field_kind Formula = Text
+field_kind Tolerated = TextLists
 field_kind Hosts = Texts
 field_kind Port = Integer
 field_kind Session = Tables
@@ -37,9 +39,9 @@ field_kind Layout = Text
 field_kind Owners = Texts
 field_kind Readers = TextLists
 
--- the fields of the top table, and those of a session
-abbrev pub top_fields : List Field
-top_fields = Version ∷ RingBits ∷ Parties ∷ Formula ∷ Hosts ∷ Port ∷ Session ∷ []
+-- the fields of the top table, of which one tells the tolerated groups; and those of a session
+abbrev pub top_fields : Field → List Field
+top_fields adversary = Version ∷ RingBits ∷ Parties ∷ adversary ∷ Hosts ∷ Port ∷ Session ∷ []
 
 abbrev pub session_fields : List Field
 session_fields = Circuit ∷ Layout ∷ Owners ∷ Readers ∷ []

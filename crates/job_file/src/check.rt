@@ -2,6 +2,7 @@
 ghost use Rattle.std.specs.Prelude.{◌≡◌, IfOk};
 ghost use Rattle.toml.specs.View.{table_view};
 ghost use Rattle.job_file.specs.Names.{top_fields, session_fields};
+ghost use Rattle.job_file.specs.Forms.{is_listed, adversary_field};
 ghost use Rattle.job_file.specs.Faults.{◌answers◌, is_there, is_of_other_kind, required_fault, optional_fault, node_fault, unknown_fault};
 ghost use Rattle.job_file.specs.Answers.{Tells, TellsOrMemory};
 ghost use Rattle.job_file.specs.declared.fault.JobFault.TheVariants.{Unknown};
@@ -11,7 +12,7 @@ use crate::field::Field;
 use party_set::NameText;
 use std::alloc::{AllocError, Global};
 use toml::Table;
-use toml_fields::{has_field, is_misfit, least_unknown};
+use toml_fields::{has_field, integer_at, is_misfit, least_unknown};
 
 /// The fault, where the test failed.
 pub fn check(failed: bool, fault: JobFault) -> Result<(), JobFault>
@@ -79,16 +80,34 @@ fn unknown(alloc: Global, session: Option<u32>, name: &str) -> Result<JobFault, 
     Ok(JobFault::Unknown { session, name })
 }
 
+/// Whether the file lists the tolerated groups, as version 2 does.
+pub fn is_listed(table: &Table) -> bool
+    ensures { result ≡ is_listed (table_view table.now) }
+{
+    integer_at(table, Field::Version.text()) == 2
+}
+
+/// The field that tells the tolerated groups.
+pub fn adversary_field(table: &Table) -> Field
+    ensures { result ≡ adversary_field (table_view table.now) }
+{
+    if is_listed(table) {
+        Field::Tolerated
+    } else {
+        Field::Formula
+    }
+}
+
 /// Checks that the top table has no other fields.
 #[tactic(auto, unfolding(crate::specs::Faults::unknown_fault))]
 pub fn check_top_known(alloc: Global, table: &Table) -> Result<(), JobFault>
-    ensures { TellsOrMemory result (unknown_fault None top_fields (table_view table.now)) }
+    ensures { let fields = table_view table.now in TellsOrMemory result (unknown_fault None (top_fields (adversary_field fields)) fields) }
 {
     let known = [
         Field::Version.text(),
         Field::RingBits.text(),
         Field::Parties.text(),
-        Field::Formula.text(),
+        adversary_field(table).text(),
         Field::Hosts.text(),
         Field::Port.text(),
         Field::Session.text(),

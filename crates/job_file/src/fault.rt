@@ -12,7 +12,7 @@ use std::alloc::AllocError;
 pub enum JobFault {
     /// The bytes are no document of TOML.
     NotToml,
-    /// The version is not 1.
+    /// The version is neither 1 nor 2.
     Version {
         found: i64,
     },
@@ -65,6 +65,15 @@ pub enum JobFault {
     /// The port is not 1 to 65392.
     BadPort {
         port: i64,
+    },
+    /// A text of a tolerated group that is no party, or stands before in the group's list.
+    BadTolerated {
+        value: u32,
+        at: u64,
+    },
+    /// There are more than 4,096 tolerated groups.
+    TooManyTolerated {
+        count: u64,
     },
     /// The names of the parties have a fault.
     Names {

@@ -4,13 +4,14 @@ ghost use Rattle.job_file.specs.Names.{field_text, field_kind};
 
 use toml_fields::Kind;
 
-/// A field of the top table (the first seven) or of a session.
+/// A field of the top table (the first eight) or of a session.
 #[derive(Clone, Copy, Debug, PartialEq, Eq)]
 pub enum Field {
     Version,
     RingBits,
     Parties,
     Formula,
+    Tolerated,
     Hosts,
     Port,
     Session,
@@ -31,6 +32,7 @@ impl Field {
             Field::RingBits => "ring_bits",
             Field::Parties => "parties",
             Field::Formula => "formula",
+            Field::Tolerated => "tolerated",
             Field::Hosts => "hosts",
             Field::Port => "port",
             Field::Session => "session",
@@ -50,7 +52,7 @@ impl Field {
             Field::Version | Field::RingBits | Field::Port => Kind::Integer,
             Field::Formula | Field::Circuit | Field::Layout => Kind::Text,
             Field::Parties | Field::Hosts | Field::Owners => Kind::Texts,
-            Field::Readers => Kind::TextLists,
+            Field::Tolerated | Field::Readers => Kind::TextLists,
             Field::Session => Kind::Tables,
         }
     }

@@ -11,6 +11,16 @@ pub enum CircuitLayout {
     Ring,
 }
 
+/// What tells which groups are tolerated: the text of a formula, which is false for them, or a list of groups, in which
+/// they lie.
+#[derive(Drop)]
+pub enum Adversary {
+    /// A formula (version 1).
+    Formula(NameText),
+    /// Groups (version 2).
+    Tolerated(Vec<Group>),
+}
+
 /// A session of a job: the file of its circuit, the party that gives each input value, and the group that reads each
 /// output value.
 #[derive(Drop)]
@@ -26,7 +36,7 @@ pub struct JobSession {
 pub struct Job {
     pub ring: Ring,
     pub names: Names,
-    pub formula: NameText,
+    pub adversary: Adversary,
     pub hosts: Vec<NameText>,
     pub port: u16,
     pub sessions: Vec<JobSession>,

@@ -36,6 +36,8 @@ impl JobFault {
             JobFault::SessionCount { .. } => 12,
             JobFault::BadHost { .. } => 13,
             JobFault::BadPort { .. } => 14,
+            JobFault::BadTolerated { .. } => 15,
+            JobFault::TooManyTolerated { .. } => 16,
             JobFault::Names { fault } => names_number(*fault),
             JobFault::Memory => 0,
         }
@@ -59,6 +61,8 @@ impl JobFault {
             JobFault::SessionCount { .. } => "SessionCount",
             JobFault::BadHost { .. } => "BadHost",
             JobFault::BadPort { .. } => "BadPort",
+            JobFault::BadTolerated { .. } => "BadTolerated",
+            JobFault::TooManyTolerated { .. } => "TooManyTolerated",
             JobFault::Names { fault } => names_name(*fault),
             JobFault::Memory => "Memory",
         }
@@ -79,12 +83,14 @@ impl JobFault {
         }
     }
 
-    /// The output value whose list of readers has the fault.
+    /// The output value whose list of readers has the fault, or the tolerated group that has it.
     pub fn value(&self) -> Option<u32>
         ensures { result ≡ value_key self.now }
     {
         match self {
-            JobFault::BadReader { value, .. } => Some(*value),
+            JobFault::BadReader { value, .. } | JobFault::BadTolerated { value, .. } => Some(
+                *value,
+            ),
             _ => None,
         }
     }
@@ -116,7 +122,8 @@ impl JobFault {
         match self {
             JobFault::BadOwner { at, .. }
             | JobFault::BadReader { at, .. }
-            | JobFault::BadHost { at } => Some(*at),
+            | JobFault::BadHost { at }
+            | JobFault::BadTolerated { at, .. } => Some(*at),
             JobFault::Names { fault } => names_at(*fault),
             _ => None,
         }
@@ -132,12 +139,12 @@ impl JobFault {
         }
     }
 
-    /// How many sessions or parties there are.
+    /// How many sessions, parties or tolerated groups there are.
     pub fn count(&self) -> Option<u64>
         ensures { result ≡ count_key self.now }
     {
         match self {
-            JobFault::SessionCount { count } => Some(*count),
+            JobFault::SessionCount { count } | JobFault::TooManyTolerated { count } => Some(*count),
             JobFault::Names { fault } => names_count(*fault),
             _ => None,
         }

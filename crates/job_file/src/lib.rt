@@ -1,4 +1,4 @@
-//! The job of a file `job.toml`, version 1, or its first fault.
+//! The job of a file `job.toml`, version 1 or 2, or its first fault.
 #![tactic(auto)]
 
 mod check;
@@ -6,6 +6,7 @@ mod fault;
 mod field;
 mod job;
 mod keys;
+mod parties;
 mod reading;
 mod session;
 mod texts;
@@ -14,7 +15,7 @@ mod values;
 
 pub use fault::JobFault;
 pub use field::Field;
-pub use job::{CircuitLayout, Job, JobSession};
+pub use job::{Adversary, CircuitLayout, Job, JobSession};
 pub use reading::read_job;
 
 #[cfg(test)]

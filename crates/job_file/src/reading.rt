@@ -3,7 +3,7 @@ ghost use Rattle.std.specs.Prelude.{◌≡◌, ◌≢◌, ◌∷◌, [], IfOk, M
 ghost use Rattle.toml.specs.View.{table_view};
 ghost use Rattle.job_file.specs.Answers.{TellsOrMemory};
 ghost use Rattle.job_file.specs.Names.{top_fields};
-ghost use Rattle.job_file.specs.Forms.{job_form};
+ghost use Rattle.job_file.specs.Forms.{adversary_field, job_form};
 ghost use Rattle.job_file.specs.Jobs.{job_view, IsJob};
 ghost use Rattle.job_file.specs.Faults.{first_fault, version_fault, unknown_fault, fields_fault, ring_fault, job_fault, job_in};
 ghost use Rattle.job_file.specs.declared.fault.JobFault.TheVariants.{Memory};
@@ -14,7 +14,8 @@ use crate::field::Field;
 use crate::job::Job;
 use crate::session::check_sessions;
 use crate::top::{
-    check_count, check_fields, check_hosts, check_port, check_ring, check_version, read_parties,
+    check_adversary, check_count, check_fields, check_hosts, check_port, check_ring, check_version,
+    read_parties,
 };
 use crate::values::job_of;
 use std::alloc::Global;
@@ -22,7 +23,7 @@ use toml::Table;
 use toml_fields::{document, items_at};
 
 fn check_head(alloc: Global, table: &Table, node: bool) -> Result<(), JobFault>
-    ensures { let fields = table_view table.now in TellsOrMemory result (first_fault (version_fault fields ∷ unknown_fault None top_fields fields ∷ fields_fault node fields ∷ ring_fault fields ∷ [])) }
+    ensures { let fields = table_view table.now in TellsOrMemory result (first_fault (version_fault fields ∷ unknown_fault None (top_fields (adversary_field fields)) fields ∷ fields_fault node fields ∷ ring_fault fields ∷ [])) }
 {
     check_version(table)?;
     check_top_known(alloc, table)?;
@@ -40,6 +41,7 @@ fn read_table(alloc: Global, table: &Table, node: bool) -> Result<Job, JobFault>
 {
     check_head(alloc, table, node)?;
     let names = read_parties(alloc, table)?;
+    check_adversary(table, &names)?;
     let sessions = items_at(table, Field::Session.text());
     check_count(sessions.len())?;
     check_sessions(alloc, sessions, &names)?;

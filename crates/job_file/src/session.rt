@@ -7,17 +7,18 @@ ghost use Rattle.std.specs.Str.{bytes_eq};
 ghost use Rattle.toml.specs.View.{view, table_view};
 ghost use Rattle.toml_fields.specs.Fields.{text_of, texts_of, fields_of};
 ghost use Rattle.job_file.specs.Answers.{Tells, TellsOrMemory};
-ghost use Rattle.job_file.specs.Faults.{session_fields_fault, session_values_fault, sessions_fault, readers_fault, bad_reader, is_no_party};
-ghost use Rattle.job_file.specs.declared.fault.JobFault.TheVariants.{BadOwner};
+ghost use Rattle.job_file.specs.Faults.{session_fields_fault, session_values_fault, sessions_fault, bad_in_lists, is_no_party};
+ghost use Rattle.job_file.specs.declared.fault.JobFault.TheVariants.{BadOwner, BadReader};
 
 use crate::check::{check, check_required, check_session_known};
 use crate::fault::JobFault;
 use crate::field::Field;
+use crate::parties::{bad_in_lists, first_stranger};
 use crate::texts::{is_file_name, layout_of};
 use party_set::Names;
 use std::alloc::Global;
 use toml::{Table, Value};
-use toml_fields::{fields_of, items_at, items_of, text_at, text_of};
+use toml_fields::{fields_of, items_at, text_at};
 
 #[tactic(auto, unfolding(crate::specs::Faults::session_fields_fault))]
 fn check_fields(alloc: Global, table: &Table, session: u32) -> Result<(), JobFault>
@@ -55,56 +56,21 @@ fn check_owners(owners: &[Value], session: u32, names: &Names) -> Result<(), Job
     }
 }
 
-fn first_stranger(items: &[Value], names: &Names) -> Option<usize>
-    ensures { result ≡ position (λ item. is_no_party names.now (text_of (view item))) items.now }
-{
-    items
-        .iter()
-        .position(|item| names.number(text_of(item)).is_none())
-}
-
 // More values than a `u32` counts do not fit in memory.
 fn check_readers(values: &[Value], session: u32, names: &Names) -> Result<(), JobFault>
-    ensures { TellsOrMemory result (readers_fault names.now session 0 (map texts_of (map view values.now))) }
+    ensures { TellsOrMemory result (option_map (λ bad. BadReader session bad.0 bad.1) (bad_in_lists names.now 0 (map texts_of (map view values.now)))) }
 {
-    for (value, readers) in values.iter().enumerate() {
-        if let Some(at) = bad_reader(items_of(readers), names) {
-            let Ok(value) = u32::try_from(value) else {
-                return Err(JobFault::Memory);
-            };
-            return Err(JobFault::BadReader {
-                session,
-                value,
-                at: at as u64,
-            });
-        }
-    }
-    Ok(())
-}
-
-fn bad_reader(readers: &[Value], names: &Names) -> Option<usize>
-    ensures { result ≡ bad_reader names.now [] (map text_of (map view readers.now)) }
-{
-    for (at, item) in readers.iter().enumerate() {
-        let reader = text_of(item);
-        if is_bad(reader, &readers[..at], names) {
-            return Some(at);
-        }
-    }
-    None
-}
-
-// Whether the reader is no party, or stands before. What stands before are different parties, so 12 at most.
-fn is_bad(reader: &str, before: &[Value], names: &Names) -> bool
-    ensures { result ≡ (is_no_party names.now reader.now || list_any (λ item. bytes_eq (text_of (view item)) reader.now) before.now) }
-{
-    names.number(reader).is_none() || is_among(before, reader)
-}
-
-fn is_among(items: &[Value], text: &str) -> bool
-    ensures { result ≡ list_any (λ item. bytes_eq (text_of (view item)) text.now) items.now }
-{
-    items.iter().any(|item| text_of(item) == text)
+    let Some((value, at)) = bad_in_lists(values, names) else {
+        return Ok(());
+    };
+    let Ok(value) = u32::try_from(value) else {
+        return Err(JobFault::Memory);
+    };
+    Err(JobFault::BadReader {
+        session,
+        value,
+        at: at as u64,
+    })
 }
 
 /// The fields of a table, or these, where the value is no table.

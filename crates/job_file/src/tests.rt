@@ -1,4 +1,4 @@
-use crate::{CircuitLayout, Field, Job, JobFault, read_job};
+use crate::{Adversary, CircuitLayout, Field, Job, JobFault, read_job};
 use std::alloc::{AllocError, Global};
 use std::test::Fail;
 
@@ -44,7 +44,9 @@ fn a_job_is_read(rt: HostRuntime) -> Result<(), Fail> {
     assert_eq!(rt; job.ring.bits(), 8);
     assert_eq!(rt; job.names.len(), 3);
     assert_eq!(rt; job.names.number("c"), Some(2));
-    assert_eq!(rt; job.formula.as_str(), "2 of (a, b, c)");
+    assert!(rt;
+        matches!(&job.adversary, Adversary::Formula(text) if text.as_str() == "2 of (a, b, c)")
+    );
     assert_eq!(rt; job.port, 65392);
     assert_eq!(rt; job.hosts.len(), 3);
     assert_eq!(rt; job.hosts[1].as_str(), "b.example");
@@ -219,5 +221,91 @@ fn a_session_stands_before_the_hosts_and_these_before_the_port(
     let fault = fault_of(alloc, &[TOP, "port = 65393\n", SESSION], false)?;
     assert_eq!(rt; fault.number(), 14);
     assert_eq!(rt; fault.port(), Some(65393));
+    Ok(())
+}
+
+const LISTED: &str = "version = 2\nring_bits = 8\nparties = ['a', 'b', 'c']\n";
+
+/// The fault of a list of tolerated groups, before that there is no session.
+fn tolerated_fault(alloc: Global, tolerated: &str) -> Result<JobFault, AllocError> {
+    fault_of(alloc, &[LISTED, tolerated, "session = []\n"], false)
+}
+
+#[test]
+fn a_job_lists_its_tolerated_groups(rt: HostRuntime) -> Result<(), Fail> {
+    let alloc = rt.alloc();
+    let list = "tolerated = [['b'], [], ['c', 'a']]\n";
+    let job = match job_of(alloc, &[LISTED, list, SESSION], false)? {
+        Ok(job) => job,
+        Err(fault) => {
+            assert_eq!(rt; fault.name(), "no fault");
+            return Ok(());
+        }
+    };
+    let Adversary::Tolerated(groups) = &job.adversary else {
+        assert!(rt; false);
+        return Ok(());
+    };
+    assert_eq!(rt; groups.len(), 3);
+    assert_eq!(rt; groups[0].mask(), 2);
+    assert_eq!(rt; groups[1].mask(), 0);
+    assert_eq!(rt; groups[2].mask(), 5);
+    Ok(())
+}
+
+#[test]
+fn each_version_has_its_field(rt: HostRuntime) -> Result<(), Fail> {
+    let alloc = rt.alloc();
+    let fault = tolerated_fault(alloc, "tolerated = []\nformula = 'a'\n")?;
+    assert_eq!(rt; fault.number(), 4);
+    assert_eq!(rt; fault.unknown_name(), Some("formula"));
+    let fault = fault_of(alloc, &[TOP, "tolerated = []\n", SESSION], false)?;
+    assert_eq!(rt; fault.unknown_name(), Some("tolerated"));
+    let fault = tolerated_fault(alloc, "hosts = 1\n")?;
+    assert_eq!(rt; fault.number(), 3);
+    assert_eq!(rt; fault.field(), Some(Field::Tolerated));
+    let fault = tolerated_fault(alloc, "tolerated = ['a']\nhosts = 1\n")?;
+    assert_eq!(rt; fault.number(), 5);
+    assert_eq!(rt; fault.field(), Some(Field::Tolerated));
+    let fault = fault_of(alloc, &["version = 3\n"], false)?;
+    assert_eq!(rt; fault.found(), Some(3));
+    Ok(())
+}
+
+#[test]
+fn faults_of_the_tolerated_groups(rt: HostRuntime) -> Result<(), Fail> {
+    let alloc = rt.alloc();
+    let fault = tolerated_fault(alloc, "tolerated = [['a'], ['b', 'x'], ['y']]\n")?;
+    assert_eq!(rt; fault.number(), 15);
+    assert_eq!(rt; fault.name(), "BadTolerated");
+    assert_eq!(rt; fault.value(), Some(1));
+    assert_eq!(rt; fault.at(), Some(1));
+    let fault = tolerated_fault(alloc, "tolerated = [['a', 'b', 'a'], ['y']]\n")?;
+    assert_eq!(rt; fault.value(), Some(0));
+    assert_eq!(rt; fault.at(), Some(2));
+    let fault = tolerated_fault(alloc, "tolerated = [['a'], ['a']]\n")?;
+    assert_eq!(rt; fault.number(), 12);
+    Ok(())
+}
+
+#[test]
+fn at_most_4096_groups_are_listed(rt: HostRuntime) -> Result<(), Fail> {
+    let alloc = rt.alloc();
+    let mut lists = String::from_str(alloc, "tolerated = [")?;
+    for _ in 0..4095 {
+        lists.push_str("[],")?;
+    }
+    lists.push_str("['x']")?;
+    let fault = fault_of(alloc, &[LISTED, lists.as_str(), "]\nsession = []\n"], false)?;
+    assert_eq!(rt; fault.number(), 15);
+    assert_eq!(rt; fault.value(), Some(4095));
+    let fault = fault_of(
+        alloc,
+        &[LISTED, lists.as_str(), ",[]]\nsession = []\n"],
+        false,
+    )?;
+    assert_eq!(rt; fault.number(), 16);
+    assert_eq!(rt; fault.name(), "TooManyTolerated");
+    assert_eq!(rt; fault.count(), Some(4097));
     Ok(())
 }

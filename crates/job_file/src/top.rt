@@ -2,22 +2,26 @@
 ghost use Rattle.std.specs.Prelude.{◌≡◌, ◌≢◌, ◌≤◌, ◌==◌, OnOk, ◌&&◌, min, map, not, Some, None, position, length, MatchResult};
 ghost use Rattle.std.specs.Option.{option_map};
 ghost use Rattle.toml.specs.View.{view, table_view};
-ghost use Rattle.toml_fields.specs.Fields.{text_of};
+ghost use Rattle.toml_fields.specs.Fields.{text_of, texts_of};
 ghost use Rattle.job_file.specs.Answers.{Tells, TellsOrMemory};
 ghost use Rattle.job_file.specs.Names.{is_host};
 ghost use Rattle.job_file.specs.Forms.{texts};
-ghost use Rattle.job_file.specs.Faults.{version_fault, fields_fault, ring_fault, parties_fault, count_fault, hosts_fault, port_fault, is_there, ◌answers◌};
+ghost use Rattle.job_file.specs.Faults.{version_fault, fields_fault, ring_fault, parties_fault, groups_fault, adversary_fault, count_fault, hosts_fault, port_fault, is_there, ◌answers◌};
 ghost use Rattle.job_file.specs.declared.field.Field.TheVariants.{Parties, Hosts};
 ghost use Rattle.job_file.specs.declared.fault.JobFault.TheVariants.{Memory, BadHost};
 
-use crate::check::{check, check_for_node, check_required, is_there};
+use crate::check::{adversary_field, check, check_for_node, check_required, is_listed, is_there};
 use crate::fault::JobFault;
 use crate::field::Field;
+use crate::parties::bad_in_lists;
 use crate::texts::is_host;
 use party_set::{Names, NamesFault, read_names};
 use std::alloc::Global;
 use toml::{Table, Value};
 use toml_fields::{integer_at, items_at, text_of, texts_at};
+
+/// How many tolerated groups a file may list.
+const MOST_TOLERATED: usize = 4096;
 
 #[tactic(auto, unfolding(crate::specs::Faults::version_fault))]
 pub fn check_version(table: &Table) -> Result<(), JobFault>
@@ -25,7 +29,7 @@ pub fn check_version(table: &Table) -> Result<(), JobFault>
 {
     check_required(table, None, Field::Version)?;
     let found = integer_at(table, Field::Version.text());
-    check(found != 1, JobFault::Version { found })
+    check(found < 1 || found > 2, JobFault::Version { found })
 }
 
 #[tactic(auto, unfolding(crate::specs::Faults::fields_fault))]
@@ -34,7 +38,7 @@ pub fn check_fields(table: &Table, node: bool) -> Result<(), JobFault>
 {
     check_required(table, None, Field::RingBits)?;
     check_required(table, None, Field::Parties)?;
-    check_required(table, None, Field::Formula)?;
+    check_required(table, None, adversary_field(table))?;
     check_for_node(table, node, Field::Hosts)?;
     check_for_node(table, node, Field::Port)?;
     check_required(table, None, Field::Session)
@@ -68,6 +72,36 @@ fn of_names(fault: NamesFault) -> JobFault
     match fault {
         NamesFault::Memory => JobFault::Memory,
         fault => JobFault::Names { fault },
+    }
+}
+
+/// Checks the tolerated groups, if the file lists them.
+pub fn check_adversary(table: &Table, names: &Names) -> Result<(), JobFault>
+    requires { names.now ≡ texts Parties (table_view table.now) }
+    ensures { Tells result (adversary_fault (table_view table.now)) }
+{
+    if is_listed(table) {
+        check_tolerated(items_at(table, Field::Tolerated.text()), names)
+    } else {
+        Ok(())
+    }
+}
+
+#[tactic(auto, unfolding(crate::specs::Faults::groups_fault))]
+fn check_tolerated(groups: &[Value], names: &Names) -> Result<(), JobFault>
+    ensures { Tells result (groups_fault names.now (map texts_of (map view groups.now))) }
+{
+    if groups.len() > MOST_TOLERATED {
+        return Err(JobFault::TooManyTolerated {
+            count: groups.len() as u64,
+        });
+    }
+    match bad_in_lists(groups, names) {
+        Some((value, at)) => Err(JobFault::BadTolerated {
+            value: value as u32,
+            at: at as u64,
+        }),
+        None => Ok(()),
     }
 }
 

@@ -3,14 +3,14 @@ ghost use Rattle.std.specs.Prelude.{◌≡◌, ◌<◌, ◌≤◌, ◌^◌, All,
 ghost use Rattle.party_set.specs.Parties.{Members};
 ghost use Rattle.toml.specs.View.{view, table_view};
 ghost use Rattle.toml_fields.specs.Fields.{text_of, texts_of, fields_of};
-ghost use Rattle.job_file.specs.Forms.{party_of, mask_of, session_form, job_form, integer, texts, items};
+ghost use Rattle.job_file.specs.Forms.{party_of, mask_of, session_form, adversary_form, job_form, integer, texts, items};
 ghost use Rattle.job_file.specs.Faults.{ring_fault, port_fault};
-ghost use Rattle.job_file.specs.Jobs.{session_view, job_view, IsSession, IsJob};
+ghost use Rattle.job_file.specs.Jobs.{session_view, adversary_view, job_view, HasParties, IsSession, IsJob};
 ghost use Rattle.job_file.specs.declared.field.Field.TheVariants.{RingBits, Parties, Port, Session};
 
-use crate::check::is_there;
+use crate::check::{is_listed, is_there};
 use crate::field::Field;
-use crate::job::{CircuitLayout, Job, JobSession};
+use crate::job::{Adversary, CircuitLayout, Job, JobSession};
 use crate::session::fields_or;
 use crate::texts::layout_of;
 use mpc_ring::Ring;
@@ -149,6 +149,20 @@ fn port_of(table: &Table) -> u16
     }
 }
 
+#[tactic(auto, unfolding(crate::specs::Forms::adversary_form))]
+fn adversary_of(alloc: Global, table: &Table, names: &Names) -> Result<Adversary, AllocError>
+    requires { names.now ≡ texts Parties (table_view table.now) }
+    ensures form { IfOk result (λ told. adversary_view told ≡ adversary_form (table_view table.now)) }
+    ensures parties { IfOk result (HasParties (length names.now)) }
+{
+    if is_listed(table) {
+        let groups = groups_of(alloc, items_at(table, Field::Tolerated.text()), names)?;
+        return Ok(Adversary::Tolerated(groups));
+    }
+    let formula = copy_of(alloc, text_at(table, Field::Formula.text()))?;
+    Ok(Adversary::Formula(formula))
+}
+
 /// The job of a table without a fault.
 #[tactic(auto, unfolding(crate::specs::Forms::job_form, toml_fields::specs::Fields::texts_at))]
 pub fn job_of(alloc: Global, table: &Table, names: Names) -> Result<Job, AllocError>
@@ -161,7 +175,7 @@ pub fn job_of(alloc: Global, table: &Table, names: Names) -> Result<Job, AllocEr
     ensures facts { IfOk result IsJob }
 {
     let ring = ring_of(table);
-    let formula = copy_of(alloc, text_at(table, Field::Formula.text()))?;
+    let adversary = adversary_of(alloc, table, &names)?;
     let hosts = hosts_of(alloc, items_at(table, Field::Hosts.text()))?;
     let port = port_of(table);
     let sessions = sessions_of(alloc, items_at(table, Field::Session.text()), &names)?;
@@ -169,7 +183,7 @@ pub fn job_of(alloc: Global, table: &Table, names: Names) -> Result<Job, AllocEr
     Ok(Job {
         ring,
         names,
-        formula,
+        adversary,
         hosts,
         port,
         sessions,

@@ -19,7 +19,7 @@ use Rattle.maximal_groups.proofs.Listing.{Listed, listed, rising, place, IsGreat
 pub within_self : (n g : ℕ) → within n g g ≡ true
 within_self n g = every_from n _ (λ p lp. implies_from (has_party g p) (has_party g p) (λ e. e))
 
-within_both : (n a b c : ℕ) → within n a b ≡ true → within n b c ≡ true → within n a c ≡ true
+pub within_both : (n a b c : ℕ) → within n a b ≡ true → within n b c ≡ true → within n a c ≡ true
 within_both n a b c e f = every_from n _ (λ p lp. implies_from (has_party a p) (has_party c p) (λ h.
     implies_at (has_party b p) (has_party c p) (every_at n (λ q. not (has_party b q) || has_party c q) f p lp)
     (implies_at (has_party a p) (has_party b p) (every_at n (λ q. not (has_party a q) || has_party b q) e p lp) h)))
@@ -30,14 +30,14 @@ or_is n a b la lb e = elim (eqb_tells (bit_or a b) b) [
   | inr other ↦ (let bad : false ≡ true = sym other.0 ∙ within_word n a b la lb ∙ e in absurd cc)
 ]
 
-within_le : (n a b : ℕ) → a < 2 ^ n → b < 2 ^ n → within n a b ≡ true → a ≤ b
+pub within_le : (n a b : ℕ) → a < 2 ^ n → b < 2 ^ n → within n a b ≡ true → a ≤ b
 within_le n a b la lb e = omega (arith, le_or_l a b, or_is n a b la lb e)
 
 -- two groups within each other are one
 within_same : (n a b : ℕ) → a < 2 ^ n → b < 2 ^ n → within n a b ≡ true → within n b a ≡ true → a ≡ b
 within_same n a b la lb e f = omega (arith, within_le n a b la lb e, within_le n b a lb la f)
 
-larger_lt : (n a b : ℕ) → a < 2 ^ n → b < 2 ^ n → is_larger n a b ≡ true → a < b
+pub larger_lt : (n a b : ℕ) → a < 2 ^ n → b < 2 ^ n → is_larger n a b ≡ true → a < b
 larger_lt n a b la lb e =
     let parts : (within n a b ≡ true) × (not (within n b a) ≡ true) = and_both _ _ e in
     elim (eqb_tells a b) [
@@ -68,14 +68,6 @@ tells n t closed a la = (
       closed a (slice_index (maximal_structure n t).groups i) la (omega (arith, found.below)) e (and_both _ _ found.passes).0,
 )
 
-all_is : (n g : ℕ) → g < 2 ^ n → is_all n g ≡ true → g ≡ 2 ^ n - 1
-all_is n g lg e =
-    let positive : 0 < 2 ^ n = pow_pos n in
-    same_from_bits_below n g (2 ^ n - 1) lg (omega arith) (λ p lp. one_is (bit_at g p) (every_at n (has_party g) e p lp) ∙ sym (bit_at_ones n p lp))
-  where
-    one_is : (a : ℕ) → nat_eq a 1 ≡ true → a ≡ 1
-    one_is a h = grind (arith, eqb_tells a 1)
-
 -- of two listed groups none lies within the other
 apart : (n : ℕ) (t : ℕ → Bool) (a b : ℕ) → Listed (is_maximal n t) 0 (2 ^ n) a → Listed (is_maximal n t) 0 (2 ^ n) b → a ≢ b → within n a b ≡ false
 apart n t a b la lb ne = false_from _ (λ e. ne (within_same n a b (omega (arith, la.below)) (omega (arith, lb.below)) e (back (within n b a) refl e)))
@@ -90,8 +82,8 @@ apart n t a b la lb ne = false_from _ (λ e. ne (within_same n a b (omega (arith
         let some : t b ≡ true = (and_both (t b) (none_larger n t b) lb.passes).0 in
         absurd cc
 
-pub antichain : (n : ℕ) (t : ℕ → Bool) → 1 ≤ n → n ≤ 12 → t 0 ≡ true → t (2 ^ n - 1) ≡ false → length (maximal_structure n t).groups ≤ 64 → IsAntichain (maximal_structure n t)
-antichain n t some few nobody everybody fits = record {
+pub antichain : (n : ℕ) (t : ℕ → Bool) → 1 ≤ n → n ≤ 12 → t 0 ≡ true → length (maximal_structure n t).groups ≤ 64 → IsAntichain (maximal_structure n t)
+antichain n t some few nobody fits = record {
   some_party = some;
   few_parties = few;
   some_group = (let first = some_maximal n t 0 (pow_pos n) nobody in omega (arith, first.1));
@@ -99,12 +91,6 @@ antichain n t some few nobody everybody fits = record {
   masks = λ i l. omega (arith, (listed (is_maximal n t) 0 (2 ^ n) i l).below);
   rising = rising (is_maximal n t) 0 (2 ^ n);
   apart = λ i j li lj ne. apart n t _ _ (listed (is_maximal n t) 0 (2 ^ n) i li) (listed (is_maximal n t) 0 (2 ^ n) j lj) (differ i j li lj ne);
-  none_all = λ i l. false_from _ (λ e.
-      let found : Listed (is_maximal n t) 0 (2 ^ n) (slice_index (maximal_structure n t).groups i) = listed (is_maximal n t) 0 (2 ^ n) i l in
-      let tolerated : t (slice_index (maximal_structure n t).groups i) ≡ true = (and_both _ (none_larger n t (slice_index (maximal_structure n t).groups i)) found.passes).0 in
-      let is : slice_index (maximal_structure n t).groups i ≡ 2 ^ n - 1 = all_is n _ (omega (arith, found.below)) e in
-      let bad : true ≡ false = sym tolerated ∙ ap t is ∙ everybody in
-      cc);
 }
   where
     differ : (i j : ℕ) → i < length (maximal_structure n t).groups → j < length (maximal_structure n t).groups → i ≢ j
@@ -143,6 +129,6 @@ pub all_found : (n : ℕ) (t : ℕ → Bool) (k parties : ℕ) (groups : List Me
     → record { parties = parties; groups = masks groups } ≡ maximal_structure n t
 all_found n t k parties groups found all same = ap₂ (λ m gs. record { parties = m; groups = gs }) same (found ∙ ap (λ m. filter (is_maximal n t) (range_with_len 0 m)) all)
 
-pub antichain_found : (n : ℕ) (t : ℕ → Bool) (s : Structure) (groups : List Members) → s ≡ maximal_structure n t → s.groups ≡ masks groups → 1 ≤ n → n ≤ 12 → t 0 ≡ true → t (2 ^ n - 1) ≡ false → length groups ≤ 64 → IsAntichain s
-antichain_found n t s groups is listed_so some few nobody everybody fits =
-    subst IsAntichain (sym is) (antichain n t some few nobody everybody (omega (arith, ap (λ (a : Structure). length a.groups) is, ap length listed_so, length_masks groups)))
+pub antichain_found : (n : ℕ) (t : ℕ → Bool) (s : Structure) (groups : List Members) → s ≡ maximal_structure n t → s.groups ≡ masks groups → 1 ≤ n → n ≤ 12 → t 0 ≡ true → length groups ≤ 64 → IsAntichain s
+antichain_found n t s groups is listed_so some few nobody fits =
+    subst IsAntichain (sym is) (antichain n t some few nobody (omega (arith, ap (λ (a : Structure). length a.groups) is, ap length listed_so, length_masks groups)))

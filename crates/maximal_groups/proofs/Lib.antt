@@ -1,3 +1,4 @@
 pub mod Largest
 pub mod Listing
 pub mod Found
+pub mod Lists

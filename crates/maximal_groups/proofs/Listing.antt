@@ -9,7 +9,7 @@ range_more : (a n : ℕ) → range_with_len a (suc n) ≡ range_with_len a n ++ 
 range_more a zero = let z : a ≡ a + 0 = omega arith in ap (λ m. m ∷ []) z
 range_more a (suc n) = ap (λ xs. a ∷ xs) (range_more (a + 1) n ∙ ap (λ m. range_with_len (a + 1) n ++ (m ∷ [])) (let e : (a + 1) + n ≡ a + suc n = omega arith in e))
 
-filter_suc : (p : ℕ → Bool) (n : ℕ) → filter p (range_with_len 0 (suc n)) ≡ filter p (range_with_len 0 n) ++ filter p (n ∷ [])
+pub filter_suc : (p : ℕ → Bool) (n : ℕ) → filter p (range_with_len 0 (suc n)) ≡ filter p (range_with_len 0 n) ++ filter p (n ∷ [])
 filter_suc p n =
     let z : 0 + n ≡ n = omega arith in
     ap (filter p) (range_more 0 n ∙ ap (λ m. range_with_len 0 n ++ (m ∷ [])) z) ∙ filter-append p (range_with_len 0 n) (n ∷ [])

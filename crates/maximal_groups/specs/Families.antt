@@ -1,17 +1,24 @@
 -- Families of tolerated groups, and their maximal groups.
-use Rattle.std.specs.Prelude.{◌≡◌, ℕ, ◌-◌, ◌^◌, ◌<◌, Bool, true, false, not, ◌&&◌, ◌||◌, ◌↔◌, filter, length, slice_index}
-use Rattle.std.specs.List.{range_with_len}
+use Rattle.std.specs.Prelude.{◌≡◌, ℕ, ◌^◌, ◌<◌, nat_eq, Bool, true, not, ◌&&◌, ◌||◌, ◌↔◌, List, All, filter, length, slice_index}
+use Rattle.std.specs.List.{list_any, range_with_len}
 use Rattle.party_set.specs.Parties.{Structure, every_below, within}
 
 -- of n parties: a part of a tolerated group is tolerated
 abbrev pub IsClosed : ℕ → (ℕ → Bool) → Type 0
 IsClosed n tolerated = (a b : ℕ) → a < 2 ^ n → b < 2 ^ n → within n a b ≡ true → tolerated b ≡ true → tolerated a ≡ true
 
--- what a family of n parties keeps: it is closed, the empty group is tolerated, and the group of all isn't
+-- what a family of n parties keeps: it is closed, and the empty group is tolerated
 pub record IsFamily (n : ℕ) (tolerated : ℕ → Bool) : Type 0 where
   pub parts : IsClosed n tolerated
   pub nobody : tolerated 0 ≡ true
-  pub everybody : tolerated (2 ^ n - 1) ≡ false
+
+-- a is empty, or lies within one of these groups
+abbrev pub is_tolerated_by : ℕ → List ℕ → ℕ → Bool
+is_tolerated_by n groups a = nat_eq a 0 || list_any (within n a) groups
+
+-- each of these groups is tolerated by the list
+abbrev pub IsCoveredBy : ℕ → List ℕ → List ℕ → Type 0
+IsCoveredBy n groups listed = All (λ a. is_tolerated_by n listed a ≡ true) groups
 
 -- b has each party of a, and one more
 abbrev pub is_larger : ℕ → ℕ → ℕ → Bool

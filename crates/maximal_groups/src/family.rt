@@ -5,7 +5,8 @@ ghost use Rattle.maximal_groups.specs.Families.{IsFamily};
 use party_set::Group;
 
 /// Tells for each group of 1 to 12 parties whether it is tolerated: whether its members may put together what they
-/// know, and still learn nothing (Hirt and Maurer: an adversary structure).
+/// know, and still learn nothing (Hirt and Maurer: an adversary structure). The group of all parties may be tolerated;
+/// then every group is.
 pub trait Family {
     /// How many parties there are.
     ghost count: { Self → ℕ };

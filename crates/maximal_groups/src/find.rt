@@ -1,5 +1,5 @@
 //! The search for the maximal tolerated groups.
-ghost use Rattle.std.specs.Prelude.{◌≡◌, ◌<◌, ◌≤◌, ◌^◌, ℕ, Bool};
+ghost use Rattle.std.specs.Prelude.{◌≡◌, ◌-◌, ◌<◌, ◌≤◌, ◌^◌, ℕ, Bool, true, [], ◌∷◌};
 ghost use Rattle.maximal_groups.specs.Families.{is_maximal, maximal_structure, IsClosed, Tells};
 ghost use Rattle.maximal_groups.specs.Finding.{Finds};
 
@@ -71,4 +71,10 @@ pub fn find_groups<F: Family>(alloc: Global, family: &F) -> Result<Groups, Group
 /// A group is tolerated exactly where it lies within a maximal tolerated group.
 pub fn maximal_groups_tell()
     ensures { (n : ℕ) (tolerated : ℕ → Bool) → n ≤ 12 → IsClosed n tolerated → Tells n tolerated }
+{}
+
+/// Where the group of all parties is tolerated, it is the only maximal group.
+pub fn all_parties_alone()
+    ensures { (n : ℕ) (tolerated : ℕ → Bool) → tolerated (2 ^ n - 1) ≡ true
+        → maximal_structure n tolerated ≡ record { parties = n; groups = (2 ^ n - 1) ∷ [] } }
 {}

@@ -3,9 +3,11 @@
 
 mod family;
 mod find;
+mod listed;
 
 pub use family::Family;
-pub use find::{GroupsFault, find_groups, maximal_groups_tell};
+pub use find::{GroupsFault, all_parties_alone, find_groups, maximal_groups_tell};
+pub use listed::{Listed, lists_may_differ, maximal_groups_as_a_list};
 
 #[cfg(test)]
 mod tests;

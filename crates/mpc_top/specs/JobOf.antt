@@ -1,11 +1,11 @@
 -- The job that files stand for, where they tell what they hold: one walk, in which each file is judged before the next is read.
-use Rattle.std.specs.Prelude.{◌≡◌, ℕ, nat_le, if◌then◌else◌, false, List, [], ◌∷◌, ◌++◌, length, map, Option, None, Some, slice_index}
+use Rattle.std.specs.Prelude.{◌≡◌, ℕ, nat_le, Bool, if◌then◌else◌, false, List, [], ◌∷◌, ◌++◌, length, map, Option, None, Some, slice_index}
 use Rattle.party_set.specs.Parties.{Structure, Members, IsQ2}
 use Rattle.group_formula.specs.Trees.{Meaning}
 use Rattle.group_formula.specs.Formulas.{IsFormula, IsFault}
 use Rattle.group_formula.specs.declared.fault.FormulaFault.{FormulaFault}
 use Rattle.group_formula.specs.Trees.{is_tolerated}
-use Rattle.maximal_groups.specs.Families.{maximal_structure}
+use Rattle.maximal_groups.specs.Families.{maximal_structure, is_tolerated_by}
 use Rattle.q2_test.specs.Covering.{IsFirstCovering}
 use Rattle.circuit_model.specs.Netlists.{Netlist}
 use Rattle.circuit_file.specs.declared.layout.FileLayout.{FileLayout}
@@ -17,7 +17,7 @@ use Rattle.job_plan.specs.Parts.{part_fault, session_of}
 use Rattle.plan_faults.specs.declared.part_fault.PartFault.{PartFault}
 use Rattle.plan_faults.specs.declared.plan_fault.PlanFault.{PlanFault}
 use Rattle.plan_faults.specs.declared.plan_fault.PlanFault.TheVariants as plan_fault
-use Rattle.job_file.specs.Forms.{JobForm, SessionForm}
+use Rattle.job_file.specs.Forms.{JobForm, SessionForm, AdversaryForm, by_formula, by_list}
 use Rattle.job_file.specs.Faults.{job_in}
 use Rattle.job_file.specs.declared.job.CircuitLayout.{CircuitLayout}
 use Rattle.job_file.specs.declared.job.CircuitLayout.TheVariants as layout
@@ -57,12 +57,12 @@ JobText files dir =
 -- ---- the structure
 
 -- the formula of the qualified groups
-unfoldable pub FormulaOf : JobForm → Verdict Meaning → Type 0
-FormulaOf job (accepted formula) = IsFormula job.formula job.names formula
-FormulaOf job (missing name) = ⊥
-FormulaOf job (refused status line) =
+unfoldable pub FormulaOf : List (List ℕ) → List ℕ → Verdict Meaning → Type 0
+FormulaOf names text (accepted formula) = IsFormula text names formula
+FormulaOf names text (missing name) = ⊥
+FormulaOf names text (refused status line) =
     (fault : FormulaFault)
-    × IsFault job.formula job.names fault
+    × IsFault text names fault
     × (status ≡ 3)
     × (line ≡ formula_line fault)
 
@@ -70,9 +70,16 @@ FormulaOf job (refused status line) =
 unfoldable pub few_groups : Structure → Verdict Structure
 few_groups s = if nat_le (length s.groups) 64 then accepted s else refused 3 (groups_line 65)
 
--- the maximal tolerated groups
-unfoldable pub groups_of : Meaning → Verdict Structure
-groups_of formula = few_groups (maximal_structure formula.parties (is_tolerated formula))
+-- the maximal groups of n parties
+unfoldable pub groups_of : ℕ → (ℕ → Bool) → Verdict Structure
+groups_of n tolerated = few_groups (maximal_structure n tolerated)
+
+-- the maximal tolerated groups, which a formula or a list tells
+unfoldable pub GroupsOf : List (List ℕ) → AdversaryForm → Verdict Structure → Type 0
+GroupsOf names (by_formula text) =
+    Then (FormulaOf names text) (λ formula. Ends (groups_of formula.parties (is_tolerated formula)))
+GroupsOf names (by_list masks) =
+    Ends (groups_of (length names) (is_tolerated_by (length names) masks))
 
 -- no two groups that together are all parties
 unfoldable pub Q2Of : JobForm → Structure → Verdict Structure → Type 0
@@ -85,7 +92,7 @@ Q2Of job s (refused status line) =
     × (line ≡ covering_line job.names (slice_index s.groups i) (slice_index s.groups j))
 
 unfoldable pub StructureOf : JobForm → Verdict Structure → Type 0
-StructureOf job = Then (FormulaOf job) (λ formula. Then (Ends (groups_of formula)) (Q2Of job))
+StructureOf job = Then (GroupsOf job.names job.adversary) (Q2Of job)
 
 -- ---- the sessions
 

@@ -1,53 +1,82 @@
-//! The structure of a job: its formula, the maximal tolerated groups, and the test that no two of them are all parties.
+//! The structure of a job: its formula or list, the maximal tolerated groups, and the test that no two of them are all parties.
 ghost use Rattle.std.specs.Prelude.{◌≡◌, IfOk, length};
 ghost use Rattle.party_set.specs.Parties.{IsQ2};
-ghost use Rattle.group_formula.specs.Trees.{Meaning};
-ghost use Rattle.group_formula.specs.Trees.{is_tolerated};
-ghost use Rattle.maximal_groups.specs.Families.{maximal_structure};
-ghost use Rattle.job_file.specs.Jobs.{job_view};
+ghost use Rattle.job_file.specs.Forms.{by_formula};
+ghost use Rattle.job_file.specs.Jobs.{adversary_view, job_view, HasParties};
+ghost use Rattle.job_file.specs.declared.job.Adversary.TheVariants.{Tolerated};
 ghost use Rattle.mpc_top.specs.Verdict.{Ends};
-ghost use Rattle.mpc_top.specs.JobOf.{FormulaOf, groups_of, Q2Of, StructureOf};
+ghost use Rattle.mpc_top.specs.JobOf.{FormulaOf, groups_of, GroupsOf, Q2Of, StructureOf};
 ghost use Rattle.mpc_top.specs.Reading.{WalksAs};
 
 use crate::Stop;
 use crate::stop::refusal;
 use group_formula::{Formula, FormulaFault, read_formula};
-use job_file::Job;
-use maximal_groups::{GroupsFault, find_groups};
-use party_set::Groups;
+use job_file::{Adversary, Job};
+use maximal_groups::{Family, GroupsFault, Listed, find_groups};
+use party_set::{Group, Groups, Names};
 use q2_test::covering_pair;
 use refusal_text::{covering_line, formula_line, groups_line};
 use std::alloc::Global;
 
 /// The maximal tolerated groups of a job, of which no two together are all parties.
 pub(crate) fn structure_of(alloc: Global, job: &Job) -> Result<Groups, Stop>
+    requires { HasParties (length job.now.names) job.now.adversary }
     ensures walks { WalksAs (λ groups. groups) (StructureOf (job_view job.now)) result }
     ensures parties { IfOk result (λ groups. groups.parties ≡ length job.now.names) }
     ensures q2 { IfOk result IsQ2 }
 {
-    let formula = formula_of(alloc, job)?;
-    let groups = groups_of(alloc, &formula)?;
+    let groups = maximal_groups(alloc, &job.adversary, &job.names)?;
     with_q2(alloc, job, groups)
 }
 
-#[tactic(auto, unfolding(crate::specs::JobOf::FormulaOf))]
-fn formula_of(alloc: Global, job: &Job) -> Result<Formula, Stop>
-    ensures walks { WalksAs (λ formula. formula) (FormulaOf (job_view job.now)) result }
-    ensures parties { IfOk result (λ formula. formula.parties ≡ length job.now.names) }
+#[tactic(auto, unfolding(crate::specs::JobOf::GroupsOf))]
+fn maximal_groups(alloc: Global, adversary: &Adversary, names: &Names) -> Result<Groups, Stop>
+    requires { HasParties (length names.now) adversary.now }
+    ensures walks { WalksAs (λ groups. groups) (GroupsOf names.now (adversary_view adversary.now)) result }
+    ensures parties { IfOk result (λ groups. groups.parties ≡ length names.now) }
 {
-    match read_formula(alloc, job.formula.as_str(), &job.names) {
+    match adversary {
+        Adversary::Formula(text) => groups_of_formula(alloc, text.as_str(), names),
+        Adversary::Tolerated(groups) => groups_of_list(alloc, groups, names),
+    }
+}
+
+fn groups_of_formula(alloc: Global, text: &str, names: &Names) -> Result<Groups, Stop>
+    ensures walks { WalksAs (λ groups. groups) (GroupsOf names.now (by_formula text.now)) result }
+    ensures parties { IfOk result (λ groups. groups.parties ≡ length names.now) }
+{
+    let formula = formula_of(alloc, text, names)?;
+    groups_of(alloc, &formula)
+}
+
+#[tactic(auto, unfolding(crate::specs::JobOf::FormulaOf))]
+fn formula_of(alloc: Global, text: &str, names: &Names) -> Result<Formula, Stop>
+    ensures walks { WalksAs (λ formula. formula) (FormulaOf names.now text.now) result }
+    ensures parties { IfOk result (λ formula. formula.parties ≡ length names.now) }
+{
+    match read_formula(alloc, text, names) {
         Ok(formula) => Ok(formula),
         Err(FormulaFault::Memory) => Err(Stop::Memory),
         Err(fault) => Err(refusal(formula_line(alloc, fault))),
     }
 }
 
-#[tactic(auto, unfolding(crate::specs::JobOf::groups_of, crate::specs::JobOf::few_groups))]
-fn groups_of(alloc: Global, formula: &Formula) -> Result<Groups, Stop>
-    ensures walks { WalksAs (λ groups. groups) (Ends (groups_of formula.now)) result }
-    ensures parties { IfOk result (λ groups. groups.parties ≡ formula.now.parties) }
+#[tactic(auto, unfolding(crate::specs::JobOf::GroupsOf))]
+fn groups_of_list(alloc: Global, groups: &Vec<Group>, names: &Names) -> Result<Groups, Stop>
+    requires { HasParties (length names.now) (Tolerated groups.now) }
+    ensures walks { WalksAs (λ groups. groups) (GroupsOf names.now (adversary_view (Tolerated groups.now))) result }
+    ensures parties { IfOk result (λ groups. groups.parties ≡ length names.now) }
 {
-    match find_groups(alloc, formula) {
+    let listed = Listed::make(names.len(), groups.clone()?);
+    groups_of(alloc, &listed)
+}
+
+#[tactic(auto, unfolding(crate::specs::JobOf::groups_of, crate::specs::JobOf::few_groups))]
+fn groups_of<F: Family>(alloc: Global, family: &F) -> Result<Groups, Stop>
+    ensures walks { WalksAs (λ groups. groups) (Ends (groups_of (F.count family.now) (F.is_tolerated family.now))) result }
+    ensures parties { IfOk result (λ groups. groups.parties ≡ F.count family.now) }
+{
+    match find_groups(alloc, family) {
         Ok(groups) => Ok(groups),
         Err(GroupsFault::TooManyGroups { found }) => Err(refusal(groups_line(alloc, found))),
         Err(GroupsFault::Memory) => Err(Stop::Memory),

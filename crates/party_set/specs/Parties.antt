@@ -39,7 +39,7 @@ pub record IsLeastOutside (n a p : ℕ) : Type 0 where
   pub outside : has_party a p ≡ false
   pub least : (q : ℕ) → q < p → has_party a q ≡ true
 
--- 1 to 12 parties, and 1 to 64 groups of them, by rising mask: none lies within another, and none is all parties
+-- 1 to 12 parties, and 1 to 64 groups of them, by rising mask: none lies within another
 pub record IsAntichain (s : Structure) : Type 0 where
   pub some_party : 1 ≤ s.parties
   pub few_parties : s.parties ≤ 12
@@ -48,7 +48,6 @@ pub record IsAntichain (s : Structure) : Type 0 where
   pub masks : (i : ℕ) → i < length s.groups → slice_index s.groups i < 2 ^ s.parties
   pub rising : (i j : ℕ) → i < j → j < length s.groups → slice_index s.groups i < slice_index s.groups j
   pub apart : (i j : ℕ) → i < length s.groups → j < length s.groups → i ≢ j → within s.parties (slice_index s.groups i) (slice_index s.groups j) ≡ false
-  pub none_all : (i : ℕ) → i < length s.groups → is_all s.parties (slice_index s.groups i) ≡ false
 
 -- a and b together are all of n parties
 abbrev pub covers : ℕ → ℕ → ℕ → Bool

@@ -6,7 +6,7 @@ use crate::group::Group;
 use std::marker::Model;
 
 /// The maximal groups of an adversary structure (Hirt and Maurer): 1 to 64 groups of 1 to 12 parties, by rising mask,
-/// none within another and none of all parties.
+/// none within another. The group of all parties may be one; then it is the only one.
 #[derive(Drop)]
 pub struct Groups {
     parties: u32,

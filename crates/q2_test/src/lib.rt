@@ -1,9 +1,9 @@
 //! The test whether two groups of an adversary structure together are all parties.
 #![tactic(auto)]
 
-ghost use Rattle.std.specs.Prelude.{MatchOption};
-ghost use Rattle.party_set.specs.Parties.{IsQ2};
-ghost use Rattle.q2_test.specs.Covering.{IsFirstCovering};
+ghost use Rattle.std.specs.Prelude.{◌≡◌, ℕ, MatchOption};
+ghost use Rattle.party_set.specs.Parties.{IsQ2, Structure};
+ghost use Rattle.q2_test.specs.Covering.{IsFirstCovering, StartsWithAll};
 
 use party_set::Groups;
 
@@ -21,3 +21,9 @@ pub fn covering_pair(groups: &Groups) -> Option<(u32, u32)>
     }
     None
 }
+
+/// Where the first group is of all parties, it covers them with itself: it is the pair, and the structure fails Q2.
+pub fn all_parties_cover_alone()
+    ensures pair { (s : Structure) (i j : ℕ) → StartsWithAll s → IsFirstCovering s i j → (i ≡ 0) × (j ≡ 0) }
+    ensures fails { (s : Structure) → StartsWithAll s → ¬ IsQ2 s }
+{}

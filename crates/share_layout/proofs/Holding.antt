@@ -1,13 +1,13 @@
 -- The least party that passes, and who holds what.
-use Rattle.std.proofs.Common.{◌≡◌, ℕ, ◌+◌, ◌<◌, inl, inr, Bool, true, false, not, List, [], ◌∷◌, ◌++◌, length, get_or, sym, ◌∙◌, ap, arith, zero-add, subst, Option, Some}
-use Rattle.std.specs.Prelude.{slice_index, MatchOption}
+use Rattle.std.proofs.Common.{◌≡◌, ℕ, ◌+◌, ◌<◌, inl, inr, Bool, true, false, not, List, [], ◌∷◌, ◌++◌, ◌||◌, length, get_or, refl, sym, ◌∙◌, ap, arith, zero-add, subst, Option, Some, None}
+use Rattle.std.specs.Prelude.{slice_index, IsSome, MatchOption}
 use Rattle.std.specs.List.{position_or_len, range_with_len}
 use Rattle.std.proofs.lemmas.List.FromFn.{length-range_with_len, get_or-range_with_len}
 use Rattle.std.proofs.lemmas.List.Sums.{position_or_len_is, passes_at_first, fails_before_first}
 use Rattle.std.proofs.lemmas.Bool.{cases_lt}
 use Rattle.std.proofs.lemmas.List.{get_or_append_left, get_or_push, get_or_default}
-use Rattle.party_set.specs.Parties.{Structure, IsAntichain, IsLeastOutside, Members, has_party, is_all}
-use Rattle.party_set.proofs.Every.{every_not, not_true}
+use Rattle.party_set.specs.Parties.{Structure, IsQ2, IsLeastOutside, Members, has_party, is_all}
+use Rattle.party_set.proofs.Every.{every_not, every_at, not_true, true_not, or_not}
 use Rattle.share_layout.specs.Layouts.{holds, least_party, least_holder, IsLeastParty, EachIsHeld, IsLayout}
 
 at : (n p : ℕ) → p < n → slice_index (range_with_len 0 n) p ≡ p
@@ -35,10 +35,22 @@ least_party_of s test p lp e =
       | inr past ↦ (let fails : test p ≡ false = ap test (sym (at s.parties p lp)) ∙ fails_before_first test range p 0 (omega arith) in cc)
     ]
 
-pub held : (s : Structure) → IsAntichain s → EachIsHeld s
-held s is i l =
-    let found : (p : ℕ) × (p < s.parties) × (has_party (slice_index s.groups i) p ≡ false) = every_not s.parties (has_party (slice_index s.groups i)) (is.none_all i l) in
-    least_party_of s (λ p. holds s p i) found.0 found.1 (not_true _ found.2)
+pub held : (s : Structure) → IsQ2 s → EachIsHeld s
+held s q2 i l =
+    let found : (p : ℕ) × (p < s.parties) × ((has_party (slice_index s.groups i) p || has_party (slice_index s.groups i) p) ≡ false) =
+    every_not s.parties (λ p. has_party (slice_index s.groups i) p || has_party (slice_index s.groups i) p) (q2.no_cover i i l l) in
+    least_party_of s (λ p. holds s p i) found.0 found.1 (not_true _ (or_not _ _ found.2).0)
+
+-- a group that is left out by someone: its least party outside is there
+pub some_outside : (s : Structure) (i : ℕ) (g : Members) (r : Option ℕ) → IsQ2 s → i < length s.groups → g ≡ record { parties = s.parties; mask = slice_index s.groups i }
+    → MatchOption r (is_all g.parties g.mask ≡ true) (IsLeastOutside g.parties g.mask) → IsSome r
+some_outside s i g (Some p) q2 l group found = refl
+some_outside s i g None q2 l group found =
+    let every : is_all s.parties (slice_index s.groups i) ≡ true = subst (λ (m : Members). is_all m.parties m.mask ≡ true) group found in
+    let someone : IsLeastParty s (λ p. holds s p i) (least_holder s i) = held s q2 i l in
+    let inside : has_party (slice_index s.groups i) (least_holder s i) ≡ true = every_at s.parties (has_party (slice_index s.groups i)) every (least_holder s i) someone.party in
+    let outside : has_party (slice_index s.groups i) (least_holder s i) ≡ false = true_not _ someone.passes in
+    absurd cc
 
 pub least_outside_is : (s : Structure) (i p : ℕ) → IsLeastOutside s.parties (slice_index s.groups i) p → least_holder s i ≡ p
 least_outside_is s i p is = least_party_is s (λ q. holds s q i) p (record { party = is.party; passes = not_true _ is.outside; least = λ q l. ap not (is.least q l) })
@@ -63,4 +75,4 @@ pub entry_is : (s : Structure) (least : List ℕ) (i p : ℕ) → IsLayout s lea
 entry_is s least i p is l e = e ∙ get_or_default least i p 0 (omega (arith, is.count)) ∙ is.holders i l
 
 pub entry_holds : (s : Structure) (least : List ℕ) (i p : ℕ) → IsLayout s least → i < length s.groups → p ≡ get_or least i p → IsLeastParty s (λ q. holds s q i) p
-entry_holds s least i p is l e = subst (IsLeastParty s (λ q. holds s q i)) (sym (entry_is s least i p is l e)) (held s is.antichain i l)
+entry_holds s least i p is l e = subst (IsLeastParty s (λ q. holds s q i)) (sym (entry_is s least i p is l e)) (held s is.q2 i l)

@@ -2,7 +2,7 @@
 -- outside its group (Ito, Saito, Nishizeki 1987).
 use Rattle.std.specs.Prelude.{◌≡◌, ℕ, ◌<◌, Bool, true, false, not, List, length, slice_index}
 use Rattle.std.specs.List.{position_or_len, range_with_len}
-use Rattle.party_set.specs.Parties.{has_party, Structure, IsAntichain}
+use Rattle.party_set.specs.Parties.{has_party, Structure, IsAntichain, IsQ2}
 
 -- party p holds summand i: it is outside group i
 abbrev pub holds : Structure → ℕ → ℕ → Bool
@@ -22,12 +22,13 @@ pub record IsLeastParty (s : Structure) (test : ℕ → Bool) (p : ℕ) : Type 0
   pub passes : test p ≡ true
   pub least : (q : ℕ) → q < p → test q ≡ false
 
--- the law: each summand has a holder, since no group is all parties
+-- the law: each summand has a holder, since no two groups are all parties together, a group with itself neither
 abbrev pub EachIsHeld : Structure → Type 0
 EachIsHeld s = (i : ℕ) → i < length s.groups → IsLeastParty s (λ p. holds s p i) (least_holder s i)
 
 -- what a layout keeps: beside the groups, the least holder of each summand
 pub record IsLayout (s : Structure) (least : List ℕ) : Type 0 where
   pub antichain : IsAntichain s
+  pub q2 : IsQ2 s
   pub count : length least ≡ length s.groups
   pub holders : (i : ℕ) → i < length s.groups → slice_index least i ≡ least_holder s i

@@ -1,6 +1,6 @@
 //! The layout of the summands.
 ghost use Rattle.std.specs.Prelude.{◌≡◌, ℕ, ◌<◌, ◌≤◌, IfOk, length, true};
-ghost use Rattle.party_set.specs.Parties.{IsAntichain, Structure};
+ghost use Rattle.party_set.specs.Parties.{IsAntichain, IsQ2, Structure};
 ghost use Rattle.share_layout.specs.Layouts.{holds, least_holder, EachIsHeld};
 
 use party_set::Groups;
@@ -28,8 +28,9 @@ impl Model for Layout {
 }
 
 impl Layout {
-    /// The layout for these maximal groups.
+    /// The layout for these maximal groups, of which no two together are all parties.
     pub fn make(alloc: Global, groups: &Groups) -> Result<Layout, AllocError>
+        requires { IsQ2 groups.now }
         ensures { IfOk result (λ layout. layout ≡ groups.now) }
     {
         let parties = groups.parties();
@@ -88,5 +89,5 @@ impl Layout {
 
 /// Each summand has a holder.
 pub fn each_summand_is_held()
-    ensures { (s : Structure) → IsAntichain s → EachIsHeld s }
+    ensures { (s : Structure) → IsQ2 s → EachIsHeld s }
 {}

@@ -9,11 +9,11 @@ use Rattle.mpc_top.specs.Verdict.{EndsOnce}
 use Rattle.mpc_top.specs.JobOf.{Contents, JobText, StructureOf, SessionAt, SessionsAfter, PlannedOf, PlanAt, HandAt, HandsAfter, JobAt}
 use Rattle.mpc_top.specs.Due.{TextOf, IsDue}
 use Rattle.walk_laws.proofs.Walks.{ends_once, then_once}
-use Rattle.walk_laws.proofs.Plans.{formula_once, q2_once, plan_once}
+use Rattle.walk_laws.proofs.Plans.{groups_once, q2_once, plan_once}
 
 structure_once : (job : JobForm) → EndsOnce (StructureOf job)
 unfolding StructureOf
-structure_once job = then_once _ _ (formula_once job) (λ formula. then_once _ _ (ends_once _) (q2_once job))
+structure_once job = then_once _ _ (groups_once job.names job.adversary) (q2_once job)
 
 text_once : (files : Contents) (dir : List ℕ) → EndsOnce (JobText files dir)
 unfolding JobText

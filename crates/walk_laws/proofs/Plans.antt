@@ -1,5 +1,5 @@
 -- The formula, the test of the groups, and the plan end once.
-use Rattle.std.proofs.Common.{◌≡◌, ℕ, ◌<◌, ◌≤◌, length, inl, inr, refl, sym, ap, ap₂, ◌∙◌, arith}
+use Rattle.std.proofs.Common.{◌≡◌, ℕ, ◌<◌, ◌≤◌, List, length, inl, inr, refl, sym, ap, ap₂, ◌∙◌, arith}
 use Rattle.std.specs.Prelude.{slice_index}
 use Rattle.std.proofs.lemmas.Bool.{false≢true, cases_order}
 use Rattle.party_set.specs.Parties.{Structure, IsQ2, covers}
@@ -10,21 +10,27 @@ use Rattle.job_plan.specs.Tallies.{tape_length}
 use Rattle.job_plan.specs.Limits.{IsWithin, IsRefusal, IsFirstOverdrawn}
 use Rattle.plan_faults.specs.declared.plan_fault.PlanFault.{PlanFault}
 use Rattle.plan_faults.specs.declared.plan_fault.PlanFault.TheVariants.{TooManyMessages, TooManyWords, Memory}
-use Rattle.job_file.specs.Forms.{JobForm}
+use Rattle.job_file.specs.Forms.{JobForm, AdversaryForm, by_formula, by_list}
 use Rattle.refusal_text.specs.Lines.{formula_line, covering_line, plan_line}
 use Rattle.mpc_top.specs.Verdict.{accepted, missing, refused, EndsOnce}
-use Rattle.mpc_top.specs.JobOf.{FormulaOf, Q2Of, PlanOf}
+use Rattle.mpc_top.specs.JobOf.{FormulaOf, GroupsOf, Q2Of, PlanOf}
+use Rattle.walk_laws.proofs.Walks.{ends_once, then_once}
 
-pub formula_once : (job : JobForm) → EndsOnce (FormulaOf job)
+formula_once : (names : List (List ℕ)) (text : List ℕ) → EndsOnce (FormulaOf names text)
 unfolding FormulaOf
-formula_once job (accepted f) (accepted g) a b = ap accepted ((one_answer job.formula job.names).one_formula f g a b)
-formula_once job (accepted f) (missing name) a b = absurd b
-formula_once job (accepted f) (refused s line) a (fault, is, three, text) = absurd ((one_answer job.formula job.names).not_both f fault a is)
-formula_once job (missing name) w a b = absurd a
-formula_once job (refused s line) (accepted f) (fault, is, three, text) b = absurd ((one_answer job.formula job.names).not_both f fault b is)
-formula_once job (refused s line) (missing name) a b = absurd b
-formula_once job (refused s line) (refused s' line') (fault, is, three, text) (fault', is', three', text') =
-    ap₂ refused (three ∙ sym three') (text ∙ ap formula_line ((one_answer job.formula job.names).one_fault fault fault' is is') ∙ sym text')
+formula_once names text (accepted f) (accepted g) a b = ap accepted ((one_answer text names).one_formula f g a b)
+formula_once names text (accepted f) (missing name) a b = absurd b
+formula_once names text (accepted f) (refused s line) a (fault, is, three, told) = absurd ((one_answer text names).not_both f fault a is)
+formula_once names text (missing name) w a b = absurd a
+formula_once names text (refused s line) (accepted f) (fault, is, three, told) b = absurd ((one_answer text names).not_both f fault b is)
+formula_once names text (refused s line) (missing name) a b = absurd b
+formula_once names text (refused s line) (refused s' line') (fault, is, three, told) (fault', is', three', told') =
+    ap₂ refused (three ∙ sym three') (told ∙ ap formula_line ((one_answer text names).one_fault fault fault' is is') ∙ sym told')
+
+pub groups_once : (names : List (List ℕ)) (adversary : AdversaryForm) → EndsOnce (GroupsOf names adversary)
+unfolding GroupsOf
+groups_once names (by_formula text) = then_once _ _ (formula_once names text) (λ formula. ends_once _)
+groups_once names (by_list masks) = ends_once _
 
 -- ---- covering pairs
 

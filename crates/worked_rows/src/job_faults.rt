@@ -37,18 +37,18 @@ pub const JOB_FAULTS: [Row<'static>; 18] = [
     Row {
         name: "another_version",
         words: &RUN,
-        changes: &[Change::Edit("job.toml", "version = 1", "version = 2")],
+        changes: &[Change::Edit("job.toml", "version = 1", "version = 3")],
         status: 3,
         out: "",
-        err: "refused job 2 Version found=2\n",
+        err: "refused job 2 Version found=3\n",
     },
     Row {
-        name: "check_of_another_version",
+        name: "a_formula_in_version_2",
         words: &CHECK,
         changes: &[Change::Edit("job.toml", "version = 1", "version = 2")],
         status: 3,
         out: "",
-        err: "refused job 2 Version found=2\n",
+        err: "refused job 4 Unknown name=formula\n",
     },
     Row {
         name: "ring_of_33_bits",

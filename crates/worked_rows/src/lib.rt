@@ -23,3 +23,5 @@ mod product;
 mod row;
 #[cfg(test)]
 mod tests;
+#[cfg(test)]
+mod tolerated;

@@ -7,7 +7,8 @@ use crate::long_files::{SEVEN_PARTIES, joined_names, parentheses, products};
 use crate::other_words::OTHER_WORDS;
 use crate::party_faults::PARTY_FAULTS;
 use crate::product::{CIRCUIT, SESSION, TWO_SESSIONS};
-use crate::row::{Change, RUN, Row};
+use crate::row::{CHECK, Change, RUN, Row};
+use crate::tolerated::TOLERATED;
 use mpc_ring::Ring;
 use std::alloc::Global;
 use std::process::Abort;
@@ -20,7 +21,8 @@ fn each_row_has_its_answer(rt: HostRuntime) -> Result<(), Fail> {
     expect_all(&rt, alloc, &OTHER_WORDS)?;
     expect_all(&rt, alloc, &JOB_FAULTS)?;
     expect_all(&rt, alloc, &CIRCUIT_FAULTS)?;
-    expect_all(&rt, alloc, &PARTY_FAULTS)
+    expect_all(&rt, alloc, &PARTY_FAULTS)?;
+    expect_all(&rt, alloc, &TOLERATED)
 }
 
 #[test]
@@ -129,4 +131,44 @@ fn rings_of_1_to_32_bits(rt: HostRuntime) {
     assert!(rt; Ring::new(1).is_some());
     assert!(rt; Ring::new(32).is_some());
     assert!(rt; Ring::new(33).is_none());
+}
+
+/// That a list of so many groups is refused with this line.
+fn expect_long_list(rt: &impl Abort, alloc: Global, lists: &str, line: &str) -> Result<(), Fail> {
+    let list = format!(in alloc; "tolerated = [{lists}]")?;
+    let row = Row {
+        name: "a long list",
+        words: &CHECK,
+        changes: &[
+            Change::Edit("job.toml", "version = 1", "version = 2"),
+            Change::Edit("job.toml", "formula = \"2 of (a, b, c)\"", &list),
+        ],
+        status: 3,
+        out: "",
+        err: line,
+    };
+    expect_within(rt, alloc, &row, 300, 300)
+}
+
+#[test]
+fn a_list_has_at_most_4096_groups(rt: HostRuntime) -> Result<(), Fail> {
+    let alloc = rt.alloc();
+    let mut lists = String::new(alloc);
+    for _ in 0..4095 {
+        lists.push_str("[\"a\"],")?;
+    }
+    lists.push_str("[\"x\"]")?;
+    expect_long_list(
+        &rt,
+        alloc,
+        &lists,
+        "refused job 15 BadTolerated value=4095 at=0\n",
+    )?;
+    lists.push_str(",[]")?;
+    expect_long_list(
+        &rt,
+        alloc,
+        &lists,
+        "refused job 16 TooManyTolerated count=4097\n",
+    )
 }

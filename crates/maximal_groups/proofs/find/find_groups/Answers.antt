@@ -47,4 +47,4 @@ of-requires-clause-antichain g c =
     let is = all_found n t c.loop-mask.mask c.parties-parties.result c.loop-mask.groups.items c.loop-mask.invariant.found
     (omega (arith, power_is n (omega arith), ap (λ m. 1 * 2 ^ m % 2 ^ 32) c.parties-parties.ensures.is)) c.parties-parties.ensures.is in
     antichain_found n t (record { parties = c.parties-parties.result; groups = masks c.loop-mask.groups.items }) c.loop-mask.groups.items is refl (omega arith) (omega arith)
-    c.parties-parties.ensures.family.nobody c.parties-parties.ensures.family.everybody c.loop-mask.invariant.fits
+    c.parties-parties.ensures.family.nobody c.loop-mask.invariant.fits

@@ -2,14 +2,10 @@ use Rattle.mpc_top.specs.JobOf.{StructureOf}
 use Rattle.mpc_top.proofs.Steps.{walks_exit, walks_then}
 use Rattle.mpc_top.proofs.structure.structure_of.Goals as goal
 
-pub returns-in_err-formula-clause-walks : goal.returns-in_err-formula-clause-walks
-unfolding StructureOf
-returns-in_err-formula-clause-walks c = walks_exit _ _ _ _ _ _ c.from_residual.ensures.1 c.in_err-formula.ensures.walks
-
 pub returns-in_err-groups-clause-walks : goal.returns-in_err-groups-clause-walks
 unfolding StructureOf
-returns-in_err-groups-clause-walks c = walks_then _ _ _ _ _ _ c.in_ok-formula.ensures.walks (walks_exit _ _ _ _ _ _ c.from_residual-in_err-groups.ensures.1 c.in_err-groups.ensures.walks)
+returns-in_err-groups-clause-walks c = walks_exit _ _ _ _ _ _ c.from_residual.ensures.1 c.in_err-groups.ensures.walks
 
 pub returns-clause-walks : goal.returns-clause-walks
 unfolding StructureOf
-returns-clause-walks c = walks_then _ _ _ _ _ _ c.in_ok-formula.ensures.walks (walks_then _ _ _ _ _ _ c.in_ok-groups.ensures.walks c.with_q2.ensures.walks)
+returns-clause-walks c = walks_then _ _ _ _ _ _ c.in_ok-groups.ensures.walks c.with_q2.ensures.walks

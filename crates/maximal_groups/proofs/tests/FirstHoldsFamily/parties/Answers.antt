@@ -13,4 +13,4 @@ closed a b _ _ w e =
     cc))
 
 pub returns-clause-family : goal.returns-clause-family
-returns-clause-family c = record { parts = closed; nobody = refl; everybody = refl }
+returns-clause-family c = record { parts = closed; nobody = refl }

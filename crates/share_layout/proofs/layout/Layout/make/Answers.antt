@@ -3,7 +3,7 @@ use Rattle.std.specs.Prelude.{slice_index}
 use Rattle.std.proofs.lemmas.List.{take_more}
 use Rattle.party_set.specs.Parties.{Members}
 use Rattle.share_layout.specs.Layouts.{least_holder}
-use Rattle.share_layout.proofs.Holding.{table_more, outside_is}
+use Rattle.share_layout.proofs.Holding.{table_more, outside_is, some_outside}
 use Rattle.share_layout.proofs.layout.Layout.make.Goals as goal
 
 pub loop-i-preserved : goal.loop-i-preserved
@@ -20,3 +20,7 @@ loop-i-preserved c =
           (table_more (least_holder c.args.groups.now) c.loop-i.least_holders.items c.loop-i.i c.unwrap.result c.loop-i.invariant.count c.loop-i.invariant.holders
           (outside_is c.args.groups.now c.loop-i.i c.unwrap.result c.get-group.result c.least_outside.result c.get-group.ensures c.least_outside.ensures c.unwrap.ensures));
     }
+
+pub unwrap-requires : goal.unwrap-requires
+unwrap-requires c =
+    some_outside c.args.groups.now c.loop-i.i c.get-group.result c.least_outside.result c.requires (omega (arith, c.len-i-end.ensures.is)) c.get-group.ensures c.least_outside.ensures

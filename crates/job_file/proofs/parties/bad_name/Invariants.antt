@@ -1,10 +1,10 @@
 use Rattle.std.proofs.Common.{◌≡◌, map, take, drop, []}
 use Rattle.toml.specs.View.{view}
 use Rattle.toml_fields.specs.Fields.{text_of}
-use Rattle.job_file.specs.Faults.{bad_reader}
+use Rattle.job_file.specs.Faults.{bad_name}
 use Rattle.job_file.proofs.Readers.{reader_of}
-use Rattle.job_file.proofs.session.bad_reader.Given as goal
+use Rattle.job_file.proofs.parties.bad_name.Given as goal
 
 abbrev pub invariant-loop-at : goal.invariant-loop-at
 invariant-loop-at l =
-    bad_reader l.names [] (map text_of (map view l.readers)) ≡ bad_reader l.names (map reader_of (take l.at l.readers)) (map reader_of (drop l.at l.readers))
+    bad_name l.names [] (map text_of (map view l.texts)) ≡ bad_name l.names (map reader_of (take l.at l.texts)) (map reader_of (drop l.at l.texts))
