@@ -1,9 +1,8 @@
 //! The structure of a job: its formula or list, the maximal tolerated groups, and the test that no two of them are all parties.
-ghost use Rattle.std.specs.Prelude.{◌≡◌, IfOk, length};
-ghost use Rattle.party_set.specs.Parties.{IsQ2};
-ghost use Rattle.job_file.specs.Forms.{by_formula};
+ghost use Rattle.std.specs.Prelude.{◌≡◌, All, IfOk, length, map};
+ghost use Rattle.party_set.specs.Parties.{IsQ2, Members};
+ghost use Rattle.job_file.specs.Forms.{by_formula, by_list};
 ghost use Rattle.job_file.specs.Jobs.{adversary_view, job_view, HasParties};
-ghost use Rattle.job_file.specs.declared.job.Adversary.TheVariants.{Tolerated};
 ghost use Rattle.mpc_top.specs.Verdict.{Ends};
 ghost use Rattle.mpc_top.specs.JobOf.{FormulaOf, groups_of, GroupsOf, Q2Of, StructureOf};
 ghost use Rattle.mpc_top.specs.Reading.{WalksAs};
@@ -32,7 +31,8 @@ pub(crate) fn structure_of(alloc: Global, job: &Job) -> Result<Groups, Stop>
 #[tactic(auto, unfolding(crate::specs::JobOf::GroupsOf))]
 fn maximal_groups(alloc: Global, adversary: &Adversary, names: &Names) -> Result<Groups, Stop>
     requires { HasParties (length names.now) adversary.now }
-    ensures walks { WalksAs (λ groups. groups) (GroupsOf names.now (adversary_view adversary.now)) result }
+    ensures walks { WalksAs (λ groups. groups)
+        (GroupsOf names.now (adversary_view adversary.now)) result }
     ensures parties { IfOk result (λ groups. groups.parties ≡ length names.now) }
 {
     match adversary {
@@ -62,18 +62,20 @@ fn formula_of(alloc: Global, text: &str, names: &Names) -> Result<Formula, Stop>
 }
 
 #[tactic(auto, unfolding(crate::specs::JobOf::GroupsOf))]
-fn groups_of_list(alloc: Global, groups: &Vec<Group>, names: &Names) -> Result<Groups, Stop>
-    requires { HasParties (length names.now) (Tolerated groups.now) }
-    ensures walks { WalksAs (λ groups. groups) (GroupsOf names.now (adversary_view (Tolerated groups.now))) result }
+fn groups_of_list(alloc: Global, groups: &[Group], names: &Names) -> Result<Groups, Stop>
+    requires { All (λ (group : Members). group.parties ≡ length names.now) groups.now }
+    ensures walks { WalksAs (λ groups. groups)
+        (GroupsOf names.now (by_list (map (λ (group : Members). group.mask) groups.now))) result }
     ensures parties { IfOk result (λ groups. groups.parties ≡ length names.now) }
 {
-    let listed = Listed::make(names.len(), groups.clone()?);
+    let listed = Listed::make(names.len(), Vec::from_slice(alloc, groups)?);
     groups_of(alloc, &listed)
 }
 
 #[tactic(auto, unfolding(crate::specs::JobOf::groups_of, crate::specs::JobOf::few_groups))]
 fn groups_of<F: Family>(alloc: Global, family: &F) -> Result<Groups, Stop>
-    ensures walks { WalksAs (λ groups. groups) (Ends (groups_of (F.count family.now) (F.is_tolerated family.now))) result }
+    ensures walks { WalksAs (λ groups. groups)
+        (Ends (groups_of (F.count family.now) (F.is_tolerated family.now))) result }
     ensures parties { IfOk result (λ groups. groups.parties ≡ F.count family.now) }
 {
     match find_groups(alloc, family) {
