@@ -1,5 +1,5 @@
 -- From desks at their end and the cells of a closed board to a run that is over.
-use Rattle.std.proofs.Common.{◌≡◌, ℕ, ◌+◌, ◌*◌, ◌<◌, List, [], ◌∷◌, length, get_or, Some, sym, ap, subst, ◌∙◌, arith}
+use Rattle.std.proofs.Common.{◌≡◌, ℕ, ◌+◌, ◌*◌, ◌<◌, List, [], ◌∷◌, length, get_or, Some, ap, ◌∙◌, arith}
 use Rattle.message_board.specs.Pairs.{Knows, total}
 use Rattle.message_board.specs.Plain.{plain_cell}
 use Rattle.message_board.specs.Seats.{Place, HasCells}
@@ -7,7 +7,6 @@ use Rattle.job_plan.specs.Plans.{Plan}
 use Rattle.job_plan.specs.Messages.{messages}
 use Rattle.job_plan.specs.Numbers.{message}
 use Rattle.share_world.specs.Worlds.{World, word}
-use Rattle.party_program.specs.Programs.{program}
 use Rattle.party_desk.specs.declared.desk.Desk.{Desk}
 use Rattle.program_laws.proofs.Once.{once}
 use Rattle.desk_laws.specs.InWorld.{IsDone}

@@ -1,16 +1,15 @@
 -- Steps of a desk on a board, one after another.
-use Rattle.std.proofs.Common.{◌≡◌, ℕ, ◌+◌, ◌/◌, ◌%◌, ◌<◌, List, ◌∷◌, length, Option, Some, None, refl, sym, ap, ◌∙◌, subst, inl, inr, ⊎_elim, arith}
-use Rattle.std.specs.Prelude.{IfSome, slice_get, ◌^◌}
+use Rattle.std.proofs.Common.{◌≡◌, ℕ, ◌+◌, ◌/◌, ◌%◌, ◌<◌, List, ◌∷◌, length, Option, Some, None, refl, sym, ap, ◌∙◌, subst, inl, inr, arith}
+use Rattle.std.specs.Prelude.{slice_get, ◌^◌}
 use Rattle.job_plan.specs.Plans.{Plan}
 use Rattle.job_plan.specs.Numbers.{message}
 use Rattle.share_world.specs.Laws.{IsWhole}
 use Rattle.share_world.specs.Worlds.{World, word}
 use Rattle.message_board.specs.declared.cells.Posted.{Posted}
-use Rattle.message_board.specs.declared.cells.Posted.TheVariants.{Done, Occupied}
 use Rattle.message_board.specs.declared.cells.Cells.{Ghosts as Meaning}
 use Rattle.message_board.specs.declared.steps.View.{View}
 use Rattle.message_board.specs.Pairs.{Knows, Grows}
-use Rattle.message_board.specs.Rule.{posts, takes}
+use Rattle.message_board.specs.Rule.{posts}
 use Rattle.message_board.specs.Seats.{Place, Sitting, IsPosted, IsSeatOf, HasPosted, HasTaken, AllBelow}
 use Rattle.party_program.specs.declared.program.Instruction.{Instruction}
 use Rattle.party_program.specs.declared.program.Instruction.TheVariants.{Deal, Post, Take, Linear, Own, Sum, Deliver, End}

@@ -1,5 +1,5 @@
 -- Rows of desks, of which one is stepped.
-use Rattle.std.proofs.Common.{◌≡◌, ◌≢◌, ℕ, ◌+◌, ◌*◌, ◌<◌, ◌≤◌, zero, suc, List, [], ◌∷◌, Option, Some, length, get_or, set, length-set, get_or-set_same, sym, ap, ◌∙◌, subst, ⊎_elim, arith}
+use Rattle.std.proofs.Common.{◌≡◌, ◌≢◌, ℕ, ◌*◌, ◌<◌, ◌≤◌, zero, suc, List, [], ◌∷◌, Some, length, get_or, set, length-set, get_or-set_same, sym, ap, ◌∙◌, subst, ⊎_elim, arith}
 use Rattle.std.specs.Prelude.{slice_get}
 use Rattle.std.proofs.lemmas.List.{get_or-set_other}
 use Rattle.std.proofs.lemmas.Bool.{cases_eq}
@@ -9,7 +9,7 @@ use Rattle.job_plan.specs.Plans.{Plan}
 use Rattle.job_plan.specs.Sound.{IsSound}
 use Rattle.share_world.specs.Worlds.{World}
 use Rattle.party_desk.specs.declared.desk.Desk.{Desk}
-use Rattle.desk_laws.specs.Pools.{AreDesks, AllHavePosts, AllStuck, AllEnded, Stuck}
+use Rattle.desk_laws.specs.Pools.{AreDesks, AllHavePosts, AllStuck, AllEnded}
 use Rattle.desk_laws.proofs.Ending.{stuck_is_ended}
 use Rattle.desk_workers.specs.declared.promised.Promised.{Promised}
 use Rattle.desk_workers.specs.Promises.{world_in}

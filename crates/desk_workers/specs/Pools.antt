@@ -1,5 +1,5 @@
 -- Desks and seats of a pool.
-use Rattle.std.specs.Prelude.{◌≡◌, ℕ, ◌+◌, ◌*◌, ◌/◌, ◌%◌, ◌<◌, ◌≤◌, List, length, get_or, slice_index_or}
+use Rattle.std.specs.Prelude.{◌≡◌, ℕ, ◌+◌, ◌*◌, ◌/◌, ◌%◌, ◌<◌, List, length, get_or, slice_index_or}
 use Rattle.message_board.specs.Pairs.{Knows, Grows}
 use Rattle.message_board.specs.Seats.{Place, Sitting, IsFreeSeatOf}
 use Rattle.job_plan.specs.Plans.{Plan}

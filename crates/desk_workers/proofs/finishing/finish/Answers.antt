@@ -1,4 +1,4 @@
-use Rattle.std.proofs.Common.{◌≡◌, ◌≤◌, length, ap, sym, subst, ◌∙◌, arith}
+use Rattle.std.proofs.Common.{sym, subst, ◌∙◌, arith}
 use Rattle.desk_laws.specs.Pools.{AllEnded}
 use Rattle.desk_workers.specs.Promises.{world_in}
 use Rattle.desk_workers.proofs.Rows.{few_slots, ended}

@@ -1,4 +1,4 @@
-use Rattle.std.proofs.Common.{◌≡◌, ℕ, ◌+◌, ◌*◌, ◌<◌, ◌≤◌, ◌^◌, length, take, get_or, ap, sym, ◌∙◌, arith}
+use Rattle.std.proofs.Common.{◌≡◌, ℕ, ◌+◌, ◌*◌, ◌<◌, ◌≤◌, ◌^◌, length, take, get_or, ap, ◌∙◌, arith}
 use Rattle.message_board.specs.Pairs.{total}
 use Rattle.party_desk.specs.declared.desk.Desk.{Desk}
 use Rattle.desk_workers.proofs.Counts.{one_more, take_all}

@@ -1,4 +1,4 @@
-use Rattle.std.proofs.Common.{◌≡◌, ◌+◌, ◌<◌, if◌then◌else◌, ap, sym, subst, ◌∙◌, arith}
+use Rattle.std.proofs.Common.{◌≡◌, ◌+◌, if◌then◌else◌, subst, arith}
 use Rattle.message_board.specs.Pairs.{Knows}
 use Rattle.desk_laws.specs.Pools.{Stuck, left}
 use Rattle.desk_workers.specs.Promises.{world_in}
