@@ -1,0 +1,9 @@
+use Rattle.std.proofs.Common.{◌≡◌, ◌*◌, ◌≤◌, ◌^◌}
+use Rattle.message_board.specs.Seats.{IsFreeSeatOf}
+use Rattle.desk_workers.proofs.pool.pass.Given as goal
+
+abbrev pub invariant-loop-others : goal.invariant-loop-others
+invariant-loop-others g l =
+    IsFreeSeatOf l.rack l.seat
+    × (l.seat.view.parts ≡ l.fn.seat.view.parts)
+    × (l.moves ≤ l.others * 2 ^ 32)

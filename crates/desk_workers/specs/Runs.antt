@@ -1,0 +1,56 @@
+-- A run of workers: before it, and after it.
+use Rattle.std.specs.Prelude.{true, ◌≡◌, ℕ, ◌+◌, ◌*◌, ◌<◌, ◌≤◌, [], length, get_or, Some, vec_capacity}
+use Rattle.mpc_ring.specs.Sums.{total}
+use Rattle.job_plan.specs.Plans.{session, readers, reads, output_wire}
+use Rattle.job_plan.specs.Messages.{messages}
+use Rattle.job_plan.specs.Numbers.{message}
+use Rattle.share_world.specs.Laws.{IsWhole}
+use Rattle.share_world.specs.Worlds.{World, word, plain}
+use Rattle.message_board.specs.Plain.{plain_cell}
+use Rattle.message_board.specs.Seats.{AreNew}
+use Rattle.party_desk.specs.declared.desk.Desk.{Desk}
+use Rattle.program_laws.specs.Lawful.{program_of}
+use Rattle.desk_laws.specs.InWorld.{IsDone}
+use Rattle.desk_workers.specs.declared.ready.Ready.{Ready}
+use Rattle.desk_workers.specs.declared.done.Done.{Done}
+use Rattle.desk_workers.specs.Promises.{world_in}
+
+-- how many instructions all programs of the world have
+abbrev pub instructions_of : World → ℕ
+instructions_of w = total (w.plan.parties * length w.plan.sessions) (λ k. length (program_of w k))
+
+-- all that a run in the world needs: desks at home in slots, a seat for each worker, and room for what comes after
+pub record IsReady (w : World) (r : Ready) : Type 0 where
+  pub world : world_in r.rack.about.world ≡ w
+  pub whole : IsWhole w
+  pub parties : r.parties ≡ w.plan.parties
+  pub slots : r.rack.id.slots ≡ w.plan.parties * length w.plan.sessions
+  pub some : 0 < length r.seats.items
+  pub all : length r.seats.items ≡ r.rack.about.seats
+  pub new : AreNew r.rack r.seats.items
+  pub instructions : r.instructions ≡ instructions_of w
+  pub no_desk : r.desks.items ≡ []
+  pub room : r.rack.id.slots ≤ vec_capacity r.desks
+  pub no_seat : r.last.items ≡ []
+  pub last : 0 < vec_capacity r.last
+
+-- the run is over: each cell has the word of its message, each desk has all outputs that its party reads and has drawn all
+-- words of its piece, and the desks moved as often as all programs have instructions
+pub record IsOver (w : World) (o : Done) : Type 0 where
+  pub parties : o.parties ≡ w.plan.parties
+  pub count : length o.desks.items ≡ w.plan.parties * length w.plan.sessions
+  pub desks : (s p : ℕ) (d : Desk) → s < length w.plan.sessions → p < w.plan.parties → IsDone w s p (get_or o.desks.items (s * w.plan.parties + p) d)
+  pub all_cells : length o.cells ≡ length (messages w.plan)
+  pub cells : (n : ℕ) → n < length (messages w.plan) → plain_cell o.cells n ≡ Some (word w (message w.plan n))
+  pub steps : o.steps ≡ instructions_of w
+
+-- party p reads output wire o of session s
+pub record Opens (w : World) (s o p : ℕ) : Type 0 where
+  pub in_session : s < length w.plan.sessions
+  pub in_party : p < w.plan.parties
+  pub is_output : o < length (readers (session w.plan s))
+  pub is_read : reads w.plan p s o ≡ true
+
+-- the plain value of an output wire
+abbrev pub plain_output : World → ℕ → ℕ → ℕ
+plain_output w s o = plain w s (output_wire (session w.plan s) o)

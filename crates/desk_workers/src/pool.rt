@@ -1,0 +1,166 @@
+//! Workers, each of which steps any desk that it finds at home.
+ghost use Rattle.std.specs.Prelude.{◌≡◌, ◌+◌, ◌<◌, ◌≤◌, ◌^◌, length, vec_len};
+ghost use Rattle.message_board.specs.Seats.{IsFreeSeatOf};
+ghost use Rattle.desk_workers.specs.Pools.{IsPool, AllFree, SameParts};
+
+use crate::pace::Pace;
+use crate::promised::Promised;
+use crate::stepping::{Turn, has_ended, walk};
+use desk_rack::Rack;
+use job_plan::Plan;
+use message_board::BoardSeat;
+use party_desk::Desk;
+use std::thread;
+use std::thread::Threads;
+
+/// So many passes in a row without a move end a worker.
+const MOST_IDLE: u32 = 64;
+
+// What a worker saw: how often desks moved, and whether all that it came to were at home and at their end.
+#[derive(Drop)]
+struct Visit {
+    moves: u64,
+    over: bool,
+}
+
+// Steps the desk of a slot as long as it moves, if it is at home.
+fn look_in<P: Pace>(
+    rack: &Rack<Promised, Desk>,
+    plan: &Plan,
+    pace: &P,
+    turn: Turn,
+    seat: &mut BoardSeat<Promised, Desk>,
+) -> Visit
+    requires pool { IsPool plan.now rack.now }
+    requires seat { IsFreeSeatOf rack.now seat.old }
+    requires inside { turn.desk < rack.now.id.slots }
+    ensures seat { IsFreeSeatOf rack.now seat.new }
+    ensures parts { seat.new.view.parts ≡ seat.old.view.parts }
+    ensures moves { result.moves < 2 ^ 32 }
+{
+    let Some(desk) = rack.take(seat, turn.desk) else {
+        return Visit {
+            moves: 0,
+            over: false,
+        };
+    };
+    let mut desk = desk;
+    let over = has_ended(&desk);
+    let moves = walk(rack.board(), plan, pace, turn, seat, &mut desk);
+    rack.put(seat, turn.desk, desk);
+    Visit { moves, over }
+}
+
+// The slot that the worker comes to after so many others.
+fn slot_at(worker: u32, others: u32, slots: u32) -> u32
+    requires { 0 < slots }
+    ensures { result < slots }
+{
+    ((u64::from(worker) + u64::from(others)) % u64::from(slots)) as u32
+}
+
+// Visits each slot once, in rising order, from the worker's number on and round.
+fn pass<P: Pace>(
+    rack: &Rack<Promised, Desk>,
+    plan: &Plan,
+    pace: &P,
+    worker: u32,
+    seat: &mut BoardSeat<Promised, Desk>,
+) -> Visit
+    requires pool { IsPool plan.now rack.now }
+    requires seat { IsFreeSeatOf rack.now seat.old }
+    ensures seat { IsFreeSeatOf rack.now seat.new }
+    ensures parts { seat.new.view.parts ≡ seat.old.view.parts }
+    ensures moves { result.moves < 2 ^ 40 }
+{
+    let slots = rack.slots();
+    let mut moves = 0;
+    let mut over = true;
+    for others in 0..slots {
+        let desk = slot_at(worker, others, slots);
+        let seen = look_in(rack, plan, pace, Turn { worker, desk }, seat);
+        moves += seen.moves;
+        over = over && seen.over;
+    }
+    Visit { moves, over }
+}
+
+fn next_idle(idle: u32, moves: u64) -> u32
+    requires { idle < 64 }
+    ensures none { moves ≡ 0 → result ≡ idle + 1 }
+    ensures some { 0 < moves → result ≡ 0 }
+{
+    if moves == 0 { idle + 1 } else { 0 }
+}
+
+// Steps desks until a pass finds all of them at home and at their end, or so many passes in a row moved none, or the
+// worker has made as many moves as there are instructions.
+fn work<P: Pace>(
+    rack: &Rack<Promised, Desk>,
+    plan: &Plan,
+    pace: &P,
+    worker: u32,
+    instructions: u64,
+    seat: &mut BoardSeat<Promised, Desk>,
+)
+    requires pool { IsPool plan.now rack.now }
+    requires few { instructions < 2 ^ 40 }
+    requires seat { IsFreeSeatOf rack.now seat.old }
+    ensures seat { IsFreeSeatOf rack.now seat.new }
+    ensures parts { seat.new.view.parts ≡ seat.old.view.parts }
+{
+    let mut idle = 0;
+    let mut made = 0;
+    let mut over = false;
+    while !over && idle < MOST_IDLE && made < instructions {
+        let seen = pass(rack, plan, pace, worker, seat);
+        made += seen.moves;
+        idle = next_idle(idle, seen.moves);
+        over = seen.over;
+    }
+}
+
+// Each worker in a thread of its own. What no thread can be made for is done in turn.
+fn fan_out<P: Pace, R: Threads + Sync>(
+    rt: &R,
+    plan: &Plan,
+    pace: &P,
+    rack: &Rack<Promised, Desk>,
+    instructions: u64,
+    seats: &mut [BoardSeat<Promised, Desk>],
+)
+    requires pool { IsPool plan.now rack.now }
+    requires some { 0 < length seats.old }
+    requires few { instructions < 2 ^ 40 }
+    requires each { AllFree rack.now seats.old }
+    ensures len { length seats.new ≡ length seats.old }
+    ensures each { AllFree rack.now seats.new }
+    ensures parts { SameParts seats.old seats.new }
+{
+    let count = seats.len();
+    let job = move |i: usize, seat: &mut BoardSeat<Promised, Desk>|
+        requires { IsPool plan.now rack.now × IsFreeSeatOf rack.now seat.old × (instructions < 2 ^ 40) }
+        ensures { IsFreeSeatOf rack.entry.now seat.new × (seat.new.view.parts ≡ seat.old.view.parts) }
+    { work(rack, plan, pace, (i % 0x1_0000) as u32, instructions, seat) };
+    thread::for_each_mut(rt, seats, count, &job);
+}
+
+/// As many workers as seats, each until it stops.
+pub fn work_all<P: Pace, R: Threads + Sync>(
+    rt: &R,
+    plan: &Plan,
+    pace: &P,
+    rack: &Rack<Promised, Desk>,
+    instructions: u64,
+    seats: &mut Vec<BoardSeat<Promised, Desk>>,
+)
+    requires pool { IsPool plan.now rack.now }
+    requires some { 0 < vec_len seats.old }
+    requires few { instructions < 2 ^ 40 }
+    requires each { AllFree rack.now seats.old.items }
+    ensures len { length seats.new.items ≡ length seats.old.items }
+    ensures each { AllFree rack.now seats.new.items }
+    ensures parts { SameParts seats.old.items seats.new.items }
+{
+    fan_out(rt, plan, pace, rack, instructions, seats.as_mut_slice());
+}

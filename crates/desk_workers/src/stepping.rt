@@ -1,0 +1,109 @@
+//! Steps of a desk on a board that other threads share.
+ghost use Rattle.std.specs.Prelude.{◌≡◌, ◌==◌, ◌<◌, ◌^◌, false, length, if◌then◌else◌};
+ghost use Rattle.message_board.specs.Seats.{IsSeatOf};
+ghost use Rattle.desk_laws.specs.Pools.{moves_of};
+ghost use Rattle.desk_workers.specs.Pools.{IsPool, IsDeskOf, LeadsOn, IsStuck};
+
+use crate::pace::Pace;
+use crate::promised::Promised;
+use desk_laws::step_in_world;
+use job_plan::Plan;
+use message_board::{Board, BoardSeat, SeatAt};
+use party_desk::{Desk, Stepped};
+
+/// A worker that is about to step a desk: its number, and the desk's.
+#[derive(Clone, Copy)]
+pub struct Turn {
+    pub worker: u32,
+    pub desk: u32,
+}
+
+// Steps the desk once.
+fn step_at(cells: &mut SeatAt<Promised, Desk>, plan: &Plan, desk: &mut Desk) -> Stepped
+    requires pool { IsPool plan.now cells.old.board.now }
+    requires seat { IsSeatOf cells.old.board.now cells.old.seat.now }
+    requires desk { IsDeskOf cells.old.board.now cells.old.seat.now desk.old }
+    ensures same { (cells.new.board ≡ cells.old.board) × (cells.new.seat.ghost_name ≡ cells.old.seat.ghost_name) }
+    ensures seat { IsSeatOf cells.old.board.now cells.new.seat.now }
+    ensures leads { LeadsOn cells.old.board.now cells.old.seat.now desk.old cells.new.seat.now desk.new (moves_of result) }
+    ensures stuck { moves_of result ≡ 0 → IsStuck cells.old.board.now cells.old.seat.now desk.old }
+{
+    step_in_world(desk, plan, cells)
+}
+
+fn step_on(
+    board: &Board<Promised, Desk>,
+    plan: &Plan,
+    seat: &mut BoardSeat<Promised, Desk>,
+    desk: &mut Desk,
+) -> Stepped
+    requires pool { IsPool plan.now board.now }
+    requires seat { IsSeatOf board.now seat.old }
+    requires desk { IsDeskOf board.now seat.old desk.old }
+    ensures seat { IsSeatOf board.now seat.new }
+    ensures leads { LeadsOn board.now seat.old desk.old seat.new desk.new (moves_of result) }
+    ensures stuck { moves_of result ≡ 0 → IsStuck board.now seat.old desk.old }
+{
+    let mut cells = SeatAt { board, seat };
+    step_at(&mut cells, plan, desk)
+}
+
+/// Whether the desk has done all its instructions.
+pub fn has_ended(desk: &Desk) -> bool
+    ensures { result ≡ (desk.now.position == length desk.now.program) }
+{
+    desk.position() == desk.instructions()
+}
+
+// Steps the desk once, if it is not at its end, and answers whether it moved.
+fn goes_on<P: Pace>(
+    board: &Board<Promised, Desk>,
+    plan: &Plan,
+    pace: &P,
+    turn: Turn,
+    seat: &mut BoardSeat<Promised, Desk>,
+    desk: &mut Desk,
+) -> bool
+    requires pool { IsPool plan.now board.now }
+    requires seat { IsSeatOf board.now seat.old }
+    requires desk { IsDeskOf board.now seat.old desk.old }
+    ensures seat { IsSeatOf board.now seat.new }
+    ensures leads { LeadsOn board.now seat.old desk.old seat.new desk.new (if result then 1 else 0) }
+    ensures stuck { result ≡ false → IsStuck board.now seat.old desk.old }
+{
+    if has_ended(desk) {
+        return false;
+    }
+    pace.before(turn.worker, turn.desk);
+    is_move(step_on(board, plan, seat, desk))
+}
+
+fn is_move(stepped: Stepped) -> bool
+    ensures { (if result then 1 else 0) ≡ moves_of stepped }
+{
+    matches!(stepped, Stepped::Moved)
+}
+
+/// Steps the desk as long as it moves, and answers how often it did.
+pub fn walk<P: Pace>(
+    board: &Board<Promised, Desk>,
+    plan: &Plan,
+    pace: &P,
+    turn: Turn,
+    seat: &mut BoardSeat<Promised, Desk>,
+    desk: &mut Desk,
+) -> u64
+    requires pool { IsPool plan.now board.now }
+    requires seat { IsSeatOf board.now seat.old }
+    requires desk { IsDeskOf board.now seat.old desk.old }
+    ensures seat { IsSeatOf board.now seat.new }
+    ensures leads { LeadsOn board.now seat.old desk.old seat.new desk.new result }
+    ensures stuck { result ≡ 0 → IsStuck board.now seat.old desk.old }
+    ensures few { result < 2 ^ 32 }
+{
+    let mut moves = 0;
+    while goes_on(board, plan, pace, turn, seat, desk) {
+        moves += 1;
+    }
+    moves
+}
