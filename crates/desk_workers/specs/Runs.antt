@@ -1,5 +1,5 @@
 -- A run of workers: before it, and after it.
-use Rattle.std.specs.Prelude.{true, ◌≡◌, ℕ, ◌+◌, ◌*◌, ◌<◌, ◌≤◌, [], length, get_or, Some, vec_capacity}
+use Rattle.std.specs.Prelude.{true, ◌≡◌, ℕ, ◌+◌, ◌*◌, ◌<◌, ◌≤◌, [], length, slice_get, Option, Some, IsSomeAnd, vec_capacity}
 use Rattle.mpc_ring.specs.Sums.{total}
 use Rattle.job_plan.specs.Plans.{session, readers, reads, output_wire}
 use Rattle.job_plan.specs.Messages.{messages}
@@ -34,12 +34,16 @@ pub record IsReady (w : World) (r : Ready) : Type 0 where
   pub no_seat : r.last.items ≡ []
   pub last : 0 < vec_capacity r.last
 
+-- the desk of party p in session s
+abbrev pub desk_of : Done → ℕ → ℕ → Option Desk
+desk_of o s p = slice_get o.desks.items (s * o.parties + p)
+
 -- the run is over: each cell has the word of its message, each desk has all outputs that its party reads and has drawn all
 -- words of its piece, and the desks moved as often as all programs have instructions
 pub record IsOver (w : World) (o : Done) : Type 0 where
   pub parties : o.parties ≡ w.plan.parties
   pub count : length o.desks.items ≡ w.plan.parties * length w.plan.sessions
-  pub desks : (s p : ℕ) (d : Desk) → s < length w.plan.sessions → p < w.plan.parties → IsDone w s p (get_or o.desks.items (s * w.plan.parties + p) d)
+  pub desks : (s p : ℕ) → s < length w.plan.sessions → p < w.plan.parties → IsSomeAnd (desk_of o s p) (IsDone w s p)
   pub all_cells : length o.cells ≡ length (messages w.plan)
   pub cells : (n : ℕ) → n < length (messages w.plan) → plain_cell o.cells n ≡ Some (word w (message w.plan n))
   pub steps : o.steps ≡ instructions_of w

@@ -1,6 +1,4 @@
 //! What a run leaves.
-ghost use Rattle.std.specs.Prelude.{◌≡◌};
-
 use message_board::ClosedBoard;
 use party_desk::Desk;
 
@@ -14,18 +12,17 @@ pub struct Done {
 }
 
 impl Done {
-    ghost use Rattle.std.specs.Prelude.{◌≡◌, ◌+◌, ◌*◌, ◌<◌, length, get_or};
+    ghost use Rattle.std.specs.Prelude.{◌≡◌, ◌<◌, length, Some};
     ghost use Rattle.job_plan.specs.Plans.{words};
     ghost use Rattle.job_plan.specs.Messages.{messages};
     ghost use Rattle.job_plan.specs.Numbers.{message};
     ghost use Rattle.share_world.specs.Worlds.{World, word};
-    ghost use Rattle.party_desk.specs.declared.desk.Desk.{Desk};
-    ghost use Rattle.desk_workers.specs.Runs.{IsOver, Opens, plain_output, instructions_of};
+    ghost use Rattle.desk_workers.specs.Runs.{IsOver, Opens, desk_of, plain_output, instructions_of};
 
     // The desk of a party in a session.
     fn desk(&self, session: u32, party: u32) -> &Desk
         requires { (w : World) × IsOver w self.now × (session < length w.plan.sessions) × (party < w.plan.parties) }
-        ensures { (d : Desk) → result.now ≡ get_or self.now.desks.items (session * self.now.parties + party) d }
+        ensures { desk_of self.now session party ≡ Some result.now }
     {
         let k = session as usize * self.parties as usize + party as usize;
         &self.desks[k]
