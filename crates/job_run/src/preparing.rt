@@ -1,0 +1,30 @@
+//! All desks of a job, ready for workers.
+ghost use Rattle.std.specs.Prelude.{◌≡◌, ◌<◌, ◌≤◌, IfOk, length, map};
+ghost use Rattle.party_file.specs.Forms.{form_of};
+ghost use Rattle.desk_workers.specs.Runs.{IsReady};
+ghost use Rattle.job_run.specs.Hands.{AllFit, world_of};
+
+use crate::hands::{Parts, take_apart};
+use crate::pieces::in_order;
+use desk_workers::{Ready, prepare};
+use job_plan::{Inputs, Plan};
+use party_file::PartyData;
+use std::alloc::{AllocError, Global};
+
+/// All desks of a job, ready to be run by so many workers. The hands stand in the order of the parties.
+pub fn prepared(
+    alloc: Global,
+    plan: &Plan,
+    hands: Vec<PartyData>,
+    workers: u32,
+) -> Result<Ready, AllocError>
+    requires workers { (0 < workers) × (workers ≤ 16) }
+    requires count { length hands.items ≡ plan.now.parties }
+    requires fit { AllFit plan.now hands.items }
+    ensures { IfOk result (IsReady (world_of plan.now (map form_of hands.items))) }
+{
+    let Parts { inputs, tapes } = take_apart(alloc, hands)?;
+    let pieces = in_order(alloc, plan.sessions(), tapes)?;
+    let inputs = Inputs::make(plan, inputs);
+    prepare(alloc, plan, &inputs, pieces, workers)
+}
