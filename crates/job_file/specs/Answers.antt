@@ -7,6 +7,6 @@ use Rattle.job_file.specs.declared.fault.JobFault.TheVariants.{Memory}
 abbrev pub Tells : {A : Type 0} → Result A JobFault → Option JobFault → Type 0
 Tells result wanted = MatchResult result (λ _. wanted ≡ None) (λ fault. wanted ≡ Some fault)
 
--- the same, but that memory may have been wanting
+-- the same, or out of memory
 abbrev pub TellsOrMemory : {A : Type 0} → Result A JobFault → Option JobFault → Type 0
 TellsOrMemory result wanted = MatchResult result (λ _. wanted ≡ None) (λ fault. fault ≢ Memory → wanted ≡ Some fault)

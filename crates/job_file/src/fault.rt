@@ -58,7 +58,7 @@ pub enum JobFault {
     SessionCount {
         count: u64,
     },
-    /// A host is out of form, or hosts or parties are wanting from here on.
+    /// A host is out of form, or hosts or parties are missing from here on.
     BadHost {
         at: u64,
     },
