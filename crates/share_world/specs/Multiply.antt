@@ -1,5 +1,5 @@
 -- The worked job of one product: 5 times 7, in the ring of 8 bits.
-use Rattle.std.specs.Prelude.{◌≡◌, List, ℕ, [], ◌∷◌, map}
+use Rattle.std.specs.Prelude.{◌≡◌, [], ◌∷◌, map}
 use Rattle.job_plan.specs.Messages.{messages}
 use Rattle.job_plan.specs.Multiply.{multiply_plan}
 use Rattle.share_world.specs.Worlds.{World, word, plain}
