@@ -1,10 +1,8 @@
 -- A desk of a world over a recorder: each step is allowed, and none waits.
-use Rattle.std.proofs.Common.{◌≡◌, ℕ, ◌+◌, ◌-◌, ◌<◌, ◌≤◌, ◌^◌, List, length, map, get_or, refl, sym, ap, ◌∙◌, subst, arith}
-use Rattle.std.specs.Prelude.{All, Option, Some, None, slice_get}
-use Rattle.std.specs.Option.{option_map}
+use Rattle.std.proofs.Common.{◌≡◌, ℕ, ◌-◌, ◌<◌, ◌^◌, List, length, get_or, refl, sym, ap, ◌∙◌, subst, arith}
+use Rattle.std.specs.Prelude.{All, Some, slice_get}
 use Rattle.std.proofs.lemmas.List.{get_or-map, length-map}
 use Rattle.std.proofs.lemmas.Option.{slice_get-get_or, slice_get_within, get_or_from_slice_get}
-use Rattle.job_plan.specs.declared.key.Key.{Key}
 use Rattle.job_plan.specs.Plans.{Plan}
 use Rattle.job_plan.specs.Messages.{messages}
 use Rattle.job_plan.specs.Numbers.{message, no_key}
@@ -48,12 +46,12 @@ NextsAreServed = (l : Given) (d : Desk) → IsDesk l d → NextIs l d.position (
 
 module _ (lawful : WorldsAreLawful) (plan : Plan) (w : World) (s p : ℕ) (d : Desk) (c : List ℕ) (h : HasWords plan w s p d c) where
   long : length c ≡ length (messages w.plan)
-  long = ap length h.are ∙ length-map (messages w.plan) (word w)
+  long = ap length h.listed ∙ length-map (messages w.plan) (word w)
 
   word_at : (n x : ℕ) → n < length c → get_or c n x ≡ word w (message w.plan n)
   word_at n x less =
       let there : n < length (messages w.plan) = omega (arith, long) in
-      ap (λ z. get_or z n x) h.are ∙ get_or-map (word w) (messages w.plan) n no_key x there
+      ap (λ z. get_or z n x) h.listed ∙ get_or-map (word w) (messages w.plan) n no_key x there
 
   serves : Serves recorder w p c
   serves = record {
@@ -98,9 +96,9 @@ module _ (lawful : WorldsAreLawful) (plan : Plan) (w : World) (s p : ℕ) (d : D
     never_waits m did = waits_at m (instruction_at d) (served (given_in w s p) d h.desk) did
 
     stays_after : (r : Stepped) → Did r → HasWords plan w s p e f
-    stays_after Moved did = record { same = h.same; whole = h.whole; desk = did.2; are = same_words (instruction_at d) did.1 ∙ h.are }
+    stays_after Moved did = record { same = h.same; whole = h.whole; desk = did.2; listed = same_words (instruction_at d) did.1 ∙ h.listed }
     stays_after (NotYet m) did = absurd (never_waits m did)
-    stays_after Ended did = record { same = h.same; whole = h.whole; desk = subst (IsDesk (given_in w s p)) (sym did.1) h.desk; are = did.2 ∙ h.are }
+    stays_after Ended did = record { same = h.same; whole = h.whole; desk = subst (IsDesk (given_in w s p)) (sym did.1) h.desk; listed = did.2 ∙ h.listed }
 
     ends_after : (r : Stepped) → Did r → (r ≡ Moved → ⊥) → e.position ≡ length (program w.plan p s)
     ends_after Moved did stopped = absurd (stopped refl)

@@ -13,4 +13,4 @@ pub record HasWords (plan : Plan) (w : World) (s p : ℕ) (d : Desk) (words : Li
   pub same : w.plan ≡ plan
   pub whole : IsWhole w
   pub desk : IsDesk (given_in w s p) d
-  pub are : words ≡ map (word w) (messages w.plan)
+  pub listed : words ≡ map (word w) (messages w.plan)

@@ -35,6 +35,25 @@ impl Default for Call {
     }
 }
 
+/// What the third party's desk asks for where 5 and 7 are multiplied, by hand: it takes its summands of both inputs,
+/// posts the shares 5, 6 and 221 of its own product 10 * 40 + 20 * 30, takes those of the other two parties, and at the
+/// end takes the summand of the product that it lacks.
+const CALLS: [Call; 13] = [
+    Call::Take(1),
+    Call::Take(2),
+    Call::Take(4),
+    Call::Take(6),
+    Call::Post(16, 5),
+    Call::Post(17, 6),
+    Call::Post(18, 221),
+    Call::Post(19, 221),
+    Call::Take(9),
+    Call::Take(10),
+    Call::Take(12),
+    Call::Take(14),
+    Call::Take(20),
+];
+
 /// Cells that have a word for each number beforehand, whatever is posted, and keep the first 64 calls in their order.
 /// Contracts see the words.
 #[derive(Drop)]
@@ -52,13 +71,13 @@ impl Model for Recorder {
 }
 
 impl Recorder {
-    fn new(words: Vec<u64>) -> Recorder
-        ensures { result ≡ words.items }
+    fn new(alloc: Global, words: &[u64]) -> Result<Recorder, AllocError>
+        ensures { IfOk result (λ recorder. recorder ≡ words.now) }
     {
-        Recorder {
-            words,
+        Ok(Recorder {
+            words: words.to_vec(alloc)?,
             calls: ArrayVec::new(),
-        }
+        })
     }
 
     // Keeps the call, where there is room.
@@ -102,7 +121,7 @@ fn finish_desk(plan: &Plan, desk: &mut Desk, cells: &mut Recorder)
     worlds_are_lawful();
     next_instructions_are_served();
     ended_desks_are_done();
-    'steps: while let Stepped::Moved = step_in_world(desk, plan, cells) {}
+    while let Stepped::Moved = step_in_world(desk, plan, cells) {}
 }
 
 // The third party's desk, where 5 and 7 are multiplied.
@@ -127,26 +146,12 @@ fn a_reader_over_a_recorder(rt: HostRuntime) -> Result<(), Fail> {
     let ring = Ring::new(8).ok_or("no ring")?;
     let plan = multiply_plan(alloc, ring)?;
     let mut desk = reader(alloc, &plan, ring)?;
-    let mut cells = Recorder::new(MESSAGES.to_vec(alloc)?);
+    let mut cells = Recorder::new(alloc, &MESSAGES)?;
     multiply_job();
+    worlds_are_lawful();
     finish_desk(&plan, &mut desk, &mut cells);
     assert_eq!(rt; step_in_world(&mut desk, &plan, &mut cells), Stepped::Ended);
-    let calls = [
-        Call::Take(1),
-        Call::Take(2),
-        Call::Take(4),
-        Call::Take(6),
-        Call::Post(16, 5),
-        Call::Post(17, 6),
-        Call::Post(18, 221),
-        Call::Post(19, 221),
-        Call::Take(9),
-        Call::Take(10),
-        Call::Take(12),
-        Call::Take(14),
-        Call::Take(20),
-    ];
-    assert_eq!(rt; cells.calls.as_slice(), calls.as_slice());
+    assert_eq!(rt; cells.calls.as_slice(), CALLS.as_slice());
     assert_eq!(rt; desk.delivered(0), Some(35));
     assert_eq!(rt; desk.drawn(), 2);
     assert_eq!(rt; desk.sent(), 4);

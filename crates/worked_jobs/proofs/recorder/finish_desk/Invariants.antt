@@ -4,8 +4,8 @@ use Rattle.worked_jobs.specs.Recording.{HasWords}
 use Rattle.worked_jobs.proofs.Recording.{left}
 use Rattle.worked_jobs.proofs.recorder.finish_desk.Given as goal
 
-abbrev pub invariant-steps : goal.invariant-steps
-invariant-steps l = (w : World) (s p : ℕ) → HasWords l.plan w s p l.fn.desk l.fn.cells → HasWords l.plan w s p l.desk l.cells
+abbrev pub invariant-loop : goal.invariant-loop
+invariant-loop l = (w : World) (s p : ℕ) → HasWords l.plan w s p l.fn.desk l.fn.cells → HasWords l.plan w s p l.desk l.cells
 
-abbrev pub decreases-steps : goal.decreases-steps
-decreases-steps l = left l.desk
+abbrev pub decreases-loop : goal.decreases-loop
+decreases-loop l = left l.desk
