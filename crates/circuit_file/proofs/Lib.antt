@@ -6,3 +6,4 @@ pub mod GateLaws
 pub mod WalkLaws
 pub mod FileLaws
 pub mod Stepping
+pub mod Scanning

@@ -125,7 +125,7 @@ pub form_fails : (layout : FileLayout) (c : Netlist) (row : Row) (f : CircuitFau
 unfolding gate_line_in
 form_fails layout c row f e = rw (blocked (first_fault (form_checks layout row)) (form_of layout row) f e) refl
 
-read_so : (layout : FileLayout) (c : Netlist) (row : Row) (form : Form) (n : ℕ) (is os : List ℕ) → Ok form ≡ or_fault (first_fault (form_checks layout row)) (form_of layout row)
+pub read_so : (layout : FileLayout) (c : Netlist) (row : Row) (form : Form) (n : ℕ) (is os : List ℕ) → Ok form ≡ or_fault (first_fault (form_checks layout row)) (form_of layout row)
     → n ≡ row.number → is ≡ (gate_line_of layout row).inputs → os ≡ (gate_line_of layout row).outputs → gate_in layout c row ≡ next_gate c n form.operation is os
 unfolding gate_line_in
 read_so layout c row form n is os f e i o =
@@ -218,7 +218,7 @@ text_read layout bits bytes e u = sym (rw (e, u) refl)
 abbrev pub ring_answer : FileLayout → ℕ → Result (Unit {0}) CircuitFault
 ring_answer layout bits = if is_bristol layout && not (nat_eq bits 1) then Err (WrongRing (pos bits)) else Ok tt
 
-chosen : (b : Bool) (z f : CircuitFault) → ◌≡◌ {A = Result (Unit {0}) CircuitFault} (Err f) (if b then Err z else Ok tt) → (b ≡ true) × (f ≡ z)
+pub chosen : (b : Bool) (z f : CircuitFault) → ◌≡◌ {A = Result (Unit {0}) CircuitFault} (Err f) (if b then Err z else Ok tt) → (b ≡ true) × (f ≡ z)
 chosen true z f e = (refl, cc)
 chosen false z f e = cc
 

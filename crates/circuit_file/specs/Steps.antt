@@ -1,17 +1,48 @@
 -- What the parts of a reader leave behind.
-use Rattle.std.specs.Prelude.{◌≡◌, ℕ, ◌≤◌, List, [], None, Result, Ok, Err}
+use Rattle.std.specs.Prelude.{◌≡◌, ℕ, suc, ◌≤◌, List, [], ◌∷◌, ◌++◌, take, None, Result, Ok, Err}
 use Rattle.gate_lines.specs.Rows.{Row}
+use Rattle.gate_lines.specs.Places.{Place}
+use Rattle.circuit_model.specs.Checks.{first_fault, or_fault}
 use Rattle.circuit_model.specs.Building.{Draft, add_gate}
 use Rattle.circuit_model.specs.declared.gate.Gate.{Gate}
 use Rattle.circuit_model.specs.declared.fault.CircuitFault.{CircuitFault}
 use Rattle.circuit_file.specs.Answers.{Fails}
+use Rattle.circuit_file.specs.Tokens.{tokens_after, numbers_in}
+use Rattle.circuit_file.specs.GateLines.{form_checks, form_of}
 use Rattle.circuit_file.specs.CircuitFiles.{gate_in, gates_in, header_in}
+use Rattle.circuit_file.specs.Grammar.{Write}
+use Rattle.circuit_file.specs.declared.gate_line.Said.{Said}
 use Rattle.circuit_file.specs.declared.layout.FileLayout.{FileLayout}
+
+-- the next tokens write these numbers
+pub record Takes (old : Place) (numbers : List ℕ) (new : Place) : Type 0 where
+  pub tokens : List (List ℕ)
+  pub before : old ≡ record new { tokens = tokens ++ new.tokens }
+  pub write : Write tokens numbers
+
+-- a gate line without a fault in its form says this, and has at most three wires
+pub record IsSaid (layout : FileLayout) (row : Row) (said : Said) : Type 0 where
+  pub line : said.line ≡ row.number
+  pub form : or_fault (first_fault (form_checks layout row)) (form_of layout row) ≡ Ok said.form
+  pub wires : take said.form.wires said.wires ≡ numbers_in (tokens_after 2 said.form.wires row)
+  pub inputs : said.form.inputs ≤ said.form.wires
+  pub few : said.form.wires ≤ 3
+
+-- the first line says this
+pub record Says (layout : FileLayout) (rows : List Row) (said : Said) (rest : List Row) : Type 0 where
+  pub row : Row
+  pub first : rows ≡ row ∷ rest
+  pub is : IsSaid layout row said
 
 -- the draft has the gate of the line, or the line has this fault
 abbrev pub Adds : FileLayout → Row → Draft → Result (Unit {0}) CircuitFault → Draft → Type 0
 Adds layout row old (Ok done) new = (g : Gate) × (gate_in layout old.circuit row ≡ Ok g) × (new ≡ record old { circuit = add_gate old.circuit g })
 Adds layout row old (Err f) new = Fails f (gate_in layout old.circuit row)
+
+-- the draft has the gate of the first line, or that line has the first fault, or there is none
+abbrev pub AddsNext : FileLayout → ℕ → List Row → Draft → Result (Unit {0}) CircuitFault → List Row → Draft → Type 0
+AddsNext layout seen rows old (Ok done) rest new = (row : Row) × (rows ≡ row ∷ rest) × Adds layout row old (Ok done) new
+AddsNext layout seen rows old (Err f) rest new = (n : ℕ) → Fails f (gates_in layout (suc n) seen old.circuit rows)
 
 -- a draft that waits for its first gate, and the rows that are left, or the first fault of a header
 abbrev pub Begins : ℕ → List Row → Result (ℕ × Draft) CircuitFault → List Row → Type 0

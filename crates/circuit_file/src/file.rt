@@ -1,14 +1,15 @@
 //! Reading a whole file.
-ghost use Rattle.std.specs.Prelude.{◌≡◌, ◌≤◌, ◌&&◌, ◌==◌, not, [], None, Ok, Err, nat_lt, length, true, false, pos, if◌then◌else◌, MatchResult};
+ghost use Rattle.std.specs.Prelude.{◌≡◌, ◌≤◌, ◌<◌, ◌&&◌, ◌==◌, not, [], None, Ok, Err, nat_lt, length, true, false, pos, if◌then◌else◌, MatchResult};
 ghost use Rattle.std.specs.Str.Lossy.{utf8_valid_len};
 ghost use Rattle.circuit_model.specs.Checks.{Gives};
 ghost use Rattle.circuit_model.specs.declared.fault.CircuitFault.TheVariants.{NotUtf8, WrongRing};
 ghost use Rattle.circuit_file.specs.CircuitFiles.{next_row, is_bristol, lines_in, circuit_in};
-ghost use Rattle.circuit_file.specs.Steps.{Begins, AddsAll};
+ghost use Rattle.circuit_file.specs.Steps.{Begins, AddsNext, AddsAll};
 
-use crate::gate_line::read_gate;
+use crate::gate_line::{add_gate, read_gate};
 use crate::header::{read_counts, read_widths};
 use crate::layout::FileLayout;
+use crate::scan::scan_gate;
 use circuit_model::{Builder, Circuit, CircuitFault};
 use gate_lines::{Line, Lines};
 use mpc_ring::Ring;
@@ -51,9 +52,29 @@ fn read_header(
     Ok((counts.gates, builder))
 }
 
+/// Adds the gate of the next line, or finds the first fault there, where so many lines came before.
+fn next_gate(
+    lines: &mut Lines<'_>,
+    seen: u64,
+    layout: FileLayout,
+    builder: &mut Builder,
+) -> Result<(), CircuitFault>
+    requires room { length builder.old.circuit.gates < builder.old.announced }
+    requires going { builder.old.refused ≡ None }
+    ensures { AddsNext layout seen lines.old builder.old result lines.new builder.new }
+{
+    match scan_gate(lines, layout) {
+        Some(said) => add_gate(&said, builder),
+        None => {
+            let row = next_row(lines, seen)?;
+            let said = read_gate(&row, layout)?;
+            add_gate(&said, builder)
+        }
+    }
+}
+
 /// Adds the gates of so many lines.
 fn read_gates(
-    alloc: Global,
     lines: &mut Lines<'_>,
     layout: FileLayout,
     gates: u64,
@@ -66,8 +87,7 @@ fn read_gates(
     ensures { AddsAll layout gates lines.old builder.old result lines.new builder.new }
 {
     for at in 0..gates {
-        let row = next_row(lines, at + 3)?;
-        read_gate(alloc, &row, layout, builder)?;
+        next_gate(lines, at + 3, layout, builder)?;
     }
     Ok(())
 }
@@ -82,7 +102,7 @@ fn read_lines(
     ensures { Gives result (lines_in layout ring lines.entry) }
 {
     let (gates, mut builder) = read_header(alloc, &mut lines, ring)?;
-    read_gates(alloc, &mut lines, layout, gates, &mut builder)?;
+    read_gates(&mut lines, layout, gates, &mut builder)?;
     match lines.next_line() {
         Some(row) => Err(CircuitFault::ExtraLine { line: row.number() }),
         None => builder.finish(),

@@ -1,14 +1,18 @@
 //! The form of a gate line.
-ghost use Rattle.std.specs.Prelude.{◌≡◌, ◌≤◌, ◌<◌, ◌+◌, nat_lt, None, IfOk, length};
+ghost use Rattle.std.specs.Prelude.{◌≡◌, ◌≤◌, ◌<◌, ◌+◌, nat_lt, None, Err, IfOk, MatchResult, length, take};
 ghost use Rattle.circuit_model.specs.Checks.{first_fault, or_fault};
 ghost use Rattle.circuit_file.specs.GateLines.{form_checks, form_of};
-ghost use Rattle.circuit_file.specs.Steps.{Adds};
+ghost use Rattle.gate_lines.specs.Rows.{Row};
+ghost use Rattle.circuit_model.specs.Netlists.{Netlist};
+ghost use Rattle.circuit_file.specs.Tokens.{tokens_after, numbers_in};
+ghost use Rattle.circuit_file.specs.CircuitFiles.{gate_in};
+ghost use Rattle.circuit_file.specs.declared.layout.FileLayout.{FileLayout};
+ghost use Rattle.circuit_file.specs.Steps.{IsSaid, Adds};
 
 use crate::layout::FileLayout;
-use crate::tokens::{after, all_numbers, number_in, numbers};
+use crate::tokens::{after, all_numbers, number_in};
 use circuit_model::{Builder, CircuitFault, Operation, check};
 use gate_lines::Line;
-use std::alloc::Global;
 
 /// What the tokens of a gate line are: so many input wires, other wires, and the operation.
 #[derive(Clone, Copy)]
@@ -16,6 +20,14 @@ pub(crate) struct Form {
     pub operation: Operation,
     pub inputs: usize,
     pub wires: usize,
+}
+
+/// What a gate line says: its number, its form, and the numbers of its wires.
+#[derive(Clone, Copy)]
+pub(crate) struct Said {
+    pub line: u64,
+    pub form: Form,
+    pub wires: [u64; 3],
 }
 
 fn is_less(found: u64, inputs: u64, outputs: u64) -> bool
@@ -68,24 +80,41 @@ pub(crate) fn read_form(row: &Line<'_>, layout: FileLayout) -> Result<Form, Circ
     })
 }
 
-/// Adds the gate of a line, or finds the first fault of the line.
-pub(crate) fn read_gate(
-    alloc: Global,
-    row: &Line<'_>,
-    layout: FileLayout,
-    builder: &mut Builder,
-) -> Result<(), CircuitFault>
+/// The numbers of the wires of a gate line, so many.
+fn read_wires(row: &Line<'_>, count: usize) -> [u64; 3]
+    requires few { count ≤ 3 }
+    requires long { count + 2 ≤ length row.now.tokens }
+    ensures { take count result ≡ numbers_in (tokens_after 2 count row.now) }
+{
+    let mut wires = [0; 3];
+    for at in 0..count {
+        wires[at] = number_in(row.token(at as u64 + 2));
+    }
+    wires
+}
+
+/// What a gate line says, or its first fault. A line that has more wires than any operation has none that fits.
+#[cold]
+pub(crate) fn read_gate(row: &Line<'_>, layout: FileLayout) -> Result<Said, CircuitFault>
+    ensures { MatchResult result (IsSaid layout row.now) (λ fault. (c : Netlist) → gate_in layout c row.now ≡ Err fault) }
+{
+    let form = read_form(row, layout)?;
+    let line = row.number();
+    check(form.wires > 3, CircuitFault::WrongArity { line })?;
+    Ok(Said {
+        line,
+        form,
+        wires: read_wires(row, form.wires),
+    })
+}
+
+/// Adds the gate that a line says, or finds why it can't be next.
+pub(crate) fn add_gate(said: &Said, builder: &mut Builder) -> Result<(), CircuitFault>
     requires room { length builder.old.circuit.gates < builder.old.announced }
     requires going { builder.old.refused ≡ None }
-    ensures { Adds layout row.now builder.old result builder.new }
+    requires form { (said.now.form.inputs ≤ said.now.form.wires) × (said.now.form.wires ≤ 3) }
+    ensures { (layout : FileLayout) (row : Row) → IsSaid layout row said.now → Adds layout row builder.old result builder.new }
 {
-    let form = match read_form(row, layout) {
-        Ok(form) => form,
-        Err(fault) => return Err(fault),
-    };
-    let Ok(wires) = numbers(alloc, after(row.tokens(), 2), form.wires) else {
-        return Err(CircuitFault::Memory);
-    };
-    let (inputs, outputs) = wires.split_at(form.inputs);
-    builder.gate(row.number(), form.operation, inputs, outputs)
+    let (inputs, outputs) = said.wires[..said.form.wires].split_at(said.form.inputs);
+    builder.gate(said.line, said.form.operation, inputs, outputs)
 }

@@ -13,6 +13,7 @@ pub enum FileLayout {
     Ring,
 }
 
+#[inline(always)]
 fn bristol_operation(name: &[u8]) -> Option<Operation>
     ensures { result ≡ bristol_operation name.now }
 {
@@ -31,6 +32,7 @@ fn bristol_operation(name: &[u8]) -> Option<Operation>
     }
 }
 
+#[inline(always)]
 fn ring_operation(name: &[u8]) -> Option<Operation>
     ensures { result ≡ ring_operation name.now }
 {
@@ -67,13 +69,21 @@ impl FileLayout {
     }
 
     /// The operation of this name.
-    #[tactic(auto, unfolding(crate::specs::GateLines::operation_of))]
     pub fn operation(self, name: &str) -> Option<Operation>
         ensures { result ≡ operation_of self name.now }
     {
+        self.named(name.as_bytes())
+    }
+
+    /// The operation whose name has these bytes.
+    #[inline(always)]
+    #[tactic(auto, unfolding(crate::specs::GateLines::operation_of))]
+    pub(crate) fn named(self, name: &[u8]) -> Option<Operation>
+        ensures { result ≡ operation_of self name.now }
+    {
         match self {
-            FileLayout::Bristol => bristol_operation(name.as_bytes()),
-            FileLayout::Ring => ring_operation(name.as_bytes()),
+            FileLayout::Bristol => bristol_operation(name),
+            FileLayout::Ring => ring_operation(name),
         }
     }
 }

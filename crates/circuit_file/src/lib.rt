@@ -6,6 +6,7 @@ mod gate_line;
 mod header;
 mod laws;
 mod layout;
+mod scan;
 mod tokens;
 
 pub use file::read;

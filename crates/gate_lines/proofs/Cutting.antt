@@ -90,7 +90,7 @@ run_begins line l =
     run false e = refl
     run true e = cc
 
-keep_first : (t : List ℕ) (ts : List (List ℕ)) → 0 < length t → filter not_empty (t ∷ ts) ≡ t ∷ filter not_empty ts
+pub keep_first : (t : List ℕ) (ts : List (List ℕ)) → 0 < length t → filter not_empty (t ∷ ts) ≡ t ∷ filter not_empty ts
 keep_first [] ts l = absurd (omega arith)
 keep_first (c ∷ t) ts l = refl
 

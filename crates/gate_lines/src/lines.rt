@@ -2,7 +2,9 @@
 ghost use Rattle.std.specs.Prelude.{◌≡◌, ◌+◌, ◌^◌, ◌<◌, ℕ, [], ◌∷◌, length, slice_index_or, MatchOption};
 ghost use Rattle.gate_lines.specs.Tokens.{number_of};
 ghost use Rattle.gate_lines.specs.Rows.{Row, rows_of, rows_from, row_before};
+ghost use Rattle.gate_lines.specs.Places.{rows_at};
 
+use crate::cursor::Cursor;
 use crate::tokens::{Tokens, number};
 use std::marker::Model;
 
@@ -120,6 +122,21 @@ impl<'a> Lines<'a> {
             number: 1,
             rest: text,
         }
+    }
+
+    /// The lines of a text whose first line has this number.
+    pub(crate) fn of(number: u64, text: &'a str) -> Lines<'a>
+        requires { number + length text.now < 2 ^ 64 }
+        ensures { result ≡ rows_from number text.now }
+    {
+        Lines { number, rest: text }
+    }
+
+    /// A cursor at the first token of the next line with tokens.
+    pub fn cursor(&self) -> Cursor<'a>
+        ensures { rows_at result ≡ self.now }
+    {
+        Cursor::first(self.number, self.rest)
     }
 
     /// The next line with tokens, or nothing at the end of the text.

@@ -38,3 +38,47 @@ fn numbers_below_two_to_64(rt: HostRuntime) {
     assert_eq!(rt; number("1x"), None);
     assert_eq!(rt; number(""), None);
 }
+
+#[test]
+fn tokens_in_one_go(rt: HostRuntime) {
+    let lines = Lines::new("\n \r\n\t12  0007\tADD \r\n18446744073709551615 x");
+    let mut cursor = lines.cursor();
+    assert_eq!(rt; cursor.line(), 3);
+    assert_eq!(rt; cursor.number(), Some(12));
+    assert_eq!(rt; cursor.number(), Some(7));
+    assert_eq!(rt; cursor.number(), None);
+    assert_eq!(rt; cursor.token(), Some(b"ADD".as_slice()));
+    assert!(rt; cursor.token().is_none());
+    let rest = cursor.finish().expect(&rt, "the lines after the third");
+    let mut last = rest.cursor();
+    assert_eq!(rt; last.line(), 4);
+    assert_eq!(rt; last.number(), Some(u64::MAX));
+    assert!(rt; last.finish().is_none());
+}
+
+#[test]
+fn numbers_in_one_go(rt: HostRuntime) {
+    let rows = [
+        ("7", Some(7)),
+        ("7\r\n", Some(7)),
+        ("9999999999999999999", Some(9999999999999999999)),
+        ("00000000000000000007\n", Some(7)),
+        ("18446744073709551615", Some(u64::MAX)),
+        ("18446744073709551616", None),
+        ("99999999999999999999", None),
+        ("000000000000000000000x", None),
+        ("1x", None),
+        ("+1", None),
+        ("1\u{b}", None),
+        ("", None),
+    ];
+    for (text, value) in rows {
+        let mut cursor = Lines::new(text).cursor();
+        assert_eq!(rt; cursor.number(), value, "{text}");
+        assert_eq!(rt;
+            cursor.finish().is_some(),
+            value.is_some() || text.is_empty(),
+            "{text}"
+        );
+    }
+}

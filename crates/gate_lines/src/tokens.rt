@@ -6,7 +6,7 @@ ghost use Rattle.gate_lines.specs.Tokens.{is_blank, tokens_of, number_of};
 
 use std::marker::Model;
 
-fn is_blank(byte: u8) -> bool
+pub(crate) fn is_blank(byte: u8) -> bool
     ensures { result ≡ is_blank byte }
 {
     byte == b' ' || byte == b'\t' || byte == b'\r'

@@ -45,7 +45,12 @@ fn multiply(rt: HostRuntime) -> Result<(), Fail> {
         "1 3\r\n2  1\t1\r\n\r\n \n1 1\r\n\t2 1 0  1 2 MUL \r\n",
     )?;
     check_multiply(&rt, rt.alloc(), "\n\n1 3\n\n2 1 1\n\n1 1\n\n2 1 0 1 2 MUL")?;
-    check_multiply(&rt, rt.alloc(), "01 003\n2 1 1\n1 1\n2 1 0 01 2 MUL\n\n")
+    check_multiply(&rt, rt.alloc(), "01 003\n2 1 1\n1 1\n2 1 0 01 2 MUL\n\n")?;
+    check_multiply(
+        &rt,
+        rt.alloc(),
+        "1 3\n2 1 1\n1 1\n\r\n\t2\t1  0\t\t1 00000000000000000002\tMUL",
+    )
 }
 
 #[test]
@@ -116,6 +121,22 @@ fn lines_of_a_wrong_form(rt: HostRuntime) {
                 "1 3\n2 1 1\n1 1\n2 1 0 1 2\n",
                 CircuitFault::ShortLine { line: 4 },
             ),
+            (
+                "1 3\n2 1 1\n1 1\n\n2 1 0 1 2 MUL 2\n",
+                CircuitFault::LongLine { line: 5 },
+            ),
+            (
+                "1 3\n2 1 1\n1 1\n2 1 0 1 2x MUL\n",
+                CircuitFault::BadNumber { line: 4 },
+            ),
+            (
+                "1 3\n2 1 1\n1 1\n3 1 0 1 1 2 MUL\n",
+                CircuitFault::WrongArity { line: 4 },
+            ),
+            (
+                "1 3\n2 1 1\n1 1\n0 1 2 EQ\n",
+                CircuitFault::WrongArity { line: 4 },
+            ),
             ("1 3\n2 1 1\n1 1\n", CircuitFault::FewLines { found: 3 }),
             (
                 "1 3\n2 1 1\n1 1\n2 1 0 1 2 MUL\nx\n",
@@ -156,6 +177,14 @@ fn hostile_numbers(rt: HostRuntime) {
                 CircuitFault::BadNumber { line: 1 },
             ),
             ("1 3 +\n", CircuitFault::LongLine { line: 1 }),
+            (
+                "1 3\n2 1 1\n1 1\n1 1 18446744073709551615 2 EQ",
+                CircuitFault::BadConstant { line: 4 },
+            ),
+            (
+                "1 3\n2 1 1\n1 1\n1 1 18446744073709551616 2 EQ",
+                CircuitFault::BadNumber { line: 4 },
+            ),
         ],
     );
 }

@@ -1,11 +1,21 @@
-use Rattle.std.proofs.Common.{◌∙◌, ap, drop}
+use Rattle.std.proofs.Common.{◌≡◌, nat_lt, Err, sym, ◌∙◌, ap}
+use Rattle.std.specs.Prelude.{MatchResult}
+use Rattle.std.proofs.lemmas.Bool.{ltb-true}
+use Rattle.circuit_model.specs.declared.fault.CircuitFault.TheVariants.{WrongArity}
+use Rattle.circuit_model.specs.Netlists.{Netlist}
 use Rattle.circuit_file.specs.CircuitFiles.{gate_in}
-use Rattle.circuit_file.proofs.Stepping.{fails, form_fails, gate_added}
+use Rattle.circuit_file.specs.Steps.{IsSaid}
+use Rattle.circuit_file.proofs.Stepping.{sent, form_fails, chosen}
+use Rattle.circuit_file.proofs.Scanning.{wrong_arity}
 use Rattle.circuit_file.proofs.gate_line.read_gate.Goals as goal
 
-pub returns-in-Err : goal.returns-in-Err
-returns-in-Err c = fails c.in-Err.fault (gate_in c.args.layout c.args.builder.now.circuit c.args.row.now) (form_fails c.args.layout c.args.builder.now.circuit c.args.row.now c.in-Err.fault c.in-Err.ensures.form)
+pub returns-in_err-form : goal.returns-in_err-form
+returns-in_err-form c =
+    sent (λ r. MatchResult r (IsSaid c.args.layout c.args.row.now) (λ fault. (d : Netlist) → gate_in c.args.layout d c.args.row.now ≡ Err fault)) c.from_residual.result c.in_err-form.field-0.0 c.from_residual.ensures
+    (λ d. sym (form_fails c.args.layout d c.args.row.now c.in_err-form.field-0.0 c.in_err-form.ensures.form))
 
-pub returns : goal.returns
-returns c = gate_added c.args.layout c.args.row.now c.args.builder.now c.gate.new.self c.gate.result c.in-Ok.form c.number.result c.in-Ok-numbers.wires.items c.deref.result.now c.split_at.result.0.now c.split_at.result.1.now c.after.result
-    c.in-Ok.ensures.form c.number.ensures (c.after.ensures ∙ ap (λ ts. drop 2 ts) c.tokens.ensures) c.in-Ok-numbers.ensures c.deref.ensures.value c.split_at.ensures.front c.split_at.ensures.back c.requires.going c.gate.ensures.answer c.gate.ensures.next
+pub returns-in_err-check : goal.returns-in_err-check
+returns-in_err-check c =
+    let k = chosen (nat_lt 3 c.in_ok-form.form.wires) (WrongArity c.number-line.result) c.in_err-check.field-0.0 c.in_err-check.ensures in
+    sent (λ r. MatchResult r (IsSaid c.args.layout c.args.row.now) (λ fault. (d : Netlist) → gate_in c.args.layout d c.args.row.now ≡ Err fault)) c.from_residual-in_err-check.result c.in_err-check.field-0.0 c.from_residual-in_err-check.ensures
+    (λ d. wrong_arity c.args.layout d c.args.row.now c.in_ok-form.form c.in_ok-form.ensures.form (ltb-true 3 c.in_ok-form.form.wires k.0) ∙ ap (λ n. Err (WrongArity n)) (sym c.number-line.ensures) ∙ ap Err (sym k.1))
