@@ -34,14 +34,16 @@ is_no_party names name = is_none (number_of names name)
 unfoldable pub bad_name : List (List ℕ) → List (List ℕ) → List (List ℕ) → Option ℕ
 bad_name names before [] = None
 bad_name names before (text ∷ rest) =
-    if is_no_party names text || list_any (λ other. bytes_eq other text) before then Some (length before)
+    if is_no_party names text || list_any (λ other. bytes_eq other text) before
+    then Some (length before)
     else bad_name names (before ++ text ∷ []) rest
 
 -- the first such text of the lists from this one on: its list, and its place there
 unfoldable pub bad_in_lists : List (List ℕ) → ℕ → List (List (List ℕ)) → Option (ℕ × ℕ)
 bad_in_lists names value [] = None
 bad_in_lists names value (list ∷ rest) =
-    option_or (option_map (λ at. (value, at)) (bad_name names [] list)) (bad_in_lists names (value + 1) rest)
+    option_or (option_map (λ at. (value, at)) (bad_name names [] list))
+    (bad_in_lists names (value + 1) rest)
 
 -- ---- rows on one field
 
@@ -78,7 +80,8 @@ is_within low high z = int_le low z && int_le z high
 unfoldable pub version_fault : Members → Option JobFault
 version_fault fields = first_fault
     (required_fault None Version fields
-    ∷ (not (is_within (pos 1) (pos 2) (integer Version fields)) answers OtherVersion (integer Version fields))
+    ∷ (not (is_within (pos 1) (pos 2) (integer Version fields))
+    answers OtherVersion (integer Version fields))
     ∷ [])
 
 unfoldable pub fields_fault : Bool → Members → Option JobFault
@@ -106,7 +109,8 @@ groups_fault names groups = first_fault
 
 -- the faults of the field that tells the tolerated groups: a formula's are told later
 abbrev pub adversary_fault : Members → Option JobFault
-adversary_fault fields = if is_listed fields then groups_fault (texts Parties fields) (lists Tolerated fields) else None
+adversary_fault fields =
+    if is_listed fields then groups_fault (texts Parties fields) (lists Tolerated fields) else None
 
 -- 1 to 16 sessions
 unfoldable pub count_fault : ℕ → Option JobFault
@@ -138,7 +142,8 @@ session_values_fault names session fields = first_fault
     ((not (is_file_name (text Circuit fields)) answers BadFileName session)
     ∷ (is_none (layout_of (text Layout fields)) answers BadLayout session)
     ∷ option_map (λ at. BadOwner session at) (position (is_no_party names) (texts Owners fields))
-    ∷ option_map (λ bad. BadReader session bad.0 bad.1) (bad_in_lists names 0 (lists Readers fields))
+    ∷ option_map (λ bad. BadReader session bad.0 bad.1)
+    (bad_in_lists names 0 (lists Readers fields))
     ∷ [])
 
 -- the first fault of the sessions from this one on: all of one session's before the next one's

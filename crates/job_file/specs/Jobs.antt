@@ -38,7 +38,8 @@ pub record IsSession (parties : ℕ) (session : JobSession) : Type 0 where
 -- the listed groups, if any, are of so many parties
 abbrev pub HasParties : ℕ → Adversary → Type 0
 HasParties parties (Formula text) = Unit {0}
-HasParties parties (Tolerated groups) = All (λ (group : Members). group.parties ≡ parties) groups.items
+HasParties parties (Tolerated groups) =
+    All (λ (group : Members). group.parties ≡ parties) groups.items
 
 pub record IsJob (job : Job) : Type 0 where
   pub some_bits : 0 < job.ring

@@ -101,7 +101,8 @@ pub fn adversary_field(table: &Table) -> Field
 /// Checks that the top table has no other fields.
 #[tactic(auto, unfolding(crate::specs::Faults::unknown_fault))]
 pub fn check_top_known(alloc: Global, table: &Table) -> Result<(), JobFault>
-    ensures { let fields = table_view table.now in TellsOrMemory result (unknown_fault None (top_fields (adversary_field fields)) fields) }
+    ensures { let fields = table_view table.now in
+        TellsOrMemory result (unknown_fault None (top_fields (adversary_field fields)) fields) }
 {
     let known = [
         Field::Version.text(),

@@ -46,7 +46,8 @@ fn bad_name(texts: &[Value], names: &Names) -> Option<usize>
 
 // Whether the text is no party, or stands before. What stands before are different parties, so 12 at most.
 fn is_bad(text: &str, before: &[Value], names: &Names) -> bool
-    ensures { result ≡ (is_no_party names.now text.now || list_any (λ item. bytes_eq (text_of (view item)) text.now) before.now) }
+    ensures { result ≡ (is_no_party names.now text.now
+        || list_any (λ item. bytes_eq (text_of (view item)) text.now) before.now) }
 {
     names.number(text).is_none() || is_among(before, text)
 }

@@ -23,7 +23,12 @@ use toml::Table;
 use toml_fields::{document, items_at};
 
 fn check_head(alloc: Global, table: &Table, node: bool) -> Result<(), JobFault>
-    ensures { let fields = table_view table.now in TellsOrMemory result (first_fault (version_fault fields ∷ unknown_fault None (top_fields (adversary_field fields)) fields ∷ fields_fault node fields ∷ ring_fault fields ∷ [])) }
+    ensures { let fields = table_view table.now in TellsOrMemory result (first_fault
+        (version_fault fields
+        ∷ unknown_fault None (top_fields (adversary_field fields)) fields
+        ∷ fields_fault node fields
+        ∷ ring_fault fields
+        ∷ [])) }
 {
     check_version(table)?;
     check_top_known(alloc, table)?;

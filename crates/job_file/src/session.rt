@@ -58,7 +58,8 @@ fn check_owners(owners: &[Value], session: u32, names: &Names) -> Result<(), Job
 
 // More values than a `u32` counts do not fit in memory.
 fn check_readers(values: &[Value], session: u32, names: &Names) -> Result<(), JobFault>
-    ensures { TellsOrMemory result (option_map (λ bad. BadReader session bad.0 bad.1) (bad_in_lists names.now 0 (map texts_of (map view values.now)))) }
+    ensures { TellsOrMemory result (option_map (λ bad. BadReader session bad.0 bad.1)
+        (bad_in_lists names.now 0 (map texts_of (map view values.now)))) }
 {
     let Some((value, at)) = bad_in_lists(values, names) else {
         return Ok(());

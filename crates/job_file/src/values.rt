@@ -152,7 +152,8 @@ fn port_of(table: &Table) -> u16
 #[tactic(auto, unfolding(crate::specs::Forms::adversary_form))]
 fn adversary_of(alloc: Global, table: &Table, names: &Names) -> Result<Adversary, AllocError>
     requires { names.now ≡ texts Parties (table_view table.now) }
-    ensures form { IfOk result (λ told. adversary_view told ≡ adversary_form (table_view table.now)) }
+    ensures form { IfOk result (λ told.
+        adversary_view told ≡ adversary_form (table_view table.now)) }
     ensures parties { IfOk result (HasParties (length names.now)) }
 {
     if is_listed(table) {

@@ -1,15 +1,13 @@
 -- The maximal groups as a list.
-use Rattle.std.proofs.Common.{◌≡◌, ◌≢◌, ℕ, suc, ◌+◌, ◌-◌, ◌^◌, ◌<◌, ◌≤◌, inl, inr, Bool, true, false, not, ◌&&◌, ◌||◌, List, [], ◌∷◌, ◌++◌, length, map, Option, Some, None, refl, sym, ◌∙◌, ap, ap₂, subst, arith, nat_eq, nat_lt, length-append}
+use Rattle.std.proofs.Common.{◌≡◌, ◌≢◌, ℕ, suc, ◌+◌, ◌^◌, ◌<◌, ◌≤◌, inl, inr, Bool, true, false, not, ◌&&◌, ◌||◌, List, [], ◌∷◌, ◌++◌, length, map, Option, Some, None, refl, sym, ◌∙◌, ap, ap₂, subst, arith, nat_lt, length-append}
 use Rattle.std.specs.Prelude.{bit_or, slice_index, filter, All, SomeIff}
 use Rattle.std.specs.List.{range_with_len}
-use Rattle.std.specs.Int.{bit_at}
 use Rattle.std.proofs.lemmas.Nat.{le_or_l, pow_pos}
-use Rattle.std.proofs.lemmas.Nat.Bits.{same_from_bits_below, bit_at_ones}
 use Rattle.std.proofs.lemmas.Bool.{ltb-true, ltb-false}
 use Rattle.std.proofs.lemmas.Bool.Decides.{eqb_tells}
 use Rattle.std.proofs.lemmas.Grind.{common_steps}
 use Rattle.std.proofs.lemmas.List.{map-append}
-use Rattle.party_set.specs.Parties.{Members, Structure, has_party, within, is_all, IsAntichain}
+use Rattle.party_set.specs.Parties.{Members, Structure, has_party, within, IsAntichain}
 use Rattle.party_set.proofs.Every.{and_both, and_from, implies_from, implies_at, not_true, true_not, false_from, every_from, every_at}
 use Rattle.party_set.proofs.Masks.{within_word}
 use Rattle.maximal_groups.specs.Families.{IsClosed, is_larger, is_maximal, maximal_structure, LiesWithin, Tells}

@@ -1,5 +1,5 @@
 -- Families that a list of groups tells, and families that say the same.
-use Rattle.std.proofs.Common.{◌≡◌, ◌≢◌, ℕ, zero, suc, ◌+◌, ◌-◌, ◌^◌, ◌<◌, ◌≤◌, ◌⊎◌, inl, inr, Bool, true, false, not, ◌&&◌, ◌||◌, List, [], ◌∷◌, ◌++◌, length, map, refl, sym, ◌∙◌, ap, ap₂, arith, cond, nat_eq, eq-eqb, ne_eqb}
+use Rattle.std.proofs.Common.{◌≡◌, ◌≢◌, ℕ, zero, suc, ◌-◌, ◌^◌, ◌<◌, ◌⊎◌, inl, inr, Bool, true, false, not, ◌&&◌, ◌||◌, List, [], ◌∷◌, ◌++◌, length, map, refl, sym, ◌∙◌, ap, ap₂, arith, cond, nat_eq, eq-eqb, ne_eqb}
 use Rattle.std.specs.Prelude.{slice_index, filter}
 use Rattle.std.specs.List.{list_any, range_with_len}
 use Rattle.std.proofs.lemmas.Nat.{pow_pos}
@@ -8,7 +8,7 @@ use Rattle.std.proofs.lemmas.Bool.Decides.{eqb_tells}
 use Rattle.std.proofs.lemmas.List.Folds.{list_any_at}
 use Rattle.party_set.specs.Parties.{Structure, Members, has_party, within, every_below}
 use Rattle.party_set.proofs.Every.{and_both, and_from, implies_from, false_from, true_not, every_from, every_at, implies_at}
-use Rattle.maximal_groups.specs.Families.{is_tolerated_by, is_larger, is_maximal, maximal_structure, IsClosed, IsFamily, IsCoveredBy, LiesWithin}
+use Rattle.maximal_groups.specs.Families.{is_tolerated_by, is_larger, is_maximal, maximal_structure, IsFamily, IsCoveredBy, LiesWithin}
 use Rattle.maximal_groups.proofs.Found.{within_both, within_le, some_maximal, tells}
 use Rattle.maximal_groups.proofs.Largest.{none_larger}
 use Rattle.maximal_groups.proofs.Listing.{filter_suc}

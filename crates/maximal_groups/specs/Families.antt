@@ -32,6 +32,10 @@ is_maximal n tolerated a = tolerated a && every_below (2 ^ n) (λ b. not (is_lar
 abbrev pub maximal_structure : ℕ → (ℕ → Bool) → Structure
 maximal_structure n tolerated = record { parties = n; groups = filter (is_maximal n tolerated) (range_with_len 0 (2 ^ n)) }
 
+-- the maximal groups of the family that a list tells
+abbrev pub listed_structure : ℕ → List ℕ → Structure
+listed_structure n groups = maximal_structure n (is_tolerated_by n groups)
+
 -- a lies within a listed group
 abbrev pub LiesWithin : Structure → ℕ → Type 0
 LiesWithin s a = (i : ℕ) × (i < length s.groups) × (within s.parties a (slice_index s.groups i) ≡ true)

@@ -2,7 +2,7 @@
 ghost use Rattle.std.specs.Prelude.{◌≡◌, ◌≤◌, ℕ, Bool, List, true, All, map};
 ghost use Rattle.std.specs.List.{list_any};
 ghost use Rattle.party_set.specs.Parties.{within, Members};
-ghost use Rattle.maximal_groups.specs.Families.{maximal_structure, is_tolerated_by, IsFamily, IsCoveredBy};
+ghost use Rattle.maximal_groups.specs.Families.{maximal_structure, listed_structure, IsFamily, IsCoveredBy};
 
 use crate::family::Family;
 use party_set::Group;
@@ -21,9 +21,13 @@ impl Model for Listed {
 
     ghost Value = { Structure };
 
-    ghost view = { λ l. record { parties = l.parties; groups = map (λ (m : Members). m.mask) l.groups.items } };
+    ghost view = { λ l. record {
+      parties = l.parties;
+      groups = map (λ (m : Members). m.mask) l.groups.items;
+    } };
 
-    ghost invariant = { λ l. (1 ≤ l.parties) × (l.parties ≤ 12) × All (λ (m : Members). m.parties ≡ l.parties) l.groups.items };
+    ghost invariant = { λ l. (1 ≤ l.parties) × (l.parties ≤ 12)
+        × All (λ (m : Members). m.parties ≡ l.parties) l.groups.items };
 }
 
 impl Listed {
@@ -31,7 +35,10 @@ impl Listed {
     pub fn make(parties: u32, groups: Vec<Group>) -> Listed
         requires parties { (1 ≤ parties) × (parties ≤ 12) }
         requires groups { All (λ (m : Members). m.parties ≡ parties) groups.items }
-        ensures { result ≡ record { parties = parties; groups = map (λ (m : Members). m.mask) groups.items } }
+        ensures { result ≡ record {
+          parties = parties;
+          groups = map (λ (m : Members). m.mask) groups.items;
+        } }
     {
         Listed { parties, groups }
     }
@@ -55,7 +62,8 @@ impl Family for Listed {
 
 fn lies_within_any(group: Group, groups: &[Group]) -> bool
     requires { All (λ (m : Members). m.parties ≡ group.parties) groups.now }
-    ensures { result ≡ list_any (λ (m : Members). within group.parties group.mask m.mask) groups.now }
+    ensures { result
+        ≡ list_any (λ (m : Members). within group.parties group.mask m.mask) groups.now }
 {
     groups.iter().any(|listed| group.within(*listed))
 }
@@ -63,12 +71,13 @@ fn lies_within_any(group: Group, groups: &[Group]) -> bool
 /// Lists of which each group is tolerated by the other list tell the same maximal groups. So a group may stand more
 /// than once, and a group that lies within another may be there or not.
 pub fn lists_may_differ()
-    ensures { (n : ℕ) (first second : List ℕ) → IsCoveredBy n first second → IsCoveredBy n second first
-        → maximal_structure n (is_tolerated_by n first) ≡ maximal_structure n (is_tolerated_by n second) }
+    ensures { (n : ℕ) (first second : List ℕ)
+        → IsCoveredBy n first second → IsCoveredBy n second first
+        → listed_structure n first ≡ listed_structure n second }
 {}
 
 /// The list of a family's maximal groups tells the same maximal groups as the family.
 pub fn maximal_groups_as_a_list()
     ensures { (n : ℕ) (tolerated : ℕ → Bool) → IsFamily n tolerated
-        → let s = maximal_structure n tolerated in maximal_structure n (is_tolerated_by n s.groups) ≡ s }
+        → let s = maximal_structure n tolerated in listed_structure n s.groups ≡ s }
 {}

@@ -24,6 +24,7 @@ pub fn covering_pair(groups: &Groups) -> Option<(u32, u32)>
 
 /// Where the first group is of all parties, it covers them with itself: it is the pair, and the structure fails Q2.
 pub fn all_parties_cover_alone()
-    ensures pair { (s : Structure) (i j : ℕ) → StartsWithAll s → IsFirstCovering s i j → (i ≡ 0) × (j ≡ 0) }
+    ensures pair { (s : Structure) (i j : ℕ) → StartsWithAll s → IsFirstCovering s i j
+        → (i ≡ 0) × (j ≡ 0) }
     ensures fails { (s : Structure) → StartsWithAll s → ¬ IsQ2 s }
 {}

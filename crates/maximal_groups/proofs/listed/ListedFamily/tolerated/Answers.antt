@@ -1,4 +1,4 @@
-use Rattle.std.proofs.Common.{◌≡◌, ◌≢◌, arith}
+use Rattle.std.proofs.Common.{◌≢◌, arith}
 use Rattle.maximal_groups.proofs.Lists.{by_masks}
 use Rattle.maximal_groups.proofs.listed.ListedFamily.tolerated.Goals as goal
 
