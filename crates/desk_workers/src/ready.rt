@@ -45,6 +45,7 @@ pub fn prepare(
     requires pieces { ArePieces plan.now pieces.items }
     ensures whole { IsWhole (world_of plan.now inputs.now pieces.items) }
     ensures ready { IfOk result (IsReady (world_of plan.now inputs.now pieces.items)) }
+    ensures workers { IfOk result (λ ready. length ready.seats.items ≡ workers) }
 {
     let parties = plan.parties();
     let promised = Promised::of(plan, inputs, &pieces);

@@ -21,7 +21,8 @@ pub fn prepared(
     requires workers { (0 < workers) × (workers ≤ 16) }
     requires count { length hands.items ≡ plan.now.parties }
     requires fit { AllFit plan.now hands.items }
-    ensures { IfOk result (IsReady (world_of plan.now (map form_of hands.items))) }
+    ensures ready { IfOk result (IsReady (world_of plan.now (map form_of hands.items))) }
+    ensures workers { IfOk result (λ ready. length ready.seats.items ≡ workers) }
 {
     let Parts { inputs, tapes } = take_apart(alloc, hands)?;
     let pieces = in_order(alloc, plan.sessions(), tapes)?;

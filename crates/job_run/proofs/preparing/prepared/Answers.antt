@@ -25,8 +25,8 @@ prepare-requires-clause-pieces c =
     let pieces = c.in_ok-pieces.ensures ∙ ap₂ pieces_in c.sessions.ensures c.in_ok-inputs.ensures.tapes in
     subst (ArePieces c.args.plan.now) (sym pieces) (are_pieces c.args.plan.now c.args.hands.items c.requires.count c.requires.fit)
 
-pub returns : goal.returns
-returns c =
+pub returns-clause-ready : goal.returns-clause-ready
+returns-clause-ready c =
     let inputs = c.make-inputs.ensures ∙ c.in_ok-inputs.ensures.inputs in
     let pieces = c.in_ok-pieces.ensures ∙ ap₂ pieces_in c.sessions.ensures c.in_ok-inputs.ensures.tapes in
     let same = ap₂ (world_opened c.args.plan.now) inputs pieces ∙ world_same c.args.plan.now c.args.hands.items c.requires.count c.requires.fit in
