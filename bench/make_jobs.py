@@ -1,8 +1,8 @@
 #!/usr/bin/env python3
 """Makes jobs of several sizes, each in a folder of its own: make_jobs.py FOLDER
 
-Ring circuits of 4,096 to 65,536 gates, a quarter of them products, and a circuit of bits with as many gates of each kind as a
-circuit of AES-128 has. Each folder gets the job, its circuit, three party files with seeds, and 'expected', the text that
+Ring circuits of 4,096 to 65,536 gates, a quarter of them products, a circuit of bits with as many gates of each kind as a
+circuit of AES-128 has, and one of products alone that eight sessions compute. Each folder gets the job, its circuit, three party files with seeds, and 'expected', the text that
 'mpc run' must write, computed from the plain circuit. The same call always makes the same files.
 
 A list of the folders, with a line 'NAME GATES PRODUCTS MESSAGES' for each, goes to standard output.
@@ -15,6 +15,7 @@ import sys
 PARTIES = ['a', 'b', 'c']
 RING_SIZES = [4096, 8192, 16384, 32768, 65536]
 INPUT_WIRES = 16
+SESSION_PRODUCTS = 4096
 
 # Gates of the circuit of bits.
 BITS = {'AND': 6400, 'XOR': 28176, 'INV': 2087}
@@ -67,8 +68,9 @@ def evaluate(inputs, gates, modulus):
     return values
 
 
-def write(folder, name, layout, bits, widths, outputs, operations, numbers):
-    """Writes one job: the inputs are given by a, b, .. in turn, the last wires are one output value, which all read."""
+def write(folder, name, layout, bits, widths, outputs, operations, numbers, sessions=1):
+    """Writes one job: the inputs are given by a, b, .. in turn, the last wires are one output value, which all read. All sessions have
+    the same circuit, and inputs of their own."""
     path = os.path.join(folder, name)
     os.makedirs(path)
     wires = sum(widths)
@@ -78,15 +80,21 @@ def write(folder, name, layout, bits, widths, outputs, operations, numbers):
         wires += 1
     owners = [PARTIES[i % len(PARTIES)] for i in range(len(widths))]
     inputs = {party: [] for party in PARTIES}
-    values = []
-    for owner, width in zip(owners, widths):
-        words = [numbers.below(min(2**bits, 2**31)) for _ in range(width)]
-        inputs[owner] += words
-        values += words
-    words = evaluate(values, gates, 2**bits)[wires - outputs:]
+    expected = ''
+    for session in range(sessions):
+        values = []
+        given = {party: [] for party in PARTIES}
+        for owner, width in zip(owners, widths):
+            words = [numbers.below(min(2**bits, 2**31)) for _ in range(width)]
+            given[owner] += words
+            values += words
+        for party in PARTIES:
+            inputs[party].append(' '.join(map(str, given[party])))
+        words = evaluate(values, gates, 2**bits)[wires - outputs:]
+        expected += ''.join(' '.join([f'out {session} 0', party, *map(str, words)]) + '\n' for party in PARTIES)
 
-    products = sum(operation in ('MUL', 'AND') for operation in operations)
-    messages = sum(widths) * DEAL_MESSAGES + products * PRODUCT_MESSAGES + outputs * len(PARTIES)
+    products = sessions * sum(operation in ('MUL', 'AND') for operation in operations)
+    messages = sessions * (sum(widths) * DEAL_MESSAGES + outputs * len(PARTIES)) + products * PRODUCT_MESSAGES
     if messages > MOST_MESSAGES or len(gates) > MOST_GATES or wires > MOST_WIRES:
         sys.exit(f'make_jobs.py: {name} is past the limits of the program')
 
@@ -97,21 +105,20 @@ def write(folder, name, layout, bits, widths, outputs, operations, numbers):
     if len(circuit) > MOST_BYTES:
         sys.exit(f'make_jobs.py: the circuit of {name} is longer than the program takes')
     texts = lambda items: '[' + ', '.join(f'"{item}"' for item in items) + ']'
+    session = (f'[[session]]\ncircuit = "circuit.txt"\nlayout = "{layout}"\nowners = {texts(owners)}\n'
+               f'readers = [{texts(PARTIES)}]\n')
     files = {
         'circuit.txt': circuit,
-        'job.toml': f'version = 1\nring_bits = {bits}\nparties = {texts(PARTIES)}\nformula = "2 of (a, b, c)"\n'
-                    f'[[session]]\ncircuit = "circuit.txt"\nlayout = "{layout}"\nowners = {texts(owners)}\n'
-                    f'readers = [{texts(PARTIES)}]\n',
-        'expected': ''.join(' '.join(['out 0 0', party, *map(str, words)]) + '\n' for party in PARTIES),
+        'job.toml': f'version = 1\nring_bits = {bits}\nparties = {texts(PARTIES)}\nformula = "2 of (a, b, c)"\n' + sessions * session,
+        'expected': expected,
     }
     for party in PARTIES:
-        given = ' '.join(map(str, inputs[party]))
         seed = hashlib.sha256(f'{name} {party}'.encode()).hexdigest()
-        files[f'party_{party}.toml'] = f'version = 1\ninputs = ["{given}"]\nseed = "{seed}"\n'
+        files[f'party_{party}.toml'] = f'version = 1\ninputs = {texts(inputs[party])}\nseed = "{seed}"\n'
     for file, text in files.items():
         with open(os.path.join(path, file), 'w', newline='\n') as out:
             out.write(text)
-    print(name, len(gates), products, messages)
+    print(name, sessions * len(gates), products, messages)
 
 
 def main(words):
@@ -128,6 +135,8 @@ def main(words):
         j = numbers.below(i + 1)
         operations[i], operations[j] = operations[j], operations[i]
     write(folder, 'bits_aes', 'bristol', 1, BIT_INPUTS, BIT_OUTPUTS, operations, numbers)
+    operations = ['MUL'] * SESSION_PRODUCTS
+    write(folder, 'eight_sessions', 'ring', 32, [1] * INPUT_WIRES, 1, operations, Numbers(8), sessions=8)
 
 
 if __name__ == '__main__':

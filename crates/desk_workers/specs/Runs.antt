@@ -1,7 +1,7 @@
 -- A run of workers: before it, and after it.
 use Rattle.std.specs.Prelude.{true, ◌≡◌, ℕ, ◌+◌, ◌*◌, ◌<◌, ◌≤◌, [], length, slice_get, Option, Some, IsSomeAnd, vec_capacity}
 use Rattle.mpc_ring.specs.Sums.{total}
-use Rattle.job_plan.specs.Plans.{session, readers, reads, output_wire}
+use Rattle.job_plan.specs.Plans.{Plan, session, readers, reads, output_wire}
 use Rattle.job_plan.specs.Messages.{messages}
 use Rattle.job_plan.specs.Numbers.{message}
 use Rattle.share_world.specs.Laws.{IsWhole}
@@ -54,6 +54,14 @@ pub record Opens (w : World) (s o p : ℕ) : Type 0 where
   pub in_party : p < w.plan.parties
   pub is_output : o < length (readers (session w.plan s))
   pub is_read : reads w.plan p s o ≡ true
+
+-- the run of a world of this plan is over
+abbrev pub IsRunOver : Plan → Done → Type 0
+IsRunOver plan o = (w : World) × (w.plan ≡ plan) × IsOver w o
+
+-- this holds of each world of this plan whose run is over so
+abbrev pub OfItsWorld : Plan → Done → (World → Type 0) → Type 0
+OfItsWorld plan o Holds = (w : World) → w.plan ≡ plan → IsOver w o → Holds w
 
 -- the plain value of an output wire
 abbrev pub plain_output : World → ℕ → ℕ → ℕ

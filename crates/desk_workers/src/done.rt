@@ -31,7 +31,8 @@ impl Done {
     /// Output wire `output` of a session, counted from its first output wire, as a party that reads it opened it.
     pub fn delivered(&self, session: u32, output: u32, reader: u32) -> u64
         requires { (w : World) × IsOver w self.now × Opens w session output reader }
-        ensures { (w : World) → IsOver w self.now → Opens w session output reader → result ≡ plain_output w session output }
+        ensures { (w : World) → IsOver w self.now → Opens w session output reader
+            → result ≡ plain_output w session output }
     {
         match self.desk(session, reader).delivered(output) {
             Some(word) => word,
@@ -42,7 +43,8 @@ impl Done {
     /// The word of message `number`.
     pub fn cell(&self, number: u32) -> u64
         requires { (w : World) × IsOver w self.now × (number < length (messages w.plan)) }
-        ensures { (w : World) → IsOver w self.now → number < length (messages w.plan) → result ≡ word w (message w.plan number) }
+        ensures { (w : World) → IsOver w self.now → number < length (messages w.plan)
+            → result ≡ word w (message w.plan number) }
     {
         match self.cells.cell(number) {
             Some(word) => word,
@@ -53,7 +55,8 @@ impl Done {
     /// How many tape words the party has drawn in the session: all of its piece.
     pub fn drawn(&self, party: u32, session: u32) -> u32
         requires { (w : World) × IsOver w self.now × (session < length w.plan.sessions) × (party < w.plan.parties) }
-        ensures { (w : World) → IsOver w self.now → session < length w.plan.sessions → party < w.plan.parties → result ≡ words w.plan party session }
+        ensures { (w : World) → IsOver w self.now → session < length w.plan.sessions → party < w.plan.parties
+            → result ≡ words w.plan party session }
     {
         self.desk(session, party).drawn()
     }

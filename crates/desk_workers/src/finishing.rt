@@ -6,12 +6,12 @@ ghost use Rattle.desk_laws.specs.Pools.{AllEnded, AllStuck, left_all};
 ghost use Rattle.desk_workers.specs.Promises.{world_in};
 ghost use Rattle.desk_workers.specs.Pools.{IsPool, AllStand, parts_of};
 
-use crate::pace::NoPace;
 use crate::promised::Promised;
 use crate::stepping::{Turn, walk};
 use desk_rack::Rack;
 use job_plan::Plan;
 use message_board::{Board, BoardSeat};
+use outer_io::NoPace;
 use party_desk::Desk;
 
 /// One seat that knows what all knew.

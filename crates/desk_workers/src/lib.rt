@@ -3,12 +3,10 @@
 
 mod done;
 mod finishing;
-mod pace;
 mod pool;
 mod promised;
 mod ready;
 mod stepping;
 
 pub use done::Done;
-pub use pace::{NoPace, Pace};
 pub use ready::{Ready, prepare};

@@ -3,12 +3,12 @@ ghost use Rattle.std.specs.Prelude.{◌≡◌, ◌+◌, ◌<◌, ◌≤◌, ◌^
 ghost use Rattle.message_board.specs.Seats.{IsFreeSeatOf};
 ghost use Rattle.desk_workers.specs.Pools.{IsPool, AllFree, SameParts};
 
-use crate::pace::Pace;
 use crate::promised::Promised;
 use crate::stepping::{Turn, has_ended, walk};
 use desk_rack::Rack;
 use job_plan::Plan;
 use message_board::BoardSeat;
+use outer_io::Pace;
 use party_desk::Desk;
 use std::thread;
 use std::thread::Threads;

@@ -8,13 +8,13 @@ ghost use Rattle.desk_workers.specs.Runs.{IsReady};
 
 use crate::done::Done;
 use crate::finishing::{finish_all, fold_all, take_all};
-use crate::pace::Pace;
 use crate::pool::work_all;
 use crate::promised::Promised;
 use desk_laws::open_desks;
 use desk_rack::Rack;
 use job_plan::{Inputs, Plan};
 use message_board::BoardSeat;
+use outer_io::Pace;
 use party_desk::Desk;
 use std::alloc::{AllocError, Global};
 use std::thread::Threads;

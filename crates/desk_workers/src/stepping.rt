@@ -4,11 +4,11 @@ ghost use Rattle.message_board.specs.Seats.{IsSeatOf};
 ghost use Rattle.desk_laws.specs.Pools.{moves_of};
 ghost use Rattle.desk_workers.specs.Pools.{IsPool, IsDeskOf, LeadsOn, IsStuck};
 
-use crate::pace::Pace;
 use crate::promised::Promised;
 use desk_laws::step_in_world;
 use job_plan::Plan;
 use message_board::{Board, BoardSeat, SeatAt};
+use outer_io::Pace;
 use party_desk::{Desk, Stepped};
 
 /// A worker that is about to step a desk: its number, and the desk's.

@@ -2,7 +2,7 @@
 #![tactic(auto)]
 
 use mpc_top::command;
-use outer_io::{StdFiles, StdSink};
+use outer_io::{NoPace, StdFiles, StdSink};
 use std::alloc::{AllocError, Global};
 use std::env;
 use std::io::ErrorKind;
@@ -35,5 +35,6 @@ fn main(rt: HostRuntime) -> ExitCode {
     let mut files = StdFiles::new(&rt);
     let mut out = StdSink::new(rt.stdout());
     let mut err = StdSink::new(rt.stderr());
-    ExitCode::from(command(rt.alloc(), &words, &mut files, &mut out, &mut err))
+    let status = command(&rt, rt.alloc(), &words, &mut files, &mut out, &mut err, &NoPace);
+    ExitCode::from(status)
 }

@@ -8,7 +8,7 @@ use Rattle.outer_io.specs.Files.{FilesReading, Told, Reads, IsContent, IsLonger,
 use Rattle.mpc_top.specs.Names.{path_of}
 use Rattle.mpc_top.specs.JobOf.{file_at, bytes_of, file_limit}
 use Rattle.mpc_top.specs.Verdict.{accepted, missing, refused}
-use Rattle.mpc_top.specs.Reading.{KeepsFiles}
+use Rattle.mpc_top.specs.Reads.{KeepsFiles}
 use Rattle.refusal_text.specs.Lines.{too_long_line}
 
 pub read_keeps : (name : List ℕ) (limit : ℕ) (before after : FilesReading) (result : Result (Vec ℕ Global) ReadRefusal) → Reads name limit before after result → KeepsFiles before after

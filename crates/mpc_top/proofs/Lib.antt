@@ -1,7 +1,7 @@
-mod Answering
+mod Equal
 mod FileEnds
 mod Jobs
-mod Looping
-mod Renaming
+mod Loops
+mod Runs
+mod Statuses
 mod Steps
-mod Writing

@@ -10,7 +10,7 @@ use Rattle.mpc_top.specs.declared.stop.Stop.{Stop}
 use Rattle.mpc_top.specs.declared.stop.Stop.TheVariants.{Memory, Words, Out, Files, Refused, Covering}
 use Rattle.mpc_top.specs.Verdict.{Verdict, accepted, missing, refused, Ends, Then}
 use Rattle.mpc_top.specs.JobOf.{Contents}
-use Rattle.mpc_top.specs.Reading.{KeepsFiles, ReadsAs, StopsAt, Meets, WalksAs, StopsBy}
+use Rattle.mpc_top.specs.Reads.{KeepsFiles, ReadsAs, StopsAt, Meets, WalksAs, StopsBy}
 
 le_trans : {a b c : ℕ} → a ≤ b → b ≤ c → a ≤ c
 le_trans {a} {b} {c} p q = omega arith

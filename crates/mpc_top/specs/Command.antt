@@ -6,7 +6,7 @@ use Rattle.outer_io.specs.Sink.{SinkReading, Writes}
 use Rattle.command_words.specs.Commands.{command_of}
 use Rattle.mpc_top.specs.declared.stop.Stop.{Stop}
 use Rattle.mpc_top.specs.Verdict.{Verdict, accepted, missing, refused}
-use Rattle.mpc_top.specs.Reading.{KeepsFiles}
+use Rattle.mpc_top.specs.Reads.{KeepsFiles}
 use Rattle.mpc_top.specs.Due.{IsDue, status_due, text_due}
 use Rattle.mpc_top.specs.Stops.{HasCause, IsDone, Tells}
 

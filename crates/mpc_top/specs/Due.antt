@@ -7,16 +7,16 @@ use Rattle.output_text.specs.OutText.{out_text}
 use Rattle.output_text.specs.CheckText.{check_text}
 use Rattle.mpc_top.specs.Texts.{files_fault_line, usage_text}
 use Rattle.mpc_top.specs.Verdict.{Verdict, accepted, missing, refused, Ends, Then}
-use Rattle.mpc_top.specs.JobOf.{Contents, Planned, Job, PlanAt, JobAt}
+use Rattle.mpc_top.specs.JobOf.{Contents, Planned, WholeJob, PlanAt, JobAt}
 
 -- the bytes of each word
 abbrev pub words_view : List (String Global) → List (List ℕ)
 words_view words = map string_bytes words
 
--- the text of a command over files
+-- the text of a command over files; how many workers run a job changes nothing
 unfoldable pub TextOf : CommandForm → Contents → Verdict (List ℕ) → Type 0
-TextOf (run dir) files =
-    Then (JobAt files dir) (λ (job : Job). Ends (accepted (out_text job.names job.world)))
+TextOf (run dir workers) files =
+    Then (JobAt files dir) (λ (job : WholeJob). Ends (accepted (out_text job.names job.world)))
 TextOf (check dir) files =
     Then (PlanAt files dir) (λ (p : Planned). Ends (accepted (check_text p.names p.plan)))
 

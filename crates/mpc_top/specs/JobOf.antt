@@ -23,7 +23,7 @@ use Rattle.job_file.specs.declared.job.CircuitLayout.{CircuitLayout}
 use Rattle.job_file.specs.declared.job.CircuitLayout.TheVariants as layout
 use Rattle.party_file.specs.Table.{PartyForm, party_in}
 use Rattle.share_world.specs.Worlds.{World}
-use Rattle.job_run.specs.Hands.{world_of}
+use Rattle.job_run.specs.Parties.{world_of}
 use Rattle.refusal_text.specs.Lines.{too_long_line, job_line, formula_line, groups_line, covering_line, circuit_line, session_line, plan_line, party_line}
 use Rattle.mpc_top.specs.Names as names
 use Rattle.mpc_top.specs.Verdict.{Verdict, accepted, missing, refused, Ends, Then, verdict_of, unless}
@@ -158,27 +158,27 @@ PlanAt files dir =
 -- ---- the parties
 
 -- what party p gives
-unfoldable pub HandAt : Contents → List ℕ → Plan → ℕ → List ℕ → Verdict PartyForm → Type 0
-HandAt files dir plan p name =
+unfoldable pub PartyAt : Contents → List ℕ → Plan → ℕ → List ℕ → Verdict PartyForm → Type 0
+PartyAt files dir plan p name =
     Then (Ends (file_at files dir (names.party_file name))) (λ bytes.
     Ends (verdict_of (party_line (names.party_file name)) (party_in plan p bytes)))
 
 -- what the parties of these names give, after those whose files were read
-unfoldable pub HandsAfter :
+unfoldable pub PartiesAfter :
     Contents → List ℕ → Plan → List PartyForm → List (List ℕ) → Verdict (List PartyForm) → Type 0
-HandsAfter files dir plan before [] = Ends (accepted before)
-HandsAfter files dir plan before (name ∷ more) =
-    Then (HandAt files dir plan (length before) name) (λ hand.
-    HandsAfter files dir plan (before ++ (hand ∷ [])) more)
+PartiesAfter files dir plan before [] = Ends (accepted before)
+PartiesAfter files dir plan before (name ∷ more) =
+    Then (PartyAt files dir plan (length before) name) (λ party.
+    PartiesAfter files dir plan (before ++ (party ∷ [])) more)
 
 -- the names of the parties, and the world
-pub record Job : Type 0 where
+pub record WholeJob : Type 0 where
   pub names : List (List ℕ)
   pub world : World
 
 -- the job of a folder
-unfoldable pub JobAt : Contents → List ℕ → Verdict Job → Type 0
+unfoldable pub JobAt : Contents → List ℕ → Verdict WholeJob → Type 0
 JobAt files dir =
     Then (PlanAt files dir) (λ planned.
-    Then (HandsAfter files dir planned.plan [] planned.names) (λ hands.
-    Ends (accepted (record { names = planned.names; world = world_of planned.plan hands }))))
+    Then (PartiesAfter files dir planned.plan [] planned.names) (λ parties.
+    Ends (accepted (record { names = planned.names; world = world_of planned.plan parties }))))

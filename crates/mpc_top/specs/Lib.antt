@@ -4,6 +4,6 @@ pub mod Verdict
 pub mod JobOf
 pub mod Due
 pub mod Stops
-pub mod Reading
+pub mod Reads
 pub mod Seen
 pub mod Command

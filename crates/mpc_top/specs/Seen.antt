@@ -4,11 +4,11 @@ use Rattle.std.specs.declared.alloc.Global.{Global}
 use Rattle.party_file.specs.Table.{PartyForm}
 use Rattle.party_file.specs.Forms.{form_of}
 use Rattle.party_file.specs.declared.data.PartyData.{PartyData}
-use Rattle.mpc_top.specs.declared.planned.Planned as code
+use Rattle.mpc_top.specs.declared.plan.Planned as code
 use Rattle.mpc_top.specs.JobOf.{Planned}
 
 abbrev pub planned_view : code.Planned → Planned
 planned_view p = record { names = p.names; plan = p.plan }
 
-abbrev pub hands_view : Vec PartyData Global → List PartyForm
-hands_view hands = map form_of hands.items
+abbrev pub parties_view : Vec PartyData Global → List PartyForm
+parties_view parties = map form_of parties.items

@@ -9,7 +9,7 @@ use Rattle.mpc_top.specs.declared.stop.Stop.{Stop}
 use Rattle.mpc_top.specs.declared.stop.Stop.TheVariants.{Words, Refused, Covering, Files, Out, Memory}
 use Rattle.mpc_top.specs.Texts.{files_fault_line, out_fault_line, usage_text}
 use Rattle.mpc_top.specs.Verdict.{Verdict, accepted, missing, refused}
-use Rattle.mpc_top.specs.Reading.{KeepsFiles}
+use Rattle.mpc_top.specs.Reads.{KeepsFiles}
 use Rattle.mpc_top.specs.Due.{IsDue}
 
 abbrev pub status_of : Stop → ℕ

@@ -1,19 +1,18 @@
 //! The top call: from the words and the files to the bytes.
 #![tactic(auto)]
 
-mod job_text;
+mod call;
+mod file;
+mod job;
 mod parties;
-mod planned;
-mod reading;
-mod running;
+mod plan;
+mod run;
 mod sessions;
 mod stop;
 mod structure;
-mod text;
-mod top;
 
+pub use call::command;
 pub use stop::Stop;
-pub use top::command;
 
 #[cfg(test)]
 mod tests;

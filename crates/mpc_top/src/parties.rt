@@ -2,16 +2,16 @@
 ghost use Rattle.std.specs.Prelude.{◌≡◌, ◌<◌, [], IfOk, length, string_bytes, map};
 ghost use Rattle.party_file.specs.Forms.{form_of, Fits};
 ghost use Rattle.party_file.specs.Table.{party_in};
-ghost use Rattle.job_run.specs.Hands.{AllFit};
+ghost use Rattle.job_run.specs.Parties.{AllFit};
 ghost use Rattle.refusal_text.specs.Lines.{party_line};
 ghost use Rattle.mpc_top.specs.Names.{party_file};
 ghost use Rattle.mpc_top.specs.Verdict.{Ends, verdict_of};
-ghost use Rattle.mpc_top.specs.JobOf.{HandAt, HandsAfter};
-ghost use Rattle.mpc_top.specs.Seen.{hands_view};
-ghost use Rattle.mpc_top.specs.Reading.{ReadsAs, WalksAs};
+ghost use Rattle.mpc_top.specs.JobOf.{PartyAt, PartiesAfter};
+ghost use Rattle.mpc_top.specs.Seen.{parties_view};
+ghost use Rattle.mpc_top.specs.Reads.{ReadsAs, WalksAs};
 
 use crate::Stop;
-use crate::reading::read_file;
+use crate::file::read_file;
 use crate::stop::refusal;
 use job_plan::Plan;
 use outer_io::Files;
@@ -21,7 +21,7 @@ use refusal_text::party_line;
 use std::alloc::{AllocError, Global};
 
 /// Reads the files of all parties.
-pub(crate) fn read_hands<F: Files>(
+pub(crate) fn read_parties<F: Files>(
     alloc: Global,
     files: &mut F,
     dir: &str,
@@ -29,21 +29,21 @@ pub(crate) fn read_hands<F: Files>(
     plan: &Plan,
 ) -> Result<Vec<PartyData>, Stop>
     requires { length names.now ≡ plan.now.parties }
-    ensures reads { ReadsAs hands_view
-        (λ contents. HandsAfter contents dir.now plan.now [] names.now)
+    ensures reads { ReadsAs parties_view
+        (λ contents. PartiesAfter contents dir.now plan.now [] names.now)
         (F.reading files.old) (F.reading files.new) result }
-    ensures count { IfOk result (λ hands. length hands.items ≡ plan.now.parties) }
-    ensures fit { IfOk result (λ hands. AllFit plan.now hands.items) }
+    ensures count { IfOk result (λ parties. length parties.items ≡ plan.now.parties) }
+    ensures fit { IfOk result (λ parties. AllFit plan.now parties.items) }
 {
-    let mut hands = Vec::new(alloc);
+    let mut parties = Vec::new(alloc);
     for p in 0..names.len() {
-        let hand = read_hand(alloc, files, dir, plan, p, names.name(p))?;
-        hands.push(hand)?;
+        let party = read_party_file(alloc, files, dir, plan, p, names.name(p))?;
+        parties.push(party)?;
     }
-    Ok(hands)
+    Ok(parties)
 }
 
-fn read_hand<F: Files>(
+fn read_party_file<F: Files>(
     alloc: Global,
     files: &mut F,
     dir: &str,
@@ -52,13 +52,13 @@ fn read_hand<F: Files>(
     name: &str,
 ) -> Result<PartyData, Stop>
     requires { p < plan.now.parties }
-    ensures reads { ReadsAs form_of (λ contents. HandAt contents dir.now plan.now p name.now)
+    ensures reads { ReadsAs form_of (λ contents. PartyAt contents dir.now plan.now p name.now)
         (F.reading files.old) (F.reading files.new) result }
-    ensures fits { IfOk result (λ hand. Fits plan.now p (form_of hand)) }
+    ensures fits { IfOk result (λ party. Fits plan.now p (form_of party)) }
 {
     let file = file_of(alloc, name)?;
     let bytes = read_file(alloc, files, dir, file.as_str())?;
-    hand_of(alloc, &bytes, plan, p, file.as_str())
+    party_in(alloc, &bytes, plan, p, file.as_str())
 }
 
 /// The name of the file of the party of this name.
@@ -72,14 +72,14 @@ fn file_of(alloc: Global, name: &str) -> Result<String, AllocError>
     Ok(file)
 }
 
-fn hand_of(alloc: Global, bytes: &[u8], plan: &Plan, p: u32, file: &str) -> Result<PartyData, Stop>
+fn party_in(alloc: Global, bytes: &[u8], plan: &Plan, p: u32, file: &str) -> Result<PartyData, Stop>
     requires { p < plan.now.parties }
     ensures walks { WalksAs form_of
         (Ends (verdict_of (party_line file.now) (party_in plan.now p bytes.now))) result }
-    ensures fits { IfOk result (λ hand. Fits plan.now p (form_of hand)) }
+    ensures fits { IfOk result (λ party. Fits plan.now p (form_of party)) }
 {
     match read_party(alloc, bytes, plan, p) {
-        Ok(hand) => Ok(hand),
+        Ok(party) => Ok(party),
         Err(PartyFault::Memory) => Err(Stop::Memory),
         Err(fault) => Err(refusal(party_line(alloc, file, &fault))),
     }

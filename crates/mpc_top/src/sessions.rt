@@ -6,10 +6,10 @@ ghost use Rattle.job_file.specs.Jobs.{job_view, session_view, IsJob, IsSession};
 ghost use Rattle.refusal_text.specs.Lines.{circuit_line, session_line};
 ghost use Rattle.mpc_top.specs.Verdict.{Ends, verdict_of};
 ghost use Rattle.mpc_top.specs.JobOf.{layout_of, part_of, SessionAt, SessionsAfter};
-ghost use Rattle.mpc_top.specs.Reading.{ReadsAs, WalksAs};
+ghost use Rattle.mpc_top.specs.Reads.{ReadsAs, WalksAs};
 
 use crate::Stop;
-use crate::reading::read_file;
+use crate::file::read_file;
 use crate::stop::refusal;
 use circuit_file::{FileLayout, read};
 use circuit_model::{Circuit, CircuitFault};

@@ -5,7 +5,7 @@ ghost use Rattle.job_file.specs.Forms.{by_formula, by_list};
 ghost use Rattle.job_file.specs.Jobs.{adversary_view, job_view, HasParties};
 ghost use Rattle.mpc_top.specs.Verdict.{Ends};
 ghost use Rattle.mpc_top.specs.JobOf.{FormulaOf, groups_of, GroupsOf, Q2Of, StructureOf};
-ghost use Rattle.mpc_top.specs.Reading.{WalksAs};
+ghost use Rattle.mpc_top.specs.Reads.{WalksAs};
 
 use crate::Stop;
 use crate::stop::refusal;

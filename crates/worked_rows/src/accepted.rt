@@ -3,6 +3,17 @@
 use crate::product::{SESSION, TWO_SESSIONS};
 use crate::row::{CHECK, Change, RUN, Row};
 
+/// The changes that make of the product of 5 and 7 a second session with that of 2 and 3.
+pub const PRODUCTS_OF_TWO_SESSIONS: [Change<'static>; 7] = [
+    Change::Edit("job.toml", SESSION, TWO_SESSIONS),
+    Change::Edit("party_a.toml", "[\"5\"]", "[\"5\", \"2\"]"),
+    Change::Edit("party_a.toml", "10 20 1 2", "10 20 1 2 11 21 3 4"),
+    Change::Edit("party_b.toml", "[\"7\"]", "[\"7\", \"3\"]"),
+    Change::Edit("party_b.toml", "30 40 3 4", "30 40 3 4 31 41 5 6"),
+    Change::Edit("party_c.toml", "[\"\"]", "[\"\", \"\"]"),
+    Change::Edit("party_c.toml", "5 6", "5 6 7 8"),
+];
+
 /// Calls that end with status 0.
 pub const ACCEPTED: [Row<'static>; 17] = [
     Row {
@@ -47,15 +58,7 @@ pub const ACCEPTED: [Row<'static>; 17] = [
     Row {
         name: "two_sessions",
         words: &RUN,
-        changes: &[
-            Change::Edit("job.toml", SESSION, TWO_SESSIONS),
-            Change::Edit("party_a.toml", "[\"5\"]", "[\"5\", \"2\"]"),
-            Change::Edit("party_a.toml", "10 20 1 2", "10 20 1 2 11 21 3 4"),
-            Change::Edit("party_b.toml", "[\"7\"]", "[\"7\", \"3\"]"),
-            Change::Edit("party_b.toml", "30 40 3 4", "30 40 3 4 31 41 5 6"),
-            Change::Edit("party_c.toml", "[\"\"]", "[\"\", \"\"]"),
-            Change::Edit("party_c.toml", "5 6", "5 6 7 8"),
-        ],
+        changes: &PRODUCTS_OF_TWO_SESSIONS,
         status: 0,
         out: "out 0 0 c 35\nout 1 0 c 6\n",
         err: "",

@@ -2,7 +2,7 @@
 
 use crate::row::{Row, files, words};
 use mpc_top::command;
-use outer_io::VecSink;
+use outer_io::{NoPace, Pace, VecSink};
 use std::alloc::{AllocError, Global};
 use std::process::Abort;
 use std::test::Fail;
@@ -23,27 +23,43 @@ fn compare(rt: &impl Abort, row: &Row<'_>, status: u8, out: &[u8], err: &[u8]) {
     assert!(rt; err == row.err.as_bytes(), "{}: another refusal", row.name);
 }
 
-/// That the call of the row gives its answer, over sinks that take so many bytes.
-pub fn expect_within(
-    rt: &impl Abort,
-    alloc: Global,
+/// That the call of the row gives its answer at this pace, over sinks that take so many bytes.
+fn expect_call<P: Pace>(
+    rt: &HostRuntime,
     row: &Row<'_>,
+    pace: &P,
     room_out: usize,
     room_err: usize,
 ) -> Result<(), Fail> {
+    let alloc = rt.alloc();
     let words = words(alloc, row.words)?;
     let mut files = files(alloc, row.changes)?;
     let mut out = sink(alloc, room_out)?;
     let mut err = sink(alloc, room_err)?;
-    let status = command(alloc, &words, &mut files, &mut out, &mut err);
+    let status = command(rt, alloc, &words, &mut files, &mut out, &mut err, pace);
     compare(rt, row, status, out.bytes(), err.bytes());
     Ok(())
 }
 
+/// That the call of the row gives its answer, over sinks that take so many bytes.
+pub fn expect_within(
+    rt: &HostRuntime,
+    row: &Row<'_>,
+    room_out: usize,
+    room_err: usize,
+) -> Result<(), Fail> {
+    expect_call(rt, row, &NoPace, room_out, room_err)
+}
+
+/// That the call of the row gives its answer at this pace.
+pub fn expect_paced<P: Pace>(rt: &HostRuntime, row: &Row<'_>, pace: &P) -> Result<(), Fail> {
+    expect_call(rt, row, pace, 300, 300)
+}
+
 /// That the call of each row gives its answer.
-pub fn expect_all(rt: &impl Abort, alloc: Global, rows: &[Row<'_>]) -> Result<(), Fail> {
+pub fn expect_all(rt: &HostRuntime, rows: &[Row<'_>]) -> Result<(), Fail> {
     for row in rows {
-        expect_within(rt, alloc, row, 300, 300)?;
+        expect_within(rt, row, 300, 300)?;
     }
     Ok(())
 }

@@ -25,3 +25,5 @@ mod row;
 mod tests;
 #[cfg(test)]
 mod tolerated;
+#[cfg(test)]
+mod workers;

@@ -10,31 +10,27 @@ use crate::product::{CIRCUIT, SESSION, TWO_SESSIONS};
 use crate::row::{CHECK, Change, RUN, Row};
 use crate::tolerated::TOLERATED;
 use mpc_ring::Ring;
-use std::alloc::Global;
-use std::process::Abort;
 use std::test::Fail;
 
 #[test]
 fn each_row_has_its_answer(rt: HostRuntime) -> Result<(), Fail> {
-    let alloc = rt.alloc();
-    expect_all(&rt, alloc, &ACCEPTED)?;
-    expect_all(&rt, alloc, &OTHER_WORDS)?;
-    expect_all(&rt, alloc, &JOB_FAULTS)?;
-    expect_all(&rt, alloc, &CIRCUIT_FAULTS)?;
-    expect_all(&rt, alloc, &PARTY_FAULTS)?;
-    expect_all(&rt, alloc, &TOLERATED)
+    expect_all(&rt, &ACCEPTED)?;
+    expect_all(&rt, &OTHER_WORDS)?;
+    expect_all(&rt, &JOB_FAULTS)?;
+    expect_all(&rt, &CIRCUIT_FAULTS)?;
+    expect_all(&rt, &PARTY_FAULTS)?;
+    expect_all(&rt, &TOLERATED)
 }
 
 #[test]
 fn a_failing_sink_has_the_first_bytes(rt: HostRuntime) -> Result<(), Fail> {
-    expect_within(&rt, rt.alloc(), &SHORT_OUT, 4, 300)?;
-    expect_within(&rt, rt.alloc(), &SHORT_ERR, 300, 10)
+    expect_within(&rt, &SHORT_OUT, 4, 300)?;
+    expect_within(&rt, &SHORT_ERR, 300, 10)
 }
 
 /// That a run over the product's files with these changes is refused with this line, or accepted where it is empty.
 fn expect_refusal(
-    rt: &impl Abort,
-    alloc: Global,
+    rt: &HostRuntime,
     name: &str,
     changes: &[Change<'_>],
     line: &str,
@@ -48,7 +44,7 @@ fn expect_refusal(
         out: if accepted { "out 0 0 c 35\n" } else { "" },
         err: line,
     };
-    expect_within(rt, alloc, &row, 300, 300)
+    expect_within(rt, &row, 300, 300)
 }
 
 fn refusal_of_front(length: usize) -> &'static str {
@@ -66,20 +62,19 @@ fn first_bytes_of_the_circuit(rt: HostRuntime) -> Result<(), Fail> {
     for length in 0..=bytes.len() {
         let name = format!(in rt.alloc(); "{length} bytes of the circuit")?;
         let changes = [Change::Whole("mul.txt", &bytes[..length])];
-        expect_refusal(&rt, rt.alloc(), &name, &changes, refusal_of_front(length))?;
+        expect_refusal(&rt, &name, &changes, refusal_of_front(length))?;
     }
     Ok(())
 }
 
 fn expect_formula(
-    rt: &impl Abort,
-    alloc: Global,
+    rt: &HostRuntime,
     name: &str,
     formula: &str,
     line: &str,
 ) -> Result<(), Fail> {
     let changes = [Change::Edit("job.toml", "2 of (a, b, c)", formula)];
-    expect_refusal(rt, alloc, name, &changes, line)
+    expect_refusal(rt, name, &changes, line)
 }
 
 #[test]
@@ -88,11 +83,11 @@ fn long_formulas(rt: HostRuntime) -> Result<(), Fail> {
     let too_deep = "refused formula 4 TooDeep at=32\n";
     let too_many = "refused formula 5 TooManyNodes at=256\n";
     let nested = parentheses(alloc, 33, 33)?;
-    expect_formula(&rt, alloc, "33_parentheses", &nested, too_deep)?;
+    expect_formula(&rt, "33_parentheses", &nested, too_deep)?;
     let million = parentheses(alloc, 1_000_000, 0)?;
-    expect_formula(&rt, alloc, "a_million_parentheses", &million, too_deep)?;
+    expect_formula(&rt, "a_million_parentheses", &million, too_deep)?;
     let joined = joined_names(alloc, 128)?;
-    expect_formula(&rt, alloc, "a_name_129_times", &joined, too_many)
+    expect_formula(&rt, "a_name_129_times", &joined, too_many)
 }
 
 #[test]
@@ -100,7 +95,7 @@ fn a_job_past_the_limit(rt: HostRuntime) -> Result<(), Fail> {
     let bytes = vec![in rt.alloc(); b' '; 16_777_217]?;
     let changes = [Change::Whole("job.toml", &bytes)];
     let line = "refused files 1 TooLong file=job.toml limit=16777216\n";
-    expect_refusal(&rt, rt.alloc(), "a_job_past_the_limit", &changes, line)
+    expect_refusal(&rt, "a_job_past_the_limit", &changes, line)
 }
 
 #[test]
@@ -111,7 +106,7 @@ fn two_sessions_of_65536_products(rt: HostRuntime) -> Result<(), Fail> {
         Change::Edit("job.toml", SESSION, TWO_SESSIONS),
     ];
     let line = "refused plan 1 TooManyMessages count=1572882\n";
-    expect_refusal(&rt, rt.alloc(), "two_sessions", &changes, line)
+    expect_refusal(&rt, "two_sessions", &changes, line)
 }
 
 #[test]
@@ -122,7 +117,7 @@ fn seven_parties_and_1024_products(rt: HostRuntime) -> Result<(), Fail> {
         Change::Whole("job.toml", SEVEN_PARTIES),
     ];
     let line = "refused plan 1 TooManyMessages count=1052160\n";
-    expect_refusal(&rt, rt.alloc(), "seven_parties", &changes, line)
+    expect_refusal(&rt, "seven_parties", &changes, line)
 }
 
 #[test]
@@ -134,8 +129,8 @@ fn rings_of_1_to_32_bits(rt: HostRuntime) {
 }
 
 /// That a list of so many groups is refused with this line.
-fn expect_long_list(rt: &impl Abort, alloc: Global, lists: &str, line: &str) -> Result<(), Fail> {
-    let list = format!(in alloc; "tolerated = [{lists}]")?;
+fn expect_long_list(rt: &HostRuntime, lists: &str, line: &str) -> Result<(), Fail> {
+    let list = format!(in rt.alloc(); "tolerated = [{lists}]")?;
     let row = Row {
         name: "a long list",
         words: &CHECK,
@@ -147,7 +142,7 @@ fn expect_long_list(rt: &impl Abort, alloc: Global, lists: &str, line: &str) -> 
         out: "",
         err: line,
     };
-    expect_within(rt, alloc, &row, 300, 300)
+    expect_within(rt, &row, 300, 300)
 }
 
 #[test]
@@ -160,14 +155,12 @@ fn a_list_has_at_most_4096_groups(rt: HostRuntime) -> Result<(), Fail> {
     lists.push_str("[\"x\"]")?;
     expect_long_list(
         &rt,
-        alloc,
         &lists,
         "refused job 15 BadTolerated value=4095 at=0\n",
     )?;
     lists.push_str(",[]")?;
     expect_long_list(
         &rt,
-        alloc,
         &lists,
         "refused job 16 TooManyTolerated count=4097\n",
     )

@@ -4,7 +4,7 @@ use Rattle.refusal_text.specs.Lines.{circuit_line}
 use Rattle.mpc_top.specs.Verdict.{verdict_of}
 use Rattle.mpc_top.specs.JobOf.{SessionAt, layout_of}
 use Rattle.mpc_top.proofs.Steps.{reads_exit, reads_then, reads_walk, walks_exit, walks_then}
-use Rattle.mpc_top.proofs.Renaming.{file_named, bytes_same, part_same}
+use Rattle.mpc_top.proofs.Equal.{file_named, bytes_same, part_same}
 use Rattle.mpc_top.proofs.sessions.read_session.Goals as goal
 
 pub returns-in_err-bytes-clause-reads : goal.returns-in_err-bytes-clause-reads

@@ -3,7 +3,7 @@ use Rattle.std.proofs.lemmas.List.Elements.{All-get_or, All-push, All-same}
 use Rattle.job_plan.specs.Sound.{IsSoundSession}
 use Rattle.job_file.specs.Jobs.{job_view, IsSession}
 use Rattle.mpc_top.proofs.Steps.{reads_memory}
-use Rattle.mpc_top.proofs.Looping.{session_next, session_stops, sessions_end, parts_same}
+use Rattle.mpc_top.proofs.Loops.{session_next, session_stops, sessions_end, parts_same}
 use Rattle.mpc_top.proofs.sessions.read_sessions.Goals as goal
 
 pub read_session-requires-clause-session : goal.read_session-requires-clause-session

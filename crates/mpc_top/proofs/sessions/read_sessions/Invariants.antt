@@ -6,7 +6,7 @@ use Rattle.job_plan.specs.Sound.{IsSoundSession}
 use Rattle.job_file.specs.Jobs.{job_view, session_view}
 use Rattle.mpc_top.specs.declared.stop.Stop.{Stop}
 use Rattle.mpc_top.specs.JobOf.{SessionsAfter}
-use Rattle.mpc_top.specs.Reading.{ReadsAs}
+use Rattle.mpc_top.specs.Reads.{ReadsAs}
 use Rattle.mpc_top.proofs.sessions.read_sessions.Given as goal
 
 -- whatever reads the sessions that are left reads them all

@@ -3,7 +3,7 @@ use Rattle.party_set.specs.Parties.{Members, Structure}
 use Rattle.maximal_groups.specs.Families.{is_tolerated_by}
 use Rattle.mpc_top.specs.Verdict.{Ends}
 use Rattle.mpc_top.specs.JobOf.{groups_of, GroupsOf}
-use Rattle.mpc_top.specs.Reading.{WalksAs}
+use Rattle.mpc_top.specs.Reads.{WalksAs}
 use Rattle.mpc_top.proofs.structure.groups_of_list.Goals as goal
 
 pub returns-clause-walks : goal.returns-clause-walks

@@ -4,7 +4,7 @@ use Rattle.job_file.specs.declared.job.Adversary.{Adversary}
 use Rattle.job_file.specs.Forms.{by_list}
 use Rattle.job_file.specs.Jobs.{adversary_view}
 use Rattle.mpc_top.specs.JobOf.{GroupsOf}
-use Rattle.mpc_top.specs.Reading.{WalksAs}
+use Rattle.mpc_top.specs.Reads.{WalksAs}
 use Rattle.mpc_top.proofs.structure.maximal_groups.Goals as goal
 
 pub returns-in-Tolerated-clause-walks : goal.returns-in-Tolerated-clause-walks

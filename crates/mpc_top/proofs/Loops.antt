@@ -1,0 +1,119 @@
+-- How the sessions, and the parties' files, are read one after another.
+use Rattle.std.proofs.Common.{◌≡◌, ℕ, ◌<◌, ◌≤◌, ◌+◌, List, [], ◌∷◌, ◌++◌, length, drop, map, get_or, Result, Ok, Err, Vec, zero, suc, inl, inr, refl, sym, ap, ◌∙◌, subst}
+use Rattle.std.specs.Prelude.{IsErrAnd, Some, ◌⊎◌, slice_get}
+use Rattle.job_run.specs.Parties.{AllFit}
+use Rattle.std.specs.declared.alloc.Global.{Global}
+use Rattle.outer_io.specs.Files.{FilesReading}
+use Rattle.job_plan.specs.Plans.{Plan, Session}
+use Rattle.job_file.specs.Forms.{JobForm, SessionForm}
+use Rattle.job_file.specs.Jobs.{session_view}
+use Rattle.job_file.specs.declared.job.JobSession.{JobSession}
+use Rattle.party_file.specs.Table.{PartyForm}
+use Rattle.party_file.specs.Forms.{form_of, Fits}
+use Rattle.party_file.specs.declared.data.PartyData.{PartyData}
+use Rattle.mpc_top.specs.declared.stop.Stop.{Stop}
+use Rattle.mpc_top.specs.JobOf.{SessionAt, SessionsAfter, PartyAt, PartiesAfter}
+use Rattle.mpc_top.specs.Seen.{parties_view}
+use Rattle.mpc_top.specs.Reads.{ReadsAs}
+use Rattle.mpc_top.proofs.Steps.{reads_exit, reads_then, reads_end}
+use Rattle.mpc_top.proofs.Equal.{left_of, none_left}
+
+abbrev pub seen_parts : Vec Session Global → List Session
+seen_parts parts = parts.items
+
+module _ (dir : List ℕ) (job : JobForm) (sessions : List JobSession) (s : ℕ) (before : FilesReading) (result : Result (Vec Session Global) Stop) where
+  abbrev ReadsRest : List Session → ℕ → FilesReading → FilesReading → Type 0
+  ReadsRest parts s before after = ReadsAs seen_parts (λ m. SessionsAfter m dir job parts (drop s (map session_view sessions))) before after result
+
+  -- the same over an equal list
+  pub parts_same : (parts parts' : List Session) (k : ℕ) (mid after : FilesReading) → parts ≡ parts' → ReadsRest parts k mid after → ReadsRest parts' k mid after
+  parts_same parts parts' k mid after same r = subst (λ ps. ReadsRest ps k mid after) same r
+
+  module _ (session : JobSession) (is : session ≡ get_or sessions s session) (l : s < length sessions) (parts : List Session) (count : length parts ≡ s) where
+    abbrev form : SessionForm
+    form = session_view session
+
+    on_list : (after : FilesReading) → ReadsAs seen_parts (λ m. SessionsAfter m dir job parts (form ∷ drop (s + 1) (map session_view sessions))) before after result → ReadsRest parts s before after
+    on_list after r = subst (λ xs. ReadsAs seen_parts (λ m. SessionsAfter m dir job parts xs) before after result) (sym (left_of session_view sessions s session l ∙ ap (λ x. session_view x ∷ drop (s + 1) (map session_view sessions)) (sym is))) r
+
+    pub session_next : (mid after : FilesReading) (part : Session) → ReadsAs (λ (part : Session). part) (λ m. SessionAt m dir job s form) before mid (Ok part)
+        → ReadsRest (parts ++ part ∷ []) (s + 1) mid after → ReadsRest parts s before after
+    unfolding SessionsAfter
+    session_next mid after part r rest =
+        on_list after (reads_then _ _ _ _ before mid after part result (subst (λ k. ReadsAs (λ (part : Session). part) (λ m. SessionAt m dir job k form) before mid (Ok part)) (sym count) r) rest)
+
+    pub session_stops : (after : FilesReading) (stop : Stop) → IsErrAnd result (λ e. e ≡ stop) → ReadsAs {C = Session} (λ part. part) (λ m. SessionAt m dir job s form) before after (Err stop) → ReadsRest parts s before after
+    unfolding SessionsAfter
+    session_stops after stop err r =
+        on_list after (reads_exit _ _ _ _ before after stop result err (subst (λ k. ReadsAs {C = Session} (λ part. part) (λ m. SessionAt m dir job k form) before after (Err stop)) (sym count) r))
+
+pub sessions_end : (dir : List ℕ) (job : JobForm) (sessions : List JobSession) (s : ℕ) (now : FilesReading) (parts : Vec Session Global) → length sessions ≤ s
+    → ReadsAs seen_parts (λ m. SessionsAfter m dir job parts.items (drop s (map session_view sessions))) now now (Ok parts)
+unfolding SessionsAfter
+sessions_end dir job sessions s now parts all =
+    subst (λ xs. ReadsAs seen_parts (λ m. SessionsAfter m dir job parts.items xs) now now (Ok parts)) (sym (none_left session_view sessions s all)) (reads_end seen_parts now parts)
+
+-- ---- parties
+
+module _ (dir : List ℕ) (plan : Plan) (names : List (List ℕ)) (p : ℕ) (before : FilesReading) (result : Result (Vec PartyData Global) Stop) where
+  abbrev PartiesRest : List PartyForm → ℕ → FilesReading → FilesReading → Type 0
+  PartiesRest parties p before after = ReadsAs parties_view (λ m. PartiesAfter m dir plan parties (drop p (map (λ (name : List ℕ). name) names))) before after result
+
+  -- the same over an equal list
+  pub parties_same : (parties parties' : List PartyForm) (k : ℕ) (mid after : FilesReading) → parties ≡ parties' → PartiesRest parties k mid after → PartiesRest parties' k mid after
+  parties_same parties parties' k mid after same r = subst (λ hs. PartiesRest hs k mid after) same r
+
+  module _ (name : List ℕ) (is : name ≡ get_or names p []) (l : p < length names) (parties : List PartyForm) (count : length parties ≡ p) where
+    on_names : (after : FilesReading) → ReadsAs parties_view (λ m. PartiesAfter m dir plan parties (name ∷ drop (p + 1) (map (λ (name : List ℕ). name) names))) before after result → PartiesRest parties p before after
+    on_names after r = subst (λ xs. ReadsAs parties_view (λ m. PartiesAfter m dir plan parties xs) before after result) (sym (left_of (λ (name : List ℕ). name) names p [] l ∙ ap (λ x. x ∷ drop (p + 1) (map (λ (name : List ℕ). name) names)) (sym is))) r
+
+    pub party_next : (mid after : FilesReading) (party : PartyData) → ReadsAs form_of (λ m. PartyAt m dir plan p name) before mid (Ok party)
+        → PartiesRest (parties ++ form_of party ∷ []) (p + 1) mid after → PartiesRest parties p before after
+    unfolding PartiesAfter
+    party_next mid after party r rest =
+        on_names after (reads_then _ _ _ _ before mid after party result (subst (λ k. ReadsAs form_of (λ m. PartyAt m dir plan k name) before mid (Ok party)) (sym count) r) rest)
+
+    pub party_stops : (after : FilesReading) (stop : Stop) → IsErrAnd result (λ e. e ≡ stop) → ReadsAs form_of (λ m. PartyAt m dir plan p name) before after (Err stop) → PartiesRest parties p before after
+    unfolding PartiesAfter
+    party_stops after stop err r =
+        on_names after (reads_exit _ _ _ _ before after stop result err (subst (λ k. ReadsAs form_of (λ m. PartyAt m dir plan k name) before after (Err stop)) (sym count) r))
+
+pub parties_end : (dir : List ℕ) (plan : Plan) (names : List (List ℕ)) (p : ℕ) (now : FilesReading) (parties : Vec PartyData Global) → length names ≤ p
+    → ReadsAs parties_view (λ m. PartiesAfter m dir plan (parties_view parties) (drop p (map (λ (name : List ℕ). name) names))) now now (Ok parties)
+unfolding PartiesAfter
+parties_end dir plan names p now parties all =
+    subst (λ xs. ReadsAs parties_view (λ m. PartiesAfter m dir plan (parties_view parties) xs) now now (Ok parties)) (sym (none_left (λ (name : List ℕ). name) names p all)) (reads_end parties_view now parties)
+
+pub same_names : (names : List (List ℕ)) → map (λ (name : List ℕ). name) names ≡ names
+same_names [] = refl
+same_names (name ∷ names) = ap (λ ns. name ∷ ns) (same_names names)
+
+-- ---- what the parties fit
+
+got_push : {A : Type 0} (xs : List A) (y h : A) (k : ℕ) → slice_get (xs ++ y ∷ []) k ≡ Some h → (slice_get xs k ≡ Some h) ⊎ ((k ≡ length xs) × (y ≡ h))
+got_push [] y h zero e = let same : y ≡ h = cc in inr (refl, same)
+got_push [] y h (suc k) e = cc
+got_push (x ∷ xs) y h zero e = inl e
+got_push (x ∷ xs) y h (suc k) e = elim (got_push xs y h k e) [
+  | inl is ↦ inl is
+  | inr last ↦ inr (ap suc last.0, last.1)
+]
+
+pub fit_push : (plan : Plan) (parties parties' : List PartyData) (p : ℕ) (party : PartyData) → parties' ≡ parties ++ party ∷ [] → length parties ≡ p → AllFit plan parties → Fits plan p (form_of party) → AllFit plan parties'
+fit_push plan parties parties' p party is count fit fits = subst (AllFit plan) (sym is) (λ k h e. elim (got_push parties party h k e) [
+  | inl old ↦ fit k h old
+  | inr last ↦ subst (λ n. Fits plan n (form_of h)) (sym (last.0 ∙ count)) (subst (λ x. Fits plan p (form_of x)) last.1 fits)
+])
+
+pub parties_push : (parties parties' : List PartyData) (party : PartyData) → parties' ≡ parties ++ party ∷ [] → map form_of parties' ≡ map form_of parties ++ form_of party ∷ []
+parties_push parties parties' party is = ap (map form_of) is ∙ mapped parties where
+  mapped : (parties : List PartyData) → map form_of (parties ++ party ∷ []) ≡ map form_of parties ++ form_of party ∷ []
+  mapped [] = refl
+  mapped (h ∷ hs) = ap (λ t. form_of h ∷ t) (mapped hs)
+
+pub length-forms : (parties : List PartyData) → length (map form_of parties) ≡ length parties
+length-forms [] = refl
+length-forms (h ∷ hs) = ap suc (length-forms hs)
+
+pub fit_none : (plan : Plan) (parties : List PartyData) → parties ≡ [] → AllFit plan parties
+fit_none plan parties is = subst (AllFit plan) (sym is) (λ k h e. cc)

@@ -1,0 +1,79 @@
+//! The plan of a job.
+ghost use Rattle.std.specs.Prelude.{◌≡◌, ◌≤◌, All, IfOk, length};
+ghost use Rattle.party_set.specs.Parties.{IsQ2};
+ghost use Rattle.job_plan.specs.Plans.{plan_of, structure};
+ghost use Rattle.job_plan.specs.Sound.{IsSoundSession};
+ghost use Rattle.job_file.specs.Jobs.{job_view};
+ghost use Rattle.mpc_top.specs.JobOf.{PlanOf, PlanAt};
+ghost use Rattle.mpc_top.specs.Seen.{planned_view};
+ghost use Rattle.mpc_top.specs.Reads.{ReadsAs, WalksAs};
+
+use crate::Stop;
+use crate::job::read_job_text;
+use crate::sessions::read_sessions;
+use crate::stop::refusal;
+use crate::structure::structure_of;
+use job_file::Job;
+use job_plan::{Plan, SessionPart};
+use outer_io::Files;
+use party_set::{Groups, Names};
+use plan_faults::PlanFault;
+use product_duty::Duty;
+use refusal_text::plan_line;
+use share_layout::Layout;
+use std::alloc::Global;
+
+/// What the job's file and the circuits' files give.
+#[derive(Drop)]
+pub(crate) struct Planned {
+    pub(crate) names: Names,
+    pub(crate) groups: Groups,
+    pub(crate) plan: Plan,
+}
+
+/// Reads the job's file and the circuits' files.
+pub(crate) fn read_planned<F: Files>(
+    alloc: Global,
+    files: &mut F,
+    dir: &str,
+) -> Result<Planned, Stop>
+    ensures reads { ReadsAs planned_view (λ contents. PlanAt contents dir.now)
+        (F.reading files.old) (F.reading files.new) result }
+    ensures names { IfOk result (λ planned. length planned.names ≡ planned.plan.parties) }
+    ensures groups { IfOk result (λ planned. planned.groups ≡ structure planned.plan) }
+{
+    let job = read_job_text(alloc, files, dir)?;
+    let groups = structure_of(alloc, &job)?;
+    let parts = read_sessions(alloc, files, dir, &job)?;
+    let plan = make_plan(alloc, &job, &groups, parts)?;
+    let Job { names, .. } = job;
+    Ok(Planned {
+        names,
+        groups,
+        plan,
+    })
+}
+
+#[tactic(auto, unfolding(crate::specs::JobOf::PlanOf))]
+fn make_plan(
+    alloc: Global,
+    job: &Job,
+    groups: &Groups,
+    parts: Vec<SessionPart>,
+) -> Result<Plan, Stop>
+    requires parties { groups.now.parties ≡ length job.now.names }
+    requires q2 { IsQ2 groups.now }
+    requires few { length parts.items ≤ 16 }
+    requires sound { All (IsSoundSession (length job.now.names)) parts.items }
+    ensures walks { WalksAs (λ plan. plan)
+        (PlanOf (job_view job.now) (plan_of job.now.ring groups.now parts.items)) result }
+    ensures is { IfOk result (λ plan. plan ≡ plan_of job.now.ring groups.now parts.items) }
+{
+    let layout = Layout::make(alloc, groups)?;
+    let duty = Duty::make(alloc, groups)?;
+    match Plan::make(alloc, job.ring, layout, duty, parts) {
+        Ok(plan) => Ok(plan),
+        Err(PlanFault::Memory) => Err(Stop::Memory),
+        Err(fault) => Err(refusal(plan_line(alloc, &job.names, fault))),
+    }
+}

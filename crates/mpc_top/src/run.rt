@@ -1,0 +1,68 @@
+//! The commands.
+ghost use Rattle.std.specs.Prelude.{Some, ◌<◌, ◌≤◌};
+ghost use Rattle.command_words.specs.Commands.{form_of, run, check, HasWorkers};
+ghost use Rattle.mpc_top.specs.Stops.{Runs};
+
+use crate::Stop;
+use crate::parties::read_parties;
+use crate::plan::read_planned;
+use command_words::Command;
+use job_run::prepared;
+use outer_io::{Files, Pace, Sink};
+use output_text::{write_check, write_out};
+use std::alloc::Global;
+use std::thread::Threads;
+
+/// Reads what a command is due, all of it, and then writes it.
+pub(crate) fn run_command<F: Files, O: Sink, P: Pace, R: Threads + Sync>(
+    rt: &R,
+    alloc: Global,
+    files: &mut F,
+    out: &mut O,
+    pace: &P,
+    command: Command<'_>,
+) -> Result<(), Stop>
+    requires { HasWorkers command }
+    ensures { Runs (Some (form_of command.entry)) (F.reading files.old) (F.reading files.new)
+        (O.reading out.old) (O.reading out.new) result }
+{
+    match command {
+        Command::Run { dir, workers } => run_job(rt, alloc, files, out, pace, dir, workers),
+        Command::Check { dir } => check_job(alloc, files, out, dir),
+    }
+}
+
+/// Runs the job of a folder by so many workers: the outputs that its desks delivered.
+fn run_job<F: Files, O: Sink, P: Pace, R: Threads + Sync>(
+    rt: &R,
+    alloc: Global,
+    files: &mut F,
+    out: &mut O,
+    pace: &P,
+    dir: &str,
+    workers: u32,
+) -> Result<(), Stop>
+    requires { (0 < workers) × (workers ≤ 16) }
+    ensures { Runs (Some (run dir.now workers)) (F.reading files.old) (F.reading files.new)
+        (O.reading out.old) (O.reading out.new) result }
+{
+    let planned = read_planned(alloc, files, dir)?;
+    let parties = read_parties(alloc, files, dir, &planned.names, &planned.plan)?;
+    let ready = prepared(alloc, &planned.plan, parties, workers)?;
+    let done = ready.run(rt, &planned.plan, pace);
+    Ok(write_out(out, &planned.names, &planned.plan, &done)?)
+}
+
+/// Checks the job of a folder: its structure and its counts.
+fn check_job<F: Files, O: Sink>(
+    alloc: Global,
+    files: &mut F,
+    out: &mut O,
+    dir: &str,
+) -> Result<(), Stop>
+    ensures { Runs (Some (check dir.now)) (F.reading files.old) (F.reading files.new)
+        (O.reading out.old) (O.reading out.new) result }
+{
+    let planned = read_planned(alloc, files, dir)?;
+    Ok(write_check(out, &planned.names, &planned.groups, &planned.plan)?)
+}
