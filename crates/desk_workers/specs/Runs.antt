@@ -7,7 +7,7 @@ use Rattle.job_plan.specs.Numbers.{message}
 use Rattle.share_world.specs.Laws.{IsWhole}
 use Rattle.share_world.specs.Worlds.{World, word, plain}
 use Rattle.message_board.specs.Plain.{plain_cell}
-use Rattle.message_board.specs.Seats.{AreNew}
+use Rattle.message_board.specs.Seats.{AreNewSeats}
 use Rattle.party_desk.specs.declared.desk.Desk.{Desk}
 use Rattle.program_laws.specs.Lawful.{program_of}
 use Rattle.desk_laws.specs.InWorld.{IsDone}
@@ -27,7 +27,7 @@ pub record IsReady (w : World) (r : Ready) : Type 0 where
   pub slots : r.rack.id.slots ≡ w.plan.parties * length w.plan.sessions
   pub some : 0 < length r.seats.items
   pub all : length r.seats.items ≡ r.rack.about.seats
-  pub new : AreNew r.rack r.seats.items
+  pub new : AreNewSeats r.rack r.seats.items
   pub instructions : r.instructions ≡ instructions_of w
   pub no_desk : r.desks.items ≡ []
   pub room : r.rack.id.slots ≤ vec_capacity r.desks

@@ -2,12 +2,12 @@
 #![tactic(auto)]
 
 mod done;
-mod finishing;
+mod rounds;
 mod pace;
 mod pool;
 mod promised;
 mod ready;
-mod stepping;
+mod steps;
 
 pub use done::Done;
 pub use pace::{NoPace, Pace};

@@ -4,7 +4,7 @@
 mod board;
 mod cells;
 mod closed;
-mod making;
+mod room;
 mod plain;
 mod seat_at;
 mod steps;

@@ -9,7 +9,7 @@ use Rattle.job_file.specs.Forms.{JobForm, SessionForm}
 use Rattle.job_file.specs.Jobs.{session_view}
 use Rattle.job_file.specs.declared.job.JobSession.{JobSession}
 use Rattle.party_file.specs.Table.{PartyForm}
-use Rattle.party_file.specs.Forms.{form_of, Fits}
+use Rattle.party_file.specs.Forms.{form_of, FitsPlan}
 use Rattle.party_file.specs.declared.data.PartyData.{PartyData}
 use Rattle.mpc_top.specs.declared.stop.Stop.{Stop}
 use Rattle.mpc_top.specs.JobOf.{SessionAt, SessionsAfter, HandAt, HandsAfter}
@@ -99,10 +99,10 @@ got_push (x ∷ xs) y h (suc k) e = elim (got_push xs y h k e) [
   | inr last ↦ inr (ap suc last.0, last.1)
 ]
 
-pub fit_push : (plan : Plan) (hands hands' : List PartyData) (p : ℕ) (hand : PartyData) → hands' ≡ hands ++ hand ∷ [] → length hands ≡ p → AllFit plan hands → Fits plan p (form_of hand) → AllFit plan hands'
+pub fit_push : (plan : Plan) (hands hands' : List PartyData) (p : ℕ) (hand : PartyData) → hands' ≡ hands ++ hand ∷ [] → length hands ≡ p → AllFit plan hands → FitsPlan plan p (form_of hand) → AllFit plan hands'
 fit_push plan hands hands' p hand is count fit fits = subst (AllFit plan) (sym is) (λ k h e. elim (got_push hands hand h k e) [
   | inl old ↦ fit k h old
-  | inr last ↦ subst (λ n. Fits plan n (form_of h)) (sym (last.0 ∙ count)) (subst (λ x. Fits plan p (form_of x)) last.1 fits)
+  | inr last ↦ subst (λ n. FitsPlan plan n (form_of h)) (sym (last.0 ∙ count)) (subst (λ x. FitsPlan plan p (form_of x)) last.1 fits)
 ])
 
 pub hands_push : (hands hands' : List PartyData) (hand : PartyData) → hands' ≡ hands ++ hand ∷ [] → map form_of hands' ≡ map form_of hands ++ form_of hand ∷ []

@@ -1,6 +1,6 @@
 //! The files of the parties.
 ghost use Rattle.std.specs.Prelude.{◌≡◌, ◌<◌, [], IfOk, length, string_bytes, map};
-ghost use Rattle.party_file.specs.Forms.{form_of, Fits};
+ghost use Rattle.party_file.specs.Forms.{form_of, FitsPlan};
 ghost use Rattle.party_file.specs.Table.{party_in};
 ghost use Rattle.job_run.specs.Hands.{AllFit};
 ghost use Rattle.refusal_text.specs.Lines.{party_line};
@@ -54,7 +54,7 @@ fn read_hand<F: Files>(
     requires { p < plan.now.parties }
     ensures reads { ReadsAs form_of (λ contents. HandAt contents dir.now plan.now p name.now)
         (F.reading files.old) (F.reading files.new) result }
-    ensures fits { IfOk result (λ hand. Fits plan.now p (form_of hand)) }
+    ensures fits { IfOk result (λ hand. FitsPlan plan.now p (form_of hand)) }
 {
     let file = file_of(alloc, name)?;
     let bytes = read_file(alloc, files, dir, file.as_str())?;
@@ -76,7 +76,7 @@ fn hand_of(alloc: Global, bytes: &[u8], plan: &Plan, p: u32, file: &str) -> Resu
     requires { p < plan.now.parties }
     ensures walks { WalksAs form_of
         (Ends (verdict_of (party_line file.now) (party_in plan.now p bytes.now))) result }
-    ensures fits { IfOk result (λ hand. Fits plan.now p (form_of hand)) }
+    ensures fits { IfOk result (λ hand. FitsPlan plan.now p (form_of hand)) }
 {
     match read_party(alloc, bytes, plan, p) {
         Ok(hand) => Ok(hand),

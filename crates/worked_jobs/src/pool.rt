@@ -1,10 +1,10 @@
 //! Products by workers in threads of their own.
 ghost use Rattle.std.specs.Prelude.{◌≡◌, ◌<◌, ◌≤◌, IfOk, length};
-ghost use Rattle.job_plan.specs.Multiply.{multiply_plan as described};
-ghost use Rattle.share_world.specs.Worlds.{World as Described};
+ghost use Rattle.job_plan.specs.Multiply as multiply;
+ghost use Rattle.share_world.specs.Worlds as worlds;
 ghost use Rattle.desk_workers.specs.Runs.{IsOver};
 
-use crate::party_hands::hands;
+use crate::party_data::hands;
 use crate::product_plan::{FILES, MESSAGES, multiply_plan, multiply_twice};
 use desk_workers::{Done, NoPace, Pace};
 use job_plan::Plan;
@@ -34,7 +34,7 @@ fn run_all<P: Pace, R: Threads + Sync>(
 ) -> Result<Done, Fail>
     requires files { length files.now ≡ plan.now.parties }
     requires workers { (0 < workers) × (workers ≤ 16) }
-    ensures { IfOk result (λ done. (w : Described) × (w.plan ≡ plan.now) × IsOver w done) }
+    ensures { IfOk result (λ done. (w : worlds.World) × (w.plan ≡ plan.now) × IsOver w done) }
 {
     let hands = hands(alloc, plan, files)?;
     let ready = prepared(alloc, plan, hands, workers)?;
@@ -43,7 +43,7 @@ fn run_all<P: Pace, R: Threads + Sync>(
 
 // That the desks posted these words, opened 35 and drew their tapes to the end, in 54 steps.
 fn expect_words(rt: &impl Abort, done: &Done)
-    requires { (w : Described) × (w.plan ≡ described w.plan.bits) × IsOver w done.now }
+    requires { (w : worlds.World) × (w.plan ≡ multiply.multiply_plan w.plan.bits) × IsOver w done.now }
 {
     for number in 0..21 {
         assert_eq!(rt; done.cell(number), MESSAGES[number as usize]);
