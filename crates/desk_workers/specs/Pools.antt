@@ -25,25 +25,25 @@ pub record StandsIn (w : World) (seen : List (ℕ × ℕ)) (k : ℕ) (d : Desk) 
   pub posted : HasPosts (Knows seen) w (k / w.plan.parties) (k % w.plan.parties) d.position
 
 -- so many steps of desk k led from one desk and seat to another
-pub record Leads (w : World) (k : ℕ) (s : Sitting Promised) (d : Desk) (t : Sitting Promised) (e : Desk) (moves : ℕ) : Type 0 where
-  pub stands : StandsIn w t.view.seen k e
-  pub counts : moves + left e ≡ left d
-  pub still : moves ≡ 0 → e ≡ d
-  pub grows : Grows s.view.seen t.view.seen
-  pub seats : t.view.seats ≡ s.view.seats
-  pub out : t.view.out ≡ s.view.out
+pub record Leads (w : World) (k : ℕ) (seat : Sitting Promised) (d : Desk) (seat' : Sitting Promised) (d' : Desk) (moves : ℕ) : Type 0 where
+  pub stands : StandsIn w seat'.view.seen k d'
+  pub counts : moves + left d' ≡ left d
+  pub still : moves ≡ 0 → d' ≡ d
+  pub grows : Grows seat.view.seen seat'.view.seen
+  pub seats : seat'.view.seats ≡ seat.view.seats
+  pub out : seat'.view.out ≡ seat.view.out
 
 -- of the board's world: a desk and a seat that knows what it posted, where so many steps led, and that the desk could not move
 abbrev pub IsDeskOf : BoardModel Promised → Sitting Promised → Desk → Type 0
-IsDeskOf board s d = (k : ℕ) × StandsIn (world_in board.about.world) s.view.seen k d
+IsDeskOf board seat d = (k : ℕ) × StandsIn (world_in board.about.world) seat.view.seen k d
 
 abbrev pub LeadsOn : BoardModel Promised → Sitting Promised → Desk → Sitting Promised → Desk → ℕ → Type 0
-LeadsOn board s d t e moves =
-    (k : ℕ) → StandsIn (world_in board.about.world) s.view.seen k d → Leads (world_in board.about.world) k s d t e moves
+LeadsOn board seat d seat' d' moves =
+    (k : ℕ) → StandsIn (world_in board.about.world) seat.view.seen k d → Leads (world_in board.about.world) k seat d seat' d' moves
 
 abbrev pub IsStuck : BoardModel Promised → Sitting Promised → Desk → Type 0
-IsStuck board s d =
-    (k : ℕ) → StandsIn (world_in board.about.world) s.view.seen k d → Stuck (Knows s.view.seen) (world_in board.about.world) k d.position
+IsStuck board seat d =
+    (k : ℕ) → StandsIn (world_in board.about.world) seat.view.seen k d → Stuck (Knows seat.view.seen) (world_in board.about.world) k d.position
 
 -- each desk stands where its program leaves it in the world, and these pairs have what they posted
 abbrev pub AllStand : World → List (ℕ × ℕ) → List Desk → Type 0
@@ -51,12 +51,12 @@ AllStand w seen ds = (k : ℕ) (d : Desk) → k < length ds → StandsIn w seen 
 
 -- each seat is one of the board's and holds no slot
 abbrev pub AllFree : BoardModel Promised → List (Sitting Promised) → Type 0
-AllFree board ss = (i : ℕ) (d : Sitting Promised) → i < length ss → IsFreeSeatOf board (slice_index_or ss i d)
+AllFree board seats = (i : ℕ) (d : Sitting Promised) → i < length seats → IsFreeSeatOf board (slice_index_or seats i d)
 
 -- each stands for as many seats as before
 abbrev pub SameSeatCounts : List (Sitting Promised) → List (Sitting Promised) → Type 0
-SameSeatCounts ss ts =
-    (i : ℕ) (d : Sitting Promised) → i < length ss → (slice_index_or ts i d).view.seats ≡ (slice_index_or ss i d).view.seats
+SameSeatCounts seats seats' =
+    (i : ℕ) (d : Sitting Promised) → i < length seats → (slice_index_or seats' i d).view.seats ≡ (slice_index_or seats i d).view.seats
 
 abbrev pub seats_in : Sitting Promised → ℕ
-seats_in s = s.view.seats
+seats_in seat = seat.view.seats

@@ -56,7 +56,7 @@ module _ {W : Type 0} where
 
   -- after the fold of another seat, which holds no slot
   abbrev pub folds : View W → View W → View W
-  folds v w = record v { seats = v.seats + w.seats; seen = v.seen ++ w.seen; mine = v.mine ++ w.mine }
+  folds v u = record v { seats = v.seats + u.seats; seen = v.seen ++ u.seen; mine = v.mine ++ u.mine }
 
   -- the other's after it
   abbrev pub spent : View W

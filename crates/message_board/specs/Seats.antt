@@ -27,7 +27,7 @@ module _ {W : Type 0} where
   about_coded c = coded_via (coded× c coded_ℕ) (λ (a : About W). (a.world, a.seats)) (λ x y e i. record { world = (e i).0; seats = (e i).1 })
 
   abbrev pub board_coded : Coded W → Coded (BoardModel W)
-  board_coded c = coded_via (coded× table_id_coded (about_coded c)) (λ (p : BoardModel W). (p.id, p.about)) (λ x y e i. record { id = (e i).0; about = (e i).1 })
+  board_coded c = coded_via (coded× table_id_coded (about_coded c)) (λ (b : BoardModel W). (b.id, b.about)) (λ x y e i. record { id = (e i).0; about = (e i).1 })
 
   abbrev pub view_coded : Coded W → Coded (View W)
   view_coded c = coded_via (coded× (coded_option (about_coded c)) (coded× coded_ℕ (coded× (coded_list (coded× coded_ℕ coded_ℕ)) (coded× (coded_list coded_ℕ) (coded× (coded_list coded_ℕ) (coded× (coded_list coded_ℕ) (coded× (coded_list coded_ℕ) (coded_list coded_ℕ))))))))
@@ -43,11 +43,11 @@ module _ {W : Type 0} where
 
   -- the seat is one of the board's
   abbrev pub IsSeatOf : BoardModel W → Sitting W → Type 0
-  IsSeatOf board s = (s.id ≡ board.id) × (s.view.about ≡ Some board.about)
+  IsSeatOf board seat = (seat.id ≡ board.id) × (seat.view.about ≡ Some board.about)
 
   -- the seat is one of the board's and holds no slot
   abbrev pub IsFreeSeatOf : BoardModel W → Sitting W → Type 0
-  IsFreeSeatOf board s = IsSeatOf board s × (s.view.out ≡ [])
+  IsFreeSeatOf board seat = IsSeatOf board seat × (seat.view.out ≡ [])
 
   -- seats of the board that hold no slot
   abbrev pub AreSeatsOf : BoardModel W → List (Sitting W) → Type 0
