@@ -9,8 +9,8 @@ use crate::cells::Posted;
 use crate::closed::ClosedBoard;
 use crate::room::{Room, fill, give_back, make_room, start_words};
 use crate::steps::{
-    About, BoardRule, BringsHome, Finds, SplitSeats, Posts, Promise, SlotItem, Stores, Takes, TakesOut,
-    View,
+    About, BoardRule, BringsHome, Finds, Posts, Promise, SlotItem, SplitSeats, Stores, Takes,
+    TakesOut, View,
 };
 use atomic_table::{Refused, Seat, Table};
 use std::alloc::{AllocError, Global};
@@ -305,7 +305,9 @@ impl<W: Promise, T: SlotItem<W>> Board<W, T> {
         ensures view { result.view ≡ folds seat.view other.view }
     {
         let BoardSeat { seat: spent } = other;
-        self.table.shared.join_seat::<SplitSeats>(&mut seat.seat, spent);
+        self.table
+            .shared
+            .join_seat::<SplitSeats>(&mut seat.seat, spent);
         seat
     }
 

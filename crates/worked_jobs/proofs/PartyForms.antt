@@ -1,4 +1,4 @@
--- One hand more that fits.
+-- One party's data more that fit.
 use Rattle.std.proofs.Common.{◌≡◌, ℕ, zero, suc, List, [], ◌∷◌, ◌++◌, length, inl, inr, refl, sym, ap, ◌∙◌, subst}
 use Rattle.std.specs.Prelude.{Some, ◌⊎◌, slice_get}
 use Rattle.job_plan.specs.Plans.{Plan}
@@ -15,8 +15,8 @@ got_push (x ∷ xs) y h (suc k) e = elim (got_push xs y h k e) [
   | inr last ↦ inr (ap suc last.0, last.1)
 ]
 
-pub fit_push : (plan : Plan) (hands hands' : List PartyData) (p : ℕ) (hand : PartyData) → hands' ≡ hands ++ hand ∷ [] → length hands ≡ p → AllFit plan hands → FitsPlan plan p (form_of hand) → AllFit plan hands'
-fit_push plan hands hands' p hand is count fit fits = subst (AllFit plan) (sym is) (λ k h e. elim (got_push hands hand h k e) [
+pub fit_push : (plan : Plan) (all_data all_data' : List PartyData) (p : ℕ) (party_data : PartyData) → all_data' ≡ all_data ++ party_data ∷ [] → length all_data ≡ p → AllFit plan all_data → FitsPlan plan p (form_of party_data) → AllFit plan all_data'
+fit_push plan all_data all_data' p party_data is count fit fits = subst (AllFit plan) (sym is) (λ k h e. elim (got_push all_data party_data h k e) [
   | inl old ↦ fit k h old
   | inr last ↦ subst (λ n. FitsPlan plan n (form_of h)) (sym (last.0 ∙ count)) (subst (λ x. FitsPlan plan p (form_of x)) last.1 fits)
 ])

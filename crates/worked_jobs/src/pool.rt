@@ -4,7 +4,7 @@ ghost use Rattle.job_plan.specs.Multiply as multiply;
 ghost use Rattle.share_world.specs.Worlds as worlds;
 ghost use Rattle.desk_workers.specs.Runs.{IsOver};
 
-use crate::party_data::hands;
+use crate::party_data::all_data;
 use crate::product_plan::{FILES, MESSAGES, multiply_plan, multiply_twice};
 use desk_workers::{Done, NoPace, Pace};
 use job_plan::Plan;
@@ -36,8 +36,8 @@ fn run_all<P: Pace, R: Threads + Sync>(
     requires workers { (0 < workers) × (workers ≤ 16) }
     ensures { IfOk result (λ done. (w : worlds.World) × (w.plan ≡ plan.now) × IsOver w done) }
 {
-    let hands = hands(alloc, plan, files)?;
-    let ready = prepared(alloc, plan, hands, workers)?;
+    let all_data = all_data(alloc, plan, files)?;
+    let ready = prepared(alloc, plan, all_data, workers)?;
     Ok(ready.run(rt, plan, pace))
 }
 
