@@ -34,12 +34,12 @@ take_all (x ∷ ds) zero e = absurd (omega arith)
 take_all (x ∷ ds) (suc n) e = ap (λ l. x ∷ l) (take_all ds n (omega arith))
 
 -- the first term of a sum
-first_term : (n : ℕ) (g : ℕ → ℕ) → sums.total_over (suc n) g ≡ g 0 + sums.total_over n (λ k. g (suc k))
+first_term : (n : ℕ) (g : ℕ → ℕ) → sums.total (suc n) g ≡ g 0 + sums.total n (λ k. g (suc k))
 first_term zero g = omega arith
 first_term (suc n) g = let r = first_term n g in omega arith
 
 -- a sum over desks is a sum over their numbers
-by_number : (f : Desk → ℕ) (g : ℕ → ℕ) (ds : List Desk) → ((k : ℕ) (d : Desk) → k < length ds → f (get_or ds k d) ≡ g k) → total_over f ds ≡ sums.total_over (length ds) g
+by_number : (f : Desk → ℕ) (g : ℕ → ℕ) (ds : List Desk) → ((k : ℕ) (d : Desk) → k < length ds → f (get_or ds k d) ≡ g k) → total_over f ds ≡ sums.total (length ds) g
 by_number f g [] h = refl
 by_number f g (x ∷ ds) h =
     let r = by_number f (λ k. g (suc k)) ds (λ k d l. h (suc k) d (omega arith)) in
@@ -51,15 +51,15 @@ module _ (w : World) (ds : List Desk) (h : AreDesks w ds) where
   pub all_instructions : total_over (λ (d : Desk). length d.program) ds ≡ instructions_of w
   all_instructions =
       by_number (λ d. length d.program) (λ k. length (program_of w k)) ds (λ k d l. ap length (h.desks k d l).list)
-      ∙ ap (λ n. sums.total_over n (λ k. length (program_of w k))) h.many
+      ∙ ap (λ n. sums.total n (λ k. length (program_of w k))) h.many
 
   pub all_steps : AllEnded w ds → total_over (λ (d : Desk). d.position) ds ≡ instructions_of w
   all_steps ended =
       by_number (λ d. d.position) (λ k. length (program_of w k)) ds ended
-      ∙ ap (λ n. sums.total_over n (λ k. length (program_of w k))) h.many
+      ∙ ap (λ n. sums.total n (λ k. length (program_of w k))) h.many
 
 -- within the limits there are few instructions
-all_below : (n : ℕ) (f : ℕ → ℕ) → ((k : ℕ) → f k < 2 ^ 32) → sums.total_over n f ≤ n * 2 ^ 32
+all_below : (n : ℕ) (f : ℕ → ℕ) → ((k : ℕ) → f k < 2 ^ 32) → sums.total n f ≤ n * 2 ^ 32
 all_below zero f h = omega arith
 all_below (suc n) f h = let r = all_below n f h in let a = h n in omega arith
 
