@@ -1,5 +1,5 @@
 -- From the states of desks and cells to what the calls of a world tell.
-use Rattle.std.proofs.Common.{◌≡◌, ℕ, ◌+◌, ◌*◌, ◌<◌, length, get_or, sym, ap, ap₂, ◌∙◌, subst}
+use Rattle.std.proofs.Common.{◌≡◌, ℕ, ◌+◌, ◌*◌, ◌<◌, length, sym, ap, ap₂, ◌∙◌, subst}
 use Rattle.std.specs.Prelude.{Some, IsSomeAnd, slice_get}
 use Rattle.share_world.specs.Worlds.{World}
 use Rattle.share_world.specs.Laws.{IsWhole}
@@ -11,7 +11,8 @@ use Rattle.core_world.specs.declared.world.World as code
 use Rattle.core_world.specs.States.{AllFull}
 use Rattle.desk_laws.specs.Pools.{AllEnded}
 use Rattle.core_world.specs.Running.{IsRunOf, IsMoment, IsFinish, desk_of}
-use Rattle.desk_laws.proofs.StuckDesks.{element_there, quotient, remainder, beside, desk_there}
+use Rattle.desk_laws.proofs.Elements.{element_there}
+use Rattle.desk_laws.proofs.StuckDesks.{quotient, remainder, beside, desk_there}
 use Rattle.core_world.proofs.StuckDesks.{desks}
 use Rattle.desk_laws.specs.InWorld.{IsRight, IsDone}
 use Rattle.desk_laws.proofs.Outputs.{right_now, done_at_end}
@@ -32,11 +33,8 @@ module _ (w : World) (whole : IsWhole w) (r : code.World) (h : IsRunOf w r) (s p
   desk_is : desk_of r s p ≡ Some desk
   desk_is = ap (λ z. slice_get r.desks.items (s * z + p)) h.parties ∙ (element_there r.desks.items k inside).1
 
-  same : get_or r.desks.items k desk ≡ desk
-  same = (element_there r.desks.items k inside).2
-
   is_desk : IsDesk (given_in w s p) desk
-  is_desk = subst (IsDesk (given_in w s p)) same (desk_there w s p lp r.desks.items (desks w r.desks.items r.cells whole h.state) ls desk)
+  is_desk = desk_there w s p lp r.desks.items (desks w r.desks.items r.cells whole h.state) ls desk (element_there r.desks.items k inside).1
 
   pub right_here : IsSomeAnd (desk_of r s p) (IsRight w s p)
   right_here = subst (λ found. IsSomeAnd found (IsRight w s p)) (sym desk_is) (right_now w s p desk whole is_desk)
@@ -44,7 +42,7 @@ module _ (w : World) (whole : IsWhole w) (r : code.World) (h : IsRunOf w r) (s p
   pub done_here : AllEnded w r.desks.items → IsSomeAnd (desk_of r s p) (IsDone w s p)
   done_here ended =
       let at_end : desk.position ≡ length (program w.plan p s) =
-      ap (λ d. d.position) (sym same) ∙ ended k desk inside ∙ ap₂ (λ a b. length (program w.plan a b)) (remainder w s p lp) (quotient w s p lp) in
+      ended k desk (element_there r.desks.items k inside).1 ∙ ap₂ (λ a b. length (program w.plan a b)) (remainder w s p lp) (quotient w s p lp) in
       subst (λ found. IsSomeAnd found (IsDone w s p)) (sym desk_is) (done_at_end w s p desk whole is_desk at_end)
 
 pub moment : (w : World) (r : code.World) → IsWhole w → IsRunOf w r → IsMoment w r

@@ -9,6 +9,8 @@ use Rattle.message_board.specs.Plain.{plain_cell}
 use Rattle.share_world.specs.Worlds.{World}
 use Rattle.desk_laws.specs.Opening.{world_of_pieces, ArePieces}
 use Rattle.desk_laws.specs.Opened.{AreNewDesks}
+use Rattle.party_desk.specs.declared.desk.Desk.{Desk}
+use Rattle.desk_laws.proofs.Elements.{by_place}
 use Rattle.desk_laws.proofs.OpenedDesks.{new_desks, no_posts}
 use Rattle.core_world.specs.declared.world.World as code
 use Rattle.core_world.specs.States.{IsState}
@@ -39,12 +41,12 @@ module _ (plan : Plan) (sound : IsSound plan) (inputs : List (List (List ℕ))) 
       bits = ap (λ z. z.bits) cells ∙ ring;
       words = λ n v e. absurd (none_is_some c n v (ap (λ z. plain_cell z.cells n) (sym cells) ∙ e));
       full = λ k q n i d l less e. no_posts plan sound inputs given' pieces h r.desks.items count new (λ m v. plain_cell r.cells.cells m ≡ Some v) k d l q n i less e;
-      sent = λ n v d e. absurd (none_is_some c n v (ap (λ z. plain_cell z.cells n) (sym cells) ∙ e));
+      sent = λ n v e. absurd (none_is_some c n v (ap (λ z. plain_cell z.cells n) (sym cells) ∙ e));
     }
 
     pub start_is : IsStart w r
     start_is = record {
       run = record { parties = parties; state = state_is };
-      positions = λ k d l. (new k d l).position;
+      positions = by_place (λ k (d : Desk). d.position ≡ 0) r.desks.items (λ k d is. (new k d is).position);
       cells = λ n. ap (λ z. plain_cell z.cells n) cells ∙ empty_cell c n;
     }

@@ -3,7 +3,7 @@ use Rattle.std.proofs.Common.{◌≡◌, ◌⊎◌, ℕ, zero, suc, ◌+◌, ◌
 use Rattle.std.specs.Prelude.{Option, Some, None, is_some, if◌then◌else◌, slice_get, map}
 use Rattle.std.specs.Option.{option_map}
 use Rattle.std.proofs.Math.ListN.{length-set}
-use Rattle.std.proofs.lemmas.List.{set-get_or, get_or_default, get_or_past}
+use Rattle.std.proofs.lemmas.List.{set-get_or, get_or_past}
 use Rattle.std.proofs.lemmas.Bool.{cases_eq, cases_lt}
 use mathlib.Core.Logic.{inl as left', inr as right}
 use Rattle.job_plan.specs.Numbers.{message}
@@ -27,6 +27,7 @@ use Rattle.job_plan.specs.Plans.{Plan}
 use Rattle.message_board.specs.declared.cells.Cells.{Ghosts as Meaning}
 use Rattle.message_board.specs.Plain.{answer}
 use Rattle.desk_laws.specs.InWorld.{Serves, MayStepIn, DoesIn, StepsIn}
+use Rattle.desk_laws.proofs.Elements.{element_there, stands_at, by_place, by_element}
 use Rattle.desk_laws.proofs.StepCounts.{left_set, waited, counts as desk_counts}
 use Rattle.core_world.proofs.CellPosts.{put_length, put_keeps, put_new, put_full}
 
@@ -45,10 +46,6 @@ positions_set : (ds : List Desk) (k : ℕ) (e : Desk) → map (λ z. z.position)
 positions_set [] k e = refl
 positions_set (x ∷ ds) zero e = refl
 positions_set (x ∷ ds) (suc k) e = ap (λ z. x.position ∷ z) (positions_set ds k e)
-
-pub stuck_any : (w : World) (ds : List Desk) (cells : List (Option ℕ)) (k : ℕ) (d e : Desk) → k < length ds → StuckOn w ds cells k d → StuckOn w ds cells k e
-stuck_any w ds cells k d e l h =
-    subst (λ (x : Desk). (x.position ≡ length (program_of w k)) ⊎ ((n : ℕ) × (i : ℕ) × (at (program_of w k) x.position ≡ Take n i) × (plain_cell cells n ≡ None))) (get_or_default ds k d e l) h
 
 -- what plain cells mean
 abbrev pub plain_cells : Meaning PlainCells
@@ -70,7 +67,7 @@ plain_serves w whole ds cells h p = record {
 }
 
 pub may_step : (w : World) (plan : Plan) → w.plan ≡ plan → IsWhole w → (ds : List Desk) (cells : PlainCells) → IsState w ds cells → (k : ℕ) → k < length ds → (d : Desk) → MayStepIn plain_cells plan w (k / w.plan.parties) (k % w.plan.parties) cells (get_or ds k d)
-may_step w plan same whole ds cells h k inside d = record { same = same; whole = whole; desk = h.desks k d inside; serves = plain_serves w whole ds cells h (k % w.plan.parties) }
+may_step w plan same whole ds cells h k inside d = record { same = same; whole = whole; desk = by_place (λ j (desk : Desk). IsDesk (given_to w j) desk) ds h.desks k d inside; serves = plain_serves w whole ds cells h (k % w.plan.parties) }
 
 module _ (w : World) (whole : IsWhole w) (ds : List Desk) (cells : PlainCells) (h : IsState w ds cells) (k : ℕ) (inside : k < length ds) (d0 : Desk) where
   abbrev d : Desk
@@ -86,7 +83,12 @@ module _ (w : World) (whole : IsWhole w) (ds : List Desk) (cells : PlainCells) (
   i = instruction_at d
 
   is_desk : IsDesk (given_to w k) d
-  is_desk = h.desks k d0 inside
+  is_desk = by_place (λ j (desk : Desk). IsDesk (given_to w j) desk) ds h.desks k d0 inside
+
+  -- what the state says of posts, with any default
+  full_at : (k' q n j : ℕ) (d1 : Desk) → k' < length ds → q < (get_or ds k' d1).position → at (program_of w k') q ≡ Post n j → plain_cell cells.cells n ≡ Some (word w (message w.plan n))
+  full_at k' q n j d1 l less at' = by_place (λ m (desk : Desk). q < desk.position → at (program_of w m) q ≡ Post n j → plain_cell cells.cells n ≡ Some (word w (message w.plan n)))
+      ds (λ m desk is less' e. h.full m q n j desk is less' e) k' d1 l less at'
 
   here : i ≡ at (program_of w k) d.position
   here = ap (λ z. at z d.position) is_desk.list
@@ -146,43 +148,55 @@ module _ (w : World) (whole : IsWhole w) (ds : List Desk) (cells : PlainCells) (
       let c : CellsAfter new = after_effect i new refl f in
       let long : length (set ds k e) ≡ length ds = length-set ds k e in record {
         many = long ∙ h.many;
-        desks = λ k' d1 b. elim (cases_eq k' k) [
+        desks = by_element (λ j (desk : Desk). IsDesk (given_to w j) desk) (set ds k e) (λ k' d1 b. elim (cases_eq k' k) [
           | left' eq ↦ subst (λ z. IsDesk (given_to w z) (get_or (set ds k e) z d1)) (sym eq) (subst (IsDesk (given_to w k)) (sym (get_or-set_same ds k e d1 inside)) desk)
-          | right ne ↦ subst (IsDesk (given_to w k')) (sym (get_or-set_other ds k k' e d1 ne)) (h.desks k' d1 (omega (arith, b, long)))
-        ];
+          | right ne ↦ subst (IsDesk (given_to w k')) (sym (get_or-set_other ds k k' e d1 ne)) (by_place (λ j (desk : Desk). IsDesk (given_to w j) desk) ds h.desks k' d1 (omega (arith, b, long)))
+        ]);
         count = c.count ∙ h.count;
         bits = c.bits ∙ h.bits;
         words = c.words;
-        sent = λ n v d1 f. ⊎_elim
+        sent = λ n v f. ⊎_elim
             (λ (a' : plain_cell cells.cells n ≡ Some v).
-            let r = h.sent n v d1 a' in (
+            let r = h.sent n v a' in
+            let was = stands_at ds r.0 r.3 d0 r.4 in
+            let within : r.0 < length (set ds k e) = (let b = was.0 in omega (arith, long, b)) in
+            let now = element_there (set ds k e) r.0 within in (
               r.0,
               r.1,
               r.2,
-              (let b = r.3 in omega (arith, long, b)),
+              now.0,
+              now.1,
               elim (cases_eq r.0 k) [
                 | left' eq ↦
-                    let pos : (get_or (set ds k e) r.0 d1).position ≡ d.position + 1 = ap (λ z. (get_or (set ds k e) z d1).position) eq ∙ ap (λ z. z.position) (get_or-set_same ds k e d1 inside) ∙ more in
-                    let old : (get_or ds r.0 d1).position ≡ d.position = ap (λ z. (get_or ds z d1).position) eq ∙ ap (λ z. z.position) (get_or_default ds k d1 d0 inside) in
-                    let b = r.4 in omega arith
-                | right ne ↦ subst (λ z. r.1 < z.position) (sym (get_or-set_other ds k r.0 e d1 ne)) r.4
+                    let pos : now.0.position ≡ d.position + 1 =
+                    ap (λ z. z.position) (sym now.2) ∙ ap (λ z. (get_or (set ds k e) z now.0).position) eq ∙ ap (λ z. z.position) (get_or-set_same ds k e now.0 inside) ∙ more in
+                    let old : r.3.position ≡ d.position = ap (λ z. z.position) (sym was.1) ∙ ap (λ z. (get_or ds z d0).position) eq in
+                    let b = r.5 in omega arith
+                | right ne ↦
+                    let same : r.3 ≡ now.0 = sym (stands_at ds r.0 r.3 now.0 r.4).1 ∙ sym (get_or-set_other ds k r.0 e now.0 ne) ∙ now.2 in
+                    subst (λ z. r.1 < z.position) same r.5
               ],
-              r.5,
+              r.6,
             ))
             (λ (b : (j : ℕ) × (i ≡ Post n j)).
-            let pos : (get_or (set ds k e) k d1).position ≡ d.position + 1 = ap (λ z. z.position) (get_or-set_same ds k e d1 inside) ∙ more in
-            (k, d.position, b.0, omega arith, omega arith, sym here ∙ b.1))
+            let within : k < length (set ds k e) = omega (arith, long) in
+            let now = element_there (set ds k e) k within in
+            let pos : now.0.position ≡ d.position + 1 = ap (λ z. z.position) (sym now.2 ∙ get_or-set_same ds k e now.0 inside) ∙ more in
+            (k, d.position, b.0, now.0, now.1, omega arith, sym here ∙ b.1))
             (c.comes n v f);
-        full = λ k' q n j d1 b lq at'. elim (cases_eq k' k) [
-          | left' eq ↦
-              let pos : (get_or (set ds k e) k' d1).position ≡ d.position + 1 = ap (λ z. (get_or (set ds k e) z d1).position) eq ∙ ap (λ z. z.position) (get_or-set_same ds k e d1 inside) ∙ more in
-              elim (cases_lt q d.position) [
-                | left' before ↦ c.keeps n _ (h.full k q n j d0 inside before (ap (λ z. at (program_of w z) q) (sym eq) ∙ at'))
-                | right past ↦ let same : q ≡ d.position = omega (arith, pos, lq, past) in
-                    c.posts n j (here ∙ ap (at (program_of w k)) (sym same) ∙ ap (λ z. at (program_of w z) q) (sym eq) ∙ at')
-              ]
-          | right ne ↦ c.keeps n _ (h.full k' q n j d1 (omega (arith, b, long)) (subst (λ z. q < z.position) (get_or-set_other ds k k' e d1 ne) lq) at')
-        ];
+        full = λ k' q n j d1 is lq at'.
+            let there = stands_at (set ds k e) k' d1 d1 is in
+            let b = there.0 in
+            elim (cases_eq k' k) [
+              | left' eq ↦
+                  let pos : d1.position ≡ d.position + 1 = ap (λ z. z.position) (sym there.1) ∙ ap (λ z. (get_or (set ds k e) z d1).position) eq ∙ ap (λ z. z.position) (get_or-set_same ds k e d1 inside) ∙ more in
+                  elim (cases_lt q d.position) [
+                    | left' before ↦ c.keeps n _ (full_at k q n j d0 inside before (ap (λ z. at (program_of w z) q) (sym eq) ∙ at'))
+                    | right past ↦ let same : q ≡ d.position = omega (arith, pos, lq, past) in
+                        c.posts n j (here ∙ ap (at (program_of w k)) (sym same) ∙ ap (λ z. at (program_of w z) q) (sym eq) ∙ at')
+                  ]
+              | right ne ↦ c.keeps n _ (full_at k' q n j d1 (omega (arith, b, long)) (subst (λ z. q < z.position) (sym there.1 ∙ get_or-set_other ds k k' e d1 ne) lq) at')
+            ];
       }
 
   stayed : (e : Desk) (new : PlainCells) → e ≡ d → new ≡ cells → IsState w (set ds k e) new
@@ -259,7 +273,7 @@ module _ (w : World) (whole : IsWhole w) (ds : List Desk) (cells : PlainCells) (
   stays e new (NotYet m) f z = let x = waited plain_cells d e cells new m i f in (ap (set ds k) x.same ∙ set-get_or ds k d0, x.none.0)
   stays e new Ended f z = (ap (set ds k) f.1 ∙ set-get_or ds k d0, f.2)
 
-  pub is_stuck : (e : Desk) (new : PlainCells) (r : Stepped) → Did e new r → moves_of r ≡ 0 → StuckOn w ds cells.cells k d0
+  pub is_stuck : (e : Desk) (new : PlainCells) (r : Stepped) → Did e new r → moves_of r ≡ 0 → StuckOn w cells.cells k d
   is_stuck e new Moved f z = absurd (omega arith)
   is_stuck e new (NotYet m) f z = let x = waited plain_cells d e cells new m i f in inr (x.number, x.share, sym here ∙ x.takes, sym x.none.1)
   is_stuck e new Ended f z = inl f.0

@@ -1,5 +1,5 @@
 //! Steps of many desks on one list of cells.
-ghost use Rattle.std.specs.Prelude.{◌≡◌, ℕ, ◌+◌, ◌<◌, true, false, nat_lt, length, Some};
+ghost use Rattle.std.specs.Prelude.{◌≡◌, ℕ, ◌+◌, ◌<◌, true, false, nat_lt, length, slice_get, Some};
 ghost use Rattle.share_world.specs.Worlds.{World};
 ghost use Rattle.party_desk.specs.declared.desk.Desk.{Desk};
 ghost use Rattle.share_world.specs.Laws.{IsWhole};
@@ -21,7 +21,7 @@ pub fn step_at(plan: &Plan, desks: &mut [Desk], cells: &mut PlainCells, k: usize
     ensures tells { (w : World) → w.plan ≡ plan.now → IsWhole w → IsState w desks.old cells.old → Some result ≡ tells w k (standing desks.old cells.old) }
     ensures left { moves_of result + left_all desks.new ≡ left_all desks.old }
     ensures still { moves_of result ≡ 0 → (desks.new ≡ desks.old) × (cells.new ≡ cells.old) }
-    ensures stuck { (w : World) (d : Desk) → w.plan ≡ plan.now → IsWhole w → IsState w desks.old cells.old → moves_of result ≡ 0 → StuckOn w desks.old cells.old.cells k d }
+    ensures stuck { (w : World) (d : Desk) → w.plan ≡ plan.now → IsWhole w → IsState w desks.old cells.old → slice_get desks.old k ≡ Some d → moves_of result ≡ 0 → StuckOn w cells.old.cells k d }
 {
     step_in_world(&mut desks[k], plan, cells)
 }
@@ -39,7 +39,7 @@ fn walk(plan: &Plan, desks: &mut [Desk], cells: &mut PlainCells, k: usize) -> bo
     ensures state { (w : World) → w.plan ≡ plan.now → IsWhole w → IsState w desks.old cells.old → IsState w desks.new cells.new }
     ensures moved { result ≡ true → left_all desks.new < left_all desks.old }
     ensures still { result ≡ false → (desks.new ≡ desks.old) × (cells.new ≡ cells.old) }
-    ensures stuck { (w : World) (d : Desk) → w.plan ≡ plan.now → IsWhole w → IsState w desks.old cells.old → result ≡ false → StuckOn w desks.old cells.old.cells k d }
+    ensures stuck { (w : World) (d : Desk) → w.plan ≡ plan.now → IsWhole w → IsState w desks.old cells.old → slice_get desks.old k ≡ Some d → result ≡ false → StuckOn w cells.old.cells k d }
 {
     let mut moved = false;
     while is_move(step_at(plan, desks, cells, k)) {

@@ -1,6 +1,6 @@
 -- A world that is opened is one within the limits, and its desks are those of the world, at their start.
 use Rattle.std.proofs.Common.{◌≡◌, ℕ, zero, suc, ◌+◌, ◌*◌, ◌/◌, ◌%◌, ◌<◌, ◌≤◌, ◌^◌, List, [], length, take, drop, get_or, refl, sym, ap, ap₂, ◌∙◌, subst, arith}
-use Rattle.std.specs.Prelude.{slice_index, slice_index_or}
+use Rattle.std.specs.Prelude.{Some, slice_get, slice_index, slice_index_or}
 use Rattle.std.specs.List.{AllByRecursion}
 use Rattle.std.proofs.lemmas.Bool.{cases_lt}
 use Rattle.std.proofs.lemmas.Nat.{pow_pos}
@@ -23,6 +23,7 @@ use Rattle.program_laws.specs.Lawful.{given_to}
 use Rattle.desk_laws.specs.Opening.{piece_at, world_of_pieces, ArePieces}
 use Rattle.desk_laws.specs.Opened.{AreNewDesks}
 use Rattle.desk_laws.specs.Pools.{AreDesks, AllHavePosts}
+use Rattle.desk_laws.proofs.Elements.{stands_at}
 
 -- ---- the desks by number
 
@@ -114,20 +115,20 @@ module _ (plan : Plan) (sound : IsSound plan) (inputs : List (List (List ℕ))) 
   -- ---- the start
 
   module _ (ds : List Desk) (count : length ds ≡ length pieces) (new : AreNewDesks plan inputs pieces ds) where
-    desk_is : (k : ℕ) (d : Desk) → k < length ds → IsDesk (given_to w k) (get_or ds k d)
-    desk_is k d l =
+    desk_is : (k : ℕ) (d : Desk) → slice_get ds k ≡ Some d → IsDesk (given_to w k) d
+    desk_is k d is =
         let p : ℕ = k % plan.parties in
         let s : ℕ = k / plan.parties in
-        let inside : k < length pieces = omega arith in
+        let inside : k < length pieces = (let within = (stands_at ds k d d is).0 in omega arith) in
         let lp = party_is plan sound pieces h k inside in
         let ls = session_is plan sound pieces h k inside in
         let piece = sym (cut_out p s lp ls ∙ piece_is plan sound pieces h k inside) in
         let got : ℕ → ℕ = λ n. word w (message plan n) in
-        subst (λ t. IsDesk (record { plan = plan; party = p; session = s; inputs = given inputs p s; tape = t; got = got }) (get_or ds k d)) piece ((new k d l).desk got)
+        subst (λ t. IsDesk (record { plan = plan; party = p; session = s; inputs = given inputs p s; tape = t; got = got }) d) piece ((new k d is).desk got)
 
     pub new_desks : AreDesks w ds
     new_desks = record { many = count ∙ h.count; desks = desk_is }
 
     -- they have posted nothing
     pub no_posts : (has : ℕ → ℕ → Type 0) → AllHavePosts has w ds
-    no_posts has k d l q n i less e = absurd (let none = (new k d l).position in omega arith)
+    no_posts has k d is q n i less e = absurd (let none = (new k d is).position in omega arith)

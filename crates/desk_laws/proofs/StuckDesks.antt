@@ -2,7 +2,6 @@
 use Rattle.std.proofs.Common.{◌≡◌, ℕ, zero, suc, ◌+◌, ◌-◌, ◌*◌, ◌/◌, ◌%◌, ◌<◌, ◌≤◌, List, length, get_or, sym, ap, ap₂, ◌∙◌, subst, arith, ⊎_elim}
 use Rattle.std.specs.Prelude.{Some, slice_get}
 use Rattle.std.proofs.lemmas.Bool.{cases_lt}
-use Rattle.std.proofs.lemmas.Option.{slice_get_cases}
 use Rattle.std.proofs.Math.Nat.{mod-lt, div-mul-le_self, mul-le-mul_left, mul-le-mul_right}
 use Rattle.std.proofs.lemmas.Nat.{div-mul-add, mod-mul-add}
 use mathlib.Core.Logic.{inl, inr}
@@ -20,17 +19,12 @@ use Rattle.party_program.specs.declared.program.Instruction.TheVariants.{Post, T
 use Rattle.party_program.specs.Programs.{program, at}
 use Rattle.party_desk.specs.declared.desk.Desk.{Desk}
 use Rattle.party_desk.specs.Desks.{IsDesk}
-use Rattle.program_laws.specs.Lawful.{given_in, program_of}
+use Rattle.program_laws.specs.Lawful.{given_in, given_to, program_of}
 use Rattle.program_laws.specs.Moving.{CanMove}
 use Rattle.program_laws.proofs.Ranks.{one_moves, sender_within, posted_in, each_sender}
-use Rattle.desk_laws.specs.Pools.{AreDesks, AllHavePosts, AllStuck, AllEnded}
-
--- a place of a list has its element
-pub element_there : {A : Type 0} (xs : List A) (k : ℕ) → k < length xs → (x : A) × (slice_get xs k ≡ Some x) × (get_or xs k x ≡ x)
-element_there xs k l = elim (slice_get_cases xs k).1 [
-  | inl found ↦ (found.0, found.2, found.3)
-  | inr past ↦ absurd (let a = past.0 in omega arith)
-]
+use Rattle.desk_laws.specs.InWorld.{HasPosts}
+use Rattle.desk_laws.specs.Pools.{AreDesks, AllHavePosts, Stuck, AllStuck, AllEnded}
+use Rattle.desk_laws.proofs.Elements.{element_there, by_place, by_element}
 
 -- ---- desk s * parties + p is that of party p in session s
 
@@ -48,11 +42,10 @@ module _ (w : World) (s p : ℕ) (lp : p < w.plan.parties) where
     pub beside : s * w.plan.parties + p < length ds
     beside = let a : (s + 1) * w.plan.parties ≤ length w.plan.sessions * w.plan.parties = mul-le-mul_right w.plan.parties (omega arith) in let c = h.many in omega arith
 
-    pub desk_there : (d : Desk) → IsDesk (given_in w s p) (get_or ds (s * w.plan.parties + p) d)
-    desk_there d =
-        let desk = get_or ds (s * w.plan.parties + p) d in
-        subst (λ z. IsDesk (given_in w z p) desk) quotient
-        (subst (λ z. IsDesk (given_in w ((s * w.plan.parties + p) / w.plan.parties) z) desk) remainder (h.desks (s * w.plan.parties + p) d beside))
+    pub desk_there : (d : Desk) → slice_get ds (s * w.plan.parties + p) ≡ Some d → IsDesk (given_in w s p) d
+    desk_there d is =
+        subst (λ z. IsDesk (given_in w z p) d) quotient
+        (subst (λ z. IsDesk (given_in w ((s * w.plan.parties + p) / w.plan.parties) z) d) remainder (h.desks (s * w.plan.parties + p) d is))
 
 -- the session of a desk
 pub session_within : (w : World) → IsWhole w → (ds : List Desk) → AreDesks w ds → (k : ℕ) → k < length ds → k / w.plan.parties < length w.plan.sessions
@@ -67,7 +60,8 @@ module _ (has : ℕ → ℕ → Type 0) (w : World) (whole : IsWhole w) (ds : Li
 
   -- what the sender of a message posted, if it is past the post
   there : (s p q m i : ℕ) (d : Desk) → s < length w.plan.sessions → p < n → q < (get_or ds (s * n + p) d).position → at (program w.plan p s) q ≡ Post m i → has m (word w (message w.plan m))
-  there s p q m i d ls lp less at' = posted (s * n + p) d (beside w s p lp ds h ls) q m i less (ap (λ z. at z q) (program_there w s p lp) ∙ at')
+  there s p q m i d ls lp less at' =
+      by_place (λ k (desk : Desk). HasPosts has w (k / n) (k % n) desk.position) ds posted (s * n + p) d (beside w s p lp ds h ls) q m i less (ap (λ z. at z q) (program_there w s p lp) ∙ at')
 
   module _ (stuck : AllStuck has w ds) (d0 : Desk) where
     -- where the desks stand
@@ -87,7 +81,7 @@ module _ (has : ℕ → ℕ → Type 0) (w : World) (whole : IsWhole w) (ds : Li
         let post = moves.1 m t.1 taken in
         let sender = sender_within w.plan whole.sound s ls p (position s p) m t.1 moves.0 taken in
         absurd (t.3 (word w (message w.plan m)) (there s (message w.plan m).sender post.0 m post.1 d0 ls sender post.2 post.3)))
-        (stuck k d0 (beside w s p lp ds h ls))
+        (by_place (λ j (desk : Desk). Stuck has w j desk.position) ds stuck k d0 (beside w s p lp ds h ls))
 
     ended : (k : ℕ) → k < length ds → (get_or ds k d0).position ≡ length (program_of w k)
     ended k l =
@@ -97,14 +91,14 @@ module _ (has : ℕ → ℕ → Type 0) (w : World) (whole : IsWhole w) (ds : Li
         let same : s * n + p ≡ k = (let some = whole.sound.some_parties in omega arith) in
         let ls : s < length w.plan.sessions = session_within w whole ds h k l in
         let here : position s p ≡ (get_or ds k d0).position = ap (λ z. (get_or ds z d0).position) same in
-        let within : (get_or ds k d0).position ≤ length (program_of w k) = (h.desks k d0 l).position in
+        let within : (get_or ds k d0).position ≤ length (program_of w k) = (by_place (λ j (desk : Desk). IsDesk (given_to w j) desk) ds h.desks k d0 l).position in
         elim (cases_lt (get_or ds k d0).position (length (program_of w k))) [
           | inl left ↦ let r = one_moves w.plan position s p whole.sound ls lp (omega arith) in absurd (none_moves s r.0 ls r.1 r.2)
           | inr past ↦ omega arith
         ]
 
   pub stuck_is_ended : AllStuck has w ds → AllEnded w ds
-  stuck_is_ended stuck k d l = ended stuck d k l
+  stuck_is_ended stuck = by_element (λ k (desk : Desk). desk.position ≡ length (program_of w k)) ds (λ k d l. ended stuck d k l)
 
   -- every number below a sum stands in one of its terms
   part_of : (n : ℕ) (f : ℕ → ℕ) (i : ℕ) → i < total n f → (k : ℕ) × (j : ℕ) × (k < n) × (j < f k) × (i ≡ total k f + j)
@@ -132,7 +126,8 @@ module _ (has : ℕ → ℕ → Type 0) (w : World) (whole : IsWhole w) (ds : Li
       let p : ℕ = (message plan number).sender in
       let lp : p < plan.parties = each_sender plan (is_plan w whole) s 0 ls owner k j b.2 b.3 in
       let d0 : Desk = (element_there ds (s * n + p) (beside w s p lp ds h ls)).0 in
-      let end : (get_or ds (s * n + p) d0).position ≡ length (program plan p s) = ended (s * n + p) d0 (beside w s p lp ds h ls) ∙ ap length (program_there w s p lp) in
+      let end : (get_or ds (s * n + p) d0).position ≡ length (program plan p s) =
+      by_place (λ k (desk : Desk). desk.position ≡ length (program_of w k)) ds ended (s * n + p) d0 (beside w s p lp ds h ls) ∙ ap length (program_there w s p lp) in
       let inside = post'.1 in
       subst (λ z. has z (word w (message plan z))) (sym is)
       (there s p post'.0 number (message plan number).share d0 ls lp (omega arith) post'.2)

@@ -11,6 +11,7 @@ use Rattle.share_world.specs.Laws.{IsWhole}
 use Rattle.program_laws.specs.Lawful.{program_of}
 use Rattle.program_laws.proofs.LawfulWorlds.{lawful}
 use Rattle.desk_laws.specs.Pools.{AreDesks, AllEnded}
+use Rattle.desk_laws.proofs.Elements.{by_place}
 use Rattle.desk_workers.specs.Runs.{instructions_of}
 
 -- within the limits there are few desks
@@ -50,12 +51,12 @@ by_number f g (x ∷ ds) h =
 module _ (w : World) (ds : List Desk) (h : AreDesks w ds) where
   pub all_instructions : total_over (λ (d : Desk). length d.program) ds ≡ instructions_of w
   all_instructions =
-      by_number (λ d. length d.program) (λ k. length (program_of w k)) ds (λ k d l. ap length (h.desks k d l).list)
+      by_number (λ d. length d.program) (λ k. length (program_of w k)) ds (by_place (λ k (d : Desk). length d.program ≡ length (program_of w k)) ds (λ k d is. ap length (h.desks k d is).list))
       ∙ ap (λ n. sums.total n (λ k. length (program_of w k))) h.many
 
   pub all_steps : AllEnded w ds → total_over (λ (d : Desk). d.position) ds ≡ instructions_of w
   all_steps ended =
-      by_number (λ d. d.position) (λ k. length (program_of w k)) ds ended
+      by_number (λ d. d.position) (λ k. length (program_of w k)) ds (by_place (λ k (d : Desk). d.position ≡ length (program_of w k)) ds ended)
       ∙ ap (λ n. sums.total n (λ k. length (program_of w k))) h.many
 
 -- within the limits there are few instructions

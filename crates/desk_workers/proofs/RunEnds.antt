@@ -1,5 +1,5 @@
 -- From desks at their end and the cells of a closed board to a run that is over.
-use Rattle.std.proofs.Common.{◌≡◌, ℕ, ◌+◌, ◌*◌, ◌<◌, List, length, get_or, Some, sym, ap, subst, ◌∙◌}
+use Rattle.std.proofs.Common.{◌≡◌, ℕ, ◌+◌, ◌*◌, ◌<◌, List, length, Some, sym, ap, subst, ◌∙◌}
 use Rattle.std.specs.Prelude.{slice_get, IsSomeAnd}
 use Rattle.message_board.specs.Pairs.{Knows, total_over}
 use Rattle.message_board.specs.Plain.{plain_cell}
@@ -9,12 +9,11 @@ use Rattle.job_plan.specs.Messages.{messages}
 use Rattle.job_plan.specs.Numbers.{message}
 use Rattle.share_world.specs.Worlds.{World, word}
 use Rattle.party_desk.specs.declared.desk.Desk.{Desk}
-use Rattle.party_desk.specs.Desks.{IsDesk}
-use Rattle.program_laws.specs.Lawful.{given_in}
 use Rattle.desk_laws.specs.InWorld.{IsDone}
 use Rattle.desk_laws.specs.Pools.{AreDesks, AllEnded}
 use Rattle.desk_laws.proofs.Outputs.{done_at_end}
-use Rattle.desk_laws.proofs.StuckDesks.{beside, desk_there, program_there, all_posted, element_there}
+use Rattle.desk_laws.proofs.Elements.{element_there}
+use Rattle.desk_laws.proofs.StuckDesks.{beside, desk_there, program_there, all_posted}
 use Rattle.desk_workers.specs.declared.promised.Promised.{Promised}
 use Rattle.desk_workers.specs.declared.done.Done.{Done}
 use Rattle.desk_workers.specs.Promises.{world_in, words_of}
@@ -45,14 +44,11 @@ module _ (plan : Plan) (board : BoardModel Promised) (pool : IsPool plan board) 
       abbrev desk : Desk
       desk = (element_there ds k inside).0
 
-      same : get_or ds k desk ≡ desk
-      same = (element_there ds k inside).2
-
       done : IsSomeAnd (desk_of o s p) (IsDone w s p)
       done =
           subst (λ z. IsSomeAnd z (IsDone w s p)) (sym (ap (λ n. slice_get ds (s * n + p)) parties ∙ (element_there ds k inside).1))
-          (done_at_end w s p desk pool.whole (subst (IsDesk (given_in w s p)) same (desk_there w s p lp ds are ls desk))
-          (ap (λ d. d.position) (sym same) ∙ ended k desk inside ∙ ap length (program_there w s p lp)))
+          (done_at_end w s p desk pool.whole (desk_there w s p lp ds are ls desk (element_there ds k inside).1)
+          (ended k desk (element_there ds k inside).1 ∙ ap length (program_there w s p lp)))
 
     posted : (n : ℕ) → n < length (messages w.plan) → Knows seen n (word w (message w.plan n))
     posted n l = all_posted (Knows seen) w pool.whole ds are (have_posts plan board pool seen ds count all) ended n l

@@ -1,5 +1,5 @@
 -- Desks and seats of a pool.
-use Rattle.std.specs.Prelude.{◌≡◌, ℕ, ◌+◌, ◌*◌, ◌/◌, ◌%◌, ◌<◌, List, length, get_or, slice_index_or}
+use Rattle.std.specs.Prelude.{◌≡◌, ℕ, ◌+◌, ◌*◌, ◌/◌, ◌%◌, ◌<◌, List, length, Some, slice_get, slice_index_or}
 use Rattle.message_board.specs.Pairs.{Knows, Grows}
 use Rattle.message_board.specs.Seats.{BoardModel, Sitting, IsFreeSeatOf}
 use Rattle.job_plan.specs.Plans.{Plan}
@@ -47,7 +47,7 @@ IsStuck board seat d =
 
 -- each desk stands where its program leaves it in the world, and these pairs have what they posted
 abbrev pub AllStand : World → List (ℕ × ℕ) → List Desk → Type 0
-AllStand w seen ds = (k : ℕ) (d : Desk) → k < length ds → StandsIn w seen k (get_or ds k d)
+AllStand w seen ds = (k : ℕ) (d : Desk) → slice_get ds k ≡ Some d → StandsIn w seen k d
 
 -- each seat is one of the board's and holds no slot
 abbrev pub AllFree : BoardModel Promised → List (Sitting Promised) → Type 0

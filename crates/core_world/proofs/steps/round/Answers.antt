@@ -1,8 +1,10 @@
 use Rattle.std.proofs.Common.{◌≡◌, ◌≤◌, Bool, true, false, refl, sym, ap, ◌∙◌, subst, arith}
+use Rattle.std.specs.Prelude.{Some, slice_get}
 use Rattle.std.proofs.lemmas.Bool.{both_ways, cases_lt}
 use mathlib.Core.Logic.{inl, inr}
 use Rattle.core_world.specs.States.{StuckOn}
 use Rattle.desk_laws.specs.Pools.{left_all}
+use Rattle.desk_laws.proofs.Elements.{stands_at}
 use Rattle.core_world.proofs.steps.round.Goals as goal
 use Rattle.core_world.proofs.steps.round.Goals.{then-walk, else-walk}
 
@@ -26,13 +28,17 @@ loop-k-preserved c =
             state = λ w p law s. e.state w p law (h.state w p law s);
             moved = λ t. let m = h.moved (sym b.moved-is ∙ t) in let same = ap left_all a.0 in omega arith;
             still = λ f. let g = h.still (sym b.moved-is ∙ f) in (a.0 ∙ g.0, a.1 ∙ g.1);
-            stuck = λ w p whole s f j d less. elim (cases_lt j c.loop-k.k) [
-              | inl before ↦ h.stuck w p whole s (sym b.moved-is ∙ f) j d before
+            stuck = λ w p whole s f j d less is. elim (cases_lt j c.loop-k.k) [
+              | inl before ↦ h.stuck w p whole s (sym b.moved-is ∙ f) j d before is
               | inr past ↦
                   let g = h.still (sym b.moved-is ∙ f) in
                   let same : c.loop-k.k ≡ j = omega arith in
-                  let here = e.stuck w d p whole (h.state w p whole s) b.if-walk.false in
-                  subst (λ k. StuckOn w c.args.desks.now c.args.cells.now.cells k d) same (subst (λ x. StuckOn w c.args.desks.now x.cells c.loop-k.k d) g.1 (subst (λ x. StuckOn w x c.loop-k.cells.cells c.loop-k.k d) g.0 here))
+                  let there : slice_get c.loop-k.desks c.loop-k.k ≡ Some d = ap (λ x. slice_get x c.loop-k.k) g.0 ∙ ap (slice_get c.args.desks.now) same ∙ is in
+                  let here = e.stuck w d p whole (h.state w p whole s) there b.if-walk.false in
+                  subst (λ k. StuckOn w c.args.cells.now.cells k d) same (subst (λ x. StuckOn w x.cells c.loop-k.k d) g.1 here)
             ];
           }
     ]
+
+pub returns-clause-stuck : goal.returns-clause-stuck
+returns-clause-stuck c w p whole s f j d is = c.loop-k.invariant.stuck w p whole s f j d (let inside = (stands_at c.args.desks.now j d d is).0 in omega arith) is

@@ -1,4 +1,5 @@
 use Rattle.std.proofs.Common.{◌≡◌, ℕ, ◌<◌, true, false}
+use Rattle.std.specs.Prelude.{Some, slice_get}
 use Rattle.share_world.specs.Worlds.{World}
 use Rattle.party_desk.specs.declared.desk.Desk.{Desk}
 use Rattle.core_world.specs.States.{IsState, StuckOn}
@@ -11,5 +12,5 @@ invariant-loop-k l = record {
   state : (w : World) → w.plan ≡ l.plan → IsWhole w → IsState w l.fn.desks l.fn.cells → IsState w l.desks l.cells;
   moved : l.moved ≡ true → left_all l.desks < left_all l.fn.desks;
   still : l.moved ≡ false → (l.desks ≡ l.fn.desks) × (l.cells ≡ l.fn.cells);
-  stuck : (w : World) → w.plan ≡ l.plan → IsWhole w → IsState w l.fn.desks l.fn.cells → l.moved ≡ false → (j : ℕ) (d : Desk) → j < l.k → StuckOn w l.fn.desks l.fn.cells.cells j d;
+  stuck : (w : World) → w.plan ≡ l.plan → IsWhole w → IsState w l.fn.desks l.fn.cells → l.moved ≡ false → (j : ℕ) (d : Desk) → j < l.k → slice_get l.fn.desks j ≡ Some d → StuckOn w l.fn.cells.cells j d;
 }

@@ -1,9 +1,10 @@
-use Rattle.std.proofs.Common.{◌≡◌, ◌/◌, ◌%◌}
+use Rattle.std.proofs.Common.{◌≡◌, ◌/◌, ◌%◌, subst}
 use Rattle.share_world.specs.Worlds.{World}
 use Rattle.party_desk.specs.declared.desk.Desk.{Desk}
 use Rattle.share_world.specs.Laws.{IsWhole}
-use Rattle.core_world.specs.States.{IsState}
-use Rattle.core_world.proofs.StepLaws.{may_step, stepped, stands_as, tells_as, counts, stays, is_stuck, stuck_any}
+use Rattle.desk_laws.proofs.Elements.{stands_at}
+use Rattle.core_world.specs.States.{IsState, StuckOn}
+use Rattle.core_world.proofs.StepLaws.{may_step, stepped, stands_as, tells_as, counts, stays, is_stuck}
 use Rattle.core_world.proofs.steps.step_at.Goals as goal
 
 pub step_in_world-requires : goal.step_in_world-requires
@@ -29,5 +30,5 @@ returns c =
       tells = λ w same whole h. tells_as w whole ds cells h k in' d0 e new r (did w same whole h);
       left = counts s.0 s.2 ds cells s.3 k in' d0 e new r (did s.0 s.1 s.2 s.3);
       still = stays s.0 s.2 ds cells s.3 k in' d0 e new r (did s.0 s.1 s.2 s.3);
-      stuck = λ w d1 same whole h none. stuck_any w ds cells.cells k d0 d1 in' (is_stuck w whole ds cells h k in' d0 e new r (did w same whole h) none);
+      stuck = λ w d same whole h is none. subst (StuckOn w cells.cells k) (stands_at ds k d d0 is).1 (is_stuck w whole ds cells h k in' d0 e new r (did w same whole h) none);
     }

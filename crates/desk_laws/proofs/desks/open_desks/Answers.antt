@@ -1,4 +1,4 @@
-use Rattle.std.proofs.Common.{◌≡◌, ◌+◌, ◌/◌, ◌%◌, ◌<◌, List, [], ◌∷◌, ◌++◌, length, drop, get_or, sym, ap, ◌∙◌, subst, arith, length-append}
+use Rattle.std.proofs.Common.{◌≡◌, ℕ, ◌+◌, ◌/◌, ◌%◌, ◌<◌, List, [], ◌∷◌, ◌++◌, length, drop, get_or, sym, ap, ◌∙◌, subst, arith, length-append}
 use Rattle.std.proofs.lemmas.Bool.{cases_lt}
 use Rattle.std.proofs.lemmas.List.{drop_more, length-drop, get_or-append-add}
 use Rattle.std.proofs.Math.ListN.{get_or-append}
@@ -7,6 +7,7 @@ use Rattle.job_plan.specs.Plans.{words}
 use Rattle.job_plan.specs.InputWords.{given}
 use Rattle.party_desk.specs.declared.desk.Desk.{Desk}
 use Rattle.party_desk.specs.Desks.{IsNew}
+use Rattle.desk_laws.proofs.Elements.{by_place, by_element}
 use Rattle.desk_laws.proofs.OpenedDesks.{long_piece}
 use Rattle.desk_laws.proofs.desks.open_desks.Goals as goal
 
@@ -37,6 +38,7 @@ loop-piece-preserved c =
     let z = c.in-Some.ensures.steps in
     let u = c.in_ok-push.ensures.items in
     let new = c.in_ok-desk.desk in
+    let is_new_at : ℕ → Desk → Type 0 = λ j d. IsNew c.args.plan.now (j % n) (j / n) (given c.args.inputs.now (j % n) (j / n)) (get_or xs j []) d in
     let long : length (drop k xs) ≡ length c.next.new.self.rest.items + 1 = ap length (sym h.rest ∙ z.0) ∙ omega arith in
     let less : k < length xs = omega (arith, length-drop k xs, long) in
     let both : c.in-Some.piece ∷ c.next.new.self.rest.items ≡ get_or xs k [] ∷ drop (k + 1) xs = sym z.0 ∙ h.rest ∙ drop_more xs k [] less in
@@ -50,15 +52,14 @@ loop-piece-preserved c =
       count = sym (ap length u ∙ size);
       rest = tail_of _ _ _ _ both;
       within = omega arith;
-      desks = λ j d lj.
-          subst (λ ys. IsNew c.args.plan.now (j % n) (j / n) (given c.args.inputs.now (j % n) (j / n)) (get_or xs j []) (get_or ys j d)) (sym u)
+      desks = by_element is_new_at c.in_ok-push.new.self.items (λ j d lj.
+          subst (λ ys. is_new_at j (get_or ys j d)) (sym u)
           (let inside : j < k + 1 = (let a = ap length u in omega (arith, a, size, lj)) in elim (cases_lt j k) [
             | inl before ↦
                 let in-ds : j < length ds = (let a = h.count in omega arith) in
-                subst (λ x. IsNew c.args.plan.now (j % n) (j / n) (given c.args.inputs.now (j % n) (j / n)) (get_or xs j []) x) (sym (get_or-append ds (new ∷ []) d j in-ds)) (h.desks j d in-ds)
+                subst (is_new_at j) (sym (get_or-append ds (new ∷ []) d j in-ds)) (by_place is_new_at ds h.desks j d in-ds)
             | inr past ↦
                 let same : k ≡ j = omega arith in
-                subst (λ i. IsNew c.args.plan.now (i % n) (i / n) (given c.args.inputs.now (i % n) (i / n)) (get_or xs i []) (get_or (ds ++ new ∷ []) i d)) same
-                (subst (λ x. IsNew c.args.plan.now (k % n) (k / n) (given c.args.inputs.now (k % n) (k / n)) (get_or xs k []) x) (sym (last d)) is_new)
-          ]);
+                subst (λ i. is_new_at i (get_or (ds ++ new ∷ []) i d)) same (subst (is_new_at k) (sym (last d)) is_new)
+          ]));
     }

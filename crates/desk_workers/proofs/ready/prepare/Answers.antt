@@ -8,7 +8,6 @@ use Rattle.desk_laws.proofs.OpenedDesks.{whole_is, new_desks}
 use Rattle.desk_workers.specs.Promises.{world_in}
 use Rattle.desk_workers.proofs.Counts.{all_instructions}
 use Rattle.desk_workers.proofs.PostedPairs.{nothing_posted}
-use Rattle.desk_workers.proofs.DeskLists.{stands_at}
 use Rattle.desk_workers.proofs.ready.prepare.Goals as goal
 
 pub returns-in_err-items-clause-whole : goal.returns-in_err-items-clause-whole
@@ -30,10 +29,9 @@ pub make-requires-clause-items : goal.make-requires-clause-items
 make-requires-clause-items c i x at =
     let opened = c.in_ok-items.ensures in
     let is = c.of-promised.ensures in
-    let here = stands_at c.in_ok-items.items.items i x at in
     let are = new_desks c.args.plan.now c.parties-parties.ensures.sound c.args.inputs.now c.requires.inputs c.args.pieces.items c.requires.pieces c.in_ok-items.items.items opened.0 opened.1 in
-    let start : x.position ≡ 0 = subst (λ (d : Desk). d.position ≡ 0) here.1 (opened.1 i x here.0).position in (
-      subst (λ v. IsDesk (given_to v i) x) (sym is) (subst (IsDesk (given_to (world_of_pieces c.args.plan.now c.args.inputs.now c.args.pieces.items) i)) here.1 (are.desks i x here.0)),
+    let start : x.position ≡ 0 = (opened.1 i x at).position in (
+      subst (λ v. IsDesk (given_to v i) x) (sym is) (are.desks i x at),
       nothing_posted (world_in c.of-promised.result) x start,
     )
 

@@ -1,4 +1,5 @@
-use Rattle.std.proofs.Common.{◌≡◌, ℕ, ◌+◌, ◌*◌, ◌≤◌, ◌<◌, ◌^◌, length, get_or}
+use Rattle.std.proofs.Common.{◌≡◌, ℕ, ◌+◌, ◌*◌, ◌≤◌, ◌<◌, ◌^◌, length}
+use Rattle.std.specs.Prelude.{Some, slice_get}
 use Rattle.message_board.specs.Pairs.{Knows, Grows}
 use Rattle.message_board.specs.Seats.{IsSeatOf}
 use Rattle.party_desk.specs.declared.desk.Desk.{Desk}
@@ -16,4 +17,4 @@ invariant-loop-i l =
     × (l.moves + left_all l.desks ≡ left_all l.fn.desks)
     × (l.moves ≤ l.i * 2 ^ 32)
     × (l.moves ≡ 0 → l.desks ≡ l.fn.desks)
-    × (l.moves ≡ 0 → (k : ℕ) (d : Desk) → k < l.i → Stuck (Knows l.fn.seat.view.seen) (world_in l.board.about.world) k (get_or l.fn.desks k d).position)
+    × (l.moves ≡ 0 → (k : ℕ) (d : Desk) → k < l.i → slice_get l.fn.desks k ≡ Some d → Stuck (Knows l.fn.seat.view.seen) (world_in l.board.about.world) k d.position)
