@@ -9,7 +9,7 @@ ghost use Rattle.job_plan.specs.Firsts.{first, count};
 ghost use Rattle.party_program.specs.Programs.{program as list_of, post, take_of, from, to, posts, takes, opening, closing, slot_program};
 
 use crate::program::{Instruction, Program};
-use job_plan::{SlotKind, Plan};
+use job_plan::{Plan, SlotKind};
 use std::alloc::{AllocError, Global};
 
 fn push_post(plan: &Plan, p: u32, number: u32, program: &mut Program) -> Result<(), AllocError>
