@@ -34,6 +34,9 @@ take_all-all-requires-clause-seats g c =
     ∙ seats_in_new c.args.self.rack c.args.self.seats.items ready.new
     ∙ ready.all
 
+pub finish_all-requires-clause-desks : goal.finish_all-requires-clause-desks
+finish_all-requires-clause-desks g c = subst (λ b. AllStand (world_in b.about.world) c.take_all-all.new.seat.view.seen c.take_all-all.result.items) (sym c.board-2.ensures) c.take_all-all.ensures.desks
+
 pub returns : goal.returns
 returns g c w same ready =
     let board = c.args.self.rack in
