@@ -2,11 +2,11 @@
 #![tactic(auto)]
 
 mod done;
-mod rounds;
 mod pace;
 mod pool;
 mod promised;
 mod ready;
+mod rounds;
 mod steps;
 
 pub use done::Done;

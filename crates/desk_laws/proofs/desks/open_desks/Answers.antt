@@ -52,7 +52,7 @@ loop-piece-preserved c =
       count = sym (ap length u ∙ size);
       rest = tail_of _ _ _ _ both;
       within = omega arith;
-      desks = by_element is_new_at c.in_ok-push.new.self.items (λ j d lj.
+      desks = by_element is_new_at _ (λ j d lj.
           subst (λ ys. is_new_at j (get_or ys j d)) (sym u)
           (let inside : j < k + 1 = (let a = ap length u in omega (arith, a, size, lj)) in elim (cases_lt j k) [
             | inl before ↦

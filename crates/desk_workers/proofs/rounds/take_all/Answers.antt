@@ -30,5 +30,5 @@ loop-slot-preserved c =
       (let a = place in omega arith),
       (let a = h.4 in let b = c.push_reserved.ensures.capacity in omega arith),
       subst (λ l. AllStand w after l) (sym items)
-      (by_element (StandsIn w after) (ds ++ desk ∷ []) (each_more (StandsIn w after) ds desk (by_place (StandsIn w after) ds all) (subst (λ k. StandsIn w after k desk) (sym place) one))),
+          (by_element (StandsIn w after) (ds ++ desk ∷ []) (each_more (StandsIn w after) ds desk (by_place (StandsIn w after) ds all) (subst (λ k. StandsIn w after k desk) (sym place) one))),
     )
