@@ -17,7 +17,7 @@ use Rattle.share_world.proofs.SmallWords.{is_plan, is_world, small_words}
 use Rattle.party_program.specs.declared.program.Instruction.{Instruction}
 use Rattle.party_program.specs.declared.program.Instruction.TheVariants.{Deal, Post, Take, Linear, Own, Sum, Deliver, End}
 use Rattle.party_program.specs.Programs.{program, at}
-use Rattle.party_program.specs.States.{Given, State, new_state, state, next, dealt_in, took_in, opened, slot_at, slot_of, output_of}
+use Rattle.party_program.specs.States.{Given, State, new_state, state, next, dealt_in, took_in, opened, slot_at, slot_of, output_in_slot}
 use Rattle.party_program.proofs.InstructionLists.{state_is, run_all}
 use Rattle.program_laws.specs.Lawful.{given_in}
 use Rattle.program_laws.proofs.LocalPrograms.{met}
@@ -50,7 +50,7 @@ module _ (w : World) (whole : IsWhole w) (s p : ℕ) (ls : s < length w.plan.ses
   opens_next q o v (Deal k d) is before f = before o v (sym (ap (λ z. z o) (dealt_outputs w.plan _ _ (slot_at w.plan s k) (state l q))) ∙ f)
   opens_next q o v (Take n i) is before f = before o v (sym (ap (λ z. z o) (took_outputs (2 ^ w.plan.bits) (slot_of w.plan s n) i _ (state l q))) ∙ f)
   opens_next q o v (Deliver k) is before f =
-      let u : ℕ = output_of (slot_at w.plan s k) in
+      let u : ℕ = output_in_slot (slot_at w.plan s k) in
       let right = (lawful w whole).opens s p q k ls lp is in
       elim (cases_eq o u) [
         | inl e ↦

@@ -2,7 +2,7 @@
 use Rattle.std.proofs.Common.{◌≡◌, suc, ◌+◌, List, [], ◌∷◌, ◌++◌, take, drop, refl, ◌∙◌, ap, ap₂, arith}
 use Rattle.group_formula.specs.declared.node.Node.{Node}
 use Rattle.group_formula.specs.declared.node.Node.TheVariants.{Name, And, Or, AtLeast}
-use Rattle.group_formula.specs.Trees.{Tree, Trees, count, postfix, postfix_all, last, joined, after_node, after_nodes, tree_of}
+use Rattle.group_formula.specs.Trees.{Tree, Trees, count, postfix, postfix_all, last, joined_trees, after_node, after_nodes, tree_of}
 use Rattle.group_formula.specs.Trees.Tree.{leaf, both, either, at_least}
 use Rattle.group_formula.specs.Trees.Trees.{one_tree, more_trees}
 
@@ -20,7 +20,7 @@ abbrev pub listed : Trees → List Tree
 listed (one_tree t) = t ∷ []
 listed (more_trees ts t) = t ∷ listed ts
 
-joined_listed : (ts : Trees) → joined (listed ts) ≡ ts
+joined_listed : (ts : Trees) → joined_trees (listed ts) ≡ ts
 joined_listed (one_tree t) = refl
 joined_listed (more_trees (one_tree u) t) = refl
 joined_listed (more_trees (more_trees ts u) t) = ap (λ us. more_trees us t) (joined_listed (more_trees ts u))
@@ -48,7 +48,7 @@ mutual
       after_append (postfix_all ts) (AtLeast n (count ts) ∷ []) s
       ∙ ap (after_nodes (AtLeast n (count ts) ∷ [])) (after_trees ts s)
       ∙ after_one (AtLeast n (count ts)) (listed ts ++ s)
-      ∙ ap₂ (λ us r. at_least n (joined us) ∷ r) (taken ts s) (left ts s)
+      ∙ ap₂ (λ us r. at_least n (joined_trees us) ∷ r) (taken ts s) (left ts s)
       ∙ ap (λ us. at_least n us ∷ s) (joined_listed ts)
 
   pub after_trees : (ts : Trees) (s : List Tree) → after_nodes (postfix_all ts) s ≡ listed ts ++ s

@@ -63,17 +63,17 @@ last [] = leaf 0
 last (t ∷ ts) = t
 
 -- trees of which the last one stands first
-abbrev pub joined : List Tree → Trees
-joined [] = one_tree (leaf 0)
-joined (t ∷ []) = one_tree t
-joined (t ∷ u ∷ ts) = more_trees (joined (u ∷ ts)) t
+abbrev pub joined_trees : List Tree → Trees
+joined_trees [] = one_tree (leaf 0)
+joined_trees (t ∷ []) = one_tree t
+joined_trees (t ∷ u ∷ ts) = more_trees (joined_trees (u ∷ ts)) t
 
 -- what a node makes of the trees before it, the last one first
 abbrev pub after_node : Node → List Tree → List Tree
 after_node (Name p) s = leaf p ∷ s
 after_node And s = both (last (drop 1 s)) (last s) ∷ drop 2 s
 after_node Or s = either (last (drop 1 s)) (last s) ∷ drop 2 s
-after_node (AtLeast n k) s = at_least n (joined (take k s)) ∷ drop k s
+after_node (AtLeast n k) s = at_least n (joined_trees (take k s)) ∷ drop k s
 
 -- what the nodes make of the trees before them
 unfoldable pub after_nodes : List Node → List Tree → List Tree

@@ -19,7 +19,7 @@ use Rattle.job_plan.specs.Plans.Slot.{Input, At_gate, Output}
 use Rattle.job_plan.specs.Messages.{messages, slot_messages, deal_message, deal_messages, open_messages}
 use Rattle.job_plan.specs.Numbers.{deals}
 use Rattle.job_plan.specs.Firsts.{count, session_count}
-use Rattle.job_plan.specs.Tallies.{products, owned, read_by, party_messages, tape_length}
+use Rattle.job_plan.specs.Tallies.{products, owned, outputs_read, party_messages, tape_length}
 use Rattle.job_plan.proofs.Slots.{slot_input, slot_gate, slot_output, slot_cases}
 use Rattle.job_plan.proofs.SlotMessages.{length-messages}
 use Rattle.job_plan.proofs.DistinctMessages.{words_by_deals}
@@ -172,7 +172,7 @@ slot_by_party plan s k h lk = slot_cases (session plan s) (λ k z. length (slot_
         let here = length_only_if (has_party (slice_index (readers (session plan s)) o) r) (open_messages plan s (length (owners (session plan s)) + length (session plan s).gates + o) r) in
         here ∙ ap (λ z. z * one (has_party (slice_index (readers (session plan s)) o) r)) (open_length plan s (length (owners (session plan s)) + length (session plan s).gates + o) r) ∙ omega arith)
 
-opened_is : (s : Session) (r : ℕ) → total (slots s) (λ k. one (opens_in s r (slot s k))) ≡ read_by s r
+opened_is : (s : Session) (r : ℕ) → total (slots s) (λ k. one (opens_in s r (slot s k))) ≡ outputs_read s r
 opened_is s r =
     let inputs = total_zero (length (owners s)) (λ v. 0) (λ v l. refl) in
     let gates = total_zero (length s.gates) (λ t. 0) (λ t l. refl) in
@@ -180,7 +180,7 @@ opened_is s r =
     by_kind s (λ z. one (opens_in s r z)) ∙ ap₂ (λ a b. a + b) (ap₂ (λ a b. a + b) inputs gates) outputs ∙ omega arith
 
 session_by_party : (plan : Plan) (s : ℕ) → ((v : ℕ) → v < length (owners (session plan s)) → slice_index (owners (session plan s)) v < plan.parties)
-    → session_count plan s ≡ total plan.parties (λ p. length (deal_messages plan 0 0 p) * deals plan p s + length (open_messages plan 0 0 p) * read_by (session plan s) p)
+    → session_count plan s ≡ total plan.parties (λ p. length (deal_messages plan 0 0 p) * deals plan p s + length (open_messages plan 0 0 p) * outputs_read (session plan s) p)
 session_by_party plan s h =
     let sess : Session = session plan s in
     total_eq (slots sess) _ _ (λ k l. slot_by_party plan s k h l)
@@ -195,8 +195,8 @@ pub messages_by_party : (plan : Plan) → ((s v : ℕ) → s < length plan.sessi
 messages_by_party plan h =
     length-messages plan
     ∙ total_eq (length plan.sessions) _ _ (λ s ls. session_by_party plan s (λ v lv. h s v ls lv))
-    ∙ total_swap (length plan.sessions) plan.parties (λ s p. length (deal_messages plan 0 0 p) * deals plan p s + length (open_messages plan 0 0 p) * read_by (session plan s) p)
+    ∙ total_swap (length plan.sessions) plan.parties (λ s p. length (deal_messages plan 0 0 p) * deals plan p s + length (open_messages plan 0 0 p) * outputs_read (session plan s) p)
     ∙ total_eq plan.parties _ _ (λ p l.
-    total_add (length plan.sessions) (λ s. length (deal_messages plan 0 0 p) * deals plan p s) (λ s. length (open_messages plan 0 0 p) * read_by (session plan s) p)
+    total_add (length plan.sessions) (λ s. length (deal_messages plan 0 0 p) * deals plan p s) (λ s. length (open_messages plan 0 0 p) * outputs_read (session plan s) p)
     ∙ ap₂ (λ a b. a + b) (total_mul_left (length plan.sessions) (length (deal_messages plan 0 0 p)) (deals plan p))
-    (total_mul_left (length plan.sessions) (length (open_messages plan 0 0 p)) (λ s. read_by (session plan s) p)))
+    (total_mul_left (length plan.sessions) (length (open_messages plan 0 0 p)) (λ s. outputs_read (session plan s) p)))

@@ -42,7 +42,7 @@ impl SessionPart {
     ghost use Rattle.circuit_model.specs.Netlists.{IsCircuit};
     ghost use Rattle.job_plan.specs.Parts.{Makes, AreOf, AreWithin};
     ghost use Rattle.job_plan.specs.Plans.{gate, slot, slots, owners, readers};
-    ghost use Rattle.job_plan.specs.Tallies.{products, owned, read_by};
+    ghost use Rattle.job_plan.specs.Tallies.{products, owned, outputs_read};
     ghost use Rattle.job_plan.specs.Sound.{slot_of_kind, Inside, IsSoundSession};
 
     /// The session of these gates over so many wires, with these values.
@@ -160,9 +160,9 @@ impl SessionPart {
     }
 
     /// How many output wires party `r` reads.
-    pub fn read_by(&self, r: u32) -> usize
+    pub fn outputs_read(&self, r: u32) -> usize
         requires { r < 12 }
-        ensures { result ≡ read_by self.now r }
+        ensures { result ≡ outputs_read self.now r }
     {
         self.readers
             .iter()

@@ -16,7 +16,7 @@ use Rattle.party_program.specs.declared.program.Instruction.TheVariants.{Deal, P
 use Rattle.party_desk.specs.declared.desk.Desk.{Desk}
 use Rattle.party_program.specs.Programs.{program, at}
 use Rattle.party_desk.specs.Rows.{SameRow, SameRows}
-use Rattle.party_program.specs.States.{Given, State, slot_at, slot_of, gate_of, output_of, after, state, next, word_of, dealt_in, took_in, opened}
+use Rattle.party_program.specs.States.{Given, State, slot_at, slot_of, gate_in_slot, output_in_slot, after, state, next, word_of, dealt_in, took_in, opened}
 use Rattle.party_desk.specs.Memories.{state_of, Alike, IsMemoryOf}
 use Rattle.party_desk.specs.Desks.{Advanced, IsDesk, instruction_at, posts_in, takes_in, posts_before, takes_before}
 use Rattle.party_program.specs.Proper.{Deals, Proper, IsGivenWord, drawn_by}
@@ -62,15 +62,15 @@ after_alike plan p s words input got (Deal k d) a b h = dealt_alike plan words i
 after_alike plan p s words input got (Post n i) a b h = h
 after_alike plan p s words input got (Take n i) a b h = took_alike (length plan.groups) (2 ^ plan.bits) (slot_of plan s n) i (got n) a b h
 after_alike plan p s words input got (Linear k) a b h =
-    let g : Gate = gate_of (session plan s) (slot_at plan s k) in
+    let g : Gate = gate_in_slot (session plan s) (slot_at plan s k) in
     record { rows = set_same _ _ _ g.output _ _ h.rows (λ i l. ap₂ (local (2 ^ plan.bits) g.operation g.constant i) (h.rows g.first i l) (h.rows g.second i l)); own = h.own; parts = h.parts; deals = h.deals; outputs = h.outputs }
 after_alike plan p s words input got (Own k) a b h =
-    let g : Gate = gate_of (session plan s) (slot_at plan s k) in
+    let g : Gate = gate_in_slot (session plan s) (slot_at plan s k) in
     record { rows = h.rows; own = own_eq (scheme plan) p _ _ _ _ (h.rows g.first) (h.rows g.second); parts = h.parts; deals = h.deals; outputs = h.outputs }
 after_alike plan p s words input got (Sum k) a b h =
-    record { rows = set_same _ _ _ (gate_of (session plan s) (slot_at plan s k)).output _ _ h.rows h.parts; own = h.own; parts = λ i l. refl; deals = h.deals; outputs = h.outputs }
+    record { rows = set_same _ _ _ (gate_in_slot (session plan s) (slot_at plan s k)).output _ _ h.rows h.parts; own = h.own; parts = λ i l. refl; deals = h.deals; outputs = h.outputs }
 after_alike plan p s words input got (Deliver k) a b h =
-    let o : ℕ = output_of (slot_at plan s k) in
+    let o : ℕ = output_in_slot (slot_at plan s k) in
     let v : ℕ = output_wire (session plan s) o in
     record { rows = h.rows; own = h.own; parts = λ i l. refl; deals = h.deals; outputs = λ u. set_row_same (λ j. Unit {0}) _ _ o _ _ (λ j t. h.outputs j) (ap Some (opened_eq plan p _ _ _ _ (h.rows v) h.parts)) u tt }
 after_alike plan p s words input got End a b h = h

@@ -6,70 +6,55 @@ ghost use Rattle.job_plan.specs.Messages.{messages};
 ghost use Rattle.job_plan.specs.Sound.{IsSound};
 ghost use Rattle.job_plan.specs.Numbers.{deals_before};
 ghost use Rattle.job_plan.specs.Firsts.{first, count};
-ghost use Rattle.party_program.specs.Programs.{program as list_of, post, take_of, from, to, posts, takes, opening, closing, slot_program};
+ghost use Rattle.party_program.specs.Programs.{program as list_of, passing, passes, passings, opening, closing, slot_program};
 
 use crate::program::{Instruction, Program};
 use job_plan::{Plan, SlotKind};
 use std::alloc::{AllocError, Global};
 
-fn push_post(plan: &Plan, p: u32, number: u32, program: &mut Program) -> Result<(), AllocError>
+// The post of a message, or its take, where it is party p that posts it, or takes it.
+fn push_message(
+    plan: &Plan,
+    p: u32,
+    number: u32,
+    posting: bool,
+    program: &mut Program,
+) -> Result<(), AllocError>
     requires sound { IsSound plan.now }
     requires number { number < length (messages plan.now) }
-    ensures { OnOk result (program.new ≡ program.old ++ map (post plan.now) (filter (from plan.now p) (number ∷ []))) }
+    ensures { OnOk result (program.new ≡ program.old ++ map (passing posting plan.now) (filter (passes posting plan.now p) (number ∷ []))) }
 {
     let message = plan.message(number);
-    if message.sender == p {
-        program.push(Instruction::Post {
-            number,
-            share: message.share,
-        })?;
+    let share = message.share;
+    if posting {
+        if message.sender == p {
+            program.push(Instruction::Post { number, share })?;
+        }
+    } else if message.receiver == p {
+        program.push(Instruction::Take { number, share })?;
     }
     Ok(())
 }
 
-// The posts of party p in slot k.
-fn push_posts(plan: &Plan, p: u32, s: u32, k: u32, program: &mut Program) -> Result<(), AllocError>
+// The posts of party p in slot k, or its takes.
+fn push_messages(
+    plan: &Plan,
+    p: u32,
+    s: u32,
+    k: u32,
+    posting: bool,
+    program: &mut Program,
+) -> Result<(), AllocError>
     requires sound { IsSound plan.now }
     requires session { s < length plan.now.sessions }
     requires slot { k < slots (session plan.now s) }
     requires small { k < 536870912 }
-    ensures { OnOk result (program.new ≡ program.old ++ posts plan.now p s k) }
+    ensures { OnOk result (program.new ≡ program.old ++ passings posting plan.now p s k) }
 {
     let begin = plan.first(s, k);
     let end = plan.first(s, k + 1);
     for number in begin..end {
-        push_post(plan, p, number, program)?;
-    }
-    Ok(())
-}
-
-fn push_take(plan: &Plan, p: u32, number: u32, program: &mut Program) -> Result<(), AllocError>
-    requires sound { IsSound plan.now }
-    requires number { number < length (messages plan.now) }
-    ensures { OnOk result (program.new ≡ program.old ++ map (take_of plan.now) (filter (to plan.now p) (number ∷ []))) }
-{
-    let message = plan.message(number);
-    if message.receiver == p {
-        program.push(Instruction::Take {
-            number,
-            share: message.share,
-        })?;
-    }
-    Ok(())
-}
-
-// The takes of party p in slot k.
-fn push_takes(plan: &Plan, p: u32, s: u32, k: u32, program: &mut Program) -> Result<(), AllocError>
-    requires sound { IsSound plan.now }
-    requires session { s < length plan.now.sessions }
-    requires slot { k < slots (session plan.now s) }
-    requires small { k < 536870912 }
-    ensures { OnOk result (program.new ≡ program.old ++ takes plan.now p s k) }
-{
-    let begin = plan.first(s, k);
-    let end = plan.first(s, k + 1);
-    for number in begin..end {
-        push_take(plan, p, number, program)?;
+        push_message(plan, p, number, posting, program)?;
     }
     Ok(())
 }
@@ -170,8 +155,8 @@ fn push_slot(
     ensures deal { IfOk result (λ d. (d ≡ deals_before plan.now p s (suc k)) × (d ≤ k + 1)) }
 {
     let deals = push_opening(plan, p, s, k, deal, program)?;
-    push_posts(plan, p, s, k, program)?;
-    push_takes(plan, p, s, k, program)?;
+    push_messages(plan, p, s, k, true, program)?;
+    push_messages(plan, p, s, k, false, program)?;
     push_closing(plan, p, s, k, program)?;
     Ok(deals)
 }

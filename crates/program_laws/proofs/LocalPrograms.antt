@@ -32,7 +32,7 @@ use Rattle.party_program.specs.declared.program.Instruction.{Instruction}
 use Rattle.party_program.specs.declared.program.Instruction.TheVariants.{Deal, Linear, Own, Sum, Deliver}
 use Rattle.party_program.specs.Programs.{program, from, to, post, take_of, opening, closing, posts, takes, slot_program}
 use Rattle.job_plan.specs.Firsts.{numbers}
-use Rattle.party_program.specs.States.{Given, State, next, new_state, after_all, slot_of, posted, word_of, opened, dealt_in, computed, multiplied, summed, delivered, gate_of, output_of}
+use Rattle.party_program.specs.States.{Given, State, next, new_state, after_all, slot_of, posted, word_of, opened, dealt_in, computed, multiplied, summed, delivered, gate_in_slot, output_in_slot}
 use Rattle.party_program.specs.Proper.{IsMessage, Deals, IsGate, IsOutput}
 use Rattle.party_program.specs.Along.{AllAlong}
 use Rattle.program_laws.specs.Meets.{local_given, OpensRight, Goes, SmallTape}
@@ -274,7 +274,7 @@ module _ (w : World) (h' : IsPlan w.plan) (got : Key → ℕ) (s p : ℕ) (ls : 
       let none : (test : ℕ → Bool) → AllByRecursion (λ n. ⊥) (filter test (numbers plan s k)) = λ test. every_filter _ _ test (numbers plan s k) (gate_numbers t lt) (λ n f e. both_ways (deals_in plan x (message plan n).sender (At_gate t)) (no_deals (message plan n).sender) f.1.3) in
       let any : (F : ℕ → Type 0) (test : ℕ → Bool) → AllByRecursion F (filter test (numbers plan s k)) = λ F test. every_filter _ _ test (numbers plan s k) (gate_numbers t lt) (λ n f e. absurd (both_ways (deals_in plan x (message plan n).sender (At_gate t)) (no_deals (message plan n).sender) f.1.3)) in
       let τ : State = computed (2 ^ plan.bits) g σ in
-      let is : next l (Linear k) σ ≡ τ = ap (λ z. computed (2 ^ plan.bits) (gate_of x z) σ) at in
+      let is : next l (Linear k) σ ≡ τ = ap (λ z. computed (2 ^ plan.bits) (gate_in_slot x z) σ) at in
       let after' : InGates (suc t) τ = record {
         rows = rows_set σ.rows (summands run t) g.output _ (gate_summands run t (summands run t g.first) (summands run t g.second)) h.rows
             (λ i li held. ap₂ (local (2 ^ plan.bits) g.operation g.constant i) (h.rows g.first i li held) (h.rows g.second i li held) ∙ sym (cond-false (is_product g.operation) _ _ linear));
@@ -349,7 +349,7 @@ module _ (w : World) (h' : IsPlan w.plan) (got : Key → ℕ) (s p : ℕ) (ls : 
         let τ : State = after_all l (takes plan p s k) σ2 in
         let took : PartsOf m (2 ^ plan.bits) σ2 τ (λ i. begun i + tally l i ns) = takes_parts l m (At_gate t) ns σ2 begun tt (every_filter _ _ (to plan p) (numbers plan s k) (gate_numbers t lt) (λ n f e. slot_is n f)) begin in
         let done : State = summed g τ in
-        let is : next l (Sum k) τ ≡ done = ap (λ z. summed (gate_of x z) τ) at in
+        let is : next l (Sum k) τ ≡ done = ap (λ z. summed (gate_in_slot x z) τ) at in
         let after' : InGates (suc t) done = record {
           rows = rows_set τ.rows (summands run t) g.output τ.parts (gate_summands run t (summands run t g.first) (summands run t g.second))
               (λ u i li held. ap (λ f. f u i) (took.rows ∙ rows) ∙ h.rows u i li held)
@@ -385,7 +385,7 @@ module _ (w : World) (h' : IsPlan w.plan) (got : Key → ℕ) (s p : ℕ) (ls : 
           | inl has ↦
               let deals' : deals_in plan x p (slot x k) ≡ true = ap (deals_in plan x p) at ∙ deals_is p ∙ has in
               let σ1 : State = multiplied plan p g σ in
-              let is1 : next l (Own k) σ ≡ σ1 = ap (λ z. multiplied plan p (gate_of x z) σ) at in
+              let is1 : next l (Own k) σ ≡ σ1 = ap (λ z. multiplied plan p (gate_in_slot x z) σ) at in
               let σ2 : State = dealt_in plan (word_of l σ.deals) (slice_index l.inputs σ.deals) (At_gate t) σ1 in
               let is2 : next l (Deal k d) (next l (Own k) σ) ≡ σ2 = ap (next l (Deal k d)) is1 ∙ ap (λ z. dealt_in plan (word_of l σ.deals) (slice_index l.inputs σ.deals) z σ1) at in
               let same : (i : ℕ) → σ2.parts i ≡ mine i = λ i. ap₂ (λ v z. dealt (scheme plan) v (word_of l z) i) own_is h.deals ∙ dealt_eq (scheme plan) (own_value run t p) (word_of l d) (tape_word w s k p) i (λ j lj. words_are k lk deals' j lj) in
@@ -502,7 +502,7 @@ module _ (w : World) (h' : IsPlan w.plan) (got : Key → ℕ) (s p : ℕ) (ls : 
           | inl reads ↦
               let took : PartsOf m (2 ^ plan.bits) σ τo (λ i. 0 + tally l i nso) = takes_parts l m (Output o) nso σ (λ i. 0) tt (every_filter _ _ (to plan p) (numbers plan s ko) out_numbers (λ n f e. ap (λ z. slot x z.slot) f.1.0 ∙ ato)) (λ i li. h.parts i li ∙ sym (mod-eq_of_lt positive)) in
               let done : State = delivered plan p (output_wire x o) o τo in
-              let is : next l (Deliver ko) τo ≡ done = ap (λ z. delivered plan p (output_wire x (output_of z)) (output_of z) τo) ato in
+              let is : next l (Deliver ko) τo ≡ done = ap (λ z. delivered plan p (output_wire x (output_in_slot z)) (output_in_slot z) τo) ato in
               let sum : opened plan p (τo.rows (output_wire x o)) τo.parts ≡ local_output w got p s o = mods_of_same (total_same (2 ^ plan.bits) m _ _ (λ i li. elim (cases_Bool (holds plan p i)) [
                 | inl held ↦ same_refl _ _ _ (cond-true (holds plan p i) _ _ held ∙ ap (λ f. f (output_wire x o) i) took.rows ∙ h.rows (output_wire x o) i li held ∙ sym (cond-true (holds plan p i) _ _ held))
                 | inr lacks ↦ same_trans (same_refl _ _ _ (cond-false (holds plan p i) _ _ lacks ∙ took.parts i li ∙ ap (λ z. z % 2 ^ plan.bits) (let e = out_tally reads i li lacks in let f : 0 + tally l i nso ≡ sent i = omega arith in f)))
@@ -519,7 +519,7 @@ module _ (w : World) (h' : IsPlan w.plan) (got : Key → ℕ) (s p : ℕ) (ls : 
               } in
               subst (λ ys. Leaves good l ([] ++ posts plan p s ko ++ takes plan p s ko ++ ys) (InOutputs (suc o)) σ) (sym (cond-true (has_party mask p) (Deliver ko ∷ []) [] reads))
               (exchanged ko (λ ρ. ρ ≡ τo) σ out_posts out_proper refl [] (InOutputs (suc o)) σ (tt, refl) (Deliver ko ∷ [])
-              (λ ρ e. subst (Leaves good l (Deliver ko ∷ []) (InOutputs (suc o))) (sym e) (((record { slot = lko; kind = subst IsOutput (sym ato) tt }, subst (λ z. OpensRight w got s p (output_of z) τo) (sym ato) (reads, sum)), tt), subst (InOutputs (suc o)) (sym is) after')))
+              (λ ρ e. subst (Leaves good l (Deliver ko ∷ []) (InOutputs (suc o))) (sym e) (((record { slot = lko; kind = subst IsOutput (sym ato) tt }, subst (λ z. OpensRight w got s p (output_in_slot z) τo) (sym ato) (reads, sum)), tt), subst (InOutputs (suc o)) (sym is) after')))
           | inr not' ↦
               let none : τo ≡ σ = none_taken nso σ (every_filter _ _ (to plan p) (numbers plan s ko) out_numbers (λ n f e. both_ways (has_party mask p) not' (subst (λ z. has_party mask z ≡ true) (eqb-true _ _ e) f.1.2))) in
               let after' : InOutputs (suc o) σ = record {
