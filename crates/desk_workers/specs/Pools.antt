@@ -1,5 +1,5 @@
 -- Desks and seats of a pool.
-use Rattle.std.specs.Prelude.{◌≡◌, ℕ, ◌+◌, ◌*◌, ◌/◌, ◌%◌, ◌<◌, List, length, Some, slice_get, slice_index_or}
+use Rattle.std.specs.Prelude.{◌≡◌, ℕ, ◌+◌, ◌*◌, ◌/◌, ◌%◌, ◌<◌, List, length, All, Some, slice_get, slice_index_or}
 use Rattle.message_board.specs.Pairs.{Knows, Grows}
 use Rattle.message_board.specs.Seats.{BoardModel, Sitting, IsFreeSeatOf}
 use Rattle.job_plan.specs.Plans.{Plan}
@@ -51,7 +51,7 @@ AllStand w seen ds = (k : ℕ) (d : Desk) → slice_get ds k ≡ Some d → Stan
 
 -- each seat is one of the board's and holds no slot
 abbrev pub AllFree : BoardModel Promised → List (Sitting Promised) → Type 0
-AllFree board seats = (i : ℕ) (d : Sitting Promised) → i < length seats → IsFreeSeatOf board (slice_index_or seats i d)
+AllFree board seats = All (IsFreeSeatOf board) seats
 
 -- each stands for as many seats as before
 abbrev pub SameSeatCounts : List (Sitting Promised) → List (Sitting Promised) → Type 0
