@@ -1,7 +1,8 @@
 -- Lists of seats, and how many seats they stand for.
-use Rattle.std.proofs.Common.{◌≡◌, ℕ, zero, suc, ◌+◌, ◌<◌, List, [], ◌∷◌, ◌++◌, length, get_or, refl, ap, arith}
+use Rattle.std.proofs.Common.{◌≡◌, ℕ, zero, suc, ◌+◌, ◌<◌, List, [], ◌∷◌, ◌++◌, length, get_or, refl, sym, ap, ◌∙◌, arith}
 use Rattle.message_board.specs.Pairs.{total_over}
 use Rattle.message_board.specs.Seats.{BoardModel, Sitting, IsFreeSeatOf, AreSeatsOf, AreNewSeats}
+use Rattle.desk_laws.proofs.Elements.{stands_at}
 use Rattle.desk_workers.specs.declared.promised.Promised.{Promised}
 use Rattle.desk_workers.specs.Pools.{AllFree, SameSeatCounts, seats_in}
 
@@ -22,7 +23,12 @@ pub same_total : (ss ts : List (Sitting Promised)) → length ts ≡ length ss �
 same_total [] [] e h = refl
 same_total [] (t ∷ ts) e h = absurd (omega arith)
 same_total (s ∷ ss) [] e h = absurd (omega arith)
-same_total (s ∷ ss) (t ∷ ts) e h = let a : t.view.seats ≡ s.view.seats = h 0 s (omega arith) in let r = same_total ss ts (omega arith) (λ i d less. h (suc i) d (omega arith)) in omega arith
+same_total (s ∷ ss) (t ∷ ts) e h = let a : t.view.seats ≡ s.view.seats = h 0 s t refl refl in let r = same_total ss ts (omega arith) (λ i x y is now. h (suc i) x y is now) in omega arith
+
+pub same_counts : (ss ts : List (Sitting Promised)) → ((i : ℕ) (d : Sitting Promised) → i < length ss → (get_or ts i d).view.seats ≡ (get_or ss i d).view.seats) → SameSeatCounts ss ts
+same_counts ss ts h i s t is now =
+    let before = stands_at ss i s s is in
+    ap (λ x. x.view.seats) (sym (stands_at ts i t s now).1) ∙ h i s before.0 ∙ ap (λ x. x.view.seats) before.1
 
 pub last_free : (b : BoardModel Promised) (ss : List (Sitting Promised)) (s : Sitting Promised) → AreSeatsOf b (ss ++ s ∷ []) → AreSeatsOf b ss × IsFreeSeatOf b s
 last_free b [] s h = (tt, h.0)

@@ -1,5 +1,5 @@
 -- Desks and seats of a pool.
-use Rattle.std.specs.Prelude.{◌≡◌, ℕ, ◌+◌, ◌*◌, ◌/◌, ◌%◌, ◌<◌, List, length, All, Some, slice_get, slice_index_or}
+use Rattle.std.specs.Prelude.{◌≡◌, ℕ, ◌+◌, ◌*◌, ◌/◌, ◌%◌, List, length, All, Some, slice_get}
 use Rattle.message_board.specs.Pairs.{Knows, Grows}
 use Rattle.message_board.specs.Seats.{BoardModel, Sitting, IsFreeSeatOf}
 use Rattle.job_plan.specs.Plans.{Plan}
@@ -56,7 +56,7 @@ AllFree board seats = All (IsFreeSeatOf board) seats
 -- each stands for as many seats as before
 abbrev pub SameSeatCounts : List (Sitting Promised) → List (Sitting Promised) → Type 0
 SameSeatCounts seats seats' =
-    (i : ℕ) (d : Sitting Promised) → i < length seats → (slice_index_or seats' i d).view.seats ≡ (slice_index_or seats i d).view.seats
+    (i : ℕ) (seat seat' : Sitting Promised) → slice_get seats i ≡ Some seat → slice_get seats' i ≡ Some seat' → seat'.view.seats ≡ seat.view.seats
 
 abbrev pub seats_in : Sitting Promised → ℕ
 seats_in seat = seat.view.seats
