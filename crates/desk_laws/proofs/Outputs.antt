@@ -54,8 +54,8 @@ module _ (w : World) (whole : IsWhole w) (s p : ℕ) (ls : s < length w.plan.ses
       let right = (lawful w whole).opens s p q k ls lp is in
       elim (cases_eq o u) [
         | inl e ↦
-            let same : Some (opened w.plan p ((state l q).rows (output_wire (session w.plan s) u)) (state l q).parts) ≡ Some v = sym (set_here (state l q).outputs u o _ e) ∙ f in
-            let word : v ≡ local_output w (word w) p s u = (let x : opened w.plan p ((state l q).rows (output_wire (session w.plan s) u)) (state l q).parts ≡ v = cc in sym x ∙ right.1) in
+            let same : Some (opened w.plan p ((state l q).rows (output_wire (session w.plan s) u)) (state l q).sums) ≡ Some v = sym (set_here (state l q).outputs u o _ e) ∙ f in
+            let word : v ≡ local_output w (word w) p s u = (let x : opened w.plan p ((state l q).rows (output_wire (session w.plan s) u)) (state l q).sums ≡ v = cc in sym x ∙ right.1) in
             subst (λ z. Opens z v) (sym e) (right.0, word)
         | inr ne ↦ before o v (sym (set_there (state l q).outputs u o _ ne) ∙ f)
       ]

@@ -58,7 +58,7 @@ takes_few es (suc q) = let a = takes_few es q in let b = one_take (at es q) in o
 -- the word that is posted, from the memory
 posted_same : (plan : Plan) (m s : ℕ) (k : Slot) (i : ℕ) (a b : State) → i < m → Alike m a b → posted (session plan s) k i a ≡ posted (session plan s) k i b
 posted_same plan m s (Input v) i a b li h = h.rows v i li
-posted_same plan m s (At_gate t) i a b li h = h.parts i li
+posted_same plan m s (At_gate t) i a b li h = h.sums i li
 posted_same plan m s (Output o) i a b li h = h.rows (output_wire (session plan s) o) i li
 
 -- a desk goes by other words as well, where those of the takes before are the same

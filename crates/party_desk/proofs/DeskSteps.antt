@@ -42,20 +42,20 @@ pub opened_eq : (plan : Plan) (p : ℕ) (x y a b : ℕ → ℕ) → SameRow (len
 opened_eq plan p x y a b h k = ap (λ z. z % 2 ^ plan.bits) (total_eq (length plan.groups) _ _ (λ i li. ap₂ (λ u v. if holds plan p i then u else v) (h i li) (k i li)))
 
 dealt_alike : (plan : Plan) (words : ℕ → ℕ) (input : ℕ) (k : Slot) (a b : State) → Alike (length plan.groups) a b → Alike (length plan.groups) (dealt_in plan words input k a) (dealt_in plan words input k b)
-dealt_alike plan words input (Input v) a b h = record { rows = set_same _ _ _ v _ _ h.rows (λ i l. refl); own = h.own; parts = h.parts; deals = ap (λ z. z + 1) h.deals; outputs = h.outputs }
-dealt_alike plan words input (At_gate t) a b h = record { rows = h.rows; own = h.own; parts = λ i l. ap (λ z. dealt (scheme plan) z words i) h.own; deals = ap (λ z. z + 1) h.deals; outputs = h.outputs }
+dealt_alike plan words input (Input v) a b h = record { rows = set_same _ _ _ v _ _ h.rows (λ i l. refl); own = h.own; sums = h.sums; deals = ap (λ z. z + 1) h.deals; outputs = h.outputs }
+dealt_alike plan words input (At_gate t) a b h = record { rows = h.rows; own = h.own; sums = λ i l. ap (λ z. dealt (scheme plan) z words i) h.own; deals = ap (λ z. z + 1) h.deals; outputs = h.outputs }
 dealt_alike plan words input (Output o) a b h = h
 
-parts_alike : (m q i w : ℕ) (a b : State) → Alike m a b → SameRow m (set_at a.parts i ((a.parts i + w) % q)) (set_at b.parts i ((b.parts i + w) % q))
-parts_alike m q i w a b h j lj = elim (cases_eq j i) [
-  | inl e ↦ set_here a.parts i j _ e ∙ ap (λ z. (z + w) % q) (ap a.parts (sym e) ∙ h.parts j lj ∙ ap b.parts e) ∙ sym (set_here b.parts i j _ e)
-  | inr ne ↦ set_there a.parts i j _ ne ∙ h.parts j lj ∙ sym (set_there b.parts i j _ ne)
+sums_alike : (m q i w : ℕ) (a b : State) → Alike m a b → SameRow m (set_at a.sums i ((a.sums i + w) % q)) (set_at b.sums i ((b.sums i + w) % q))
+sums_alike m q i w a b h j lj = elim (cases_eq j i) [
+  | inl e ↦ set_here a.sums i j _ e ∙ ap (λ z. (z + w) % q) (ap a.sums (sym e) ∙ h.sums j lj ∙ ap b.sums e) ∙ sym (set_here b.sums i j _ e)
+  | inr ne ↦ set_there a.sums i j _ ne ∙ h.sums j lj ∙ sym (set_there b.sums i j _ ne)
 ]
 
 took_alike : (m q : ℕ) (k : Slot) (i w : ℕ) (a b : State) → Alike m a b → Alike m (took_in q k i w a) (took_in q k i w b)
-took_alike m q (Input v) i w a b h = record { rows = set_same _ _ _ v _ _ h.rows (set_row_same (λ j. j < m) _ _ i w w (h.rows v) refl); own = h.own; parts = h.parts; deals = h.deals; outputs = h.outputs }
-took_alike m q (At_gate t) i w a b h = record { rows = h.rows; own = h.own; parts = parts_alike m q i w a b h; deals = h.deals; outputs = h.outputs }
-took_alike m q (Output o) i w a b h = record { rows = h.rows; own = h.own; parts = parts_alike m q i w a b h; deals = h.deals; outputs = h.outputs }
+took_alike m q (Input v) i w a b h = record { rows = set_same _ _ _ v _ _ h.rows (set_row_same (λ j. j < m) _ _ i w w (h.rows v) refl); own = h.own; sums = h.sums; deals = h.deals; outputs = h.outputs }
+took_alike m q (At_gate t) i w a b h = record { rows = h.rows; own = h.own; sums = sums_alike m q i w a b h; deals = h.deals; outputs = h.outputs }
+took_alike m q (Output o) i w a b h = record { rows = h.rows; own = h.own; sums = sums_alike m q i w a b h; deals = h.deals; outputs = h.outputs }
 
 pub after_alike : (plan : Plan) (p s : ℕ) (words : ℕ → ℕ) (input : ℕ) (got : ℕ → ℕ) (e : Instruction) (a b : State) → Alike (length plan.groups) a b → Alike (length plan.groups) (after plan p s words input got e a) (after plan p s words input got e b)
 after_alike plan p s words input got (Deal k d) a b h = dealt_alike plan words input (slot_at plan s k) a b h
@@ -63,20 +63,20 @@ after_alike plan p s words input got (Post n i) a b h = h
 after_alike plan p s words input got (Take n i) a b h = took_alike (length plan.groups) (2 ^ plan.bits) (slot_of plan s n) i (got n) a b h
 after_alike plan p s words input got (Linear k) a b h =
     let g : Gate = gate_in_slot (session plan s) (slot_at plan s k) in
-    record { rows = set_same _ _ _ g.output _ _ h.rows (λ i l. ap₂ (local (2 ^ plan.bits) g.operation g.constant i) (h.rows g.first i l) (h.rows g.second i l)); own = h.own; parts = h.parts; deals = h.deals; outputs = h.outputs }
+    record { rows = set_same _ _ _ g.output _ _ h.rows (λ i l. ap₂ (local (2 ^ plan.bits) g.operation g.constant i) (h.rows g.first i l) (h.rows g.second i l)); own = h.own; sums = h.sums; deals = h.deals; outputs = h.outputs }
 after_alike plan p s words input got (Own k) a b h =
     let g : Gate = gate_in_slot (session plan s) (slot_at plan s k) in
-    record { rows = h.rows; own = own_eq (scheme plan) p _ _ _ _ (h.rows g.first) (h.rows g.second); parts = h.parts; deals = h.deals; outputs = h.outputs }
+    record { rows = h.rows; own = own_eq (scheme plan) p _ _ _ _ (h.rows g.first) (h.rows g.second); sums = h.sums; deals = h.deals; outputs = h.outputs }
 after_alike plan p s words input got (Sum k) a b h =
-    record { rows = set_same _ _ _ (gate_in_slot (session plan s) (slot_at plan s k)).output _ _ h.rows h.parts; own = h.own; parts = λ i l. refl; deals = h.deals; outputs = h.outputs }
+    record { rows = set_same _ _ _ (gate_in_slot (session plan s) (slot_at plan s k)).output _ _ h.rows h.sums; own = h.own; sums = λ i l. refl; deals = h.deals; outputs = h.outputs }
 after_alike plan p s words input got (Deliver k) a b h =
     let o : ℕ = output_in_slot (slot_at plan s k) in
     let v : ℕ = output_wire (session plan s) o in
-    record { rows = h.rows; own = h.own; parts = λ i l. refl; deals = h.deals; outputs = λ u. set_row_same (λ j. Unit {0}) _ _ o _ _ (λ j t. h.outputs j) (ap Some (opened_eq plan p _ _ _ _ (h.rows v) h.parts)) u tt }
+    record { rows = h.rows; own = h.own; sums = λ i l. refl; deals = h.deals; outputs = λ u. set_row_same (λ j. Unit {0}) _ _ o _ _ (λ j t. h.outputs j) (ap Some (opened_eq plan p _ _ _ _ (h.rows v) h.sums)) u tt }
 after_alike plan p s words input got End a b h = h
 
 pub alike_then : (m : ℕ) (a b c : State) → Alike m a b → Alike m b c → Alike m a c
-alike_then m a b c h k = record { rows = λ v i l. h.rows v i l ∙ k.rows v i l; own = h.own ∙ k.own; parts = λ i l. h.parts i l ∙ k.parts i l; deals = h.deals ∙ k.deals; outputs = λ o. h.outputs o ∙ k.outputs o }
+alike_then m a b c h k = record { rows = λ v i l. h.rows v i l ∙ k.rows v i l; own = h.own ∙ k.own; sums = λ i l. h.sums i l ∙ k.sums i l; deals = h.deals ∙ k.deals; outputs = λ o. h.outputs o ∙ k.outputs o }
 
 -- the word that is taken is all that is read of the words that are got
 after_got : (l : Given) (w p s : ℕ) (words : ℕ → ℕ) (input : ℕ) (e : Instruction) (σ : State) → IsGivenWord l w e → after l.plan p s words input (λ n. w) e σ ≡ after l.plan p s words input l.got e σ

@@ -39,7 +39,7 @@ use Rattle.program_laws.specs.Meets.{local_given, OpensRight, Goes, SmallTape}
 use Rattle.circuit_model.proofs.SetAt.{set_here, set_there}
 use Rattle.party_program.proofs.InstructionLists.{Leaves, leaves_append, leaves_joined, joined_add, along_posts, after_posts}
 use Rattle.job_plan.proofs.SlotMessages.{each_number, every_filter, keys_are}
-use Rattle.program_laws.proofs.SlotTakes.{PartsOf, RowOf, Has, tally, takes_parts, takes_row}
+use Rattle.program_laws.proofs.SlotTakes.{SumsOf, RowOf, Has, tally, takes_sums, takes_row}
 use Rattle.program_laws.proofs.SlotTallies.{Any, any_number, deal_any, key_tally, tally_is, key_tally-joined, key_tally-only_if, deal_tally, one_tally, total_only}
 
 -- ---- one slot
@@ -107,7 +107,7 @@ module _ (w : World) (h' : IsPlan w.plan) (got : Key → ℕ) (s p : ℕ) (ls : 
 
   pub record InInputs (v : ℕ) (σ : State) : Type 0 where
     pub rows : (u i : ℕ) → i < m → holds plan p i ≡ true → σ.rows u i ≡ (if nat_lt u v then run.start u i else 0)
-    pub parts : (i : ℕ) → i < m → σ.parts i ≡ 0
+    pub sums : (i : ℕ) → i < m → σ.sums i ≡ 0
     pub deals : σ.deals ≡ deals_before plan p s v
 
   abbrev owner : ℕ → ℕ
@@ -207,7 +207,7 @@ module _ (w : World) (h' : IsPlan w.plan) (got : Key → ℕ) (s p : ℕ) (ls : 
             proper
             (record {
               rows = rows_next v σ (after_all l (takes plan p s v) σ1) h (λ u i other. row.others u i other ∙ ap (λ f. f i) (set_there σ.rows v u new other)) (λ i li held. row.kept i refl ∙ dealt' i);
-              parts = λ i li. ap (λ f. f i) row.parts ∙ h.parts i li;
+              sums = λ i li. ap (λ f. f i) row.sums ∙ h.sums i li;
               deals = row.deals ∙ ap (λ z. z + 1) h.deals ∙ sym (deal_more v deals');
             })
             (Deal v d ∷ []) (InInputs (suc v)) σ
@@ -224,7 +224,7 @@ module _ (w : World) (h' : IsPlan w.plan) (got : Key → ℕ) (s p : ℕ) (ls : 
             proper
             (record {
               rows = rows_next v σ (after_all l (takes plan p s v) σ) h (λ u i other. row.others u i other) (λ i li held. row.has i (has i li held) ∙ sym (start_other v i lv ne));
-              parts = λ i li. ap (λ f. f i) row.parts ∙ h.parts i li;
+              sums = λ i li. ap (λ f. f i) row.sums ∙ h.sums i li;
               deals = row.deals ∙ h.deals ∙ sym (deal_none v no_deal);
             })
             [] (InInputs (suc v)) σ (tt, refl) [] (λ τ q. (tt, q)))
@@ -237,7 +237,7 @@ module _ (w : World) (h' : IsPlan w.plan) (got : Key → ℕ) (s p : ℕ) (ls : 
 
   pub record InGates (t : ℕ) (σ : State) : Type 0 where
     pub rows : (u i : ℕ) → i < m → holds plan p i ≡ true → σ.rows u i ≡ summands run t u i
-    pub parts : (i : ℕ) → i < m → σ.parts i ≡ 0
+    pub sums : (i : ℕ) → i < m → σ.sums i ≡ 0
     pub deals : σ.deals ≡ deals_before plan p s (length (owners x) + t)
 
   abbrev slot_k : ℕ → ℕ
@@ -278,7 +278,7 @@ module _ (w : World) (h' : IsPlan w.plan) (got : Key → ℕ) (s p : ℕ) (ls : 
       let after' : InGates (suc t) τ = record {
         rows = rows_set σ.rows (summands run t) g.output _ (gate_summands run t (summands run t g.first) (summands run t g.second)) h.rows
             (λ i li held. ap₂ (local (2 ^ plan.bits) g.operation g.constant i) (h.rows g.first i li held) (h.rows g.second i li held) ∙ sym (cond-false (is_product g.operation) _ _ linear));
-        parts = h.parts;
+        sums = h.sums;
         deals = h.deals ∙ sym (deal_none k (ap (deals_in plan x p) at ∙ no_deals p)) ∙ (let same : suc k ≡ length (owners x) + suc t = omega arith in ap (deals_before plan p s) same);
       } in
       subst (λ z. Leaves good l (opening plan p s k z ++ posts plan p s k ++ takes plan p s k ++ closing plan p s k z) (InGates (suc t)) σ) (sym at)
@@ -342,19 +342,19 @@ module _ (w : World) (h' : IsPlan w.plan) (got : Key → ℕ) (s p : ℕ) (ls : 
         zeros false = refl
 
     -- from the state in which the posts are made
-    product_rest : (σ2 : State) → σ2.rows ≡ σ.rows → ((i : ℕ) → i < m → σ2.parts i ≡ begun i % 2 ^ plan.bits) → (has_pair (scheme plan) p ≡ true → (i : ℕ) → σ2.parts i ≡ mine i) → σ2.deals ≡ deals_before plan p s (suc k)
+    product_rest : (σ2 : State) → σ2.rows ≡ σ.rows → ((i : ℕ) → i < m → σ2.sums i ≡ begun i % 2 ^ plan.bits) → (has_pair (scheme plan) p ≡ true → (i : ℕ) → σ2.sums i ≡ mine i) → σ2.deals ≡ deals_before plan p s (suc k)
         → Leaves good l (opening plan p s k (At_gate t)) (λ τ. τ ≡ σ2) σ → Leaves good l (slot_program plan p s k) (InGates (suc t)) σ
     product_rest σ2 rows begin mine' deals' opens =
         let slot_is : (n : ℕ) → In k (FromDealer t) n → slot_of plan s n ≡ At_gate t = λ n f. ap (λ z. slot x z.slot) f.1.0 ∙ at in
         let τ : State = after_all l (takes plan p s k) σ2 in
-        let took : PartsOf m (2 ^ plan.bits) σ2 τ (λ i. begun i + tally l i ns) = takes_parts l m (At_gate t) ns σ2 begun tt (every_filter _ _ (to plan p) (numbers plan s k) (gate_numbers t lt) (λ n f e. slot_is n f)) begin in
+        let took : SumsOf m (2 ^ plan.bits) σ2 τ (λ i. begun i + tally l i ns) = takes_sums l m (At_gate t) ns σ2 begun tt (every_filter _ _ (to plan p) (numbers plan s k) (gate_numbers t lt) (λ n f e. slot_is n f)) begin in
         let done : State = summed g τ in
         let is : next l (Sum k) τ ≡ done = ap (λ z. summed (gate_in_slot x z) τ) at in
         let after' : InGates (suc t) done = record {
-          rows = rows_set τ.rows (summands run t) g.output τ.parts (gate_summands run t (summands run t g.first) (summands run t g.second))
+          rows = rows_set τ.rows (summands run t) g.output τ.sums (gate_summands run t (summands run t g.first) (summands run t g.second))
               (λ u i li held. ap (λ f. f u i) (took.rows ∙ rows) ∙ h.rows u i li held)
-              (λ i li held. took.parts i li ∙ sums i li held ∙ sym (cond-true (is_product g.operation) _ _ prod));
-          parts = λ i li. refl;
+              (λ i li held. took.sums i li ∙ sums i li held ∙ sym (cond-true (is_product g.operation) _ _ prod));
+          sums = λ i li. refl;
           deals = took.deals ∙ deals' ∙ (let same : suc k ≡ length (owners x) + suc t = omega arith in ap (deals_before plan p s) same);
         } in
         subst (λ z. Leaves good l (opening plan p s k z ++ posts plan p s k ++ takes plan p s k ++ closing plan p s k z) (InGates (suc t)) σ) (sym at)
@@ -388,7 +388,7 @@ module _ (w : World) (h' : IsPlan w.plan) (got : Key → ℕ) (s p : ℕ) (ls : 
               let is1 : next l (Own k) σ ≡ σ1 = ap (λ z. multiplied plan p (gate_in_slot x z) σ) at in
               let σ2 : State = dealt_in plan (word_of l σ.deals) (slice_index l.inputs σ.deals) (At_gate t) σ1 in
               let is2 : next l (Deal k d) (next l (Own k) σ) ≡ σ2 = ap (next l (Deal k d)) is1 ∙ ap (λ z. dealt_in plan (word_of l σ.deals) (slice_index l.inputs σ.deals) z σ1) at in
-              let same : (i : ℕ) → σ2.parts i ≡ mine i = λ i. ap₂ (λ v z. dealt (scheme plan) v (word_of l z) i) own_is h.deals ∙ dealt_eq (scheme plan) (own_value run t p) (word_of l d) (tape_word w s k p) i (λ j lj. words_are k lk deals' j lj) in
+              let same : (i : ℕ) → σ2.sums i ≡ mine i = λ i. ap₂ (λ v z. dealt (scheme plan) v (word_of l z) i) own_is h.deals ∙ dealt_eq (scheme plan) (own_value run t p) (word_of l d) (tape_word w s k p) i (λ j lj. words_are k lk deals' j lj) in
               let begun_is : (i : ℕ) → begun i ≡ mine i = λ i. cond-true (has_pair (scheme plan) p) (mine i) 0 has in
               product_rest σ2 refl
               (λ i li. same i ∙ sym (ap (λ z. z % 2 ^ plan.bits) (begun_is i) ∙ mod-eq_of_lt (dealt_small (scheme plan) (own_value run t p) (tape_word w s k p) i positive (small k))))
@@ -398,7 +398,7 @@ module _ (w : World) (h' : IsPlan w.plan) (got : Key → ℕ) (s p : ℕ) (ls : 
               (((record { slot = lk; kind = subst IsGate (sym at) tt }, tt), ((record { slot = lk; kind = subst Deals (sym at) tt }, (ap (λ τ. τ.deals) is1 ∙ h.deals, lk, deals')), tt)), is2))
           | inr no' ↦
               product_rest σ refl
-              (λ i li. h.parts i li ∙ sym (ap (λ z. z % 2 ^ plan.bits) (cond-false (has_pair (scheme plan) p) (mine i) 0 no') ∙ mod-eq_of_lt positive))
+              (λ i li. h.sums i li ∙ sym (ap (λ z. z % 2 ^ plan.bits) (cond-false (has_pair (scheme plan) p) (mine i) 0 no') ∙ mod-eq_of_lt positive))
               (λ yes' i. absurd (both_ways (has_pair (scheme plan) p) no' yes'))
               (h.deals ∙ sym (deal_none k (ap (deals_in plan x p) at ∙ deals_is p ∙ no')))
               (subst (λ ys. Leaves good l ys (λ τ. τ ≡ σ) σ) (sym (cond-false (deals_in plan x p (At_gate t)) (Own k ∷ Deal k d ∷ []) [] (deals_is p ∙ no'))) (tt, refl))
@@ -414,7 +414,7 @@ module _ (w : World) (h' : IsPlan w.plan) (got : Key → ℕ) (s p : ℕ) (ls : 
 
   pub record InOutputs (o : ℕ) (σ : State) : Type 0 where
     pub rows : (u i : ℕ) → i < m → holds plan p i ≡ true → σ.rows u i ≡ last u i
-    pub parts : (i : ℕ) → i < m → σ.parts i ≡ 0
+    pub sums : (i : ℕ) → i < m → σ.sums i ≡ 0
     pub deals : σ.deals ≡ deals_before plan p s (out_k o)
     pub outputs : (u : ℕ) → u < o → has_party (slice_index (readers x) u) p ≡ true → σ.outputs u ≡ Some (local_output w got p s u)
 
@@ -500,17 +500,17 @@ module _ (w : World) (h' : IsPlan w.plan) (got : Key → ℕ) (s p : ℕ) (ls : 
         subst (λ z. Leaves good l (opening plan p s ko z ++ posts plan p s ko ++ takes plan p s ko ++ closing plan p s ko z) (InOutputs (suc o)) σ) (sym ato)
         (elim (cases_Bool (has_party mask p)) [
           | inl reads ↦
-              let took : PartsOf m (2 ^ plan.bits) σ τo (λ i. 0 + tally l i nso) = takes_parts l m (Output o) nso σ (λ i. 0) tt (every_filter _ _ (to plan p) (numbers plan s ko) out_numbers (λ n f e. ap (λ z. slot x z.slot) f.1.0 ∙ ato)) (λ i li. h.parts i li ∙ sym (mod-eq_of_lt positive)) in
+              let took : SumsOf m (2 ^ plan.bits) σ τo (λ i. 0 + tally l i nso) = takes_sums l m (Output o) nso σ (λ i. 0) tt (every_filter _ _ (to plan p) (numbers plan s ko) out_numbers (λ n f e. ap (λ z. slot x z.slot) f.1.0 ∙ ato)) (λ i li. h.sums i li ∙ sym (mod-eq_of_lt positive)) in
               let done : State = delivered plan p (output_wire x o) o τo in
               let is : next l (Deliver ko) τo ≡ done = ap (λ z. delivered plan p (output_wire x (output_in_slot z)) (output_in_slot z) τo) ato in
-              let sum : opened plan p (τo.rows (output_wire x o)) τo.parts ≡ local_output w got p s o = mods_of_same (total_same (2 ^ plan.bits) m _ _ (λ i li. elim (cases_Bool (holds plan p i)) [
+              let sum : opened plan p (τo.rows (output_wire x o)) τo.sums ≡ local_output w got p s o = mods_of_same (total_same (2 ^ plan.bits) m _ _ (λ i li. elim (cases_Bool (holds plan p i)) [
                 | inl held ↦ same_refl _ _ _ (cond-true (holds plan p i) _ _ held ∙ ap (λ f. f (output_wire x o) i) took.rows ∙ h.rows (output_wire x o) i li held ∙ sym (cond-true (holds plan p i) _ _ held))
-                | inr lacks ↦ same_trans (same_refl _ _ _ (cond-false (holds plan p i) _ _ lacks ∙ took.parts i li ∙ ap (λ z. z % 2 ^ plan.bits) (let e = out_tally reads i li lacks in let f : 0 + tally l i nso ≡ sent i = omega arith in f)))
+                | inr lacks ↦ same_trans (same_refl _ _ _ (cond-false (holds plan p i) _ _ lacks ∙ took.sums i li ∙ ap (λ z. z % 2 ^ plan.bits) (let e = out_tally reads i li lacks in let f : 0 + tally l i nso ≡ sent i = omega arith in f)))
                     (same_trans (same_mod (2 ^ plan.bits) (sent i)) (same_refl _ _ _ (sym (cond-false (holds plan p i) _ _ lacks))))
               ])) in
               let after' : InOutputs (suc o) done = record {
                 rows = λ u i li held. ap (λ f. f u i) took.rows ∙ h.rows u i li held;
-                parts = λ i li. refl;
+                sums = λ i li. refl;
                 deals = took.deals ∙ h.deals ∙ next_deals;
                 outputs = λ u lu r. elim (cases_eq u o) [
                   | inl e ↦ set_here τo.outputs o u _ e ∙ ap Some (sum ∙ ap (local_output w got p s) (sym e))
@@ -524,7 +524,7 @@ module _ (w : World) (h' : IsPlan w.plan) (got : Key → ℕ) (s p : ℕ) (ls : 
               let none : τo ≡ σ = none_taken nso σ (every_filter _ _ (to plan p) (numbers plan s ko) out_numbers (λ n f e. both_ways (has_party mask p) not' (subst (λ z. has_party mask z ≡ true) (eqb-true _ _ e) f.1.2))) in
               let after' : InOutputs (suc o) σ = record {
                 rows = h.rows;
-                parts = h.parts;
+                sums = h.sums;
                 deals = h.deals ∙ next_deals;
                 outputs = λ u lu r. elim (cases_eq u o) [
                   | inl e ↦ absurd (both_ways (has_party mask p) not' (subst (λ z. has_party (slice_index (readers x) z) p ≡ true) e r))
@@ -542,19 +542,19 @@ module _ (w : World) (h' : IsPlan w.plan) (got : Key → ℕ) (s p : ℕ) (ls : 
       let f : ℕ → List Instruction = slot_program plan p s in
       let begin : InInputs 0 new_state = record {
         rows = λ u i li held. sym (cond-false (nat_lt u 0) (run.start u i) 0 (le-ltb u 0 (omega arith)));
-        parts = λ i li. refl;
+        sums = λ i li. refl;
         deals = refl;
       } in
       let inputs : Leaves good l (joined (length (owners x)) f) (InInputs (length (owners x))) new_state = leaves_joined good l f InInputs (length (owners x)) new_state begin (λ v τ lv h. input_slot v lv τ h) in
       let to_gates : (τ : State) → InInputs (length (owners x)) τ → InGates 0 τ = λ τ h. record {
         rows = λ u i li held. h.rows u i li held ∙ starts u i;
-        parts = h.parts;
+        sums = h.sums;
         deals = h.deals ∙ (let same : length (owners x) ≡ length (owners x) + 0 = omega arith in ap (deals_before plan p s) same);
       } in
       let gates : (τ : State) → InGates 0 τ → Leaves good l (joined (length x.gates) (λ t. f (length (owners x) + t))) (InGates (length x.gates)) τ = λ τ h. leaves_joined good l (λ t. f (length (owners x) + t)) InGates (length x.gates) τ h (λ t ρ lt h. gate_slot t lt ρ h) in
       let to_outputs : (τ : State) → InGates (length x.gates) τ → InOutputs 0 τ = λ τ h. record {
         rows = h.rows;
-        parts = h.parts;
+        sums = h.sums;
         deals = h.deals ∙ (let same : length (owners x) + length x.gates ≡ out_k 0 = omega arith in ap (deals_before plan p s) same);
         outputs = λ u lu r. absurd (omega arith);
       } in

@@ -17,10 +17,10 @@ IsOther (Input v) = ⊥
 IsOther (At_gate t) = Unit {0}
 IsOther (Output o) = Unit {0}
 
-abbrev pub with_parts : State → (ℕ → ℕ) → State
-with_parts σ f = record { rows = σ.rows; own = σ.own; parts = f; deals = σ.deals; outputs = σ.outputs }
+abbrev pub with_sums : State → (ℕ → ℕ) → State
+with_sums σ f = record { rows = σ.rows; own = σ.own; sums = f; deals = σ.deals; outputs = σ.outputs }
 
-took_other : (q : ℕ) (z : Slot) (i w : ℕ) (σ : State) → IsOther z → took_in q z i w σ ≡ with_parts σ (set_at σ.parts i ((σ.parts i + w) % q))
+took_other : (q : ℕ) (z : Slot) (i w : ℕ) (σ : State) → IsOther z → took_in q z i w σ ≡ with_sums σ (set_at σ.sums i ((σ.sums i + w) % q))
 took_other q (Input v) i w σ h = absurd h
 took_other q (At_gate t) i w σ h = refl
 took_other q (Output o) i w σ h = refl
@@ -30,35 +30,35 @@ abbrev pub tally : Given → ℕ → List ℕ → ℕ
 tally l i [] = 0
 tally l i (n ∷ ns) = (if nat_eq i (message l.plan n).share then l.got n else 0) + tally l i ns
 
--- a state that differs in its parts alone, which are these
-pub record PartsOf (m q : ℕ) (σ τ : State) (x : ℕ → ℕ) : Type 0 where
+-- a state that differs in its sums alone, which are these
+pub record SumsOf (m q : ℕ) (σ τ : State) (x : ℕ → ℕ) : Type 0 where
   pub rows : τ.rows ≡ σ.rows
   pub deals : τ.deals ≡ σ.deals
   pub outputs : τ.outputs ≡ σ.outputs
-  pub parts : (i : ℕ) → i < m → τ.parts i ≡ x i % q
+  pub sums : (i : ℕ) → i < m → τ.sums i ≡ x i % q
 
-pub takes_parts : (l : Given) (m : ℕ) (z : Slot) (ns : List ℕ) (σ : State) (x : ℕ → ℕ) → IsOther z → AllByRecursion (λ n. slot_of l.plan l.session n ≡ z) ns → ((i : ℕ) → i < m → σ.parts i ≡ x i % 2 ^ l.plan.bits)
-    → PartsOf m (2 ^ l.plan.bits) σ (after_all l (map (take_of l.plan) ns) σ) (λ i. x i + tally l i ns)
-takes_parts l m z [] σ x o all h = record { rows = refl; deals = refl; outputs = refl; parts = λ i li. h i li ∙ (let same : x i ≡ x i + 0 = omega arith in ap (λ y. y % 2 ^ l.plan.bits) same) }
-takes_parts l m z (n ∷ ns) σ x o all h =
+pub takes_sums : (l : Given) (m : ℕ) (z : Slot) (ns : List ℕ) (σ : State) (x : ℕ → ℕ) → IsOther z → AllByRecursion (λ n. slot_of l.plan l.session n ≡ z) ns → ((i : ℕ) → i < m → σ.sums i ≡ x i % 2 ^ l.plan.bits)
+    → SumsOf m (2 ^ l.plan.bits) σ (after_all l (map (take_of l.plan) ns) σ) (λ i. x i + tally l i ns)
+takes_sums l m z [] σ x o all h = record { rows = refl; deals = refl; outputs = refl; sums = λ i li. h i li ∙ (let same : x i ≡ x i + 0 = omega arith in ap (λ y. y % 2 ^ l.plan.bits) same) }
+takes_sums l m z (n ∷ ns) σ x o all h =
     let q : ℕ = 2 ^ l.plan.bits in
     let j : ℕ = (message l.plan n).share in
     let w : ℕ = l.got n in
-    let τ : State = with_parts σ (set_at σ.parts j ((σ.parts j + w) % q)) in
+    let τ : State = with_sums σ (set_at σ.sums j ((σ.sums j + w) % q)) in
     let is : next l (take_of l.plan n) σ ≡ τ = ap (λ y. took_in q y j w σ) all.0 ∙ took_other q z j w σ o in
     let y : ℕ → ℕ = λ i. x i + (if nat_eq i j then w else 0) in
-    let here : (i : ℕ) → i < m → τ.parts i ≡ y i % q = λ i li. elim (cases_eq i j) [
-      | inl e ↦ set_here σ.parts j i _ e ∙ ap (λ a. (a + w) % q) (ap σ.parts (sym e) ∙ h i li) ∙ mod-add-mod (x i) q w
+    let here : (i : ℕ) → i < m → τ.sums i ≡ y i % q = λ i li. elim (cases_eq i j) [
+      | inl e ↦ set_here σ.sums j i _ e ∙ ap (λ a. (a + w) % q) (ap σ.sums (sym e) ∙ h i li) ∙ mod-add-mod (x i) q w
           ∙ ap (λ a. (x i + a) % q) (sym (cond-true (nat_eq i j) w 0 (eq-eqb i j e)))
-      | inr ne ↦ set_there σ.parts j i _ ne ∙ h i li ∙ (let same : x i ≡ x i + (if nat_eq i j then w else 0) = (let f = cond-false (nat_eq i j) w 0 (ne_eqb i j ne) in omega arith) in ap (λ a. a % q) same)
+      | inr ne ↦ set_there σ.sums j i _ ne ∙ h i li ∙ (let same : x i ≡ x i + (if nat_eq i j then w else 0) = (let f = cond-false (nat_eq i j) w 0 (ne_eqb i j ne) in omega arith) in ap (λ a. a % q) same)
     ] in
-    let rest = takes_parts l m z ns τ y o all.1 here in
-    subst (λ a. PartsOf m q σ (after_all l (map (take_of l.plan) ns) a) (λ i. x i + tally l i (n ∷ ns))) (sym is)
+    let rest = takes_sums l m z ns τ y o all.1 here in
+    subst (λ a. SumsOf m q σ (after_all l (map (take_of l.plan) ns) a) (λ i. x i + tally l i (n ∷ ns))) (sym is)
     (record {
       rows = rest.rows;
       deals = rest.deals;
       outputs = rest.outputs;
-      parts = λ i li. rest.parts i li ∙ (let same : y i + tally l i ns ≡ x i + tally l i (n ∷ ns) = omega arith in ap (λ a. a % q) same);
+      sums = λ i li. rest.sums i li ∙ (let same : y i + tally l i ns ≡ x i + tally l i (n ∷ ns) = omega arith in ap (λ a. a % q) same);
     })
 
 -- ---- into a row
@@ -72,13 +72,13 @@ pub record RowOf (l : Given) (v : ℕ) (ns : List ℕ) (g : ℕ → ℕ) (σ τ 
   pub others : (u i : ℕ) → u ≢ v → τ.rows u i ≡ σ.rows u i
   pub kept : (i : ℕ) → σ.rows v i ≡ g i → τ.rows v i ≡ g i
   pub has : (i : ℕ) → Has l.plan i ns → τ.rows v i ≡ g i
-  pub parts : τ.parts ≡ σ.parts
+  pub sums : τ.sums ≡ σ.sums
   pub deals : τ.deals ≡ σ.deals
   pub outputs : τ.outputs ≡ σ.outputs
 
 pub takes_row : (l : Given) (v : ℕ) (ns : List ℕ) (g : ℕ → ℕ) (σ : State) → AllByRecursion (λ n. (slot_of l.plan l.session n ≡ Input v) × (l.got n ≡ g (message l.plan n).share)) ns
     → RowOf l v ns g σ (after_all l (map (take_of l.plan) ns) σ)
-takes_row l v [] g σ all = record { others = λ u i ne. refl; kept = λ i h. h; has = λ i h. absurd h; parts = refl; deals = refl; outputs = refl }
+takes_row l v [] g σ all = record { others = λ u i ne. refl; kept = λ i h. h; has = λ i h. absurd h; sums = refl; deals = refl; outputs = refl }
 takes_row l v (n ∷ ns) g σ all =
     let j : ℕ = (message l.plan n).share in
     let w : ℕ = l.got n in
@@ -95,7 +95,7 @@ takes_row l v (n ∷ ns) g σ all =
         | inr ne ↦ ap (λ f. f i) row ∙ set_there (σ.rows v) j i w ne ∙ h
       ]);
       has = λ i h. elim h [ inl e ↦ rest.kept i (put i e) | inr more ↦ rest.has i more ];
-      parts = rest.parts;
+      sums = rest.sums;
       deals = rest.deals;
       outputs = rest.outputs;
     })
