@@ -29,7 +29,7 @@ pub fn own_products(ring: Ring, duty: &Duty, p: u32, x: &[u64], y: &[u64]) -> u6
 }
 
 /// Adds a word that was dealt to the sum of its share.
-pub fn add_part(ring: Ring, into: &mut [u64], share: u32, word: u64)
+pub fn add_word(ring: Ring, into: &mut [u64], share: u32, word: u64)
     requires share { share < length into.old }
     requires words { All (λ word. word < 2 ^ ring) into.old }
     requires word { word < 2 ^ ring }
@@ -60,12 +60,12 @@ mod tests {
     }
 
     #[test]
-    fn parts_add_up(rt: HostRuntime) -> Result<(), Fail> {
+    fn words_add_up(rt: HostRuntime) -> Result<(), Fail> {
         let ring = Ring::new(8).ok_or("no ring")?;
         let mut sums = [112, 0, 0];
-        add_part(ring, &mut sums, 0, 193);
-        add_part(ring, &mut sums, 0, 221);
-        add_part(ring, &mut sums, 2, 6);
+        add_word(ring, &mut sums, 0, 193);
+        add_word(ring, &mut sums, 0, 221);
+        add_word(ring, &mut sums, 2, 6);
         assert_eq!(rt; sums, [14, 0, 6]);
         Ok(())
     }
