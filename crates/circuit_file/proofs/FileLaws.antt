@@ -7,7 +7,7 @@ use Rattle.std.proofs.lemmas.Bool.{le-ltb, ltb-false, eqb-true}
 use Rattle.std.proofs.lemmas.Str.{utf8_valid_len-IsUtf8, IsUtf8-from_is_utf8}
 use Rattle.gate_lines.specs.Rows.{Row, rows_of}
 use Rattle.circuit_model.specs.Checks.{first_fault, then_fault}
-use Rattle.circuit_model.specs.Netlists.{Netlist, AllFit, IsCircuit}
+use Rattle.circuit_model.specs.Netlists.{Netlist, AllGatesFit, IsCircuit}
 use Rattle.circuit_model.specs.Building.{unset_output}
 use Rattle.circuit_file.specs.Answers.{◌>>=◌}
 use Rattle.circuit_file.specs.Header.{counts_in, widths_in}
@@ -134,7 +134,7 @@ file_related layout bits bytes c s =
     ∙ ap (λ n. lines_in layout n (rows_of bytes)) (sym s.words)
     ∙ lines_related layout c (rows_of bytes) s.one s.two s.three s.rest s.lines s.counts s.inputs s.outputs s.gates s.valid
 
-no_gate_fits : (c : Netlist) → c.gates ≡ [] → AllFit c
+no_gate_fits : (c : Netlist) → c.gates ≡ [] → AllGatesFit c
 no_gate_fits c e = λ t l. absurd (omega (arith, l, ap length e))
 
 stands : (layout : FileLayout) (bits : ℕ) (bytes : List ℕ) (h : ℕ × Netlist × List Row) (c : Netlist) → 0 < bits → bits ≤ 32 → (layout ≡ Bristol → bits ≡ 1) → IsUtf8 bytes
@@ -167,7 +167,7 @@ stands layout bits bytes h c some few boolean text i w last =
           input_wires = i.input_widths.within;
           output_wires = i.output_widths.within;
         };
-        fits = subst (λ (x : Netlist). AllFit x) (sym same) w.fits;
+        fits = subst (λ (x : Netlist). AllGatesFit x) (sym same) w.fits;
         outputs = outputs_set full i.output_widths.within unset;
       };
     })

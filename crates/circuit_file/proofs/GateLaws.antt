@@ -13,7 +13,7 @@ use Rattle.circuit_model.specs.declared.gate.Operation.{Operation}
 use Rattle.circuit_model.specs.declared.gate.Operation.TheVariants.{Add, Sub, Neg, Mul, Xor, And, Inv, Eq, Eqw}
 use Rattle.circuit_model.specs.declared.fault.CircuitFault.{CircuitFault}
 use Rattle.circuit_model.specs.Checks.{first_fault}
-use Rattle.circuit_model.specs.Netlists.{Netlist, Fits, arity, is_constant, read_by, sets}
+use Rattle.circuit_model.specs.Netlists.{Netlist, GateFits, arity, is_constant, read_by, sets}
 use Rattle.circuit_model.specs.Building.{gate_checks, gate_of, next_gate}
 use Rattle.circuit_file.specs.Tokens.{token, tokens_after, is_number, number_in, all_numbers}
 use Rattle.circuit_file.specs.GateLines.{operation_of, input_count, output_count, wire_count, operation_in, form_checks, wires_in, gate_line_of, gate_line_in, GateLine}
@@ -55,7 +55,7 @@ listed_two g ar k = ap (λ b. cond b (g.constant ∷ []) (take (arity g.operatio
 listed_one : (g : Gate) → arity g.operation ≡ 1 → is_constant g.operation ≡ false → listed g ≡ g.first ∷ []
 listed_one g ar k = ap (λ b. cond b (g.constant ∷ []) (take (arity g.operation) (g.first ∷ g.second ∷ []))) k ∙ ap (λ n. take n (g.first ∷ g.second ∷ [])) ar
 
-with_two : (layout : FileLayout) (c : Netlist) (row : Row) (g : Gate) → IsGateLine layout row g → Fits c c.gates g → arity g.operation ≡ 2 → is_constant g.operation ≡ false → gate_in layout c row ≡ Ok g
+with_two : (layout : FileLayout) (c : Netlist) (row : Row) (g : Gate) → IsGateLine layout row g → GateFits c c.gates g → arity g.operation ≡ 2 → is_constant g.operation ≡ false → gate_in layout c row ≡ Ok g
 with_two layout c row g r f ar k =
     let w : Write r.numbers (2 ∷ 1 ∷ g.first ∷ g.second ∷ g.output ∷ []) = subst (λ (ns : List ℕ). Write r.numbers ns) (ap₂ (λ n xs. n ∷ 1 ∷ (xs ++ (g.output ∷ []))) ar (listed_two g ar k)) r.write in
     let reads_is : read_by g ≡ g.first ∷ g.second ∷ [] = ap (λ b. cond b [] (take (arity g.operation) (g.first ∷ g.second ∷ []))) k ∙ ap (λ n. take n (g.first ∷ g.second ∷ [])) ar in
@@ -70,7 +70,7 @@ with_two layout c row g r f ar k =
     (ap (list_all (λ v. nat_lt v c.wires)) (sym reads_is) ∙ f.below) (lt-ltb g.output c.wires f.output) (ap (list_all (sets c)) (sym reads_is) ∙ f.read) f.fresh
     ∙ ap (λ z. Ok (record g { constant = z })) (sym (f.plain.constant k)))
 
-with_one : (layout : FileLayout) (c : Netlist) (row : Row) (g : Gate) → IsGateLine layout row g → Fits c c.gates g → arity g.operation ≡ 1 → is_constant g.operation ≡ false → gate_in layout c row ≡ Ok g
+with_one : (layout : FileLayout) (c : Netlist) (row : Row) (g : Gate) → IsGateLine layout row g → GateFits c c.gates g → arity g.operation ≡ 1 → is_constant g.operation ≡ false → gate_in layout c row ≡ Ok g
 with_one layout c row g r f ar k =
     let w : Write r.numbers (1 ∷ 1 ∷ g.first ∷ g.output ∷ []) = subst (λ (ns : List ℕ). Write r.numbers ns) (ap₂ (λ n xs. n ∷ 1 ∷ (xs ++ (g.output ∷ []))) ar (listed_one g ar k)) r.write in
     let reads_is : read_by g ≡ g.first ∷ [] = ap (λ b. cond b [] (take (arity g.operation) (g.first ∷ g.second ∷ []))) k ∙ ap (λ n. take n (g.first ∷ g.second ∷ [])) ar in
@@ -84,7 +84,7 @@ with_one layout c row g r f ar k =
     (ap (list_all (λ v. nat_lt v c.wires)) (sym reads_is) ∙ f.below) (lt-ltb g.output c.wires f.output) (ap (list_all (sets c)) (sym reads_is) ∙ f.read) f.fresh
     ∙ ap₂ (λ y z. Ok (record g { second = y; constant = z })) (sym (f.plain.second ar)) (sym (f.plain.constant k)))
 
-with_constant : (layout : FileLayout) (c : Netlist) (row : Row) (g : Gate) → IsGateLine layout row g → Fits c c.gates g → g.operation ≡ Eq → gate_in layout c row ≡ Ok g
+with_constant : (layout : FileLayout) (c : Netlist) (row : Row) (g : Gate) → IsGateLine layout row g → GateFits c c.gates g → g.operation ≡ Eq → gate_in layout c row ≡ Ok g
 with_constant layout c row g r f o =
     let w : Write r.numbers (1 ∷ 1 ∷ g.constant ∷ g.output ∷ []) = subst (λ (p : Operation). Write r.numbers (arity p ∷ 1 ∷ (cond (is_constant p) (g.constant ∷ []) (take (arity p) (g.first ∷ g.second ∷ [])) ++ (g.output ∷ [])))) o r.write in
     let a = write_some _ _ _ w in
@@ -98,7 +98,7 @@ with_constant layout c row g r f o =
     ∙ ap₂ (λ p x. Ok (record g { operation = p; first = x; second = 0 })) (sym o) (sym (f.plain.first (ap is_constant o)))
     ∙ ap (λ y. Ok (record g { second = y })) (sym (f.plain.second (ap arity o))))
 
-by_operation : (layout : FileLayout) (c : Netlist) (row : Row) (g : Gate) (o : Operation) → g.operation ≡ o → IsGateLine layout row g → Fits c c.gates g → gate_in layout c row ≡ Ok g
+by_operation : (layout : FileLayout) (c : Netlist) (row : Row) (g : Gate) (o : Operation) → g.operation ≡ o → IsGateLine layout row g → GateFits c c.gates g → gate_in layout c row ≡ Ok g
 by_operation layout c row g Add e r f = with_two layout c row g r f (ap arity e) (ap is_constant e)
 by_operation layout c row g Sub e r f = with_two layout c row g r f (ap arity e) (ap is_constant e)
 by_operation layout c row g Mul e r f = with_two layout c row g r f (ap arity e) (ap is_constant e)
@@ -109,7 +109,7 @@ by_operation layout c row g Inv e r f = with_one layout c row g r f (ap arity e)
 by_operation layout c row g Eqw e r f = with_one layout c row g r f (ap arity e) (ap is_constant e)
 by_operation layout c row g Eq e r f = with_constant layout c row g r f e
 
-pub gate_related : (layout : FileLayout) (c : Netlist) (row : Row) (g : Gate) → IsGateLine layout row g → Fits c c.gates g → gate_in layout c row ≡ Ok g
+pub gate_related : (layout : FileLayout) (c : Netlist) (row : Row) (g : Gate) → IsGateLine layout row g → GateFits c c.gates g → gate_in layout c row ≡ Ok g
 gate_related layout c row g r f = by_operation layout c row g g.operation refl r f
 
 -- ---- a gate line without a fault is in the grammar

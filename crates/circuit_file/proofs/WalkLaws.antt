@@ -6,10 +6,10 @@ use Rattle.std.proofs.Math.Seq.{take-append_seam, get_or-append_seam}
 use Rattle.gate_lines.specs.Rows.{Row}
 use Rattle.circuit_model.specs.declared.gate.Gate.{Gate}
 use Rattle.circuit_model.specs.declared.fault.CircuitFault.TheVariants.{OutputNotSet}
-use Rattle.circuit_model.specs.Netlists.{Netlist, Fits, AllFit, no_gate, output_wires, sets}
+use Rattle.circuit_model.specs.Netlists.{Netlist, GateFits, AllGatesFit, no_gate, output_wires, sets}
 use Rattle.circuit_model.specs.Building.{add_gate, unset_output}
-use Rattle.circuit_model.proofs.Passing.{next_fits}
-use Rattle.circuit_model.proofs.Telling.{all_fit_next, find_next, none_found}
+use Rattle.circuit_model.proofs.PassedChecks.{next_fits}
+use Rattle.circuit_model.proofs.SetWires.{all_fit_next, find_next, none_found}
 use Rattle.circuit_file.specs.GateLines.{gate_line_of}
 use Rattle.circuit_file.specs.CircuitFiles.{gate_in, gates_in, ended}
 use Rattle.circuit_file.specs.Grammar.{AreGateLines}
@@ -23,9 +23,9 @@ pub record Walked (layout : FileLayout) (n : ℕ) (c : Netlist) (rows : List Row
   pub whole : record c { gates = c.gates ++ gates } ≡ d
   pub count : length gates ≡ n
   pub lines : AreGateLines layout rows gates
-  pub fits : AllFit d
+  pub fits : AllGatesFit d
 
-pub walk_grounded : (layout : FileLayout) (n seen : ℕ) (c : Netlist) (rows : List Row) (d : Netlist) → gates_in layout n seen c rows ≡ Ok (d, []) → AllFit c → Walked layout n c rows d
+pub walk_grounded : (layout : FileLayout) (n seen : ℕ) (c : Netlist) (rows : List Row) (d : Netlist) → gates_in layout n seen c rows ≡ Ok (d, []) → AllGatesFit c → Walked layout n c rows d
 unfolding gates_in
 walk_grounded layout zero seen c rows d e v =
     let both : (c, rows) ≡ (d, []) = ok_same (c, rows) (d, []) e in
@@ -36,14 +36,14 @@ walk_grounded layout zero seen c rows d e v =
       whole = ap (λ gs. record c { gates = gs }) (append-nil c.gates) ∙ same;
       count = refl;
       lines = subst (λ (rs : List Row). AreGateLines layout rs []) (sym none) tt;
-      fits = subst (λ (x : Netlist). AllFit x) same v;
+      fits = subst (λ (x : Netlist). AllGatesFit x) same v;
     }
 walk_grounded layout (suc n) seen c [] d e v = cc
 walk_grounded layout (suc n) seen c (row ∷ rows) d e v =
     let b = bind_ok (gate_in layout c row) (λ g. gates_in layout n (seen + 1) (add_gate c g) rows) (d, []) e in
     let g : Gate = b.0 in
     let line = line_grounded layout c row g b.1 in
-    let fits : Fits c c.gates g = next_fits c row.number (gate_line_of layout row).operation (gate_line_of layout row).inputs (gate_line_of layout row).outputs g (sym line.1) in
+    let fits : GateFits c c.gates g = next_fits c row.number (gate_line_of layout row).operation (gate_line_of layout row).inputs (gate_line_of layout row).outputs g (sym line.1) in
     let more : Walked layout n (add_gate c g) rows d = walk_grounded layout n (seen + 1) (add_gate c g) rows d b.2 (all_fit_next c g v fits) in
     record {
       gates = g ∷ more.gates;
@@ -56,20 +56,20 @@ walk_grounded layout (suc n) seen c (row ∷ rows) d e v =
 -- each of the gates fits after those before it
 abbrev pub FitOn : Netlist → List Gate → Type 0
 FitOn c [] = Unit {0}
-FitOn c (g ∷ gs) = Fits c c.gates g × FitOn (add_gate c g) gs
+FitOn c (g ∷ gs) = GateFits c c.gates g × FitOn (add_gate c g) gs
 
-here : (d : Netlist) (done gs : List Gate) (g : Gate) → d.gates ≡ done ++ (g ∷ gs) → AllFit d → Fits d done g
+here : (d : Netlist) (done gs : List Gate) (g : Gate) → d.gates ≡ done ++ (g ∷ gs) → AllGatesFit d → GateFits d done g
 here d done gs g e v =
-    let fit : Fits d (take (length done) (done ++ (g ∷ gs))) (get_or (done ++ (g ∷ gs)) (length done) no_gate) =
-    subst (λ (xs : List Gate). Fits d (take (length done) xs) (get_or xs (length done) no_gate)) e
+    let fit : GateFits d (take (length done) (done ++ (g ∷ gs))) (get_or (done ++ (g ∷ gs)) (length done) no_gate) =
+    subst (λ (xs : List Gate). GateFits d (take (length done) xs) (get_or xs (length done) no_gate)) e
     (v (length done) (omega (arith, ap length e, length-append done (g ∷ gs)))) in
-    subst (λ (before : List Gate). Fits d before g) (take-append_seam done (g ∷ gs))
-    (subst (λ (h : Gate). Fits d (take (length done) (done ++ (g ∷ gs))) h) (get_or-append_seam done g gs no_gate) fit)
+    subst (λ (before : List Gate). GateFits d before g) (take-append_seam done (g ∷ gs))
+    (subst (λ (h : Gate). GateFits d (take (length done) (done ++ (g ∷ gs))) h) (get_or-append_seam done g gs no_gate) fit)
 
-moved : (d : Netlist) (done : List Gate) (g : Gate) → Fits d done g → Fits (record d { gates = done }) done g
+moved : (d : Netlist) (done : List Gate) (g : Gate) → GateFits d done g → GateFits (record d { gates = done }) done g
 moved d done g f = record { plain = f.plain; constant = f.constant; below = f.below; output = f.output; read = f.read; fresh = f.fresh }
 
-pub fit_on : (d : Netlist) (done gs : List Gate) → d.gates ≡ done ++ gs → AllFit d → FitOn (record d { gates = done }) gs
+pub fit_on : (d : Netlist) (done gs : List Gate) → d.gates ≡ done ++ gs → AllGatesFit d → FitOn (record d { gates = done }) gs
 fit_on d done [] e v = tt
 fit_on d done (g ∷ gs) e v = (moved d done g (here d done gs g e v), fit_on d (done ++ (g ∷ [])) gs (e ∙ sym (append_assoc done (g ∷ []) gs)) v)
 

@@ -1,7 +1,7 @@
-pub mod Setting
-pub mod Along
-pub mod Passing
-pub mod Telling
-pub mod Drafting
-pub mod Solving
-pub mod Reading
+pub mod SetAt
+pub mod ListTests
+pub mod PassedChecks
+pub mod SetWires
+pub mod DraftLaws
+pub mod Solutions
+pub mod GateWires

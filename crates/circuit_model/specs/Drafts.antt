@@ -1,6 +1,6 @@
 -- What a builder keeps.
 use Rattle.std.specs.Prelude.{◌≡◌, ℕ, ◌≤◌, Bool, false, List, length, slice_index_or}
-use Rattle.circuit_model.specs.Netlists.{IsWithin, AllFit, sets}
+use Rattle.circuit_model.specs.Netlists.{IsWithin, AllGatesFit, sets}
 use Rattle.circuit_model.specs.Building.{Draft}
 
 -- all but the output wires is as in a circuit, no more gates are there than announced, and the list tells which wires are set
@@ -8,5 +8,5 @@ pub record IsDraft (d : Draft) (set : List Bool) : Type 0 where
   pub within : IsWithin d.circuit
   pub announced : d.announced ≤ 65536
   pub few : length d.circuit.gates ≤ d.announced
-  pub fits : AllFit d.circuit
+  pub fits : AllGatesFit d.circuit
   pub told : (w : ℕ) → slice_index_or set w false ≡ sets d.circuit w

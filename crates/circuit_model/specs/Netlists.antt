@@ -64,7 +64,7 @@ pub record IsPlain (g : Gate) : Type 0 where
   pub constant : is_constant g.operation ≡ false → g.constant ≡ 0
 
 -- after these gates a gate reads only wires that are set, and sets a wire that isn't
-pub record Fits (c : Netlist) (before : List Gate) (g : Gate) : Type 0 where
+pub record GateFits (c : Netlist) (before : List Gate) (g : Gate) : Type 0 where
   pub plain : IsPlain g
   pub constant : g.constant < 2 ^ c.bits
   pub below : list_all (λ w. nat_lt w c.wires) (read_by g) ≡ true
@@ -72,8 +72,8 @@ pub record Fits (c : Netlist) (before : List Gate) (g : Gate) : Type 0 where
   pub read : list_all (is_set (input_wires c) before) (read_by g) ≡ true
   pub fresh : is_set (input_wires c) before g.output ≡ false
 
-abbrev pub AllFit : Netlist → Type 0
-AllFit c = (t : ℕ) → t < length c.gates → Fits c (take t c.gates) (gate c t)
+abbrev pub AllGatesFit : Netlist → Type 0
+AllGatesFit c = (t : ℕ) → t < length c.gates → GateFits c (take t c.gates) (gate c t)
 
 pub record IsWithin (c : Netlist) : Type 0 where
   pub some_bits : 0 < c.bits
@@ -88,7 +88,7 @@ pub record IsWithin (c : Netlist) : Type 0 where
 -- the circuit is within the limits, each gate fits after those before it, and each output wire is set
 pub record IsCircuit (c : Netlist) : Type 0 where
   pub within : IsWithin c
-  pub fits : AllFit c
+  pub fits : AllGatesFit c
   pub outputs : (w : ℕ) → c.wires - output_wires c ≤ w → w < c.wires → sets c w ≡ true
 
 -- the words on the wires before the first gate

@@ -1,5 +1,5 @@
 -- All desks of a world, over any cells.
-use Rattle.std.specs.Prelude.{◌≡◌, ◌⊎◌, ℕ, ◌+◌, ◌-◌, ◌*◌, ◌/◌, ◌%◌, ◌<◌, List, [], ◌∷◌, length, get_or}
+use Rattle.std.specs.Prelude.{◌≡◌, ◌⊎◌, ℕ, ◌+◌, ◌-◌, ◌*◌, ◌/◌, ◌%◌, List, [], ◌∷◌, length, slice_get, Some}
 use Rattle.share_world.specs.Worlds.{World}
 use Rattle.party_program.specs.declared.program.Instruction.TheVariants.{Take}
 use Rattle.party_program.specs.Programs.{at}
@@ -13,12 +13,12 @@ use Rattle.desk_laws.specs.InWorld.{HasPosts}
 -- a desk for each party in each session, by number, and each stands where its program leaves it in the world
 pub record AreDesks (w : World) (ds : List Desk) : Type 0 where
   pub many : length ds ≡ w.plan.parties * length w.plan.sessions
-  pub desks : (k : ℕ) (d : Desk) → k < length ds → IsDesk (given_to w k) (get_or ds k d)
+  pub desks : (k : ℕ) (d : Desk) → slice_get ds k ≡ Some d → IsDesk (given_to w k) d
 
 -- the words that the desks posted are among these, each at its number
 abbrev pub AllHavePosts : (ℕ → ℕ → Type 0) → World → List Desk → Type 0
 AllHavePosts has w ds =
-    (k : ℕ) (d : Desk) → k < length ds → HasPosts has w (k / w.plan.parties) (k % w.plan.parties) (get_or ds k d).position
+    (k : ℕ) (d : Desk) → slice_get ds k ≡ Some d → HasPosts has w (k / w.plan.parties) (k % w.plan.parties) d.position
 
 -- desk k, which stands at this position, is at its end, or at a take of a message of which these words have none
 abbrev pub Stuck : (ℕ → ℕ → Type 0) → World → ℕ → ℕ → Type 0
@@ -27,10 +27,10 @@ Stuck has w k position =
     ⊎ ((n : ℕ) × (i : ℕ) × (at (program_of w k) position ≡ Take n i) × ((v : ℕ) → ¬ has n v))
 
 abbrev pub AllStuck : (ℕ → ℕ → Type 0) → World → List Desk → Type 0
-AllStuck has w ds = (k : ℕ) (d : Desk) → k < length ds → Stuck has w k (get_or ds k d).position
+AllStuck has w ds = (k : ℕ) (d : Desk) → slice_get ds k ≡ Some d → Stuck has w k d.position
 
 abbrev pub AllEnded : World → List Desk → Type 0
-AllEnded w ds = (k : ℕ) (d : Desk) → k < length ds → (get_or ds k d).position ≡ length (program_of w k)
+AllEnded w ds = (k : ℕ) (d : Desk) → slice_get ds k ≡ Some d → d.position ≡ length (program_of w k)
 
 -- 1 where the desk moved
 abbrev pub moves_of : Stepped → ℕ

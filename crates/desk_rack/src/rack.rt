@@ -13,11 +13,11 @@ pub struct Rack<W: Promise, T: SlotItem<W>> {
 
 // To a contract a rack is its board.
 impl<W: Promise, T: SlotItem<W>> Model for Rack<W, T> {
-    ghost use Rattle.message_board.specs.Seats.{Place, place_coded};
+    ghost use Rattle.message_board.specs.Seats.{BoardModel, board_coded};
 
-    ghost Value = { Place W };
+    ghost Value = { BoardModel W };
 
-    ghost coded = { place_coded W.code };
+    ghost coded = { board_coded W.code };
 
     ghost view = { λ r. r.board };
 }
@@ -25,7 +25,7 @@ impl<W: Promise, T: SlotItem<W>> Model for Rack<W, T> {
 impl<W: Promise, T: SlotItem<W>> Rack<W, T> {
     ghost use Rattle.message_board.specs.Pairs.{Grows};
     ghost use Rattle.message_board.specs.Rule.{brings_home, others};
-    ghost use Rattle.message_board.specs.Seats.{IsBoardOf, IsSeatOf, TookOut, FoundOut, AreFresh, AreNew};
+    ghost use Rattle.message_board.specs.Seats.{IsBoardOf, IsSeatOf, TookOut, FoundOut, AreFresh, AreNewSeats};
 
     /// A rack with so many empty cells and a slot for each item, and its seats. Out of memory, the items come back.
     pub fn make(
@@ -44,7 +44,7 @@ impl<W: Promise, T: SlotItem<W>> Rack<W, T> {
         requires items { AreFresh T.good T.posted words items.items }
         ensures rack { IfOk result (λ r. IsBoardOf words seats (vec_len items) r.0) }
         ensures count { IfOk result (λ r. vec_len r.1 ≡ seats) }
-        ensures seats { IfOk result (λ r. AreNew r.0 r.1.items) }
+        ensures seats { IfOk result (λ r. AreNewSeats r.0 r.1.items) }
         ensures back { IfErr result (λ r. r.1.items ≡ items.items) }
     {
         match Board::with_slots(alloc, words, messages, seats, items) {

@@ -2,15 +2,16 @@
 use Rattle.std.proofs.Common.{◌≡◌, ℕ, zero, suc, ◌+◌, ◌*◌, ◌/◌, ◌%◌, ◌<◌, ◌≤◌, ◌^◌, List, [], ◌∷◌, length, take, get_or, refl, ap, ◌∙◌, arith}
 use Rattle.std.proofs.Math.Nat.{mul-le-mul_right}
 use Rattle.mpc_ring.specs.Sums as sums
-use Rattle.message_board.specs.Pairs.{total}
+use Rattle.message_board.specs.Pairs.{total_over}
 use Rattle.job_plan.specs.Plans.{Plan}
 use Rattle.job_plan.specs.Sound.{IsSound}
 use Rattle.share_world.specs.Worlds.{World}
 use Rattle.party_desk.specs.declared.desk.Desk.{Desk}
 use Rattle.share_world.specs.Laws.{IsWhole}
 use Rattle.program_laws.specs.Lawful.{program_of}
-use Rattle.program_laws.proofs.Lawfulness.{lawful}
+use Rattle.program_laws.proofs.LawfulWorlds.{lawful}
 use Rattle.desk_laws.specs.Pools.{AreDesks, AllEnded}
+use Rattle.desk_laws.proofs.Elements.{by_place}
 use Rattle.desk_workers.specs.Runs.{instructions_of}
 
 -- within the limits there are few desks
@@ -19,13 +20,13 @@ few_desks plan sound =
     let a : plan.parties * length plan.sessions ≤ 12 * length plan.sessions = mul-le-mul_right (length plan.sessions) sound.parties in
     let b = sound.few_sessions in omega arith
 
-next_term : (f : Desk → ℕ) (ds : List Desk) (i : ℕ) (d : Desk) → i < length ds → total f (take (suc i) ds) ≡ total f (take i ds) + f (get_or ds i d)
+next_term : (f : Desk → ℕ) (ds : List Desk) (i : ℕ) (d : Desk) → i < length ds → total_over f (take (suc i) ds) ≡ total_over f (take i ds) + f (get_or ds i d)
 next_term f [] i d l = absurd (omega arith)
 next_term f (x ∷ ds) zero d l = omega arith
 next_term f (x ∷ ds) (suc i) d l = let r = next_term f ds i d (omega arith) in omega arith
 
-pub one_more : (f : Desk → ℕ) (ds : List Desk) (i : ℕ) (d : Desk) → i < length ds → total f (take (i + 1) ds) ≡ total f (take i ds) + f (get_or ds i d)
-one_more f ds i d l = ap (λ n. total f (take n ds)) (let e : i + 1 ≡ suc i = omega arith in e) ∙ next_term f ds i d l
+pub one_more : (f : Desk → ℕ) (ds : List Desk) (i : ℕ) (d : Desk) → i < length ds → total_over f (take (i + 1) ds) ≡ total_over f (take i ds) + f (get_or ds i d)
+one_more f ds i d l = ap (λ n. total_over f (take n ds)) (let e : i + 1 ≡ suc i = omega arith in e) ∙ next_term f ds i d l
 
 pub take_all : (ds : List Desk) (n : ℕ) → n ≡ length ds → take n ds ≡ ds
 take_all [] zero e = refl
@@ -39,7 +40,7 @@ first_term zero g = omega arith
 first_term (suc n) g = let r = first_term n g in omega arith
 
 -- a sum over desks is a sum over their numbers
-by_number : (f : Desk → ℕ) (g : ℕ → ℕ) (ds : List Desk) → ((k : ℕ) (d : Desk) → k < length ds → f (get_or ds k d) ≡ g k) → total f ds ≡ sums.total (length ds) g
+by_number : (f : Desk → ℕ) (g : ℕ → ℕ) (ds : List Desk) → ((k : ℕ) (d : Desk) → k < length ds → f (get_or ds k d) ≡ g k) → total_over f ds ≡ sums.total (length ds) g
 by_number f g [] h = refl
 by_number f g (x ∷ ds) h =
     let r = by_number f (λ k. g (suc k)) ds (λ k d l. h (suc k) d (omega arith)) in
@@ -48,14 +49,14 @@ by_number f g (x ∷ ds) h =
     omega arith
 
 module _ (w : World) (ds : List Desk) (h : AreDesks w ds) where
-  pub all_instructions : total (λ (d : Desk). length d.program) ds ≡ instructions_of w
+  pub all_instructions : total_over (λ (d : Desk). length d.program) ds ≡ instructions_of w
   all_instructions =
-      by_number (λ d. length d.program) (λ k. length (program_of w k)) ds (λ k d l. ap length (h.desks k d l).list)
+      by_number (λ d. length d.program) (λ k. length (program_of w k)) ds (by_place (λ k (d : Desk). length d.program ≡ length (program_of w k)) ds (λ k d is. ap length (h.desks k d is).list))
       ∙ ap (λ n. sums.total n (λ k. length (program_of w k))) h.many
 
-  pub all_steps : AllEnded w ds → total (λ (d : Desk). d.position) ds ≡ instructions_of w
+  pub all_steps : AllEnded w ds → total_over (λ (d : Desk). d.position) ds ≡ instructions_of w
   all_steps ended =
-      by_number (λ d. d.position) (λ k. length (program_of w k)) ds ended
+      by_number (λ d. d.position) (λ k. length (program_of w k)) ds (by_place (λ k (d : Desk). d.position ≡ length (program_of w k)) ds ended)
       ∙ ap (λ n. sums.total n (λ k. length (program_of w k))) h.many
 
 -- within the limits there are few instructions

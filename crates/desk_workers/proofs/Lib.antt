@@ -1,7 +1,7 @@
 pub mod Counts
-pub mod Finished
-pub mod Leading
-pub mod Over
-pub mod Posted
-pub mod Rows
-pub mod Seated
+pub mod RunEnds
+pub mod BoardSteps
+pub mod RunDesks
+pub mod PostedPairs
+pub mod DeskLists
+pub mod SeatLists

@@ -1,7 +1,7 @@
 -- Desks and seats of a pool.
-use Rattle.std.specs.Prelude.{◌≡◌, ℕ, ◌+◌, ◌*◌, ◌/◌, ◌%◌, ◌<◌, List, length, get_or, slice_index_or}
+use Rattle.std.specs.Prelude.{◌≡◌, ℕ, ◌+◌, ◌*◌, ◌/◌, ◌%◌, List, length, All, Some, slice_get}
 use Rattle.message_board.specs.Pairs.{Knows, Grows}
-use Rattle.message_board.specs.Seats.{Place, Sitting, IsFreeSeatOf}
+use Rattle.message_board.specs.Seats.{BoardModel, Sitting, IsFreeSeatOf}
 use Rattle.job_plan.specs.Plans.{Plan}
 use Rattle.share_world.specs.Laws.{IsWhole}
 use Rattle.share_world.specs.Worlds.{World}
@@ -14,49 +14,49 @@ use Rattle.desk_workers.specs.declared.promised.Promised.{Promised}
 use Rattle.desk_workers.specs.Promises.{world_in}
 
 -- what the board is about is a world of this plan, and it has a slot for each desk
-pub record IsPool (plan : Plan) (board : Place Promised) : Type 0 where
+pub record IsPool (plan : Plan) (board : BoardModel Promised) : Type 0 where
   pub same : (world_in board.about.world).plan ≡ plan
   pub whole : IsWhole (world_in board.about.world)
   pub slots : board.id.slots ≡ plan.parties * length plan.sessions
 
 -- desk k stands where its program leaves it in the world, and these pairs have what it posted
-pub record Stands (w : World) (seen : List (ℕ × ℕ)) (k : ℕ) (d : Desk) : Type 0 where
+pub record StandsIn (w : World) (seen : List (ℕ × ℕ)) (k : ℕ) (d : Desk) : Type 0 where
   pub desk : IsDesk (given_to w k) d
   pub posted : HasPosts (Knows seen) w (k / w.plan.parties) (k % w.plan.parties) d.position
 
 -- so many steps of desk k led from one desk and seat to another
-pub record Leads (w : World) (k : ℕ) (s : Sitting Promised) (d : Desk) (t : Sitting Promised) (e : Desk) (moves : ℕ) : Type 0 where
-  pub stands : Stands w t.view.seen k e
-  pub counts : moves + left e ≡ left d
-  pub still : moves ≡ 0 → e ≡ d
-  pub grows : Grows s.view.seen t.view.seen
-  pub parts : t.view.parts ≡ s.view.parts
-  pub out : t.view.out ≡ s.view.out
+pub record Leads (w : World) (k : ℕ) (seat : Sitting Promised) (d : Desk) (seat' : Sitting Promised) (d' : Desk) (moves : ℕ) : Type 0 where
+  pub stands : StandsIn w seat'.view.seen k d'
+  pub counts : moves + left d' ≡ left d
+  pub still : moves ≡ 0 → d' ≡ d
+  pub grows : Grows seat.view.seen seat'.view.seen
+  pub seats : seat'.view.seats ≡ seat.view.seats
+  pub out : seat'.view.out ≡ seat.view.out
 
 -- of the board's world: a desk and a seat that knows what it posted, where so many steps led, and that the desk could not move
-abbrev pub IsDeskOf : Place Promised → Sitting Promised → Desk → Type 0
-IsDeskOf board s d = (k : ℕ) × Stands (world_in board.about.world) s.view.seen k d
+abbrev pub IsDeskOf : BoardModel Promised → Sitting Promised → Desk → Type 0
+IsDeskOf board seat d = (k : ℕ) × StandsIn (world_in board.about.world) seat.view.seen k d
 
-abbrev pub LeadsOn : Place Promised → Sitting Promised → Desk → Sitting Promised → Desk → ℕ → Type 0
-LeadsOn board s d t e moves =
-    (k : ℕ) → Stands (world_in board.about.world) s.view.seen k d → Leads (world_in board.about.world) k s d t e moves
+abbrev pub LeadsOn : BoardModel Promised → Sitting Promised → Desk → Sitting Promised → Desk → ℕ → Type 0
+LeadsOn board seat d seat' d' moves =
+    (k : ℕ) → StandsIn (world_in board.about.world) seat.view.seen k d → Leads (world_in board.about.world) k seat d seat' d' moves
 
-abbrev pub IsStuck : Place Promised → Sitting Promised → Desk → Type 0
-IsStuck board s d =
-    (k : ℕ) → Stands (world_in board.about.world) s.view.seen k d → Stuck (Knows s.view.seen) (world_in board.about.world) k d.position
+abbrev pub IsStuck : BoardModel Promised → Sitting Promised → Desk → Type 0
+IsStuck board seat d =
+    (k : ℕ) → StandsIn (world_in board.about.world) seat.view.seen k d → Stuck (Knows seat.view.seen) (world_in board.about.world) k d.position
 
 -- each desk stands where its program leaves it in the world, and these pairs have what they posted
 abbrev pub AllStand : World → List (ℕ × ℕ) → List Desk → Type 0
-AllStand w seen ds = (k : ℕ) (d : Desk) → k < length ds → Stands w seen k (get_or ds k d)
+AllStand w seen ds = (k : ℕ) (d : Desk) → slice_get ds k ≡ Some d → StandsIn w seen k d
 
 -- each seat is one of the board's and holds no slot
-abbrev pub AllFree : Place Promised → List (Sitting Promised) → Type 0
-AllFree board ss = (i : ℕ) (d : Sitting Promised) → i < length ss → IsFreeSeatOf board (slice_index_or ss i d)
+abbrev pub AllFree : BoardModel Promised → List (Sitting Promised) → Type 0
+AllFree board seats = All (IsFreeSeatOf board) seats
 
--- these stand for as many seats
-abbrev pub SameParts : List (Sitting Promised) → List (Sitting Promised) → Type 0
-SameParts ss ts =
-    (i : ℕ) (d : Sitting Promised) → i < length ss → (slice_index_or ts i d).view.parts ≡ (slice_index_or ss i d).view.parts
+-- each stands for as many seats as before
+abbrev pub SameSeatCounts : List (Sitting Promised) → List (Sitting Promised) → Type 0
+SameSeatCounts seats seats' =
+    (i : ℕ) (seat seat' : Sitting Promised) → slice_get seats i ≡ Some seat → slice_get seats' i ≡ Some seat' → seat'.view.seats ≡ seat.view.seats
 
-abbrev pub parts_of : Sitting Promised → ℕ
-parts_of s = s.view.parts
+abbrev pub seats_in : Sitting Promised → ℕ
+seats_in seat = seat.view.seats

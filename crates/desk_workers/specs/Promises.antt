@@ -6,22 +6,22 @@ use Rattle.share_world.specs.Worlds.{World, word}
 use Rattle.party_program.specs.declared.program.Instruction.{Instruction}
 use Rattle.party_program.specs.declared.program.Instruction.TheVariants.{Post}
 use Rattle.party_desk.specs.declared.desk.Desk.{Desk}
-use Rattle.desk_laws.specs.Opening.{world_of}
+use Rattle.desk_laws.specs.Opening.{world_of_pieces}
 use Rattle.desk_workers.specs.declared.promised.Promised.{Promised}
 
 abbrev pub world_in : Promised → World
-world_in promised = world_of promised.plan.value promised.inputs.value promised.pieces.value.items
+world_in promised = world_of_pieces promised.plan.value promised.inputs.value promised.pieces.value.items
 
 -- the words of all messages, in order
 abbrev pub words_of : World → List ℕ
 words_of w = map (word w) (messages w.plan)
 
 -- the number and the word of each post among these instructions
-abbrev pub pairs_of : World → List Instruction → List (ℕ × ℕ)
-pairs_of w [] = []
-pairs_of w (Post n i ∷ es) = (n, word w (message w.plan n)) ∷ pairs_of w es
-pairs_of w (e ∷ es) = pairs_of w es
+abbrev pub posted_pairs : World → List Instruction → List (ℕ × ℕ)
+posted_pairs w [] = []
+posted_pairs w (Post n i ∷ es) = (n, word w (message w.plan n)) ∷ posted_pairs w es
+posted_pairs w (e ∷ es) = posted_pairs w es
 
 -- what the desk posted
 abbrev pub posted_by : World → Desk → List (ℕ × ℕ)
-posted_by w d = pairs_of w (take d.position d.program)
+posted_by w d = posted_pairs w (take d.position d.program)

@@ -7,7 +7,7 @@ use Rattle.job_plan.specs.Numbers.{message}
 use Rattle.share_world.specs.Laws.{IsWhole}
 use Rattle.share_world.specs.Worlds.{World, word, plain}
 use Rattle.message_board.specs.Plain.{plain_cell}
-use Rattle.message_board.specs.Seats.{AreNew}
+use Rattle.message_board.specs.Seats.{AreNewSeats}
 use Rattle.party_desk.specs.declared.desk.Desk.{Desk}
 use Rattle.program_laws.specs.Lawful.{program_of}
 use Rattle.desk_laws.specs.InWorld.{IsDone}
@@ -20,33 +20,33 @@ abbrev pub instructions_of : World → ℕ
 instructions_of w = total (w.plan.parties * length w.plan.sessions) (λ k. length (program_of w k))
 
 -- all that a run in the world needs: desks at home in slots, a seat for each worker, and room for what comes after
-pub record IsReady (w : World) (r : Ready) : Type 0 where
-  pub world : world_in r.rack.about.world ≡ w
+pub record IsReady (w : World) (ready : Ready) : Type 0 where
+  pub world : world_in ready.rack.about.world ≡ w
   pub whole : IsWhole w
-  pub parties : r.parties ≡ w.plan.parties
-  pub slots : r.rack.id.slots ≡ w.plan.parties * length w.plan.sessions
-  pub some : 0 < length r.seats.items
-  pub all : length r.seats.items ≡ r.rack.about.seats
-  pub new : AreNew r.rack r.seats.items
-  pub instructions : r.instructions ≡ instructions_of w
-  pub no_desk : r.desks.items ≡ []
-  pub room : r.rack.id.slots ≤ vec_capacity r.desks
-  pub no_seat : r.last.items ≡ []
-  pub last : 0 < vec_capacity r.last
+  pub parties : ready.parties ≡ w.plan.parties
+  pub slots : ready.rack.id.slots ≡ w.plan.parties * length w.plan.sessions
+  pub some : 0 < length ready.seats.items
+  pub all : length ready.seats.items ≡ ready.rack.about.seats
+  pub new : AreNewSeats ready.rack ready.seats.items
+  pub instructions : ready.instructions ≡ instructions_of w
+  pub no_desk : ready.desks.items ≡ []
+  pub room : ready.rack.id.slots ≤ vec_capacity ready.desks
+  pub no_seat : ready.last.items ≡ []
+  pub last : 0 < vec_capacity ready.last
 
 -- the desk of party p in session s
 abbrev pub desk_of : Done → ℕ → ℕ → Option Desk
-desk_of o s p = slice_get o.desks.items (s * o.parties + p)
+desk_of done s p = slice_get done.desks.items (s * done.parties + p)
 
 -- the run is over: each cell has the word of its message, each desk has all outputs that its party reads and has drawn all
 -- words of its piece, and the desks moved as often as all programs have instructions
-pub record IsOver (w : World) (o : Done) : Type 0 where
-  pub parties : o.parties ≡ w.plan.parties
-  pub count : length o.desks.items ≡ w.plan.parties * length w.plan.sessions
-  pub desks : (s p : ℕ) → s < length w.plan.sessions → p < w.plan.parties → IsSomeAnd (desk_of o s p) (IsDone w s p)
-  pub all_cells : length o.cells ≡ length (messages w.plan)
-  pub cells : (n : ℕ) → n < length (messages w.plan) → plain_cell o.cells n ≡ Some (word w (message w.plan n))
-  pub steps : o.steps ≡ instructions_of w
+pub record IsOver (w : World) (done : Done) : Type 0 where
+  pub parties : done.parties ≡ w.plan.parties
+  pub count : length done.desks.items ≡ w.plan.parties * length w.plan.sessions
+  pub desks : (s p : ℕ) → s < length w.plan.sessions → p < w.plan.parties → IsSomeAnd (desk_of done s p) (IsDone w s p)
+  pub all_cells : length done.cells ≡ length (messages w.plan)
+  pub cells : (n : ℕ) → n < length (messages w.plan) → plain_cell done.cells n ≡ Some (word w (message w.plan n))
+  pub steps : done.steps ≡ instructions_of w
 
 -- party p reads output wire o of session s
 pub record Opens (w : World) (s o p : ℕ) : Type 0 where

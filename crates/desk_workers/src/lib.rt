@@ -2,11 +2,11 @@
 #![tactic(auto)]
 
 mod done;
-mod finishing;
 mod pool;
 mod promised;
 mod ready;
-mod stepping;
+mod rounds;
+mod steps;
 
 pub use done::Done;
 pub use ready::{Ready, prepare};

@@ -1,10 +1,10 @@
 //! Workers, each of which steps any desk that it finds at home.
 ghost use Rattle.std.specs.Prelude.{◌≡◌, ◌+◌, ◌<◌, ◌≤◌, ◌^◌, length, vec_len};
 ghost use Rattle.message_board.specs.Seats.{IsFreeSeatOf};
-ghost use Rattle.desk_workers.specs.Pools.{IsPool, AllFree, SameParts};
+ghost use Rattle.desk_workers.specs.Pools.{IsPool, AllFree, SameSeatCounts};
 
 use crate::promised::Promised;
-use crate::stepping::{Turn, has_ended, walk};
+use crate::steps::{Turn, has_ended, walk};
 use desk_rack::Rack;
 use job_plan::Plan;
 use message_board::BoardSeat;
@@ -35,7 +35,7 @@ fn look_in<P: Pace>(
     requires seat { IsFreeSeatOf rack.now seat.old }
     requires inside { turn.desk < rack.now.id.slots }
     ensures seat { IsFreeSeatOf rack.now seat.new }
-    ensures parts { seat.new.view.parts ≡ seat.old.view.parts }
+    ensures seats { seat.new.view.seats ≡ seat.old.view.seats }
     ensures moves { result.moves < 2 ^ 32 }
 {
     let Some(desk) = rack.take(seat, turn.desk) else {
@@ -70,7 +70,7 @@ fn pass<P: Pace>(
     requires pool { IsPool plan.now rack.now }
     requires seat { IsFreeSeatOf rack.now seat.old }
     ensures seat { IsFreeSeatOf rack.now seat.new }
-    ensures parts { seat.new.view.parts ≡ seat.old.view.parts }
+    ensures seats { seat.new.view.seats ≡ seat.old.view.seats }
     ensures moves { result.moves < 2 ^ 40 }
 {
     let slots = rack.slots();
@@ -107,7 +107,7 @@ fn work<P: Pace>(
     requires few { instructions < 2 ^ 40 }
     requires seat { IsFreeSeatOf rack.now seat.old }
     ensures seat { IsFreeSeatOf rack.now seat.new }
-    ensures parts { seat.new.view.parts ≡ seat.old.view.parts }
+    ensures seats { seat.new.view.seats ≡ seat.old.view.seats }
 {
     let mut idle = 0;
     let mut made = 0;
@@ -135,12 +135,12 @@ fn fan_out<P: Pace, R: Threads + Sync>(
     requires each { AllFree rack.now seats.old }
     ensures len { length seats.new ≡ length seats.old }
     ensures each { AllFree rack.now seats.new }
-    ensures parts { SameParts seats.old seats.new }
+    ensures seats { SameSeatCounts seats.old seats.new }
 {
     let count = seats.len();
     let job = move |i: usize, seat: &mut BoardSeat<Promised, Desk>|
         requires { IsPool plan.now rack.now × IsFreeSeatOf rack.now seat.old × (instructions < 2 ^ 40) }
-        ensures { IsFreeSeatOf rack.entry.now seat.new × (seat.new.view.parts ≡ seat.old.view.parts) }
+        ensures { IsFreeSeatOf rack.entry.now seat.new × (seat.new.view.seats ≡ seat.old.view.seats) }
     { work(rack, plan, pace, (i % 0x1_0000) as u32, instructions, seat) };
     thread::for_each_mut(rt, seats, count, &job);
 }
@@ -160,7 +160,7 @@ pub fn work_all<P: Pace, R: Threads + Sync>(
     requires each { AllFree rack.now seats.old.items }
     ensures len { length seats.new.items ≡ length seats.old.items }
     ensures each { AllFree rack.now seats.new.items }
-    ensures parts { SameParts seats.old.items seats.new.items }
+    ensures seats { SameSeatCounts seats.old.items seats.new.items }
 {
     fan_out(rt, plan, pace, rack, instructions, seats.as_mut_slice());
 }

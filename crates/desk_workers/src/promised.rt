@@ -1,6 +1,6 @@
 //! What the words of a board are promised by.
 ghost use Rattle.std.specs.Prelude.{◌≡◌};
-ghost use Rattle.desk_laws.specs.Opening.{world_of};
+ghost use Rattle.desk_laws.specs.Opening.{world_of_pieces};
 ghost use Rattle.desk_workers.specs.Promises.{world_in};
 
 use job_plan::{Inputs, Plan};
@@ -20,7 +20,7 @@ pub struct Promised {
 impl Promised {
     /// The world of these inputs and pieces of tape.
     pub fn of(plan: &Plan, inputs: &Inputs, pieces: &Vec<Tape>) -> Promised
-        ensures { world_in result ≡ world_of plan.now inputs.now pieces.now.items }
+        ensures { world_in result ≡ world_of_pieces plan.now inputs.now pieces.now.items }
     {
         Promised {
             plan: Snapshot::of(plan),

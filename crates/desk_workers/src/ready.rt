@@ -1,15 +1,15 @@
 //! A run of workers, from its memory to its end.
 ghost use Rattle.std.specs.Prelude.{◌≡◌, ◌<◌, ◌≤◌, IfOk, length, vec_len};
-ghost use Rattle.message_board.specs.Pairs.{total};
+ghost use Rattle.message_board.specs.Pairs.{total_over};
 ghost use Rattle.job_plan.specs.InputWords.{AreInputs};
 ghost use Rattle.share_world.specs.Laws.{IsWhole};
-ghost use Rattle.desk_laws.specs.Opening.{ArePieces, world_of};
+ghost use Rattle.desk_laws.specs.Opening.{ArePieces, world_of_pieces};
 ghost use Rattle.desk_workers.specs.Runs.{IsReady};
 
 use crate::done::Done;
-use crate::finishing::{finish_all, fold_all, take_all};
 use crate::pool::work_all;
 use crate::promised::Promised;
+use crate::rounds::{finish_all, fold_all, take_all};
 use desk_laws::open_desks;
 use desk_rack::Rack;
 use job_plan::{Inputs, Plan};
@@ -43,8 +43,8 @@ pub fn prepare(
     requires workers { (0 < workers) × (workers ≤ 16) }
     requires inputs { AreInputs plan.now inputs.now }
     requires pieces { ArePieces plan.now pieces.items }
-    ensures whole { IsWhole (world_of plan.now inputs.now pieces.items) }
-    ensures ready { IfOk result (IsReady (world_of plan.now inputs.now pieces.items)) }
+    ensures whole { IsWhole (world_of_pieces plan.now inputs.now pieces.items) }
+    ensures ready { IfOk result (IsReady (world_of_pieces plan.now inputs.now pieces.items)) }
     ensures workers { IfOk result (λ ready. length ready.seats.items ≡ workers) }
 {
     let parties = plan.parties();
@@ -72,7 +72,7 @@ pub fn prepare(
 // How many instructions these desks have.
 fn instructions_in(desks: &[Desk]) -> u64
     requires { length desks.now ≤ 192 }
-    ensures { result ≡ total (λ d. length d.program) desks.now }
+    ensures { result ≡ total_over (λ d. length d.program) desks.now }
 {
     let mut count = 0;
     for i in 0..desks.len() {
@@ -84,7 +84,7 @@ fn instructions_in(desks: &[Desk]) -> u64
 // How often these desks moved.
 fn steps_in(desks: &[Desk]) -> u64
     requires { length desks.now ≤ 192 }
-    ensures { result ≡ total (λ d. d.position) desks.now }
+    ensures { result ≡ total_over (λ d. d.position) desks.now }
 {
     let mut count = 0;
     for i in 0..desks.len() {

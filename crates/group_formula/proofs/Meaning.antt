@@ -14,7 +14,7 @@ use Rattle.group_formula.specs.declared.node.Node.TheVariants.{And, Or, AtLeast}
 use Rattle.group_formula.specs.declared.fault.FormulaFault.{FormulaFault}
 use Rattle.group_formula.specs.declared.fault.FormulaFault.TheVariants.{UnknownName, BadCount}
 use Rattle.group_formula.specs.Tokens.{is_node, tokens}
-use Rattle.group_formula.specs.Trees.{Tree, Trees, count, IsSound, AreSound, postfix, postfix_all, tree_of}
+use Rattle.group_formula.specs.Trees.{Tree, Trees, count, IsSoundTree, AreSound, postfix, postfix_all, tree_of}
 use Rattle.group_formula.specs.Trees.Tree.{leaf, both, either, at_least}
 use Rattle.group_formula.specs.Trees.Trees.{one_tree, more_trees}
 use Rattle.group_formula.specs.Grammar.{Expr, Term, Factor, Parts, spell, spell_term, spell_factor, spell_parts, shape, shape_term, shape_factor, shape_parts}
@@ -22,13 +22,13 @@ use Rattle.group_formula.specs.Grammar.Expr.{one_term, or_term}
 use Rattle.group_formula.specs.Grammar.Term.{one_factor, and_factor}
 use Rattle.group_formula.specs.Grammar.Factor.{named, grouped, counted}
 use Rattle.group_formula.specs.Grammar.Parts.{one_part, more_parts}
-use Rattle.group_formula.proofs.Writing.{tree_of-postfix}
+use Rattle.group_formula.proofs.WrittenTrees.{tree_of-postfix}
 use Rattle.group_formula.specs.Faults.{IsFine, bare}
 use Rattle.group_formula.specs.Parsing.{IsParsed}
 use Rattle.group_formula.specs.Formulas.{Reading, reading, name_at, resolved, all_resolved, or_else, bad_count, bad, some_bad}
 use Rattle.group_formula.specs.Resolving.{resolved_node, least}
-use Rattle.group_formula.proofs.Passing.{one_if}
-use Rattle.group_formula.proofs.Seconding.{Rises, rises, tells_expr}
+use Rattle.group_formula.proofs.FaultlessTokens.{one_if}
+use Rattle.group_formula.proofs.FirstNodeFault.{Rises, rises, tells_expr}
 
 -- the fault that stands first among the nodes
 pub least_is : (text : List ℕ) (names : List (List ℕ)) (nodes : List Node) (p : IsParsed text nodes) → least (reading text names) nodes ≡ bad (reading text names) (shape p.expr)
@@ -76,7 +76,7 @@ in_range c k f e = go (nat_le 1 c) (nat_le c k) refl refl e
 
 mutual
   -- where no name and no number is bad
-  pub sound : (r : Reading) (n : ℕ) → ((at p : ℕ) → r.party at ≡ Some p → p < n) → (t : Tree) → bad r t ≡ None → IsSound n (resolved r t)
+  pub sound : (r : Reading) (n : ℕ) → ((at p : ℕ) → r.party at ≡ Some p → p < n) → (t : Tree) → bad r t ≡ None → IsSoundTree n (resolved r t)
   sound r n h (leaf at) e = known (r.party at) (UnknownName at) n e (h at)
   sound r n h (both a b) e = let f = neither (bad r a) (bad r b) e in (sound r n h a f.0, sound r n h b f.1)
   sound r n h (either a b) e = let f = neither (bad r a) (bad r b) e in (sound r n h a f.0, sound r n h b f.1)
@@ -161,7 +161,7 @@ tree_is text names nodes new p e = ap tree_of (written text names nodes new p e)
 pub writes_back : (text : List ℕ) (names : List (List ℕ)) (nodes new : List Node) (p : IsParsed text nodes) → new ≡ map (resolved_node (reading text names)) nodes → postfix (tree_of new) ≡ new
 writes_back text names nodes new p e = ap postfix (tree_is text names nodes new p e) ∙ sym (written text names nodes new p e)
 
-pub is_sound : (text : List ℕ) (names : List (List ℕ)) (nodes new : List Node) (p : IsParsed text nodes) → new ≡ map (resolved_node (reading text names)) nodes → None ≡ least (reading text names) nodes → IsSound (length names) (tree_of new)
+pub is_sound : (text : List ℕ) (names : List (List ℕ)) (nodes new : List Node) (p : IsParsed text nodes) → new ≡ map (resolved_node (reading text names)) nodes → None ≡ least (reading text names) nodes → IsSoundTree (length names) (tree_of new)
 is_sound text names nodes new p e none =
-    subst (IsSound (length names)) (sym (tree_is text names nodes new p e))
+    subst (IsSoundTree (length names)) (sym (tree_is text names nodes new p e))
     (sound (reading text names) (length names) (parties_below text names) (shape p.expr) (sym (none ∙ least_is text names nodes p)))

@@ -10,10 +10,10 @@ use Rattle.group_formula.specs.declared.parser.Bracket.TheVariants as brackets
 use Rattle.group_formula.specs.declared.parser.Frame.{Frame}
 use Rattle.group_formula.specs.Trees.{count, postfix, postfix_all}
 use Rattle.group_formula.specs.Grammar.{Expr, Term, Parts, shape, shape_term, shape_parts}
-use Rattle.group_formula.specs.Machine.{Level, Pending, State}
+use Rattle.group_formula.specs.Machine.{Level, Pending, MachineState}
 use Rattle.group_formula.specs.Machine.Level.{level}
 use Rattle.group_formula.specs.Machine.Pending.{plain, listed}
-use Rattle.group_formula.specs.Machine.State.{want, want_of, want_open, have}
+use Rattle.group_formula.specs.Machine.MachineState.{want, want_of, want_open, have}
 
 -- what the parser expects next, what waits for a factor, the open parentheses, and the nodes so far
 pub record Kept : Type 0 where
@@ -73,7 +73,7 @@ frames_of [] = []
 frames_of (f ∷ fs) = frames_of fs ++ (frame_of f ∷ [])
 
 -- how a state is kept
-abbrev pub kept_of : State → Kept
+abbrev pub kept_of : MachineState → Kept
 kept_of (want (level ors ands) fs) = record { mode = modes.Want; or_waits = there ors; and_waits = there ands; frames = frames_of fs; out = nodes_all fs ++ (nodes_ors ors ++ nodes_ands ands) }
 kept_of (want_of n (level ors ands) fs) = record { mode = modes.WantOf n; or_waits = there ors; and_waits = there ands; frames = frames_of fs; out = nodes_all fs ++ (nodes_ors ors ++ nodes_ands ands) }
 kept_of (want_open n (level ors ands) fs) = record { mode = modes.WantOpen n; or_waits = there ors; and_waits = there ands; frames = frames_of fs; out = nodes_all fs ++ (nodes_ors ors ++ nodes_ands ands) }
@@ -111,11 +111,11 @@ Separates old false new = (old.frames ≡ []) ⊎ ((rest : List Frame) × (f : F
 Separates old true new = (rest : List Frame) × (f : Frame) × (n : ℕ) × (parts : ℕ) × (old.frames ≡ rest ++ (f ∷ [])) × (f.bracket ≡ brackets.List n parts) × (new ≡ separated old rest f n parts)
 
 -- some state is kept
-abbrev pub Keeps : Kept → Type 0
-Keeps c = (s : State) × (c ≡ kept_of s)
+abbrev pub IsKept : Kept → Type 0
+IsKept c = (s : MachineState) × (c ≡ kept_of s)
 
 -- what the parser answers where a step gives this
-abbrev pub Advances : Option State → Result Bool AllocError → Kept → Type 0
+abbrev pub Advances : Option MachineState → Result Bool AllocError → Kept → Type 0
 Advances next (Err e) new = Unit {0}
 Advances (Some next) (Ok true) new = new ≡ kept_of next
 Advances (Some next) (Ok false) new = ⊥

@@ -18,11 +18,11 @@ pub data Pending : Type 0 where
   listed : ℕ → Level → Option Parts → Pending
 
 -- what was read: a factor is wanted, or `of` or `(` after a number, or a term is there
-pub data State : Type 0 where
-  want : Level → List Pending → State
-  want_of : ℕ → Level → List Pending → State
-  want_open : ℕ → Level → List Pending → State
-  have : Option Expr → Term → List Pending → State
+pub data MachineState : Type 0 where
+  want : Level → List Pending → MachineState
+  want_of : ℕ → Level → List Pending → MachineState
+  want_open : ℕ → Level → List Pending → MachineState
+  have : Option Expr → Term → List Pending → MachineState
 
 -- the term, with one more factor
 abbrev pub join_term : Option Term → Factor → Term
@@ -40,17 +40,17 @@ join_parts None e = one_part e
 join_parts (Some ps) e = more_parts ps e
 
 -- a factor comes
-abbrev pub take_factor : Level → Factor → List Pending → State
+abbrev pub take_factor : Level → Factor → List Pending → MachineState
 take_factor (level ors ands) f fs = have ors (join_term ands f) fs
 
 -- a closing parenthesis after an expression
-abbrev pub close : Expr → List Pending → Option State
+abbrev pub close : Expr → List Pending → Option MachineState
 close e [] = None
 close e (plain l ∷ fs) = Some (take_factor l (grouped e) fs)
 close e (listed n l done ∷ fs) = Some (take_factor l (counted n (join_parts done e)) fs)
 
 -- a comma after an expression
-abbrev pub separate : Expr → List Pending → Option State
+abbrev pub separate : Expr → List Pending → Option MachineState
 separate e [] = None
 separate e (plain l ∷ fs) = None
 separate e (listed n l done ∷ fs) = Some (want (level None None) (listed n l (Some (join_parts done e)) ∷ fs))
@@ -60,7 +60,7 @@ abbrev pub empty : Level
 empty = level None None
 
 -- the state after one more token, None where no formula goes on with it
-abbrev pub step : State → Token → Option State
+abbrev pub step : MachineState → Token → Option MachineState
 step (want l fs) (Name p) = Some (take_factor l (named p) fs)
 step (want l fs) (Number n) = Some (want_of n l fs)
 step (want l fs) Open = Some (want empty (plain l ∷ fs))
@@ -73,5 +73,5 @@ step (have ors t fs) Comma = separate (join_expr ors t) fs
 step _ _ = None
 
 -- the state before the first token
-abbrev pub start : State
+abbrev pub start : MachineState
 start = want (level None None) []

@@ -35,15 +35,15 @@ abbrev mutual
 
 -- each leaf is one of n parties, and each count is at least 1 and at most the number of its parts
 abbrev mutual
-  pub IsSound : ℕ → Tree → Type 0
-  IsSound n (leaf p) = p < n
-  IsSound n (both a b) = IsSound n a × IsSound n b
-  IsSound n (either a b) = IsSound n a × IsSound n b
-  IsSound n (at_least c ts) = (1 ≤ c) × (c ≤ count ts) × AreSound n ts
+  pub IsSoundTree : ℕ → Tree → Type 0
+  IsSoundTree n (leaf p) = p < n
+  IsSoundTree n (both a b) = IsSoundTree n a × IsSoundTree n b
+  IsSoundTree n (either a b) = IsSoundTree n a × IsSoundTree n b
+  IsSoundTree n (at_least c ts) = (1 ≤ c) × (c ≤ count ts) × AreSound n ts
 
   pub AreSound : ℕ → Trees → Type 0
-  AreSound n (one_tree t) = IsSound n t
-  AreSound n (more_trees ts t) = AreSound n ts × IsSound n t
+  AreSound n (one_tree t) = IsSoundTree n t
+  AreSound n (more_trees ts t) = AreSound n ts × IsSoundTree n t
 
 -- the nodes of a tree, each after its operands
 abbrev mutual
@@ -63,17 +63,17 @@ last [] = leaf 0
 last (t ∷ ts) = t
 
 -- trees of which the last one stands first
-abbrev pub joined : List Tree → Trees
-joined [] = one_tree (leaf 0)
-joined (t ∷ []) = one_tree t
-joined (t ∷ u ∷ ts) = more_trees (joined (u ∷ ts)) t
+abbrev pub joined_trees : List Tree → Trees
+joined_trees [] = one_tree (leaf 0)
+joined_trees (t ∷ []) = one_tree t
+joined_trees (t ∷ u ∷ ts) = more_trees (joined_trees (u ∷ ts)) t
 
 -- what a node makes of the trees before it, the last one first
 abbrev pub after_node : Node → List Tree → List Tree
 after_node (Name p) s = leaf p ∷ s
 after_node And s = both (last (drop 1 s)) (last s) ∷ drop 2 s
 after_node Or s = either (last (drop 1 s)) (last s) ∷ drop 2 s
-after_node (AtLeast n k) s = at_least n (joined (take k s)) ∷ drop k s
+after_node (AtLeast n k) s = at_least n (joined_trees (take k s)) ∷ drop k s
 
 -- what the nodes make of the trees before them
 unfoldable pub after_nodes : List Node → List Tree → List Tree
@@ -85,12 +85,12 @@ unfoldable pub tree_of : List Node → Tree
 tree_of ns = last (after_nodes ns [])
 
 -- the nodes write a formula over so many parties, with at most 256 nodes
-pub record Writes (parties : ℕ) (nodes : List Node) : Type 0 where
+pub record WritesFormula (parties : ℕ) (nodes : List Node) : Type 0 where
   pub some : 1 ≤ parties
   pub few : parties ≤ 12
   pub small : length nodes ≤ 256
   pub written : postfix (tree_of nodes) ≡ nodes
-  pub sound : IsSound parties (tree_of nodes)
+  pub sound : IsSoundTree parties (tree_of nodes)
 
 -- a formula over so many parties, by its nodes
 pub record Meaning : Type 0 where

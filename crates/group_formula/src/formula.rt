@@ -1,7 +1,7 @@
 //! Formulas as families of tolerated groups.
 ghost use Rattle.std.specs.Prelude.{◌≡◌, ◌-◌, ◌^◌, ◌≤◌, true};
 ghost use Rattle.party_set.specs.Parties.{has_party};
-ghost use Rattle.group_formula.specs.Trees.{value, tree_of, is_tolerated, IsSound, Meaning, Writes};
+ghost use Rattle.group_formula.specs.Trees.{value, tree_of, is_tolerated, IsSoundTree, Meaning, WritesFormula};
 
 use crate::node::Node;
 use crate::values::evaluate;
@@ -18,19 +18,19 @@ pub struct Formula {
 }
 
 impl Model for Formula {
-    ghost use Rattle.group_formula.specs.Trees.{Meaning, Writes};
+    ghost use Rattle.group_formula.specs.Trees.{Meaning, WritesFormula};
 
     ghost Value = { Meaning };
 
     ghost view = { λ f. record { parties = f.parties; nodes = f.nodes.items } };
 
-    ghost invariant = { λ f. Writes f.parties f.nodes.items };
+    ghost invariant = { λ f. WritesFormula f.parties f.nodes.items };
 }
 
 impl Formula {
     /// The formula whose nodes stand in postfix order.
     pub(crate) fn of(parties: u32, nodes: Vec<Node>) -> Formula
-        requires { Writes parties nodes.items }
+        requires { WritesFormula parties nodes.items }
         ensures { result ≡ record { parties = parties; nodes = nodes.items } }
     {
         Formula { parties, nodes }
@@ -70,6 +70,6 @@ impl Family for Formula {
 
 /// A formula is true where every name is, since it has no negation: the group of all parties is never tolerated.
 pub fn all_parties_are_qualified()
-    ensures { (f : Meaning) → IsSound f.parties (tree_of f.nodes)
+    ensures { (f : Meaning) → IsSoundTree f.parties (tree_of f.nodes)
         → value (has_party (2 ^ f.parties - 1)) (tree_of f.nodes) ≡ true }
 {}

@@ -1,7 +1,7 @@
 //! A parser that keeps open parentheses in a list of its own, so that their number costs no stack.
 ghost use Rattle.std.specs.Prelude.{◌≡◌, ◌++◌, ◌∷◌, [], IfOk, OnOk, length, ◌↔◌, true, false, IsTrue};
-ghost use Rattle.group_formula.specs.Machine.{State, step, start};
-ghost use Rattle.group_formula.specs.Kept.{Kept, Advances, Keeps, Closes, Separates, kept_of, with_factor, joined_out};
+ghost use Rattle.group_formula.specs.Machine.{MachineState, step, start};
+ghost use Rattle.group_formula.specs.Kept.{Kept, Advances, IsKept, Closes, Separates, kept_of, with_factor, joined_out};
 
 use crate::node::Node;
 use crate::token::Token;
@@ -154,7 +154,7 @@ impl Parser {
 
     /// A `)` was read. False says that none was open.
     fn close(&mut self) -> Result<bool, AllocError>
-        requires { Keeps self.old }
+        requires { IsKept self.old }
         ensures { IfOk result (λ done. Closes self.old done self.new) }
     {
         self.join()?;
@@ -173,7 +173,7 @@ impl Parser {
 
     /// A comma was read. False says that no list was open.
     fn separate(&mut self) -> Result<bool, AllocError>
-        requires { Keeps self.old }
+        requires { IsKept self.old }
         ensures { IfOk result (λ done. Separates self.old done self.new) }
     {
         self.join()?;
@@ -198,8 +198,8 @@ impl Parser {
 
     /// Reads one token. False says that no formula goes on with it.
     pub fn advance(&mut self, token: Token) -> Result<bool, AllocError>
-        requires { Keeps self.old }
-        ensures { (s : State) → self.old ≡ kept_of s → Advances (step s token) result self.new }
+        requires { IsKept self.old }
+        ensures { (s : MachineState) → self.old ≡ kept_of s → Advances (step s token) result self.new }
     {
         match self.mode {
             Mode::Want => match token {

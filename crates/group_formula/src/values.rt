@@ -88,7 +88,7 @@ impl Values {
 }
 
 /// Whether the party is a member of the group of this mask.
-#[tactic(auto, using(crate::proofs::Valuing::has_bit, crate::proofs::Valuing::has_none))]
+#[tactic(auto, using(crate::proofs::NodeValues::has_bit, crate::proofs::NodeValues::has_none))]
 fn has(mask: u32, party: usize) -> bool
     ensures { result ≡ has_party mask party }
 {

@@ -2,5 +2,5 @@ pub mod Lists
 pub mod Hosts
 pub mod Readers
 pub mod Ports
-pub mod Growing
+pub mod GrownLists
 pub mod Rows

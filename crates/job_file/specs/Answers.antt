@@ -4,8 +4,8 @@ use Rattle.job_file.specs.declared.fault.JobFault.{JobFault}
 use Rattle.job_file.specs.declared.fault.JobFault.TheVariants.{Memory}
 
 -- the check told this fault, or let pass where there is none
-abbrev pub Tells : {A : Type 0} → Result A JobFault → Option JobFault → Type 0
-Tells result wanted = MatchResult result (λ _. wanted ≡ None) (λ fault. wanted ≡ Some fault)
+abbrev pub TellsFault : {A : Type 0} → Result A JobFault → Option JobFault → Type 0
+TellsFault result wanted = MatchResult result (λ _. wanted ≡ None) (λ fault. wanted ≡ Some fault)
 
 -- the same, or out of memory
 abbrev pub TellsOrMemory : {A : Type 0} → Result A JobFault → Option JobFault → Type 0

@@ -4,7 +4,7 @@ ghost use Rattle.toml.specs.View.{table_view};
 ghost use Rattle.job_file.specs.Names.{top_fields, session_fields};
 ghost use Rattle.job_file.specs.Forms.{is_listed, adversary_field};
 ghost use Rattle.job_file.specs.Faults.{◌answers◌, is_there, is_of_other_kind, required_fault, optional_fault, node_fault, unknown_fault};
-ghost use Rattle.job_file.specs.Answers.{Tells, TellsOrMemory};
+ghost use Rattle.job_file.specs.Answers.{TellsFault, TellsOrMemory};
 ghost use Rattle.job_file.specs.declared.fault.JobFault.TheVariants.{Unknown};
 
 use crate::fault::JobFault;
@@ -16,7 +16,7 @@ use toml_fields::{has_field, integer_at, is_misfit, least_unknown};
 
 /// The fault, where the test failed.
 pub fn check(failed: bool, fault: JobFault) -> Result<(), JobFault>
-    ensures { Tells result (failed answers fault) }
+    ensures { TellsFault result (failed answers fault) }
 {
     if failed { Err(fault) } else { Ok(()) }
 }
@@ -36,7 +36,7 @@ fn is_of_other_kind(table: &Table, field: Field) -> bool
 /// Checks a field that must be there.
 #[tactic(auto, unfolding(crate::specs::Faults::required_fault))]
 pub fn check_required(table: &Table, session: Option<u32>, field: Field) -> Result<(), JobFault>
-    ensures { Tells result (required_fault session field (table_view table.now)) }
+    ensures { TellsFault result (required_fault session field (table_view table.now)) }
 {
     check(
         !is_there(table, field),
@@ -51,7 +51,7 @@ pub fn check_required(table: &Table, session: Option<u32>, field: Field) -> Resu
 /// Checks a field of the top table that may be missing.
 #[tactic(auto, unfolding(crate::specs::Faults::optional_fault))]
 fn check_optional(table: &Table, field: Field) -> Result<(), JobFault>
-    ensures { Tells result (optional_fault field (table_view table.now)) }
+    ensures { TellsFault result (optional_fault field (table_view table.now)) }
 {
     check(
         is_of_other_kind(table, field),
@@ -64,7 +64,7 @@ fn check_optional(table: &Table, field: Field) -> Result<(), JobFault>
 
 /// Checks a field of the top table that may be missing, unless the job is read for a node.
 pub fn check_for_node(table: &Table, node: bool, field: Field) -> Result<(), JobFault>
-    ensures { Tells result (node_fault node field (table_view table.now)) }
+    ensures { TellsFault result (node_fault node field (table_view table.now)) }
 {
     if node {
         check_required(table, None, field)

@@ -7,7 +7,7 @@ mod field;
 mod job;
 mod keys;
 mod parties;
-mod reading;
+mod document;
 mod session;
 mod texts;
 mod top;
@@ -16,7 +16,7 @@ mod values;
 pub use fault::JobFault;
 pub use field::Field;
 pub use job::{Adversary, CircuitLayout, Job, JobSession};
-pub use reading::read_job;
+pub use document::read_job;
 
 #[cfg(test)]
 mod tests;

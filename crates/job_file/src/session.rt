@@ -6,7 +6,7 @@ ghost use Rattle.toml.specs.Data.{as_table};
 ghost use Rattle.std.specs.Str.{bytes_eq};
 ghost use Rattle.toml.specs.View.{view, table_view};
 ghost use Rattle.toml_fields.specs.Fields.{text_of, texts_of, fields_of};
-ghost use Rattle.job_file.specs.Answers.{Tells, TellsOrMemory};
+ghost use Rattle.job_file.specs.Answers.{TellsFault, TellsOrMemory};
 ghost use Rattle.job_file.specs.Faults.{session_fields_fault, session_values_fault, sessions_fault, bad_in_lists, is_no_party};
 ghost use Rattle.job_file.specs.declared.fault.JobFault.TheVariants.{BadOwner, BadReader};
 
@@ -45,7 +45,7 @@ fn check_values(table: &Table, session: u32, names: &Names) -> Result<(), JobFau
 }
 
 fn check_owners(owners: &[Value], session: u32, names: &Names) -> Result<(), JobFault>
-    ensures { Tells result (option_map (λ at. BadOwner session at) (position (is_no_party names.now) (map text_of (map view owners.now)))) }
+    ensures { TellsFault result (option_map (λ at. BadOwner session at) (position (is_no_party names.now) (map text_of (map view owners.now)))) }
 {
     match first_stranger(owners, names) {
         Some(at) => Err(JobFault::BadOwner {

@@ -3,7 +3,7 @@ ghost use Rattle.std.specs.Prelude.{◌≡◌, ◌≢◌, ◌≤◌, ◌==◌, O
 ghost use Rattle.std.specs.Option.{option_map};
 ghost use Rattle.toml.specs.View.{view, table_view};
 ghost use Rattle.toml_fields.specs.Fields.{text_of, texts_of};
-ghost use Rattle.job_file.specs.Answers.{Tells, TellsOrMemory};
+ghost use Rattle.job_file.specs.Answers.{TellsFault, TellsOrMemory};
 ghost use Rattle.job_file.specs.Names.{is_host};
 ghost use Rattle.job_file.specs.Forms.{texts};
 ghost use Rattle.job_file.specs.Faults.{version_fault, fields_fault, ring_fault, parties_fault, groups_fault, adversary_fault, count_fault, hosts_fault, port_fault, is_there, ◌answers◌};
@@ -25,7 +25,7 @@ const MOST_TOLERATED: usize = 4096;
 
 #[tactic(auto, unfolding(crate::specs::Faults::version_fault))]
 pub fn check_version(table: &Table) -> Result<(), JobFault>
-    ensures { Tells result (version_fault (table_view table.now)) }
+    ensures { TellsFault result (version_fault (table_view table.now)) }
 {
     check_required(table, None, Field::Version)?;
     let found = integer_at(table, Field::Version.text());
@@ -34,7 +34,7 @@ pub fn check_version(table: &Table) -> Result<(), JobFault>
 
 #[tactic(auto, unfolding(crate::specs::Faults::fields_fault))]
 pub fn check_fields(table: &Table, node: bool) -> Result<(), JobFault>
-    ensures { Tells result (fields_fault node (table_view table.now)) }
+    ensures { TellsFault result (fields_fault node (table_view table.now)) }
 {
     check_required(table, None, Field::RingBits)?;
     check_required(table, None, Field::Parties)?;
@@ -46,7 +46,7 @@ pub fn check_fields(table: &Table, node: bool) -> Result<(), JobFault>
 
 #[tactic(auto, unfolding(crate::specs::Faults::ring_fault))]
 pub fn check_ring(table: &Table) -> Result<(), JobFault>
-    ensures { Tells result (ring_fault (table_view table.now)) }
+    ensures { TellsFault result (ring_fault (table_view table.now)) }
 {
     let bits = integer_at(table, Field::RingBits.text());
     check(bits < 1 || bits > 32, JobFault::BadRing { bits })
@@ -78,7 +78,7 @@ fn of_names(fault: NamesFault) -> JobFault
 /// Checks the tolerated groups, if the file lists them.
 pub fn check_adversary(table: &Table, names: &Names) -> Result<(), JobFault>
     requires { names.now ≡ texts Parties (table_view table.now) }
-    ensures { Tells result (adversary_fault (table_view table.now)) }
+    ensures { TellsFault result (adversary_fault (table_view table.now)) }
 {
     if is_listed(table) {
         check_tolerated(items_at(table, Field::Tolerated.text()), names)
@@ -89,7 +89,7 @@ pub fn check_adversary(table: &Table, names: &Names) -> Result<(), JobFault>
 
 #[tactic(auto, unfolding(crate::specs::Faults::groups_fault))]
 fn check_tolerated(groups: &[Value], names: &Names) -> Result<(), JobFault>
-    ensures { Tells result (groups_fault names.now (map texts_of (map view groups.now))) }
+    ensures { TellsFault result (groups_fault names.now (map texts_of (map view groups.now))) }
 {
     if groups.len() > MOST_TOLERATED {
         return Err(JobFault::TooManyTolerated {
@@ -108,7 +108,7 @@ fn check_tolerated(groups: &[Value], names: &Names) -> Result<(), JobFault>
 /// Checks that there are 1 to 16 sessions.
 #[tactic(auto, unfolding(crate::specs::Faults::count_fault))]
 pub fn check_count(count: usize) -> Result<(), JobFault>
-    ensures told { Tells result (count_fault count) }
+    ensures told { TellsFault result (count_fault count) }
     ensures some { OnOk result (1 ≤ count) }
     ensures few { OnOk result (count ≤ 16) }
 {
@@ -123,7 +123,7 @@ pub fn check_count(count: usize) -> Result<(), JobFault>
 /// Checks that there is a host for each party, if there are hosts.
 pub fn check_hosts(table: &Table, parties: u32) -> Result<(), JobFault>
     requires { parties ≡ length (texts Parties (table_view table.now)) }
-    ensures { Tells result (hosts_fault (table_view table.now)) }
+    ensures { TellsFault result (hosts_fault (table_view table.now)) }
 {
     let hosts = items_at(table, Field::Hosts.text());
     check_host_count(table, hosts.len(), parties as usize)?;
@@ -131,7 +131,7 @@ pub fn check_hosts(table: &Table, parties: u32) -> Result<(), JobFault>
 }
 
 fn check_host_count(table: &Table, hosts: usize, parties: usize) -> Result<(), JobFault>
-    ensures { Tells result ((is_there Hosts (table_view table.now) && not (hosts == parties)) answers BadHost (min hosts parties)) }
+    ensures { TellsFault result ((is_there Hosts (table_view table.now) && not (hosts == parties)) answers BadHost (min hosts parties)) }
 {
     check(
         is_there(table, Field::Hosts) && hosts != parties,
@@ -142,7 +142,7 @@ fn check_host_count(table: &Table, hosts: usize, parties: usize) -> Result<(), J
 }
 
 fn check_host_texts(hosts: &[Value]) -> Result<(), JobFault>
-    ensures { Tells result (option_map (λ at. BadHost at) (position (λ host. not (is_host (text_of (view host)))) hosts.now)) }
+    ensures { TellsFault result (option_map (λ at. BadHost at) (position (λ host. not (is_host (text_of (view host)))) hosts.now)) }
 {
     match bad_host(hosts) {
         Some(at) => Err(JobFault::BadHost { at: at as u64 }),
@@ -158,7 +158,7 @@ fn bad_host(hosts: &[Value]) -> Option<usize>
 
 #[tactic(auto, unfolding(crate::specs::Faults::port_fault))]
 pub fn check_port(table: &Table) -> Result<(), JobFault>
-    ensures { Tells result (port_fault (table_view table.now)) }
+    ensures { TellsFault result (port_fault (table_view table.now)) }
 {
     let port = integer_at(table, Field::Port.text());
     check(

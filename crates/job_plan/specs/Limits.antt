@@ -7,7 +7,7 @@ use Rattle.plan_faults.specs.declared.plan_fault.PlanFault.{PlanFault}
 use Rattle.plan_faults.specs.declared.plan_fault.PlanFault.TheVariants.{TooManyMessages, TooManyWords, Memory}
 
 -- at most 1,048,576 messages, and as many tape words of each party, in all sessions
-pub record IsWithin (plan : Plan) : Type 0 where
+pub record IsPlanWithin (plan : Plan) : Type 0 where
   pub messages : length (messages plan) ≤ 1048576
   pub words : (p : ℕ) → p < plan.parties → tape_length plan p ≤ 1048576
 
@@ -19,7 +19,7 @@ pub record IsFirstOverdrawn (plan : Plan) (party count : ℕ) : Type 0 where
   pub first : (p : ℕ) → p < party → tape_length plan p ≤ 1048576
 
 -- when each refusal comes: too many messages, or else too many words, or else out of memory
-abbrev pub IsRefusal : Plan → PlanFault → Type 0
-IsRefusal plan (TooManyMessages count) = (count ≡ length (messages plan)) × (1048576 < count)
-IsRefusal plan (TooManyWords party count) = (length (messages plan) ≤ 1048576) × IsFirstOverdrawn plan party count
-IsRefusal plan Memory = IsWithin plan
+abbrev pub IsPlanRefusal : Plan → PlanFault → Type 0
+IsPlanRefusal plan (TooManyMessages count) = (count ≡ length (messages plan)) × (1048576 < count)
+IsPlanRefusal plan (TooManyWords party count) = (length (messages plan) ≤ 1048576) × IsFirstOverdrawn plan party count
+IsPlanRefusal plan Memory = IsPlanWithin plan

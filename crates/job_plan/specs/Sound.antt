@@ -6,8 +6,8 @@ use Rattle.job_plan.specs.declared.key.Key.{Key}
 use Rattle.job_plan.specs.Messages.{messages}
 use Rattle.job_plan.specs.Plans.Slot.{Input, At_gate, Output}
 use Rattle.job_plan.specs.Firsts.{starts_of, deal_starts_of}
-use Rattle.job_plan.specs.declared.place.Place.{Place}
-use Rattle.job_plan.specs.declared.place.Place.TheVariants.{Input as PlaceInput, Gate as PlaceGate, Output as PlaceOutput}
+use Rattle.job_plan.specs.declared.slot_kind.SlotKind.{SlotKind}
+use Rattle.job_plan.specs.declared.slot_kind.SlotKind.TheVariants.{Input as InputKind, Gate as GateKind, Output as OutputKind}
 
 -- the wires of each gate are wires, owners and readers are parties, and all is within the limits
 pub record IsSoundSession (parties : ℕ) (s : Session) : Type 0 where
@@ -54,10 +54,10 @@ pub record IsLaid (plan : Plan) (list : List Key) (starts deals : List (List ℕ
   pub begin : starts ≡ starts_of plan
   pub dealt : deals ≡ deal_starts_of plan
 
-abbrev pub slot_of_place : Place → Slot
-slot_of_place (PlaceInput v) = Input v
-slot_of_place (PlaceGate t) = At_gate t
-slot_of_place (PlaceOutput o) = Output o
+abbrev pub slot_of_kind : SlotKind → Slot
+slot_of_kind (InputKind v) = Input v
+slot_of_kind (GateKind t) = At_gate t
+slot_of_kind (OutputKind o) = Output o
 
 -- the wire, gate or output that a slot names is there
 abbrev pub Inside : Session → Slot → Type 0

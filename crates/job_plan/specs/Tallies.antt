@@ -20,14 +20,14 @@ abbrev pub owned : Session → ℕ → ℕ
 owned s p = count_by (λ owner. nat_eq owner p) (owners s)
 
 -- how many output wires r reads
-abbrev pub read_by : Session → ℕ → ℕ
-read_by s r = count_by (λ mask. has_party mask r) (readers s)
+abbrev pub outputs_read : Session → ℕ → ℕ
+outputs_read s r = count_by (λ mask. has_party mask r) (readers s)
 
 -- how many messages p deals, and how many are opened to it, in all sessions
 abbrev pub party_messages : Plan → ℕ → ℕ
 party_messages plan p =
     length (deal_messages plan 0 0 p) * total (length plan.sessions) (deals plan p)
-    + length (open_messages plan 0 0 p) * total (length plan.sessions) (λ s. read_by (session plan s) p)
+    + length (open_messages plan 0 0 p) * total (length plan.sessions) (λ s. outputs_read (session plan s) p)
 
 -- how many tape words p draws in all sessions
 abbrev pub tape_length : Plan → ℕ → ℕ

@@ -4,7 +4,7 @@ ghost use Rattle.mpc_ring.specs.Sums.{total, joined};
 ghost use Rattle.job_plan.specs.Plans.{holds, session};
 ghost use Rattle.job_plan.specs.Messages.{deal_message, deal_messages, open_messages, messages};
 ghost use Rattle.job_plan.specs.Numbers.{deals};
-ghost use Rattle.job_plan.specs.Tallies.{party_messages, read_by, tape_length};
+ghost use Rattle.job_plan.specs.Tallies.{party_messages, outputs_read, tape_length};
 
 use crate::outline::Outline;
 
@@ -87,12 +87,12 @@ fn all_deals(outline: &Outline, p: u32) -> u64
 // How many output wires r reads in all sessions.
 fn all_reads(outline: &Outline, r: u32) -> u64
     requires { r < outline.now.parties }
-    ensures is { result ≡ total (length outline.now.sessions) (λ s. read_by (session outline.now s) r) }
+    ensures is { result ≡ total (length outline.now.sessions) (λ s. outputs_read (session outline.now s) r) }
     ensures few { result ≤ 2097152 }
 {
     let mut count = 0;
     for s in 0..outline.sessions() {
-        count += outline.part(s).read_by(r) as u64;
+        count += outline.part(s).outputs_read(r) as u64;
     }
     count
 }

@@ -1,16 +1,16 @@
 //! Plans, with the tables that number their messages.
 ghost use Rattle.std.specs.Prelude.{◌≡◌, ◌≤◌, MatchResult, length};
 ghost use Rattle.job_plan.specs.Messages.{messages};
-ghost use Rattle.job_plan.specs.Limits.{IsWithin, IsRefusal};
+ghost use Rattle.job_plan.specs.Limits.{IsPlanWithin, IsPlanRefusal};
 
 use crate::counts::{message_count, word_count};
 use crate::key::{Key, PackedKey};
 use crate::keys::Keys;
-use crate::laying::{list_deals, list_messages};
+use crate::lists::{list_deals, list_messages};
 use crate::outline::Outline;
-use crate::place::Place;
 use crate::ranks::search;
 use crate::session_part::SessionPart;
+use crate::slot_kind::SlotKind;
 use crate::starts::Starts;
 use mpc_ring::Ring;
 use plan_faults::PlanFault;
@@ -30,10 +30,10 @@ pub struct Plan {
 }
 
 impl Model for Plan {
-    ghost use Rattle.job_plan.specs.Plans.{Plan as Described};
+    ghost use Rattle.job_plan.specs.Plans as plans;
     ghost use Rattle.job_plan.specs.Sound.{IsLaid};
 
-    ghost Value = { Described };
+    ghost Value = { plans.Plan };
 
     ghost view = { λ p. p.outline };
 
@@ -50,7 +50,7 @@ impl Plan {
     ghost use Rattle.job_plan.specs.Numbers.{message, number, opens, deals, deals_before, deal_place};
     ghost use Rattle.job_plan.specs.Sound.{IsSound, IsSoundSession};
     ghost use Rattle.job_plan.specs.Firsts.{first};
-    ghost use Rattle.job_plan.specs.Limits.{IsWithin, IsRefusal};
+    ghost use Rattle.job_plan.specs.Limits.{IsPlanWithin, IsPlanRefusal};
 
     /// The plan of these sessions. It is refused where it has more than 1,048,576 messages, or a party would draw
     /// more tape words than that. Both are counted before any table is made.
@@ -65,8 +65,8 @@ impl Plan {
         requires few { length parts.items ≤ 16 }
         requires sound { All (IsSoundSession layout.parties) parts.items }
         ensures made { IfOk result (λ plan. plan ≡ plan_of ring layout parts.items) }
-        ensures within { OnOk result (IsWithin (plan_of ring layout parts.items)) }
-        ensures refusal { IfErr result (IsRefusal (plan_of ring layout parts.items)) }
+        ensures within { OnOk result (IsPlanWithin (plan_of ring layout parts.items)) }
+        ensures refusal { IfErr result (IsPlanRefusal (plan_of ring layout parts.items)) }
     {
         let outline = Outline::of(ring, layout, duty, parts);
         let count = message_count(&outline);
@@ -196,7 +196,7 @@ impl Plan {
         requires slot { k < slots (session self.now s) }
         ensures { result ≡ opens (slot (session self.now s) k) }
     {
-        matches!(self.outline.part(s).place(k), Place::Output(_))
+        matches!(self.outline.part(s).slot_kind(k), SlotKind::Output(_))
     }
 
     /// How many slots session `s` has.
@@ -254,7 +254,7 @@ const LIMIT: u64 = 1_048_576;
 
 fn check_words(outline: &Outline) -> Result<(), PlanFault>
     requires { length (messages outline.now) ≤ 1048576 }
-    ensures { MatchResult result (λ _. IsWithin outline.now) (IsRefusal outline.now) }
+    ensures { MatchResult result (λ _. IsPlanWithin outline.now) (IsPlanRefusal outline.now) }
 {
     for party in 0..outline.parties() {
         let words = word_count(outline, party);

@@ -4,7 +4,7 @@ ghost use Rattle.job_plan.specs.Parts.{input_values, output_values, AreWithin};
 ghost use Rattle.job_plan.specs.Plans.{owners_of, readers_of};
 ghost use Rattle.job_plan.specs.Tallies.{products_of};
 
-use crate::place::Place;
+use crate::slot_kind::SlotKind;
 use crate::values::{InputValue, OutputValue};
 use circuit_model::{Circuit, Gate};
 use party_set::Group;
@@ -42,8 +42,8 @@ impl SessionPart {
     ghost use Rattle.circuit_model.specs.Netlists.{IsCircuit};
     ghost use Rattle.job_plan.specs.Parts.{Makes, AreOf, AreWithin};
     ghost use Rattle.job_plan.specs.Plans.{gate, slot, slots, owners, readers};
-    ghost use Rattle.job_plan.specs.Tallies.{products, owned, read_by};
-    ghost use Rattle.job_plan.specs.Sound.{slot_of_place, Inside, IsSoundSession};
+    ghost use Rattle.job_plan.specs.Tallies.{products, owned, outputs_read};
+    ghost use Rattle.job_plan.specs.Sound.{slot_of_kind, Inside, IsSoundSession};
 
     /// The session of these gates over so many wires, with these values.
     pub fn of(
@@ -160,9 +160,9 @@ impl SessionPart {
     }
 
     /// How many output wires party `r` reads.
-    pub fn read_by(&self, r: u32) -> usize
+    pub fn outputs_read(&self, r: u32) -> usize
         requires { r < 12 }
-        ensures { result ≡ read_by self.now r }
+        ensures { result ≡ outputs_read self.now r }
     {
         self.readers
             .iter()
@@ -209,20 +209,20 @@ impl SessionPart {
     }
 
     /// What slot `k` is of.
-    pub fn place(&self, k: u32) -> Place
+    pub fn slot_kind(&self, k: u32) -> SlotKind
         requires sound { (parties : ℕ) × IsSoundSession parties self.now }
         requires within { k < slots self.now }
-        ensures is { slot_of_place result ≡ slot self.now k }
-        ensures inside { Inside self.now (slot_of_place result) }
+        ensures is { slot_of_kind result ≡ slot self.now k }
+        ensures inside { Inside self.now (slot_of_kind result) }
     {
         let inputs = self.owners.len() as u32;
         let gates = self.gates.len() as u32;
         if k < inputs {
-            Place::Input(k)
+            SlotKind::Input(k)
         } else if k < inputs + gates {
-            Place::Gate(k - inputs)
+            SlotKind::Gate(k - inputs)
         } else {
-            Place::Output(k - inputs - gates)
+            SlotKind::Output(k - inputs - gates)
         }
     }
 }

@@ -10,13 +10,13 @@ use Rattle.std.proofs.lemmas.List.Elements.{All-from_recursion, All-map, recursi
 use Rattle.std.proofs.Math.ListN.{get_or-append}
 use Rattle.std.proofs.Math.Nat.{mul-le-mul_left}
 use Rattle.mpc_ring.specs.Sums.{joined, listed}
-use Rattle.mpc_ring.proofs.Laying.{joined_eq, length-listed, listed_at, every_joined}
+use Rattle.mpc_ring.proofs.JoinedLists.{joined_eq, length-listed, listed_at, every_joined}
 use Rattle.job_plan.specs.Plans.{Plan}
 use Rattle.job_plan.specs.InputWords.{AreInputs, given}
 use Rattle.party_file.specs.Table.{PartyForm}
-use Rattle.party_file.specs.Forms.{Fits, form_of}
+use Rattle.party_file.specs.Forms.{FitsPlan, form_of}
 use Rattle.party_file.specs.declared.data.PartyData.{PartyData}
-use Rattle.desk_laws.specs.Opening.{ArePieces, piece_at, world_of as world_opened}
+use Rattle.desk_laws.specs.Opening.{ArePieces, piece_at, world_of_pieces}
 use Rattle.job_run.specs.Parties.{AllFit, world_of}
 use Rattle.job_run.specs.Pieces.{pieces_in}
 
@@ -82,9 +82,9 @@ module _ (plan : Plan) (parties : List PartyData) (count : length parties ≡ pl
   many_inputs : length inputs ≡ plan.parties
   many_inputs = length-map forms (λ party. party.inputs) ∙ many_forms
 
-  fits : (p : ℕ) → p < plan.parties → Fits plan p (form p)
+  fits : (p : ℕ) → p < plan.parties → FitsPlan plan p (form p)
   fits p l = elim ((slice_get_cases parties p).1) [
-    | inl q ↦ subst (Fits plan p) (sym (get_or-map form_of parties p q.0 no_form q.1 ∙ ap form_of q.3)) (fit p q.0 q.2)
+    | inl q ↦ subst (FitsPlan plan p) (sym (get_or-map form_of parties p q.0 no_form q.1 ∙ ap form_of q.3)) (fit p q.0 q.2)
     | inr q ↦ absurd (omega (arith, q.0, count, l))
   ]
 
@@ -153,5 +153,5 @@ module _ (plan : Plan) (parties : List PartyData) (count : length parties ≡ pl
       ∙ tape_is p lp
       ∙ sym (get_or-map (λ (party : PartyForm). concat party.tapes) forms p no_form [] (omega (arith, many_forms, lp))))
 
-  pub world_same : world_opened plan inputs pieces ≡ world_of plan forms
+  pub world_same : world_of_pieces plan inputs pieces ≡ world_of plan forms
   world_same = ap (λ tapes. record { plan = plan; inputs = inputs; tapes = tapes }) tapes_same

@@ -4,13 +4,13 @@ use Rattle.std.specs.List.{concat}
 use Rattle.job_plan.specs.Plans.{Plan}
 use Rattle.share_world.specs.Worlds.{World}
 use Rattle.party_file.specs.Table.{PartyForm}
-use Rattle.party_file.specs.Forms.{Fits, form_of}
+use Rattle.party_file.specs.Forms.{FitsPlan, form_of}
 use Rattle.party_file.specs.declared.data.PartyData.{PartyData}
 
 -- what each party gives fits the plan
 abbrev pub AllFit : Plan → List PartyData → Type 0
 AllFit plan parties =
-    (p : ℕ) (party : PartyData) → slice_get parties p ≡ Some party → Fits plan p (form_of party)
+    (p : ℕ) (party : PartyData) → slice_get parties p ≡ Some party → FitsPlan plan p (form_of party)
 
 -- each party gives its inputs, and its tape is its pieces, session after session
 abbrev pub world_of : Plan → List PartyForm → World

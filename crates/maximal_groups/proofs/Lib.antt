@@ -1,4 +1,4 @@
 pub mod Largest
-pub mod Listing
-pub mod Found
+pub mod NumberFilters
+pub mod FoundGroups
 pub mod Lists

@@ -9,9 +9,9 @@ use Rattle.std.proofs.lemmas.List.Folds.{list_any_at}
 use Rattle.party_set.specs.Parties.{Structure, Members, has_party, within, every_below}
 use Rattle.party_set.proofs.Every.{and_both, and_from, implies_from, false_from, true_not, every_from, every_at, implies_at}
 use Rattle.maximal_groups.specs.Families.{is_tolerated_by, is_larger, is_maximal, maximal_structure, IsFamily, IsCoveredBy, LiesWithin}
-use Rattle.maximal_groups.proofs.Found.{within_both, within_le, some_maximal, tells}
+use Rattle.maximal_groups.proofs.FoundGroups.{within_both, within_le, some_maximal, tells}
 use Rattle.maximal_groups.proofs.Largest.{none_larger}
-use Rattle.maximal_groups.proofs.Listing.{filter_suc}
+use Rattle.maximal_groups.proofs.NumberFilters.{filter_suc}
 
 or_cases : (a b : Bool) → (a || b) ≡ true → (a ≡ true) ⊎ (b ≡ true)
 or_cases true b e = inl refl

@@ -41,5 +41,5 @@ abbrev pub LiesWithin : Structure → ℕ → Type 0
 LiesWithin s a = (i : ℕ) × (i < length s.groups) × (within s.parties a (slice_index s.groups i) ≡ true)
 
 -- the maximal groups tell which groups are tolerated
-abbrev pub Tells : ℕ → (ℕ → Bool) → Type 0
-Tells n tolerated = (a : ℕ) → a < 2 ^ n → (tolerated a ≡ true) ↔ LiesWithin (maximal_structure n tolerated) a
+abbrev pub TellsTolerated : ℕ → (ℕ → Bool) → Type 0
+TellsTolerated n tolerated = (a : ℕ) → a < 2 ^ n → (tolerated a ≡ true) ↔ LiesWithin (maximal_structure n tolerated) a

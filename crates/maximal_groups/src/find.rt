@@ -1,6 +1,6 @@
 //! The search for the maximal tolerated groups.
 ghost use Rattle.std.specs.Prelude.{◌≡◌, ◌-◌, ◌<◌, ◌≤◌, ◌^◌, ℕ, Bool, true, [], ◌∷◌};
-ghost use Rattle.maximal_groups.specs.Families.{is_maximal, maximal_structure, IsClosed, Tells};
+ghost use Rattle.maximal_groups.specs.Families.{is_maximal, maximal_structure, IsClosed, TellsTolerated};
 ghost use Rattle.maximal_groups.specs.Finding.{Finds};
 
 use crate::family::Family;
@@ -70,7 +70,7 @@ pub fn find_groups<F: Family>(alloc: Global, family: &F) -> Result<Groups, Group
 
 /// A group is tolerated exactly where it lies within a maximal tolerated group.
 pub fn maximal_groups_tell()
-    ensures { (n : ℕ) (tolerated : ℕ → Bool) → n ≤ 12 → IsClosed n tolerated → Tells n tolerated }
+    ensures { (n : ℕ) (tolerated : ℕ → Bool) → n ≤ 12 → IsClosed n tolerated → TellsTolerated n tolerated }
 {}
 
 /// Where the group of all parties is tolerated, it is the only maximal group.

@@ -21,6 +21,6 @@ times k [] = 0
 times k (x ∷ xs) = (if x == k then 1 else 0) + times k xs
 
 -- the numbers of the elements, added up
-abbrev pub total : {X : Type 0} → (X → ℕ) → List X → ℕ
-total f [] = 0
-total f (x ∷ xs) = f x + total f xs
+abbrev pub total_over : {X : Type 0} → (X → ℕ) → List X → ℕ
+total_over f [] = 0
+total_over f (x ∷ xs) = f x + total_over f xs

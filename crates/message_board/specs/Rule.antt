@@ -9,7 +9,7 @@ use Rattle.message_board.specs.declared.steps.About.{About}
 use Rattle.message_board.specs.declared.steps.View.{View}
 use Rattle.message_board.specs.declared.cells.Posted.{Posted}
 use Rattle.message_board.specs.declared.cells.Posted.TheVariants.{Done, Occupied}
-use Rattle.message_board.specs.Pairs.{Knows, Has, times, total}
+use Rattle.message_board.specs.Pairs.{Knows, Has, times, total_over}
 
 -- the words after the seats' word
 abbrev pub cell : List ℕ → ℕ → ℕ
@@ -24,7 +24,7 @@ others (x ∷ xs) = xs
 module _ {W : Type 0} where
   -- a new seat's
   abbrev pub newcomer : About W → ℕ → View W
-  newcomer about parts = record { about = Some about; parts = parts; seen = []; mine = []; looked = []; stored = []; full = []; out = [] }
+  newcomer about seats = record { about = Some about; seats = seats; seen = []; mine = []; looked = []; stored = []; full = []; out = [] }
 
   -- after the store of a value, and after the number was used
   abbrev pub stores : View W → ℕ → View W
@@ -56,19 +56,19 @@ module _ {W : Type 0} where
 
   -- after the fold of another seat, which holds no slot
   abbrev pub folds : View W → View W → View W
-  folds v w = record v { parts = v.parts + w.parts; seen = v.seen ++ w.seen; mine = v.mine ++ w.mine }
+  folds v u = record v { seats = v.seats + u.seats; seen = v.seen ++ u.seen; mine = v.mine ++ u.mine }
 
   -- the other's after it
   abbrev pub spent : View W
-  spent = record { about = None; parts = 0; seen = []; mine = []; looked = []; stored = []; full = []; out = [] }
+  spent = record { about = None; seats = 0; seen = []; mine = []; looked = []; stored = []; full = []; out = [] }
 
-  -- of which a new seat has taken a part
+  -- of which a new seat has taken over one seat
   abbrev pub less_one : View W → View W
-  less_one v = record v { parts = v.parts - 1 }
+  less_one v = record v { seats = v.seats - 1 }
 
   -- the new seat's
-  abbrev pub one_part : View W → View W
-  one_part v = record v { parts = 1; seen = []; mine = []; looked = []; stored = []; full = []; out = [] }
+  abbrev pub one_seat : View W → View W
+  one_seat v = record v { seats = 1; seen = []; mine = []; looked = []; stored = []; full = []; out = [] }
 
   -- after a slot was taken, whose item posted these pairs
   abbrev pub takes_out : View W → ℕ → List (ℕ × ℕ) → View W
@@ -118,14 +118,14 @@ module _ {W T : Type 0} (list : W → List ℕ) (good : W → T → ℕ → Type
     -- what a view has posted it has seen
     pub mine : (id : ℕ) (v : View W) → get_elem? s.views id ≡ some v → (k : ℕ) → 0 < times k v.mine → (w : ℕ) × Knows v.seen k w
     -- no number was posted twice
-    pub once : (k : ℕ) → total (λ (v : View W). times k v.mine) s.views ≤ 1
+    pub once : (k : ℕ) → total_over (λ (v : View W). times k v.mine) s.views ≤ 1
     -- each slot has a good item, whose posts are there, or is out with a view
     pub slots : (i : ℕ) → i < length s.homes → IsHome about s i ⊎ IsOut about s i
-    -- the parts are the seats made
-    pub parts : total (λ (v : View W). v.parts) s.views ≡ about.seats
-    -- a view without parts has no slot, and one with parts knows the board
-    pub idle : (id : ℕ) (v : View W) → get_elem? s.views id ≡ some v → v.parts ≡ 0 → v.out ≡ []
-    pub knows : (id : ℕ) (v : View W) → get_elem? s.views id ≡ some v → 0 < v.parts → v.about ≡ Some about
+    -- together the views stand for the seats made
+    pub seats : total_over (λ (v : View W). v.seats) s.views ≡ about.seats
+    -- a view that stands for no seat has no slot, and one that stands for some knows the board
+    pub idle : (id : ℕ) (v : View W) → get_elem? s.views id ≡ some v → v.seats ≡ 0 → v.out ≡ []
+    pub knows : (id : ℕ) (v : View W) → get_elem? s.views id ≡ some v → 0 < v.seats → v.about ≡ Some about
 
   abbrev pub Sat : Type 0
   Sat = Me (Option T) (View W)
@@ -158,7 +158,7 @@ module _ {W T : Type 0} (list : W → List ℕ) (good : W → T → ℕ → Type
   out_step st me n me' =
       (about : About W) (i : ℕ) → me.0.about ≡ Some about → st.word ≡ turn about i + 1
       → ((n ≡ 1) × ((x : T) × good about.world x i × (me'.0 ≡ takes_out me.0 i (posted about.world x)) × (me'.1 ≡ (i, Some x) ∷ me.1)))
-      ⊎ ((n ≡ 0) × (me'.0 ≡ looks me.0 (length (list about.world) + i)) × (me'.1 ≡ me.1) × (me.0.parts ≡ about.seats → Has me.0.out i))
+      ⊎ ((n ≡ 0) × (me'.0 ≡ looks me.0 (length (list about.world) + i)) × (me'.1 ≡ me.1) × (me.0.seats ≡ about.seats → Has me.0.out i))
 
   -- the store of 1 into a turn word, as the item comes home
   abbrev pub home_step : Step (Option T) → Sat → ℕ → Sat → Type 0

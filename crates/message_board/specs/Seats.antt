@@ -13,7 +13,7 @@ use Rattle.message_board.specs.Plain.{plain_cell}
 use Rattle.message_board.specs.Rule.{newcomer, posts, takes, looks, takes_out}
 
 -- a board: which table it is, and what it is about
-pub record Place (W : Type 0) : Type 0 where
+pub record BoardModel (W : Type 0) : Type 0 where
   pub id : TableId
   pub about : About W
 
@@ -26,44 +26,44 @@ module _ {W : Type 0} where
   abbrev pub about_coded : Coded W → Coded (About W)
   about_coded c = coded_via (coded× c coded_ℕ) (λ (a : About W). (a.world, a.seats)) (λ x y e i. record { world = (e i).0; seats = (e i).1 })
 
-  abbrev pub place_coded : Coded W → Coded (Place W)
-  place_coded c = coded_via (coded× table_id_coded (about_coded c)) (λ (p : Place W). (p.id, p.about)) (λ x y e i. record { id = (e i).0; about = (e i).1 })
+  abbrev pub board_coded : Coded W → Coded (BoardModel W)
+  board_coded c = coded_via (coded× table_id_coded (about_coded c)) (λ (b : BoardModel W). (b.id, b.about)) (λ x y e i. record { id = (e i).0; about = (e i).1 })
 
   abbrev pub view_coded : Coded W → Coded (View W)
   view_coded c = coded_via (coded× (coded_option (about_coded c)) (coded× coded_ℕ (coded× (coded_list (coded× coded_ℕ coded_ℕ)) (coded× (coded_list coded_ℕ) (coded× (coded_list coded_ℕ) (coded× (coded_list coded_ℕ) (coded× (coded_list coded_ℕ) (coded_list coded_ℕ))))))))
-      (λ (v : View W). (v.about, (v.parts, (v.seen, (v.mine, (v.looked, (v.stored, (v.full, v.out))))))))
-      (λ x y e i. record { about = (e i).0; parts = (e i).1.0; seen = (e i).1.1.0; mine = (e i).1.1.1.0; looked = (e i).1.1.1.1.0; stored = (e i).1.1.1.1.1.0; full = (e i).1.1.1.1.1.1.0; out = (e i).1.1.1.1.1.1.1 })
+      (λ (v : View W). (v.about, (v.seats, (v.seen, (v.mine, (v.looked, (v.stored, (v.full, v.out))))))))
+      (λ x y e i. record { about = (e i).0; seats = (e i).1.0; seen = (e i).1.1.0; mine = (e i).1.1.1.0; looked = (e i).1.1.1.1.0; stored = (e i).1.1.1.1.1.0; full = (e i).1.1.1.1.1.1.0; out = (e i).1.1.1.1.1.1.1 })
 
   abbrev pub sitting_coded : Coded W → Coded (Sitting W)
   sitting_coded c = coded_via (coded× table_id_coded (view_coded c)) (λ (s : Sitting W). (s.id, s.view)) (λ x y e i. record { id = (e i).0; view = (e i).1 })
 
   -- the board is about this world, with so many seats and slots
-  abbrev pub IsBoardOf : W → ℕ → ℕ → Place W → Type 0
+  abbrev pub IsBoardOf : W → ℕ → ℕ → BoardModel W → Type 0
   IsBoardOf world seats slots board = (board.about ≡ record { world = world; seats = seats }) × (board.id.slots ≡ slots)
 
   -- the seat is one of the board's
-  abbrev pub IsSeatOf : Place W → Sitting W → Type 0
-  IsSeatOf board s = (s.id ≡ board.id) × (s.view.about ≡ Some board.about)
+  abbrev pub IsSeatOf : BoardModel W → Sitting W → Type 0
+  IsSeatOf board seat = (seat.id ≡ board.id) × (seat.view.about ≡ Some board.about)
 
   -- the seat is one of the board's and holds no slot
-  abbrev pub IsFreeSeatOf : Place W → Sitting W → Type 0
-  IsFreeSeatOf board s = IsSeatOf board s × (s.view.out ≡ [])
+  abbrev pub IsFreeSeatOf : BoardModel W → Sitting W → Type 0
+  IsFreeSeatOf board seat = IsSeatOf board seat × (seat.view.out ≡ [])
 
   -- seats of the board that hold no slot
-  abbrev pub AreSeatsOf : Place W → List (Sitting W) → Type 0
+  abbrev pub AreSeatsOf : BoardModel W → List (Sitting W) → Type 0
   AreSeatsOf board [] = Unit {0}
   AreSeatsOf board (s ∷ ss) = IsFreeSeatOf board s × AreSeatsOf board ss
 
   -- seats of the board, of which only the last may hold slots
-  abbrev pub CanClose : Place W → List (Sitting W) → Type 0
+  abbrev pub CanClose : BoardModel W → List (Sitting W) → Type 0
   CanClose board [] = Unit {0}
   CanClose board (s ∷ []) = IsSeatOf board s
   CanClose board (s ∷ t ∷ ss) = IsFreeSeatOf board s × CanClose board (t ∷ ss)
 
-  -- seats of the board that know nothing yet, of one part each
-  abbrev pub AreNew : Place W → List (Sitting W) → Type 0
-  AreNew board [] = Unit {0}
-  AreNew board (s ∷ ss) = (IsSeatOf board s × (s.view ≡ newcomer board.about 1)) × AreNew board ss
+  -- seats of the board that know nothing yet, each for one seat
+  abbrev pub AreNewSeats : BoardModel W → List (Sitting W) → Type 0
+  AreNewSeats board [] = Unit {0}
+  AreNewSeats board (s ∷ ss) = (IsSeatOf board s × (s.view ≡ newcomer board.about 1)) × AreNewSeats board ss
 
   -- some seat knows the pair
   abbrev pub KnownBy : List (Sitting W) → ℕ → ℕ → Type 0
@@ -76,23 +76,23 @@ module _ {W : Type 0} where
   times_by k (s ∷ ss) = times k s.view.mine + times_by k ss
 
 -- a table for so many cells
-abbrev pub HasWords : ℕ → TableId → Type 0
-HasWords count id = (id.words ≡ count + count + id.slots + 1) × (count < 2 ^ 32) × (id.slots < 2 ^ 32)
+abbrev pub IsTableFor : ℕ → TableId → Type 0
+IsTableFor count id = (id.words ≡ count + count + id.slots + 1) × (count < 2 ^ 32) × (id.slots < 2 ^ 32)
 
 -- one cell for each word, which is empty or holds the word
 abbrev pub HasCells : List ℕ → List (Option ℕ) → Type 0
 HasCells words cells = (length cells ≡ length words) × ((k : ℕ) → k < length words → (plain_cell cells k ≡ None) ⊎ (plain_cell cells k ≡ Some (slice_index words k)))
 
 -- what a post of w may answer
-abbrev pub IsPosted : ℕ → Posted → Type 0
-IsPosted w r = (r ≡ Done) ⊎ (r ≡ Occupied w)
+abbrev pub IsPostAnswer : ℕ → Posted → Type 0
+IsPostAnswer w r = (r ≡ Done) ⊎ (r ≡ Occupied w)
 
 -- what a post of the word w at number n did to a seat, by its answer
-abbrev pub HasPosted : {W : Type 0} → Place W → Sitting W → Sitting W → ℕ → ℕ → Posted → Type 0
-HasPosted board before after n w r = IsSeatOf board after × (after.view ≡ posts before.view n w r) × IsPosted w r
+abbrev pub HasPosted : {W : Type 0} → BoardModel W → Sitting W → Sitting W → ℕ → ℕ → Posted → Type 0
+HasPosted board before after n w r = IsSeatOf board after × (after.view ≡ posts before.view n w r) × IsPostAnswer w r
 
 -- what a take of number n did to a seat, by its answer: the promised word, and the one that the seat knew, if it knew one
-abbrev pub HasTaken : {W : Type 0} → (W → List ℕ) → Place W → Sitting W → Sitting W → ℕ → Option ℕ → Type 0
+abbrev pub HasTaken : {W : Type 0} → (W → List ℕ) → BoardModel W → Sitting W → Sitting W → ℕ → Option ℕ → Type 0
 HasTaken list board before after n r =
     IsSeatOf board after
     × (after.view ≡ takes before.view n r)
@@ -104,10 +104,10 @@ abbrev pub TookOut : {W T : Type 0} → (W → T → ℕ → Type 0) → (W → 
 TookOut good posted world before after slot x = good world x slot × (after.view ≡ takes_out before.view slot (posted world x))
 
 -- a seat found a slot out, and holds it itself if it stands for all seats
-abbrev pub FoundOut : {W : Type 0} → (W → List ℕ) → Place W → Sitting W → Sitting W → ℕ → Type 0
+abbrev pub FoundOut : {W : Type 0} → (W → List ℕ) → BoardModel W → Sitting W → Sitting W → ℕ → Type 0
 FoundOut list board before after slot =
     (after.view ≡ looks before.view (length (list board.about.world) + slot))
-    × (before.view.parts ≡ board.about.seats → Has before.view.out slot)
+    × (before.view.seats ≡ board.about.seats → Has before.view.out slot)
 
 -- each word is below 2 to the k
 abbrev pub AllBelow : ℕ → List ℕ → Type 0

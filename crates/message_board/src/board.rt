@@ -7,10 +7,10 @@ ghost use Rattle.message_board.specs.Words.{posted_as};
 
 use crate::cells::Posted;
 use crate::closed::ClosedBoard;
-use crate::making::{Room, fill, give_back, make_room, start_words};
+use crate::room::{Room, fill, give_back, make_room, start_words};
 use crate::steps::{
-    About, BoardRule, BringsHome, Finds, Parts, Posts, Promise, SlotItem, Stores, Takes, TakesOut,
-    View,
+    About, BoardRule, BringsHome, Finds, Posts, Promise, SlotItem, SplitSeats, Stores, Takes,
+    TakesOut, View,
 };
 use atomic_table::{Refused, Seat, Table};
 use std::alloc::{AllocError, Global};
@@ -25,15 +25,15 @@ pub struct Board<W: Promise, T: SlotItem<W>> {
 // To a contract a board is which table it is, and what it is about.
 impl<W: Promise, T: SlotItem<W>> Model for Board<W, T> {
     ghost use Rattle.std.specs.Prelude.{length};
-    ghost use Rattle.message_board.specs.Seats.{HasWords, Place, place_coded};
+    ghost use Rattle.message_board.specs.Seats.{IsTableFor, BoardModel, board_coded};
 
-    ghost Value = { Place W };
+    ghost Value = { BoardModel W };
 
-    ghost coded = { place_coded W.code };
+    ghost coded = { board_coded W.code };
 
     ghost view = { λ b. record { id = b.table.shared.table_id; about = b.table.shared.key } };
 
-    ghost invariant = { λ b. HasWords (length (W.list b.table.shared.key.world)) b.table.shared.table_id };
+    ghost invariant = { λ b. IsTableFor (length (W.list b.table.shared.key.world)) b.table.shared.table_id };
 }
 
 /// What one thread uses a board with. It knows what it posted, took and found, and holds the slots that it took. It has
@@ -54,7 +54,7 @@ impl<W, T> Model for BoardSeat<W, T> {
 
     ghost view = { λ s. record { id = s.seat.table_id; view = s.seat.me.0 } };
 
-    ghost invariant = { λ s. (s.seat.me.1 ≡ blanks s.seat.me.0.out) × (0 < s.seat.me.0.parts) };
+    ghost invariant = { λ s. (s.seat.me.1 ≡ blanks s.seat.me.0.out) × (0 < s.seat.me.0.seats) };
 }
 
 // What a post of the word says of the full word that it found.
@@ -73,10 +73,10 @@ impl<W: Promise, T: SlotItem<W>> Board<W, T> {
     ghost use Rattle.message_board.specs.Pairs.{Knows, Grows, times};
     ghost use Rattle.message_board.specs.Plain.{plain_cell};
     ghost use Rattle.message_board.specs.Rule.{IsBoard, posts, takes, brings_home, others, folds};
-    ghost use Rattle.message_board.specs.Rule.{less_one, one_part, newcomer};
-    ghost use Rattle.message_board.specs.Seats.{IsBoardOf, IsSeatOf, IsFreeSeatOf, IsPosted};
+    ghost use Rattle.message_board.specs.Rule.{less_one, one_seat, newcomer};
+    ghost use Rattle.message_board.specs.Seats.{IsBoardOf, IsSeatOf, IsFreeSeatOf, IsPostAnswer};
     ghost use Rattle.message_board.specs.Seats.{TookOut, FoundOut, AreFresh, AreSeatsOf, CanClose};
-    ghost use Rattle.message_board.specs.Seats.{AreNew, KnownBy, times_by, HasCells};
+    ghost use Rattle.message_board.specs.Seats.{AreNewSeats, KnownBy, times_by, HasCells};
 
     /// A board with so many empty cells and no slots, and its seats.
     pub fn make(
@@ -91,7 +91,7 @@ impl<W: Promise, T: SlotItem<W>> Board<W, T> {
         requires messages { length (W.list words) ≡ messages }
         ensures board { IfOk result (λ r. IsBoardOf words seats 0 r.0) }
         ensures count { IfOk result (λ r. vec_len r.1 ≡ seats) }
-        ensures seats { IfOk result (λ r. AreNew r.0 r.1.items) }
+        ensures seats { IfOk result (λ r. AreNewSeats r.0 r.1.items) }
     {
         let made = Vec::with_capacity(alloc, seats as usize)?;
         let start = start_words(alloc, messages, 0)?;
@@ -122,7 +122,7 @@ impl<W: Promise, T: SlotItem<W>> Board<W, T> {
         requires items { AreFresh T.good T.posted words items.items }
         ensures board { IfOk result (λ r. IsBoardOf words seats (vec_len items) r.0) }
         ensures count { IfOk result (λ r. vec_len r.1 ≡ seats) }
-        ensures seats { IfOk result (λ r. AreNew r.0 r.1.items) }
+        ensures seats { IfOk result (λ r. AreNewSeats r.0 r.1.items) }
         ensures back { IfErr result (λ r. r.1.items ≡ items.items) }
     {
         let Ok(Room { made, start, slots }) = make_room(alloc, messages, seats, items.len()) else {
@@ -172,7 +172,7 @@ impl<W: Promise, T: SlotItem<W>> Board<W, T> {
         }
     }
 
-    // So many seats of a new board, of one part each.
+    // So many seats of a new board, each for one seat.
     fn seats(
         &self,
         mut made: Vec<BoardSeat<W, T>>,
@@ -183,7 +183,7 @@ impl<W: Promise, T: SlotItem<W>> Board<W, T> {
         requires first { IsSeatOf self.now first × (first.view ≡ newcomer self.now.about count) }
         requires room { (made.items ≡ []) × (count ≤ vec_capacity made) }
         ensures count { vec_len result ≡ count }
-        ensures seats { AreNew self.now result.items }
+        ensures seats { AreNewSeats self.now result.items }
     {
         for _ in 1..count {
             made.push_reserved(self.another(&mut first));
@@ -192,15 +192,15 @@ impl<W: Promise, T: SlotItem<W>> Board<W, T> {
         made
     }
 
-    // Makes another seat, which takes one of the parts of this one.
+    // Makes another seat, which takes over one of the seats that this one stands for.
     fn another(&self, seat: &mut BoardSeat<W, T>) -> BoardSeat<W, T>
         requires seat { IsSeatOf self.now seat.old }
-        requires parts { 1 < seat.old.view.parts }
+        requires seats { 1 < seat.old.view.seats }
         ensures seat { IsSeatOf self.now seat.new × (seat.new.view ≡ less_one seat.old.view) }
-        ensures other { IsSeatOf self.now result × (result.view ≡ one_part seat.old.view) }
+        ensures other { IsSeatOf self.now result × (result.view ≡ one_seat seat.old.view) }
     {
         BoardSeat {
-            seat: self.table.shared.split_seat::<Parts>(&mut seat.seat),
+            seat: self.table.shared.split_seat::<SplitSeats>(&mut seat.seat),
         }
     }
 
@@ -210,7 +210,7 @@ impl<W: Promise, T: SlotItem<W>> Board<W, T> {
         requires promised { slice_get (W.list self.now.about.world) number ≡ Some word }
         ensures seat { IsSeatOf self.now seat.new }
         ensures view { seat.new.view ≡ posts seat.old.view number word result }
-        ensures found { IsPosted word result }
+        ensures found { IsPostAnswer word result }
     {
         let messages = self.messages();
         self.table
@@ -255,7 +255,7 @@ impl<W: Promise, T: SlotItem<W>> Board<W, T> {
     }
 
     /// The item of a slot, which the seat holds then, or nothing where the slot is out. Where the seat
-    /// has the parts of all seats, it is out only with this seat.
+    /// stands for all seats, it is out only with this seat.
     pub fn take_out(&self, seat: &mut BoardSeat<W, T>, slot: u32) -> Option<T>
         requires seat { IsSeatOf self.now seat.old }
         requires inside { slot < self.now.id.slots }
@@ -305,7 +305,9 @@ impl<W: Promise, T: SlotItem<W>> Board<W, T> {
         ensures view { result.view ≡ folds seat.view other.view }
     {
         let BoardSeat { seat: spent } = other;
-        self.table.shared.join_seat::<Parts>(&mut seat.seat, spent);
+        self.table
+            .shared
+            .join_seat::<SplitSeats>(&mut seat.seat, spent);
         seat
     }
 

@@ -4,8 +4,8 @@
 mod board;
 mod cells;
 mod closed;
-mod making;
 mod plain;
+mod room;
 mod seat_at;
 mod steps;
 #[cfg(test)]

@@ -30,7 +30,7 @@ pub struct About<W> {
 pub struct View<W> {
     pub about: Option<About<W>>,
     // For how many of the seats made this one stands.
-    pub parts: u32,
+    pub seats: u32,
     // The words that it posted, found, took or was told of, each with its number.
     pub seen: LinkedList<(u32, u64)>,
     // The numbers of the cells that its own posts filled.
@@ -122,17 +122,17 @@ impl<W: Promise, T: SlotItem<W>> Play<Option<T>, View<W>> for BringsHome<W, T> {
 }
 
 /// A seat makes another, and two become one.
-pub struct Parts;
+pub struct SplitSeats;
 
-impl<W> Split<View<W>> for Parts {
-    ghost use Rattle.message_board.specs.Rule.{less_one, one_part};
+impl<W> Split<View<W>> for SplitSeats {
+    ghost use Rattle.message_board.specs.Rule.{less_one, one_seat};
 
     ghost left = { less_one };
 
-    ghost right = { one_part };
+    ghost right = { one_seat };
 }
 
-impl<W> Join<View<W>> for Parts {
+impl<W> Join<View<W>> for SplitSeats {
     ghost use Rattle.message_board.specs.Rule.{folds, spent};
 
     ghost both = { folds };

@@ -1,6 +1,6 @@
 //! A board with five cells, of which the fourth has 7 promised.
 ghost use Rattle.std.specs.Prelude.{◌≡◌, [], ◌∷◌, IfOk, IfSome};
-ghost use Rattle.message_board.specs.Seats.{AreNew, IsSeatOf};
+ghost use Rattle.message_board.specs.Seats.{AreNewSeats, IsSeatOf};
 
 use crate::{Board, BoardSeat, Posted, Promise, SlotItem};
 use std::alloc::{AllocError, Global};
@@ -32,14 +32,14 @@ type TokenSeat = BoardSeat<Words, Token>;
 
 fn five_cells(alloc: Global) -> Result<(TokenBoard, Vec<TokenSeat>), AllocError>
     ensures promised { IfOk result (λ r. r.0.about.world.0.value.items ≡ 0 ∷ 0 ∷ 0 ∷ 7 ∷ 0 ∷ []) }
-    ensures seats { IfOk result (λ r. AreNew r.0 r.1.items) }
+    ensures seats { IfOk result (λ r. AreNewSeats r.0 r.1.items) }
 {
     let words = vec![in alloc; 0u64, 0, 0, 7, 0]?;
     Board::make(alloc, Words(Snapshot::of(&words)), 5, 1)
 }
 
 fn a_seat(board: &TokenBoard, mut seats: Vec<TokenSeat>) -> Option<TokenSeat>
-    requires { AreNew board.now seats.items }
+    requires { AreNewSeats board.now seats.items }
     ensures { IfSome result (IsSeatOf board.now) }
 {
     let seat = seats.pop()?;

@@ -9,7 +9,7 @@ use Rattle.job_file.specs.Forms.{JobForm, SessionForm}
 use Rattle.job_file.specs.Jobs.{session_view}
 use Rattle.job_file.specs.declared.job.JobSession.{JobSession}
 use Rattle.party_file.specs.Table.{PartyForm}
-use Rattle.party_file.specs.Forms.{form_of, Fits}
+use Rattle.party_file.specs.Forms.{form_of, FitsPlan}
 use Rattle.party_file.specs.declared.data.PartyData.{PartyData}
 use Rattle.mpc_top.specs.declared.stop.Stop.{Stop}
 use Rattle.mpc_top.specs.JobOf.{SessionAt, SessionsAfter, PartyAt, PartiesAfter}
@@ -99,10 +99,10 @@ got_push (x ∷ xs) y h (suc k) e = elim (got_push xs y h k e) [
   | inr last ↦ inr (ap suc last.0, last.1)
 ]
 
-pub fit_push : (plan : Plan) (parties parties' : List PartyData) (p : ℕ) (party : PartyData) → parties' ≡ parties ++ party ∷ [] → length parties ≡ p → AllFit plan parties → Fits plan p (form_of party) → AllFit plan parties'
+pub fit_push : (plan : Plan) (parties parties' : List PartyData) (p : ℕ) (party : PartyData) → parties' ≡ parties ++ party ∷ [] → length parties ≡ p → AllFit plan parties → FitsPlan plan p (form_of party) → AllFit plan parties'
 fit_push plan parties parties' p party is count fit fits = subst (AllFit plan) (sym is) (λ k h e. elim (got_push parties party h k e) [
   | inl old ↦ fit k h old
-  | inr last ↦ subst (λ n. Fits plan n (form_of h)) (sym (last.0 ∙ count)) (subst (λ x. Fits plan p (form_of x)) last.1 fits)
+  | inr last ↦ subst (λ n. FitsPlan plan n (form_of h)) (sym (last.0 ∙ count)) (subst (λ x. FitsPlan plan p (form_of x)) last.1 fits)
 ])
 
 pub parties_push : (parties parties' : List PartyData) (party : PartyData) → parties' ≡ parties ++ party ∷ [] → map form_of parties' ≡ map form_of parties ++ form_of party ∷ []

@@ -12,7 +12,7 @@ use Rattle.circuit_file.specs.declared.layout.FileLayout.{FileLayout}
 use Rattle.circuit_file.specs.declared.layout.FileLayout.TheVariants as file
 use Rattle.circuit_file.specs.CircuitFiles.{circuit_in}
 use Rattle.job_plan.specs.Plans.{Plan, Session, plan_of}
-use Rattle.job_plan.specs.Limits.{IsWithin, IsRefusal}
+use Rattle.job_plan.specs.Limits.{IsPlanWithin, IsPlanRefusal}
 use Rattle.job_plan.specs.Parts.{part_fault, session_of}
 use Rattle.plan_faults.specs.declared.part_fault.PartFault.{PartFault}
 use Rattle.plan_faults.specs.declared.plan_fault.PlanFault.{PlanFault}
@@ -130,11 +130,11 @@ SessionsAfter files dir job before (form ∷ forms) =
 
 -- a plan within the limits
 unfoldable pub PlanOf : JobForm → Plan → Verdict Plan → Type 0
-PlanOf job plan (accepted same) = (same ≡ plan) × IsWithin plan
+PlanOf job plan (accepted same) = (same ≡ plan) × IsPlanWithin plan
 PlanOf job plan (missing name) = ⊥
 PlanOf job plan (refused status line) =
     (fault : PlanFault)
-    × IsRefusal plan fault
+    × IsPlanRefusal plan fault
     × ¬ (fault ≡ plan_fault.Memory)
     × (status ≡ 3)
     × (line ≡ plan_line job.names fault)

@@ -1,6 +1,6 @@
 //! The files of the parties.
 ghost use Rattle.std.specs.Prelude.{◌≡◌, ◌<◌, [], IfOk, length, string_bytes, map};
-ghost use Rattle.party_file.specs.Forms.{form_of, Fits};
+ghost use Rattle.party_file.specs.Forms.{form_of, FitsPlan};
 ghost use Rattle.party_file.specs.Table.{party_in};
 ghost use Rattle.job_run.specs.Parties.{AllFit};
 ghost use Rattle.refusal_text.specs.Lines.{party_line};
@@ -54,7 +54,7 @@ fn read_party_file<F: Files>(
     requires { p < plan.now.parties }
     ensures reads { ReadsAs form_of (λ contents. PartyAt contents dir.now plan.now p name.now)
         (F.reading files.old) (F.reading files.new) result }
-    ensures fits { IfOk result (λ party. Fits plan.now p (form_of party)) }
+    ensures fits { IfOk result (λ party. FitsPlan plan.now p (form_of party)) }
 {
     let file = file_of(alloc, name)?;
     let bytes = read_file(alloc, files, dir, file.as_str())?;
@@ -76,7 +76,7 @@ fn party_in(alloc: Global, bytes: &[u8], plan: &Plan, p: u32, file: &str) -> Res
     requires { p < plan.now.parties }
     ensures walks { WalksAs form_of
         (Ends (verdict_of (party_line file.now) (party_in plan.now p bytes.now))) result }
-    ensures fits { IfOk result (λ party. Fits plan.now p (form_of party)) }
+    ensures fits { IfOk result (λ party. FitsPlan plan.now p (form_of party)) }
 {
     match read_party(alloc, bytes, plan, p) {
         Ok(party) => Ok(party),

@@ -1,5 +1,5 @@
-pub mod Gathers
-pub mod Past
+pub mod GatheredTexts
+pub mod PastCalls
 pub mod Pieces
 pub mod Room
-pub mod Writing
+pub mod WrittenPieces

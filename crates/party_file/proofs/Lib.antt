@@ -1,5 +1,5 @@
-pub mod BySession
-pub mod Rows
-pub mod Chains
-pub mod Fitting
-pub mod Wording
+pub mod SessionInputs
+pub mod FaultRows
+pub mod CheckChains
+pub mod PlanFit
+pub mod WordChecks

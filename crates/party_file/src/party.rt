@@ -3,7 +3,7 @@ ghost use Rattle.std.specs.Prelude.{◌≡◌, ◌⊎◌, ◌<◌, Some, None, O
 ghost use Rattle.toml.specs.View.{table_view};
 ghost use Rattle.party_file.specs.Checks.{first_fault};
 ghost use Rattle.party_file.specs.Table.{party_checks, party_of, party_in};
-ghost use Rattle.party_file.specs.Forms.{form_of, Fits};
+ghost use Rattle.party_file.specs.Forms.{form_of, FitsPlan};
 ghost use Rattle.party_file.specs.declared.fault.PartyFault.TheVariants.{Memory};
 
 use crate::data::PartyData;
@@ -49,7 +49,7 @@ pub fn read_party(
 ) -> Result<PartyData, PartyFault>
     requires { party < plan.now.parties }
     ensures given { IfOk result (λ found. party_in plan.now party bytes.now ≡ Ok (form_of found)) }
-    ensures fits { IfOk result (λ found. Fits plan.now party (form_of found)) }
+    ensures fits { IfOk result (λ found. FitsPlan plan.now party (form_of found)) }
     ensures fault { IfErr result (λ fault. (fault ≡ Memory) ⊎ (party_in plan.now party bytes.now ≡ Err fault)) }
 {
     match document(alloc, bytes)? {

@@ -21,7 +21,7 @@ use toml::Table;
 use toml_fields::{has_field, text_at};
 
 /// How many words the party draws in each session.
-#[tactic(auto, using(job_plan::proofs::Listing::listed_push), unfolding(crate::specs::Table::word_counts))]
+#[tactic(auto, using(job_plan::proofs::GrownLists::listed_push), unfolding(crate::specs::Table::word_counts))]
 fn word_counts(alloc: Global, plan: &Plan, party: u32) -> Result<Vec<u32>, AllocError>
     requires { party < plan.now.parties }
     ensures { IfOk result (λ counts. counts.items ≡ word_counts plan.now party) }
@@ -75,7 +75,7 @@ fn read_tape(alloc: Global, plan: &Plan, party: u32, text: &str) -> Result<Vec<T
 }
 
 /// The tapes of a seed: each session has a stream of its own.
-#[tactic(auto, using(job_plan::proofs::Listing::listed_push))]
+#[tactic(auto, using(job_plan::proofs::GrownLists::listed_push))]
 fn seed_tapes(
     alloc: Global,
     plan: &Plan,

@@ -1,1 +1,1 @@
-pub mod Evaluating
+pub mod GateWords

@@ -1,2 +1,2 @@
-pub mod Joins
-pub mod Dividing
+pub mod JoinedLists
+pub mod PairDuties

@@ -29,11 +29,11 @@ pub fn own_products(ring: Ring, duty: &Duty, p: u32, x: &[u64], y: &[u64]) -> u6
 }
 
 /// Adds a word that was dealt to the sum of its share.
-pub fn add_part(ring: Ring, into: &mut [u64], share: u32, word: u64)
+pub fn add_word(ring: Ring, into: &mut [u64], share: u32, word: u64)
     requires share { share < length into.old }
     requires words { All (λ word. word < 2 ^ ring) into.old }
     requires word { word < 2 ^ ring }
-    ensures parts { (i : ℕ) → slice_index into.new i ≡ set_at (slice_index into.old) share ((slice_index into.old share + word) % 2 ^ ring) i }
+    ensures sums { (i : ℕ) → slice_index into.new i ≡ set_at (slice_index into.old) share ((slice_index into.old share + word) % 2 ^ ring) i }
     ensures below { All (λ word. word < 2 ^ ring) into.new }
 {
     let sum = &mut into[share as usize];
@@ -60,13 +60,13 @@ mod tests {
     }
 
     #[test]
-    fn parts_add_up(rt: HostRuntime) -> Result<(), Fail> {
+    fn words_add_up(rt: HostRuntime) -> Result<(), Fail> {
         let ring = Ring::new(8).ok_or("no ring")?;
-        let mut parts = [112, 0, 0];
-        add_part(ring, &mut parts, 0, 193);
-        add_part(ring, &mut parts, 0, 221);
-        add_part(ring, &mut parts, 2, 6);
-        assert_eq!(rt; parts, [14, 0, 6]);
+        let mut sums = [112, 0, 0];
+        add_word(ring, &mut sums, 0, 193);
+        add_word(ring, &mut sums, 0, 221);
+        add_word(ring, &mut sums, 2, 6);
+        assert_eq!(rt; sums, [14, 0, 6]);
         Ok(())
     }
 }

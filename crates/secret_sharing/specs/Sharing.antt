@@ -71,7 +71,7 @@ pub record IsScheme (s : Scheme) : Type 0 where
 
 -- the summands of each wire add up to its value
 abbrev pub AddUp : Scheme → (ℕ → ℕ → ℕ) → (ℕ → ℕ) → Type 0
-AddUp s x v = (w : ℕ) → total s.shares (x w) % s.modulus ≡ v w
+AddUp s x value = (v : ℕ) → total s.shares (x v) % s.modulus ≡ value v
 
 pub record IsRun (r : Run) : Type 0 where
   pub scheme : IsScheme r.scheme

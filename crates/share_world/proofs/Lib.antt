@@ -1,8 +1,8 @@
-pub mod Adding
-pub mod Locality
-pub mod Sending
-pub mod Small
-pub mod Solving
-pub mod Joining
-pub mod Multiplying
-pub mod Making
+pub mod WireSums
+pub mod LocalWords
+pub mod SentWords
+pub mod SmallWords
+pub mod Solutions
+pub mod JoinedLocals
+pub mod WorkedProduct
+pub mod MadeSessions

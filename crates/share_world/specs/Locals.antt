@@ -33,11 +33,11 @@ local_value w got p s (Output o) = 0
 
 -- the word of a message as its sender p has it
 abbrev pub local_word_in : World → (Key → ℕ) → ℕ → Key → Slot → ℕ
-local_word_in w got p k (Output o) = summands (local_run w got p k.session) (length (session w.plan k.session).gates) (output_wire (session w.plan k.session) o) k.share
-local_word_in w got p k z = dealt (scheme w.plan) (local_value w got p k.session z) (tape_word w k.session k.slot p) k.share
+local_word_in w got p key (Output o) = summands (local_run w got p key.session) (length (session w.plan key.session).gates) (output_wire (session w.plan key.session) o) key.share
+local_word_in w got p key kind = dealt (scheme w.plan) (local_value w got p key.session kind) (tape_word w key.session key.slot p) key.share
 
 abbrev pub local_word : World → (Key → ℕ) → ℕ → Key → ℕ
-local_word w got p k = local_word_in w got p k (slot (session w.plan k.session) k.slot)
+local_word w got p key = local_word_in w got p key (slot (session w.plan key.session) key.slot)
 
 -- output wire o of session s as p opens it: the sum of the summands that it holds and got
 abbrev pub local_output : World → (Key → ℕ) → ℕ → ℕ → ℕ → ℕ
@@ -51,11 +51,11 @@ local_output w got p s o =
 -- if each party got what the senders send, all words are those of the equations
 abbrev pub LocalsJoin : World → Type 0
 LocalsJoin w =
-    (got : ℕ → Key → ℕ) → AllByRecursion (λ k. got k.receiver k ≡ local_word w (got k.sender) k.sender k) (messages w.plan)
-    → AllByRecursion (λ k. got k.receiver k ≡ word w k) (messages w.plan)
+    (got : ℕ → Key → ℕ) → AllByRecursion (λ key. got key.receiver key ≡ local_word w (got key.sender) key.sender key) (messages w.plan)
+    → AllByRecursion (λ key. got key.receiver key ≡ word w key) (messages w.plan)
 
 -- the first n gates read what was got in the slots before
 abbrev pub ReadsBefore : World → Type 0
 ReadsBefore w =
-    (p s n : ℕ) (got later : Key → ℕ) → n ≤ length (session w.plan s).gates → ((k : Key) → k.session ≡ s → k.slot < length (owners (session w.plan s)) + n → got k ≡ later k)
+    (p s n : ℕ) (got later : Key → ℕ) → n ≤ length (session w.plan s).gates → ((key : Key) → key.session ≡ s → key.slot < length (owners (session w.plan s)) + n → got key ≡ later key)
     → (v i : ℕ) → i < length w.plan.groups → summands (local_run w got p s) n v i ≡ summands (local_run w later p s) n v i

@@ -24,33 +24,33 @@ abbrev pub SetBefore : Session → ℕ → ℕ → Type 0
 SetBefore s t v = (v < length (owners s)) ⊎ ((u : ℕ) × (u < t) × ((gate s u).output ≡ v))
 
 -- each gate reads set wires and sets a wire that isn't set
-pub record IsCircuit (s : Session) : Type 0 where
+pub record GatesInOrder (s : Session) : Type 0 where
   pub first : (t : ℕ) → t < length s.gates → reads_first (gate s t).operation ≡ true → SetBefore s t (gate s t).first
   pub second : (t : ℕ) → t < length s.gates → reads_second (gate s t).operation ≡ true → SetBefore s t (gate s t).second
   pub output : (t : ℕ) → t < length s.gates → SetBefore s t (gate s t).output → ⊥
 
 -- summands of the wires, and of the deals by party and slot, as the protocol has them
-pub record Solves (w : World) (s : ℕ) (sh : ℕ → ℕ → ℕ) (dl : ℕ → ℕ → ℕ → ℕ) : Type 0 where
-  pub input_deals : (v i : ℕ) → v < length (owners (session w.plan s)) → dl (slice_index (owners (session w.plan s)) v) v i ≡ dealt (scheme w.plan) (input_of w s v) (tape_word w s v (slice_index (owners (session w.plan s)) v)) i
+pub record SummandsSolve (w : World) (s : ℕ) (summand : ℕ → ℕ → ℕ) (deal : ℕ → ℕ → ℕ → ℕ) : Type 0 where
+  pub input_deals : (v i : ℕ) → v < length (owners (session w.plan s)) → deal (slice_index (owners (session w.plan s)) v) v i ≡ dealt (scheme w.plan) (input_of w s v) (tape_word w s v (slice_index (owners (session w.plan s)) v)) i
   pub product_deals : (t p i : ℕ) → t < length (session w.plan s).gates → is_product (gate (session w.plan s) t).operation ≡ true
-      → dl p (length (owners (session w.plan s)) + t) i ≡ dealt (scheme w.plan) (own_product (scheme w.plan) p (sh (gate (session w.plan s) t).first) (sh (gate (session w.plan s) t).second)) (tape_word w s (length (owners (session w.plan s)) + t) p) i
-  pub inputs : (v i : ℕ) → v < length (owners (session w.plan s)) → sh v i ≡ dl (slice_index (owners (session w.plan s)) v) v i
+      → deal p (length (owners (session w.plan s)) + t) i ≡ dealt (scheme w.plan) (own_product (scheme w.plan) p (summand (gate (session w.plan s) t).first) (summand (gate (session w.plan s) t).second)) (tape_word w s (length (owners (session w.plan s)) + t) p) i
+  pub inputs : (v i : ℕ) → v < length (owners (session w.plan s)) → summand v i ≡ deal (slice_index (owners (session w.plan s)) v) v i
   pub linear : (t i : ℕ) → t < length (session w.plan s).gates → is_product (gate (session w.plan s) t).operation ≡ false
-      → sh (gate (session w.plan s) t).output i ≡ local (scheme w.plan).modulus (gate (session w.plan s) t).operation (gate (session w.plan s) t).constant i (sh (gate (session w.plan s) t).first i) (sh (gate (session w.plan s) t).second i)
+      → summand (gate (session w.plan s) t).output i ≡ local (scheme w.plan).modulus (gate (session w.plan s) t).operation (gate (session w.plan s) t).constant i (summand (gate (session w.plan s) t).first i) (summand (gate (session w.plan s) t).second i)
   pub products : (t i : ℕ) → t < length (session w.plan s).gates → is_product (gate (session w.plan s) t).operation ≡ true
-      → sh (gate (session w.plan s) t).output i ≡ total w.plan.parties (λ p. if has_pair (scheme w.plan) p then dl p (length (owners (session w.plan s)) + t) i else 0) % (scheme w.plan).modulus
-  pub unset : (v i : ℕ) → (SetBefore (session w.plan s) (length (session w.plan s).gates) v → ⊥) → sh v i ≡ 0
+      → summand (gate (session w.plan s) t).output i ≡ total w.plan.parties (λ p. if has_pair (scheme w.plan) p then deal p (length (owners (session w.plan s)) + t) i else 0) % (scheme w.plan).modulus
+  pub unset : (v i : ℕ) → (SetBefore (session w.plan s) (length (session w.plan s).gates) v → ⊥) → summand v i ≡ 0
 
 -- these summands of the wires and of the deals are the world's
-pub record AreSummands (w : World) (s : ℕ) (sh : ℕ → ℕ → ℕ) (dl : ℕ → ℕ → ℕ → ℕ) : Type 0 where
-  pub wires : (v i : ℕ) → i < length w.plan.groups → sh v i ≡ summands (run_of w s) (length (session w.plan s).gates) v i
-  pub deals : (p k i : ℕ) → k < slots (session w.plan s) → deals_in w.plan (session w.plan s) p (slot (session w.plan s) k) ≡ true → dl p k i ≡ deal_of w s p k (slot (session w.plan s) k) i
+pub record AreSummands (w : World) (s : ℕ) (summand : ℕ → ℕ → ℕ) (deal : ℕ → ℕ → ℕ → ℕ) : Type 0 where
+  pub wires : (v i : ℕ) → i < length w.plan.groups → summand v i ≡ summands (run_of w s) (length (session w.plan s).gates) v i
+  pub deals : (p k i : ℕ) → k < slots (session w.plan s) → deals_in w.plan (session w.plan s) p (slot (session w.plan s) k) ≡ true → deal p k i ≡ deal_of w s p k (slot (session w.plan s) k) i
 
 -- the world's summands are the only solution
 abbrev pub OnlySolution : World → ℕ → Type 0
 OnlySolution w s =
-    IsCircuit (session w.plan s) → (sh : ℕ → ℕ → ℕ) (dl : ℕ → ℕ → ℕ → ℕ) → Solves w s sh dl → AreSummands w s sh dl
+    GatesInOrder (session w.plan s) → (summand : ℕ → ℕ → ℕ) (deal : ℕ → ℕ → ℕ → ℕ) → SummandsSolve w s summand deal → AreSummands w s summand deal
 
 -- and they are a solution
 abbrev pub IsSolution : World → ℕ → Type 0
-IsSolution w s = IsCircuit (session w.plan s) → Solves w s (summands (run_of w s) (length (session w.plan s).gates)) (λ p k. deal_of w s p k (slot (session w.plan s) k))
+IsSolution w s = GatesInOrder (session w.plan s) → SummandsSolve w s (summands (run_of w s) (length (session w.plan s).gates)) (λ p k. deal_of w s p k (slot (session w.plan s) k))

@@ -58,23 +58,23 @@ dealt_value w s p (Output o) = 0
 
 -- summand i of what party p deals in slot k, which is of this kind
 abbrev pub deal_of : World → ℕ → ℕ → ℕ → Slot → ℕ → ℕ
-deal_of w s p k z = dealt (scheme w.plan) (dealt_value w s p z) (tape_word w s k p)
+deal_of w s p k kind = dealt (scheme w.plan) (dealt_value w s p kind) (tape_word w s k p)
 
 -- ---- messages
 
 -- a summand of the sender's deal, or of the wire that is opened
 abbrev pub word_in : World → Key → Slot → ℕ
-word_in w k (Output o) = summands (run_of w k.session) (length (session w.plan k.session).gates) (output_wire (session w.plan k.session) o) k.share
-word_in w k z = deal_of w k.session k.sender k.slot z k.share
+word_in w key (Output o) = summands (run_of w key.session) (length (session w.plan key.session).gates) (output_wire (session w.plan key.session) o) key.share
+word_in w key kind = deal_of w key.session key.sender key.slot kind key.share
 
 -- the word of a message
 abbrev pub word : World → Key → ℕ
-word w k = word_in w k (slot (session w.plan k.session) k.slot)
+word w key = word_in w key (slot (session w.plan key.session) key.slot)
 
 -- a member of the group of this mask sends or receives the message
 abbrev pub touches : ℕ → Key → Bool
-touches group k = has_party group k.sender || has_party group k.receiver
+touches group key = has_party group key.sender || has_party group key.receiver
 
 -- what the group sees
 abbrev pub view : World → ℕ → List (Key × ℕ)
-view w group = map (λ k. (k, word w k)) (filter (touches group) (messages w.plan))
+view w group = map (λ key. (key, word w key)) (filter (touches group) (messages w.plan))

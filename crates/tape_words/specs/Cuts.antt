@@ -16,6 +16,6 @@ cut [] words = []
 cut (count ∷ counts) words = take count words ∷ cut counts (drop count words)
 
 -- when each refusal comes: the words are too few, or there are enough and it is out of memory
-abbrev pub IsRefusal : List ℕ → List ℕ → SplitFault → Type 0
-IsRefusal counts words (TapeShort wanted found) = (wanted ≡ sum counts) × (found ≡ length words) × (found < wanted)
-IsRefusal counts words Memory = sum counts ≤ length words
+abbrev pub IsSplitRefusal : List ℕ → List ℕ → SplitFault → Type 0
+IsSplitRefusal counts words (TapeShort wanted found) = (wanted ≡ sum counts) × (found ≡ length words) × (found < wanted)
+IsSplitRefusal counts words Memory = sum counts ≤ length words

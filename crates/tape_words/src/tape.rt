@@ -1,7 +1,7 @@
 //! Tapes, and how they are cut.
 ghost use Rattle.std.specs.Prelude.{◌≡◌, ◌^◌, ◌<◌, ◌≤◌, [], ◌∷◌, All, IfOk, IfErr, OnOk, MatchOption, length, sum};
 ghost use Rattle.mpc_ring.specs.Sums.{listed};
-ghost use Rattle.tape_words.specs.Cuts.{cut, IsFirstOutside, IsRefusal};
+ghost use Rattle.tape_words.specs.Cuts.{cut, IsFirstOutside, IsSplitRefusal};
 ghost use Rattle.tape_words.specs.Seeds.{seed_word};
 
 use crate::word::TapeWord;
@@ -117,7 +117,7 @@ impl Tape {
         requires { length counts.now ≤ 16 }
         ensures enough { OnOk result (sum counts.now ≤ length self) }
         ensures pieces { IfOk result (λ pieces. pieces.items ≡ cut counts.now self) }
-        ensures refused { IfErr result (λ fault. IsRefusal counts.now self fault.0) }
+        ensures refused { IfErr result (λ fault. IsSplitRefusal counts.now self fault.0) }
         ensures back { IfErr result (λ fault. fault.1 ≡ self) }
     {
         let found = self.left();

@@ -16,7 +16,7 @@ pub fn gather_number<G: Gather>(out: &mut G, number: u64)
 }
 
 /// Adds a word after a space.
-#[tactic(auto, using(outer_io::proofs::Gathers::adds_then))]
+#[tactic(auto, using(outer_io::proofs::GatheredTexts::adds_then))]
 pub fn gather_word<G: Gather>(out: &mut G, word: u64)
     ensures { Adds (codes " " ++ decimal word) (G.gathered out.old) (G.gathered out.new) }
 {
@@ -51,7 +51,7 @@ fn gather_member<G: Gather>(out: &mut G, group: Group, names: &Names, party: u32
     out.push(names.name(party).as_bytes());
 }
 
-#[tactic(auto, using(outer_io::proofs::Gathers::adds_nothing))]
+#[tactic(auto, using(outer_io::proofs::GatheredTexts::adds_nothing))]
 fn gather_plus<G: Gather>(out: &mut G, wanted: bool)
     ensures { Adds (only_if wanted (codes "+")) (G.gathered out.old) (G.gathered out.new) }
 {

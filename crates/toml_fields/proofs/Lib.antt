@@ -1,3 +1,3 @@
 pub mod Documents
 pub mod Lists
-pub mod Unknown
+pub mod UnknownNames

@@ -4,13 +4,13 @@
 mod fields;
 mod keys;
 mod kind;
-mod reading;
+mod documents;
 mod values;
 
 pub use fields::{fields_at, has_field, integer_at, is_misfit, items_at, text_at, texts_at};
 pub use keys::least_unknown;
 pub use kind::Kind;
-pub use reading::document;
+pub use documents::document;
 pub use values::{fields_of, integer_of, items_of, text_of, texts_of};
 
 #[cfg(test)]

@@ -3,11 +3,11 @@ use Rattle.std.proofs.Common.{◌≡◌, ℕ, ◌<◌, ◌≤◌, List, length, 
 use Rattle.std.specs.Prelude.{slice_index}
 use Rattle.std.proofs.lemmas.Bool.{false≢true, cases_order}
 use Rattle.party_set.specs.Parties.{Structure, IsQ2, covers}
-use Rattle.group_formula.proofs.Answering.{one_answer}
+use Rattle.group_formula.proofs.OneAnswer.{one_answer}
 use Rattle.q2_test.specs.Covering.{IsFirstCovering}
 use Rattle.job_plan.specs.Plans.{Plan}
 use Rattle.job_plan.specs.Tallies.{tape_length}
-use Rattle.job_plan.specs.Limits.{IsWithin, IsRefusal, IsFirstOverdrawn}
+use Rattle.job_plan.specs.Limits.{IsPlanWithin, IsPlanRefusal, IsFirstOverdrawn}
 use Rattle.plan_faults.specs.declared.plan_fault.PlanFault.{PlanFault}
 use Rattle.plan_faults.specs.declared.plan_fault.PlanFault.TheVariants.{TooManyMessages, TooManyWords, Memory}
 use Rattle.job_file.specs.Forms.{JobForm, AdversaryForm, by_formula, by_list}
@@ -83,12 +83,12 @@ module _ (plan : Plan) (p n p' n' : ℕ) (a : IsFirstOverdrawn plan p n) (b : Is
   same_count : n ≡ n'
   same_count = a.is ∙ ap (tape_length plan) same_party ∙ sym b.is
 
-within_or_not : {P : Type 0} (plan : Plan) (fault : PlanFault) → IsWithin plan → IsRefusal plan fault → (fault ≡ Memory → ⊥) → P
+within_or_not : {P : Type 0} (plan : Plan) (fault : PlanFault) → IsPlanWithin plan → IsPlanRefusal plan fault → (fault ≡ Memory → ⊥) → P
 within_or_not plan (TooManyMessages count) w r not = absurd (omega (arith, w.messages, r.1, r.0))
 within_or_not plan (TooManyWords party count) w r not = absurd (omega (arith, w.words party r.1.there, r.1.is, r.1.over))
 within_or_not plan Memory w r not = absurd (not refl)
 
-same_fault : (plan : Plan) (f g : PlanFault) → IsRefusal plan f → IsRefusal plan g → (f ≡ Memory → ⊥) → (g ≡ Memory → ⊥) → f ≡ g
+same_fault : (plan : Plan) (f g : PlanFault) → IsPlanRefusal plan f → IsPlanRefusal plan g → (f ≡ Memory → ⊥) → (g ≡ Memory → ⊥) → f ≡ g
 same_fault plan (TooManyMessages n) (TooManyMessages n') a b real real' = ap TooManyMessages (a.0 ∙ sym b.0)
 same_fault plan (TooManyMessages n) (TooManyWords p n') a b real real' = absurd (omega (arith, a.0, a.1, b.0))
 same_fault plan (TooManyMessages n) Memory a b real real' = absurd (real' refl)

@@ -1,6 +1,6 @@
 //! A desk over cells of another kind: a recorder, which has the words of all messages beforehand and keeps each call.
 ghost use Rattle.std.specs.Prelude.{◌≡◌, ℕ, ◌<◌, ◌^◌, All, Some, IfOk, length, slice_get};
-ghost use Rattle.job_plan.specs.Multiply.{multiply_plan as described};
+ghost use Rattle.job_plan.specs.Multiply as multiply;
 ghost use Rattle.share_world.specs.Worlds.{World};
 ghost use Rattle.share_world.specs.Multiply.{multiply_world};
 ghost use Rattle.program_laws.specs.Lawful.{given_in};
@@ -127,7 +127,7 @@ fn finish_desk(plan: &Plan, desk: &mut Desk, cells: &mut Recorder)
 // The third party's desk, where 5 and 7 are multiplied.
 fn reader(alloc: Global, plan: &Plan, ring: Ring) -> Result<Desk, Fail>
     requires ring { ring ≡ 8 }
-    requires plan { plan.now ≡ described 8 }
+    requires plan { plan.now ≡ multiply.multiply_plan 8 }
     ensures { IfOk result (IsDesk (given_in multiply_world 0 2)) }
 {
     let tape = match Tape::from_words(ring, vec![in alloc; 5, 6]?) {

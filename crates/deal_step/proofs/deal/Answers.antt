@@ -4,7 +4,7 @@ use Rattle.std.proofs.lemmas.List.{get_or-drop, at_drop_more, length-take-le, le
 use Rattle.std.proofs.lemmas.Nat.{pow_pos}
 use Rattle.mpc_ring.specs.Sums.{total, difference}
 use Rattle.mpc_ring.proofs.Totals.{total_step_alone}
-use Rattle.deal_step.proofs.Filling.{missing, filled_below, filled_dealt}
+use Rattle.deal_step.proofs.DealtSummands.{missing, filled_below, filled_dealt}
 use Rattle.deal_step.proofs.deal.Goals as goal
 
 pub loop-place-preserved : goal.loop-place-preserved

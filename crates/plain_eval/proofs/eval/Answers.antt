@@ -4,8 +4,8 @@ use Rattle.std.proofs.lemmas.List.{length-replicate, get_or_default}
 use Rattle.circuit_model.specs.Circuits.{operate, values}
 use Rattle.circuit_model.specs.declared.gate.Gate.{Gate}
 use Rattle.circuit_model.specs.Netlists.{gate, given, input_wires}
-use Rattle.circuit_model.proofs.Reading.{first_below, second_below, output_below}
-use Rattle.plain_eval.proofs.Evaluating.{words_given, given_below, words_next, below_next}
+use Rattle.circuit_model.proofs.GateWires.{first_below, second_below, output_below}
+use Rattle.plain_eval.proofs.GateWords.{words_given, given_below, words_next, below_next}
 use Rattle.plain_eval.proofs.eval.Goals as goal
 
 pub loop-i-init : goal.loop-i-init

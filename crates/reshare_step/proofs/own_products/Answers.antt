@@ -4,7 +4,7 @@ use Rattle.std.proofs.lemmas.Nat.{pow_pos}
 use Rattle.std.proofs.lemmas.List.Sums.{sum_by-cons}
 use Rattle.std.proofs.Math.Nat.{mod-eq_of_lt}
 use Rattle.product_duty.specs.Duties.{duty, pairs_of}
-use Rattle.reshare_step.proofs.Listing.{Within, within_pairs, sum_by-pairs_where, moved}
+use Rattle.reshare_step.proofs.PairSums.{Within, within_pairs, sum_by-pairs_where, moved}
 use Rattle.reshare_step.proofs.own_products.Goals as goal
 
 pub loop-i-init : goal.loop-i-init

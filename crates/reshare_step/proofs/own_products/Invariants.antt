@@ -1,7 +1,7 @@
 use Rattle.std.proofs.Common.{◌≡◌, ℕ, ◌+◌, ◌*◌, ◌%◌, ◌^◌, ◌<◌, length}
 use Rattle.std.specs.Prelude.{slice_index, sum_by}
 use Rattle.product_duty.specs.Duties.{pairs_of}
-use Rattle.reshare_step.proofs.Listing.{Within}
+use Rattle.reshare_step.proofs.PairSums.{Within}
 use Rattle.reshare_step.proofs.own_products.Given as goal
 
 -- the sum so far, with the products that are left

@@ -1,5 +1,5 @@
-use Rattle.mpc_ring.proofs.Modular.{mods_of_same}
-use Rattle.secret_sharing.proofs.Adding.{dealt_sum}
+use Rattle.mpc_ring.proofs.Remainders.{mods_of_same}
+use Rattle.secret_sharing.proofs.SummandSums.{dealt_sum}
 use Rattle.secret_sharing.proofs.dealt_add_up.Goals as goal
 
 pub returns : goal.returns

@@ -1,4 +1,4 @@
-use Rattle.secret_sharing.proofs.Adding.{sum_is_plain}
+use Rattle.secret_sharing.proofs.SummandSums.{sum_is_plain}
 use Rattle.secret_sharing.proofs.summands_add_up.Goals as goal
 
 pub returns : goal.returns

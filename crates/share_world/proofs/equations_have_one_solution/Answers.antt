@@ -1,4 +1,4 @@
-use Rattle.share_world.proofs.Solving.{only_solution, is_solution}
+use Rattle.share_world.proofs.Solutions.{only_solution, is_solution}
 use Rattle.share_world.proofs.equations_have_one_solution.Goals as goal
 
 pub returns-clause-solves : goal.returns-clause-solves

@@ -1,5 +1,5 @@
-use Rattle.share_world.proofs.Locality.{held_are_dealt}
-use Rattle.share_world.proofs.Sending.{sent_are_words, opened_are_plain}
+use Rattle.share_world.proofs.LocalWords.{held_are_dealt}
+use Rattle.share_world.proofs.SentWords.{sent_are_words, opened_are_plain}
 use Rattle.share_world.proofs.local_is_dealt.Goals as goal
 
 pub returns-clause-held : goal.returns-clause-held

@@ -1,4 +1,4 @@
-use Rattle.share_world.proofs.Joining.{locals_join}
+use Rattle.share_world.proofs.JoinedLocals.{locals_join}
 use Rattle.share_world.proofs.locals_join.Goals as goal
 
 pub returns : goal.returns

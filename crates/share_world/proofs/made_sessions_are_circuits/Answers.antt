@@ -1,4 +1,4 @@
-use Rattle.share_world.proofs.Making.{made_is_circuit, made_has_values}
+use Rattle.share_world.proofs.MadeSessions.{made_is_circuit, made_has_values}
 use Rattle.share_world.proofs.made_sessions_are_circuits.Goals as goal
 
 pub returns-clause-valid : goal.returns-clause-valid

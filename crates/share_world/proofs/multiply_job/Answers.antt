@@ -1,4 +1,4 @@
-use Rattle.share_world.proofs.Multiplying.{plain_is, words_are, whole_is}
+use Rattle.share_world.proofs.WorkedProduct.{plain_is, words_are, whole_is}
 use Rattle.share_world.proofs.multiply_job.Goals as goal
 
 pub returns-clause-plain : goal.returns-clause-plain

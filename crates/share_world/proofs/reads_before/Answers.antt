@@ -1,4 +1,4 @@
-use Rattle.share_world.proofs.Locality.{reads_before}
+use Rattle.share_world.proofs.LocalWords.{reads_before}
 use Rattle.share_world.proofs.reads_before.Goals as goal
 
 pub returns : goal.returns

@@ -1,5 +1,5 @@
 use Rattle.std.proofs.Common.{◌≡◌, suc, ◌+◌, ◌-◌, ◌<◌, ◌∙◌, ap, arith, false, not, length, slice_index_or}
-use Rattle.circuit_model.proofs.Telling.{find_next}
+use Rattle.circuit_model.proofs.SetWires.{find_next}
 use Rattle.circuit_model.proofs.builder.first_unset.Goals as goal
 
 pub loop-wire-preserved : goal.loop-wire-preserved

@@ -1,7 +1,7 @@
 use Rattle.std.proofs.Common.{nat_lt, false, sym, ◌∙◌, arith, length}
 use Rattle.std.specs.Prelude.{slice_index_or}
 use Rattle.std.proofs.lemmas.Bool.{ltb-true}
-use Rattle.circuit_model.proofs.Along.{all_yes, all_no, all_end, all_at}
+use Rattle.circuit_model.proofs.ListTests.{all_yes, all_no, all_end, all_at}
 use Rattle.circuit_model.proofs.checks.are_set.Goals as goal
 
 pub bounds-set-wire : goal.bounds-set-wire

@@ -1,5 +1,5 @@
 use Rattle.std.proofs.Common.{sym, ◌∙◌, arith}
-use Rattle.circuit_model.proofs.Along.{exceeds_next, exceeds_here, exceeds_end}
+use Rattle.circuit_model.proofs.ListTests.{exceeds_next, exceeds_here, exceeds_end}
 use Rattle.circuit_model.proofs.checks.exceeds.Goals as goal
 
 pub returns-then-width-left : goal.returns-then-width-left

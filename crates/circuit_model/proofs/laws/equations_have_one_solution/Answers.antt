@@ -1,4 +1,4 @@
-use Rattle.circuit_model.proofs.Solving.{values_solve, values_alone}
+use Rattle.circuit_model.proofs.Solutions.{values_solve, values_alone}
 use Rattle.circuit_model.proofs.laws.equations_have_one_solution.Goals as goal
 
 pub returns-clause-solve : goal.returns-clause-solve

@@ -5,5 +5,5 @@ use Rattle.desk_workers.proofs.pool.pass.Given as goal
 abbrev pub invariant-loop-others : goal.invariant-loop-others
 invariant-loop-others g l =
     IsFreeSeatOf l.rack l.seat
-    × (l.seat.view.parts ≡ l.fn.seat.view.parts)
+    × (l.seat.view.seats ≡ l.fn.seat.view.seats)
     × (l.moves ≤ l.others * 2 ^ 32)

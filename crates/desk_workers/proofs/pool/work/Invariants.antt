@@ -5,7 +5,7 @@ use Rattle.desk_workers.proofs.pool.work.Given as goal
 abbrev pub invariant-loop-over : goal.invariant-loop-over
 invariant-loop-over g l =
     IsFreeSeatOf l.rack l.seat
-    × (l.seat.view.parts ≡ l.fn.seat.view.parts)
+    × (l.seat.view.seats ≡ l.fn.seat.view.seats)
     × (l.idle ≤ 64)
     × (l.made < 2 ^ 41)
 

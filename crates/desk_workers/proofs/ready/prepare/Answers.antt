@@ -1,14 +1,13 @@
 use Rattle.std.proofs.Common.{rules, ◌≡◌, ◌<◌, ◌≤◌, length, vec_len, vec_capacity, ap, sym, subst, ◌∙◌, arith}
-use Rattle.message_board.specs.Pairs.{total}
+use Rattle.message_board.specs.Pairs.{total_over}
 use Rattle.party_desk.specs.declared.desk.Desk.{Desk}
 use Rattle.party_desk.specs.Desks.{IsDesk}
 use Rattle.program_laws.specs.Lawful.{given_to}
-use Rattle.desk_laws.specs.Opening.{world_of}
-use Rattle.desk_laws.proofs.Starting.{whole_is, new_desks}
+use Rattle.desk_laws.specs.Opening.{world_of_pieces}
+use Rattle.desk_laws.proofs.OpenedDesks.{whole_is, new_desks}
 use Rattle.desk_workers.specs.Promises.{world_in}
 use Rattle.desk_workers.proofs.Counts.{all_instructions}
-use Rattle.desk_workers.proofs.Posted.{nothing_posted}
-use Rattle.desk_workers.proofs.Rows.{stands_at}
+use Rattle.desk_workers.proofs.PostedPairs.{nothing_posted}
 use Rattle.desk_workers.proofs.ready.prepare.Goals as goal
 
 pub returns-in_err-items-clause-whole : goal.returns-in_err-items-clause-whole
@@ -30,10 +29,9 @@ pub make-requires-clause-items : goal.make-requires-clause-items
 make-requires-clause-items c i x at =
     let opened = c.in_ok-items.ensures in
     let is = c.of-promised.ensures in
-    let here = stands_at c.in_ok-items.items.items i x at in
     let are = new_desks c.args.plan.now c.parties-parties.ensures.sound c.args.inputs.now c.requires.inputs c.args.pieces.items c.requires.pieces c.in_ok-items.items.items opened.0 opened.1 in
-    let start : x.position ≡ 0 = subst (λ (d : Desk). d.position ≡ 0) here.1 (opened.1 i x here.0).position in (
-      subst (λ v. IsDesk (given_to v i) x) (sym is) (subst (IsDesk (given_to (world_of c.args.plan.now c.args.inputs.now c.args.pieces.items) i)) here.1 (are.desks i x here.0)),
+    let start : x.position ≡ 0 = (opened.1 i x at).position in (
+      subst (λ v. IsDesk (given_to v i) x) (sym is) (are.desks i x at),
       nothing_posted (world_in c.of-promised.result) x start,
     )
 
@@ -57,7 +55,7 @@ returns-in-Ok-clause-ready c =
       some = omega arith;
       all = seats ∙ sym (ap (λ a. a.seats) made.rack.0);
       new = made.seats;
-      instructions = c.instructions_in-instructions.ensures ∙ ap (λ l. total (λ (d : Desk). length d.program) l) c.as_slice.ensures.value ∙ all_instructions (world_of c.args.plan.now c.args.inputs.now c.args.pieces.items) c.in_ok-items.items.items are;
+      instructions = c.instructions_in-instructions.ensures ∙ ap (λ l. total_over (λ (d : Desk). length d.program) l) c.as_slice.ensures.value ∙ all_instructions (world_of_pieces c.args.plan.now c.args.inputs.now c.args.pieces.items) c.in_ok-items.items.items are;
       no_desk = c.in_ok-desks.ensures.items;
       room = omega arith;
       no_seat = c.in_ok-last.ensures.items;

@@ -1,5 +1,5 @@
 use Rattle.std.proofs.Common.{◌-◌, ◌≤◌, length}
-use Rattle.group_formula.proofs.Passing.{Going}
+use Rattle.group_formula.proofs.FaultlessTokens.{Going}
 use Rattle.group_formula.proofs.parse.parse.Given as goal
 
 abbrev pub invariant-loop-cut : goal.invariant-loop-cut

@@ -1,7 +1,7 @@
 use Rattle.std.proofs.Common.{[], sym, ◌∙◌, ap, arith, below_more}
 use Rattle.std.specs.List.{position}
 use Rattle.std.specs.Str.{bytes_eq}
-use Rattle.group_formula.proofs.Naming.{named, position_found, position_none}
+use Rattle.group_formula.proofs.NamedParties.{named, position_found, position_none}
 use Rattle.group_formula.proofs.resolve.party_at.Goals as goal
 
 pub returns-then-eq : goal.returns-then-eq

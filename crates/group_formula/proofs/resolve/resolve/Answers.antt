@@ -1,9 +1,9 @@
 use Rattle.std.proofs.Common.{◌≡◌, ℕ, List, length, take, drop, ◌++◌, map, sym, ◌∙◌, ap, subst, arith}
 use Rattle.group_formula.specs.declared.node.Node.{Node}
-use Rattle.group_formula.specs.Trees.{IsSound, postfix, tree_of, Meaning}
+use Rattle.group_formula.specs.Trees.{IsSoundTree, postfix, tree_of, Meaning}
 use Rattle.group_formula.specs.Formulas.{reading}
 use Rattle.group_formula.specs.Resolving.{resolved_node, least}
-use Rattle.group_formula.proofs.Resolved.{lent}
+use Rattle.group_formula.proofs.ResolvedNodes.{lent}
 use Rattle.group_formula.proofs.Meaning.{least_is, few_nodes, tree_is, writes_back, is_sound}
 use Rattle.group_formula.proofs.resolve.resolve.Goals as goal
 
@@ -11,8 +11,8 @@ use Rattle.group_formula.proofs.resolve.resolve.Goals as goal
 whole : (n : ℕ) (new items now : List Node) → n ≡ length items → length new ≡ length now → now ≡ items → take n (new ++ drop (length new) items) ≡ new
 whole n new items now e f g = lent n new items e (f ∙ ap length g)
 
-sound_there : (n m : ℕ) (xs ys : List Node) → n ≡ m → xs ≡ ys → IsSound m (tree_of ys) → IsSound n (tree_of xs)
-sound_there n m xs ys e f h = subst (λ (k : ℕ). IsSound k (tree_of xs)) (sym e) (subst (λ ns. IsSound m (tree_of ns)) (sym f) h)
+sound_there : (n m : ℕ) (xs ys : List Node) → n ≡ m → xs ≡ ys → IsSoundTree m (tree_of ys) → IsSoundTree n (tree_of xs)
+sound_there n m xs ys e f h = subst (λ (k : ℕ). IsSoundTree k (tree_of xs)) (sym e) (subst (λ ns. IsSoundTree m (tree_of ns)) (sym f) h)
 
 pub of-requires : goal.of-requires
 of-requires c =

@@ -1,7 +1,7 @@
 use Rattle.std.proofs.Common.{sym, ◌∙◌, arith}
 use Rattle.group_formula.specs.declared.node.Node.TheVariants.{Name}
 use Rattle.group_formula.specs.Formulas.{reading}
-use Rattle.group_formula.proofs.Resolved.{begins, next_ok, next_err, all_first, all_resolved}
+use Rattle.group_formula.proofs.ResolvedNodes.{begins, next_ok, next_err, all_first, all_resolved}
 use Rattle.group_formula.proofs.resolve.resolve_nodes.Goals as goal
 use Rattle.group_formula.proofs.resolve.resolve_nodes.Goals.{in-Ok, in-Err}
 

@@ -1,5 +1,5 @@
 use Rattle.group_formula.specs.Formulas.{reading}
-use Rattle.group_formula.proofs.Resolved.{Resolving}
+use Rattle.group_formula.proofs.ResolvedNodes.{Resolving}
 use Rattle.group_formula.proofs.resolve.resolve_nodes.Given as goal
 
 abbrev pub invariant-loop-node : goal.invariant-loop-node

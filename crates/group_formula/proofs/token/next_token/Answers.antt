@@ -3,7 +3,7 @@ use Rattle.std.specs.List.{prefix_len}
 use Rattle.std.proofs.lemmas.List.{take_rest}
 use Rattle.group_formula.specs.declared.token.Run.TheVariants.{Blank}
 use Rattle.group_formula.specs.Tokens.{has_byte, token_at, first_length, tokens_from}
-use Rattle.group_formula.proofs.Cutting.{none_left, next_is}
+use Rattle.group_formula.proofs.NextTokens.{none_left, next_is}
 use Rattle.group_formula.proofs.token.next_token.Goals as goal
 
 pub returns-then-at-text-clause-found : goal.returns-then-at-text-clause-found

@@ -2,7 +2,7 @@ use Rattle.std.proofs.Common.{◌+◌, arith, sym, ◌∙◌, ap, [], drop, get_
 use Rattle.party_set.specs.Parties.{has_party}
 use Rattle.group_formula.specs.Values.{top, after_value}
 use Rattle.group_formula.specs.declared.node.Node.TheVariants.{Name}
-use Rattle.group_formula.proofs.Valuing.{after_values, node_step, node_end, after_tree}
+use Rattle.group_formula.proofs.NodeValues.{after_values, node_step, node_end, after_tree}
 use Rattle.group_formula.proofs.values.evaluate.Goals as goal
 
 pub loop-node-preserved : goal.loop-node-preserved

@@ -1,6 +1,6 @@
 use Rattle.std.proofs.Common.{◌≡◌, ◌≤◌, length, drop, []}
 use Rattle.party_set.specs.Parties.{has_party}
-use Rattle.group_formula.proofs.Valuing.{after_values}
+use Rattle.group_formula.proofs.NodeValues.{after_values}
 use Rattle.group_formula.proofs.values.evaluate.Given as goal
 
 abbrev pub invariant-loop-node : goal.invariant-loop-node

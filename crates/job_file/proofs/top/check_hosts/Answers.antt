@@ -5,7 +5,7 @@ use Rattle.toml.specs.View.{view, table_view}
 use Rattle.toml_fields.specs.Fields.{items_at}
 use Rattle.job_file.specs.declared.field.Field.TheVariants.{Hosts}
 use Rattle.job_file.specs.declared.fault.JobFault.{JobFault}
-use Rattle.job_file.specs.Answers.{Tells}
+use Rattle.job_file.specs.Answers.{TellsFault}
 use Rattle.job_file.specs.Forms.{items}
 use Rattle.job_file.specs.Faults.{hosts_fault}
 use Rattle.job_file.proofs.Hosts.{hosts_are, text_row}
@@ -23,5 +23,5 @@ returns c =
     let same : map view c.items_at-hosts.result.now ≡ items Hosts (table_view c.args.table.now) = c.items_at-hosts.ensures ∙ ap (λ key. items_at key (table_view c.args.table.now)) c.text.ensures in
     let told = hosts_are (table_view c.args.table.now) c.items_at-hosts.result.now c.args.parties same c.requires in
     let last : hosts_fault (table_view c.args.table.now) ≡ text_row c.items_at-hosts.result.now = told ∙ ap (λ row. option_or row (text_row c.items_at-hosts.result.now)) c.in_ok-check_host_count.ensures in
-    let P : Option JobFault → Type 0 = λ wanted. Tells c.check_host_texts.result wanted in
+    let P : Option JobFault → Type 0 = λ wanted. TellsFault c.check_host_texts.result wanted in
     subst P (sym last) c.check_host_texts.ensures

@@ -8,7 +8,7 @@ use Rattle.toml.specs.declared.value.Value.{Value}
 use Rattle.toml_fields.specs.Fields.{text_of, texts_of}
 use Rattle.toml_fields.proofs.Lists.{map_twice}
 use Rattle.job_file.specs.Forms.{mask_of}
-use Rattle.job_file.proofs.Growing.{grown}
+use Rattle.job_file.proofs.GrownLists.{grown}
 use Rattle.job_file.proofs.values.groups_of.Goals as goal
 
 pub loop-readers-preserved : goal.loop-readers-preserved

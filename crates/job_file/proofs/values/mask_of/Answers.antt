@@ -8,7 +8,7 @@ use Rattle.toml.specs.declared.value.Value.{Value}
 use Rattle.toml_fields.specs.Fields.{text_of}
 use Rattle.toml_fields.proofs.Lists.{map_twice}
 use Rattle.job_file.specs.Forms.{party_of, mask_of}
-use Rattle.job_file.proofs.Growing.{fold-map}
+use Rattle.job_file.proofs.GrownLists.{fold-map}
 use Rattle.job_file.proofs.values.mask_of.Goals as goal
 
 pub loop-reader-init : goal.loop-reader-init

@@ -11,7 +11,7 @@ use Rattle.toml_fields.proofs.Lists.{map_twice}
 use Rattle.job_file.specs.declared.job.JobSession.{JobSession}
 use Rattle.job_file.specs.Forms.{session_form}
 use Rattle.job_file.specs.Jobs.{session_view, IsSession}
-use Rattle.job_file.proofs.Growing.{grown}
+use Rattle.job_file.proofs.GrownLists.{grown}
 use Rattle.job_file.proofs.values.sessions_of.Goals as goal
 
 pub loop-table-preserved : goal.loop-table-preserved

@@ -1,7 +1,7 @@
 use Rattle.std.proofs.Common.{◌≡◌, ap, sym, ◌∙◌, arith}
 use Rattle.mpc_ring.specs.Sums.{total}
 use Rattle.job_plan.specs.Tallies.{party_messages}
-use Rattle.job_plan.proofs.Tallying.{messages_by_party}
+use Rattle.job_plan.proofs.TallyLaws.{messages_by_party}
 use Rattle.job_plan.proofs.counts.message_count.Goals as goal
 
 pub returns : goal.returns

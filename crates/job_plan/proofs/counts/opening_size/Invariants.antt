@@ -1,6 +1,6 @@
 use Rattle.std.proofs.Common.{◌≡◌, ℕ, ◌≤◌, length}
 use Rattle.mpc_ring.specs.Sums.{joined}
-use Rattle.job_plan.proofs.Tallying.{open_message}
+use Rattle.job_plan.proofs.TallyLaws.{open_message}
 use Rattle.job_plan.proofs.counts.opening_size.Given as goal
 
 abbrev pub invariant-loop-i : goal.invariant-loop-i

@@ -1,5 +1,5 @@
 use Rattle.std.proofs.Common.{◌≡◌, ◌-◌, ◌*◌, length, ap₂, sym, ◌∙◌, arith}
-use Rattle.job_plan.proofs.Tallying.{tape_length_is}
+use Rattle.job_plan.proofs.TallyLaws.{tape_length_is}
 use Rattle.job_plan.proofs.counts.word_count.Goals as goal
 
 pub returns : goal.returns

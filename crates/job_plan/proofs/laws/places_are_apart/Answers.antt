@@ -1,4 +1,4 @@
-use Rattle.job_plan.proofs.Apart.{places_differ, places_by_deals}
+use Rattle.job_plan.proofs.DistinctMessages.{places_differ, places_by_deals}
 use Rattle.job_plan.proofs.laws.places_are_apart.Goals as goal
 
 pub returns-clause-apart : goal.returns-clause-apart

@@ -5,8 +5,8 @@ use Rattle.std.specs.Prelude.{Ok}
 use Rattle.std.proofs.lemmas.Fn.{always_returns_same}
 use Rattle.job_plan.specs.Numbers.{rank}
 use Rattle.job_plan.specs.Packing.{unpacked}
-use Rattle.job_plan.proofs.Naming.{name_at}
-use Rattle.job_plan.proofs.Searching.{unequal, absent_beside, absent_in_gap}
+use Rattle.job_plan.proofs.PackedKeys.{name_at}
+use Rattle.job_plan.proofs.RankSearch.{unequal, absent_beside, absent_in_gap}
 use Rattle.job_plan.proofs.ranks.search.Goals as goal
 
 pub returns-in_default-clause-absent : goal.returns-in_default-clause-absent

@@ -1,7 +1,7 @@
 use Rattle.std.proofs.Common.{◌≡◌, ap₂, sym, subst, ◌∙◌, length, List, ℕ, All}
 use Rattle.std.specs.Prelude.{IfOk}
 use Rattle.job_plan.specs.InputWords.{AreInputs}
-use Rattle.desk_laws.specs.Opening.{ArePieces, world_of as world_opened}
+use Rattle.desk_laws.specs.Opening.{ArePieces, world_of_pieces}
 use Rattle.desk_workers.specs.Runs.{IsReady}
 use Rattle.job_run.specs.Pieces.{pieces_in, tape_words}
 use Rattle.job_run.proofs.Worlds.{are_inputs, are_pieces, sessions_each, world_same}
@@ -29,5 +29,5 @@ pub returns-clause-ready : goal.returns-clause-ready
 returns-clause-ready c =
     let inputs = c.make-inputs.ensures ∙ c.in_ok-inputs.ensures.inputs in
     let pieces = c.in_ok-pieces.ensures ∙ ap₂ pieces_in c.sessions.ensures c.in_ok-inputs.ensures.tapes in
-    let same = ap₂ (world_opened c.args.plan.now) inputs pieces ∙ world_same c.args.plan.now c.args.parties.items c.requires.count c.requires.fit in
+    let same = ap₂ (world_of_pieces c.args.plan.now) inputs pieces ∙ world_same c.args.plan.now c.args.parties.items c.requires.count c.requires.fit in
     subst (λ w. IfOk c.prepare.result (IsReady w)) same c.prepare.ensures.ready

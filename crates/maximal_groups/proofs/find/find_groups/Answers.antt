@@ -2,8 +2,8 @@ use Rattle.std.proofs.Common.{◌≡◌, ◌*◌, ◌%◌, ◌^◌, ℕ, Bool, l
 use Rattle.party_set.specs.Parties.{Members}
 use Rattle.party_set.proofs.Masks.{power_is}
 use Rattle.maximal_groups.specs.Families.{is_maximal}
-use Rattle.maximal_groups.proofs.Listing.{filter_no}
-use Rattle.maximal_groups.proofs.Found.{some_is, masks, more_yes, all_more, one_too_many, all_found, antichain_found}
+use Rattle.maximal_groups.proofs.NumberFilters.{filter_no}
+use Rattle.maximal_groups.proofs.FoundGroups.{some_is, masks, more_yes, all_more, one_too_many, all_found, antichain_found}
 use Rattle.maximal_groups.proofs.find.find_groups.Goals as goal
 use Rattle.maximal_groups.proofs.find.find_groups.Goals.{then-is_maximal+else-len-eq-MOST_GROUPS+in_ok-push, else-is_maximal}
 

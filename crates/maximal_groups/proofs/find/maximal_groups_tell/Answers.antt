@@ -1,4 +1,4 @@
-use Rattle.maximal_groups.proofs.Found.{tells}
+use Rattle.maximal_groups.proofs.FoundGroups.{tells}
 use Rattle.maximal_groups.proofs.find.maximal_groups_tell.Goals as goal
 
 pub returns : goal.returns

@@ -4,8 +4,8 @@ use Rattle.toml_fields.specs.Fields.{text_of}
 use Rattle.std.proofs.lemmas.List.{length-map}
 use Rattle.party_file.specs.Checks.{first_fault}
 use Rattle.party_file.specs.Table.{numbers_in}
-use Rattle.party_file.proofs.BySession.{inputs-stop, inputs-passed, pushed, read_more, read_all, same_checks, text_at_place, checks_of}
-use Rattle.party_file.proofs.Chains.{stops_by, joined_more-passed}
+use Rattle.party_file.proofs.SessionInputs.{inputs-stop, inputs-passed, pushed, read_more, read_all, same_checks, text_at_place, checks_of}
+use Rattle.party_file.proofs.CheckChains.{stops_by, joined_more-passed}
 use Rattle.party_file.proofs.inputs.read_inputs.Goals as goal
 
 pub returns-in_err-words-clause-fault : goal.returns-in_err-words-clause-fault

@@ -5,7 +5,7 @@ use Rattle.job_plan.specs.InputWords.{session_words}
 use Rattle.mpc_ring.specs.Sums.{joined}
 use Rattle.party_file.specs.Checks.{first_fault}
 use Rattle.party_file.specs.Table.{numbers_in}
-use Rattle.party_file.proofs.BySession.{checks_of}
+use Rattle.party_file.proofs.SessionInputs.{checks_of}
 use Rattle.party_file.proofs.inputs.read_inputs.Given as goal
 
 abbrev pub invariant-loop-session : goal.invariant-loop-session

@@ -1,5 +1,5 @@
 use Rattle.std.proofs.Common.{inr}
-use Rattle.party_file.proofs.Wording.{bad_words-ok, bad_words-no_number, bad_words-too_large}
+use Rattle.party_file.proofs.WordChecks.{bad_words-ok, bad_words-no_number, bad_words-too_large}
 use Rattle.party_file.proofs.numbers.read_numbers.Goals as goal
 
 pub returns-in-Ok-clause-passed : goal.returns-in-Ok-clause-passed

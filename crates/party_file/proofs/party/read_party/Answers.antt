@@ -2,8 +2,8 @@ use Rattle.std.proofs.Common.{◌∙◌, sym, ap, inr}
 use Rattle.std.specs.Option.{option_map}
 use Rattle.toml.specs.View.{table_view}
 use Rattle.std.proofs.lemmas.Result.{IfOk-weaker, IfErr-weaker}
-use Rattle.party_file.proofs.Rows.{file-ok, file-none, or_file}
-use Rattle.party_file.proofs.Fitting.{party-fits}
+use Rattle.party_file.proofs.FaultRows.{file-ok, file-none, or_file}
+use Rattle.party_file.proofs.PlanFit.{party-fits}
 use Rattle.party_file.proofs.party.read_party.Goals as goal
 
 pub returns-in-Some-clause-given : goal.returns-in-Some-clause-given

@@ -2,7 +2,7 @@ use Rattle.std.proofs.Common.{inr, ap, ◌∙◌, ◌^◌, length, ℕ, List}
 use Rattle.mpc_ring.specs.Sums.{listed}
 use Rattle.tape_words.specs.Seeds.{seed_word}
 use Rattle.job_plan.specs.Plans.{words}
-use Rattle.party_file.proofs.Wording.{seed-ok, seed-err}
+use Rattle.party_file.proofs.WordChecks.{seed-ok, seed-err}
 use Rattle.party_file.proofs.tapes.read_seed.Goals as goal
 
 pub returns-in_ok-seed_tapes-in-Ok-clause-passed : goal.returns-in_ok-seed_tapes-in-Ok-clause-passed

@@ -1,5 +1,5 @@
 use Rattle.std.proofs.Common.{◌∙◌}
-use Rattle.party_file.proofs.BySession.{few_counts}
+use Rattle.party_file.proofs.SessionInputs.{few_counts}
 use Rattle.party_file.proofs.tapes.read_tape.Goals as goal
 
 pub split_sessions-requires : goal.split_sessions-requires

@@ -1,6 +1,6 @@
 use Rattle.std.proofs.Common.{sym, ◌∙◌}
 use Rattle.std.proofs.lemmas.Result.{IfOk-weaker}
-use Rattle.party_file.proofs.Rows.{random_by_seed}
+use Rattle.party_file.proofs.FaultRows.{random_by_seed}
 use Rattle.toml.specs.View.{table_view}
 use Rattle.party_file.proofs.tapes.read_tapes.Goals as goal
 

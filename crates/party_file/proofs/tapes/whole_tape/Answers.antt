@@ -1,6 +1,6 @@
 use Rattle.std.proofs.Common.{None, subst, ◌^◌}
 use Rattle.tape_words.specs.Cuts.{IsFirstOutside}
-use Rattle.party_file.proofs.Wording.{out_of_ring-none, out_of_ring-at}
+use Rattle.party_file.proofs.WordChecks.{out_of_ring-none, out_of_ring-at}
 use Rattle.party_file.proofs.tapes.whole_tape.Goals as goal
 
 pub returns-in-Ok-clause-passed : goal.returns-in-Ok-clause-passed

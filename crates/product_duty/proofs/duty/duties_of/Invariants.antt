@@ -1,5 +1,5 @@
 use Rattle.std.proofs.Common.{◌≡◌, ℕ, ◌+◌, ◌*◌, ◌<◌, length, slice_index}
-use Rattle.product_duty.proofs.Dividing.{at_place}
+use Rattle.product_duty.proofs.PairDuties.{at_place}
 use Rattle.product_duty.proofs.duty.duties_of.Given as goal
 
 abbrev pub invariant-loop-j : goal.invariant-loop-j

@@ -1,6 +1,6 @@
 use Rattle.std.proofs.Common.{◌+◌, ◌*◌}
 use Rattle.std.specs.Prelude.{slice_index}
-use Rattle.product_duty.proofs.Dividing.{row_more, row_same}
+use Rattle.product_duty.proofs.PairDuties.{row_more, row_same}
 use Rattle.product_duty.proofs.duty.list_of.Goals as goal
 use Rattle.product_duty.proofs.duty.list_of.Goals.{then-duties-i+in_ok-push, else-duties-i}
 

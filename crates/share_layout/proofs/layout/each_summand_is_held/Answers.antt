@@ -1,4 +1,4 @@
-use Rattle.share_layout.proofs.Holding.{held}
+use Rattle.share_layout.proofs.Holders.{held}
 use Rattle.share_layout.proofs.layout.each_summand_is_held.Goals as goal
 
 pub returns : goal.returns

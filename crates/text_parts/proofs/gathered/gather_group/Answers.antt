@@ -1,6 +1,6 @@
 use Rattle.std.proofs.Common.{refl}
 use Rattle.text_parts.specs.Parts.{member_text}
-use Rattle.text_parts.proofs.Gathering.{adds_more}
+use Rattle.text_parts.proofs.GatheredTexts.{adds_more}
 use Rattle.text_parts.proofs.gathered.gather_group.Goals as goal
 
 pub loop-party-preserved : goal.loop-party-preserved

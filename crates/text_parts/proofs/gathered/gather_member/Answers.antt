@@ -3,8 +3,8 @@ use Rattle.std.specs.Prelude.{not, codes}
 use Rattle.mpc_ring.specs.Sums.{only_if}
 use Rattle.party_set.specs.Parties.{has_party}
 use Rattle.party_set.proofs.Masks.{power_is}
-use Rattle.outer_io.proofs.Gathers.{adds_then}
-use Rattle.text_parts.proofs.Gathering.{adds_same}
+use Rattle.outer_io.proofs.GatheredTexts.{adds_then}
+use Rattle.text_parts.proofs.GatheredTexts.{adds_same}
 use Rattle.text_parts.proofs.Members.{member_is}
 use Rattle.text_parts.proofs.gathered.gather_member.Goals as goal
 

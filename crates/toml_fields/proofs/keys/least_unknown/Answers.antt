@@ -1,5 +1,5 @@
 use Rattle.std.proofs.Common.{◌∙◌, ap, option_map, string_bytes, Some}
-use Rattle.toml_fields.proofs.Unknown.{first_is_least}
+use Rattle.toml_fields.proofs.UnknownNames.{first_is_least}
 use Rattle.toml_fields.proofs.keys.least_unknown.Goals as goal
 
 pub returns-in-Some : goal.returns-in-Some

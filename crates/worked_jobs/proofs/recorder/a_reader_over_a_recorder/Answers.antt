@@ -2,7 +2,7 @@ use Rattle.std.proofs.Common.{◌≡◌, ap, ◌∙◌, rules}
 use Rattle.job_plan.specs.Multiply.{multiply_plan}
 use Rattle.share_world.specs.Multiply.{multiply_world}
 use Rattle.worked_jobs.proofs.Reader.{beside_words}
-use Rattle.worked_jobs.proofs.Recording.{may_step}
+use Rattle.worked_jobs.proofs.RecordedDesks.{may_step}
 use Rattle.worked_jobs.proofs.recorder.a_reader_over_a_recorder.Goals as goal
 
 pub finish_desk-requires : goal.finish_desk-requires

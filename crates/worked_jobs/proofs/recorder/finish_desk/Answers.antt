@@ -1,4 +1,4 @@
-use Rattle.worked_jobs.proofs.Recording.{may_step, stays, falls, ends}
+use Rattle.worked_jobs.proofs.RecordedDesks.{may_step, stays, falls, ends}
 use Rattle.worked_jobs.proofs.recorder.finish_desk.Goals as goal
 
 pub step_in_world-requires : goal.step_in_world-requires

@@ -1,7 +1,7 @@
 use Rattle.std.proofs.Common.{ℕ}
 use Rattle.share_world.specs.Worlds.{World}
 use Rattle.worked_jobs.specs.Recording.{HasWords}
-use Rattle.worked_jobs.proofs.Recording.{left}
+use Rattle.worked_jobs.proofs.RecordedDesks.{left}
 use Rattle.worked_jobs.proofs.recorder.finish_desk.Given as goal
 
 abbrev pub invariant-loop : goal.invariant-loop

@@ -2,7 +2,7 @@ use Rattle.std.proofs.Common.{◌≡◌, arith, refl, sym, ◌∙◌, ap, subst,
 use Rattle.circuit_model.specs.declared.fault.CircuitFault.TheVariants.{OutputNotSet}
 use Rattle.circuit_model.specs.Building.{Draft, circuit_of}
 use Rattle.circuit_model.specs.Netlists.{IsCircuit}
-use Rattle.circuit_model.proofs.Drafting.{end_refused, end_unset, end_done, end_valid}
+use Rattle.circuit_model.proofs.DraftLaws.{end_refused, end_unset, end_done, end_valid}
 use Rattle.circuit_model.proofs.builder.Builder.finish.Goals as goal
 
 pub returns-in-Some : goal.returns-in-Some

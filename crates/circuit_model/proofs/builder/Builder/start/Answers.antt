@@ -1,8 +1,8 @@
 use Rattle.std.proofs.Common.{◌≡◌, arith, ◌∙◌, ap, length, sum, ℕ, []}
 use Rattle.std.proofs.lemmas.Result.{err_from_is_err_and}
 use Rattle.circuit_model.specs.Netlists.{is_set}
-use Rattle.circuit_model.proofs.Passing.{IsSmall}
-use Rattle.circuit_model.proofs.Drafting.{Passes, passes_seen, small, started, start_sound, not_started}
+use Rattle.circuit_model.proofs.PassedChecks.{IsSmall}
+use Rattle.circuit_model.proofs.DraftLaws.{Passes, passes_seen, small, started, start_sound, not_started}
 use Rattle.circuit_model.proofs.builder.Builder.start.Goals as goal
 
 pub start_set-requires : goal.start_set-requires

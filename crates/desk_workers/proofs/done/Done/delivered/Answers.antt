@@ -1,5 +1,5 @@
 use Rattle.std.proofs.Common.{◌≡◌, ℕ, Option, Some, None, sym, ◌∙◌}
-use Rattle.desk_workers.proofs.Over.{found}
+use Rattle.desk_workers.proofs.RunDesks.{found}
 use Rattle.desk_workers.proofs.done.Done.delivered.Goals as goal
 
 not_both : (o : Option ℕ) (v : ℕ) → o ≡ None → o ≡ Some v → ⊥

@@ -1,5 +1,5 @@
 use Rattle.std.proofs.Common.{◌∙◌}
-use Rattle.desk_workers.proofs.Over.{found}
+use Rattle.desk_workers.proofs.RunDesks.{found}
 use Rattle.desk_workers.proofs.done.Done.drawn.Goals as goal
 
 pub returns : goal.returns

@@ -1,5 +1,5 @@
 use Rattle.std.proofs.Common.{rules, ◌≡◌, ◌*◌, ◌<◌, ◌^◌, [], ◌∷◌, ◌++◌, length, ap, sym, subst, ◌∙◌, inl, arith}
-use Rattle.message_board.specs.Pairs.{total}
+use Rattle.message_board.specs.Pairs.{total_over}
 use Rattle.message_board.specs.Seats.{KnownBy, AreSeatsOf, HasCells}
 use Rattle.share_world.specs.Laws.{IsWhole}
 use Rattle.party_desk.specs.declared.desk.Desk.{Desk}
@@ -9,8 +9,8 @@ use Rattle.desk_workers.specs.Promises.{world_in, words_of}
 use Rattle.desk_workers.specs.Pools.{IsPool, AllStand}
 use Rattle.desk_workers.specs.Runs.{IsOver, instructions_of}
 use Rattle.desk_workers.proofs.Counts.{few_instructions}
-use Rattle.desk_workers.proofs.Seated.{free_of_new, seats_of_free, parts_of_new, same_total}
-use Rattle.desk_workers.proofs.Finished.{over}
+use Rattle.desk_workers.proofs.SeatLists.{free_of_new, seats_of_free, seats_in_new, same_total}
+use Rattle.desk_workers.proofs.RunEnds.{over}
 use Rattle.desk_workers.proofs.ready.Ready.run.Goals as goal
 
 pub work_all-requires-clause-few : goal.work_all-requires-clause-few
@@ -26,13 +26,16 @@ work_all-requires-clause-each g c κs within = free_of_new c.args.self.rack c.ar
 pub fold_all-keeper-requires-clause-seats : goal.fold_all-keeper-requires-clause-seats
 fold_all-keeper-requires-clause-seats g c = subst (λ b. AreSeatsOf b c.work_all.new.seats.items) (sym c.board.ensures) (seats_of_free c.args.self.rack c.work_all.new.seats.items c.work_all.ensures.each)
 
-pub take_all-all-requires-clause-parts : goal.take_all-all-requires-clause-parts
-take_all-all-requires-clause-parts g c =
+pub take_all-all-requires-clause-seats : goal.take_all-all-requires-clause-seats
+take_all-all-requires-clause-seats g c =
     let ready = c.requires.2 in
-    c.fold_all-keeper.ensures.parts
-    ∙ same_total c.args.self.seats.items c.work_all.new.seats.items c.work_all.ensures.len c.work_all.ensures.parts
-    ∙ parts_of_new c.args.self.rack c.args.self.seats.items ready.new
+    c.fold_all-keeper.ensures.seats
+    ∙ same_total c.args.self.seats.items c.work_all.new.seats.items c.work_all.ensures.len c.work_all.ensures.seats
+    ∙ seats_in_new c.args.self.rack c.args.self.seats.items ready.new
     ∙ ready.all
+
+pub finish_all-requires-clause-desks : goal.finish_all-requires-clause-desks
+finish_all-requires-clause-desks g c = subst (λ b. AllStand (world_in b.about.world) c.take_all-all.new.seat.view.seen c.take_all-all.result.items) (sym c.board-2.ensures) c.take_all-all.ensures.desks
 
 pub returns : goal.returns
 returns g c w same ready =
@@ -55,4 +58,4 @@ returns g c w same ready =
     (subst (λ b. HasCells (words_of (world_in b.about.world)) c.close-cells.result) c.into_board.ensures c.close-cells.ensures.cells)
     (λ n v known. c.close-cells.ensures.seen n v
     (subst (λ l. KnownBy l n v) (sym (c.push_reserved.ensures.items ∙ ap (λ l. l ++ c.finish_all.new.seat ∷ []) ready.no_seat)) (inl known)))
-    (c.steps_in-steps.ensures ∙ ap (λ l. total (λ (d : Desk). d.position) l) c.as_slice.ensures.value))
+    (c.steps_in-steps.ensures ∙ ap (λ l. total_over (λ (d : Desk). d.position) l) c.as_slice.ensures.value))

@@ -1,7 +1,7 @@
 use Rattle.std.proofs.Common.{subst}
 use Rattle.maximal_groups.specs.Families.{IsFamily}
 use Rattle.group_formula.specs.Trees.{Meaning, is_tolerated}
-use Rattle.group_formula.proofs.Monotone.{family_of}
+use Rattle.group_formula.proofs.Monotonicity.{family_of}
 use Rattle.group_formula.proofs.formula.FormulaFamily.parties.Goals as goal
 
 pub returns-clause-family : goal.returns-clause-family

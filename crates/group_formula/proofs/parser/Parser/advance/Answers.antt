@@ -1,5 +1,5 @@
 use Rattle.std.proofs.Common.{◌∙◌, ap, sym}
-use Rattle.group_formula.proofs.Coding.{closes_result}
+use Rattle.group_formula.proofs.ParserStates.{closes_result}
 use Rattle.group_formula.proofs.parser.Parser.advance.Goals as goal
 
 pub returns-in-Close : goal.returns-in-Close

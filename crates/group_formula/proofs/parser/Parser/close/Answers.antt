@@ -1,6 +1,6 @@
 use Rattle.std.proofs.Common.{◌≡◌, ◌≤◌, ◌++◌, ◌∙◌, ap, sym, arith, length}
 use Rattle.std.specs.Option.{option_to_list}
-use Rattle.group_formula.proofs.Coding.{parts_of, parts_room}
+use Rattle.group_formula.proofs.ParserStates.{parts_of, parts_room}
 use Rattle.group_formula.proofs.parser.Parser.close.Goals as goal
 
 pub overflow_add-parts : goal.overflow_add-parts

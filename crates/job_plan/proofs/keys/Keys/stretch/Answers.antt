@@ -1,7 +1,7 @@
 use Rattle.std.proofs.Common.{ap, ◌∙◌}
 use Rattle.std.specs.List.{slice_range}
 use Rattle.job_plan.specs.Packing.{names}
-use Rattle.job_plan.proofs.Naming.{names_of_range}
+use Rattle.job_plan.proofs.PackedKeys.{names_of_range}
 use Rattle.job_plan.proofs.keys.Keys.stretch.Goals as goal
 
 pub returns : goal.returns

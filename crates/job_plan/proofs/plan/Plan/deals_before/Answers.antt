@@ -1,10 +1,10 @@
 use Rattle.std.proofs.Common.{◌≡◌, ℕ, ◌+◌, length, ap, ◌∙◌, arith}
 use Rattle.std.specs.Prelude.{slice_index}
 use Rattle.mpc_ring.specs.Sums.{total}
-use Rattle.mpc_ring.proofs.Laying.{length-listed, listed_at}
+use Rattle.mpc_ring.proofs.JoinedLists.{length-listed, listed_at}
 use Rattle.job_plan.specs.Numbers.{deals}
 use Rattle.job_plan.specs.Firsts.{deal_starts, deal_starts_of}
-use Rattle.job_plan.proofs.Listing.{row_is}
+use Rattle.job_plan.proofs.GrownLists.{row_is}
 use Rattle.job_plan.proofs.plan.Plan.deals_before.Goals as goal
 
 pub index-requires : goal.index-requires

@@ -1,10 +1,10 @@
 use Rattle.std.proofs.Common.{◌≡◌, ◌+◌, length, ap, ◌∙◌, arith}
 use Rattle.std.specs.Prelude.{slice_index}
-use Rattle.mpc_ring.proofs.Laying.{length-listed, listed_at}
+use Rattle.mpc_ring.proofs.JoinedLists.{length-listed, listed_at}
 use Rattle.job_plan.specs.Plans.{session, slots}
 use Rattle.job_plan.specs.Firsts.{first, session_starts, starts_of}
-use Rattle.job_plan.proofs.Counting.{first_within}
-use Rattle.job_plan.proofs.Listing.{row_is}
+use Rattle.job_plan.proofs.SlotMessages.{first_within}
+use Rattle.job_plan.proofs.GrownLists.{row_is}
 use Rattle.job_plan.proofs.plan.Plan.first.Goals as goal
 
 pub index-requires : goal.index-requires

@@ -5,9 +5,9 @@ use Rattle.job_plan.specs.Messages.{messages, slot_messages}
 use Rattle.job_plan.specs.Packing.{names}
 use Rattle.job_plan.specs.Numbers.{number, no_key, opens, rank, IsRising}
 use Rattle.job_plan.specs.Firsts.{count}
-use Rattle.job_plan.proofs.Counting.{number_within}
-use Rattle.job_plan.proofs.Finding.{is_there, number_is}
-use Rattle.job_plan.proofs.Rising.{slot_is_rising}
+use Rattle.job_plan.proofs.SlotMessages.{number_within}
+use Rattle.job_plan.proofs.MessageSlots.{is_there, number_is}
+use Rattle.job_plan.proofs.RisingRanks.{slot_is_rising}
 use Rattle.job_plan.proofs.plan.Plan.number.Goals as goal
 use Rattle.job_plan.proofs.plan.Plan.number.Goals.{then-key-sessions-via-then-key-sessions, then-key-sessions-via-else-key-sessions+then-key-slots}
 

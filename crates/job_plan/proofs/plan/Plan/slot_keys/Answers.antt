@@ -1,7 +1,7 @@
 use Rattle.std.proofs.Common.{◌≡◌, ap, ap₂, ◌∙◌}
 use Rattle.std.specs.List.{slice_range}
 use Rattle.job_plan.specs.Messages.{messages}
-use Rattle.job_plan.proofs.Finding.{slot_range}
+use Rattle.job_plan.proofs.MessageSlots.{slot_range}
 use Rattle.job_plan.proofs.plan.Plan.slot_keys.Goals as goal
 
 pub returns-clause-is : goal.returns-clause-is

@@ -1,7 +1,7 @@
 use Rattle.std.proofs.Common.{◌≡◌, ◌+◌, ◌-◌, ◌*◌, length, ap, ap₂, sym, ◌∙◌, arith}
 use Rattle.job_plan.specs.Numbers.{deal_place}
-use Rattle.job_plan.proofs.Apart.{places_by_deals}
-use Rattle.job_plan.proofs.Placing.{deals_within, place_within, all_deals_few}
+use Rattle.job_plan.proofs.DistinctMessages.{places_by_deals}
+use Rattle.job_plan.proofs.TapePlaces.{deals_within, place_within, all_deals_few}
 use Rattle.job_plan.proofs.plan.Plan.tape_place.Goals as goal
 
 pub overflow_add-result : goal.overflow_add-result

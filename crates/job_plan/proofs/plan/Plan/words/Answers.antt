@@ -1,5 +1,5 @@
 use Rattle.std.proofs.Common.{◌≡◌, ◌-◌, ◌*◌, length, ap₂, sym, ◌∙◌, arith}
-use Rattle.job_plan.proofs.Placing.{words_is, words_within}
+use Rattle.job_plan.proofs.TapePlaces.{words_is, words_within}
 use Rattle.job_plan.proofs.plan.Plan.words.Goals as goal
 
 pub overflow_mul-result : goal.overflow_mul-result

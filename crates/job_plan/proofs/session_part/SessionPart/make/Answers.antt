@@ -3,7 +3,7 @@ use Rattle.std.proofs.lemmas.Grind.{common_steps}
 use Rattle.job_plan.specs.Plans.{Session}
 use Rattle.job_plan.specs.Sound.{IsSoundSession}
 use Rattle.job_plan.specs.Parts.{session_of, AreWithin}
-use Rattle.job_plan.proofs.Parting.{sound_session, counts_agree}
+use Rattle.job_plan.proofs.CircuitSessions.{sound_session, counts_agree}
 use Rattle.job_plan.proofs.session_part.SessionPart.make.Goals as goal
 
 pub returns-clause-sound : goal.returns-clause-sound

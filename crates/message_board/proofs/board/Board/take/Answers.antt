@@ -2,9 +2,9 @@ use Rattle.std.proofs.Common.{rules, ◌≡◌, ◌+◌, ◌<◌, length, Some, 
 use Rattle.message_board.specs.Pairs.{Knows, Has}
 use Rattle.message_board.specs.Rule.{takes, looks, unfinds}
 use Rattle.message_board.specs.Words.{blanks}
-use Rattle.message_board.proofs.Keeps.{finds_keep_at, takes_keep}
+use Rattle.message_board.proofs.RuleSteps.{finds_keep_at, takes_keep}
 use Rattle.message_board.proofs.Pairs.{index_got}
-use Rattle.message_board.proofs.Told.{full_none, full_some}
+use Rattle.message_board.proofs.StepAnswers.{full_none, full_some}
 use Rattle.message_board.proofs.board.Board.take.Goals as goal
 
 pub load-full-requires : goal.load-full-requires
@@ -21,7 +21,7 @@ pub invariant_of-seat : goal.invariant_of-seat
 invariant_of-seat g c =
     let t = c.load-full.ensures.2 c.args.self.now.about c.args.number (ap (λ s. s.view.about) c.seat.view_is ∙ c.requires.seat.1) (ap (λ n. n + c.args.number + 1) c.messages-messages.ensures) in
     let e = (full_none _ _ _ _ t.1 (search rules)).0 in
-    (t.0 ∙ c.seat.invariant.0 ∙ ap (λ v. blanks v.out) (sym e), subst (λ v. 0 < v.parts) (sym e) c.seat.invariant.1)
+    (t.0 ∙ c.seat.invariant.0 ∙ ap (λ v. blanks v.out) (sym e), subst (λ v. 0 < v.seats) (sym e) c.seat.invariant.1)
 
 pub returns-then-full-eq0-clause-seat : goal.returns-then-full-eq0-clause-seat
 returns-then-full-eq0-clause-seat g c =
@@ -47,7 +47,7 @@ load-value-requires g c =
     let e = full_some _ _ _ _ t.1 c.if-full-eq0.false in (
       c.load-full.ensures.0 ∙ ap (λ s. s.id) c.seat.view_is ∙ c.requires.seat.0 ∙ sym (ap (λ p. p.id) c.self.view_is),
       (let z = c.self.invariant.0 in omega arith),
-      takes_keep _ _ _ _ _ _ _ _ (subst (λ v. 0 < v.parts) (sym e) c.seat.invariant.1) (subst (λ v. Has v.full c.args.number) (sym e) (inl refl)),
+      takes_keep _ _ _ _ _ _ _ _ (subst (λ v. 0 < v.seats) (sym e) c.seat.invariant.1) (subst (λ v. Has v.full c.args.number) (sym e) (inl refl)),
     )
 
 pub invariant_of-seat-2 : goal.invariant_of-seat-2
@@ -56,7 +56,7 @@ invariant_of-seat-2 g c =
     let e = full_some _ _ _ _ t.1 c.if-full-eq0.false in
     let u = c.load-value.ensures.2 c.args.self.now.about c.args.number (ap (λ v. v.about) e ∙ ap (λ s. s.view.about) c.seat.view_is ∙ c.requires.seat.1) refl in
     let f : c.load-value.new.seat.me.0 ≡ takes c.seat.inside.seat.me.0 c.args.number (Some c.load-value.result) = u.2 ∙ ap (λ v. unfinds (takes v c.args.number (Some c.load-value.result))) e in
-    (u.0 ∙ t.0 ∙ c.seat.invariant.0 ∙ ap (λ v. blanks v.out) (sym f), subst (λ v. 0 < v.parts) (sym f) c.seat.invariant.1)
+    (u.0 ∙ t.0 ∙ c.seat.invariant.0 ∙ ap (λ v. blanks v.out) (sym f), subst (λ v. 0 < v.seats) (sym f) c.seat.invariant.1)
 
 pub returns-clause-seat : goal.returns-clause-seat
 returns-clause-seat g c =

@@ -3,7 +3,7 @@ use Rattle.atomic_table.specs.Table.{opening}
 use Rattle.message_board.specs.declared.steps.About.{About}
 use Rattle.message_board.specs.Words.{held}
 use Rattle.message_board.specs.Rule.{IsBoard, newcomer}
-use Rattle.message_board.proofs.Many.{begins, held_all}
+use Rattle.message_board.proofs.SeatLists.{begins, held_all}
 use Rattle.message_board.proofs.board.Board.with_slots.Goals as goal
 
 pub open-requires-clause-rule : goal.open-requires-clause-rule

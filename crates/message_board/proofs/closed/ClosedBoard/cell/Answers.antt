@@ -1,7 +1,7 @@
 use Rattle.std.proofs.Common.{rules, ◌+◌, ◌<◌, ◌≡◌, ℕ, List, Option, length, ap, sym, subst, ◌∙◌, arith}
 use Rattle.message_board.specs.Words.{word_as, cells_of}
 use Rattle.message_board.specs.Plain.{plain_cell}
-use Rattle.message_board.proofs.Many.{cells_at, cells_length, read}
+use Rattle.message_board.proofs.SeatLists.{cells_at, cells_length, read}
 use Rattle.std.specs.Mem.Slots.{slots_items, slots_len}
 use Rattle.message_board.proofs.closed.ClosedBoard.cell.Goals as goal
 

@@ -3,7 +3,7 @@ use Rattle.std.specs.Global.{Vec}
 use Rattle.std.proofs.lemmas.List.{get_or-map, length-map}
 use Rattle.party_set.specs.Parties.{Structure}
 use Rattle.product_duty.specs.Duties.{pairs_of}
-use Rattle.product_duty.proofs.Dividing.{deals_is}
+use Rattle.product_duty.proofs.PairDuties.{deals_is}
 use Rattle.product_duty.proofs.duty.Duty.deals.Goals as goal
 
 pub returns : goal.returns

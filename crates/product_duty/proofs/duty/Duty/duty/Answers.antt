@@ -1,7 +1,7 @@
 use Rattle.std.proofs.Common.{◌+◌, ◌*◌, ◌<◌, ◌&&◌, ap, ◌∙◌, subst, arith, length, get_or}
 use Rattle.party_set.specs.Parties.{Structure}
 use Rattle.share_layout.specs.Layouts.{holds, IsLeastParty}
-use Rattle.product_duty.proofs.Dividing.{entry_holds}
+use Rattle.product_duty.proofs.PairDuties.{entry_holds}
 use Rattle.product_duty.proofs.duty.Duty.duty.Goals as goal
 
 found : (c : goal.After-row_known-1) → IsLeastParty c.args.self.now (λ p. holds c.args.self.now p c.args.i && holds c.args.self.now p c.args.j) c.index.result.now

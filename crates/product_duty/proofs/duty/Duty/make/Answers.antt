@@ -2,8 +2,8 @@ use Rattle.std.proofs.Common.{◌≡◌, ◌+◌, ◌∷◌, [], ℕ, ap, ◌∙
 use Rattle.std.specs.Global.{Vec}
 use Rattle.std.proofs.lemmas.List.{map-append, length-map}
 use Rattle.product_duty.specs.Duties.{pairs_of}
-use Rattle.product_duty.proofs.Joins.{table_more}
-use Rattle.product_duty.proofs.Dividing.{list_is, table_of}
+use Rattle.product_duty.proofs.JoinedLists.{table_more}
+use Rattle.product_duty.proofs.PairDuties.{list_is, table_of}
 use Rattle.product_duty.proofs.duty.Duty.make.Goals as goal
 
 pub loop-p-preserved : goal.loop-p-preserved

@@ -1,7 +1,7 @@
 use Rattle.std.proofs.Common.{◌<◌, arith, ap, subst, length}
 use Rattle.party_set.specs.Parties.{Structure}
 use Rattle.share_layout.specs.Layouts.{holds, IsLeastParty}
-use Rattle.share_layout.proofs.Holding.{entry_holds}
+use Rattle.share_layout.proofs.Holders.{entry_holds}
 use Rattle.share_layout.proofs.layout.Layout.least_holder.Goals as goal
 
 found : (c : goal.After-row_known-1) → IsLeastParty c.args.self.now (λ p. holds c.args.self.now p c.args.i) c.index.result.now

@@ -3,7 +3,7 @@ use Rattle.std.specs.Prelude.{slice_index}
 use Rattle.std.proofs.lemmas.List.{take_more}
 use Rattle.party_set.specs.Parties.{Members}
 use Rattle.share_layout.specs.Layouts.{least_holder}
-use Rattle.share_layout.proofs.Holding.{table_more, outside_is, some_outside}
+use Rattle.share_layout.proofs.Holders.{table_more, outside_is, some_outside}
 use Rattle.share_layout.proofs.layout.Layout.make.Goals as goal
 
 pub loop-i-preserved : goal.loop-i-preserved

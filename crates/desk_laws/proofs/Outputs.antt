@@ -1,0 +1,144 @@
+-- What a desk of a world delivers and draws.
+use Rattle.std.proofs.Common.{◌≡◌, ℕ, zero, suc, ◌-◌, ◌*◌, ◌<◌, ◌≤◌, [], ◌∷◌, drop, ◌^◌, List, length, refl, sym, ap, ◌∙◌, subst, arith}
+use Rattle.std.specs.Prelude.{true, false, Option, Some, None}
+use Rattle.std.proofs.lemmas.List.{length-drop}
+use Rattle.std.proofs.lemmas.Bool.{cases_eq, both_ways}
+use mathlib.Core.Logic.{inl, inr}
+use Rattle.circuit_model.proofs.SetAt.{set_here, set_there}
+use Rattle.job_plan.specs.Plans.{Plan, Slot, session, reads, output_wire, words, slots}
+use Rattle.job_plan.specs.Plans.Slot.{Input, At_gate, Output}
+use Rattle.job_plan.specs.Numbers.{deals}
+use Rattle.job_plan.proofs.DistinctMessages.{words_by_deals}
+use Rattle.share_world.specs.Worlds.{World, word}
+use Rattle.share_world.specs.Locals.{local_output}
+use Rattle.share_world.specs.Laws.{IsWhole}
+use Rattle.share_world.proofs.SentWords.{opened_are_plain}
+use Rattle.share_world.proofs.SmallWords.{is_plan, is_world, small_words}
+use Rattle.party_program.specs.declared.program.Instruction.{Instruction}
+use Rattle.party_program.specs.declared.program.Instruction.TheVariants.{Deal, Post, Take, Linear, Own, Sum, Deliver, End}
+use Rattle.party_program.specs.Programs.{program, at}
+use Rattle.party_program.specs.States.{Given, State, new_state, state, next, dealt_in, took_in, opened, slot_at, slot_of, output_in_slot}
+use Rattle.party_program.proofs.InstructionLists.{state_is, run_all}
+use Rattle.program_laws.specs.Lawful.{given_in}
+use Rattle.program_laws.proofs.LocalPrograms.{met}
+use Rattle.program_laws.proofs.LawfulWorlds.{lawful, suits_in}
+use Rattle.party_desk.specs.declared.desk.Desk.{Desk}
+use Rattle.party_desk.specs.Desks.{IsDesk, drawn_of, output_at}
+use Rattle.desk_laws.specs.InWorld.{IsRight, IsDone, piece_of}
+
+-- ---- at any moment
+
+dealt_outputs : (plan : Plan) (words : ℕ → ℕ) (input : ℕ) (z : Slot) (σ : State) → (dealt_in plan words input z σ).outputs ≡ σ.outputs
+dealt_outputs plan words input (Input v) σ = refl
+dealt_outputs plan words input (At_gate t) σ = refl
+dealt_outputs plan words input (Output o) σ = refl
+
+took_outputs : (q : ℕ) (z : Slot) (i x : ℕ) (σ : State) → (took_in q z i x σ).outputs ≡ σ.outputs
+took_outputs q (Input v) i x σ = refl
+took_outputs q (At_gate t) i x σ = refl
+took_outputs q (Output o) i x σ = refl
+
+module _ (w : World) (whole : IsWhole w) (s p : ℕ) (ls : s < length w.plan.sessions) (lp : p < w.plan.parties) where
+  abbrev l : Given
+  l = given_in w s p
+
+  -- p reads the output, and the word is what it opens by itself
+  abbrev Opens : ℕ → ℕ → Type 0
+  Opens o v = (reads w.plan p s o ≡ true) × (v ≡ local_output w (word w) p s o)
+
+  opens_next : (q o v : ℕ) (e : Instruction) → at (program w.plan p s) q ≡ e → ((o v : ℕ) → (state l q).outputs o ≡ Some v → Opens o v) → (next l e (state l q)).outputs o ≡ Some v → Opens o v
+  opens_next q o v (Deal k d) is before f = before o v (sym (ap (λ z. z o) (dealt_outputs w.plan _ _ (slot_at w.plan s k) (state l q))) ∙ f)
+  opens_next q o v (Take n i) is before f = before o v (sym (ap (λ z. z o) (took_outputs (2 ^ w.plan.bits) (slot_of w.plan s n) i _ (state l q))) ∙ f)
+  opens_next q o v (Deliver k) is before f =
+      let u : ℕ = output_in_slot (slot_at w.plan s k) in
+      let right = (lawful w whole).opens s p q k ls lp is in
+      elim (cases_eq o u) [
+        | inl e ↦
+            let same : Some (opened w.plan p ((state l q).rows (output_wire (session w.plan s) u)) (state l q).sums) ≡ Some v = sym (set_here (state l q).outputs u o _ e) ∙ f in
+            let word : v ≡ local_output w (word w) p s u = (let x : opened w.plan p ((state l q).rows (output_wire (session w.plan s) u)) (state l q).sums ≡ v = cc in sym x ∙ right.1) in
+            subst (λ z. Opens z v) (sym e) (right.0, word)
+        | inr ne ↦ before o v (sym (set_there (state l q).outputs u o _ ne) ∙ f)
+      ]
+  opens_next q o v (Post n i) is before f = before o v f
+  opens_next q o v (Linear k) is before f = before o v f
+  opens_next q o v (Own k) is before f = before o v f
+  opens_next q o v (Sum k) is before f = before o v f
+  opens_next q o v End is before f = before o v f
+
+  pub opens_right : (q o v : ℕ) → (state l q).outputs o ≡ Some v → Opens o v
+  opens_right zero o v e = absurd (let none : None ≡ Some v = e in cc)
+  opens_right (suc q) o v e = opens_next q o v (at (program w.plan p s) q) refl (opens_right q) e
+
+-- ---- the tape
+
+pub deals_at_end : (w : World) → IsWhole w → (s p : ℕ) → s < length w.plan.sessions → p < w.plan.parties → (state (given_in w s p) (length (program w.plan p s))).deals ≡ deals w.plan p s
+deals_at_end w whole s p ls lp =
+    let l = given_in w s p in
+    let es = program w.plan p s in
+    ap (λ σ. σ.deals) (state_is l (length es) ∙ run_all l es new_state)
+    ∙ (met w (is_plan w whole) (word w) s p ls lp (λ k i. small_words w whole s p k i)).1.deals
+
+piece_is : (w : World) → IsWhole w → (s p : ℕ) → s < length w.plan.sessions → p < w.plan.parties → length (piece_of w p s) ≡ words w.plan p s
+piece_is w whole s p ls lp = (suits_in w whole s p ls lp).tape
+
+-- dropping no more than there is
+drop_again : (n : ℕ) (xs : List ℕ) → drop n xs ≡ drop (length xs - (length xs - n)) xs
+drop_again zero xs = let none : 0 ≡ length xs - (length xs - 0) = omega arith in ap (λ z. drop z xs) none
+drop_again (suc n) [] = let none : 0 ≡ 0 - (0 - suc n) = omega arith in ap (λ z. drop {A = ℕ} z []) none
+drop_again (suc n) (x ∷ xs) = let more : suc (length xs - (length xs - n)) ≡ suc (length xs) - (suc (length xs) - suc n) = omega arith in drop_again n xs ∙ ap (λ z. drop z (x ∷ xs)) more
+
+-- dropping all that there is
+drop_all : (n : ℕ) (xs : List ℕ) → length xs ≤ n → drop n xs ≡ []
+drop_all zero [] l = refl
+drop_all zero (x ∷ xs) l = absurd (omega arith)
+drop_all (suc n) [] l = refl
+drop_all (suc n) (x ∷ xs) l = drop_all n xs (omega arith)
+
+-- ---- one desk
+
+module _ (w : World) (s p : ℕ) (d : Desk) (whole : IsWhole w) (h : IsDesk (given_in w s p) d) where
+  abbrev past : ℕ
+  past = (state (given_in w s p) d.position).deals * (length w.plan.groups - 1)
+
+  drawn_past : drawn_of d ≡ words w.plan p s - (words w.plan p s - past)
+  drawn_past =
+      let long = piece_is w whole s p h.suits.session h.suits.party in
+      let piece = h.piece in
+      let rest = ap length h.tape ∙ length-drop past (piece_of w p s) in
+      omega (arith, long, piece, rest)
+
+  pub right_now : IsRight w s p d
+  right_now = record {
+    delivered = λ o v e.
+        let a = opens_right w whole s p h.suits.session h.suits.party d.position o v (sym (h.memory.outputs o) ∙ e) in
+        (a.0, a.1 ∙ opened_are_plain w (is_world w whole) p s o);
+    drawn = (let a = drawn_past in omega arith);
+    left = h.tape ∙ drop_again past (piece_of w p s) ∙ ap (λ z. drop (z - (z - past)) (piece_of w p s)) (piece_is w whole s p h.suits.session h.suits.party) ∙ ap (λ z. drop z (piece_of w p s)) (sym drawn_past);
+  }
+
+  module _ (ended : d.position ≡ length (program w.plan p s)) where
+    spent : past ≡ words w.plan p s
+    spent =
+        let a = ap (λ q. (state (given_in w s p) q).deals) ended ∙ deals_at_end w whole s p h.suits.session h.suits.party in
+        let b = words_by_deals w.plan p s (slots (session w.plan s)) in
+        ap (λ z. z * (length w.plan.groups - 1)) a ∙ omega (arith, b)
+
+    tape_is : d.memory.tape ≡ []
+    tape_is = h.tape ∙ drop_all past (piece_of w p s) (let a = piece_is w whole s p h.suits.session h.suits.party in let b = spent in omega arith)
+
+    pub done_at_end : IsDone w s p d
+    done_at_end = record {
+      delivered = λ o lo reads.
+          h.memory.outputs o
+          ∙ ap (λ q. (state (given_in w s p) q).outputs o) ended
+          ∙ ap (λ σ. σ.outputs o) (state_is (given_in w s p) (length (program w.plan p s)) ∙ run_all (given_in w s p) (program w.plan p s) new_state)
+          ∙ (met w (is_plan w whole) (word w) s p h.suits.session h.suits.party (λ k i. small_words w whole s p k i)).1.outputs o lo reads
+          ∙ ap Some (opened_are_plain w (is_world w whole) p s o);
+      nothing_else = λ o not_read. none_there (output_at d o) o refl not_read;
+      drawn = (let a = ap length tape_is in let long = piece_is w whole s p h.suits.session h.suits.party in let piece = h.piece in omega (arith, a, long, piece));
+      none_left = tape_is;
+    }
+      where
+        none_there : (found : Option ℕ) (o : ℕ) → output_at d o ≡ found → reads w.plan p s o ≡ false → found ≡ None
+        none_there None o is not_read = refl
+        none_there (Some v) o is not_read = absurd (both_ways (reads w.plan p s o) not_read (right_now.delivered o v is).0)

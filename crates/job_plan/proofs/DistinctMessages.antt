@@ -1,0 +1,147 @@
+-- Messages differ, and so do places.
+use Rattle.std.proofs.Common.{◌≡◌, ℕ, zero, suc, ◌+◌, ◌-◌, ◌*◌, ◌<◌, ◌≢◌, Bool, true, false, nat_eq, if◌then◌else◌, List, [], ◌∷◌, ◌++◌, length, refl, sym, ap, ap₂, ◌∙◌, arith}
+use Rattle.std.specs.Prelude.{slice_index, slice_index_or}
+use Rattle.std.specs.List.{AllByRecursion}
+use Rattle.std.proofs.lemmas.Bool.{and_parts, and_from, eq-eqb, eqb-true, false_from_ne_true}
+use Rattle.std.proofs.lemmas.List.Sums.{position_or_len_is, passes_at_first}
+use Rattle.mpc_ring.specs.Sums.{total, joined, listed, only_if}
+use Rattle.job_plan.specs.Plans.{readers, owners, Plan, Slot, session, slot, slots, words_in, deals_in}
+use Rattle.job_plan.specs.declared.key.Key.{Key}
+use Rattle.party_set.specs.Parties.{has_party}
+use Rattle.job_plan.specs.Messages.{messages, slot_messages, deal_messages, open_messages}
+use Rattle.job_plan.specs.Plans.Slot.{Input, At_gate, Output}
+use Rattle.job_plan.specs.Numbers.{same_key, no_key, message, number, NumbersAreInverse, PlacesDiffer, deals_before, deals, PlacesByDeals}
+use Rattle.mpc_ring.proofs.Totals.{total_eq, total_mul_left}
+use Rattle.mpc_ring.proofs.JoinedLists.{every_append, every_joined, every_only_if, every_weaker, laid_at}
+
+-- ---- lists whose elements differ
+
+abbrev Distinct : {A : Type 0} → List A → Type 0
+Distinct [] = Unit {0}
+Distinct (x ∷ xs) = AllByRecursion (λ y. x ≢ y) xs × Distinct xs
+
+distinct_append : {A : Type 0} (tag : A → ℕ) (n : ℕ) (xs ys : List A) → AllByRecursion (λ x. tag x < n) xs → AllByRecursion (λ y. tag y ≡ n) ys → Distinct xs → Distinct ys → Distinct (xs ++ ys)
+distinct_append tag n [] ys a b d e = e
+distinct_append tag n (x ∷ xs) ys a b d e =
+    (every_append (λ y. x ≢ y) xs ys d.0 (every_weaker (λ y. tag y ≡ n) (λ y. x ≢ y) ys (λ y h same. omega (arith, a.0, h, ap tag same)) b), distinct_append tag n xs ys a.1 b d.1 e)
+
+-- parts with a tag of their own
+distinct_joined : {A : Type 0} (tag : A → ℕ) (n : ℕ) (f : ℕ → List A) → ((k : ℕ) → k < n → Distinct (f k)) → ((k : ℕ) → k < n → AllByRecursion (λ x. tag x ≡ k) (f k)) → Distinct (joined n f)
+distinct_joined tag zero f d t = tt
+distinct_joined tag (suc n) f d t =
+    distinct_append tag n (joined n f) (f n)
+    (every_joined (λ x. tag x < n) n f (λ k l. every_weaker (λ x. tag x ≡ k) (λ x. tag x < n) (f k) (λ x h. omega (arith, h, l)) (t k (omega arith))))
+    (t n (omega arith)) (distinct_joined tag n f (λ k l. d k (omega arith)) (λ k l. t k (omega arith))) (d n (omega arith))
+
+distinct_only_if : {A : Type 0} (b : Bool) (xs : List A) → Distinct xs → Distinct (only_if b xs)
+distinct_only_if true xs d = d
+distinct_only_if false xs d = tt
+
+every_one : {A : Type 0} (P : A → Type 0) (b : Bool) (x : A) → P x → AllByRecursion P (only_if b (x ∷ []))
+every_one P true x h = (h, tt)
+every_one P false x h = tt
+
+distinct_one : {A : Type 0} (b : Bool) (x : A) → Distinct (only_if b (x ∷ []))
+distinct_one true x = (tt, tt)
+distinct_one false x = tt
+
+pub every_place : {A : Type 0} (P : A → Type 0) (xs : List A) (j : ℕ) (d : A) → AllByRecursion P xs → j < length xs → P (slice_index_or xs j d)
+every_place P [] j d h l = absurd (omega arith)
+every_place P (x ∷ xs) zero d h l = h.0
+every_place P (x ∷ xs) (suc j) d h l = every_place P xs j d h.1 (omega arith)
+
+distinct_at : {A : Type 0} (xs : List A) (i j : ℕ) (d : A) → Distinct xs → i < j → j < length xs → slice_index_or xs i d ≢ slice_index_or xs j d
+distinct_at [] i j d h l b e = omega arith
+distinct_at (x ∷ xs) zero zero d h l b e = omega arith
+distinct_at (x ∷ xs) zero (suc j) d h l b e = every_place (λ y. x ≢ y) xs j d h.0 (omega arith) e
+distinct_at (x ∷ xs) (suc i) zero d h l b e = omega arith
+distinct_at (x ∷ xs) (suc i) (suc j) d h l b e = distinct_at xs i j d h.1 (omega arith) (omega arith) e
+
+-- ---- messages
+
+every_deal : (P : Key → Type 0) (plan : Plan) (s k p : ℕ) → ((i q : ℕ) → P (record { session = s; slot = k; share = i; sender = p; receiver = q })) → AllByRecursion P (deal_messages plan s k p)
+every_deal P plan s k p h = every_joined P (length plan.groups) _ (λ i li. every_joined P plan.parties _ (λ q lq. every_one P _ _ (h i q)))
+
+every_open : (P : Key → Type 0) (plan : Plan) (s k r : ℕ) → ((i p : ℕ) → P (record { session = s; slot = k; share = i; sender = p; receiver = r })) → AllByRecursion P (open_messages plan s k r)
+every_open P plan s k r h = every_joined P (length plan.groups) _ (λ i li. every_one P _ _ (h i _))
+
+deal_distinct : (plan : Plan) (s k p : ℕ) → Distinct (deal_messages plan s k p)
+deal_distinct plan s k p =
+    distinct_joined (λ x. x.share) (length plan.groups) _
+    (λ i li. distinct_joined (λ x. x.receiver) plan.parties _ (λ q lq. distinct_one _ _) (λ q lq. every_one (λ x. x.receiver ≡ q) _ _ refl))
+    (λ i li. every_joined (λ x. x.share ≡ i) plan.parties _ (λ q lq. every_one (λ x. x.share ≡ i) _ _ refl))
+
+open_distinct : (plan : Plan) (s k r : ℕ) → Distinct (open_messages plan s k r)
+open_distinct plan s k r =
+    distinct_joined (λ x. x.share) (length plan.groups) _ (λ i li. distinct_one _ _) (λ i li. every_one (λ x. x.share ≡ i) _ _ refl)
+
+slot_distinct : (plan : Plan) (s k : ℕ) (z : Slot) → Distinct (slot_messages plan s k z)
+slot_distinct plan s k (Input v) = deal_distinct plan s k (slice_index (owners (session plan s)) v)
+slot_distinct plan s k (At_gate t) =
+    distinct_joined (λ x. x.sender) plan.parties _ (λ p lp. distinct_only_if (deals_in plan (session plan s) p (At_gate t)) _ (deal_distinct plan s k p))
+    (λ p lp. every_only_if (λ x. x.sender ≡ p) (deals_in plan (session plan s) p (At_gate t)) _ (λ e. every_deal (λ x. x.sender ≡ p) plan s k p (λ i q. refl)))
+slot_distinct plan s k (Output o) =
+    distinct_joined (λ x. x.receiver) plan.parties _ (λ r lr. distinct_only_if (has_party (slice_index (readers (session plan s)) o) r) _ (open_distinct plan s k r))
+    (λ r lr. every_only_if (λ x. x.receiver ≡ r) (has_party (slice_index (readers (session plan s)) o) r) _ (λ e. every_open (λ x. x.receiver ≡ r) plan s k r (λ i p. refl)))
+
+pub every_slot : (P : Key → Type 0) (plan : Plan) (s k : ℕ) (z : Slot) → ((i p q : ℕ) → P (record { session = s; slot = k; share = i; sender = p; receiver = q })) → AllByRecursion P (slot_messages plan s k z)
+every_slot P plan s k (Input v) h = every_deal P plan s k (slice_index (owners (session plan s)) v) (λ i q. h i _ q)
+every_slot P plan s k (At_gate t) h = every_joined P plan.parties _ (λ p lp. every_only_if P _ _ (λ e. every_deal P plan s k p (λ i q. h i p q)))
+every_slot P plan s k (Output o) h = every_joined P plan.parties _ (λ r lr. every_only_if P _ _ (λ e. every_open P plan s k r (λ i p. h i p r)))
+
+messages_distinct : (plan : Plan) → Distinct (messages plan)
+messages_distinct plan =
+    distinct_joined (λ x. x.session) (length plan.sessions) _
+    (λ s ls. distinct_joined (λ x. x.slot) (slots (session plan s)) _ (λ k lk. slot_distinct plan s k (slot (session plan s) k))
+    (λ k lk. every_slot (λ x. x.slot ≡ k) plan s k (slot (session plan s) k) (λ i p q. refl)))
+    (λ s ls. every_joined (λ x. x.session ≡ s) (slots (session plan s)) _ (λ k lk. every_slot (λ x. x.session ≡ s) plan s k (slot (session plan s) k) (λ i p q. refl)))
+
+pub same_key-true : (a b : Key) → same_key a b ≡ true → a ≡ b
+same_key-true a b e =
+    let first = and_parts (nat_eq a.session b.session) _ e in
+    let second = and_parts (nat_eq a.slot b.slot) _ first.1 in
+    let third = and_parts (nat_eq a.share b.share) _ second.1 in
+    let fourth = and_parts (nat_eq a.sender b.sender) _ third.1 in
+    let e1 = eqb-true _ _ first.0 in
+    let e2 = eqb-true _ _ second.0 in
+    let e3 = eqb-true _ _ third.0 in
+    let e4 = eqb-true _ _ fourth.0 in
+    let e5 = eqb-true _ _ fourth.1 in
+    λ i. record { session = e1 i; slot = e2 i; share = e3 i; sender = e4 i; receiver = e5 i }
+
+pub same_key_self : (a : Key) → same_key a a ≡ true
+same_key_self a = and_from _ _ (eq-eqb a.session a.session refl) (and_from _ _ (eq-eqb a.slot a.slot refl) (and_from _ _ (eq-eqb a.share a.share refl) (and_from _ _ (eq-eqb a.sender a.sender refl) (eq-eqb a.receiver a.receiver refl))))
+
+pub number_of_message : (plan : Plan) (n : ℕ) → n < length (messages plan) → number plan (message plan n) ≡ n
+number_of_message plan n l =
+    position_or_len_is (same_key (message plan n)) (messages plan) n no_key (omega arith)
+    (λ k b. false_from_ne_true _ (λ e. distinct_at (messages plan) k n no_key (messages_distinct plan) b l (sym (same_key-true (message plan n) (message plan k) e))))
+    (λ b. same_key_self (message plan n))
+
+pub numbers_are_inverse : (plan : Plan) → NumbersAreInverse plan
+numbers_are_inverse plan = (number_of_message plan, λ key l. sym (same_key-true key (message plan (number plan key)) (passes_at_first (same_key key) (messages plan) no_key l)))
+
+-- ---- places
+
+pub places_differ : (plan : Plan) (p : ℕ) → PlacesDiffer plan p
+places_differ plan p s k i s' k' i' ls lk li ls' lk' li' e =
+    let count : ℕ → ℕ = λ r. slots (session plan r) in
+    let len : ℕ → ℕ → ℕ = λ r j. words_in plan (session plan r) p (slot (session plan r) j) in
+    let tells : (f : ℕ → ℕ → ℕ → ℕ) → f s k i ≡ f s' k' i' = λ f.
+    sym (laid_at (length plan.sessions) count len f s k i ls lk li) ∙ ap (slice_index (joined (length plan.sessions) (λ r. joined (count r) (λ j. listed (len r j) (f r j))))) e
+    ∙ laid_at (length plan.sessions) count len f s' k' i' ls' lk' li' in
+    (tells (λ s k i. s), tells (λ s k i. k), tells (λ s k i. i))
+
+pub words_by_deals : (plan : Plan) (p s k : ℕ) → total k (λ j. words_in plan (session plan s) p (slot (session plan s) j)) ≡ (length plan.groups - 1) * deals_before plan p s k
+words_by_deals plan p s k =
+    total_eq k _ _ (λ j l. each (deals_in plan (session plan s) p (slot (session plan s) j)) (length plan.groups - 1))
+    ∙ total_mul_left k (length plan.groups - 1) (λ j. if deals_in plan (session plan s) p (slot (session plan s) j) then 1 else 0)
+  where
+    each : (b : Bool) (m : ℕ) → (if b then m else 0) ≡ m * (if b then 1 else 0)
+    each true m = omega arith
+    each false m = omega arith
+
+pub places_by_deals : (plan : Plan) (p : ℕ) → PlacesByDeals plan p
+places_by_deals plan p s k =
+    let before = total_eq s _ _ (λ r l. words_by_deals plan p r (slots (session plan r))) ∙ total_mul_left s (length plan.groups - 1) (deals plan p) in
+    ap₂ (λ a b. a + b) before (words_by_deals plan p s k) ∙ omega arith

@@ -1,0 +1,82 @@
+-- Which slot a message stands in.
+use Rattle.std.proofs.Common.{◌≡◌, ℕ, zero, suc, ◌+◌, ◌-◌, ◌<◌, List, take, drop, length, refl, sym, ap, ◌∙◌, subst, arith, length-append}
+use Rattle.std.specs.Prelude.{slice_index_or}
+use Rattle.std.specs.List.{slice_range}
+use Rattle.std.proofs.lemmas.Bool.{cases_lt}
+use Rattle.std.proofs.lemmas.List.{length-take, length-drop, get_or-take, get_or-drop, ext_get_or}
+use Rattle.std.proofs.lemmas.List.Sums.{passes_at_first}
+use mathlib.Core.Logic.{inl, inr}
+use Rattle.mpc_ring.specs.Sums.{total, joined}
+use Rattle.mpc_ring.proofs.Totals.{total_more}
+use Rattle.mpc_ring.proofs.JoinedLists.{length-joined}
+use Rattle.job_plan.specs.Plans.{Plan, session, slot, slots}
+use Rattle.job_plan.specs.declared.key.Key.{Key}
+use Rattle.job_plan.specs.Messages.{slot_messages, session_messages, messages}
+use Rattle.job_plan.specs.Numbers.{no_key, same_key, number}
+use Rattle.job_plan.specs.Firsts.{count, first}
+use Rattle.job_plan.proofs.SlotMessages.{joined_place, message_at, number_within, first_within}
+use Rattle.job_plan.proofs.DistinctMessages.{number_of_message, every_place, every_slot, same_key-true}
+
+-- the part in which place m of joined parts lies
+record IsIn {A : Type 0} (n : ℕ) (f : ℕ → List A) (m : ℕ) : Type 0 where
+  part : ℕ
+  place : ℕ
+  there : part < n
+  within : place < length (f part)
+  is : m ≡ total part (λ j. length (f j)) + place
+
+locate : {A : Type 0} (n : ℕ) (f : ℕ → List A) (m : ℕ) → m < length (joined n f) → IsIn n f m
+locate zero f m l = absurd (omega arith)
+locate (suc n) f m l = elim (cases_lt m (length (joined n f))) [
+  | inl less ↦ (let h = locate n f m less in record { part = h.part; place = h.place; there = (let there = h.there in omega arith); within = h.within; is = h.is })
+  | inr past ↦ (let long = length-append (joined n f) (f n) in let before = length-joined n f in record { part = n; place = m - length (joined n f); there = omega arith; within = omega arith; is = omega arith })
+]
+
+-- the key stands in slot k of session s
+pub record IsThere (plan : Plan) (key : Key) (s k : ℕ) : Type 0 where
+  pub session_within : s < length plan.sessions
+  pub slot_within : k < slots (session plan s)
+  pub place : ℕ
+  pub place_within : place < count plan s k
+  pub is : slice_index_or (slot_messages plan s k (slot (session plan s) k)) place no_key ≡ key
+
+module _ (plan : Plan) where
+  -- a key that stands anywhere stands in the slot that it names
+  there_at : (key : Key) (s k : ℕ) → IsThere plan key s k → IsThere plan key key.session key.slot
+  there_at key s k h =
+      let all = every_slot (λ x. (x.session ≡ s) × (x.slot ≡ k)) plan s k (slot (session plan s) k) (λ i p q. (refl, refl)) in
+      let own = every_place (λ (x : Key). (x.session ≡ s) × (x.slot ≡ k)) (slot_messages plan s k (slot (session plan s) k)) h.place no_key all h.place_within in
+      let in_session : s ≡ key.session = sym own.0 ∙ ap (λ x. x.session) h.is in
+      let in_slot : k ≡ key.slot = sym own.1 ∙ ap (λ x. x.slot) h.is in
+      subst (λ z. IsThere plan key key.session z) in_slot (subst (λ z. IsThere plan key z k) in_session h)
+
+  pub is_there : (key : Key) → number plan key < length (messages plan) → IsThere plan key key.session key.slot
+  is_there key l =
+      let same = same_key-true key (slice_index_or (messages plan) (number plan key) no_key) (passes_at_first (same_key key) (messages plan) no_key l) in
+      let outer = locate (length plan.sessions) (session_messages plan) (number plan key) l in
+      let s : ℕ = outer.part in
+      let inner = locate (slots (session plan s)) (λ k. slot_messages plan s k (slot (session plan s) k)) outer.place outer.within in
+      let at : slice_index_or (messages plan) (number plan key) no_key ≡ slice_index_or (slot_messages plan s inner.part (slot (session plan s) inner.part)) inner.place no_key =
+      ap (λ n. slice_index_or (messages plan) n no_key) outer.is
+      ∙ joined_place no_key (length plan.sessions) s (session_messages plan) outer.place outer.there outer.within
+      ∙ ap (λ n. slice_index_or (session_messages plan s) n no_key) inner.is
+      ∙ joined_place no_key (slots (session plan s)) inner.part (λ k. slot_messages plan s k (slot (session plan s) k)) inner.place inner.there inner.within in
+      there_at key s inner.part (record { session_within = outer.there; slot_within = inner.there; place = inner.place; place_within = inner.within; is = sym at ∙ sym same })
+
+  -- the messages of a slot are a stretch of the list
+  pub slot_range : (s k : ℕ) → s < length plan.sessions → k < slots (session plan s) → slice_range (messages plan) (first plan s k) (first plan s (k + 1)) ≡ slot_messages plan s k (slot (session plan s) k)
+  slot_range s k ls lk =
+      let begin : ℕ = first plan s k in
+      let end : ℕ = first plan s (k + 1) in
+      let more = total_more k (count plan s) in
+      let within = first_within plan s (k + 1) ls (omega arith) in
+      let long : length (take (end - begin) (drop begin (messages plan))) ≡ count plan s k = omega (arith, length-take (end - begin) (drop begin (messages plan)), length-drop begin (messages plan)) in
+      ext_get_or no_key _ (slot_messages plan s k (slot (session plan s) k)) long (λ i l.
+      get_or-take (end - begin) (drop begin (messages plan)) i no_key (omega arith)
+      ∙ get_or-drop begin (messages plan) i no_key
+      ∙ message_at plan s k ls lk i (omega arith))
+
+  pub number_is : (key : Key) (s k i : ℕ) → s < length plan.sessions → k < slots (session plan s) → i < count plan s k → slice_index_or (slot_messages plan s k (slot (session plan s) k)) i no_key ≡ key
+      → number plan key ≡ first plan s k + i
+  number_is key s k i ls lk li e =
+      ap (number plan) (sym (message_at plan s k ls lk i li ∙ e)) ∙ number_of_message plan (first plan s k + i) (number_within plan s k ls lk i li)

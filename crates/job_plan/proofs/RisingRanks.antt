@@ -1,0 +1,84 @@
+-- Ranks rise along the messages of a slot.
+use Rattle.std.proofs.Common.{◌≡◌, ℕ, zero, suc, ◌+◌, ◌*◌, ◌<◌, ◌≤◌, Bool, true, false, not, ◌&&◌, nat_eq, List, [], ◌∷◌, ◌++◌, length, subst, arith}
+use Rattle.std.specs.Prelude.{slice_index, slice_index_or}
+use Rattle.mpc_ring.specs.Sums.{joined, only_if}
+use Rattle.party_set.specs.Parties.{has_party}
+use Rattle.job_plan.specs.Plans.{Plan, Slot, session, owners, readers, holds, deals_in}
+use Rattle.job_plan.specs.Plans.Slot.{Input, At_gate, Output}
+use Rattle.job_plan.specs.Messages.{slot_messages, deal_message, deal_messages, open_messages}
+use Rattle.job_plan.specs.Numbers.{no_key, opens, rank, IsRising}
+use Rattle.job_plan.proofs.TallyLaws.{open_message}
+
+-- f rises along the list, from lo on and to below hi
+abbrev Rise : {A : Type 0} → (A → ℕ) → ℕ → ℕ → List A → Type 0
+Rise f lo hi [] = lo ≤ hi
+Rise f lo hi (x ∷ xs) = (lo ≤ f x) × Rise f (f x + 1) hi xs
+
+rise_lower : {A : Type 0} (f : A → ℕ) (lo low hi : ℕ) (xs : List A) → low ≤ lo → Rise f lo hi xs → Rise f low hi xs
+rise_lower f lo low hi [] l h = omega arith
+rise_lower f lo low hi (x ∷ xs) l h = let here = h.0 in (omega arith, h.1)
+
+rise_append : {A : Type 0} (f : A → ℕ) (lo mid hi : ℕ) (xs ys : List A) → Rise f lo mid xs → Rise f mid hi ys → Rise f lo hi (xs ++ ys)
+rise_append f lo mid hi [] ys h g = rise_lower f mid lo hi ys h g
+rise_append f lo mid hi (x ∷ xs) ys h g = (h.0, rise_append f (f x + 1) mid hi xs ys h.1 g)
+
+-- part k lies in the k-th of the stretches of length w
+rise_joined : {A : Type 0} (f : A → ℕ) (base w n : ℕ) (part : ℕ → List A) → ((k : ℕ) → k < n → Rise f (base + k * w) (base + k * w + w) (part k)) → Rise f base (base + n * w) (joined n part)
+rise_joined f base w zero part h = omega arith
+rise_joined f base w (suc n) part h =
+    let more : base + n * w + w ≡ base + suc n * w = omega arith in
+    subst (λ z. Rise f base z (joined (suc n) part)) more (rise_append f base (base + n * w) (base + n * w + w) (joined n part) (part n) (rise_joined f base w n part (λ k l. h k (omega arith))) (h n (omega arith)))
+
+rise_wider : {A : Type 0} (f : A → ℕ) (lo hi high : ℕ) (xs : List A) → hi ≤ high → Rise f lo hi xs → Rise f lo high xs
+rise_wider f lo hi high [] l h = omega arith
+rise_wider f lo hi high (x ∷ xs) l h = (h.0, rise_wider f (f x + 1) hi high xs l h.1)
+
+rise_one : {A : Type 0} (f : A → ℕ) (lo hi : ℕ) (b : Bool) (x : A) → lo ≤ f x → f x < hi → Rise f lo hi (only_if b (x ∷ []))
+rise_one f lo hi true x l h = (l, omega arith)
+rise_one f lo hi false x l h = omega arith
+
+rise_only_if : {A : Type 0} (f : A → ℕ) (lo hi : ℕ) (b : Bool) (xs : List A) → lo ≤ hi → Rise f lo hi xs → Rise f lo hi (only_if b xs)
+rise_only_if f lo hi true xs l h = h
+rise_only_if f lo hi false xs l h = l
+
+rise_after : {A : Type 0} (f : A → ℕ) (lo hi : ℕ) (xs : List A) (j : ℕ) (d : A) → Rise f lo hi xs → j < length xs → lo ≤ f (slice_index_or xs j d)
+rise_after f lo hi [] j d h l = absurd (omega arith)
+rise_after f lo hi (x ∷ xs) zero d h l = h.0
+rise_after f lo hi (x ∷ xs) (suc j) d h l = let rest = rise_after f (f x + 1) hi xs j d h.1 (omega arith) in let here = h.0 in omega arith
+
+rise_at : {A : Type 0} (f : A → ℕ) (lo hi : ℕ) (xs : List A) (i j : ℕ) (d : A) → Rise f lo hi xs → i < j → j < length xs → f (slice_index_or xs i d) < f (slice_index_or xs j d)
+rise_at f lo hi [] i j d h l b = absurd (omega arith)
+rise_at f lo hi (x ∷ xs) zero zero d h l b = absurd (omega arith)
+rise_at f lo hi (x ∷ xs) zero (suc j) d h l b = let rest = rise_after f (f x + 1) hi xs j d h.1 (omega arith) in omega arith
+rise_at f lo hi (x ∷ xs) (suc i) zero d h l b = absurd (omega arith)
+rise_at f lo hi (x ∷ xs) (suc i) (suc j) d h l b = rise_at f (f x + 1) hi xs i j d h.1 (omega arith) (omega arith)
+
+module _ (plan : Plan) (s k : ℕ) (parties : plan.parties ≤ 12) (shares : length plan.groups ≤ 64) where
+  deal_rises : (p : ℕ) → Rise (rank false) (p * 768) (p * 768 + 768) (deal_messages plan s k p)
+  deal_rises p =
+      let row : (i : ℕ) → Rise (rank false) (p * 768 + i * 12) (p * 768 + i * 12 + 12) (joined plan.parties (deal_message plan s k p i)) = λ i.
+      rise_wider (rank false) (p * 768 + i * 12) (p * 768 + i * 12 + plan.parties * 1) (p * 768 + i * 12 + 12) (joined plan.parties (deal_message plan s k p i)) (omega arith)
+      (rise_joined (rank false) (p * 768 + i * 12) 1 plan.parties (deal_message plan s k p i) (λ q lq. rise_one (rank false) (p * 768 + i * 12 + q * 1) (p * 768 + i * 12 + q * 1 + 1) (not (nat_eq q p) && holds plan q i) _ (omega arith) (omega arith))) in
+      rise_wider (rank false) (p * 768) (p * 768 + length plan.groups * 12) (p * 768 + 768) (deal_messages plan s k p) (omega arith)
+      (rise_joined (rank false) (p * 768) 12 (length plan.groups) (λ i. joined plan.parties (deal_message plan s k p i)) (λ i li. row i))
+
+  open_rises : (r : ℕ) → r < plan.parties → Rise (rank true) (r * 768) (r * 768 + 768) (open_messages plan s k r)
+  open_rises r lr =
+      rise_wider (rank true) (r * 768) (r * 768 + length plan.groups * 12) (r * 768 + 768) (open_messages plan s k r) (omega arith)
+      (rise_joined (rank true) (r * 768) 12 (length plan.groups) (open_message plan s k r) (λ i li. rise_one (rank true) (r * 768 + i * 12) (r * 768 + i * 12 + 12) (not (holds plan r i)) _ (omega arith) (omega arith)))
+
+  slot_rises : (z : Slot) → (lo : ℕ) × (hi : ℕ) × Rise (rank (opens z)) lo hi (slot_messages plan s k z)
+  slot_rises (Input v) = let p : ℕ = slice_index (owners (session plan s)) v in (p * 768, p * 768 + 768, deal_rises p)
+  slot_rises (At_gate t) = (
+    0,
+    0 + plan.parties * 768,
+    rise_joined (rank false) 0 768 plan.parties _ (λ p lp. rise_only_if (rank false) (0 + p * 768) (0 + p * 768 + 768) (deals_in plan (session plan s) p (At_gate t)) (deal_messages plan s k p) (omega arith) (let none : p * 768 ≡ 0 + p * 768 = omega arith in subst (λ z. Rise (rank false) z (z + 768) (deal_messages plan s k p)) none (deal_rises p))),
+  )
+  slot_rises (Output o) = (
+    0,
+    0 + plan.parties * 768,
+    rise_joined (rank true) 0 768 plan.parties _ (λ r lr. rise_only_if (rank true) (0 + r * 768) (0 + r * 768 + 768) (has_party (slice_index (readers (session plan s)) o) r) (open_messages plan s k r) (omega arith) (let none : r * 768 ≡ 0 + r * 768 = omega arith in subst (λ z. Rise (rank true) z (z + 768) (open_messages plan s k r)) none (open_rises r lr))),
+  )
+
+  pub slot_is_rising : (z : Slot) → IsRising (rank (opens z)) (slot_messages plan s k z)
+  slot_is_rising z i j l b = let all = slot_rises z in rise_at (rank (opens z)) all.0 all.1 (slot_messages plan s k z) i j no_key all.2 l b

@@ -1,0 +1,104 @@
+-- The messages of a slot, by number and by key.
+use Rattle.std.proofs.Common.{◌≡◌, ℕ, zero, suc, ◌+◌, ◌<◌, ◌≤◌, Bool, true, List, [], ◌∷◌, ◌++◌, map, length, refl, sym, ap, ◌∙◌, subst, arith}
+use Rattle.std.specs.Prelude.{slice_index_or}
+use Rattle.std.specs.List.{AllByRecursion, range_with_len, filter}
+use Rattle.std.proofs.lemmas.Bool.{cases_eq, cases_Bool, cond-true, cond-false}
+use Rattle.std.proofs.lemmas.List.{get_or-append-add, ext_get_or}
+use Rattle.std.proofs.lemmas.List.FromFn.{length-map-range_with_len, get_or-map-range_with_len}
+use Rattle.std.proofs.Math.ListN.{get_or-append}
+use mathlib.Core.Logic.{inl, inr}
+use Rattle.mpc_ring.specs.Sums.{total, joined}
+use Rattle.job_plan.specs.Plans.{Plan, session, slot, slots}
+use Rattle.job_plan.specs.declared.key.Key.{Key}
+use Rattle.job_plan.specs.Messages.{slot_messages, messages}
+use Rattle.job_plan.specs.Numbers.{message, no_key}
+use Rattle.mpc_ring.proofs.JoinedLists.{length-joined, total_within}
+use Rattle.mpc_ring.proofs.Totals.{total_eq}
+use Rattle.job_plan.specs.Firsts.{count, session_count, first}
+use Rattle.job_plan.specs.Firsts.{numbers}
+
+-- what stands at place i of part k
+pub joined_place : {A : Type 0} (d : A) (n k : ℕ) (f : ℕ → List A) (i : ℕ) → k < n → i < length (f k) → slice_index_or (joined n f) (total k (λ j. length (f j)) + i) d ≡ slice_index_or (f k) i d
+joined_place d zero k f i l b = absurd (omega arith)
+joined_place d (suc n) k f i l b = elim (cases_eq k n) [
+  | inl e ↦ subst (λ z. slice_index_or (joined n f ++ f n) (total z (λ j. length (f j)) + i) d ≡ slice_index_or (f z) i d) (sym e)
+      (ap (λ z. slice_index_or (joined n f ++ f n) (z + i) d) (sym (length-joined n f)) ∙ get_or-append-add (joined n f) (f n) i d)
+  | inr ne ↦
+      let within : total k (λ j. length (f j)) + length (f k) ≤ total n (λ j. length (f j)) = total_within n k (λ j. length (f j)) (omega arith) in
+      get_or-append (joined n f) (f n) d (total k (λ j. length (f j)) + i) (omega (arith, within, b, length-joined n f)) ∙ joined_place d n k f i (omega arith) b
+]
+
+module _ (plan : Plan) (s k : ℕ) (ls : s < length plan.sessions) (lk : k < slots (session plan s)) where
+  abbrev part : ℕ → List Key
+  part j = slot_messages plan s j (slot (session plan s) j)
+
+  abbrev whole : ℕ → List Key
+  whole r = joined (slots (session plan r)) (λ j. slot_messages plan r j (slot (session plan r) j))
+
+  outer : total s (λ r. length (whole r)) ≡ total s (session_count plan)
+  outer = total_eq s _ _ (λ r l. length-joined (slots (session plan r)) (λ j. slot_messages plan r j (slot (session plan r) j)))
+
+  pub message_at : (i : ℕ) → i < count plan s k → message plan (first plan s k + i) ≡ slice_index_or (part k) i no_key
+  message_at i li =
+      let here : length (whole s) ≡ session_count plan s = length-joined (slots (session plan s)) part in
+      let within : total k (count plan s) + count plan s k ≤ session_count plan s = total_within (slots (session plan s)) k (count plan s) lk in
+      let at : first plan s k + i ≡ total s (λ r. length (whole r)) + (total k (count plan s) + i) = omega (arith, outer) in
+      ap (message plan) at
+      ∙ joined_place no_key (length plan.sessions) s whole (total k (count plan s) + i) ls (omega (arith, here, within, li))
+      ∙ joined_place no_key (slots (session plan s)) k part i lk li
+
+  pub number_within : (i : ℕ) → i < count plan s k → first plan s k + i < length (messages plan)
+  number_within i li =
+      let here : length (whole s) ≡ session_count plan s = length-joined (slots (session plan s)) part in
+      let within : total k (count plan s) + count plan s k ≤ session_count plan s = total_within (slots (session plan s)) k (count plan s) lk in
+      let all : total s (λ r. length (whole r)) + length (whole s) ≤ total (length plan.sessions) (λ r. length (whole r)) = total_within (length plan.sessions) s (λ r. length (whole r)) ls in
+      omega (arith, outer, here, within, all, length-joined (length plan.sessions) whole)
+
+  pub keys_are : map (message plan) (numbers plan s k) ≡ part k
+  keys_are = ext_get_or no_key _ (part k) (length-map-range_with_len (message plan) (first plan s k) (count plan s k)) (λ i l.
+      let li : i < count plan s k = omega (arith, l, length-map-range_with_len (message plan) (first plan s k) (count plan s k)) in
+      get_or-map-range_with_len (message plan) (first plan s k) (count plan s k) i (first plan s k + i) no_key li refl ∙ message_at i li)
+
+  every_in : (P : ℕ → Type 0) (a n : ℕ) → ((i : ℕ) → i < n → P (a + i)) → AllByRecursion P (range_with_len a n)
+  every_in P a zero h = tt
+  every_in P a (suc n) h = (
+    (let none : a + 0 ≡ a = omega arith in subst P none (h 0 (omega arith))),
+    every_in P (a + 1) n (λ i l. let same : a + suc i ≡ a + 1 + i = omega arith in subst P same (h (suc i) (omega arith))),
+  )
+
+  every_key : (F : Key → Type 0) (ns : List ℕ) → AllByRecursion F (map (message plan) ns) → AllByRecursion (λ n. F (message plan n)) ns
+  every_key F [] h = tt
+  every_key F (n ∷ ns) h = (h.0, every_key F ns h.1)
+
+  both : (F G : ℕ → Type 0) (ns : List ℕ) → AllByRecursion F ns → AllByRecursion G ns → AllByRecursion (λ n. F n × G n) ns
+  both F G [] h g = tt
+  both F G (n ∷ ns) h g = ((h.0, g.0), both F G ns h.1 g.1)
+
+  -- what holds of each key of the slot, with its number
+  pub each_number : (F : Key → Type 0) → AllByRecursion F (part k) → AllByRecursion (λ n. (n < length (messages plan)) × F (message plan n)) (numbers plan s k)
+  each_number F h = both _ _ (numbers plan s k) (every_in (λ n. n < length (messages plan)) (first plan s k) (count plan s k) number_within) (every_key F (numbers plan s k) (subst (AllByRecursion F) (sym keys_are) h))
+
+pub every_filter : (F G : ℕ → Type 0) (test : ℕ → Bool) (ns : List ℕ) → AllByRecursion F ns → ((n : ℕ) → F n → test n ≡ true → G n) → AllByRecursion G (filter test ns)
+every_filter F G test [] h g = tt
+every_filter F G test (n ∷ ns) h g = elim (cases_Bool (test n)) [
+  | inl e ↦ subst (AllByRecursion G) (sym (cond-true (test n) (n ∷ filter test ns) (filter test ns) e)) (g n h.0 e, every_filter F G test ns h.1 g)
+  | inr e ↦ subst (AllByRecursion G) (sym (cond-false (test n) (n ∷ filter test ns) (filter test ns) e)) (every_filter F G test ns h.1 g)
+]
+
+pub length-messages : (plan : Plan) → length (messages plan) ≡ total (length plan.sessions) (session_count plan)
+length-messages plan =
+    let whole : ℕ → List Key = λ r. joined (slots (session plan r)) (λ j. slot_messages plan r j (slot (session plan r) j)) in
+    length-joined (length plan.sessions) whole ∙ total_eq (length plan.sessions) _ _ (λ r l. length-joined (slots (session plan r)) (λ j. slot_messages plan r j (slot (session plan r) j)))
+
+pub first_within : (plan : Plan) (s k : ℕ) → s < length plan.sessions → k ≤ slots (session plan s) → first plan s k ≤ length (messages plan)
+first_within plan s k ls lk =
+    let all = length-messages plan in
+    let a : total s (session_count plan) + session_count plan s ≤ total (length plan.sessions) (session_count plan) = total_within (length plan.sessions) s (session_count plan) ls in
+    let b : total k (count plan s) ≤ session_count plan s = total_upto (slots (session plan s)) k (count plan s) lk in
+    omega arith
+  where
+    total_upto : (n k : ℕ) (f : ℕ → ℕ) → k ≤ n → total k f ≤ total n f
+    total_upto n k f l = elim (cases_eq k n) [
+      | inl e ↦ subst (λ z. total k f ≤ total z f) e (omega arith)
+      | inr ne ↦ let a = total_within n k f (omega arith) in omega arith
+    ]

@@ -1,0 +1,11 @@
+use Rattle.std.proofs.Common.{◌≡◌, ◌*◌, ◌≤◌}
+use Rattle.mpc_ring.specs.Sums.{total, listed}
+use Rattle.job_plan.specs.Numbers.{deals}
+use Rattle.job_plan.proofs.lists.list_deals_of.Given as goal
+
+abbrev pub invariant-loop-s : goal.invariant-loop-s
+invariant-loop-s l = record {
+  is : l.count ≡ total l.s (deals l.outline l.p);
+  few : l.count ≤ 196608 * l.s;
+  starts : l.starts.items ≡ listed l.s (λ s. total s (deals l.outline l.p));
+}

@@ -1,0 +1,207 @@
+-- Lists of seats, and a board at its start and its end.
+use Rattle.std.proofs.Common.{◌≡◌, ◌⊎◌, ℕ, zero, suc, ◌+◌, ◌<◌, ◌≤◌, List, [], ◌∷◌, ◌++◌, length, map, reverse, append_assoc, take, drop, replicate, Option, Some, None, sym, refl, ap, ◌∙◌, subst, inl, inr, ⊎_elim, arith}
+use Rattle.std.specs.Prelude.{slice_index, slice_get}
+use mathlib.Core.Option.{some, some-injective, some-ne-none}
+use lib.ListN.{get_elem?}
+use Rattle.std.proofs.lemmas.List.{reverse-append}
+use Rattle.atomic_table.specs.Table.{opening, Final, Seen}
+use Rattle.message_board.specs.declared.steps.About.{About}
+use Rattle.message_board.specs.declared.steps.View.{View}
+use Rattle.message_board.specs.Pairs.{Knows, times}
+use Rattle.message_board.specs.Plain.{plain_cell}
+use Rattle.message_board.specs.Words.{word_as, cells_from, cells_of, held}
+use Rattle.message_board.specs.Rule.{IsBoard, IsTold, newcomer, cell}
+use Rattle.message_board.specs.Seats.{BoardModel, Sitting, IsSeatOf, IsFreeSeatOf, AreSeatsOf, CanClose, AreNewSeats, KnownBy, times_by, HasCells, AreFresh}
+use Rattle.message_board.proofs.Pairs.{total_at}
+use Rattle.message_board.proofs.StepAnswers.{word_full}
+
+module _ {W : Type 0} where
+  pub new_more : (b : BoardModel W) (ss : List (Sitting W)) (s : Sitting W) → AreNewSeats b ss → IsSeatOf b s → s.view ≡ newcomer b.about 1 → AreNewSeats b (ss ++ s ∷ [])
+  new_more b [] s h i e = ((i, e), tt)
+  new_more b (x ∷ xs) s h i e = (h.0, new_more b xs s h.1 i e)
+
+  pub new_last : (b : BoardModel W) (ss : List (Sitting W)) (s : Sitting W) → AreNewSeats b (ss ++ s ∷ []) → IsSeatOf b s × (s.view ≡ newcomer b.about 1)
+  new_last b [] s h = h.0
+  new_last b (x ∷ xs) s h = new_last b xs s h.1
+
+  pub last_is : (b : BoardModel W) (ss : List (Sitting W)) (s : Sitting W) → AreSeatsOf b (ss ++ s ∷ []) → AreSeatsOf b ss × IsFreeSeatOf b s
+  last_is b [] s h = (tt, h.0)
+  last_is b (x ∷ xs) s h = let r = last_is b xs s h.1 in ((h.0, r.0), r.1)
+
+  pub can_last : (b : BoardModel W) (ss : List (Sitting W)) (s : Sitting W) → CanClose b (ss ++ s ∷ []) → AreSeatsOf b ss × IsSeatOf b s
+  can_last b [] s h = (tt, h)
+  can_last b (x ∷ []) s h = ((h.0, tt), h.1)
+  can_last b (x ∷ y ∷ ys) s h = let r = can_last b (y ∷ ys) s h.1 in ((h.0, r.0), r.1)
+
+  pub known_last : (ss : List (Sitting W)) (s : Sitting W) (k w : ℕ) → KnownBy (ss ++ s ∷ []) k w → KnownBy ss k w ⊎ Knows s.view.seen k w
+  known_last [] s k w (inl h) = inr h
+  known_last [] s k w (inr h) = absurd h
+  known_last (x ∷ xs) s k w (inl h) = inl (inl h)
+  known_last (x ∷ xs) s k w (inr h) = ⊎_elim (λ a. inl (inr a)) (λ b. inr b) (known_last xs s k w h)
+
+  pub times_last : (k : ℕ) (ss : List (Sitting W)) (s : Sitting W) → times_by k (ss ++ s ∷ []) ≡ times_by k ss + times k s.view.mine
+  times_last k [] s = omega arith
+  times_last k (x ∷ xs) s = let r = times_last k xs s in omega arith
+
+-- the board at its start
+reps : (n : ℕ) (x : ℕ) → length {A = ℕ} (replicate n x) ≡ n
+reps zero x = refl
+reps (suc n) x = ap suc (reps n x)
+
+starts_length : (a n : ℕ) → length {A = ℕ} (replicate a 0 ++ replicate n 1) ≡ a + n
+starts_length zero n = reps n 1 ∙ (let e : n ≡ zero + n = omega arith in e)
+starts_length (suc a) n = ap suc (starts_length a n) ∙ (let e : suc (a + n) ≡ suc a + n = omega arith in e)
+
+-- an empty cell
+starts_cell : (a n k : ℕ) → k < a → slice_index (replicate a 0 ++ replicate n 1) k ≡ 0
+starts_cell zero n k h = absurd (omega arith)
+starts_cell (suc a) n zero h = refl
+starts_cell (suc a) n (suc k) h = starts_cell a n k (omega arith)
+
+one_at : (n i : ℕ) → i < n → slice_index (replicate n 1) i ≡ 1
+one_at zero i h = absurd (omega arith)
+one_at (suc n) zero h = refl
+one_at (suc n) (suc i) h = one_at n i (omega arith)
+
+-- a slot's turn word
+starts_turn : (a n i k : ℕ) → i < n → k ≡ a + i → slice_index (replicate a 0 ++ replicate n 1) k ≡ 1
+starts_turn zero n i k h e = ap (slice_index (replicate n 1)) (let q : k ≡ i = omega arith in q) ∙ one_at n i h
+starts_turn (suc a) n i zero h e = absurd (omega arith)
+starts_turn (suc a) n i (suc k) h e = starts_turn a n i k h (omega arith)
+
+module _ {T : Type 0} where
+  pub map_somes : (xs : List T) → length (map (λ x. Some x) xs) ≡ length xs
+  map_somes [] = refl
+  map_somes (x ∷ xs) = ap suc (map_somes xs)
+
+  held_some : (slots : List (Option T)) (x : T) → held (slots ++ Some x ∷ []) ≡ held slots ++ x ∷ []
+  held_some [] x = refl
+  held_some (None ∷ slots) x = held_some slots x
+  held_some (Some y ∷ slots) x = ap (λ l. y ∷ l) (held_some slots x)
+
+  pub held_none : (slots : List (Option T)) → held (slots ++ None ∷ []) ≡ held slots
+  held_none [] = refl
+  held_none (None ∷ slots) = held_none slots
+  held_none (Some y ∷ slots) = ap (λ l. y ∷ l) (held_none slots)
+
+  pub back_more : (slots : List (Option T)) (items : List T) (x : T) → held slots ++ reverse (items ++ x ∷ []) ≡ held (slots ++ Some x ∷ []) ++ reverse items
+  back_more slots items x = ap (λ l. held slots ++ l) (reverse-append items (x ∷ [])) ∙ sym (append_assoc (held slots) (x ∷ []) (reverse items)) ∙ ap (λ l. l ++ reverse items) (sym (held_some slots x))
+
+  pub held_all : (xs : List T) → held (map (λ x. Some x) xs) ≡ xs
+  held_all [] = refl
+  held_all (x ∷ xs) = ap (λ l. x ∷ l) (held_all xs)
+
+  homes_length : (xs : List T) → length (map some (map (λ x. Some x) xs)) ≡ length xs
+  homes_length [] = refl
+  homes_length (x ∷ xs) = ap suc (homes_length xs)
+
+  -- the item of a slot
+  at_home : (xs : List T) (i : ℕ) → i < length xs → (x : T) × (get_elem? (map some (map (λ x. Some x) xs)) i ≡ some (some (Some x))) × (slice_get xs i ≡ Some x)
+  at_home [] i h = absurd (omega arith)
+  at_home (x ∷ xs) zero h = (x, refl, refl)
+  at_home (x ∷ xs) (suc i) h = at_home xs i (omega arith)
+
+module _ {W T : Type 0} (list : W → List ℕ) (good : W → T → ℕ → Type 0) (posted : W → T → List (ℕ × ℕ)) where
+  pub begins : (about : About W) (m : ℕ) (items : List T) → length (list about.world) ≡ m → AreFresh good posted about.world items
+      → IsBoard list good posted about (opening (replicate (m + m + 1) 0 ++ replicate (length items) 1) (map (λ x. Some x) items) (newcomer about about.seats))
+  begins about m items len fresh =
+      let l = homes_length items in
+      let start : List ℕ = replicate (m + m + 1) 0 ++ replicate (length items) 1 in
+      record {
+        size = starts_length (m + m + 1) (length items) ∙ (let e = len in omega arith);
+        cells = λ k h. inl (starts_cell (m + m + 1) (length items) (length (list about.world) + k + 1) (let e = len in omega arith));
+        told = λ id v e. only id v e (λ y. IsTold list good posted about start y) ((λ k w known. absurd known), (λ k has. absurd has), (λ k has. absurd has));
+        mine = λ id v e. only id v e (λ y. (k : ℕ) → 0 < times k y.mine → (w : ℕ) × Knows y.seen k w) (λ k more. absurd (omega arith));
+        once = λ k. omega arith;
+        slots = λ i h. inl (let here = at_home items i (omega arith) in let f = fresh i here.0 here.2 in (
+          starts_turn (m + m + 1) (length items) i (length (list about.world) + length (list about.world) + i + 1) (omega arith) (let e = len in omega arith),
+          (here.0, here.1, f.0, λ k w known. absurd (subst (λ (ps : List (ℕ × ℕ)). Knows ps k w) f.1 known)),
+        ));
+        seats = omega arith;
+        idle = λ id v e. only id v e (λ y. y.seats ≡ 0 → y.out ≡ []) (λ z. refl);
+        knows = λ id v e. only id v e (λ y. 0 < y.seats → y.about ≡ Some about) (λ z. refl);
+      }
+    where
+      only : (id : ℕ) (v : View W) → get_elem? (newcomer about about.seats ∷ []) id ≡ some v → (P : View W → Type 0) → P (newcomer about about.seats) → P v
+      only zero v e P p = subst P (some-injective _ _ e) p
+      only (suc id) v e P p = absurd (some-ne-none v (sym e))
+
+-- the board at its end
+from_at : (vs fs : List ℕ) (k : ℕ) → k < length vs → k < length fs → plain_cell (cells_from vs fs) k ≡ word_as (slice_index fs k) (slice_index vs k)
+from_at [] fs k a b = absurd (omega arith)
+from_at (v ∷ vs) [] k a b = absurd (omega arith)
+from_at (v ∷ vs) (f ∷ fs) zero a b = refl
+from_at (v ∷ vs) (f ∷ fs) (suc k) a b = from_at vs fs k (omega arith) (omega arith)
+
+from_length : (vs fs : List ℕ) → length vs ≤ length fs → length (cells_from vs fs) ≡ length vs
+from_length [] fs h = refl
+from_length (v ∷ vs) [] h = absurd (omega arith)
+from_length (v ∷ vs) (f ∷ fs) h = ap suc (from_length vs fs (omega arith))
+
+take_length : (c : ℕ) (ns : List ℕ) → c ≤ length ns → length (take c ns) ≡ c
+take_length zero ns h = refl
+take_length (suc c) [] h = absurd (omega arith)
+take_length (suc c) (n ∷ ns) h = ap suc (take_length c ns (omega arith))
+
+take_at : (c : ℕ) (ns : List ℕ) (k : ℕ) → k < c → slice_index (take c ns) k ≡ slice_index ns k
+take_at zero ns k h = absurd (omega arith)
+take_at (suc c) [] k h = refl
+take_at (suc c) (n ∷ ns) zero h = refl
+take_at (suc c) (n ∷ ns) (suc k) h = take_at c ns k (omega arith)
+
+drop_length : (c : ℕ) (ns : List ℕ) → c ≤ length ns → length (drop c ns) + c ≡ length ns
+drop_length zero ns h = omega arith
+drop_length (suc c) [] h = absurd (omega arith)
+drop_length (suc c) (n ∷ ns) h = let r = drop_length c ns (omega arith) in omega arith
+
+drop_at : (c : ℕ) (ns : List ℕ) (k j : ℕ) → j ≡ c + k → slice_index (drop c ns) k ≡ slice_index ns j
+drop_at zero ns k j e = ap (slice_index ns) (let q : k ≡ j = omega arith in q)
+drop_at (suc c) [] k j e = refl
+drop_at (suc c) (n ∷ ns) k zero e = absurd (omega arith)
+drop_at (suc c) (n ∷ ns) k (suc j) e = drop_at c ns k j (omega arith)
+
+pub cells_length : (count : ℕ) (ws : List ℕ) → count + count < length ws → length (cells_of count ws) ≡ count
+cells_length count [] h = absurd (omega arith)
+cells_length count (n ∷ ns) h = let t = take_length count ns (omega arith) in let d = drop_length count ns (omega arith) in from_length (take count ns) (drop count ns) (omega arith) ∙ t
+
+pub cells_at : (count : ℕ) (ws : List ℕ) (k : ℕ) → k < count → count + count < length ws → plain_cell (cells_of count ws) k ≡ word_as (slice_index ws (count + k + 1)) (slice_index ws (k + 1))
+cells_at count [] k a h = absurd (omega arith)
+cells_at count (n ∷ ns) k a h =
+    let t = take_length count ns (omega arith) in
+    let d = drop_length count ns (omega arith) in
+    let full : slice_index (drop count ns) k ≡ slice_index (n ∷ ns) (count + k + 1) = drop_at count ns k (count + k) refl ∙ ap (slice_index (n ∷ ns)) (let q : suc (count + k) ≡ count + k + 1 = omega arith in q) in
+    let value : slice_index (take count ns) k ≡ slice_index (n ∷ ns) (k + 1) = take_at count ns k a ∙ ap (slice_index (n ∷ ns)) (let q : suc k ≡ k + 1 = omega arith in q) in
+    from_at (take count ns) (drop count ns) k (omega arith) (omega arith) ∙ (λ i. word_as (full i) (value i))
+
+module _ {W T : Type 0} (list : W → List ℕ) (good : W → T → ℕ → Type 0) (posted : W → T → List (ℕ × ℕ)) (about : About W) where
+  pub record Ends (count : ℕ) (ws : List ℕ) (v : View W) : Type 0 where
+    pub room : count + count < length ws
+    pub cells : HasCells (list about.world) (cells_of count ws)
+    pub seen : (k w : ℕ) → Knows v.seen k w → plain_cell (cells_of count ws) k ≡ Some w
+    pub once : (k : ℕ) → times k v.mine ≤ 1
+
+  pub ends : (count : ℕ) (ws : List ℕ) (xs : List (Option T)) (id : ℕ) (v : View W) → count ≡ length (list about.world) → Final (Seen (IsBoard list good posted about) id v) ws xs → Ends count ws v
+  ends count ws xs id v is f =
+      let s = f.0 in
+      let h = f.1.0 in
+      let at = f.1.1 in
+      let same : s.words ≡ ws = f.2 in
+      let size : length ws ≡ length (list about.world) + length (list about.world) + length s.homes + 1 = ap length (sym same) ∙ h.size in
+      let word : (k j : ℕ) → j ≡ k + 1 → cell s.words k ≡ slice_index ws j = λ k j e. ap (λ l. slice_index l (k + 1)) same ∙ ap (slice_index ws) (sym e) in
+      let full : (k : ℕ) → cell s.words (length (list about.world) + k) ≡ slice_index ws (count + k + 1) = λ k. word (length (list about.world) + k) (count + k + 1) (ap (λ n. n + k + 1) is) in
+      record {
+        room = omega arith;
+        cells = (
+          cells_length count ws (omega arith) ∙ is,
+          λ k in_.
+              ⊎_elim (λ (a : cell s.words (length (list about.world) + k) ≡ 0). inl (cells_at count ws k (omega arith) (omega arith) ∙ ap (λ n. word_as n (slice_index ws (k + 1))) (sym (full k) ∙ a)))
+              (λ (a : (cell s.words (length (list about.world) + k) ≡ 1) × (cell s.words k ≡ slice_index (list about.world) k)). inr (cells_at count ws k (omega arith) (omega arith) ∙ word_full _ _ (sym (full k) ∙ a.0) ∙ ap (λ n. Some n) (sym (word k (k + 1) refl) ∙ a.1))) (h.cells k in_),
+        );
+        seen = λ k w known. let r = (h.told id v at).0 k w known in let l = r.0 in cells_at count ws k (omega arith) (omega arith) ∙ word_full _ _ (sym (full k) ∙ r.1) ∙ ap (λ n. Some n) (sym (word k (k + 1) refl) ∙ r.2);
+        once = λ k. let t = total_at (λ (u : View W). times k u.mine) s.views id v at in let o = h.once k in omega arith;
+      }
+
+pub read : (l : List ℕ) (i n : ℕ) → get_elem? l i ≡ some n → (i < length l) × (slice_index l i ≡ n)
+read [] i n e = absurd (some-ne-none n (sym e))
+read (x ∷ xs) zero n e = (omega arith, some-injective x n e)
+read (x ∷ xs) (suc i) n e = let r = read xs i n e in let l = r.0 in (omega arith, r.1)

@@ -1,0 +1,78 @@
+-- Writes into a row of a table.
+use Rattle.std.proofs.Common.{◌≡◌, ℕ, ◌+◌, ◌*◌, ◌<◌, ◌≤◌, ◌≢◌, nat_eq, nat_lt, if◌then◌else◌, List, length, sym, ap, ap₂, ◌∙◌, subst, arith, get_or-set_other, get_or-set_same, get_or, set}
+use Rattle.std.proofs.lemmas.Bool.{cases_eq, cases_lt, cond-true, cond-false, eq-eqb, ne_eqb, lt-ltb, le-ltb}
+use Rattle.std.proofs.Math.Nat.{mul-le-mul_right}
+use mathlib.Core.Logic.{inl, inr}
+use Rattle.circuit_model.specs.Circuits.{set_at}
+use Rattle.circuit_model.proofs.SetAt.{set_here, set_there}
+use Rattle.party_desk.specs.Rows.{row, SameRows, filled_to}
+
+-- places of different rows differ
+apart : (m u v i j : ℕ) → i < m → j < m → u < v → u * m + j ≢ v * m + i
+apart m u v i j li lj l e =
+    let more : (u + 1) * m ≤ v * m = mul-le-mul_right m (omega arith) in
+    omega (arith, more, e)
+
+pub row_set : (m : ℕ) (table : List ℕ) (v i x : ℕ) → i < m → v * m + i < length table → (u j : ℕ) → j < m
+    → row m (set table (v * m + i) x) u j ≡ (if nat_eq u v then (if nat_eq j i then x else row m table u j) else row m table u j)
+row_set m table v i x li inside u j lj = elim (cases_eq u v) [
+  | inl e ↦ elim (cases_eq j i) [
+    | inl f ↦
+        subst (λ z. get_or (set table (v * m + i) x) z 0 ≡ x) (ap₂ (λ a b. a * m + b) (sym e) (sym f)) (get_or-set_same table (v * m + i) x 0 inside)
+        ∙ sym (cond-true (nat_eq u v) _ _ (eq-eqb u v e) ∙ cond-true (nat_eq j i) x _ (eq-eqb j i f))
+    | inr nf ↦
+        let ne : u * m + j ≢ v * m + i = (λ z. nf (let w : u * m ≡ v * m = ap (λ a. a * m) e in omega arith)) in
+        get_or-set_other table (v * m + i) (u * m + j) x 0 ne
+        ∙ sym (cond-true (nat_eq u v) _ _ (eq-eqb u v e) ∙ cond-false (nat_eq j i) x _ (ne_eqb j i nf))
+  ]
+  | inr ne' ↦
+      let ne : u * m + j ≢ v * m + i = elim (cases_lt u v) [
+        | inl l ↦ apart m u v i j li lj l
+        | inr past ↦ (λ z. apart m v u j i lj li (omega arith) (sym z))
+      ] in
+      get_or-set_other table (v * m + i) (u * m + j) x 0 ne ∙ sym (cond-false (nat_eq u v) _ _ (ne_eqb u v ne'))
+]
+
+pub fill_start : (m : ℕ) (f : ℕ → ℕ → ℕ) (v : ℕ) (new : ℕ → ℕ) → SameRows m f (filled_to f v new 0)
+fill_start m f v new u j lj = elim (cases_eq u v) [
+  | inl e ↦ ap (λ z. f z j) e ∙ sym (ap (λ g. g j) (set_here f v u (λ j. if nat_lt j 0 then new j else f v j) e) ∙ cond-false (nat_lt j 0) _ _ (le-ltb j 0 (omega arith)))
+  | inr ne ↦ sym (ap (λ g. g j) (set_there f v u (λ j. if nat_lt j 0 then new j else f v j) ne))
+]
+
+pub fill_unread : (f : ℕ → ℕ → ℕ) (v : ℕ) (new : ℕ → ℕ) (i u : ℕ) → filled_to f v new i u i ≡ f u i
+fill_unread f v new i u = elim (cases_eq u v) [
+  | inl e ↦ ap (λ g. g i) (set_here f v u (λ j. if nat_lt j i then new j else f v j) e) ∙ cond-false (nat_lt i i) _ _ (le-ltb i i (omega arith)) ∙ ap (λ z. f z i) (sym e)
+  | inr ne ↦ ap (λ g. g i) (set_there f v u (λ j. if nat_lt j i then new j else f v j) ne)
+]
+
+pub fill_end : (m : ℕ) (f : ℕ → ℕ → ℕ) (v : ℕ) (new : ℕ → ℕ) → SameRows m (filled_to f v new m) (set_at f v new)
+fill_end m f v new u j lj = elim (cases_eq u v) [
+  | inl e ↦ ap (λ g. g j) (set_here f v u (λ j. if nat_lt j m then new j else f v j) e) ∙ cond-true (nat_lt j m) _ _ (lt-ltb j m lj) ∙ sym (ap (λ g. g j) (set_here f v u new e))
+  | inr ne ↦ ap (λ g. g j) (set_there f v u (λ j. if nat_lt j m then new j else f v j) ne) ∙ sym (ap (λ g. g j) (set_there f v u new ne))
+]
+
+pub fill_step : (m : ℕ) (table : List ℕ) (f : ℕ → ℕ → ℕ) (v : ℕ) (new : ℕ → ℕ) (i x : ℕ) → SameRows m (row m table) (filled_to f v new i) → i < m → v * m + i < length table → x ≡ new i
+    → SameRows m (row m (set table (v * m + i) x)) (filled_to f v new (i + 1))
+fill_step m table f v new i x same li inside e u j lj = row_set m table v i x li inside u j lj ∙ elim (cases_eq u v) [
+  | inl eq ↦ cond-true (nat_eq u v) _ _ (eq-eqb u v eq)
+      ∙ elim (cases_eq j i) [
+        | inl ej ↦ cond-true (nat_eq j i) _ _ (eq-eqb j i ej) ∙ e ∙ ap new (sym ej)
+            ∙ sym (ap (λ g. g j) (set_here f v u (λ j. if nat_lt j (i + 1) then new j else f v j) eq) ∙ cond-true (nat_lt j (i + 1)) _ _ (lt-ltb j (i + 1) (omega arith)))
+        | inr nj ↦ cond-false (nat_eq j i) x _ (ne_eqb j i nj) ∙ same u j lj
+            ∙ ap (λ g. g j) (set_here f v u (λ j. if nat_lt j i then new j else f v j) eq)
+            ∙ elim (cases_lt j i) [
+              | inl l ↦ cond-true (nat_lt j i) _ _ (lt-ltb j i l) ∙ sym (cond-true (nat_lt j (i + 1)) (new j) (f v j) (lt-ltb j (i + 1) (omega arith)))
+              | inr past ↦ cond-false (nat_lt j i) _ _ (le-ltb j i past) ∙ sym (cond-false (nat_lt j (i + 1)) (new j) (f v j) (le-ltb j (i + 1) (omega arith)))
+            ]
+            ∙ sym (ap (λ g. g j) (set_here f v u (λ j. if nat_lt j (i + 1) then new j else f v j) eq))
+      ]
+  | inr ne ↦ cond-false (nat_eq u v) _ _ (ne_eqb u v ne) ∙ same u j lj
+      ∙ ap (λ g. g j) (set_there f v u (λ j. if nat_lt j i then new j else f v j) ne)
+      ∙ sym (ap (λ g. g j) (set_there f v u (λ j. if nat_lt j (i + 1) then new j else f v j) ne))
+]
+
+pub row_put : (m : ℕ) (table : List ℕ) (v i x : ℕ) → i < m → v * m + i < length table → SameRows m (row m (set table (v * m + i) x)) (set_at (row m table) v (set_at (row m table v) i x))
+row_put m table v i x li inside u j lj = row_set m table v i x li inside u j lj ∙ elim (cases_eq u v) [
+  | inl e ↦ cond-true (nat_eq u v) _ _ (eq-eqb u v e) ∙ ap (λ z. if nat_eq j i then x else row m table z j) e ∙ sym (ap (λ g. g j) (set_here (row m table) v u (set_at (row m table v) i x) e))
+  | inr ne ↦ cond-false (nat_eq u v) _ _ (ne_eqb u v ne) ∙ sym (ap (λ g. g j) (set_there (row m table) v u (set_at (row m table v) i x) ne))
+]

@@ -1,0 +1,147 @@
+-- What a program does with what suits its plan, whatever words it gets.
+use Rattle.std.proofs.Common.{◌≡◌, ℕ, zero, suc, ◌+◌, ◌-◌, ◌*◌, ◌<◌, ◌≤◌, ◌^◌, Bool, true, false, nat_eq, if◌then◌else◌, List, [], length, refl, sym, ap, ◌∙◌, subst, arith}
+use Rattle.std.specs.Prelude.{slice_index}
+use Rattle.std.proofs.lemmas.Bool.{cases_lt, cond-true}
+use Rattle.std.proofs.lemmas.List.{get_or_past}
+use Rattle.std.proofs.lemmas.Nat.{pow_pos}
+use Rattle.std.proofs.Math.Nat.{mul-le-mul_left}
+use mathlib.Core.Logic.{inl, inr}
+use Rattle.mpc_ring.specs.Sums.{total}
+use Rattle.mpc_ring.proofs.Totals.{total_eq}
+use Rattle.mpc_ring.proofs.JoinedLists.{total_within}
+use Rattle.job_plan.specs.Plans.{Plan, Slot, owners, session, slot, slots, deals_in, words, place, IsPlan}
+use Rattle.job_plan.specs.Plans.Slot.{Input, At_gate, Output}
+use Rattle.job_plan.specs.Sound.{IsSound}
+use Rattle.job_plan.specs.declared.key.Key.{Key}
+use Rattle.job_plan.specs.Numbers.{deals_before, deals}
+use Rattle.job_plan.proofs.Slots.{slot_input, slot_cases}
+use Rattle.job_plan.proofs.DistinctMessages.{places_by_deals}
+use Rattle.share_world.specs.Worlds.{World}
+use Rattle.party_program.specs.declared.program.Instruction.{Instruction}
+use Rattle.party_program.specs.declared.program.Instruction.TheVariants.{Deal, Post, Take, Linear, Own, Sum, Deliver, End}
+use Rattle.party_program.specs.Programs.{program, at}
+use Rattle.party_program.specs.States.{Given, State, new_state, state, after, dealt_in, took_in, slot_at, slot_of}
+use Rattle.party_program.specs.Proper.{Proper, CanDealIn, HasInput}
+use Rattle.party_program.specs.Suiting.{Suits, inputs_of}
+use Rattle.party_program.proofs.InstructionLists.{along_at, state_is}
+use Rattle.program_laws.specs.Meets.{local_given, Goes, SmallTape}
+use Rattle.program_laws.proofs.LocalPrograms.{met}
+
+-- ---- the deals that are done do not hang on what is given
+
+dealt_same : (plan : Plan) (f g : ℕ → ℕ) (x y : ℕ) (z : Slot) (σ τ : State) → σ.deals ≡ τ.deals → (dealt_in plan f x z σ).deals ≡ (dealt_in plan g y z τ).deals
+dealt_same plan f g x y (Input v) σ τ e = ap (λ z. z + 1) e
+dealt_same plan f g x y (At_gate t) σ τ e = ap (λ z. z + 1) e
+dealt_same plan f g x y (Output o) σ τ e = e
+
+took_same : (q : ℕ) (z : Slot) (i x y : ℕ) (σ τ : State) → σ.deals ≡ τ.deals → (took_in q z i x σ).deals ≡ (took_in q z i y τ).deals
+took_same q (Input v) i x y σ τ e = e
+took_same q (At_gate t) i x y σ τ e = e
+took_same q (Output o) i x y σ τ e = e
+
+after_same : (plan : Plan) (p s : ℕ) (f g : ℕ → ℕ) (x y : ℕ) (got had : ℕ → ℕ) (e : Instruction) (σ τ : State) → σ.deals ≡ τ.deals → (after plan p s f x got e σ).deals ≡ (after plan p s g y had e τ).deals
+after_same plan p s f g x y got had (Deal k d) σ τ h = dealt_same plan f g x y (slot_at plan s k) σ τ h
+after_same plan p s f g x y got had (Post n i) σ τ h = h
+after_same plan p s f g x y got had (Take n i) σ τ h = took_same (2 ^ plan.bits) (slot_of plan s n) i (got n) (had n) σ τ h
+after_same plan p s f g x y got had (Linear k) σ τ h = h
+after_same plan p s f g x y got had (Own k) σ τ h = h
+after_same plan p s f g x y got had (Sum k) σ τ h = h
+after_same plan p s f g x y got had (Deliver k) σ τ h = h
+after_same plan p s f g x y got had End σ τ h = h
+
+abbrev given : Plan → ℕ → ℕ → List ℕ → List ℕ → (ℕ → ℕ) → Given
+given plan p s inputs tape got = record { plan = plan; party = p; session = s; inputs = inputs; tape = tape; got = got }
+
+deals_same : (plan : Plan) (p s : ℕ) (xs ys ts us : List ℕ) (got had : ℕ → ℕ) (q : ℕ) → (state (given plan p s xs ts got) q).deals ≡ (state (given plan p s ys us had) q).deals
+deals_same plan p s xs ys ts us got had zero = refl
+deals_same plan p s xs ys ts us got had (suc q) = after_same plan p s _ _ _ _ got had (at (program plan p s) q) _ _ (deals_same plan p s xs ys ts us got had q)
+
+-- ---- a world of this plan, without inputs and tapes
+
+module _ (plan : Plan) (h : IsSound plan) (s p : ℕ) (ls : s < length plan.sessions) (lp : p < plan.parties) where
+  abbrev bare : World
+  bare = record { plan = plan; inputs = []; tapes = [] }
+
+  abbrev none : Key → ℕ
+  none k = 0
+
+  is_plan : IsPlan plan
+  is_plan = record { bits = h.some_bits; groups = h.some_groups; q2 = h.q2 }
+
+  small : SmallTape bare s p
+  small k i = pow_pos plan.bits
+
+  goes : (q : ℕ) → q < length (program plan p s) → Goes bare none s p (at (program plan p s) q) (state (local_given bare none s p) q)
+  goes q lq = subst (Goes bare none s p (at (program plan p s) q)) (sym (state_is (local_given bare none s p) q)) (along_at (Goes bare none s p) (local_given bare none s p) (program plan p s) new_state q lq (met bare is_plan none s p ls lp small).0)
+
+  inside : (q : ℕ) (e : Instruction) → at (program plan p s) q ≡ e → (e ≡ End → ⊥) → q < length (program plan p s)
+  inside q e is ne = elim (cases_lt q (length (program plan p s))) [
+    | inl b ↦ b
+    | inr past ↦ absurd (ne (sym is ∙ get_or_past (program plan p s) q End past))
+  ]
+
+  -- a program's instructions name what is there
+  pub proper_at : (q : ℕ) → Proper plan s (at (program plan p s) q)
+  proper_at q = elim (cases_lt q (length (program plan p s))) [
+    | inl b ↦ (goes q b).0
+    | inr past ↦ subst (Proper plan s) (sym (get_or_past (program plan p s) q End past)) tt
+  ]
+
+  count_below : (n : ℕ) (test : ℕ → Bool) → total n (λ j. if test j then 1 else 0) ≤ n
+  count_below zero test = omega arith
+  count_below (suc n) test = let a = count_below n test in let b = at_most (test n) in omega arith
+    where
+      at_most : (b : Bool) → (if b then 1 else 0) ≤ 1
+      at_most true = omega arith
+      at_most false = omega arith
+
+  module _ (inputs tape : List ℕ) (got : ℕ → ℕ) (many : length inputs ≡ inputs_of plan p s) (long : length tape ≡ words plan p s) where
+    has_input : (k : ℕ) → k < slots (session plan s) → deals_in plan (session plan s) p (slot (session plan s) k) ≡ true → HasInput (given plan p s inputs tape got) (slot (session plan s) k) (deals_before plan p s k)
+    has_input = slot_cases (session plan s) (λ k z. deals_in plan (session plan s) p z ≡ true → HasInput (given plan p s inputs tape got) z (deals_before plan p s k))
+        (λ v lv yes'.
+        let c : ℕ → ℕ = λ v. if nat_eq (slice_index (owners (session plan s)) v) p then 1 else 0 in
+        let before : deals_before plan p s v ≡ total v c = total_eq v _ _ (λ u lu. ap (λ z. if deals_in plan (session plan s) p z then 1 else 0) (slot_input (session plan s) u (omega (arith, lu, lv)))) in
+        let one : c v ≡ 1 = cond-true (nat_eq (slice_index (owners (session plan s)) v) p) 1 0 yes' in
+        let within : total v c + c v ≤ total (length (owners (session plan s))) c = total_within (length (owners (session plan s))) v c lv in
+        omega arith)
+        (λ t lt yes'. tt)
+        (λ o lo yes'. absurd (no_deal yes'))
+      where
+        no_deal : false ≡ true → ⊥
+        no_deal e = cc
+
+    -- a deal finds its words and its input
+    pub deal_at : (q k d : ℕ) → at (program plan p s) q ≡ Deal k d → CanDealIn (given plan p s inputs tape got) k (state (given plan p s inputs tape got) q)
+    deal_at q k d e =
+        let g = subst (λ z. Goes bare none s p z (state (local_given bare none s p) q)) e (goes q (inside q (Deal k d) e (λ f. cc))) in
+        let m : ℕ = length plan.groups in
+        let done : ℕ = (state (given plan p s inputs tape got) q).deals in
+        let here : done ≡ deals_before plan p s k = deals_same plan p s inputs (local_given bare none s p).inputs tape (local_given bare none s p).tape got (local_given bare none s p).got q ∙ g.1.0 in
+        let lk : k < slots (session plan s) = g.1.1 in
+        let c : ℕ → ℕ = λ k. if deals_in plan (session plan s) p (slot (session plan s) k) then 1 else 0 in
+        let one : c k ≡ 1 = cond-true (deals_in plan (session plan s) p (slot (session plan s) k)) 1 0 g.1.2 in
+        let within : total k c + c k ≤ total (slots (session plan s)) c = total_within (slots (session plan s)) k c lk in
+        let at0 : place plan p s 0 ≡ (m - 1) * (total s (deals plan p) + 0) = places_by_deals plan p s 0 in
+        let all : place plan p s (slots (session plan s)) ≡ (m - 1) * (total s (deals plan p) + deals plan p s) = places_by_deals plan p s (slots (session plan s)) in
+        let piece : place plan p s (slots (session plan s)) ≡ place plan p s 0 + words plan p s = omega arith in
+        let more : (m - 1) * (deals_before plan p s k + 1) ≤ (m - 1) * deals plan p s = mul-le-mul_left (m - 1) (omega arith) in
+        let few : deals_before plan p s k ≤ k = count_below k (λ k. deals_in plan (session plan s) p (slot (session plan s) k)) in
+        let sound = h.sessions s ls in
+        record {
+          words = enough _ _ _ here long more piece at0 all;
+          count = (let a = sound.wires in let b = sound.gates in let c = sound.input_wires in let d = sound.output_wires in omega arith);
+          input = subst (HasInput (given plan p s inputs tape got) (slot (session plan s) k)) (sym here) (has_input k lk g.1.2);
+        }
+      where
+        enough : (a b t : ℕ) → a ≡ b → t ≡ words plan p s → (length plan.groups - 1) * (b + 1) ≤ (length plan.groups - 1) * deals plan p s → place plan p s (slots (session plan s)) ≡ place plan p s 0 + words plan p s
+            → place plan p s 0 ≡ (length plan.groups - 1) * (total s (deals plan p) + 0) → place plan p s (slots (session plan s)) ≡ (length plan.groups - 1) * (total s (deals plan p) + deals plan p s)
+            → a * (length plan.groups - 1) + (length plan.groups - 1) ≤ t
+        enough a b t e f g h i j = let x : a * (length plan.groups - 1) ≡ b * (length plan.groups - 1) = ap (λ z. z * (length plan.groups - 1)) e in omega arith
+
+-- ---- the same of what suits the plan
+
+pub is_proper : (l : Given) → Suits l → (q : ℕ) → Proper l.plan l.session (at (program l.plan l.party l.session) q)
+is_proper l h q = proper_at l.plan h.sound l.session l.party h.session h.party q
+
+pub can_deal : (l : Given) → Suits l → (q k d : ℕ) → at (program l.plan l.party l.session) q ≡ Deal k d → CanDealIn l k (state l q)
+can_deal l h q k d e = deal_at l.plan h.sound l.session l.party h.session h.party l.inputs l.tape l.got h.inputs h.tape q k d e

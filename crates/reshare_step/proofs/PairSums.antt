@@ -1,0 +1,47 @@
+-- Sums over the pairs of one party.
+use Rattle.std.proofs.Common.{◌≡◌, ℕ, zero, suc, ◌+◌, ◌*◌, ◌%◌, ◌<◌, true, false, List, [], ◌∷◌, ◌++◌, nat_eq, if◌then◌else◌, refl, sym, ap, ◌∙◌, subst, arith}
+use Rattle.std.specs.Prelude.{sum_by}
+use Rattle.std.proofs.lemmas.List.Sums.{sum_by-append}
+use Rattle.mpc_ring.specs.Sums.{total, joined, only_if}
+use Rattle.mpc_ring.proofs.Remainders.{same_refl, same_trans, same_add, same_mod, mods_of_same}
+use Rattle.mpc_ring.proofs.Totals.{total_eq}
+use Rattle.product_duty.specs.Duties.{pairs_where}
+
+-- the numbers of each pair are below n and below m
+abbrev pub Within : ℕ → ℕ → List (ℕ × ℕ) → Type 0
+Within n m [] = Unit {0}
+Within n m (pair ∷ pairs) = (pair.0 < n) × (pair.1 < m) × Within n m pairs
+
+within-append : (n m : ℕ) (xs ys : List (ℕ × ℕ)) → Within n m xs → Within n m ys → Within n m (xs ++ ys)
+within-append n m [] ys h k = k
+within-append n m (x ∷ xs) ys h k = (h.0, h.1, within-append n m xs ys h.2 k)
+
+within-joined : (n m k : ℕ) (g : ℕ → List (ℕ × ℕ)) → ((i : ℕ) → i < k → Within n m (g i)) → Within n m (joined k g)
+within-joined n m zero g h = tt
+within-joined n m (suc k) g h = within-append n m (joined k g) (g k) (within-joined n m k g (λ i l. h i (omega arith))) (h k (omega arith))
+
+pub within-pairs_where : (f : ℕ → ℕ → ℕ) (p m : ℕ) → Within m m (pairs_where f p m)
+within-pairs_where f p m =
+    within-joined m m m _ (λ i li. within-joined m m m _ (λ j lj. elim (nat_eq (f i j) p) as (λ b. Within m m (only_if b ((i, j) ∷ []))) [ true ↦ (li, lj, tt) | false ↦ tt ]))
+
+sum_by-joined : (n : ℕ) (f : ℕ × ℕ → ℕ) (g : ℕ → List (ℕ × ℕ)) → sum_by f (joined n g) ≡ total n (λ i. sum_by f (g i))
+sum_by-joined zero f g = refl
+sum_by-joined (suc n) f g = sum_by-append f (joined n g) (g n) ∙ ap (λ z. z + sum_by f (g n)) (sum_by-joined n f g)
+
+-- the sum over a party's pairs is the sum over all pairs of those that are the party's
+pub sum_by-pairs_where : (f : ℕ → ℕ → ℕ) (p m : ℕ) (x y : ℕ → ℕ) → sum_by (λ (pair : ℕ × ℕ). x pair.0 * y pair.1) (pairs_where f p m) ≡ total m (λ i. total m (λ j. if nat_eq (f i j) p then x i * y j else 0))
+sum_by-pairs_where f p m x y =
+    let product : ℕ × ℕ → ℕ = λ (pair : ℕ × ℕ). x pair.0 * y pair.1 in
+    sum_by-joined m product _ ∙ total_eq m _ _ (λ i li. sum_by-joined m product _ ∙ total_eq m _ _ (λ j lj.
+    elim (nat_eq (f i j) p) as (λ b. sum_by product (only_if b ((i, j) ∷ [])) ≡ (if b then x i * y j else 0)) [ true ↦ omega arith | false ↦ refl ]))
+
+-- one more product moves from the rest to the sum
+pub moved : (q sum a rest : ℕ) → ((sum + a % q) % q + rest) % q ≡ (sum + (a + rest)) % q
+moved q sum a rest =
+    mods_of_same (same_trans
+    (same_add (same_trans (same_mod q (sum + a % q)) (same_add (same_refl q sum sum refl) (same_mod q a))) (same_refl q rest rest refl))
+    (same_refl q (sum + a + rest) (sum + (a + rest)) (omega arith)))
+
+pub within_pairs : (f : ℕ → ℕ → ℕ) (p m a b : ℕ) (pairs : List (ℕ × ℕ)) → a ≡ m → b ≡ m → pairs ≡ pairs_where f p m → Within a b pairs
+within_pairs f p m a b pairs ea eb e =
+    subst (λ a. Within a b pairs) (sym ea) (subst (λ b. Within m b pairs) (sym eb) (subst (Within m m) (sym e) (within-pairs_where f p m)))

@@ -1,0 +1,101 @@
+-- Sessions that are made of valid circuits.
+use Rattle.std.proofs.Common.{◌≡◌, ℕ, suc, ◌^◌, ◌<◌, ◌≤◌, inl, inr, Bool, true, false, ◌&&◌, ◌||◌, List, [], ◌∷◌, length, get_or, take, nat_lt, if◌then◌else◌, refl, sym, ◌∙◌, ap, ap₂, arith}
+use Rattle.std.specs.Prelude.{◌==◌}
+use Rattle.std.specs.List.{list_all, list_any}
+use Rattle.std.proofs.lemmas.List.{get_or-take, length-take-le}
+use Rattle.std.proofs.lemmas.List.Folds.{list_any_at}
+use Rattle.std.proofs.lemmas.Bool.{both_ways, eqb-true, eq-eqb, lt-ltb, ltb-true}
+use Rattle.party_set.specs.Parties.{Members}
+use Rattle.circuit_model.specs.declared.gate.Gate.{Gate}
+use Rattle.circuit_model.specs.declared.gate.Operation.{Operation}
+use Rattle.circuit_model.specs.declared.gate.Operation.TheVariants.{Add, Sub, Neg, Mul, Xor, And, Inv, Eq, Eqw}
+use Rattle.circuit_model.specs.Circuits.{values}
+use Rattle.circuit_model.specs.Netlists.{Netlist, IsCircuit, arity, reads, no_gate, is_set, input_wires}
+use Rattle.circuit_model.specs.Netlists.{gate as gate_of}
+use Rattle.job_plan.specs.Plans.{Session, session, gate, owners}
+use Rattle.job_plan.specs.Parts.{session_of}
+use Rattle.job_plan.proofs.CircuitSessions.{owners_long}
+use Rattle.share_world.specs.Worlds.{World, input_of}
+use Rattle.share_world.specs.Solutions.{GatesInOrder, SetBefore, reads_first, reads_second}
+use Rattle.share_world.specs.Made.{MadeHasValues}
+
+left : (a b : Bool) → (a && b) ≡ true → a ≡ true
+left true b e = refl
+left false b e = cc
+
+middle : (a b : Bool) → (a && (b && true)) ≡ true → b ≡ true
+middle true true e = refl
+middle true false e = cc
+middle false b e = cc
+
+first_passes : (o : Operation) (p : ℕ → Bool) (a b : ℕ) → list_all p (reads o (take (arity o) (a ∷ b ∷ []))) ≡ true → reads_first o ≡ true → p a ≡ true
+first_passes Add p a b e r = left (p a) (p b && true) e
+first_passes Sub p a b e r = left (p a) (p b && true) e
+first_passes Mul p a b e r = left (p a) (p b && true) e
+first_passes Xor p a b e r = left (p a) (p b && true) e
+first_passes And p a b e r = left (p a) (p b && true) e
+first_passes Neg p a b e r = left (p a) true e
+first_passes Inv p a b e r = left (p a) true e
+first_passes Eqw p a b e r = left (p a) true e
+first_passes Eq p a b e r = cc
+
+second_passes : (o : Operation) (p : ℕ → Bool) (a b : ℕ) → list_all p (reads o (take (arity o) (a ∷ b ∷ []))) ≡ true → reads_second o ≡ true → p b ≡ true
+second_passes Add p a b e r = middle (p a) (p b) e
+second_passes Sub p a b e r = middle (p a) (p b) e
+second_passes Mul p a b e r = middle (p a) (p b) e
+second_passes Xor p a b e r = middle (p a) (p b) e
+second_passes And p a b e r = middle (p a) (p b) e
+second_passes Neg p a b e r = cc
+second_passes Inv p a b e r = cc
+second_passes Eqw p a b e r = cc
+second_passes Eq p a b e r = cc
+
+-- a gate of the list sets the wire
+setter : (gs : List Gate) (v : ℕ) → list_any (λ (g : Gate). g.output == v) gs ≡ true → (u : ℕ) × (u < length gs) × ((get_or gs u no_gate).output ≡ v)
+setter [] v e = cc
+setter (g ∷ gs) v e = go (g.output == v) refl (λ f. setter gs v f)
+  where
+    go : (b : Bool) → (g.output == v) ≡ b → (list_any (λ (h : Gate). h.output == v) gs ≡ true → (u : ℕ) × (u < length gs) × ((get_or gs u no_gate).output ≡ v))
+        → (u : ℕ) × (u < length (g ∷ gs)) × ((get_or (g ∷ gs) u no_gate).output ≡ v)
+    go true is later = (0, omega arith, eqb-true g.output v is)
+    go false is later =
+        let rest = later (sym (ap (λ b. b || list_any (λ (h : Gate). h.output == v) gs) is) ∙ e) in
+        (suc rest.0, omega (arith, rest.1), rest.2)
+
+-- a wire is set before gate t by the one definition where it is by the other
+set_is : (c : Netlist) (owned : List ℕ) (readers : List Members) (t v : ℕ) → length owned ≡ length c.inputs → t ≤ length c.gates → is_set (input_wires c) (take t c.gates) v ≡ true
+    → SetBefore (session_of c owned readers) t v
+set_is c owned readers t v same le e = go (nat_lt v (input_wires c)) refl
+  where
+    go : (b : Bool) → nat_lt v (input_wires c) ≡ b → SetBefore (session_of c owned readers) t v
+    go true is = inl (omega (arith, ltb-true v (input_wires c) is, owners_long c.inputs owned same))
+    go false is =
+        let found = setter (take t c.gates) v (sym (ap (λ b. b || list_any (λ (g : Gate). g.output == v) (take t c.gates)) is) ∙ e) in
+        let before : found.0 < t = omega (arith, found.1, length-take-le t c.gates le) in
+        inr (found.0, before, ap (λ (g : Gate). g.output) (sym (get_or-take t c.gates found.0 no_gate before)) ∙ found.2)
+
+is_so : (c : Netlist) (owned : List ℕ) (readers : List Members) (t v : ℕ) → length owned ≡ length c.inputs → t ≤ length c.gates → SetBefore (session_of c owned readers) t v
+    → is_set (input_wires c) (take t c.gates) v ≡ true
+is_so c owned readers t v same le (inl l) = ap (λ b. b || list_any (λ (g : Gate). g.output == v) (take t c.gates)) (lt-ltb v (input_wires c) (omega (arith, l, owners_long c.inputs owned same)))
+is_so c owned readers t v same le (inr u) =
+    let there : u.0 < length (take t c.gates) = omega (arith, u.1, length-take-le t c.gates le) in
+    let sets : (get_or (take t c.gates) u.0 no_gate).output ≡ v = ap (λ (g : Gate). g.output) (get_or-take t c.gates u.0 no_gate u.1) ∙ u.2 in
+    ap (λ b. nat_lt v (input_wires c) || b) (list_any_at (λ (g : Gate). g.output == v) (take t c.gates) u.0 no_gate there (eq-eqb _ v sets)) ∙ or_true (nat_lt v (input_wires c))
+  where
+    or_true : (b : Bool) → (b || true) ≡ true
+    or_true true = refl
+    or_true false = refl
+
+pub made_is_circuit : (c : Netlist) (owned : List ℕ) (readers : List Members) → IsCircuit c → length owned ≡ length c.inputs → GatesInOrder (session_of c owned readers)
+made_is_circuit c owned readers v same = record {
+  first = λ t l r. set_is c owned readers t (gate_of c t).first same (omega (arith, l)) (first_passes (gate_of c t).operation (is_set (input_wires c) (take t c.gates)) (gate_of c t).first (gate_of c t).second (v.fits t l).read r);
+  second = λ t l r. set_is c owned readers t (gate_of c t).second same (omega (arith, l)) (second_passes (gate_of c t).operation (is_set (input_wires c) (take t c.gates)) (gate_of c t).first (gate_of c t).second (v.fits t l).read r);
+  output = λ t l b. both_ways (is_set (input_wires c) (take t c.gates) (gate_of c t).output) (v.fits t l).fresh (is_so c owned readers t (gate_of c t).output same (omega (arith, l)) b);
+}
+
+pub made_has_values : (w : World) (s : ℕ) → MadeHasValues w s
+made_has_values w s c owned readers is bits same v =
+    let many : length (owners (session w.plan s)) ≡ input_wires c = ap (λ (q : Session). length (owners q)) is ∙ owners_long c.inputs owned same in
+    let start : (λ u. if nat_lt u (length (owners (session w.plan s))) then input_of w s u else 0) ≡ (λ u. if nat_lt u (input_wires c) then input_of w s u else 0) = ap (λ n. λ u. if nat_lt u n then input_of w s u else 0) many in
+    ap₂ (λ (k : ℕ) (q : Session). values (2 ^ k) (gate q) (λ u. if nat_lt u (length (owners (session w.plan s))) then input_of w s u else 0) (length q.gates) v) bits is
+    ∙ ap (λ f. values (2 ^ c.bits) (gate_of c) f (length c.gates) v) start

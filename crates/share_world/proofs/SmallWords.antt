@@ -1,0 +1,46 @@
+-- Summands and words are numbers of the ring.
+use Rattle.std.proofs.Common.{ℕ, ◌+◌, ◌<◌, ◌^◌, nat_lt, length}
+use Rattle.std.specs.Prelude.{slice_index}
+use Rattle.std.proofs.lemmas.Bool.{cond_both}
+use Rattle.std.proofs.lemmas.Nat.{pow_pos}
+use Rattle.std.proofs.Math.Nat.{mod-lt}
+use Rattle.secret_sharing.specs.Sharing.{summands}
+use Rattle.secret_sharing.proofs.SummandSums.{dealt_small, summands_below}
+use Rattle.job_plan.specs.declared.key.Key.{Key}
+use Rattle.job_plan.specs.Plans.{Slot, owners, scheme, session, slot, place, IsPlan}
+use Rattle.job_plan.specs.Plans.Slot.{Input, At_gate, Output}
+use Rattle.share_world.specs.Worlds.{World, run_of, input_of, tape_word, first_summands, dealt_value, deal_of, word_in, word}
+use Rattle.share_world.specs.Laws.{IsWorld, IsWhole}
+
+module _ (w : World) (whole : IsWhole w) where
+  positive : 0 < 2 ^ w.plan.bits
+  positive = pow_pos w.plan.bits
+
+  pub is_plan : IsPlan w.plan
+  is_plan = record { bits = whole.sound.some_bits; groups = whole.sound.some_groups; q2 = whole.sound.q2 }
+
+  pub is_world : IsWorld w
+  is_world = record { plan = is_plan; inputs = whole.inputs.below }
+
+  pub small_words : (s p k i : ℕ) → tape_word w s k p i < 2 ^ w.plan.bits
+  small_words s p k i = whole.tapes.below p (place w.plan p s k + i)
+
+  pub small_deal : (s p k : ℕ) (z : Slot) (i : ℕ) → deal_of w s p k z i < 2 ^ w.plan.bits
+  small_deal s p k z i = dealt_small (scheme w.plan) (dealt_value w s p z) (tape_word w s k p) i positive (small_words s p k)
+
+  small_start : (s v i : ℕ) → first_summands w s v i < 2 ^ w.plan.bits
+  small_start s v i =
+      cond_both (nat_lt v (length (owners (session w.plan s)))) _ 0 (λ z. z < 2 ^ w.plan.bits)
+      (λ e. dealt_small (scheme w.plan) (input_of w s v) _ i positive (small_words s (slice_index (owners (session w.plan s)) v) v))
+      (λ e. positive)
+
+  pub small_run : (s t v i : ℕ) → summands (run_of w s) t v i < 2 ^ w.plan.bits
+  small_run s = summands_below (run_of w s) positive (small_start s) (λ t x y i. mod-lt _ positive)
+
+  small_in : (k : Key) (z : Slot) → word_in w k z < 2 ^ w.plan.bits
+  small_in k (Input v) = small_deal k.session k.sender k.slot (Input v) k.share
+  small_in k (At_gate t) = small_deal k.session k.sender k.slot (At_gate t) k.share
+  small_in k (Output o) = small_run k.session _ _ k.share
+
+  pub small_word : (k : Key) → word w k < 2 ^ w.plan.bits
+  small_word k = small_in k (slot (session w.plan k.session) k.slot)

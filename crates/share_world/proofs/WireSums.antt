@@ -1,0 +1,42 @@
+-- The summands of every wire of a world add up to its plain value.
+use Rattle.std.proofs.Common.{ℕ, ◌+◌, ◌%◌, ◌^◌, nat_lt, length, sym, ap, ◌∙◌}
+use Rattle.std.specs.Prelude.{slice_index}
+use Rattle.std.proofs.lemmas.Bool.{cases_Bool, cond-true, cond-false}
+use Rattle.std.proofs.lemmas.Nat.{pow_pos}
+use Rattle.std.proofs.Math.Nat.{mod-eq_of_lt}
+use mathlib.Core.Logic.{inl, inr}
+use Rattle.secret_sharing.specs.Sharing.{IsRun, AddUp, dealt}
+use Rattle.job_plan.specs.Plans.{owners, scheme, session, IsPlan}
+use Rattle.share_world.specs.Worlds.{World, run_of, first_summands, first_values, input_of, tape_word}
+use Rattle.share_world.specs.Laws.{IsWorld, SumIsPlain}
+use Rattle.mpc_ring.proofs.Remainders.{mods_of_same}
+use Rattle.mpc_ring.proofs.Totals.{total_zero, total_eq}
+use Rattle.secret_sharing.proofs.SummandSums.{dealt_sum, product_sum, sum_is_plain}
+use Rattle.job_plan.proofs.PlanSchemes.{scheme_is}
+
+pub run_of_is : (w : World) (s : ℕ) → IsPlan w.plan → IsRun (run_of w s)
+run_of_is w s h = record {
+  scheme = scheme_is w.plan h;
+  products = λ t x y.
+      let words : ℕ → ℕ → ℕ = tape_word w s (length (owners (session w.plan s)) + t) in
+      mods_of_same (product_sum (scheme w.plan) (scheme_is w.plan h) (λ p v. dealt (scheme w.plan) v (words p)) (λ p v. mods_of_same (dealt_sum (scheme w.plan) (scheme_is w.plan h) v (words p))) x y);
+}
+
+pub starts_add_up : (w : World) (s : ℕ) → IsWorld w → AddUp (scheme w.plan) (first_summands w s) (first_values w s)
+starts_add_up w s h v =
+    let q = 2 ^ w.plan.bits in
+    let m = length w.plan.groups in
+    let owners = (owners (session w.plan s)) in
+    let deal = dealt (scheme w.plan) (input_of w s v) (tape_word w s v (slice_index owners v)) in
+    elim (cases_Bool (nat_lt v (length owners))) [
+      | inl yes' ↦ ap (λ z. z % q) (total_eq m _ deal (λ i l. cond-true (nat_lt v (length owners)) (deal i) 0 yes'))
+          ∙ mods_of_same (dealt_sum (scheme w.plan) (scheme_is w.plan h.plan) (input_of w s v) (tape_word w s v (slice_index owners v)))
+          ∙ mod-eq_of_lt (h.inputs _ s _)
+          ∙ sym (cond-true (nat_lt v (length owners)) (input_of w s v) 0 yes')
+      | inr no' ↦ ap (λ z. z % q) (total_zero m _ (λ i l. cond-false (nat_lt v (length owners)) (deal i) 0 no'))
+          ∙ mod-eq_of_lt (pow_pos w.plan.bits)
+          ∙ sym (cond-false (nat_lt v (length owners)) (input_of w s v) 0 no')
+    ]
+
+pub world_sums : (w : World) → IsWorld w → SumIsPlain w
+world_sums w h s = sum_is_plain (run_of w s) (run_of_is w s h.plan) (first_values w s) (starts_add_up w s h) (length (session w.plan s).gates)

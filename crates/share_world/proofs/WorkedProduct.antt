@@ -1,0 +1,141 @@
+-- The worked job, by computation.
+use Rattle.std.proofs.Common.{◌≡◌, ℕ, zero, suc, ◌<◌, ◌≤◌, true, false, List, [], ◌∷◌, length, refl, arith}
+use Rattle.std.specs.Prelude.{slice_index, slice_index_or, nat_eq, if◌then◌else◌}
+use Rattle.std.specs.List.{AllByRecursion}
+use Rattle.mpc_ring.specs.Sums.{total}
+use Rattle.mpc_ring.proofs.JoinedLists.{every_at}
+use Rattle.party_set.specs.Parties.{IsQ2, covers}
+use Rattle.job_plan.specs.Plans.{session, owners, readers, structure, gate, words}
+use Rattle.job_plan.specs.Sound.{IsSound, IsSoundSession}
+use Rattle.job_plan.specs.InputWords.{AreInputs, given}
+use Rattle.job_plan.specs.Tallies.{tape_length}
+use Rattle.job_plan.specs.Multiply.{multiply_plan, multiply_session}
+use Rattle.share_world.specs.Laws.{IsWhole, AreTapes}
+use Rattle.share_world.specs.Multiply.{multiply_world, MultiplyWhole, MultiplyWords, MultiplyPlain}
+
+pub plain_is : MultiplyPlain
+plain_is = refl
+
+pub words_are : MultiplyWords
+words_are = refl
+
+-- ---- the world is whole
+
+no_cover : IsQ2 (structure (multiply_plan 8))
+no_cover = record { no_cover = λ i j li lj. each i j li lj }
+  where
+    each : (i j : ℕ) → i < 3 → j < 3 → covers 3 (slice_index (1 ∷ 2 ∷ 4 ∷ []) i) (slice_index (1 ∷ 2 ∷ 4 ∷ []) j) ≡ false
+    each zero zero li lj = refl
+    each zero (suc zero) li lj = refl
+    each zero (suc (suc zero)) li lj = refl
+    each zero (suc (suc (suc j))) li lj = absurd (omega arith)
+    each (suc zero) zero li lj = refl
+    each (suc zero) (suc zero) li lj = refl
+    each (suc zero) (suc (suc zero)) li lj = refl
+    each (suc zero) (suc (suc (suc j))) li lj = absurd (omega arith)
+    each (suc (suc zero)) zero li lj = refl
+    each (suc (suc zero)) (suc zero) li lj = refl
+    each (suc (suc zero)) (suc (suc zero)) li lj = refl
+    each (suc (suc zero)) (suc (suc (suc j))) li lj = absurd (omega arith)
+    each (suc (suc (suc i))) j li lj = absurd (omega arith)
+
+sound_session : IsSoundSession 3 multiply_session
+sound_session = record {
+  wires = omega arith;
+  gates = omega arith;
+  input_wires = omega arith;
+  output_wires = omega arith;
+  owned = owned;
+  read = read;
+  first = first;
+  second = second;
+  output = output;
+}
+  where
+    owned : (v : ℕ) → v < 2 → slice_index (0 ∷ 1 ∷ []) v < 3
+    owned zero l = omega arith
+    owned (suc zero) l = omega arith
+    owned (suc (suc v)) l = absurd (omega arith)
+
+    read : (o : ℕ) → o < 1 → slice_index (4 ∷ []) o < 8
+    read zero l = omega arith
+    read (suc o) l = absurd (omega arith)
+
+    first : (t : ℕ) → t < 1 → (gate multiply_session t).first < 3
+    first zero l = omega arith
+    first (suc t) l = absurd (omega arith)
+
+    second : (t : ℕ) → t < 1 → (gate multiply_session t).second < 3
+    second zero l = omega arith
+    second (suc t) l = absurd (omega arith)
+
+    output : (t : ℕ) → t < 1 → (gate multiply_session t).output < 3
+    output zero l = omega arith
+    output (suc t) l = absurd (omega arith)
+
+sound : IsSound (multiply_plan 8)
+sound = record {
+  some_bits = omega arith;
+  bits = omega arith;
+  some_parties = omega arith;
+  parties = omega arith;
+  some_groups = omega arith;
+  groups = omega arith;
+  q2 = no_cover;
+  few_sessions = omega arith;
+  few_messages = omega arith;
+  few_words = few_words;
+  sessions = sessions;
+}
+  where
+    few_words : (p : ℕ) → p < 3 → total 1 (words (multiply_plan 8) p) ≤ 1048576
+    few_words zero l = omega arith
+    few_words (suc zero) l = omega arith
+    few_words (suc (suc zero)) l = omega arith
+    few_words (suc (suc (suc p))) l = absurd (omega arith)
+
+    sessions : (s : ℕ) → s < 1 → IsSoundSession 3 (session (multiply_plan 8) s)
+    sessions zero l = sound_session
+    sessions (suc s) l = absurd (omega arith)
+
+small_lists : (xss : List (List ℕ)) → AllByRecursion (AllByRecursion (λ x. x < 256)) xss → (p k : ℕ) → slice_index (slice_index_or xss p []) k < 256
+small_lists [] h p k = omega arith
+small_lists (xs ∷ xss) h zero k = every_at (λ x. x < 256) xs k (omega arith) h.0
+small_lists (xs ∷ xss) h (suc p) k = small_lists xss h.1 p k
+
+are_inputs : AreInputs (multiply_plan 8) multiply_world.inputs
+are_inputs = record { parties = refl; sessions = sessions; counts = counts; below = below }
+  where
+    sessions : (p : ℕ) → p < 3 → length (slice_index_or multiply_world.inputs p []) ≡ 1
+    sessions zero l = refl
+    sessions (suc zero) l = refl
+    sessions (suc (suc zero)) l = refl
+    sessions (suc (suc (suc p))) l = absurd (omega arith)
+
+    counts : (p s : ℕ) → p < 3 → s < 1 → length (given multiply_world.inputs p s) ≡ total (length (owners (session (multiply_plan 8) s))) (λ v. if nat_eq (slice_index (owners (session (multiply_plan 8) s)) v) p then 1 else 0)
+    counts zero zero lp ls = refl
+    counts (suc zero) zero lp ls = refl
+    counts (suc (suc zero)) zero lp ls = refl
+    counts (suc (suc (suc p))) zero lp ls = absurd (omega arith)
+    counts p (suc s) lp ls = absurd (omega arith)
+
+    below : (p s k : ℕ) → slice_index (given multiply_world.inputs p s) k < 256
+    below zero s k = small_lists ((5 ∷ []) ∷ []) (((omega arith, tt)), tt) s k
+    below (suc zero) s k = small_lists ((7 ∷ []) ∷ []) (((omega arith, tt)), tt) s k
+    below (suc (suc zero)) s k = small_lists ([] ∷ []) (tt, tt) s k
+    below (suc (suc (suc p))) s k = omega arith
+
+are_tapes : AreTapes (multiply_plan 8) multiply_world.tapes
+are_tapes = record { parties = refl; lengths = lengths; below = small_lists multiply_world.tapes small }
+  where
+    lengths : (p : ℕ) → p < 3 → length (slice_index_or multiply_world.tapes p []) ≡ tape_length (multiply_plan 8) p
+    lengths zero l = refl
+    lengths (suc zero) l = refl
+    lengths (suc (suc zero)) l = refl
+    lengths (suc (suc (suc p))) l = absurd (omega arith)
+
+    small : AllByRecursion (AllByRecursion (λ x. x < 256)) multiply_world.tapes
+    small = ((omega arith, (omega arith, (omega arith, (omega arith, tt)))), ((omega arith, (omega arith, (omega arith, (omega arith, tt)))), ((omega arith, (omega arith, tt)), tt)))
+
+pub whole_is : MultiplyWhole
+whole_is = record { sound = sound; inputs = are_inputs; tapes = are_tapes }
