@@ -6,7 +6,7 @@ use Rattle.std.specs.Option.{option_map}
 use Rattle.std.proofs.lemmas.List.Sums.{fails_before_first, length-filter, count_by-le-length}
 use Rattle.std.proofs.lemmas.List.Splits.{slice_split_none, slice_split_first, length-slice_split}
 use Rattle.std.proofs.lemmas.Option.{unwrap_or-slice_get}
-use Rattle.gate_lines.specs.Tokens.{is_blank, not_empty, tokens_of}
+use Rattle.text_tokens.specs.Tokens.{is_blank, not_empty, tokens_of}
 use Rattle.gate_lines.specs.Rows.{Row, is_line_end, has_tokens, numbered, rows_from, row_before}
 
 filter_cons : (p : Row → Bool) (r : Row) (rs : List Row) → filter p (r ∷ rs) ≡ filter p (r ∷ []) ++ filter p rs

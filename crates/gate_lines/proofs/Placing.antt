@@ -1,23 +1,26 @@
 -- A place moves along a text.
-use Rattle.std.proofs.Common.{subst, ◌≡◌, ℕ, zero, suc, ◌+◌, ◌-◌, ◌≤◌, ◌<◌, Bool, true, false, not, ◌&&◌, ◌||◌, cond, List, [], ◌∷◌, ◌++◌, length, take, drop, get_or, refl, sym, ◌∙◌, ap, ap₂, arith, append-nil, append_assoc, length-append, length-drop, eq-eqb, inl, inr, filter, tests}
+use Rattle.std.proofs.Common.{subst, ◌≡◌, ℕ, zero, suc, ◌+◌, ◌-◌, ◌≤◌, ◌<◌, Bool, true, false, not, ◌&&◌, cond, List, [], ◌∷◌, ◌++◌, length, take, drop, get_or, refl, sym, ◌∙◌, ap, ap₂, arith, append-nil, append_assoc, length-append, length-drop, eq-eqb, inl, inr, filter, tests}
 use Rattle.std.specs.Prelude.{slice_index_or}
 use Rattle.std.specs.List.{slice_split, position_or_len, before_first, after_first, list_all}
-use Rattle.std.proofs.lemmas.Bool.{cases_lt, cases_Bool, eqb-true}
+use Rattle.std.proofs.lemmas.Bool.{cases_lt, cases_Bool, eqb-true, and_parts, not-true, not-false}
 use Rattle.std.proofs.lemmas.Bool.Decides.{nat_tests}
 use Rattle.std.proofs.lemmas.List.{drop_all, take_all, get_or-drop, take-append-drop, length-take-le, drop-drop, drop_more}
 use Rattle.std.proofs.lemmas.List.Folds.{list_all-append, list_all_more}
 use Rattle.std.proofs.lemmas.List.Splits.{slice_split_none, slice_split_at}
-use Rattle.gate_lines.specs.Tokens.{is_blank, not_empty, tokens_of}
+use Rattle.text_tokens.specs.Tokens.{is_blank, not_empty, tokens_of}
 use Rattle.gate_lines.specs.Rows.{Row, is_line_end, rows_from}
-use Rattle.gate_lines.specs.Places.{Place, place_in, rows_at, next_token, past_token, ends_token, StandsAt, Passes}
-use Rattle.gate_lines.proofs.Cutting.{first_within, tokens-blank, tokens_of-none, keep_first}
+use Rattle.gate_lines.specs.Places.{Place, place_in, rows_at, next_token, past_token, is_inner_blank, StandsAt, Passes}
+use Rattle.text_tokens.proofs.Cutting.{first_within, tokens-blank, tokens_of-none, keep_first}
 use Rattle.gate_lines.proofs.Lining.{rows-none, rows-last, rows-cut}
 
 abbrev pub in_token : ℕ → Bool
-in_token c = not (ends_token c)
+in_token c = not (is_blank c)
 
-blank_goes_on : (c : ℕ) → is_blank c ≡ true → is_line_end c ≡ false
-blank_goes_on c e = grind (arith, nat_tests, tests)
+blank_goes_on : (c : ℕ) → is_inner_blank c ≡ true → (is_blank c ≡ true) × (is_line_end c ≡ false)
+blank_goes_on c e = let k = and_parts (is_blank c) (not (is_line_end c)) e in (k.0, not-true (is_line_end c) k.1)
+
+token_goes_on : (c : ℕ) → in_token c ≡ true → is_line_end c ≡ false
+token_goes_on c e = grind (arith, nat_tests, tests)
 
 -- ---- the first line of a text, byte by byte
 
@@ -52,12 +55,12 @@ pub place-end : (n c : ℕ) (text : List ℕ) → is_line_end c ≡ true → pla
 unfolding place_in
 place-end n c text e = ap₂ (λ l m. record { number = n; tokens = tokens_of l; rows = rows_from (n + 1) m }) (before-end c text e) (after-end c text e) ∙ ap (λ ts. record { number = n; tokens = ts; rows = rows_from (n + 1) text }) (tokens_of-none [] refl)
 
-pub place-blank : (n c : ℕ) (text : List ℕ) → is_blank c ≡ true → place_in n (c ∷ text) ≡ place_in n text
+pub place-blank : (n c : ℕ) (text : List ℕ) → is_inner_blank c ≡ true → place_in n (c ∷ text) ≡ place_in n text
 unfolding place_in
 place-blank n c text e =
     let on = blank_goes_on c e in
-    ap₂ (λ l m. record { number = n; tokens = tokens_of l; rows = rows_from (n + 1) m }) (before-cons c text on) (after-cons c text on)
-    ∙ ap (λ ts. record { number = n; tokens = ts; rows = rows_from (n + 1) (after_first is_line_end text) }) (tokens-blank c (before_first is_line_end text) e)
+    ap₂ (λ l m. record { number = n; tokens = tokens_of l; rows = rows_from (n + 1) m }) (before-cons c text on.1) (after-cons c text on.1)
+    ∙ ap (λ ts. record { number = n; tokens = ts; rows = rows_from (n + 1) (after_first is_line_end text) }) (tokens-blank c (before_first is_line_end text) on.0)
 
 -- ---- the rows of a text are those from its place on
 
@@ -79,32 +82,22 @@ place-rows n text = elim (cases_lt (position_or_len is_line_end text) (length te
 
 -- ---- a token
 
-first_in : (a b : Bool) → not (a || b) ≡ true → (a ≡ false) × (b ≡ false)
-first_in false false e = (refl, refl)
-first_in true b e = cc
-first_in false true e = cc
-
-both : (a b : Bool) → (a && b) ≡ true → (a ≡ true) × (b ≡ true)
-both true true e = (refl, refl)
-both true false e = cc
-both false b e = cc
-
 before-append : (ds text : List ℕ) → list_all in_token ds ≡ true → before_first is_line_end (ds ++ text) ≡ ds ++ before_first is_line_end text
 before-append [] text e = refl
 before-append (c ∷ ds) text e =
-    let k = both (in_token c) (list_all in_token ds) e in
-    before-cons c (ds ++ text) (first_in (is_blank c) (is_line_end c) k.0).1 ∙ ap (λ l. c ∷ l) (before-append ds text k.1)
+    let k = and_parts (in_token c) (list_all in_token ds) e in
+    before-cons c (ds ++ text) (token_goes_on c k.0) ∙ ap (λ l. c ∷ l) (before-append ds text k.1)
 
 after-append : (ds text : List ℕ) → list_all in_token ds ≡ true → after_first is_line_end (ds ++ text) ≡ after_first is_line_end text
 after-append [] text e = refl
 after-append (c ∷ ds) text e =
-    let k = both (in_token c) (list_all in_token ds) e in
-    after-cons c (ds ++ text) (first_in (is_blank c) (is_line_end c) k.0).1 ∙ after-append ds text k.1
+    let k = and_parts (in_token c) (list_all in_token ds) e in
+    after-cons c (ds ++ text) (token_goes_on c k.0) ∙ after-append ds text k.1
 
 no_blank : (ds : List ℕ) → list_all in_token ds ≡ true → (k : ℕ) (d : ℕ) → k < length ds → is_blank (get_or ds k d) ≡ false
 no_blank [] e k d l = absurd (omega arith)
-no_blank (c ∷ ds) e zero d l = (first_in (is_blank c) (is_line_end c) (both (in_token c) (list_all in_token ds) e).0).0
-no_blank (c ∷ ds) e (suc k) d l = no_blank ds (both (in_token c) (list_all in_token ds) e).1 k d (omega arith)
+no_blank (c ∷ ds) e zero d l = not-true (is_blank c) (and_parts (in_token c) (list_all in_token ds) e).0
+no_blank (c ∷ ds) e (suc k) d l = no_blank ds (and_parts (in_token c) (list_all in_token ds) e).1 k d (omega arith)
 
 -- a token alone
 alone : (ds : List ℕ) → 0 < length ds → list_all in_token ds ≡ true → tokens_of (ds ++ []) ≡ ds ∷ tokens_of []
@@ -115,22 +108,17 @@ before_blank : (c : ℕ) (ds line : List ℕ) → 0 < length ds → list_all in_
 unfolding tokens_of
 before_blank c ds line l e b = ap (filter not_empty) (slice_split_at is_blank ds c line (no_blank ds e) b) ∙ keep_first ds (slice_split is_blank line) l ∙ ap (λ ts. ds ∷ ts) (sym (tokens-blank c line b))
 
-either : (a b : Bool) → (a || b) ≡ true → b ≡ false → a ≡ true
-either true b e f = refl
-either false b e f = cc
-
-token_then : (ds text : List ℕ) → 0 < length ds → list_all in_token ds ≡ true → (0 < length text → ends_token (get_or text 0 0) ≡ true) → tokens_of (ds ++ before_first is_line_end text) ≡ ds ∷ tokens_of (before_first is_line_end text)
+token_then : (ds text : List ℕ) → 0 < length ds → list_all in_token ds ≡ true → (0 < length text → is_blank (get_or text 0 0) ≡ true) → tokens_of (ds ++ before_first is_line_end text) ≡ ds ∷ tokens_of (before_first is_line_end text)
 token_then ds [] l e ends = alone ds l e
 token_then ds (c ∷ text) l e ends = elim (cases_Bool (is_line_end c)) [
   | inl stop ↦ ap (λ line. tokens_of (ds ++ line)) (before-end c text stop) ∙ alone ds l e ∙ ap (λ line. ds ∷ tokens_of line) (sym (before-end c text stop))
   | inr on ↦
-      let at : ends_token c ≡ true = ends (omega arith) in
       ap (λ line. tokens_of (ds ++ line)) (before-cons c text on)
-      ∙ before_blank c ds (before_first is_line_end text) l e (either (is_blank c) (is_line_end c) at on)
+      ∙ before_blank c ds (before_first is_line_end text) l e (ends (omega arith))
       ∙ ap (λ line. ds ∷ tokens_of line) (sym (before-cons c text on))
 ]
 
-pub place-token : (n : ℕ) (ds text : List ℕ) → 0 < length ds → list_all in_token ds ≡ true → (0 < length text → ends_token (get_or text 0 0) ≡ true)
+pub place-token : (n : ℕ) (ds text : List ℕ) → 0 < length ds → list_all in_token ds ≡ true → (0 < length text → is_blank (get_or text 0 0) ≡ true)
     → place_in n (ds ++ text) ≡ record (place_in n text) { tokens = ds ∷ (place_in n text).tokens }
 unfolding place_in
 place-token n ds text l e ends =
@@ -143,7 +131,7 @@ pub record Begins (n : ℕ) (ds text : List ℕ) : Type 0 where
   pub rest : List ℕ
   pub is : place_in n (ds ++ text) ≡ record (place_in n rest) { tokens = (ds ++ more) ∷ (place_in n rest).tokens }
 
-begins_whole : (n : ℕ) (ds text : List ℕ) → 0 < length ds → list_all in_token ds ≡ true → (0 < length text → ends_token (get_or text 0 0) ≡ true) → Begins n ds text
+begins_whole : (n : ℕ) (ds text : List ℕ) → 0 < length ds → list_all in_token ds ≡ true → (0 < length text → is_blank (get_or text 0 0) ≡ true) → Begins n ds text
 begins_whole n ds text l e ends = record {
   more = [];
   rest = text;
@@ -152,7 +140,7 @@ begins_whole n ds text l e ends = record {
 
 pub begins : (n : ℕ) (ds text : List ℕ) → 0 < length ds → list_all in_token ds ≡ true → Begins n ds text
 begins n ds [] l e = begins_whole n ds [] l e (λ k. absurd (omega arith))
-begins n ds (c ∷ text) l e = elim (cases_Bool (ends_token c)) [
+begins n ds (c ∷ text) l e = elim (cases_Bool (is_blank c)) [
   | inl stop ↦ begins_whole n ds (c ∷ text) l e (λ k. stop)
   | inr on ↦
       let all : list_all in_token (ds ++ (c ∷ [])) ≡ true = list_all-append in_token ds (c ∷ []) ∙ ap₂ (λ a b. a && (not b && true)) e on in
@@ -166,7 +154,7 @@ begins n ds (c ∷ text) l e = elim (cases_Bool (ends_token c)) [
 
 -- ---- places by their index
 
-pub blank_step : (n at : ℕ) (bs : List ℕ) → at < length bs → is_blank (get_or bs at 0) ≡ true → place_in n (drop (at + 1) bs) ≡ place_in n (drop at bs)
+pub blank_step : (n at : ℕ) (bs : List ℕ) → at < length bs → is_inner_blank (get_or bs at 0) ≡ true → place_in n (drop (at + 1) bs) ≡ place_in n (drop at bs)
 blank_step n at bs l e = sym (ap (place_in n) (drop_more bs at 0 l) ∙ place-blank n (get_or bs at 0) (drop (at + 1) bs) e)
 
 pub end_step : (n at : ℕ) (bs : List ℕ) → at < length bs → get_or bs at 0 ≡ 10 → place_in n (drop at bs) ≡ record { number = n; tokens = []; rows = rows_from (n + 1) (drop (at + 1) bs) }
@@ -177,18 +165,17 @@ pub line_step : (n at to : ℕ) (bs : List ℕ) → at < length bs → get_or bs
 line_step n at to bs l e same = ap rows_at (same (n + 1)) ∙ sym (place-rows (n + 1) (drop (at + 1) bs)) ∙ sym (ap rows_at (end_step n at bs l e))
 
 -- where neither a blank nor a token stands, the line ends
-stops_here : (a b : Bool) → a ≡ false → (a || b) ≡ true → b ≡ true
-stops_here false b e f = f
-stops_here true b e f = cc
+stops_here : (c : ℕ) → is_inner_blank c ≡ false → is_blank c ≡ true → is_line_end c ≡ true
+stops_here c e blank = not-false (is_line_end c) (ap (λ b. b && not (is_line_end c)) (sym blank) ∙ e)
 
-pub line_over : (n at : ℕ) (bs : List ℕ) → at ≤ length bs → (at < length bs → is_blank (get_or bs at 0) ≡ false) → (at < length bs → ends_token (get_or bs at 0) ≡ true) → (place_in n (drop at bs)).tokens ≡ []
+pub line_over : (n at : ℕ) (bs : List ℕ) → at ≤ length bs → (at < length bs → is_inner_blank (get_or bs at 0) ≡ false) → (at < length bs → is_blank (get_or bs at 0) ≡ true) → (place_in n (drop at bs)).tokens ≡ []
 line_over n at bs within run stops = elim (cases_lt at (length bs)) [
-  | inl l ↦ ap (λ (p : Place). p.tokens) (ap (place_in n) (drop_more bs at 0 l) ∙ place-end n (get_or bs at 0) (drop (at + 1) bs) (stops_here (is_blank (get_or bs at 0)) (is_line_end (get_or bs at 0)) (run l) (stops l)))
+  | inl l ↦ ap (λ (p : Place). p.tokens) (ap (place_in n) (drop_more bs at 0 l) ∙ place-end n (get_or bs at 0) (drop (at + 1) bs) (stops_here (get_or bs at 0) (run l) (stops l)))
   | inr past ↦ ap (λ (p : Place). p.tokens) (place-nil n (drop at bs) (omega (arith, length-drop at bs)))
 ]
 
 -- where something else stands, there is a token
-pub token_here : (n at : ℕ) (bs : List ℕ) → at < length bs → ends_token (get_or bs at 0) ≡ false → (place_in n (drop at bs)).tokens ≡ [] → ⊥
+pub token_here : (n at : ℕ) (bs : List ℕ) → at < length bs → is_blank (get_or bs at 0) ≡ false → (place_in n (drop at bs)).tokens ≡ [] → ⊥
 token_here n at bs l e none =
     let c : ℕ = get_or bs at 0 in
     let b : Begins n (get_or bs at 0 ∷ []) (drop (at + 1) bs) = begins n (get_or bs at 0 ∷ []) (drop (at + 1) bs) (omega arith) (ap (λ x. not x && true) e) in
@@ -209,7 +196,7 @@ between bs start end le =
     let k : start + (end - start) ≡ end = omega arith in
     sym (take-append-drop (end - start) (drop start bs)) ∙ ap (λ rest. take (end - start) (drop start bs) ++ rest) (drop-drop (end - start) start bs ∙ ap (λ i. drop i bs) k)
 
-pub token_between : (n start end : ℕ) (bs : List ℕ) → start < end → end ≤ length bs → list_all in_token (take (end - start) (drop start bs)) ≡ true → (end < length bs → ends_token (get_or bs end 0) ≡ true)
+pub token_between : (n start end : ℕ) (bs : List ℕ) → start < end → end ≤ length bs → list_all in_token (take (end - start) (drop start bs)) ≡ true → (end < length bs → is_blank (get_or bs end 0) ≡ true)
     → place_in n (drop start bs) ≡ record (place_in n (drop end bs)) { tokens = take (end - start) (drop start bs) ∷ (place_in n (drop end bs)).tokens }
 token_between n start end bs l within all stops =
     let token : List ℕ = take (end - start) (drop start bs) in
@@ -217,12 +204,12 @@ token_between n start end bs l within all stops =
     let long : length (take (end - start) (drop start bs)) ≡ end - start = length-take-le (end - start) (drop start bs) (omega (arith, length-drop start bs)) in
     ap (place_in n) (between bs start end (omega arith))
     ∙ place-token n (take (end - start) (drop start bs)) (drop end bs) (omega (arith, long)) all
-    (λ k. ap ends_token (get_or-drop end bs 0 0 ∙ ap (λ i. get_or bs i 0) zero_more) ∙ stops (omega (arith, k, length-drop end bs)))
+    (λ k. ap is_blank (get_or-drop end bs 0 0 ∙ ap (λ i. get_or bs i 0) zero_more) ∙ stops (omega (arith, k, length-drop end bs)))
 
-pub not_ended : (c : ℕ) → is_blank c ≡ false → (c ≡ 10 → ⊥) → ends_token c ≡ false
-not_ended c blank ne = elim (cases_Bool (is_line_end c)) [
-  | inl e ↦ absurd (ne (eqb-true c 10 e))
-  | inr e ↦ ap₂ (λ a b. a || b) blank e
+pub not_ended : (c : ℕ) → is_inner_blank c ≡ false → (c ≡ 10 → ⊥) → is_blank c ≡ false
+not_ended c run ne = elim (cases_Bool (is_blank c)) [
+  | inl blank ↦ absurd (ne (eqb-true c 10 (stops_here c run blank)))
+  | inr e ↦ e
 ]
 
 pub same_token : (n : ℕ) (text : List ℕ) → next_token (place_in 0 text) ≡ next_token (place_in n text)
@@ -231,7 +218,7 @@ same_token n text = refl
 
 -- what follows the token at a place
 pub token_passes : (start end next : ℕ) (bs : List ℕ) → StandsAt bs start → (next_token (place_in 0 (drop start bs)) ≡ [] → ⊥) → start ≤ end → end ≤ length bs → list_all in_token (take (end - start) (drop start bs)) ≡ true
-    → (end < length bs → ends_token (get_or bs end 0) ≡ true) → ((n : ℕ) → place_in n (drop next bs) ≡ place_in n (drop end bs)) → end ≤ next → StandsAt bs next → Passes bs start next
+    → (end < length bs → is_blank (get_or bs end 0) ≡ true) → ((n : ℕ) → place_in n (drop next bs) ≡ place_in n (drop end bs)) → end ≤ next → StandsAt bs next → Passes bs start next
 token_passes start end next bs here some le within all stops same after stands = elim (cases_lt start end) [
   | inl l ↦ record {
     after = omega (arith, le, after);
@@ -240,6 +227,6 @@ token_passes start end next bs here some le within all stops same after stands =
   }
   | inr past ↦
       let e : end ≡ start = omega (arith, le, past) in
-      let none : (place_in 0 (drop start bs)).tokens ≡ [] = line_over 0 start bs here.0 here.1 (subst (λ i. i < length bs → ends_token (get_or bs i 0) ≡ true) e stops) in
+      let none : (place_in 0 (drop start bs)).tokens ≡ [] = line_over 0 start bs here.0 here.1 (subst (λ i. i < length bs → is_blank (get_or bs i 0) ≡ true) e stops) in
       absurd (some (ap (λ ts. slice_index_or ts 0 []) none))
 ]

@@ -1,7 +1,7 @@
 -- The lines of a text that have tokens, with their numbers.
 use Rattle.std.specs.Prelude.{ℕ, ◌+◌, ◌==◌, Bool, List, [], ◌∷◌, ◌++◌, filter}
 use Rattle.std.specs.List.{slice_split}
-use Rattle.gate_lines.specs.Tokens.{not_empty, tokens_of}
+use Rattle.text_tokens.specs.Tokens.{not_empty, tokens_of}
 
 -- a line: its number in the text, and its tokens
 pub record Row : Type 0 where

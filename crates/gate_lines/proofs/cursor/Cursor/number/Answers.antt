@@ -1,5 +1,5 @@
 use Rattle.std.proofs.Common.{◌≡◌, drop, ◌∙◌, ap}
-use Rattle.gate_lines.specs.Tokens.{number_of}
+use Rattle.text_tokens.specs.Numbers.{number_of}
 use Rattle.gate_lines.specs.Places.{Place, place_in, next_token}
 use Rattle.gate_lines.proofs.Placing.{same_token}
 use Rattle.gate_lines.proofs.cursor.Cursor.number.Goals as goal
