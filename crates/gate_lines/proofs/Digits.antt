@@ -14,7 +14,7 @@ use Rattle.text_tokens.specs.Tokens.{is_blank}
 use Rattle.text_tokens.specs.Numbers.{number_of}
 use Rattle.text_tokens.proofs.Values.{digits, all_digits, number_is, number_large, number_other_byte}
 use Rattle.gate_lines.specs.Places.{Place, place_in, next_token, past_token, is_inner_blank, StandsAt, Passes}
-use Rattle.gate_lines.proofs.Placing.{in_token, place-token, Begins, begins, between, line_over}
+use Rattle.gate_lines.proofs.Places.{in_token, place-token, Begins, begins, between, line_over}
 
 -- the text begins with digits of this value, and goes on with the rest
 pub record Digits (text rest : List ℕ) (value : ℕ) : Type 0 where

@@ -1,3 +1,3 @@
-pub mod Lining
-pub mod Placing
+pub mod TextLines
+pub mod Places
 pub mod Digits

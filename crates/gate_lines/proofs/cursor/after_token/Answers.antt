@@ -1,6 +1,6 @@
 use Rattle.std.proofs.Common.{sym, ◌∙◌, ap, arith}
 use Rattle.gate_lines.specs.Places.{is_inner_blank}
-use Rattle.gate_lines.proofs.Placing.{blank_step}
+use Rattle.gate_lines.proofs.Places.{blank_step}
 use Rattle.gate_lines.proofs.cursor.after_token.Goals as goal
 
 pub returns-then-is_inner_blank-clause-same : goal.returns-then-is_inner_blank-clause-same

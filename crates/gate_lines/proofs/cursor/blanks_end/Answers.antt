@@ -1,5 +1,5 @@
 use Rattle.std.proofs.Common.{sym, ◌∙◌, arith}
-use Rattle.gate_lines.proofs.Placing.{blank_step}
+use Rattle.gate_lines.proofs.Places.{blank_step}
 use Rattle.gate_lines.proofs.cursor.blanks_end.Goals as goal
 
 pub loop-at-preserved : goal.loop-at-preserved

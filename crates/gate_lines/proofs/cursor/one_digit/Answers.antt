@@ -2,7 +2,7 @@ use Rattle.std.proofs.Common.{◌≡◌, ◌+◌, ◌-◌, ◌<◌, ◌^◌, tru
 use Rattle.std.specs.Char.{is_ascii_digit}
 use Rattle.text_tokens.specs.Tokens.{is_blank}
 use Rattle.gate_lines.specs.Places.{place_in, is_inner_blank, StandsAt}
-use Rattle.gate_lines.proofs.Placing.{blank_step}
+use Rattle.gate_lines.proofs.Places.{blank_step}
 use Rattle.gate_lines.proofs.Digits.{digit_found, digit_bounds, number_found, number_passes}
 use Rattle.gate_lines.proofs.cursor.one_digit.Goals as goal
 

@@ -1,5 +1,5 @@
 use Rattle.std.proofs.Common.{not, sym, ◌∙◌, ap, arith}
-use Rattle.gate_lines.proofs.Placing.{in_token, take_whole}
+use Rattle.gate_lines.proofs.Places.{in_token, take_whole}
 use Rattle.gate_lines.proofs.cursor.token_end.Goals as goal
 
 pub loop-at-preserved : goal.loop-at-preserved

@@ -2,7 +2,7 @@ use Rattle.std.proofs.Common.{rules, tests, ◌∙◌}
 use Rattle.std.proofs.lemmas.Iterator.{YieldsList-from_slice}
 use Rattle.std.proofs.lemmas.Iterator.Search.{position_from_yields_List}
 use Rattle.text_tokens.specs.Tokens.{is_blank}
-use Rattle.text_tokens.proofs.Cutting.{first_or_len}
+use Rattle.text_tokens.proofs.FirstTokens.{first_or_len}
 use Rattle.text_tokens.proofs.tokens.run_len.Goals as goal
 
 pub returns : goal.returns

@@ -2,8 +2,8 @@ use Rattle.std.proofs.Common.{◌≡◌, ◌<◌, ◌+◌, [], length, drop, get
 use Rattle.std.proofs.lemmas.Str.{IsCharBoundary-after_ascii}
 use Rattle.gate_lines.specs.Rows.{rows_from}
 use Rattle.gate_lines.specs.Places.{Place, place_in, is_inner_blank}
-use Rattle.gate_lines.proofs.Lining.{rows-none}
-use Rattle.gate_lines.proofs.Placing.{place-nil, end_step, token_here, not_ended}
+use Rattle.gate_lines.proofs.TextLines.{rows-none}
+use Rattle.gate_lines.proofs.Places.{place-nil, end_step, token_here, not_ended}
 use Rattle.gate_lines.proofs.cursor.Cursor.finish.Goals as goal
 
 pub returns-then-self-bytes : goal.returns-then-self-bytes

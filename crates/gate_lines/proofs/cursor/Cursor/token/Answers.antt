@@ -1,7 +1,7 @@
 use Rattle.std.proofs.Common.{◌≡◌, ◌<◌, ◌-◌, ◌∷◌, true, get_or, length, take, drop, refl, sym, ◌∙◌, ap, subst, arith}
 use Rattle.text_tokens.specs.Tokens.{is_blank}
 use Rattle.gate_lines.specs.Places.{Place, place_in, StandsAt}
-use Rattle.gate_lines.proofs.Placing.{line_over, token_between}
+use Rattle.gate_lines.proofs.Places.{line_over, token_between}
 use Rattle.gate_lines.proofs.cursor.Cursor.token.Goals as goal
 
 pub returns-then-start-end : goal.returns-then-start-end

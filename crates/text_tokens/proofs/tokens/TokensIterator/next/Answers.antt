@@ -1,7 +1,7 @@
 use Rattle.std.proofs.Common.{◌≡◌, ◌∷◌, [], ℕ, sym, ◌∙◌, ap₂, subst}
 use Rattle.std.specs.Str.{IsCharBoundary}
 use Rattle.text_tokens.specs.Tokens.{tokens_of}
-use Rattle.text_tokens.proofs.Cutting.{tokens-cut, tokens-end, boundary_after_blanks, boundary_before_blank, tokens_go}
+use Rattle.text_tokens.proofs.FirstTokens.{tokens-cut, tokens-end, boundary_after_blanks, boundary_before_blank, tokens_go}
 use Rattle.text_tokens.proofs.tokens.TokensIterator.next.Goals as goal
 
 pub split_at-requires : goal.split_at-requires

@@ -8,10 +8,10 @@ use Rattle.std.proofs.lemmas.List.{drop_all, take_all, get_or-drop, take-append-
 use Rattle.std.proofs.lemmas.List.Folds.{list_all-append, list_all_more}
 use Rattle.std.proofs.lemmas.List.Splits.{slice_split_none, slice_split_at}
 use Rattle.text_tokens.specs.Tokens.{is_blank, not_empty, tokens_of}
-use Rattle.text_tokens.proofs.Cutting.{first_within, tokens-blank, tokens_of-none, keep_first}
+use Rattle.text_tokens.proofs.FirstTokens.{first_within, tokens-blank, tokens_of-none, keep_first}
 use Rattle.gate_lines.specs.Rows.{Row, is_line_end, rows_from}
 use Rattle.gate_lines.specs.Places.{Place, place_in, rows_at, next_token, past_token, is_inner_blank, StandsAt, Passes}
-use Rattle.gate_lines.proofs.Lining.{rows-none, rows-last, rows-cut}
+use Rattle.gate_lines.proofs.TextLines.{rows-none, rows-last, rows-cut}
 
 abbrev pub in_token : ℕ → Bool
 in_token c = not (is_blank c)
