@@ -18,7 +18,7 @@ use text_tokens::is_blank;
 fn is_inner_blank(byte: u8) -> bool
     ensures { result ≡ is_inner_blank byte }
 {
-    is_blank(byte) && byte != b'\n'
+    byte != b'\n' && is_blank(byte)
 }
 
 /// Where the blanks end that begin at a place within a line.
