@@ -15,6 +15,7 @@ is_line_end c = c == 10
 abbrev pub has_tokens : Row → Bool
 has_tokens row = not_empty row.tokens
 
+-- lines with their numbers; no LF is left in a line, so the blanks between its tokens are space, tab and CR
 abbrev pub numbered : ℕ → List (List ℕ) → List Row
 numbered n [] = []
 numbered n (line ∷ lines) = record { number = n; tokens = tokens_of line } ∷ numbered (n + 1) lines

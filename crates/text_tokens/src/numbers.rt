@@ -9,7 +9,8 @@ pub fn is_digits(token: &str) -> bool
     !token.is_empty() && token.as_bytes().iter().all(|byte| byte.is_ascii_digit())
 }
 
-/// The number that a token writes in one or more decimal digits, if it is below `2^64`. Leading zeros are allowed, and any count of digits.
+/// The number that a token writes in one or more decimal digits, if it is below `2^64`. There may be leading zeros, and
+/// any count of digits.
 pub fn number(token: &str) -> Option<u64>
     ensures { result ≡ number_of token.now }
 {
