@@ -6,7 +6,7 @@ use Rattle.std.specs.List.{list_all}
 use Rattle.std.proofs.lemmas.Bool.{lt-ltb, ltb-false, eqb-true}
 use Rattle.std.proofs.lemmas.List.{take_more, take-append-drop, length-take-le, length-map}
 use Rattle.std.proofs.Math.Seq.{take-length}
-use Rattle.gate_lines.specs.Tokens.{number_of}
+use Rattle.text_tokens.specs.Numbers.{number_of}
 use Rattle.gate_lines.specs.Rows.{Row}
 use Rattle.circuit_model.specs.declared.gate.Gate.{Gate}
 use Rattle.circuit_model.specs.declared.gate.Operation.{Operation}

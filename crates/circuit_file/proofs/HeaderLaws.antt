@@ -3,7 +3,7 @@ use Rattle.std.proofs.Common.{◌≡◌, ℕ, ◌+◌, ◌≤◌, true, false, L
 use Rattle.std.specs.Prelude.{slice_index_or}
 use Rattle.std.proofs.lemmas.Bool.{le-ltb, ltb-false}
 use Rattle.std.proofs.lemmas.List.{length-map, take_all}
-use Rattle.gate_lines.specs.Tokens.{number_of}
+use Rattle.text_tokens.specs.Numbers.{number_of}
 use Rattle.gate_lines.specs.Rows.{Row}
 use Rattle.circuit_file.specs.Tokens.{token, is_number, number_in, all_numbers, numbers_in}
 use Rattle.circuit_file.specs.Header.{count_checks, counts_of, counts_in, width_tokens, width_checks, widths_in}

@@ -4,7 +4,7 @@ use Rattle.std.specs.Prelude.{slice_index_or}
 use Rattle.std.proofs.lemmas.Bool.{le-ltb, eqb-true, cases_Bool}
 use Rattle.std.proofs.lemmas.List.{take_more, take_more_set, get_or-drop, map-append, length-map, length-take-le}
 use Rattle.std.proofs.Math.Seq.{take-append_seam, get_or-append_seam}
-use Rattle.gate_lines.specs.Tokens.{number_of}
+use Rattle.text_tokens.specs.Numbers.{number_of}
 use Rattle.gate_lines.specs.Rows.{Row}
 use Rattle.gate_lines.specs.Places.{Place, rows_at, next_token, past_token}
 use Rattle.circuit_model.specs.declared.gate.Operation.{Operation}

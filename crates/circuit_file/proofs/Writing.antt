@@ -1,7 +1,7 @@
 -- Tokens that write numbers.
 use Rattle.std.proofs.Common.{◌≡◌, ℕ, suc, true, ◌&&◌, List, [], ◌∷◌, length, Some, refl, ◌∙◌, ap, ap₂}
 use Rattle.std.specs.Option.{is_some, unwrap_or}
-use Rattle.gate_lines.specs.Tokens.{number_of}
+use Rattle.text_tokens.specs.Numbers.{number_of}
 use Rattle.circuit_file.specs.Tokens.{is_number, number_in, all_numbers, numbers_in}
 use Rattle.circuit_file.specs.Grammar.{Write}
 use Rattle.circuit_file.proofs.Passing.{some_is, and_first, and_second}

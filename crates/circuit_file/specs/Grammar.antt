@@ -1,7 +1,7 @@
 -- The grammar of circuit files.
 use Rattle.std.specs.Prelude.{◌≡◌, ℕ, ◌↔◌, List, [], ◌∷◌, ◌++◌, take, length, if◌then◌else◌, Some, Ok}
 use Rattle.std.specs.Str.{IsUtf8}
-use Rattle.gate_lines.specs.Tokens.{number_of}
+use Rattle.text_tokens.specs.Numbers.{number_of}
 use Rattle.gate_lines.specs.Rows.{Row, rows_of}
 use Rattle.circuit_model.specs.Netlists.{Netlist, IsCircuit, arity, is_constant}
 use Rattle.circuit_model.specs.declared.gate.Gate.{Gate}

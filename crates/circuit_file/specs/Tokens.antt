@@ -1,7 +1,7 @@
 -- The tokens of a line, and the numbers that they write.
 use Rattle.std.specs.Prelude.{ℕ, Bool, List, [], take, drop, map, slice_index_or, is_some, unwrap_or}
 use Rattle.std.specs.List.{list_all}
-use Rattle.gate_lines.specs.Tokens.{number_of}
+use Rattle.text_tokens.specs.Numbers.{number_of}
 use Rattle.gate_lines.specs.Rows.{Row}
 
 -- the token at a place

@@ -1,10 +1,10 @@
 //! The three header lines.
-ghost use Rattle.std.specs.Prelude.{◌≡◌, ◌||◌, nat_lt};
+ghost use Rattle.std.specs.Prelude.{◌≡◌};
 ghost use Rattle.circuit_file.specs.Answers.{Shows};
 ghost use Rattle.circuit_file.specs.Header.{counts_in, widths_in};
 
 use crate::tokens::{after, all_numbers, is_number, number_in, numbers};
-use circuit_model::{CircuitFault, check, exceeds};
+use circuit_model::{CircuitFault, are_large, check, exceeds};
 use gate_lines::Line;
 use std::alloc::Global;
 
@@ -13,12 +13,6 @@ use std::alloc::Global;
 pub(crate) struct Counts {
     pub gates: u64,
     pub wires: u64,
-}
-
-fn are_large(gates: u64, wires: u64) -> bool
-    ensures { result ≡ (nat_lt 65536 gates || nat_lt 131072 wires) }
-{
-    gates > 65536 || wires > 131072
 }
 
 /// The counts of line one, or its first fault.

@@ -1,10 +1,10 @@
 //! The tokens of a line, read forward.
 ghost use Rattle.std.specs.Prelude.{◌≡◌, ℕ, take, drop, IfOk};
-ghost use Rattle.gate_lines.specs.Tokens.{number_of};
+ghost use Rattle.text_tokens.specs.Numbers.{number_of};
 ghost use Rattle.circuit_file.specs.Tokens.{is_number, number_in, all_numbers, numbers_in};
 
-use gate_lines::{Tokens, number};
 use std::alloc::{AllocError, Global};
+use text_tokens::{Tokens, number};
 
 pub(crate) fn is_number(token: &str) -> bool
     ensures { result ≡ is_number token.now }

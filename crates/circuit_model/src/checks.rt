@@ -30,7 +30,8 @@ pub fn exceeds(widths: &[u64], wires: u64) -> bool
     false
 }
 
-fn is_large(gates: u64, wires: u64) -> bool
+/// Whether these are more gates or wires than a circuit may have.
+pub fn are_large(gates: u64, wires: u64) -> bool
     ensures { result ≡ (nat_lt 65536 gates || nat_lt 131072 wires) }
 {
     gates > 65_536 || wires > 131_072
@@ -55,7 +56,7 @@ pub(crate) fn check_header(
 {
     let [counts, input_line, output_line] = lines;
     check(
-        is_large(gates, wires),
+        are_large(gates, wires),
         CircuitFault::TooLarge { line: counts },
     )?;
     check(is_long(inputs), CircuitFault::TooLarge { line: input_line })?;

@@ -9,7 +9,7 @@ mod gate;
 mod laws;
 
 pub use builder::Builder;
-pub use checks::{check, exceeds};
+pub use checks::{are_large, check, exceeds};
 pub use circuit::Circuit;
 pub use fault::CircuitFault;
 pub use gate::{Gate, Operation};

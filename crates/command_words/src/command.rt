@@ -2,7 +2,7 @@
 ghost use Rattle.std.specs.Prelude.{◌≡◌, map, Some, None, IfOk, OnErr, string_bytes};
 ghost use Rattle.command_words.specs.Commands.{is_folder, worker_count, workers_of, command_of, form_of, HasWorkers};
 
-use gate_lines::number;
+use text_tokens::number;
 
 /// What a command line asks for. The texts are those of its words.
 #[derive(Clone, Copy, Debug, PartialEq, Eq)]

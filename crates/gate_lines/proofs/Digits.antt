@@ -1,20 +1,20 @@
 -- A number that is read digit by digit.
-use Rattle.std.proofs.Common.{Option, ◌≡◌, ℕ, ◌+◌, ◌-◌, ◌*◌, ◌≤◌, ◌<◌, ◌^◌, Bool, true, false, not, ◌&&◌, nat_lt, cond, List, [], ◌∷◌, ◌++◌, length, take, drop, get_or, Some, None, refl, sym, ◌∙◌, ap, ap₂, subst, arith, append_assoc, length-append, length-drop, inl, inr, tests}
+use Rattle.std.proofs.Common.{Option, ◌≡◌, ℕ, ◌+◌, ◌-◌, ◌*◌, ◌≤◌, ◌<◌, ◌^◌, true, false, not, ◌&&◌, List, [], ◌∷◌, ◌++◌, length, take, drop, get_or, Some, None, refl, sym, ◌∙◌, ap, ap₂, subst, arith, append_assoc, length-append, length-drop, inl, inr, tests}
 use Rattle.std.specs.Char.{is_ascii_digit, digit_value}
 use Rattle.std.specs.List.{list_all}
-use Rattle.std.specs.Str.{all_ascii_digits}
 use Rattle.std.specs.Str.Parse.{digits_value}
-use Rattle.std.proofs.lemmas.Bool.{lt-ltb, le-ltb, cases_lt, cases_Bool}
+use Rattle.std.proofs.lemmas.Bool.{cases_lt, cases_Bool, and_parts}
 use Rattle.std.proofs.lemmas.Bool.Decides.{nat_tests}
 use Rattle.std.proofs.lemmas.Int.Digits.{digits_value_push, digits_value_more}
 use Rattle.std.proofs.lemmas.List.Folds.{list_all-append}
 use Rattle.std.proofs.lemmas.Str.Parse.{digits_value-take-le, digits_value_short}
 use Rattle.std.proofs.Math.Seq.{take-append_seam}
 use Rattle.std.proofs.lemmas.List.{drop_more, get_or-drop, length-take-le}
-use Rattle.gate_lines.specs.Tokens.{is_blank, not_empty, number_of}
-use Rattle.gate_lines.specs.Places.{Place, place_in, next_token, past_token, ends_token, StandsAt, Passes}
-use Rattle.gate_lines.proofs.Numbers.{digits, no_number, all_digits}
-use Rattle.gate_lines.proofs.Placing.{in_token, place-token, Begins, begins, between, line_over}
+use Rattle.text_tokens.specs.Tokens.{is_blank}
+use Rattle.text_tokens.specs.Numbers.{number_of}
+use Rattle.text_tokens.proofs.Values.{digits, all_digits, number_is, number_large, number_other_byte}
+use Rattle.gate_lines.specs.Places.{Place, place_in, next_token, past_token, is_inner_blank, StandsAt, Passes}
+use Rattle.gate_lines.proofs.Places.{in_token, place-token, Begins, begins, between, line_over}
 
 -- the text begins with digits of this value, and goes on with the rest
 pub record Digits (text rest : List ℕ) (value : ℕ) : Type 0 where
@@ -42,37 +42,19 @@ one_more text rest c value d e = record {
 digit_in_token : (c : ℕ) → is_ascii_digit c ≡ true → in_token c ≡ true
 digit_in_token c e = grind (arith, nat_tests, tests)
 
-both : (a b : Bool) → (a && b) ≡ true → (a ≡ true) × (b ≡ true)
-both true true e = (refl, refl)
-both true false e = cc
-both false b e = cc
-
 digits_in_token : (ds : List ℕ) → list_all is_ascii_digit ds ≡ true → list_all in_token ds ≡ true
 digits_in_token [] e = refl
-digits_in_token (c ∷ ds) e = let k = both (is_ascii_digit c) (list_all is_ascii_digit ds) e in ap₂ (λ a b. a && b) (digit_in_token c k.0) (digits_in_token ds k.1)
+digits_in_token (c ∷ ds) e = let k = and_parts (is_ascii_digit c) (list_all is_ascii_digit ds) e in ap₂ (λ a b. a && b) (digit_in_token c k.0) (digits_in_token ds k.1)
 
-some_not_empty : (ds : List ℕ) → 0 < length ds → not_empty ds ≡ true
-some_not_empty [] l = absurd (omega arith)
-some_not_empty (c ∷ ds) l = refl
-
-number_is : (ds : List ℕ) (value : ℕ) → 0 < length ds → list_all is_ascii_digit ds ≡ true → digits_value 10 ds ≡ value → value < 2 ^ 64 → number_of ds ≡ Some value
-unfolding number_of
-number_is ds value l all writes small =
-    let fits : nat_lt (digits_value 10 ds) (2 ^ 64) ≡ true = ap (λ v. nat_lt v (2 ^ 64)) writes ∙ lt-ltb value (2 ^ 64) small in
-    ap (λ b. cond (b && (all_ascii_digits ds && nat_lt (digits_value 10 ds) (2 ^ 64))) (Some (digits_value 10 ds)) None) (some_not_empty ds l)
-    ∙ ap (λ b. cond (b && nat_lt (digits_value 10 ds) (2 ^ 64)) (Some (digits_value 10 ds)) None) (sym (all_digits ds) ∙ all)
-    ∙ ap (λ b. cond b (Some (digits_value 10 ds)) None) fits
-    ∙ ap Some writes
-
-pub number_place : (n : ℕ) (text rest : List ℕ) (value : ℕ) → (d : Digits text rest value) → 0 < length d.digits → (0 < length rest → ends_token (get_or rest 0 0) ≡ true)
+pub number_place : (n : ℕ) (text rest : List ℕ) (value : ℕ) → (d : Digits text rest value) → 0 < length d.digits → (0 < length rest → is_blank (get_or rest 0 0) ≡ true)
     → place_in n text ≡ record (place_in n rest) { tokens = d.digits ∷ (place_in n rest).tokens }
 number_place n text rest value d l ends = ap (place_in n) d.cut ∙ place-token n d.digits rest l (digits_in_token d.digits d.all) ends
 
-pub number_read : (n : ℕ) (text rest : List ℕ) (value : ℕ) → (d : Digits text rest value) → 0 < length d.digits → (0 < length rest → ends_token (get_or rest 0 0) ≡ true) → value < 2 ^ 64
+pub number_read : (n : ℕ) (text rest : List ℕ) (value : ℕ) → (d : Digits text rest value) → 0 < length d.digits → (0 < length rest → is_blank (get_or rest 0 0) ≡ true) → value < 2 ^ 64
     → Some value ≡ number_of (next_token (place_in n text))
 number_read n text rest value d l ends small = sym (ap (λ (p : Place). number_of (next_token p)) (number_place n text rest value d l ends) ∙ number_is d.digits value l d.all d.writes small)
 
-pub number_past : (n : ℕ) (text rest : List ℕ) (value : ℕ) → (d : Digits text rest value) → 0 < length d.digits → (0 < length rest → ends_token (get_or rest 0 0) ≡ true) → place_in n rest ≡ past_token (place_in n text)
+pub number_past : (n : ℕ) (text rest : List ℕ) (value : ℕ) → (d : Digits text rest value) → 0 < length d.digits → (0 < length rest → is_blank (get_or rest 0 0) ≡ true) → place_in n rest ≡ past_token (place_in n text)
 number_past n text rest value d l ends = sym (ap past_token (number_place n text rest value d l ends))
 
 -- ---- tokens that write no number
@@ -80,15 +62,6 @@ number_past n text rest value d l ends = sym (ap past_token (number_place n text
 pub no_token : (p : Place) → p.tokens ≡ [] → None ≡ number_of (next_token p)
 unfolding number_of
 no_token p e = sym (rw e refl)
-
-number_large : (token : List ℕ) → 2 ^ 64 ≤ digits_value 10 token → number_of token ≡ None
-unfolding number_of
-number_large token le = ap (λ b. cond (not_empty token && (all_ascii_digits token && b)) (Some (digits_value 10 token)) None) (le-ltb _ _ le) ∙ nothing (not_empty token) (all_ascii_digits token)
-  where
-    nothing : (a b : Bool) → cond (a && (b && false)) (Some (digits_value 10 token)) None ≡ None
-    nothing true true = refl
-    nothing true false = refl
-    nothing false b = refl
 
 token_so : (n : ℕ) (ds text : List ℕ) (b : Begins n ds text) → number_of (ds ++ b.more) ≡ None → None ≡ number_of (next_token (place_in n (ds ++ text)))
 token_so n ds text b e = sym (ap (λ (p : Place). number_of (next_token p)) b.is ∙ e)
@@ -105,14 +78,14 @@ no_number_over n text rest c value d e over =
     token_so n more.digits rest b (number_large (more.digits ++ b.more) (omega (arith, le, more.writes, over))) ∙ ap (λ t. number_of (next_token (place_in n t))) (sym more.cut)
 
 -- a token with another byte than a digit
-pub no_number_in : (n : ℕ) (text rest : List ℕ) (c value : ℕ) → Digits text (c ∷ rest) value → is_ascii_digit c ≡ false → ends_token c ≡ false → None ≡ number_of (next_token (place_in n text))
+pub no_number_in : (n : ℕ) (text rest : List ℕ) (c value : ℕ) → Digits text (c ∷ rest) value → is_ascii_digit c ≡ false → is_blank c ≡ false → None ≡ number_of (next_token (place_in n text))
 no_number_in n text rest c value d e on =
     let ds : List ℕ = d.digits ++ (c ∷ []) in
     let whole : list_all in_token (d.digits ++ (c ∷ [])) ≡ true = list_all-append in_token d.digits (c ∷ []) ∙ ap₂ (λ a b. a && (not b && true)) (digits_in_token d.digits d.all) on in
     let b : Begins n (d.digits ++ (c ∷ [])) rest = begins n (d.digits ++ (c ∷ [])) rest (omega (arith, length-append d.digits (c ∷ []))) whole in
-    let bad : all_ascii_digits ((d.digits ++ (c ∷ [])) ++ b.more) ≡ false =
-    sym (all_digits ((d.digits ++ (c ∷ [])) ++ b.more)) ∙ list_all-append is_ascii_digit (d.digits ++ (c ∷ [])) b.more ∙ ap (λ x. x && list_all is_ascii_digit b.more) (list_all-append is_ascii_digit d.digits (c ∷ []) ∙ ap₂ (λ x y. x && (y && true)) d.all e) in
-    token_so n (d.digits ++ (c ∷ [])) rest b (no_number ((d.digits ++ (c ∷ [])) ++ b.more) bad) ∙ ap (λ t. number_of (next_token (place_in n t))) (append_assoc d.digits (c ∷ []) rest ∙ sym d.cut)
+    let bad : list_all is_ascii_digit ((d.digits ++ (c ∷ [])) ++ b.more) ≡ false =
+    list_all-append is_ascii_digit (d.digits ++ (c ∷ [])) b.more ∙ ap (λ x. x && list_all is_ascii_digit b.more) (list_all-append is_ascii_digit d.digits (c ∷ []) ∙ ap₂ (λ x y. x && (y && true)) d.all e) in
+    token_so n (d.digits ++ (c ∷ [])) rest b (number_other_byte ((d.digits ++ (c ∷ [])) ++ b.more) bad) ∙ ap (λ t. number_of (next_token (place_in n t))) (append_assoc d.digits (c ∷ []) rest ∙ sym d.cut)
 
 -- ---- a number at a place in a text
 
@@ -122,19 +95,19 @@ at_byte text bs at value l d = subst (λ rest. Digits text rest value) (drop_mor
 pub some_digits : (bs : List ℕ) (start at value : ℕ) → (d : Digits (drop start bs) (drop at bs) value) → start ≤ at → at ≤ length bs → (at ≡ start → ⊥) → 0 < length d.digits
 some_digits bs start at value d le within ne = omega (arith, ap length d.cut, length-append d.digits (drop at bs), length-drop start bs, length-drop at bs)
 
-pub end_follows : (bs : List ℕ) (at : ℕ) → (at < length bs → ends_token (get_or bs at 0) ≡ true) → 0 < length (drop at bs) → ends_token (get_or (drop at bs) 0 0) ≡ true
+pub end_follows : (bs : List ℕ) (at : ℕ) → (at < length bs → is_blank (get_or bs at 0) ≡ true) → 0 < length (drop at bs) → is_blank (get_or (drop at bs) 0 0) ≡ true
 end_follows bs at e l =
     let zero_more : at + 0 ≡ at = omega arith in
-    ap ends_token (get_or-drop at bs 0 0 ∙ ap (λ i. get_or bs i 0) zero_more) ∙ e (omega (arith, l, length-drop at bs))
+    ap is_blank (get_or-drop at bs 0 0 ∙ ap (λ i. get_or bs i 0) zero_more) ∙ e (omega (arith, l, length-drop at bs))
 
-pub none_at_byte : (bs : List ℕ) (start at value : ℕ) → Digits (drop start bs) (drop at bs) value → at < length bs → is_ascii_digit (get_or bs at 0) ≡ false → ends_token (get_or bs at 0) ≡ false
+pub none_at_byte : (bs : List ℕ) (start at value : ℕ) → Digits (drop start bs) (drop at bs) value → at < length bs → is_ascii_digit (get_or bs at 0) ≡ false → is_blank (get_or bs at 0) ≡ false
     → None ≡ number_of (next_token (place_in 0 (drop start bs)))
 none_at_byte bs start at value d l e on = no_number_in 0 (drop start bs) (drop (at + 1) bs) (get_or bs at 0) value (at_byte (drop start bs) bs at value l d) e on
 
-pub none_at_start : (bs : List ℕ) (start : ℕ) → start ≤ length bs → (start < length bs → is_blank (get_or bs start 0) ≡ false) → (start < length bs → is_ascii_digit (get_or bs start 0) ≡ false)
+pub none_at_start : (bs : List ℕ) (start : ℕ) → start ≤ length bs → (start < length bs → is_inner_blank (get_or bs start 0) ≡ false) → (start < length bs → is_ascii_digit (get_or bs start 0) ≡ false)
     → None ≡ number_of (next_token (place_in 0 (drop start bs)))
 none_at_start bs start within run stop = elim (cases_lt start (length bs)) [
-  | inl l ↦ elim (cases_Bool (ends_token (get_or bs start 0))) [
+  | inl l ↦ elim (cases_Bool (is_blank (get_or bs start 0))) [
     | inl ends ↦ no_token (place_in 0 (drop start bs)) (line_over 0 start bs within run (λ k. ends))
     | inr on ↦ none_at_byte bs start start 0 (no_digits (drop start bs)) l (stop l) on
   ]
@@ -160,12 +133,12 @@ pub digits_between : (bs : List ℕ) (start end value : ℕ) → start ≤ end �
 digits_between bs start end value le all e = record { digits = take (end - start) (drop start bs); cut = between bs start end le; all = all; writes = sym e }
 
 -- a number whose digits end at a place, where a token can end
-pub number_found : (bs : List ℕ) (start end value : ℕ) → Digits (drop start bs) (drop end bs) value → start < end → end ≤ length bs → (end < length bs → ends_token (get_or bs end 0) ≡ true) → value < 2 ^ 64
+pub number_found : (bs : List ℕ) (start end value : ℕ) → Digits (drop start bs) (drop end bs) value → start < end → end ≤ length bs → (end < length bs → is_blank (get_or bs end 0) ≡ true) → value < 2 ^ 64
     → Some value ≡ number_of (next_token (place_in 0 (drop start bs)))
 number_found bs start end value d l within ends small =
     number_read 0 (drop start bs) (drop end bs) value d (some_digits bs start end value d (omega arith) within (omega arith)) (end_follows bs end ends) small
 
-pub number_passes : (bs : List ℕ) (start end next value : ℕ) → Digits (drop start bs) (drop end bs) value → start < end → end ≤ length bs → (end < length bs → ends_token (get_or bs end 0) ≡ true)
+pub number_passes : (bs : List ℕ) (start end next value : ℕ) → Digits (drop start bs) (drop end bs) value → start < end → end ≤ length bs → (end < length bs → is_blank (get_or bs end 0) ≡ true)
     → ((n : ℕ) → place_in n (drop next bs) ≡ place_in n (drop end bs)) → end ≤ next → StandsAt bs next → Passes bs start next
 number_passes bs start end next value d l within ends same after stands = record {
   after = omega arith;

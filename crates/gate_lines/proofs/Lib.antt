@@ -1,5 +1,3 @@
-pub mod Cutting
-pub mod Numbers
-pub mod Lining
-pub mod Placing
+pub mod TextLines
+pub mod Places
 pub mod Digits

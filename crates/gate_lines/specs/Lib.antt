@@ -1,3 +1,2 @@
-pub mod Tokens
 pub mod Rows
 pub mod Places

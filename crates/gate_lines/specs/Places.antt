@@ -1,7 +1,7 @@
 -- Places within the lines of a text.
-use Rattle.std.specs.Prelude.{◌≡◌, ℕ, ◌+◌, ◌≤◌, ◌<◌, Bool, false, ◌||◌, length, slice_index, List, [], ◌∷◌, drop, slice_index_or, if◌then◌else◌}
+use Rattle.std.specs.Prelude.{◌≡◌, ℕ, ◌+◌, ◌≤◌, ◌<◌, Bool, false, not, ◌&&◌, length, slice_index, List, [], ◌∷◌, drop, slice_index_or, if◌then◌else◌}
 use Rattle.std.specs.List.{before_first, after_first}
-use Rattle.gate_lines.specs.Tokens.{is_blank, not_empty, tokens_of}
+use Rattle.text_tokens.specs.Tokens.{is_blank, not_empty, tokens_of}
 use Rattle.gate_lines.specs.Rows.{Row, is_line_end, rows_from}
 
 -- what is left of a line with this number, and the rows after it
@@ -30,13 +30,13 @@ next_token p = slice_index_or p.tokens 0 []
 abbrev pub past_token : Place → Place
 past_token p = record p { tokens = drop 1 p.tokens }
 
--- blanks and LF
-abbrev pub ends_token : ℕ → Bool
-ends_token c = is_blank c || is_line_end c
+-- a blank within a line: space, tab, CR
+abbrev pub is_inner_blank : ℕ → Bool
+is_inner_blank c = is_blank c && not (is_line_end c)
 
--- a byte of a text, or its end, at which no blank stands
+-- a byte of a text, or its end, at which no blank stands within a line
 abbrev pub StandsAt : List ℕ → ℕ → Type 0
-StandsAt text at = (at ≤ length text) × (at < length text → is_blank (slice_index text at) ≡ false)
+StandsAt text at = (at ≤ length text) × (at < length text → is_inner_blank (slice_index text at) ≡ false)
 
 -- from a token of a text to the next one, or to the end of the line
 pub record Passes (text : List ℕ) (start next : ℕ) : Type 0 where

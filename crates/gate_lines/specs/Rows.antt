@@ -1,7 +1,7 @@
 -- The lines of a text that have tokens, with their numbers.
 use Rattle.std.specs.Prelude.{ℕ, ◌+◌, ◌==◌, Bool, List, [], ◌∷◌, ◌++◌, filter}
 use Rattle.std.specs.List.{slice_split}
-use Rattle.gate_lines.specs.Tokens.{not_empty, tokens_of}
+use Rattle.text_tokens.specs.Tokens.{not_empty, tokens_of}
 
 -- a line: its number in the text, and its tokens
 pub record Row : Type 0 where
@@ -15,6 +15,7 @@ is_line_end c = c == 10
 abbrev pub has_tokens : Row → Bool
 has_tokens row = not_empty row.tokens
 
+-- lines with their numbers; no LF is left in a line, so the blanks between its tokens are space, tab and CR
 abbrev pub numbered : ℕ → List (List ℕ) → List Row
 numbered n [] = []
 numbered n (line ∷ lines) = record { number = n; tokens = tokens_of line } ∷ numbered (n + 1) lines

@@ -4,28 +4,31 @@ ghost use Rattle.std.specs.List.{list_all};
 ghost use Rattle.std.specs.Bool.{OnTrue};
 ghost use Rattle.std.specs.Option.{SomeIff, option_map, is_some};
 ghost use Rattle.std.specs.Char.{is_ascii_digit};
-ghost use Rattle.gate_lines.specs.Tokens.{is_blank, number_of};
 ghost use Rattle.std.specs.Str.Parse.{digits_value};
-ghost use Rattle.gate_lines.specs.Places.{place_in, rows_at, next_token, past_token, ends_token, StandsAt, Passes};
+ghost use Rattle.text_tokens.specs.Tokens.{is_blank};
+ghost use Rattle.text_tokens.specs.Numbers.{number_of};
+ghost use Rattle.gate_lines.specs.Places.{place_in, rows_at, next_token, past_token, is_inner_blank, StandsAt, Passes};
 
 use crate::lines::Lines;
-use crate::tokens::is_blank;
 use std::marker::Model;
+use text_tokens::is_blank;
 
-fn ends_token(byte: u8) -> bool
-    ensures { result ≡ ends_token byte }
+/// Whether a byte is a blank within a line.
+#[inline(always)]
+fn is_inner_blank(byte: u8) -> bool
+    ensures { result ≡ is_inner_blank byte }
 {
-    is_blank(byte) || byte == b'\n'
+    byte != b'\n' && is_blank(byte)
 }
 
-/// Where the blanks end that begin at a place.
+/// Where the blanks end that begin at a place within a line.
 fn blanks_end(bytes: &[u8], mut at: usize) -> usize
     requires { at ≤ length bytes.now }
     ensures before { at ≤ result }
     ensures stands { StandsAt bytes.now result }
     ensures same { (n : ℕ) → place_in n (drop result bytes.now) ≡ place_in n (drop at bytes.now) }
 {
-    while at < bytes.len() && is_blank(bytes[at]) {
+    while at < bytes.len() && is_inner_blank(bytes[at]) {
         at += 1;
     }
     at
@@ -67,8 +70,8 @@ fn is_one_space(bytes: &[u8], at: usize) -> bool
 #[inline(always)]
 fn after_token(bytes: &[u8], end: usize) -> Option<usize>
     requires { end ≤ length bytes.now }
-    ensures ends { IfSome result (λ next. end < length bytes.now → ends_token (slice_index bytes.now end) ≡ true) }
-    ensures goes_on { IfNone result ((end < length bytes.now) × (ends_token (slice_index bytes.now end) ≡ false)) }
+    ensures ends { IfSome result (λ next. end < length bytes.now → is_blank (slice_index bytes.now end) ≡ true) }
+    ensures goes_on { IfNone result ((end < length bytes.now) × (is_blank (slice_index bytes.now end) ≡ false)) }
     ensures same { IfSome result (λ next. (n : ℕ) → place_in n (drop next bytes.now) ≡ place_in n (drop end bytes.now)) }
     ensures stands { IfSome result (λ next. (end ≤ next) × StandsAt bytes.now next) }
 {
@@ -78,7 +81,7 @@ fn after_token(bytes: &[u8], end: usize) -> Option<usize>
     if end == bytes.len() {
         return Some(end);
     }
-    if is_blank(bytes[end]) {
+    if is_inner_blank(bytes[end]) {
         return Some(blanks_end(bytes, end + 1));
     }
     if bytes[end] == b'\n' { Some(end) } else { None }
@@ -134,10 +137,10 @@ fn long_number(bytes: &[u8], start: usize) -> Option<u64>
 fn token_end(bytes: &[u8], mut at: usize) -> usize
     requires within { at ≤ length bytes.now }
     ensures within { (at ≤ result) × (result ≤ length bytes.now) }
-    ensures whole { list_all (λ c. not (ends_token c)) (slice_range bytes.now at result) ≡ true }
-    ensures stops { result < length bytes.now → ends_token (slice_index bytes.now result) ≡ true }
+    ensures whole { list_all (λ c. not (is_blank c)) (slice_range bytes.now at result) ≡ true }
+    ensures stops { result < length bytes.now → is_blank (slice_index bytes.now result) ≡ true }
 {
-    while at < bytes.len() && !ends_token(bytes[at]) {
+    while at < bytes.len() && !is_blank(bytes[at]) {
         at += 1;
     }
     at

@@ -1,12 +1,12 @@
 //! Lines with tokens.
 ghost use Rattle.std.specs.Prelude.{◌≡◌, ◌+◌, ◌^◌, ◌<◌, ℕ, [], ◌∷◌, length, slice_index_or, MatchOption};
-ghost use Rattle.gate_lines.specs.Tokens.{number_of};
+ghost use Rattle.text_tokens.specs.Numbers.{number_of};
 ghost use Rattle.gate_lines.specs.Rows.{Row, rows_of, rows_from, row_before};
 ghost use Rattle.gate_lines.specs.Places.{rows_at};
 
 use crate::cursor::Cursor;
-use crate::tokens::{Tokens, number};
 use std::marker::Model;
+use text_tokens::{Tokens, number};
 
 /// A line that has tokens, with its number: the first line of a text is line 1.
 #[derive(Drop)]
@@ -17,7 +17,7 @@ pub struct Line<'a> {
 
 impl<'a> Model for Line<'a> {
     ghost use Rattle.std.specs.Str.{IsUtf8};
-    ghost use Rattle.gate_lines.specs.Tokens.{tokens_of};
+    ghost use Rattle.text_tokens.specs.Tokens.{tokens_of};
     ghost use Rattle.gate_lines.specs.Rows.{Row};
 
     ghost Value = { Row };

@@ -1,4 +1,4 @@
-use crate::{Lines, number};
+use crate::Lines;
 
 #[test]
 fn blank_lines_count(rt: HostRuntime) {
@@ -14,29 +14,6 @@ fn blank_lines_count(rt: HostRuntime) {
     assert_eq!(rt; second.token(3), "");
     assert!(rt; lines.next_line().is_none());
     assert!(rt; lines.next_line().is_none());
-}
-
-#[test]
-fn other_spaces_are_no_blanks(rt: HostRuntime) {
-    let mut lines = Lines::new("\u{a0}é \u{b}\u{c}x\n");
-    let line = lines.next_line().expect(&rt, "a line");
-    assert_eq!(rt; line.token(0), "\u{a0}é");
-    assert_eq!(rt; line.token(1), "\u{b}\u{c}x");
-    let mut tokens = line.tokens();
-    assert!(rt; tokens.next().is_some());
-    assert!(rt; tokens.next().is_some());
-    assert!(rt; tokens.next().is_none());
-}
-
-#[test]
-fn numbers_below_two_to_64(rt: HostRuntime) {
-    assert_eq!(rt; number("00000000000000000000000000000007"), Some(7));
-    assert_eq!(rt; number("18446744073709551615"), Some(u64::MAX));
-    assert_eq!(rt; number("18446744073709551616"), None);
-    assert_eq!(rt; number("+1"), None);
-    assert_eq!(rt; number("-1"), None);
-    assert_eq!(rt; number("1x"), None);
-    assert_eq!(rt; number(""), None);
 }
 
 #[test]

@@ -1,33 +1,17 @@
--- Words of a text: the pieces between blanks, the number that each writes, and the first fault.
-use Rattle.std.specs.Prelude.{ℕ, ◌+◌, ◌^◌, nat_lt, ◌==◌, Bool, true, false, not, ◌&&◌, ◌||◌, List, [], ◌∷◌, filter, Result, Ok, Err, if◌then◌else◌}
-use Rattle.std.specs.List.{slice_split}
-use Rattle.std.specs.Str.{all_ascii_digits}
-use Rattle.std.specs.Str.Parse.{digits_value}
+-- Words of a text: the number that each token writes, and the first fault.
+use Rattle.std.specs.Prelude.{ℕ, ◌+◌, List, [], ◌∷◌, Result, Ok, Err, ok_or, if◌then◌else◌}
+use Rattle.text_tokens.specs.Tokens.{tokens_of}
+use Rattle.text_tokens.specs.Numbers.{is_digits, number_of}
 use Rattle.plain_text.specs.declared.fault.WordsFault.{WordsFault}
 use Rattle.plain_text.specs.declared.fault.WordsFault.TheVariants.{NotNumber, TooLarge}
 
--- space, tab, LF, CR
-abbrev pub is_blank : ℕ → Bool
-is_blank c = (c == 32) || ((c == 9) || ((c == 10) || (c == 13)))
+-- why the word at a place writes no number below 2^64
+abbrev pub fault_at : ℕ → List ℕ → WordsFault
+fault_at at word = if is_digits word then TooLarge at else NotNumber at
 
-abbrev pub not_empty : {A : Type 0} → List A → Bool
-not_empty [] = false
-not_empty (x ∷ xs) = true
-
--- the pieces between blanks that aren't empty
-unfoldable pub pieces_of : List ℕ → List (List ℕ)
-pieces_of text = filter not_empty (slice_split is_blank text)
-
--- one or more digits
-abbrev pub is_digits : List ℕ → Bool
-is_digits word = not_empty word && all_ascii_digits word
-
--- the number below 2^64 that the word at a place writes, or its fault
+-- the number that the word at a place writes, or its fault
 unfoldable pub word_in : ℕ → List ℕ → Result ℕ WordsFault
-word_in at word =
-    if not (is_digits word) then Err (NotNumber at)
-    else if nat_lt (digits_value 10 word) (2 ^ 64) then Ok (digits_value 10 word)
-    else Err (TooLarge at)
+word_in at word = ok_or (number_of word) (fault_at at word)
 
 -- a number before others, or the first fault
 abbrev pub before : Result ℕ WordsFault → Result (List ℕ) WordsFault → Result (List ℕ) WordsFault
@@ -42,4 +26,4 @@ numbers_from at (word ∷ words) = before (word_in at word) (numbers_from (at + 
 
 -- the numbers of a text, or the fault of its first bad word
 unfoldable pub words_in : List ℕ → Result (List ℕ) WordsFault
-words_in text = numbers_from 0 (pieces_of text)
+words_in text = numbers_from 0 (tokens_of text)

@@ -4,7 +4,6 @@
 #![tactic(auto)]
 
 mod fault;
-mod pieces;
 mod words;
 
 pub use fault::WordsFault;

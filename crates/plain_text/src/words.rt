@@ -1,28 +1,21 @@
 //! The numbers that a text writes.
 ghost use Rattle.std.specs.Prelude.{◌≡◌, ◌⊎◌, ℕ, Ok, Err, IfOk, IfErr};
-ghost use Rattle.plain_text.specs.Words.{is_digits, word_in, words_in};
+ghost use Rattle.plain_text.specs.Words.{word_in, words_in};
 ghost use Rattle.plain_text.specs.declared.fault.WordsFault.TheVariants.{Memory};
 
 use crate::fault::WordsFault;
-use crate::pieces::Pieces;
 use std::alloc::Global;
-
-fn is_digits(word: &str) -> bool
-    ensures { result ≡ is_digits word.now }
-{
-    !word.is_empty() && word.as_bytes().iter().all(|byte| byte.is_ascii_digit())
-}
+use text_tokens::{Tokens, is_digits, number};
 
 /// The number that the word at a place writes.
+#[tactic(auto, unfolding(crate::specs::Words::word_in))]
 fn read_word(at: u64, word: &str) -> Result<u64, WordsFault>
     ensures { result ≡ word_in at word.now }
 {
-    if !is_digits(word) {
-        return Err(WordsFault::NotNumber { at });
-    }
-    match word.parse() {
-        Ok(number) => Ok(number),
-        Err(_) => Err(WordsFault::TooLarge { at }),
+    match number(word) {
+        Some(number) => Ok(number),
+        None if is_digits(word) => Err(WordsFault::TooLarge { at }),
+        None => Err(WordsFault::NotNumber { at }),
     }
 }
 
@@ -37,7 +30,7 @@ pub fn read_words(alloc: Global, text: &str) -> Result<Vec<u64>, WordsFault>
     ensures fault { IfErr result (λ fault. (fault ≡ Memory) ⊎ (words_in text.now ≡ Err fault)) }
 {
     let mut words = Vec::new(alloc);
-    for word in Pieces::of(text) {
+    for word in Tokens::of(text) {
         words.push(read_word(words.len() as u64, word)?)?;
     }
     Ok(words)

@@ -1,6 +1,6 @@
 use Rattle.std.proofs.Common.{◌≡◌, ◌+◌, ◌*◌, ◌<◌, ◌^◌, true, get_or, sym, ◌∙◌, ap₂, arith}
 use Rattle.std.specs.Char.{is_ascii_digit}
-use Rattle.gate_lines.proofs.Placing.{take_whole}
+use Rattle.gate_lines.proofs.Places.{take_whole}
 use Rattle.gate_lines.proofs.Digits.{digits_more, room_at, digit_bounds, small_digit}
 use Rattle.gate_lines.proofs.cursor.first_digits.Goals as goal
 

@@ -1,5 +1,5 @@
 use Rattle.std.proofs.Common.{◌∙◌, arith}
-use Rattle.gate_lines.proofs.Placing.{line_step}
+use Rattle.gate_lines.proofs.Places.{line_step}
 use Rattle.gate_lines.proofs.cursor.first_token.Goals as goal
 
 pub loop-at-preserved : goal.loop-at-preserved

@@ -1,4 +1,4 @@
-use Rattle.gate_lines.proofs.Placing.{token_passes}
+use Rattle.gate_lines.proofs.Places.{token_passes}
 use Rattle.gate_lines.proofs.cursor.next_place.Goals as goal
 
 pub returns : goal.returns

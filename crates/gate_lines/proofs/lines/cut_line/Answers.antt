@@ -1,6 +1,6 @@
 use Rattle.std.proofs.Common.{Some, None, arith}
 use Rattle.std.proofs.lemmas.Str.Pattern.{split_once_first}
-use Rattle.gate_lines.proofs.Lining.{rows-cut, rows-last}
+use Rattle.gate_lines.proofs.TextLines.{rows-cut, rows-last}
 use Rattle.gate_lines.proofs.lines.cut_line.Goals as goal
 
 pub returns-in-Some-clause-rows : goal.returns-in-Some-clause-rows

@@ -1,6 +1,6 @@
 use Rattle.std.proofs.Common.{◌∙◌, sym}
 use Rattle.std.proofs.lemmas.Bool.{eqb-true}
-use Rattle.gate_lines.proofs.Lining.{rows-none}
+use Rattle.gate_lines.proofs.TextLines.{rows-none}
 use Rattle.gate_lines.proofs.lines.first_line.Goals as goal
 
 pub returns-clause-rows : goal.returns-clause-rows

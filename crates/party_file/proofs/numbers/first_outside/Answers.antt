@@ -1,7 +1,7 @@
 use Rattle.std.proofs.Common.{rules, tests, not, nat_lt, ◌^◌, ◌∙◌}
 use Rattle.std.proofs.lemmas.Iterator.{YieldsList-from_slice}
 use Rattle.std.proofs.lemmas.Iterator.Search.{position_from_yields_List}
-use Rattle.plain_text.proofs.Cutting.{first_or_len}
+use Rattle.text_tokens.proofs.FirstTokens.{first_or_len}
 use Rattle.party_file.specs.Table.{first_outside}
 use Rattle.party_file.proofs.numbers.first_outside.Goals as goal
 

@@ -1,5 +1,5 @@
 use Rattle.std.proofs.Common.{◌∙◌}
-use Rattle.plain_text.proofs.Reading.{words_in-begin}
+use Rattle.plain_text.proofs.ReadWords.{words_in-begin}
 use Rattle.plain_text.proofs.words.read_words.Goals as goal
 
 pub loop-word-init : goal.loop-word-init

@@ -1,6 +1,6 @@
 use Rattle.std.proofs.Common.{◌≡◌, length}
 use Rattle.plain_text.specs.Words.{words_in, numbers_from}
-use Rattle.plain_text.proofs.Reading.{after}
+use Rattle.plain_text.proofs.ReadWords.{after}
 use Rattle.plain_text.proofs.words.read_words.Given as goal
 
 abbrev pub invariant-loop-word : goal.invariant-loop-word

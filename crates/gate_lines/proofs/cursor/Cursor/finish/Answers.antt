@@ -1,10 +1,9 @@
 use Rattle.std.proofs.Common.{◌≡◌, ◌<◌, ◌+◌, [], length, drop, get_or, sym, ◌∙◌, ap, arith, length-drop}
 use Rattle.std.proofs.lemmas.Str.{IsCharBoundary-after_ascii}
-use Rattle.gate_lines.specs.Tokens.{is_blank}
 use Rattle.gate_lines.specs.Rows.{rows_from}
-use Rattle.gate_lines.specs.Places.{Place, place_in}
-use Rattle.gate_lines.proofs.Lining.{rows-none}
-use Rattle.gate_lines.proofs.Placing.{place-nil, end_step, token_here, not_ended}
+use Rattle.gate_lines.specs.Places.{Place, place_in, is_inner_blank}
+use Rattle.gate_lines.proofs.TextLines.{rows-none}
+use Rattle.gate_lines.proofs.Places.{place-nil, end_step, token_here, not_ended}
 use Rattle.gate_lines.proofs.cursor.Cursor.finish.Goals as goal
 
 pub returns-then-self-bytes : goal.returns-then-self-bytes
@@ -19,7 +18,7 @@ returns-then-bytes-self-ne10 c = λ none.
     let within : c.self.inside.at < length c.self.inside.text.now = omega (arith, c.self.invariant.1.0, ap length c.as_bytes-bytes.ensures.value) in
     let l : c.self.inside.at < length c.as_bytes-bytes.result.now = omega (arith, within, ap length c.as_bytes-bytes.ensures.value) in
     token_here c.self.inside.number c.self.inside.at c.as_bytes-bytes.result.now l
-    (not_ended (get_or c.as_bytes-bytes.result.now c.self.inside.at 0) (ap (λ t. is_blank (get_or t c.self.inside.at 0)) c.as_bytes-bytes.ensures.value ∙ c.self.invariant.1.1 within) c.if-bytes-self-ne10.true) (ap (λ (p : Place). p.tokens) here ∙ none)
+    (not_ended (get_or c.as_bytes-bytes.result.now c.self.inside.at 0) (ap (λ t. is_inner_blank (get_or t c.self.inside.at 0)) c.as_bytes-bytes.ensures.value ∙ c.self.invariant.1.1 within) c.if-bytes-self-ne10.true) (ap (λ (p : Place). p.tokens) here ∙ none)
 
 pub split_at-requires : goal.split_at-requires
 split_at-requires c =

@@ -1,7 +1,7 @@
 use Rattle.std.proofs.Common.{◌≡◌, drop, ◌∙◌, ap}
-use Rattle.gate_lines.specs.Tokens.{number_of}
+use Rattle.text_tokens.specs.Numbers.{number_of}
 use Rattle.gate_lines.specs.Places.{Place, place_in, next_token}
-use Rattle.gate_lines.proofs.Placing.{same_token}
+use Rattle.gate_lines.proofs.Places.{same_token}
 use Rattle.gate_lines.proofs.cursor.Cursor.number.Goals as goal
 
 pub returns-in_err-number-clause-number : goal.returns-in_err-number-clause-number

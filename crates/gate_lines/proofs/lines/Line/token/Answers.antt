@@ -1,6 +1,6 @@
 use Rattle.std.proofs.Common.{◌∙◌, ap, List, ℕ, Bor, refl}
 use Rattle.std.proofs.lemmas.Iterator.Consumers.{nth_from_yields_List, YieldsList-from_first}
-use Rattle.gate_lines.proofs.Lining.{nth_token}
+use Rattle.gate_lines.proofs.TextLines.{nth_token}
 use Rattle.gate_lines.proofs.lines.Line.token.Goals as goal
 
 pub returns : goal.returns

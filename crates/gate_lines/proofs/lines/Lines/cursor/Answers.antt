@@ -1,5 +1,5 @@
 use Rattle.std.proofs.Common.{sym, ◌∙◌}
-use Rattle.gate_lines.proofs.Placing.{place-rows}
+use Rattle.gate_lines.proofs.Places.{place-rows}
 use Rattle.gate_lines.proofs.lines.Lines.cursor.Goals as goal
 
 pub returns : goal.returns

@@ -1,5 +1,5 @@
 use Rattle.std.proofs.Common.{◌∙◌, sym, refl}
-use Rattle.gate_lines.proofs.Lining.{rows-none}
+use Rattle.gate_lines.proofs.TextLines.{rows-none}
 use Rattle.gate_lines.proofs.lines.Lines.next_line.Goals as goal
 
 pub returns-in-None : goal.returns-in-None

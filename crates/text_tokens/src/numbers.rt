@@ -1,0 +1,21 @@
+//! The numbers that tokens write.
+ghost use Rattle.std.specs.Prelude.{◌≡◌};
+ghost use Rattle.text_tokens.specs.Numbers.{is_digits, number_of};
+
+/// Whether a token is one or more decimal digits.
+pub fn is_digits(token: &str) -> bool
+    ensures { result ≡ is_digits token.now }
+{
+    !token.is_empty() && token.as_bytes().iter().all(|byte| byte.is_ascii_digit())
+}
+
+/// The number that a token writes in one or more decimal digits, if it is below `2^64`. There may be leading zeros, and
+/// any count of digits.
+pub fn number(token: &str) -> Option<u64>
+    ensures { result ≡ number_of token.now }
+{
+    if !is_digits(token) {
+        return None;
+    }
+    token.parse().ok()
+}
