@@ -2,21 +2,21 @@
 #![tactic(auto)]
 
 mod check;
+mod document;
 mod fault;
 mod field;
 mod job;
 mod keys;
 mod parties;
-mod document;
 mod session;
 mod texts;
 mod top;
 mod values;
 
+pub use document::read_job;
 pub use fault::JobFault;
 pub use field::Field;
 pub use job::{Adversary, CircuitLayout, Job, JobSession};
-pub use document::read_job;
 
 #[cfg(test)]
 mod tests;

@@ -1,3 +1,3 @@
-pub mod Documents
+pub mod DocumentLaws
 pub mod Lists
 pub mod UnknownNames

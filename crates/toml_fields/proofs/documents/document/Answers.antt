@@ -1,7 +1,7 @@
 use Rattle.std.proofs.Common.{subst}
 use Rattle.std.proofs.lemmas.Bool.{false≢true}
 use Rattle.std.specs.Prelude.{IsTrue}
-use Rattle.toml_fields.proofs.Documents.{document_ok, document_refused}
+use Rattle.toml_fields.proofs.DocumentLaws.{document_ok, document_refused}
 use Rattle.toml_fields.proofs.documents.document.Goals as goal
 
 pub returns-in-Ok : goal.returns-in-Ok
