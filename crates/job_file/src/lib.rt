@@ -15,7 +15,7 @@ mod values;
 
 pub use fault::JobFault;
 pub use field::Field;
-pub use job::{Adversary, CircuitLayout, Job, JobSession};
+pub use job::{Adversary, Job, JobSession};
 pub use reading::read_job;
 
 #[cfg(test)]
