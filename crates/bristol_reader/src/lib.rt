@@ -3,10 +3,9 @@
 
 ghost use Rattle.circuit_model.specs.Checks.{Gives};
 ghost use Rattle.circuit_file.specs.CircuitFiles.{circuit_in};
-ghost use Rattle.circuit_file.specs.declared.layout.FileLayout.TheVariants.{Bristol};
+ghost use Rattle.circuit_model.specs.declared.layout.CircuitLayout.TheVariants.{Bristol};
 
-use circuit_file::FileLayout;
-use circuit_model::{Circuit, CircuitFault};
+use circuit_model::{Circuit, CircuitFault, CircuitLayout};
 use mpc_ring::Ring;
 use std::alloc::Global;
 
@@ -14,7 +13,7 @@ use std::alloc::Global;
 pub fn read(alloc: Global, bytes: &[u8], ring: Ring) -> Result<Circuit, CircuitFault>
     ensures { Gives result (circuit_in Bristol ring bytes.now) }
 {
-    circuit_file::read(alloc, bytes, FileLayout::Bristol, ring)
+    circuit_file::read(alloc, bytes, CircuitLayout::Bristol, ring)
 }
 
 #[cfg(test)]

@@ -13,8 +13,8 @@ use Rattle.circuit_file.specs.Answers.{◌>>=◌}
 use Rattle.circuit_file.specs.Header.{counts_in, widths_in}
 use Rattle.circuit_file.specs.CircuitFiles.{next_row, gates_in, ended, no_gates, header_in, lines_in, is_bristol, text_checks, circuit_in}
 use Rattle.circuit_file.specs.Grammar.{Write, AreGateLines, StandsFor}
-use Rattle.circuit_file.specs.declared.layout.FileLayout.{FileLayout}
-use Rattle.circuit_file.specs.declared.layout.FileLayout.TheVariants.{Bristol, Ring}
+use Rattle.circuit_model.specs.declared.layout.CircuitLayout.{CircuitLayout}
+use Rattle.circuit_model.specs.declared.layout.CircuitLayout.TheVariants.{Bristol, Ring}
 use Rattle.circuit_file.proofs.Passing.{bind_ok, bind_from, then_ok, ok_same, none_failed, true_from_not}
 use Rattle.circuit_file.proofs.HeaderLaws.{AreCounts, AreWidths, counts_grounded, counts_related, widths_grounded, widths_related}
 use Rattle.circuit_file.proofs.WalkLaws.{Walked, walk_grounded, walk_related, fit_on, ended_grounded, ended_related, outputs_set, none_unset}
@@ -88,22 +88,22 @@ text_grounded : (bytes : List ℕ) → nat_lt (utf8_valid_len bytes) (length byt
 unfolding utf8_valid_len
 text_grounded bytes e = subst (λ (bs : List ℕ). IsUtf8 bs) (take-length bytes) (text_front bytes (length bytes) (ltb-false _ _ e))
 
-boolean_grounded : (layout : FileLayout) (bits : ℕ) → (is_bristol layout && not (nat_eq bits 1)) ≡ false → layout ≡ Bristol → bits ≡ 1
+boolean_grounded : (layout : CircuitLayout) (bits : ℕ) → (is_bristol layout && not (nat_eq bits 1)) ≡ false → layout ≡ Bristol → bits ≡ 1
 boolean_grounded Bristol bits e is = eqb-true bits 1 (true_from_not _ e)
 boolean_grounded Ring bits e is = cc
 
-boolean_related : (layout : FileLayout) (bits : ℕ) → (layout ≡ Bristol → bits ≡ 1) → (is_bristol layout && not (nat_eq bits 1)) ≡ false
+boolean_related : (layout : CircuitLayout) (bits : ℕ) → (layout ≡ Bristol → bits ≡ 1) → (is_bristol layout && not (nat_eq bits 1)) ≡ false
 boolean_related Bristol bits h = ap not (eq-eqb bits 1 (h refl))
 boolean_related Ring bits h = refl
 
-checked : (layout : FileLayout) (bits : ℕ) (bytes : List ℕ) → first_fault (text_checks layout bits bytes) ≡ None → (layout ≡ Bristol → bits ≡ 1) × IsUtf8 bytes
+checked : (layout : CircuitLayout) (bits : ℕ) (bytes : List ℕ) → first_fault (text_checks layout bits bytes) ≡ None → (layout ≡ Bristol → bits ≡ 1) × IsUtf8 bytes
 unfolding text_checks
 checked layout bits bytes e =
     let a = none_failed _ _ _ e in
     let b = none_failed _ _ _ a.1 in
     (boolean_grounded layout bits a.0, text_grounded bytes b.0)
 
-passes : (layout : FileLayout) (bits : ℕ) (bytes : List ℕ) → (layout ≡ Bristol → bits ≡ 1) → IsUtf8 bytes → first_fault (text_checks layout bits bytes) ≡ None
+passes : (layout : CircuitLayout) (bits : ℕ) (bytes : List ℕ) → (layout ≡ Bristol → bits ≡ 1) → IsUtf8 bytes → first_fault (text_checks layout bits bytes) ≡ None
 unfolding text_checks
 passes layout bits bytes h u =
     let text : nat_lt (utf8_valid_len bytes) (length bytes) ≡ false = le-ltb _ _ (let l : length bytes ≤ utf8_valid_len bytes = omega (arith, utf8_valid_len-IsUtf8 bytes u) in l) in
@@ -111,7 +111,7 @@ passes layout bits bytes h u =
 
 -- ---- the whole file
 
-lines_related : (layout : FileLayout) (c : Netlist) (rows : List Row) (one two three : Row) (rest : List Row) → rows ≡ one ∷ two ∷ three ∷ rest
+lines_related : (layout : CircuitLayout) (c : Netlist) (rows : List Row) (one two three : Row) (rest : List Row) → rows ≡ one ∷ two ∷ three ∷ rest
     → Write one.tokens (length c.gates ∷ c.wires ∷ []) → Write two.tokens (length c.inputs ∷ c.inputs) → Write three.tokens (length c.outputs ∷ c.outputs) → AreGateLines layout rest c.gates → IsCircuit c
     → lines_in layout c.bits rows ≡ Ok c
 unfolding lines_in
@@ -127,7 +127,7 @@ lines_related layout c rows one two three rest lines counts inputs outputs gates
     bind_from (header_in c.bits rows) (λ h. gates_in layout h.0 3 h.1 h.2 >>= (λ read. ended read.0 read.1)) (length c.gates, start, rest) header
     ∙ bind_from (gates_in layout (length c.gates) 3 start rest) (λ read. ended read.0 read.1) (c, []) walk ∙ last
 
-pub file_related : (layout : FileLayout) (bits : ℕ) (bytes : List ℕ) (c : Netlist) → StandsFor layout bits bytes c → circuit_in layout bits bytes ≡ Ok c
+pub file_related : (layout : CircuitLayout) (bits : ℕ) (bytes : List ℕ) (c : Netlist) → StandsFor layout bits bytes c → circuit_in layout bits bytes ≡ Ok c
 unfolding circuit_in
 file_related layout bits bytes c s =
     ap (λ o. then_fault o (lines_in layout bits (rows_of bytes))) (passes layout bits bytes s.boolean s.text)
@@ -137,7 +137,7 @@ file_related layout bits bytes c s =
 no_gate_fits : (c : Netlist) → c.gates ≡ [] → AllGatesFit c
 no_gate_fits c e = λ t l. absurd (omega (arith, l, ap length e))
 
-stands : (layout : FileLayout) (bits : ℕ) (bytes : List ℕ) (h : ℕ × Netlist × List Row) (c : Netlist) → 0 < bits → bits ≤ 32 → (layout ≡ Bristol → bits ≡ 1) → IsUtf8 bytes
+stands : (layout : CircuitLayout) (bits : ℕ) (bytes : List ℕ) (h : ℕ × Netlist × List Row) (c : Netlist) → 0 < bits → bits ≤ 32 → (layout ≡ Bristol → bits ≡ 1) → IsUtf8 bytes
     → IsHeader bits (rows_of bytes) h → Walked layout h.0 h.1 h.2 c → unset_output c ≡ None → StandsFor layout bits bytes c
 stands layout bits bytes h c some few boolean text i w last =
     let full : Netlist = record { bits = bits; gates = w.gates; wires = i.wires; inputs = i.inputs; outputs = i.outputs } in
@@ -172,7 +172,7 @@ stands layout bits bytes h c some few boolean text i w last =
       };
     })
 
-lines_grounded : (layout : FileLayout) (bits : ℕ) (bytes : List ℕ) (c : Netlist) → 0 < bits → bits ≤ 32 → (layout ≡ Bristol → bits ≡ 1) → IsUtf8 bytes → lines_in layout bits (rows_of bytes) ≡ Ok c
+lines_grounded : (layout : CircuitLayout) (bits : ℕ) (bytes : List ℕ) (c : Netlist) → 0 < bits → bits ≤ 32 → (layout ≡ Bristol → bits ≡ 1) → IsUtf8 bytes → lines_in layout bits (rows_of bytes) ≡ Ok c
     → StandsFor layout bits bytes c
 unfolding lines_in
 lines_grounded layout bits bytes c some few boolean text e =
@@ -184,7 +184,7 @@ lines_grounded layout bits bytes c some few boolean text e =
     let w : Walked layout a.0.0 a.0.1 a.0.2 c = walk_grounded layout a.0.0 3 a.0.1 a.0.2 c read (no_gate_fits a.0.1 (ap (λ (x : Netlist). x.gates) i.begin)) in
     stands layout bits bytes a.0 c some few boolean text i w (subst (λ (x : Netlist). unset_output x ≡ None) f.1 f.2)
 
-pub file_grounded : (layout : FileLayout) (bits : ℕ) (bytes : List ℕ) (c : Netlist) → 0 < bits → bits ≤ 32 → circuit_in layout bits bytes ≡ Ok c → StandsFor layout bits bytes c
+pub file_grounded : (layout : CircuitLayout) (bits : ℕ) (bytes : List ℕ) (c : Netlist) → 0 < bits → bits ≤ 32 → circuit_in layout bits bytes ≡ Ok c → StandsFor layout bits bytes c
 unfolding circuit_in
 file_grounded layout bits bytes c some few e =
     let a = then_ok (first_fault (text_checks layout bits bytes)) (lines_in layout bits (rows_of bytes)) c e in

@@ -19,34 +19,34 @@ use Rattle.circuit_file.specs.Tokens.{token, tokens_after, is_number, number_in,
 use Rattle.circuit_file.specs.GateLines.{operation_of, input_count, output_count, wire_count, operation_in, form_checks, wires_in, gate_line_of, gate_line_in, GateLine}
 use Rattle.circuit_file.specs.CircuitFiles.{gate_in}
 use Rattle.circuit_file.specs.Grammar.{Write, listed, IsGateLine}
-use Rattle.circuit_file.specs.declared.layout.FileLayout.{FileLayout}
+use Rattle.circuit_model.specs.declared.layout.CircuitLayout.{CircuitLayout}
 use Rattle.circuit_file.proofs.Passing.{none_failed, or_ok, bind_ok, true_from_not, and_first, and_second, and_true}
 use Rattle.circuit_file.proofs.Writing.{write_all, write_some, write_none}
 
 -- ---- a gate line in the grammar has no fault
 
-two : (layout : FileLayout) (c : Netlist) (line : ℕ) (o : Operation) (t0 t1 t2 t3 t4 name : List ℕ) (a b w : ℕ)
+two : (layout : CircuitLayout) (c : Netlist) (line : ℕ) (o : Operation) (t0 t1 t2 t3 t4 name : List ℕ) (a b w : ℕ)
     → arity o ≡ 2 → is_constant o ≡ false → number_of t0 ≡ Some 2 → number_of t1 ≡ Some 1 → number_of t2 ≡ Some a → number_of t3 ≡ Some b → number_of t4 ≡ Some w → operation_of layout name ≡ Some o
     → list_all (λ v. nat_lt v c.wires) (a ∷ b ∷ []) ≡ true → nat_lt w c.wires ≡ true → list_all (sets c) (a ∷ b ∷ []) ≡ true → sets c w ≡ false
     → gate_in layout c (record { number = line; tokens = t0 ∷ t1 ∷ t2 ∷ t3 ∷ t4 ∷ name ∷ [] }) ≡ Ok (record { operation = o; first = a; second = b; output = w; constant = 0 })
 unfolding gate_line_in form_checks next_gate gate_checks
 two layout c line o t0 t1 t2 t3 t4 name a b w ar k v0 v1 v2 v3 v4 op below out read fresh = simp (v0, v1, v2, v3, v4, op, ar, k, below, out, read, fresh)
 
-one : (layout : FileLayout) (c : Netlist) (line : ℕ) (o : Operation) (t0 t1 t2 t3 name : List ℕ) (a w : ℕ)
+one : (layout : CircuitLayout) (c : Netlist) (line : ℕ) (o : Operation) (t0 t1 t2 t3 name : List ℕ) (a w : ℕ)
     → arity o ≡ 1 → is_constant o ≡ false → number_of t0 ≡ Some 1 → number_of t1 ≡ Some 1 → number_of t2 ≡ Some a → number_of t3 ≡ Some w → operation_of layout name ≡ Some o
     → list_all (λ v. nat_lt v c.wires) (a ∷ []) ≡ true → nat_lt w c.wires ≡ true → list_all (sets c) (a ∷ []) ≡ true → sets c w ≡ false
     → gate_in layout c (record { number = line; tokens = t0 ∷ t1 ∷ t2 ∷ t3 ∷ name ∷ [] }) ≡ Ok (record { operation = o; first = a; second = 0; output = w; constant = 0 })
 unfolding gate_line_in form_checks next_gate gate_checks
 one layout c line o t0 t1 t2 t3 name a w ar k v0 v1 v2 v3 op below out read fresh = simp (v0, v1, v2, v3, op, ar, k, below, out, read, fresh)
 
-constant : (layout : FileLayout) (c : Netlist) (line : ℕ) (t0 t1 t2 t3 name : List ℕ) (a w : ℕ)
+constant : (layout : CircuitLayout) (c : Netlist) (line : ℕ) (t0 t1 t2 t3 name : List ℕ) (a w : ℕ)
     → number_of t0 ≡ Some 1 → number_of t1 ≡ Some 1 → number_of t2 ≡ Some a → number_of t3 ≡ Some w → operation_of layout name ≡ Some Eq
     → nat_lt a (2 ^ c.bits) ≡ true → nat_lt w c.wires ≡ true → sets c w ≡ false
     → gate_in layout c (record { number = line; tokens = t0 ∷ t1 ∷ t2 ∷ t3 ∷ name ∷ [] }) ≡ Ok (record { operation = Eq; first = 0; second = 0; output = w; constant = a })
 unfolding gate_line_in form_checks next_gate gate_checks
 constant layout c line t0 t1 t2 t3 name a w v0 v1 v2 v3 op small out fresh = simp (v0, v1, v2, v3, op, small, out, fresh)
 
-on_tokens : (layout : FileLayout) (c : Netlist) (row : Row) (ts : List (List ℕ)) (x : Result Gate CircuitFault) → row.tokens ≡ ts → gate_in layout c (record { number = row.number; tokens = ts }) ≡ x → gate_in layout c row ≡ x
+on_tokens : (layout : CircuitLayout) (c : Netlist) (row : Row) (ts : List (List ℕ)) (x : Result Gate CircuitFault) → row.tokens ≡ ts → gate_in layout c (record { number = row.number; tokens = ts }) ≡ x → gate_in layout c row ≡ x
 on_tokens layout c row ts x e h = ap (λ us. gate_in layout c (record { number = row.number; tokens = us })) e ∙ h
 
 listed_two : (g : Gate) → arity g.operation ≡ 2 → is_constant g.operation ≡ false → listed g ≡ g.first ∷ g.second ∷ []
@@ -55,7 +55,7 @@ listed_two g ar k = ap (λ b. cond b (g.constant ∷ []) (take (arity g.operatio
 listed_one : (g : Gate) → arity g.operation ≡ 1 → is_constant g.operation ≡ false → listed g ≡ g.first ∷ []
 listed_one g ar k = ap (λ b. cond b (g.constant ∷ []) (take (arity g.operation) (g.first ∷ g.second ∷ []))) k ∙ ap (λ n. take n (g.first ∷ g.second ∷ [])) ar
 
-with_two : (layout : FileLayout) (c : Netlist) (row : Row) (g : Gate) → IsGateLine layout row g → GateFits c c.gates g → arity g.operation ≡ 2 → is_constant g.operation ≡ false → gate_in layout c row ≡ Ok g
+with_two : (layout : CircuitLayout) (c : Netlist) (row : Row) (g : Gate) → IsGateLine layout row g → GateFits c c.gates g → arity g.operation ≡ 2 → is_constant g.operation ≡ false → gate_in layout c row ≡ Ok g
 with_two layout c row g r f ar k =
     let w : Write r.numbers (2 ∷ 1 ∷ g.first ∷ g.second ∷ g.output ∷ []) = subst (λ (ns : List ℕ). Write r.numbers ns) (ap₂ (λ n xs. n ∷ 1 ∷ (xs ++ (g.output ∷ []))) ar (listed_two g ar k)) r.write in
     let reads_is : read_by g ≡ g.first ∷ g.second ∷ [] = ap (λ b. cond b [] (take (arity g.operation) (g.first ∷ g.second ∷ []))) k ∙ ap (λ n. take n (g.first ∷ g.second ∷ [])) ar in
@@ -70,7 +70,7 @@ with_two layout c row g r f ar k =
     (ap (list_all (λ v. nat_lt v c.wires)) (sym reads_is) ∙ f.below) (lt-ltb g.output c.wires f.output) (ap (list_all (sets c)) (sym reads_is) ∙ f.read) f.fresh
     ∙ ap (λ z. Ok (record g { constant = z })) (sym (f.plain.constant k)))
 
-with_one : (layout : FileLayout) (c : Netlist) (row : Row) (g : Gate) → IsGateLine layout row g → GateFits c c.gates g → arity g.operation ≡ 1 → is_constant g.operation ≡ false → gate_in layout c row ≡ Ok g
+with_one : (layout : CircuitLayout) (c : Netlist) (row : Row) (g : Gate) → IsGateLine layout row g → GateFits c c.gates g → arity g.operation ≡ 1 → is_constant g.operation ≡ false → gate_in layout c row ≡ Ok g
 with_one layout c row g r f ar k =
     let w : Write r.numbers (1 ∷ 1 ∷ g.first ∷ g.output ∷ []) = subst (λ (ns : List ℕ). Write r.numbers ns) (ap₂ (λ n xs. n ∷ 1 ∷ (xs ++ (g.output ∷ []))) ar (listed_one g ar k)) r.write in
     let reads_is : read_by g ≡ g.first ∷ [] = ap (λ b. cond b [] (take (arity g.operation) (g.first ∷ g.second ∷ []))) k ∙ ap (λ n. take n (g.first ∷ g.second ∷ [])) ar in
@@ -84,7 +84,7 @@ with_one layout c row g r f ar k =
     (ap (list_all (λ v. nat_lt v c.wires)) (sym reads_is) ∙ f.below) (lt-ltb g.output c.wires f.output) (ap (list_all (sets c)) (sym reads_is) ∙ f.read) f.fresh
     ∙ ap₂ (λ y z. Ok (record g { second = y; constant = z })) (sym (f.plain.second ar)) (sym (f.plain.constant k)))
 
-with_constant : (layout : FileLayout) (c : Netlist) (row : Row) (g : Gate) → IsGateLine layout row g → GateFits c c.gates g → g.operation ≡ Eq → gate_in layout c row ≡ Ok g
+with_constant : (layout : CircuitLayout) (c : Netlist) (row : Row) (g : Gate) → IsGateLine layout row g → GateFits c c.gates g → g.operation ≡ Eq → gate_in layout c row ≡ Ok g
 with_constant layout c row g r f o =
     let w : Write r.numbers (1 ∷ 1 ∷ g.constant ∷ g.output ∷ []) = subst (λ (p : Operation). Write r.numbers (arity p ∷ 1 ∷ (cond (is_constant p) (g.constant ∷ []) (take (arity p) (g.first ∷ g.second ∷ [])) ++ (g.output ∷ [])))) o r.write in
     let a = write_some _ _ _ w in
@@ -98,7 +98,7 @@ with_constant layout c row g r f o =
     ∙ ap₂ (λ p x. Ok (record g { operation = p; first = x; second = 0 })) (sym o) (sym (f.plain.first (ap is_constant o)))
     ∙ ap (λ y. Ok (record g { second = y })) (sym (f.plain.second (ap arity o))))
 
-by_operation : (layout : FileLayout) (c : Netlist) (row : Row) (g : Gate) (o : Operation) → g.operation ≡ o → IsGateLine layout row g → GateFits c c.gates g → gate_in layout c row ≡ Ok g
+by_operation : (layout : CircuitLayout) (c : Netlist) (row : Row) (g : Gate) (o : Operation) → g.operation ≡ o → IsGateLine layout row g → GateFits c c.gates g → gate_in layout c row ≡ Ok g
 by_operation layout c row g Add e r f = with_two layout c row g r f (ap arity e) (ap is_constant e)
 by_operation layout c row g Sub e r f = with_two layout c row g r f (ap arity e) (ap is_constant e)
 by_operation layout c row g Mul e r f = with_two layout c row g r f (ap arity e) (ap is_constant e)
@@ -109,7 +109,7 @@ by_operation layout c row g Inv e r f = with_one layout c row g r f (ap arity e)
 by_operation layout c row g Eqw e r f = with_one layout c row g r f (ap arity e) (ap is_constant e)
 by_operation layout c row g Eq e r f = with_constant layout c row g r f e
 
-pub gate_related : (layout : FileLayout) (c : Netlist) (row : Row) (g : Gate) → IsGateLine layout row g → GateFits c c.gates g → gate_in layout c row ≡ Ok g
+pub gate_related : (layout : CircuitLayout) (c : Netlist) (row : Row) (g : Gate) → IsGateLine layout row g → GateFits c c.gates g → gate_in layout c row ≡ Ok g
 gate_related layout c row g r f = by_operation layout c row g g.operation refl r f
 
 -- ---- a gate line without a fault is in the grammar
@@ -150,14 +150,14 @@ some_operation : (o : Option Operation) → is_some o ≡ true → o ≡ Some (u
 some_operation None e = cc
 some_operation (Some n) e = refl
 
-pub record IsFormed (layout : FileLayout) (row : Row) : Type 0 where
+pub record IsFormed (layout : CircuitLayout) (row : Row) : Type 0 where
   pub two : 2 ≤ length row.tokens
   pub counts : all_numbers (tokens_after 0 2 row) ≡ true
   pub long : length row.tokens ≡ wire_count row + 3
   pub wires : all_numbers (tokens_after 2 (wire_count row) row) ≡ true
   pub operation : is_some (operation_in layout row) ≡ true
 
-pub formed : (layout : FileLayout) (row : Row) → first_fault (form_checks layout row) ≡ None → IsFormed layout row
+pub formed : (layout : CircuitLayout) (row : Row) → first_fault (form_checks layout row) ≡ None → IsFormed layout row
 unfolding form_checks
 formed layout row e =
     let a = none_failed _ _ _ e in
@@ -178,7 +178,7 @@ passed_arity c line o is os g e =
     let both : (nat_eq (length is) (arity o) && nat_eq (length os) 1) ≡ true = true_from_not _ a.0 in
     (eqb-true (length is) (arity o) (and_first _ _ both), eqb-true (length os) 1 (and_second (nat_eq (length is) (arity o)) _ both), k.1)
 
-line_of : (layout : FileLayout) (line : Row) (o : Operation) (is os : List ℕ) → IsFormed layout line → o ≡ unwrap_or (operation_in layout line) Eqw → is ≡ take (input_count line) (wires_in line) → os ≡ drop (input_count line) (wires_in line)
+line_of : (layout : CircuitLayout) (line : Row) (o : Operation) (is os : List ℕ) → IsFormed layout line → o ≡ unwrap_or (operation_in layout line) Eqw → is ≡ take (input_count line) (wires_in line) → os ≡ drop (input_count line) (wires_in line)
     → length is ≡ arity o → length os ≡ 1 → IsGateLine layout line (gate_of o is os)
 line_of layout line o is os f oe ie oe2 li lo =
     let k2 : ℕ = wire_count line + 2 in
@@ -205,7 +205,7 @@ line_of layout line o is os f oe ie oe2 li lo =
       operation = some_operation (operation_in layout line) f.operation ∙ ap Some (sym oe);
     }
 
-pub line_grounded : (layout : FileLayout) (c : Netlist) (row : Row) (g : Gate) → gate_in layout c row ≡ Ok g → IsGateLine layout row g × (next_gate c row.number (gate_line_of layout row).operation (gate_line_of layout row).inputs (gate_line_of layout row).outputs ≡ Ok g)
+pub line_grounded : (layout : CircuitLayout) (c : Netlist) (row : Row) (g : Gate) → gate_in layout c row ≡ Ok g → IsGateLine layout row g × (next_gate c row.number (gate_line_of layout row).operation (gate_line_of layout row).inputs (gate_line_of layout row).outputs ≡ Ok g)
 unfolding gate_line_in
 line_grounded layout c row g e =
     let b = bind_ok (gate_line_in layout row) (λ (l : GateLine). next_gate c row.number l.operation l.inputs l.outputs) g e in

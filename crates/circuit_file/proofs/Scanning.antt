@@ -19,7 +19,7 @@ use Rattle.circuit_file.specs.GateLines.{operation_of, form_checks, form_of, gat
 use Rattle.circuit_file.specs.CircuitFiles.{gate_in, gates_in}
 use Rattle.circuit_file.specs.Grammar.{Write}
 use Rattle.circuit_file.specs.Steps.{Takes, IsSaid, Says, Adds, AddsNext}
-use Rattle.circuit_file.specs.declared.layout.FileLayout.{FileLayout}
+use Rattle.circuit_model.specs.declared.layout.CircuitLayout.{CircuitLayout}
 use Rattle.circuit_file.specs.declared.gate_line.Form.{Form}
 use Rattle.circuit_file.specs.declared.gate_line.Said.{Said}
 use Rattle.circuit_file.proofs.Passing.{or_ok, and_first, and_second}
@@ -59,7 +59,7 @@ takes_count p q ns ms k count e f t = subst (λ xs. Takes p xs q) (sym (ap (λ i
 -- ---- a line that has the form of a gate line
 
 -- the counts, the wires and the operation
-line_form : (layout : FileLayout) (n : ℕ) (t0 t1 name : List ℕ) (ts : List (List ℕ)) (inputs outputs : ℕ) (o : Operation) → number_of t0 ≡ Some inputs → number_of t1 ≡ Some outputs → all_numbers ts ≡ true → length ts ≡ inputs + outputs
+line_form : (layout : CircuitLayout) (n : ℕ) (t0 t1 name : List ℕ) (ts : List (List ℕ)) (inputs outputs : ℕ) (o : Operation) → number_of t0 ≡ Some inputs → number_of t1 ≡ Some outputs → all_numbers ts ≡ true → length ts ≡ inputs + outputs
     → operation_of layout name ≡ Some o
     → or_fault (first_fault (form_checks layout (record { number = n; tokens = t0 ∷ t1 ∷ (ts ++ (name ∷ [])) }))) (form_of layout (record { number = n; tokens = t0 ∷ t1 ∷ (ts ++ (name ∷ [])) }))
     ≡ Ok (record { operation = o; inputs = inputs; wires = inputs + outputs })
@@ -75,7 +75,7 @@ line_form layout n t0 t1 name ts inputs outputs o v0 v1 all long op =
     simp (v0, v1, some, enough, no_more, wires, last, op)
 
 -- what was taken from the start of a line to its end
-pub scanned : (layout : FileLayout) (p q r s e : Place) (rest : List Row) (line inputs outputs : ℕ) (wires name : List ℕ) (o : Operation)
+pub scanned : (layout : CircuitLayout) (p q r s e : Place) (rest : List Row) (line inputs outputs : ℕ) (wires name : List ℕ) (o : Operation)
     → line ≡ p.number → Takes p (inputs ∷ []) q → Takes q (outputs ∷ []) r → Takes r (take (inputs + outputs) wires) s → s ≡ record e { tokens = name ∷ e.tokens } → e.tokens ≡ [] → rest ≡ e.rows → Some o ≡ operation_of layout name
     → inputs + outputs ≤ 3 → 3 ≡ length wires
     → Says layout (rows_at p) (record { line = line; form = record { operation = o; inputs = inputs; wires = inputs + outputs }; wires = wires }) rest
@@ -130,7 +130,7 @@ too_many : (c : Netlist) (n : ℕ) (o : Operation) (is os : List ℕ) → 3 < le
 unfolding next_gate gate_checks
 too_many c n o is os l = simp (misfit o (length is) (length os) l)
 
-pub wrong_arity : (layout : FileLayout) (c : Netlist) (row : Row) (form : Form) → Ok form ≡ or_fault (first_fault (form_checks layout row)) (form_of layout row) → 3 < form.wires → gate_in layout c row ≡ Err (WrongArity row.number)
+pub wrong_arity : (layout : CircuitLayout) (c : Netlist) (row : Row) (form : Form) → Ok form ≡ or_fault (first_fault (form_checks layout row)) (form_of layout row) → 3 < form.wires → gate_in layout c row ≡ Err (WrongArity row.number)
 wrong_arity layout c row form f l =
     let k = or_ok (first_fault (form_checks layout row)) (form_of layout row) form (sym f) in
     let shape : IsFormed layout row = formed layout row k.0 in
@@ -143,8 +143,8 @@ wrong_arity layout c row form f l =
 
 -- ---- the next line
 
-pub added_next : (layout : FileLayout) (seen : ℕ) (rows rest : List Row) (said : Said) (old new : Draft) (r : Result (Unit {0}) CircuitFault) → Says layout rows said rest
-    → ((k : FileLayout) (row : Row) → IsSaid k row said → Adds k row old r new) → AddsNext layout seen rows old r rest new
+pub added_next : (layout : CircuitLayout) (seen : ℕ) (rows rest : List Row) (said : Said) (old new : Draft) (r : Result (Unit {0}) CircuitFault) → Says layout rows said rest
+    → ((k : CircuitLayout) (row : Row) → IsSaid k row said → Adds k row old r new) → AddsNext layout seen rows old r rest new
 added_next layout seen rows rest said old new (Ok done) says adds = (says.row, says.first, adds layout says.row says.is)
 added_next layout seen rows rest said old new (Err f) says adds = λ n.
     fails_so f (gate_in layout old.circuit says.row) (gates_in layout (suc n) seen old.circuit rows) (adds layout says.row says.is)

@@ -20,7 +20,7 @@ use Rattle.circuit_file.specs.CircuitFiles.{next_row, gate_in, gates_in, ended, 
 use Rattle.circuit_file.specs.Answers.{Fails}
 use Rattle.circuit_file.specs.Steps.{Adds, Begins}
 use Rattle.circuit_file.specs.declared.header.Counts.{Counts}
-use Rattle.circuit_file.specs.declared.layout.FileLayout.{FileLayout}
+use Rattle.circuit_model.specs.declared.layout.CircuitLayout.{CircuitLayout}
 use Rattle.circuit_file.specs.declared.gate_line.Form.{Form}
 use Rattle.circuit_file.proofs.Passing.{or_ok, ok_same}
 use Rattle.circuit_file.proofs.HeaderLaws.{AreCounts, AreWidths, counts_grounded, widths_grounded}
@@ -121,11 +121,11 @@ blocked : {A : Type 0} (o : Option CircuitFault) (a : A) (f : CircuitFault) → 
 blocked None a f e = cc
 blocked (Some g) a f e = cc
 
-pub form_fails : (layout : FileLayout) (c : Netlist) (row : Row) (f : CircuitFault) → Err f ≡ or_fault (first_fault (form_checks layout row)) (form_of layout row) → Err f ≡ gate_in layout c row
+pub form_fails : (layout : CircuitLayout) (c : Netlist) (row : Row) (f : CircuitFault) → Err f ≡ or_fault (first_fault (form_checks layout row)) (form_of layout row) → Err f ≡ gate_in layout c row
 unfolding gate_line_in
 form_fails layout c row f e = rw (blocked (first_fault (form_checks layout row)) (form_of layout row) f e) refl
 
-pub read_so : (layout : FileLayout) (c : Netlist) (row : Row) (form : Form) (n : ℕ) (is os : List ℕ) → Ok form ≡ or_fault (first_fault (form_checks layout row)) (form_of layout row)
+pub read_so : (layout : CircuitLayout) (c : Netlist) (row : Row) (form : Form) (n : ℕ) (is os : List ℕ) → Ok form ≡ or_fault (first_fault (form_checks layout row)) (form_of layout row)
     → n ≡ row.number → is ≡ (gate_line_of layout row).inputs → os ≡ (gate_line_of layout row).outputs → gate_in layout c row ≡ next_gate c n form.operation is os
 unfolding gate_line_in
 read_so layout c row form n is os f e i o =
@@ -133,7 +133,7 @@ read_so layout c row form n is os f e i o =
     let op : (gate_line_of layout row).operation ≡ form.operation = ap (λ (x : Form). x.operation) k.1 in
     rw (k.0, e, i, o, ← op) refl
 
-added : (layout : FileLayout) (row : Row) (old new : Draft) (result : Result (Unit {0}) CircuitFault) (wanted : Result Gate CircuitFault) → gate_in layout old.circuit row ≡ wanted → old.refused ≡ None → result ≡ answer_of new
+added : (layout : CircuitLayout) (row : Row) (old new : Draft) (result : Result (Unit {0}) CircuitFault) (wanted : Result Gate CircuitFault) → gate_in layout old.circuit row ≡ wanted → old.refused ≡ None → result ≡ answer_of new
     → Becomes old (take_gate old wanted) new → Adds layout row old result new
 added layout row old new result (Ok g) e n a (inl b) =
     let fine : result ≡ Ok tt = a ∙ ap answer_of b ∙ ap (λ (o : Option CircuitFault). or_fault o tt) n in
@@ -145,13 +145,13 @@ added layout row old new result wanted e n a (inr b) =
     let out : result ≡ Err Memory = a ∙ ap answer_of b.1 in
     subst (λ (r : Result (Unit {0}) CircuitFault). Adds layout row old r new) (sym out) tt
 
-abbrev gate_wires : FileLayout → Row → List ℕ
+abbrev gate_wires : CircuitLayout → Row → List ℕ
 gate_wires layout row = numbers_in (take (form_of layout row).wires (drop 2 row.tokens))
 
 going_on : (old new : Draft) (n : ℕ) (o : Operation) (is os : List ℕ) → old.refused ≡ None → Becomes old (after_gate old n o is os) new → Becomes old (take_gate old (next_gate old.circuit n o is os)) new
 going_on old new n o is os e b = subst (λ (d : Draft). Becomes old d new) (ap (λ (r : Option CircuitFault). if is_some r then old else take_gate old (next_gate old.circuit n o is os)) e) b
 
-pub gate_added : (layout : FileLayout) (row : Row) (old new : Draft) (result : Result (Unit {0}) CircuitFault) (form : Form) (n : ℕ) (found d is os : List ℕ) (ts : List (List ℕ))
+pub gate_added : (layout : CircuitLayout) (row : Row) (old new : Draft) (result : Result (Unit {0}) CircuitFault) (form : Form) (n : ℕ) (found d is os : List ℕ) (ts : List (List ℕ))
     → Ok form ≡ or_fault (first_fault (form_checks layout row)) (form_of layout row) → n ≡ row.number → ts ≡ drop 2 row.tokens → found ≡ numbers_in (take form.wires ts) → d ≡ found
     → is ≡ take form.inputs d → os ≡ drop form.inputs d → old.refused ≡ None → result ≡ answer_of new → Becomes old (after_gate old n form.operation is os) new → Adds layout row old result new
 gate_added layout row old new result form n found d is os ts f e t w dw i o going a b =
@@ -165,34 +165,34 @@ gate_added layout row old new result form n found d is os ts f e t w dw i o goin
 
 -- ---- the gate lines
 
-pub lines_end : (layout : FileLayout) (n m seen : ℕ) (c : Netlist) (rows : List Row) (f : CircuitFault) → n ≡ suc m → next_row seen rows ≡ Err f → Err f ≡ gates_in layout n seen c rows
+pub lines_end : (layout : CircuitLayout) (n m seen : ℕ) (c : Netlist) (rows : List Row) (f : CircuitFault) → n ≡ suc m → next_row seen rows ≡ Err f → Err f ≡ gates_in layout n seen c rows
 unfolding gates_in
 lines_end layout n m seen c rows f e r = let k = row_ends seen rows f r in rw (e, k.0, ← k.1) refl
 
-pub gate_stops : (layout : FileLayout) (n m seen : ℕ) (c : Netlist) (rows rest : List Row) (row : Row) (f : CircuitFault) → n ≡ suc m → rows ≡ row ∷ rest → Err f ≡ gate_in layout c row → Err f ≡ gates_in layout n seen c rows
+pub gate_stops : (layout : CircuitLayout) (n m seen : ℕ) (c : Netlist) (rows rest : List Row) (row : Row) (f : CircuitFault) → n ≡ suc m → rows ≡ row ∷ rest → Err f ≡ gate_in layout c row → Err f ≡ gates_in layout n seen c rows
 unfolding gates_in
 gate_stops layout n m seen c rows rest row f e r g = rw (e, r, ← g) refl
 
-pub gate_goes : (layout : FileLayout) (n m seen : ℕ) (c : Netlist) (rows rest : List Row) (row : Row) (g : Gate) → n ≡ suc m → rows ≡ row ∷ rest → gate_in layout c row ≡ Ok g
+pub gate_goes : (layout : CircuitLayout) (n m seen : ℕ) (c : Netlist) (rows rest : List Row) (row : Row) (g : Gate) → n ≡ suc m → rows ≡ row ∷ rest → gate_in layout c row ≡ Ok g
     → gates_in layout n seen c rows ≡ gates_in layout m (seen + 1) (add_gate c g) rest
 unfolding gates_in
 gate_goes layout n m seen c rows rest row g e r h = rw (e, r, h) refl
 
-pub gates_end : (layout : FileLayout) (n seen : ℕ) (c : Netlist) (rows : List Row) → n ≡ 0 → gates_in layout n seen c rows ≡ Ok (c, rows)
+pub gates_end : (layout : CircuitLayout) (n seen : ℕ) (c : Netlist) (rows : List Row) → n ≡ 0 → gates_in layout n seen c rows ≡ Ok (c, rows)
 unfolding gates_in
 gates_end layout n seen c rows e = rw e refl
 
 -- ---- the lines, and the whole file
 
-pub lines_fail : (layout : FileLayout) (bits : ℕ) (rows : List Row) (f : CircuitFault) → Err f ≡ header_in bits rows → Err f ≡ lines_in layout bits rows
+pub lines_fail : (layout : CircuitLayout) (bits : ℕ) (rows : List Row) (f : CircuitFault) → Err f ≡ header_in bits rows → Err f ≡ lines_in layout bits rows
 unfolding lines_in
 lines_fail layout bits rows f e = rw (← e) refl
 
-pub lines_stop : (layout : FileLayout) (bits n : ℕ) (rows rest : List Row) (c : Netlist) (f : CircuitFault) → header_in bits rows ≡ Ok (n, c, rest) → Err f ≡ gates_in layout n 3 c rest → Err f ≡ lines_in layout bits rows
+pub lines_stop : (layout : CircuitLayout) (bits n : ℕ) (rows rest : List Row) (c : Netlist) (f : CircuitFault) → header_in bits rows ≡ Ok (n, c, rest) → Err f ≡ gates_in layout n 3 c rest → Err f ≡ lines_in layout bits rows
 unfolding lines_in
 lines_stop layout bits n rows rest c f e g = rw (e, ← g) refl
 
-pub lines_done : (layout : FileLayout) (bits n : ℕ) (rows rest last : List Row) (c d : Netlist) → header_in bits rows ≡ Ok (n, c, rest) → gates_in layout n 3 c rest ≡ Ok (d, last) → lines_in layout bits rows ≡ ended d last
+pub lines_done : (layout : CircuitLayout) (bits n : ℕ) (rows rest last : List Row) (c d : Netlist) → header_in bits rows ≡ Ok (n, c, rest) → gates_in layout n 3 c rest ≡ Ok (d, last) → lines_in layout bits rows ≡ ended d last
 unfolding lines_in
 lines_done layout bits n rows rest last c d e g = rw (e, g) refl
 
@@ -203,19 +203,19 @@ pub finished : (b : Draft) (r : Result Netlist CircuitFault) → r ≡ circuit_o
 unfolding circuit_of
 finished b r e n = e ∙ rw n refl
 
-pub ring_refused : (layout : FileLayout) (bits : ℕ) (bytes : List ℕ) → (is_bristol layout && not (nat_eq bits 1)) ≡ true → Err (WrongRing (pos bits)) ≡ circuit_in layout bits bytes
+pub ring_refused : (layout : CircuitLayout) (bits : ℕ) (bytes : List ℕ) → (is_bristol layout && not (nat_eq bits 1)) ≡ true → Err (WrongRing (pos bits)) ≡ circuit_in layout bits bytes
 unfolding circuit_in text_checks
 ring_refused layout bits bytes e = rw e refl
 
-pub text_refused : (layout : FileLayout) (bits : ℕ) (bytes : List ℕ) → (is_bristol layout && not (nat_eq bits 1)) ≡ false → nat_lt (utf8_valid_len bytes) (length bytes) ≡ true → Err (NotUtf8 (utf8_valid_len bytes)) ≡ circuit_in layout bits bytes
+pub text_refused : (layout : CircuitLayout) (bits : ℕ) (bytes : List ℕ) → (is_bristol layout && not (nat_eq bits 1)) ≡ false → nat_lt (utf8_valid_len bytes) (length bytes) ≡ true → Err (NotUtf8 (utf8_valid_len bytes)) ≡ circuit_in layout bits bytes
 unfolding circuit_in text_checks
 text_refused layout bits bytes e u = rw (e, u) refl
 
-pub text_read : (layout : FileLayout) (bits : ℕ) (bytes : List ℕ) → (is_bristol layout && not (nat_eq bits 1)) ≡ false → nat_lt (utf8_valid_len bytes) (length bytes) ≡ false → lines_in layout bits (rows_of bytes) ≡ circuit_in layout bits bytes
+pub text_read : (layout : CircuitLayout) (bits : ℕ) (bytes : List ℕ) → (is_bristol layout && not (nat_eq bits 1)) ≡ false → nat_lt (utf8_valid_len bytes) (length bytes) ≡ false → lines_in layout bits (rows_of bytes) ≡ circuit_in layout bits bytes
 unfolding circuit_in text_checks
 text_read layout bits bytes e u = sym (rw (e, u) refl)
 
-abbrev pub ring_answer : FileLayout → ℕ → Result (Unit {0}) CircuitFault
+abbrev pub ring_answer : CircuitLayout → ℕ → Result (Unit {0}) CircuitFault
 ring_answer layout bits = if is_bristol layout && not (nat_eq bits 1) then Err (WrongRing (pos bits)) else Ok tt
 
 pub chosen : (b : Bool) (z f : CircuitFault) → ◌≡◌ {A = Result (Unit {0}) CircuitFault} (Err f) (if b then Err z else Ok tt) → (b ≡ true) × (f ≡ z)
@@ -226,8 +226,8 @@ not_chosen : (b : Bool) (z : CircuitFault) (x : Unit {0}) → ◌≡◌ {A = Res
 not_chosen true z x e = cc
 not_chosen false z x e = refl
 
-pub ring_stops : (layout : FileLayout) (bits : ℕ) (bytes : List ℕ) (f : CircuitFault) → Err f ≡ ring_answer layout bits → Err f ≡ circuit_in layout bits bytes
+pub ring_stops : (layout : CircuitLayout) (bits : ℕ) (bytes : List ℕ) (f : CircuitFault) → Err f ≡ ring_answer layout bits → Err f ≡ circuit_in layout bits bytes
 ring_stops layout bits bytes f e = let k = chosen (is_bristol layout && not (nat_eq bits 1)) (WrongRing (pos bits)) f e in ap Err k.1 ∙ ring_refused layout bits bytes k.0
 
-pub ring_passes : (layout : FileLayout) (bits : ℕ) (x : Unit {0}) → Ok x ≡ ring_answer layout bits → (is_bristol layout && not (nat_eq bits 1)) ≡ false
+pub ring_passes : (layout : CircuitLayout) (bits : ℕ) (x : Unit {0}) → Ok x ≡ ring_answer layout bits → (is_bristol layout && not (nat_eq bits 1)) ≡ false
 ring_passes layout bits x e = not_chosen (is_bristol layout && not (nat_eq bits 1)) (WrongRing (pos bits)) x e

@@ -13,19 +13,19 @@ use Rattle.circuit_model.proofs.SetWires.{all_fit_next, find_next, none_found}
 use Rattle.circuit_file.specs.GateLines.{gate_line_of}
 use Rattle.circuit_file.specs.CircuitFiles.{gate_in, gates_in, ended}
 use Rattle.circuit_file.specs.Grammar.{AreGateLines}
-use Rattle.circuit_file.specs.declared.layout.FileLayout.{FileLayout}
+use Rattle.circuit_model.specs.declared.layout.CircuitLayout.{CircuitLayout}
 use Rattle.circuit_file.proofs.Passing.{bind_ok, bind_from, or_ok, ok_same, true_from_not}
 use Rattle.circuit_file.proofs.GateLaws.{gate_related, line_grounded}
 
 -- the gates that were read, beyond those of c
-pub record Walked (layout : FileLayout) (n : ℕ) (c : Netlist) (rows : List Row) (d : Netlist) : Type 0 where
+pub record Walked (layout : CircuitLayout) (n : ℕ) (c : Netlist) (rows : List Row) (d : Netlist) : Type 0 where
   pub gates : List Gate
   pub whole : record c { gates = c.gates ++ gates } ≡ d
   pub count : length gates ≡ n
   pub lines : AreGateLines layout rows gates
   pub fits : AllGatesFit d
 
-pub walk_grounded : (layout : FileLayout) (n seen : ℕ) (c : Netlist) (rows : List Row) (d : Netlist) → gates_in layout n seen c rows ≡ Ok (d, []) → AllGatesFit c → Walked layout n c rows d
+pub walk_grounded : (layout : CircuitLayout) (n seen : ℕ) (c : Netlist) (rows : List Row) (d : Netlist) → gates_in layout n seen c rows ≡ Ok (d, []) → AllGatesFit c → Walked layout n c rows d
 unfolding gates_in
 walk_grounded layout zero seen c rows d e v =
     let both : (c, rows) ≡ (d, []) = ok_same (c, rows) (d, []) e in
@@ -73,7 +73,7 @@ pub fit_on : (d : Netlist) (done gs : List Gate) → d.gates ≡ done ++ gs → 
 fit_on d done [] e v = tt
 fit_on d done (g ∷ gs) e v = (moved d done g (here d done gs g e v), fit_on d (done ++ (g ∷ [])) gs (e ∙ sym (append_assoc done (g ∷ []) gs)) v)
 
-pub walk_related : (layout : FileLayout) (seen : ℕ) (c : Netlist) (rows : List Row) (gs : List Gate) → AreGateLines layout rows gs → FitOn c gs
+pub walk_related : (layout : CircuitLayout) (seen : ℕ) (c : Netlist) (rows : List Row) (gs : List Gate) → AreGateLines layout rows gs → FitOn c gs
     → gates_in layout (length gs) seen c rows ≡ Ok (record c { gates = c.gates ++ gs }, [])
 unfolding gates_in
 walk_related layout seen c [] [] are fit = ap (λ gs. Ok (record c { gates = gs }, [])) (sym (append-nil c.gates))

@@ -12,8 +12,8 @@ use Rattle.circuit_model.specs.declared.fault.CircuitFault.TheVariants.{NotUtf8,
 use Rattle.circuit_file.specs.Answers.{◌>>=◌}
 use Rattle.circuit_file.specs.Header.{counts_in, widths_in}
 use Rattle.circuit_file.specs.GateLines.{gate_line_in}
-use Rattle.circuit_file.specs.declared.layout.FileLayout.{FileLayout}
-use Rattle.circuit_file.specs.declared.layout.FileLayout.TheVariants.{Bristol, Ring}
+use Rattle.circuit_model.specs.declared.layout.CircuitLayout.{CircuitLayout}
+use Rattle.circuit_model.specs.declared.layout.CircuitLayout.TheVariants.{Bristol, Ring}
 
 -- the next line with tokens and those after it, where so many came before
 abbrev pub next_row : ℕ → List Row → Result (Row × List Row) CircuitFault
@@ -21,11 +21,11 @@ next_row seen [] = Err (FewLines seen)
 next_row seen (row ∷ rows) = Ok (row, rows)
 
 -- a gate line that says a gate which may be next
-abbrev pub gate_in : FileLayout → Netlist → Row → Result Gate CircuitFault
+abbrev pub gate_in : CircuitLayout → Netlist → Row → Result Gate CircuitFault
 gate_in layout c row = gate_line_in layout row >>= (λ g. next_gate c row.number g.operation g.inputs g.outputs)
 
 -- with the gates of so many lines, after lines that were seen, and the lines that are left
-unfoldable pub gates_in : FileLayout → ℕ → ℕ → Netlist → List Row → Result (Netlist × List Row) CircuitFault
+unfoldable pub gates_in : CircuitLayout → ℕ → ℕ → Netlist → List Row → Result (Netlist × List Row) CircuitFault
 gates_in layout zero seen c rows = Ok (c, rows)
 gates_in layout (suc n) seen c [] = Err (FewLines seen)
 gates_in layout (suc n) seen c (row ∷ rows) = gate_in layout c row >>= (λ g. gates_in layout n (seen + 1) (add_gate c g) rows)
@@ -47,20 +47,20 @@ header_in bits rows =
     Ok (counts.gates, no_gates bits counts.wires inputs outputs, three.1)))))))
 
 -- the lines with tokens, looked at in order
-unfoldable pub lines_in : FileLayout → ℕ → List Row → Result Netlist CircuitFault
+unfoldable pub lines_in : CircuitLayout → ℕ → List Row → Result Netlist CircuitFault
 lines_in layout bits rows = header_in bits rows >>= (λ h. gates_in layout h.0 3 h.1 h.2 >>= (λ read. ended read.0 read.1))
 
-abbrev pub is_bristol : FileLayout → Bool
+abbrev pub is_bristol : CircuitLayout → Bool
 is_bristol Bristol = true
 is_bristol Ring = false
 
 -- what is wrong before any line is looked at
-unfoldable pub text_checks : FileLayout → ℕ → List ℕ → List Check
+unfoldable pub text_checks : CircuitLayout → ℕ → List ℕ → List Check
 text_checks layout bits bytes =
     ((is_bristol layout && not (bits == 1)) answers WrongRing (pos bits))
     ∷ (nat_lt (utf8_valid_len bytes) (length bytes) answers NotUtf8 (utf8_valid_len bytes))
     ∷ []
 
 -- the circuit of a file for words of so many bits, or the first fault
-unfoldable pub circuit_in : FileLayout → ℕ → List ℕ → Result Netlist CircuitFault
+unfoldable pub circuit_in : CircuitLayout → ℕ → List ℕ → Result Netlist CircuitFault
 circuit_in layout bits bytes = then_fault (first_fault (text_checks layout bits bytes)) (lines_in layout bits (rows_of bytes))

@@ -8,8 +8,8 @@ use Rattle.circuit_model.specs.declared.gate.Operation.TheVariants.{Add, Sub, Ne
 use Rattle.circuit_model.specs.declared.fault.CircuitFault.{CircuitFault}
 use Rattle.circuit_model.specs.declared.fault.CircuitFault.TheVariants.{BadNumber, ShortLine, LongLine, UnknownOperation}
 use Rattle.circuit_file.specs.Tokens.{token, tokens_after, number_in, all_numbers, numbers_in}
-use Rattle.circuit_file.specs.declared.layout.FileLayout.{FileLayout}
-use Rattle.circuit_file.specs.declared.layout.FileLayout.TheVariants as layouts
+use Rattle.circuit_model.specs.declared.layout.CircuitLayout.{CircuitLayout}
+use Rattle.circuit_model.specs.declared.layout.CircuitLayout.TheVariants as layouts
 use Rattle.circuit_file.specs.declared.gate_line.Form.{Form}
 
 abbrev pub bristol_operation : List ℕ → Option Operation
@@ -32,7 +32,7 @@ ring_operation name =
     else None
 
 -- the operation of this name in a layout
-unfoldable pub operation_of : FileLayout → List ℕ → Option Operation
+unfoldable pub operation_of : CircuitLayout → List ℕ → Option Operation
 operation_of layouts.Bristol name = bristol_operation name
 operation_of layouts.Ring name = ring_operation name
 
@@ -47,10 +47,10 @@ abbrev pub wire_count : Row → ℕ
 wire_count line = input_count line + output_count line
 
 -- what stands after the wires
-abbrev pub operation_in : FileLayout → Row → Option Operation
+abbrev pub operation_in : CircuitLayout → Row → Option Operation
 operation_in layout line = operation_of layout (token line (wire_count line + 2))
 
-unfoldable pub form_checks : FileLayout → Row → List Check
+unfoldable pub form_checks : CircuitLayout → Row → List Check
 form_checks layout line =
     (nat_lt (length line.tokens) 2 answers ShortLine line.number)
     ∷ (not (all_numbers (tokens_after 0 2 line)) answers BadNumber line.number)
@@ -63,7 +63,7 @@ form_checks layout line =
 abbrev pub wires_in : Row → List ℕ
 wires_in line = numbers_in (tokens_after 2 (wire_count line) line)
 
-abbrev pub form_of : FileLayout → Row → Form
+abbrev pub form_of : CircuitLayout → Row → Form
 form_of layout line = record { operation = unwrap_or (operation_in layout line) Eqw; inputs = input_count line; wires = wire_count line }
 
 -- what a gate line says
@@ -72,12 +72,12 @@ pub record GateLine : Type 0 where
   pub inputs : List ℕ
   pub outputs : List ℕ
 
-abbrev pub gate_line_of : FileLayout → Row → GateLine
+abbrev pub gate_line_of : CircuitLayout → Row → GateLine
 gate_line_of layout line = record {
   operation = unwrap_or (operation_in layout line) Eqw;
   inputs = take (input_count line) (wires_in line);
   outputs = drop (input_count line) (wires_in line);
 }
 
-unfoldable pub gate_line_in : FileLayout → Row → Result GateLine CircuitFault
+unfoldable pub gate_line_in : CircuitLayout → Row → Result GateLine CircuitFault
 gate_line_in layout line = or_fault (first_fault (form_checks layout line)) (gate_line_of layout line)

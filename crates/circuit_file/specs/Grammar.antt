@@ -7,8 +7,8 @@ use Rattle.circuit_model.specs.Netlists.{Netlist, IsCircuit, arity, is_constant}
 use Rattle.circuit_model.specs.declared.gate.Gate.{Gate}
 use Rattle.circuit_file.specs.GateLines.{operation_of}
 use Rattle.circuit_file.specs.CircuitFiles.{circuit_in}
-use Rattle.circuit_file.specs.declared.layout.FileLayout.{FileLayout}
-use Rattle.circuit_file.specs.declared.layout.FileLayout.TheVariants.{Bristol}
+use Rattle.circuit_model.specs.declared.layout.CircuitLayout.{CircuitLayout}
+use Rattle.circuit_model.specs.declared.layout.CircuitLayout.TheVariants.{Bristol}
 
 -- each token writes the number beside it
 abbrev pub Write : List (List ℕ) → List ℕ → Type 0
@@ -22,7 +22,7 @@ abbrev pub listed : Gate → List ℕ
 listed g = if is_constant g.operation then g.constant ∷ [] else take (arity g.operation) (g.first ∷ g.second ∷ [])
 
 -- the count of input wires, the count of output wires, the input wires, the output wire, the operation
-pub record IsGateLine (layout : FileLayout) (row : Row) (g : Gate) : Type 0 where
+pub record IsGateLine (layout : CircuitLayout) (row : Row) (g : Gate) : Type 0 where
   pub numbers : List (List ℕ)
   pub name : List ℕ
   pub tokens : row.tokens ≡ numbers ++ (name ∷ [])
@@ -30,14 +30,14 @@ pub record IsGateLine (layout : FileLayout) (row : Row) (g : Gate) : Type 0 wher
   pub operation : operation_of layout name ≡ Some g.operation
 
 -- each line is the line of the gate beside it
-abbrev pub AreGateLines : FileLayout → List Row → List Gate → Type 0
+abbrev pub AreGateLines : CircuitLayout → List Row → List Gate → Type 0
 AreGateLines layout [] [] = Unit {0}
 AreGateLines layout [] (g ∷ gs) = ⊥
 AreGateLines layout (row ∷ rows) [] = ⊥
 AreGateLines layout (row ∷ rows) (g ∷ gs) = IsGateLine layout row g × AreGateLines layout rows gs
 
 -- the text has two counts, the widths of the input values, the widths of the output values and the gates of a circuit
-pub record StandsFor (layout : FileLayout) (bits : ℕ) (bytes : List ℕ) (c : Netlist) : Type 0 where
+pub record StandsFor (layout : CircuitLayout) (bits : ℕ) (bytes : List ℕ) (c : Netlist) : Type 0 where
   pub one : Row
   pub two : Row
   pub three : Row
@@ -53,5 +53,5 @@ pub record StandsFor (layout : FileLayout) (bits : ℕ) (bytes : List ℕ) (c : 
   pub valid : IsCircuit c
 
 -- a file stands for a circuit exactly where it has no fault, and for one circuit only
-abbrev pub HasOneAnswer : FileLayout → ℕ → List ℕ → Type 0
+abbrev pub HasOneAnswer : CircuitLayout → ℕ → List ℕ → Type 0
 HasOneAnswer layout bits bytes = (c : Netlist) → StandsFor layout bits bytes c ↔ (circuit_in layout bits bytes ≡ Ok c)

@@ -12,7 +12,7 @@ use Rattle.circuit_file.specs.GateLines.{form_checks, form_of}
 use Rattle.circuit_file.specs.CircuitFiles.{gate_in, gates_in, header_in}
 use Rattle.circuit_file.specs.Grammar.{Write}
 use Rattle.circuit_file.specs.declared.gate_line.Said.{Said}
-use Rattle.circuit_file.specs.declared.layout.FileLayout.{FileLayout}
+use Rattle.circuit_model.specs.declared.layout.CircuitLayout.{CircuitLayout}
 
 -- the next tokens write these numbers
 pub record Takes (old : Place) (numbers : List ℕ) (new : Place) : Type 0 where
@@ -21,7 +21,7 @@ pub record Takes (old : Place) (numbers : List ℕ) (new : Place) : Type 0 where
   pub write : Write tokens numbers
 
 -- a gate line without a fault in its form says this, and has at most three wires
-pub record IsSaid (layout : FileLayout) (row : Row) (said : Said) : Type 0 where
+pub record IsSaid (layout : CircuitLayout) (row : Row) (said : Said) : Type 0 where
   pub line : said.line ≡ row.number
   pub form : or_fault (first_fault (form_checks layout row)) (form_of layout row) ≡ Ok said.form
   pub wires : take said.form.wires said.wires ≡ numbers_in (tokens_after 2 said.form.wires row)
@@ -29,18 +29,18 @@ pub record IsSaid (layout : FileLayout) (row : Row) (said : Said) : Type 0 where
   pub few : said.form.wires ≤ 3
 
 -- the first line says this
-pub record Says (layout : FileLayout) (rows : List Row) (said : Said) (rest : List Row) : Type 0 where
+pub record Says (layout : CircuitLayout) (rows : List Row) (said : Said) (rest : List Row) : Type 0 where
   pub row : Row
   pub first : rows ≡ row ∷ rest
   pub is : IsSaid layout row said
 
 -- the draft has the gate of the line, or the line has this fault
-abbrev pub Adds : FileLayout → Row → Draft → Result (Unit {0}) CircuitFault → Draft → Type 0
+abbrev pub Adds : CircuitLayout → Row → Draft → Result (Unit {0}) CircuitFault → Draft → Type 0
 Adds layout row old (Ok done) new = (g : Gate) × (gate_in layout old.circuit row ≡ Ok g) × (new ≡ record old { circuit = add_gate old.circuit g })
 Adds layout row old (Err f) new = Fails f (gate_in layout old.circuit row)
 
 -- the draft has the gate of the first line, or that line has the first fault, or there is none
-abbrev pub AddsNext : FileLayout → ℕ → List Row → Draft → Result (Unit {0}) CircuitFault → List Row → Draft → Type 0
+abbrev pub AddsNext : CircuitLayout → ℕ → List Row → Draft → Result (Unit {0}) CircuitFault → List Row → Draft → Type 0
 AddsNext layout seen rows old (Ok done) rest new = (row : Row) × (rows ≡ row ∷ rest) × Adds layout row old (Ok done) new
 AddsNext layout seen rows old (Err f) rest new = (n : ℕ) → Fails f (gates_in layout (suc n) seen old.circuit rows)
 
@@ -50,6 +50,6 @@ Begins bits rows (Ok b) rest = (header_in bits rows ≡ Ok (b.0, b.1.circuit, re
 Begins bits rows (Err f) rest = Fails f (header_in bits rows)
 
 -- the draft has the gates of so many lines, or one of them has the first fault
-abbrev pub AddsAll : FileLayout → ℕ → List Row → Draft → Result (Unit {0}) CircuitFault → List Row → Draft → Type 0
+abbrev pub AddsAll : CircuitLayout → ℕ → List Row → Draft → Result (Unit {0}) CircuitFault → List Row → Draft → Type 0
 AddsAll layout n rows old (Ok done) rest new = (gates_in layout n 3 old.circuit rows ≡ Ok (new.circuit, rest)) × (new.refused ≡ None)
 AddsAll layout n rows old (Err f) rest new = Fails f (gates_in layout n 3 old.circuit rows)

@@ -8,9 +8,9 @@ ghost use Rattle.circuit_file.specs.Steps.{Begins, AddsNext, AddsAll};
 
 use crate::gate_line::{add_gate, read_gate};
 use crate::header::{read_counts, read_widths};
-use crate::layout::FileLayout;
+use crate::layout::is_bristol;
 use crate::scan::scan_gate;
-use circuit_model::{Builder, Circuit, CircuitFault};
+use circuit_model::{Builder, Circuit, CircuitFault, CircuitLayout};
 use gate_lines::{Line, Lines};
 use mpc_ring::Ring;
 use std::alloc::Global;
@@ -56,7 +56,7 @@ fn read_header(
 fn next_gate(
     lines: &mut Lines<'_>,
     seen: u64,
-    layout: FileLayout,
+    layout: CircuitLayout,
     builder: &mut Builder,
 ) -> Result<(), CircuitFault>
     requires room { length builder.old.circuit.gates < builder.old.announced }
@@ -76,7 +76,7 @@ fn next_gate(
 /// Adds the gates of so many lines.
 fn read_gates(
     lines: &mut Lines<'_>,
-    layout: FileLayout,
+    layout: CircuitLayout,
     gates: u64,
     builder: &mut Builder,
 ) -> Result<(), CircuitFault>
@@ -96,7 +96,7 @@ fn read_gates(
 fn read_lines(
     alloc: Global,
     mut lines: Lines<'_>,
-    layout: FileLayout,
+    layout: CircuitLayout,
     ring: Ring,
 ) -> Result<Circuit, CircuitFault>
     ensures { Gives result (lines_in layout ring lines.entry) }
@@ -123,11 +123,11 @@ fn read_text(bytes: &[u8]) -> Result<&str, CircuitFault>
 }
 
 /// Boolean gates are over words of one bit.
-fn check_ring(layout: FileLayout, ring: Ring) -> Result<(), CircuitFault>
+fn check_ring(layout: CircuitLayout, ring: Ring) -> Result<(), CircuitFault>
     ensures { result ≡ (if is_bristol layout && not (ring == 1) then Err (WrongRing (pos ring)) else Ok tt) }
 {
     let bits = ring.bits();
-    if layout.is_bristol() && bits != 1 {
+    if is_bristol(layout) && bits != 1 {
         return Err(CircuitFault::WrongRing {
             bits: i64::from(bits),
         });
@@ -140,7 +140,7 @@ fn check_ring(layout: FileLayout, ring: Ring) -> Result<(), CircuitFault>
 pub fn read(
     alloc: Global,
     bytes: &[u8],
-    layout: FileLayout,
+    layout: CircuitLayout,
     ring: Ring,
 ) -> Result<Circuit, CircuitFault>
     ensures { Gives result (circuit_in layout ring bytes.now) }

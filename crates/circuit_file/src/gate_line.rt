@@ -6,12 +6,12 @@ ghost use Rattle.gate_lines.specs.Rows.{Row};
 ghost use Rattle.circuit_model.specs.Netlists.{Netlist};
 ghost use Rattle.circuit_file.specs.Tokens.{tokens_after, numbers_in};
 ghost use Rattle.circuit_file.specs.CircuitFiles.{gate_in};
-ghost use Rattle.circuit_file.specs.declared.layout.FileLayout.{FileLayout};
+ghost use Rattle.circuit_model.specs.declared.layout.CircuitLayout.{CircuitLayout};
 ghost use Rattle.circuit_file.specs.Steps.{IsSaid, Adds};
 
-use crate::layout::FileLayout;
+use crate::layout::operation_of;
 use crate::tokens::{after, all_numbers, number_in};
-use circuit_model::{Builder, CircuitFault, Operation, check};
+use circuit_model::{Builder, CircuitFault, CircuitLayout, Operation, check};
 use gate_lines::Line;
 
 /// What the tokens of a gate line are: so many input wires, other wires, and the operation.
@@ -44,7 +44,7 @@ fn is_more(found: u64, inputs: u64, outputs: u64) -> bool
 
 /// The form of a gate line, or its first fault.
 #[tactic(auto, unfolding(crate::specs::GateLines::form_checks))]
-pub(crate) fn read_form(row: &Line<'_>, layout: FileLayout) -> Result<Form, CircuitFault>
+pub(crate) fn read_form(row: &Line<'_>, layout: CircuitLayout) -> Result<Form, CircuitFault>
     ensures form { result ≡ or_fault (first_fault (form_checks layout row.now)) (form_of layout row.now) }
     ensures inputs { IfOk result (λ form. form.inputs ≤ form.wires) }
     ensures long { IfOk result (λ form. length row.now.tokens ≡ form.wires + 3) }
@@ -71,7 +71,7 @@ pub(crate) fn read_form(row: &Line<'_>, layout: FileLayout) -> Result<Form, Circ
         !all_numbers(after(row.tokens(), 2), wires),
         CircuitFault::BadNumber { line },
     )?;
-    let operation = layout.operation(row.token(inputs + outputs + 2));
+    let operation = operation_of(layout, row.token(inputs + outputs + 2));
     check(operation.is_none(), CircuitFault::UnknownOperation { line })?;
     Ok(Form {
         operation: operation.unwrap_or(Operation::Eqw),
@@ -95,7 +95,7 @@ fn read_wires(row: &Line<'_>, count: usize) -> [u64; 3]
 
 /// What a gate line says, or its first fault. A line that has more wires than any operation has none that fits.
 #[cold]
-pub(crate) fn read_gate(row: &Line<'_>, layout: FileLayout) -> Result<Said, CircuitFault>
+pub(crate) fn read_gate(row: &Line<'_>, layout: CircuitLayout) -> Result<Said, CircuitFault>
     ensures { MatchResult result (IsSaid layout row.now) (λ fault. (c : Netlist) → gate_in layout c row.now ≡ Err fault) }
 {
     let form = read_form(row, layout)?;
@@ -113,7 +113,7 @@ pub(crate) fn add_gate(said: &Said, builder: &mut Builder) -> Result<(), Circuit
     requires room { length builder.old.circuit.gates < builder.old.announced }
     requires going { builder.old.refused ≡ None }
     requires form { (said.now.form.inputs ≤ said.now.form.wires) × (said.now.form.wires ≤ 3) }
-    ensures { (layout : FileLayout) (row : Row) → IsSaid layout row said.now → Adds layout row builder.old result builder.new }
+    ensures { (layout : CircuitLayout) (row : Row) → IsSaid layout row said.now → Adds layout row builder.old result builder.new }
 {
     let (inputs, outputs) = said.wires[..said.form.wires].split_at(said.form.inputs);
     builder.gate(said.line, said.form.operation, inputs, outputs)

@@ -1,16 +1,18 @@
-//! The two layouts of circuit files.
+//! The operations that the gate lines of a layout name.
 ghost use Rattle.std.specs.Prelude.{◌≡◌};
+ghost use Rattle.circuit_file.specs.CircuitFiles.{is_bristol};
 ghost use Rattle.circuit_file.specs.GateLines.{bristol_operation, ring_operation, operation_of};
 
-use circuit_model::Operation;
+use circuit_model::{CircuitLayout, Operation};
 
-/// Which operations the gate lines of a file name.
-#[derive(Clone, Copy, Debug, PartialEq, Eq)]
-pub enum FileLayout {
-    /// Bristol Fashion: Boolean gates over one bit.
-    Bristol,
-    /// The same lines with the operations of a ring.
-    Ring,
+/// Whether the gates are Boolean.
+pub(crate) fn is_bristol(layout: CircuitLayout) -> bool
+    ensures { result ≡ is_bristol layout }
+{
+    match layout {
+        CircuitLayout::Bristol => true,
+        CircuitLayout::Ring => false,
+    }
 }
 
 #[inline(always)]
@@ -53,37 +55,21 @@ fn ring_operation(name: &[u8]) -> Option<Operation>
     }
 }
 
-impl FileLayout {
-    ghost use Rattle.std.specs.Prelude.{◌≡◌};
-    ghost use Rattle.circuit_file.specs.GateLines.{operation_of};
-    ghost use Rattle.circuit_file.specs.CircuitFiles.{is_bristol};
+/// The operation of this name.
+pub(crate) fn operation_of(layout: CircuitLayout, name: &str) -> Option<Operation>
+    ensures { result ≡ operation_of layout name.now }
+{
+    operation_named(layout, name.as_bytes())
+}
 
-    /// Whether the gates are Boolean.
-    pub fn is_bristol(self) -> bool
-        ensures { result ≡ is_bristol self }
-    {
-        match self {
-            FileLayout::Bristol => true,
-            FileLayout::Ring => false,
-        }
-    }
-
-    /// The operation of this name.
-    pub fn operation(self, name: &str) -> Option<Operation>
-        ensures { result ≡ operation_of self name.now }
-    {
-        self.named(name.as_bytes())
-    }
-
-    /// The operation whose name has these bytes.
-    #[inline(always)]
-    #[tactic(auto, unfolding(crate::specs::GateLines::operation_of))]
-    pub(crate) fn named(self, name: &[u8]) -> Option<Operation>
-        ensures { result ≡ operation_of self name.now }
-    {
-        match self {
-            FileLayout::Bristol => bristol_operation(name),
-            FileLayout::Ring => ring_operation(name),
-        }
+/// The operation whose name has these bytes.
+#[inline(always)]
+#[tactic(auto, unfolding(crate::specs::GateLines::operation_of))]
+pub(crate) fn operation_named(layout: CircuitLayout, name: &[u8]) -> Option<Operation>
+    ensures { result ≡ operation_of layout name.now }
+{
+    match layout {
+        CircuitLayout::Bristol => bristol_operation(name),
+        CircuitLayout::Ring => ring_operation(name),
     }
 }

@@ -11,7 +11,6 @@ mod tokens;
 
 pub use file::read;
 pub use laws::each_file_has_one_answer;
-pub use layout::FileLayout;
 
 #[cfg(test)]
 mod tests;

@@ -3,7 +3,8 @@ ghost use Rattle.std.specs.Prelude.{◌≡◌, ◌≤◌, IfSome, MatchOption, l
 ghost use Rattle.circuit_file.specs.Steps.{Takes, Says};
 
 use crate::gate_line::{Form, Said};
-use crate::layout::FileLayout;
+use crate::layout::operation_named;
+use circuit_model::CircuitLayout;
 use gate_lines::{Cursor, Lines};
 
 /// The numbers of the next two or three tokens.
@@ -24,7 +25,7 @@ fn take_wires(cursor: &mut Cursor<'_>, count: usize) -> Option<[u64; 3]>
 /// What the next line says, if it has the form of a gate line with one or two input wires and one output wire.
 /// Otherwise the lines stay.
 #[inline(never)]
-pub(crate) fn scan_gate(lines: &mut Lines<'_>, layout: FileLayout) -> Option<Said>
+pub(crate) fn scan_gate(lines: &mut Lines<'_>, layout: CircuitLayout) -> Option<Said>
     ensures { MatchOption result (lines.new ≡ lines.old) (λ said. Says layout lines.old said lines.new) }
 {
     let mut cursor = lines.cursor();
@@ -36,7 +37,7 @@ pub(crate) fn scan_gate(lines: &mut Lines<'_>, layout: FileLayout) -> Option<Sai
     }
     let count = (inputs + outputs) as usize;
     let wires = take_wires(&mut cursor, count)?;
-    let operation = layout.named(cursor.token()?)?;
+    let operation = operation_named(layout, cursor.token()?)?;
     *lines = cursor.finish()?;
     let form = Form {
         operation,

@@ -7,6 +7,7 @@ mod circuit;
 mod fault;
 mod gate;
 mod laws;
+mod layout;
 
 pub use builder::Builder;
 pub use checks::{are_large, check, exceeds};
@@ -14,6 +15,7 @@ pub use circuit::Circuit;
 pub use fault::CircuitFault;
 pub use gate::{Gate, Operation};
 pub use laws::equations_have_one_solution;
+pub use layout::CircuitLayout;
 
 #[cfg(test)]
 mod tests;

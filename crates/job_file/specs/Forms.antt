@@ -7,8 +7,8 @@ use Rattle.toml_fields.specs.Fields.{integer_at, text_at, items_at, texts_at, te
 use Rattle.party_set.specs.Names.{number_of}
 use Rattle.job_file.specs.declared.field.Field.{Field}
 use Rattle.job_file.specs.declared.field.Field.TheVariants.{Version, RingBits, Parties, Formula, Tolerated, Hosts, Port, Session, Circuit, Layout, Owners, Readers}
-use Rattle.job_file.specs.declared.job.CircuitLayout.{CircuitLayout}
-use Rattle.job_file.specs.declared.job.CircuitLayout.TheVariants.{Ring}
+use Rattle.circuit_model.specs.declared.layout.CircuitLayout.{CircuitLayout}
+use Rattle.circuit_model.specs.declared.layout.CircuitLayout.TheVariants.{Ring}
 use Rattle.job_file.specs.Names.{field_text, layout_of}
 
 -- a session: the file of its circuit and its layout, the party that gives each input value, and for each output value the

@@ -7,8 +7,8 @@ use Rattle.toml_fields.specs.declared.kind.Kind.{Kind}
 use Rattle.toml_fields.specs.declared.kind.Kind.TheVariants.{Integer, Text, Texts, TextLists, Tables}
 use Rattle.job_file.specs.declared.field.Field.{Field}
 use Rattle.job_file.specs.declared.field.Field.TheVariants.{Version, RingBits, Parties, Formula, Tolerated, Hosts, Port, Session, Circuit, Layout, Owners, Readers}
-use Rattle.job_file.specs.declared.job.CircuitLayout.{CircuitLayout}
-use Rattle.job_file.specs.declared.job.CircuitLayout.TheVariants.{Bristol, Ring}
+use Rattle.circuit_model.specs.declared.layout.CircuitLayout.{CircuitLayout}
+use Rattle.circuit_model.specs.declared.layout.CircuitLayout.TheVariants.{Bristol, Ring}
 
 -- how the file names a field
 unfoldable pub field_text : Field → List ℕ

@@ -1,15 +1,7 @@
 //! Jobs.
+use circuit_model::CircuitLayout;
 use mpc_ring::Ring;
 use party_set::{Group, NameText, Names};
-
-/// The layout of a circuit's file.
-#[derive(Clone, Copy, Debug, PartialEq, Eq)]
-pub enum CircuitLayout {
-    /// Gates on bits.
-    Bristol,
-    /// Gates on words of the ring.
-    Ring,
-}
 
 /// What tells which groups are tolerated: the text of a formula, which is false for them, or a list of groups, in which
 /// they lie.

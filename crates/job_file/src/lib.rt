@@ -16,7 +16,7 @@ mod values;
 pub use document::read_job;
 pub use fault::JobFault;
 pub use field::Field;
-pub use job::{Adversary, CircuitLayout, Job, JobSession};
+pub use job::{Adversary, Job, JobSession};
 
 #[cfg(test)]
 mod tests;

@@ -1,4 +1,5 @@
-use crate::{Adversary, CircuitLayout, Field, Job, JobFault, read_job};
+use crate::{Adversary, Field, Job, JobFault, read_job};
+use circuit_model::CircuitLayout;
 use std::alloc::{AllocError, Global};
 use std::test::Fail;
 

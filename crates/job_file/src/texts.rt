@@ -3,7 +3,7 @@ ghost use Rattle.std.specs.Prelude.{◌≡◌};
 ghost use Rattle.std.specs.List.{list_all};
 ghost use Rattle.job_file.specs.Names.{is_file_byte, is_file_name, is_host_byte, is_host, layout_of};
 
-use crate::job::CircuitLayout;
+use circuit_model::CircuitLayout;
 
 fn is_file_byte(byte: u8) -> bool
     ensures { result ≡ is_file_byte byte }

@@ -10,9 +10,10 @@ ghost use Rattle.job_file.specs.declared.field.Field.TheVariants.{RingBits, Part
 
 use crate::check::{is_listed, is_there};
 use crate::field::Field;
-use crate::job::{Adversary, CircuitLayout, Job, JobSession};
+use crate::job::{Adversary, Job, JobSession};
 use crate::session::fields_or;
 use crate::texts::layout_of;
+use circuit_model::CircuitLayout;
 use mpc_ring::Ring;
 use party_set::{Group, NameText, Names};
 use std::alloc::{AllocError, Global};

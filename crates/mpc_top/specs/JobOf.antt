@@ -8,8 +8,6 @@ use Rattle.group_formula.specs.Trees.{is_tolerated}
 use Rattle.maximal_groups.specs.Families.{maximal_structure, is_tolerated_by}
 use Rattle.q2_test.specs.Covering.{IsFirstCovering}
 use Rattle.circuit_model.specs.Netlists.{Netlist}
-use Rattle.circuit_file.specs.declared.layout.FileLayout.{FileLayout}
-use Rattle.circuit_file.specs.declared.layout.FileLayout.TheVariants as file
 use Rattle.circuit_file.specs.CircuitFiles.{circuit_in}
 use Rattle.job_plan.specs.Plans.{Plan, Session, plan_of}
 use Rattle.job_plan.specs.Limits.{IsPlanWithin, IsPlanRefusal}
@@ -19,8 +17,6 @@ use Rattle.plan_faults.specs.declared.plan_fault.PlanFault.{PlanFault}
 use Rattle.plan_faults.specs.declared.plan_fault.PlanFault.TheVariants as plan_fault
 use Rattle.job_file.specs.Forms.{JobForm, SessionForm, AdversaryForm, by_formula, by_list}
 use Rattle.job_file.specs.Faults.{job_in}
-use Rattle.job_file.specs.declared.job.CircuitLayout.{CircuitLayout}
-use Rattle.job_file.specs.declared.job.CircuitLayout.TheVariants as layout
 use Rattle.party_file.specs.Table.{PartyForm, party_in}
 use Rattle.share_world.specs.Worlds.{World}
 use Rattle.job_run.specs.Parties.{world_of}
@@ -96,10 +92,6 @@ StructureOf job = Then (GroupsOf job.names job.adversary) (Q2Of job)
 
 -- ---- the sessions
 
-abbrev pub layout_of : CircuitLayout → FileLayout
-layout_of layout.Bristol = file.Bristol
-layout_of layout.Ring = file.Ring
-
 -- the groups of so many parties that these masks tell
 abbrev pub groups_in : ℕ → List ℕ → List Members
 groups_in parties masks = map (λ mask. record { parties = parties; mask = mask }) masks
@@ -114,7 +106,7 @@ unfoldable pub SessionAt : Contents → List ℕ → JobForm → ℕ → Session
 SessionAt files dir job s form =
     Then (Ends (file_at files dir form.circuit)) (λ bytes.
     Then (Ends (verdict_of (circuit_line form.circuit s)
-    (circuit_in (layout_of form.layout) job.bits bytes))) (λ circuit.
+    (circuit_in form.layout job.bits bytes))) (λ circuit.
     Ends (part_of (session_line s) circuit form.owners
     (groups_in (length job.names) form.readers))))
 

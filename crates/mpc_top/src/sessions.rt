@@ -1,19 +1,19 @@
 //! The sessions of a job: their circuits' files, and the counts of owners and readers.
 ghost use Rattle.std.specs.Prelude.{◌≡◌, ◌<◌, ◌≤◌, [], All, IfOk, length};
+ghost use Rattle.circuit_model.specs.Checks.{Gives};
 ghost use Rattle.circuit_file.specs.CircuitFiles.{circuit_in};
 ghost use Rattle.job_plan.specs.Sound.{IsSoundSession};
 ghost use Rattle.job_file.specs.Jobs.{job_view, session_view, IsJob, IsSession};
 ghost use Rattle.refusal_text.specs.Lines.{circuit_line, session_line};
 ghost use Rattle.mpc_top.specs.Verdict.{Ends, verdict_of};
-ghost use Rattle.mpc_top.specs.JobOf.{layout_of, part_of, SessionAt, SessionsAfter};
+ghost use Rattle.mpc_top.specs.JobOf.{part_of, SessionAt, SessionsAfter};
 ghost use Rattle.mpc_top.specs.Reads.{ReadsAs, WalksAs};
 
 use crate::Stop;
 use crate::file::read_file;
 use crate::stop::refusal;
-use circuit_file::{FileLayout, read};
-use circuit_model::{Circuit, CircuitFault};
-use job_file::{CircuitLayout, Job, JobSession};
+use circuit_model::{Circuit, CircuitFault, CircuitLayout};
+use job_file::{Job, JobSession};
 use job_plan::SessionPart;
 use mpc_ring::Ring;
 use outer_io::Files;
@@ -65,12 +65,17 @@ fn read_session<F: Files>(
     part_of(alloc, circuit, session, s, job)
 }
 
-fn file_layout(layout: CircuitLayout) -> FileLayout
-    ensures { result ≡ layout_of layout }
+fn read_circuit(
+    alloc: Global,
+    bytes: &[u8],
+    layout: CircuitLayout,
+    ring: Ring,
+) -> Result<Circuit, CircuitFault>
+    ensures { Gives result (circuit_in layout ring bytes.now) }
 {
     match layout {
-        CircuitLayout::Bristol => FileLayout::Bristol,
-        CircuitLayout::Ring => FileLayout::Ring,
+        CircuitLayout::Bristol => bristol_reader::read(alloc, bytes, ring),
+        CircuitLayout::Ring => ring_reader::read(alloc, bytes, ring),
     }
 }
 
@@ -83,9 +88,9 @@ fn circuit_of(
 ) -> Result<Circuit, Stop>
     ensures { WalksAs (λ circuit. circuit)
         (Ends (verdict_of (circuit_line session.now.circuit s)
-        (circuit_in (layout_of session.now.layout) ring bytes.now))) result }
+        (circuit_in session.now.layout ring bytes.now))) result }
 {
-    match read(alloc, bytes, file_layout(session.layout), ring) {
+    match read_circuit(alloc, bytes, session.layout, ring) {
         Ok(circuit) => Ok(circuit),
         Err(CircuitFault::Memory) => Err(Stop::Memory),
         Err(fault) => Err(refusal(circuit_line(alloc, session.circuit.as_str(), s, fault))),

@@ -4,10 +4,9 @@
 
 ghost use Rattle.circuit_model.specs.Checks.{Gives};
 ghost use Rattle.circuit_file.specs.CircuitFiles.{circuit_in};
-ghost use Rattle.circuit_file.specs.declared.layout.FileLayout.TheVariants.{Ring as of_ring};
+ghost use Rattle.circuit_model.specs.declared.layout.CircuitLayout.TheVariants.{Ring as of_ring};
 
-use circuit_file::FileLayout;
-use circuit_model::{Circuit, CircuitFault};
+use circuit_model::{Circuit, CircuitFault, CircuitLayout};
 use mpc_ring::Ring;
 use std::alloc::Global;
 
@@ -15,7 +14,7 @@ use std::alloc::Global;
 pub fn read(alloc: Global, bytes: &[u8], ring: Ring) -> Result<Circuit, CircuitFault>
     ensures { Gives result (circuit_in of_ring ring bytes.now) }
 {
-    circuit_file::read(alloc, bytes, FileLayout::Ring, ring)
+    circuit_file::read(alloc, bytes, CircuitLayout::Ring, ring)
 }
 
 #[cfg(test)]

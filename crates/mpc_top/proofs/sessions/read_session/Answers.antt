@@ -2,7 +2,7 @@ use Rattle.std.proofs.Common.{refl}
 use Rattle.circuit_file.specs.CircuitFiles.{circuit_in}
 use Rattle.refusal_text.specs.Lines.{circuit_line}
 use Rattle.mpc_top.specs.Verdict.{verdict_of}
-use Rattle.mpc_top.specs.JobOf.{SessionAt, layout_of}
+use Rattle.mpc_top.specs.JobOf.{SessionAt}
 use Rattle.mpc_top.proofs.Steps.{reads_exit, reads_then, reads_walk, walks_exit, walks_then}
 use Rattle.mpc_top.proofs.Equal.{file_named, bytes_same, part_same}
 use Rattle.mpc_top.proofs.sessions.read_session.Goals as goal
@@ -16,12 +16,12 @@ unfolding SessionAt
 returns-in_err-circuit-clause-reads g c =
     reads_then _ _ _ _ _ _ _ _ _ (file_named _ _ _ _ _ _ _ c.as_str.ensures c.in_ok-bytes.ensures)
     (reads_walk _ _ _ _ (walks_exit _ _ _ _ _ _ c.from_residual-in_err-circuit.ensures.1
-    (bytes_same _ (λ b. verdict_of (circuit_line c.args.session.now.circuit c.args.s) (circuit_in (layout_of c.args.session.now.layout) c.args.job.now.ring b)) _ _ _ c.deref.ensures.value c.in_err-circuit.ensures)))
+    (bytes_same _ (λ b. verdict_of (circuit_line c.args.session.now.circuit c.args.s) (circuit_in c.args.session.now.layout c.args.job.now.ring b)) _ _ _ c.deref.ensures.value c.in_err-circuit.ensures)))
 
 pub returns-clause-reads : goal.returns-clause-reads
 unfolding SessionAt
 returns-clause-reads g c =
     reads_then _ _ _ _ _ _ _ _ _ (file_named _ _ _ _ _ _ _ c.as_str.ensures c.in_ok-bytes.ensures)
     (reads_walk _ _ _ _ (walks_then _ _ _ _ _ _
-    (bytes_same _ (λ b. verdict_of (circuit_line c.args.session.now.circuit c.args.s) (circuit_in (layout_of c.args.session.now.layout) c.args.job.now.ring b)) _ _ _ c.deref.ensures.value c.in_ok-circuit.ensures)
+    (bytes_same _ (λ b. verdict_of (circuit_line c.args.session.now.circuit c.args.s) (circuit_in c.args.session.now.layout c.args.job.now.ring b)) _ _ _ c.deref.ensures.value c.in_ok-circuit.ensures)
     (part_same _ c.in_ok-circuit.circuit _ _ _ _ _ _ refl refl c.requires.session.readers c.part_of.ensures.walks)))
