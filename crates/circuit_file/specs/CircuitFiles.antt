@@ -28,7 +28,8 @@ gate_in layout c row = gate_line_in layout row >>= (λ g. next_gate c row.number
 unfoldable pub gates_in : CircuitLayout → ℕ → ℕ → Netlist → List Row → Result (Netlist × List Row) CircuitFault
 gates_in layout zero seen c rows = Ok (c, rows)
 gates_in layout (suc n) seen c [] = Err (FewLines seen)
-gates_in layout (suc n) seen c (row ∷ rows) = gate_in layout c row >>= (λ g. gates_in layout n (seen + 1) (add_gate c g) rows)
+gates_in layout (suc n) seen c (row ∷ rows) =
+    gate_in layout c row >>= (λ g. gates_in layout n (seen + 1) (add_gate c g) rows)
 
 -- no line is left, and each output wire is set
 abbrev pub ended : Netlist → List Row → Result Netlist CircuitFault
@@ -36,7 +37,8 @@ ended c [] = or_fault (option_map OutputNotSet (unset_output c)) c
 ended c (row ∷ rows) = Err (ExtraLine row.number)
 
 abbrev pub no_gates : ℕ → ℕ → List ℕ → List ℕ → Netlist
-no_gates bits wires inputs outputs = record { bits = bits; gates = []; wires = wires; inputs = inputs; outputs = outputs }
+no_gates bits wires inputs outputs =
+    record { bits = bits; gates = []; wires = wires; inputs = inputs; outputs = outputs }
 
 -- the three header lines: how many gates there are, the circuit without them, and the lines that are left
 unfoldable pub header_in : ℕ → List Row → Result (ℕ × Netlist × List Row) CircuitFault
@@ -48,7 +50,8 @@ header_in bits rows =
 
 -- the lines with tokens, looked at in order
 unfoldable pub lines_in : CircuitLayout → ℕ → List Row → Result Netlist CircuitFault
-lines_in layout bits rows = header_in bits rows >>= (λ h. gates_in layout h.0 3 h.1 h.2 >>= (λ read. ended read.0 read.1))
+lines_in layout bits rows =
+    header_in bits rows >>= (λ h. gates_in layout h.0 3 h.1 h.2 >>= (λ read. ended read.0 read.1))
 
 abbrev pub is_bristol : CircuitLayout → Bool
 is_bristol Bristol = true
@@ -63,4 +66,5 @@ text_checks layout bits bytes =
 
 -- the circuit of a file for words of so many bits, or the first fault
 unfoldable pub circuit_in : CircuitLayout → ℕ → List ℕ → Result Netlist CircuitFault
-circuit_in layout bits bytes = then_fault (first_fault (text_checks layout bits bytes)) (lines_in layout bits (rows_of bytes))
+circuit_in layout bits bytes =
+    then_fault (first_fault (text_checks layout bits bytes)) (lines_in layout bits (rows_of bytes))

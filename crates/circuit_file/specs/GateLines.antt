@@ -64,7 +64,8 @@ abbrev pub wires_in : Row → List ℕ
 wires_in line = numbers_in (tokens_after 2 (wire_count line) line)
 
 abbrev pub form_of : CircuitLayout → Row → Form
-form_of layout line = record { operation = unwrap_or (operation_in layout line) Eqw; inputs = input_count line; wires = wire_count line }
+form_of layout line =
+    record { operation = unwrap_or (operation_in layout line) Eqw; inputs = input_count line; wires = wire_count line }
 
 -- what a gate line says
 pub record GateLine : Type 0 where

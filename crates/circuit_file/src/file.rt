@@ -17,7 +17,8 @@ use std::alloc::Global;
 
 /// The next line with tokens, where so many came before.
 fn next_row<'a>(lines: &mut Lines<'a>, seen: u64) -> Result<Line<'a>, CircuitFault>
-    ensures { MatchResult result (λ row. next_row seen lines.old ≡ Ok (row, lines.new)) (λ fault. next_row seen lines.old ≡ Err fault) }
+    ensures { MatchResult result (λ row. next_row seen lines.old ≡ Ok (row, lines.new))
+        (λ fault. next_row seen lines.old ≡ Err fault) }
 {
     match lines.next_line() {
         Some(row) => Ok(row),
@@ -111,8 +112,10 @@ fn read_lines(
 
 /// The text that bytes are, or where they stop being one.
 fn read_text(bytes: &[u8]) -> Result<&str, CircuitFault>
-    ensures text { MatchResult result (λ text. text.now ≡ bytes.now) (λ fault. fault ≡ NotUtf8 (utf8_valid_len bytes.now)) }
-    ensures cause { MatchResult result (λ text. nat_lt (utf8_valid_len bytes.now) (length bytes.now) ≡ false) (λ fault. nat_lt (utf8_valid_len bytes.now) (length bytes.now) ≡ true) }
+    ensures text { MatchResult result (λ text. text.now ≡ bytes.now)
+        (λ fault. fault ≡ NotUtf8 (utf8_valid_len bytes.now)) }
+    ensures cause { MatchResult result (λ text. nat_lt (utf8_valid_len bytes.now) (length bytes.now) ≡ false)
+        (λ fault. nat_lt (utf8_valid_len bytes.now) (length bytes.now) ≡ true) }
 {
     match std::str::from_utf8(bytes) {
         Ok(text) => Ok(text),

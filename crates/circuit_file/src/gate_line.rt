@@ -96,7 +96,8 @@ fn read_wires(row: &Line<'_>, count: usize) -> [u64; 3]
 /// What a gate line says, or its first fault. A line that has more wires than any operation has none that fits.
 #[cold]
 pub(crate) fn read_gate(row: &Line<'_>, layout: CircuitLayout) -> Result<Said, CircuitFault>
-    ensures { MatchResult result (IsSaid layout row.now) (λ fault. (c : Netlist) → gate_in layout c row.now ≡ Err fault) }
+    ensures { MatchResult result (IsSaid layout row.now)
+        (λ fault. (c : Netlist) → gate_in layout c row.now ≡ Err fault) }
 {
     let form = read_form(row, layout)?;
     let line = row.number();
@@ -113,7 +114,8 @@ pub(crate) fn add_gate(said: &Said, builder: &mut Builder) -> Result<(), Circuit
     requires room { length builder.old.circuit.gates < builder.old.announced }
     requires going { builder.old.refused ≡ None }
     requires form { (said.now.form.inputs ≤ said.now.form.wires) × (said.now.form.wires ≤ 3) }
-    ensures { (layout : CircuitLayout) (row : Row) → IsSaid layout row said.now → Adds layout row builder.old result builder.new }
+    ensures { (layout : CircuitLayout) (row : Row) → IsSaid layout row said.now
+        → Adds layout row builder.old result builder.new }
 {
     let (inputs, outputs) = said.wires[..said.form.wires].split_at(said.form.inputs);
     builder.gate(said.line, said.form.operation, inputs, outputs)

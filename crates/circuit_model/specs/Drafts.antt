@@ -3,7 +3,8 @@ use Rattle.std.specs.Prelude.{◌≡◌, ℕ, ◌≤◌, Bool, false, List, leng
 use Rattle.circuit_model.specs.Netlists.{IsWithin, AllGatesFit, sets}
 use Rattle.circuit_model.specs.Building.{Draft}
 
--- all but the output wires is as in a circuit, no more gates are there than announced, and the list tells which wires are set
+-- all but the output wires is as in a circuit, no more gates are there than announced, and the list tells which wires
+-- are set
 pub record IsDraft (d : Draft) (set : List Bool) : Type 0 where
   pub within : IsWithin d.circuit
   pub announced : d.announced ≤ 65536

@@ -143,7 +143,8 @@ fn start_set(alloc: Global, wires: usize, inputs: u32) -> Result<Vec<bool>, Allo
 fn first_unset(set: &[bool], outputs: u32) -> Option<u32>
     requires within { outputs ≤ length set.now }
     requires few { length set.now ≤ 131072 }
-    ensures { result ≡ find (λ w. not (slice_index_or set.now w false)) (range_with_len (length set.now - outputs) outputs) }
+    ensures { result ≡ find (λ w. not (slice_index_or set.now w false))
+        (range_with_len (length set.now - outputs) outputs) }
 {
     let wires = set.len() as u32;
     for wire in wires - outputs..wires {

@@ -153,7 +153,9 @@ pub(crate) fn check_gate(
     outputs: &[u64],
 ) -> Result<Gate, CircuitFault>
     requires { length set.now ≤ 131072 }
-    ensures { result ≡ or_fault (first_fault (gate_checks ring (length set.now) (λ w. slice_index_or set.now w false) line operation inputs.now outputs.now)) (gate_of operation inputs.now outputs.now) }
+    ensures { result ≡ or_fault (first_fault (gate_checks ring (length set.now)
+        (λ w. slice_index_or set.now w false) line operation inputs.now outputs.now))
+        (gate_of operation inputs.now outputs.now) }
 {
     check(
         !has_arity(operation, inputs, outputs),

@@ -49,7 +49,8 @@ pub fn open_desks(
 ) -> Result<Vec<Desk>, AllocError>
     requires inputs { AreInputs plan.now inputs.now }
     requires pieces { ArePieces plan.now pieces.items }
-    ensures { IfOk result (λ desks. (length desks.items ≡ length pieces.items) × AreNewDesks plan.now inputs.now pieces.items desks.items) }
+    ensures { IfOk result (λ desks. (length desks.items ≡ length pieces.items)
+        × AreNewDesks plan.now inputs.now pieces.items desks.items) }
 {
     let parties = plan.parties();
     let mut desks = Vec::new(alloc);

@@ -25,7 +25,8 @@ pub record StandsIn (w : World) (seen : List (ℕ × ℕ)) (k : ℕ) (d : Desk) 
   pub posted : HasPosts (Knows seen) w (k / w.plan.parties) (k % w.plan.parties) d.position
 
 -- so many steps of desk k led from one desk and seat to another
-pub record Leads (w : World) (k : ℕ) (seat : Sitting Promised) (d : Desk) (seat' : Sitting Promised) (d' : Desk) (moves : ℕ) : Type 0 where
+pub record Leads (w : World) (k : ℕ) (seat : Sitting Promised) (d : Desk) (seat' : Sitting Promised) (d' : Desk)
+    (moves : ℕ) : Type 0 where
   pub stands : StandsIn w seat'.view.seen k d'
   pub counts : moves + left d' ≡ left d
   pub still : moves ≡ 0 → d' ≡ d
@@ -33,17 +34,20 @@ pub record Leads (w : World) (k : ℕ) (seat : Sitting Promised) (d : Desk) (sea
   pub seats : seat'.view.seats ≡ seat.view.seats
   pub out : seat'.view.out ≡ seat.view.out
 
--- of the board's world: a desk and a seat that knows what it posted, where so many steps led, and that the desk could not move
+-- of the board's world: a desk and a seat that knows what it posted, where so many steps led, and that the desk could
+-- not move
 abbrev pub IsDeskOf : BoardModel Promised → Sitting Promised → Desk → Type 0
 IsDeskOf board seat d = (k : ℕ) × StandsIn (world_in board.about.world) seat.view.seen k d
 
 abbrev pub LeadsOn : BoardModel Promised → Sitting Promised → Desk → Sitting Promised → Desk → ℕ → Type 0
 LeadsOn board seat d seat' d' moves =
-    (k : ℕ) → StandsIn (world_in board.about.world) seat.view.seen k d → Leads (world_in board.about.world) k seat d seat' d' moves
+    (k : ℕ) → StandsIn (world_in board.about.world) seat.view.seen k d
+        → Leads (world_in board.about.world) k seat d seat' d' moves
 
 abbrev pub IsStuck : BoardModel Promised → Sitting Promised → Desk → Type 0
 IsStuck board seat d =
-    (k : ℕ) → StandsIn (world_in board.about.world) seat.view.seen k d → Stuck (Knows seat.view.seen) (world_in board.about.world) k d.position
+    (k : ℕ) → StandsIn (world_in board.about.world) seat.view.seen k d
+        → Stuck (Knows seat.view.seen) (world_in board.about.world) k d.position
 
 -- each desk stands where its program leaves it in the world, and these pairs have what they posted
 abbrev pub AllStand : World → List (ℕ × ℕ) → List Desk → Type 0
@@ -56,7 +60,8 @@ AllFree board seats = All (IsFreeSeatOf board) seats
 -- each stands for as many seats as before
 abbrev pub SameSeatCounts : List (Sitting Promised) → List (Sitting Promised) → Type 0
 SameSeatCounts seats seats' =
-    (i : ℕ) (seat seat' : Sitting Promised) → slice_get seats i ≡ Some seat → slice_get seats' i ≡ Some seat' → seat'.view.seats ≡ seat.view.seats
+    (i : ℕ) (seat seat' : Sitting Promised) → slice_get seats i ≡ Some seat → slice_get seats' i ≡ Some seat'
+        → seat'.view.seats ≡ seat.view.seats
 
 abbrev pub seats_in : Sitting Promised → ℕ
 seats_in seat = seat.view.seats

@@ -25,7 +25,8 @@ fn step_at(cells: &mut SeatAt<Promised, Desk>, plan: &Plan, desk: &mut Desk) -> 
     requires desk { IsDeskOf cells.old.board.now cells.old.seat.now desk.old }
     ensures same { (cells.new.board ≡ cells.old.board) × (cells.new.seat.ghost_name ≡ cells.old.seat.ghost_name) }
     ensures seat { IsSeatOf cells.old.board.now cells.new.seat.now }
-    ensures leads { LeadsOn cells.old.board.now cells.old.seat.now desk.old cells.new.seat.now desk.new (moves_of result) }
+    ensures leads { LeadsOn cells.old.board.now cells.old.seat.now desk.old cells.new.seat.now desk.new
+        (moves_of result) }
     ensures stuck { moves_of result ≡ 0 → IsStuck cells.old.board.now cells.old.seat.now desk.old }
 {
     step_in_world(desk, plan, cells)

@@ -72,7 +72,8 @@ fn after_token(bytes: &[u8], end: usize) -> Option<usize>
     requires { end ≤ length bytes.now }
     ensures ends { IfSome result (λ next. end < length bytes.now → is_blank (slice_index bytes.now end) ≡ true) }
     ensures goes_on { IfNone result ((end < length bytes.now) × (is_blank (slice_index bytes.now end) ≡ false)) }
-    ensures same { IfSome result (λ next. (n : ℕ) → place_in n (drop next bytes.now) ≡ place_in n (drop end bytes.now)) }
+    ensures same { IfSome result (λ next. (n : ℕ)
+        → place_in n (drop next bytes.now) ≡ place_in n (drop end bytes.now)) }
     ensures stands { IfSome result (λ next. (end ≤ next) × StandsAt bytes.now next) }
 {
     if is_one_space(bytes, end) {
@@ -160,7 +161,8 @@ fn next_place(bytes: &[u8], start: usize) -> usize
 #[inline(always)]
 fn one_digit(bytes: &[u8], start: usize) -> Option<(u64, usize)>
     requires { StandsAt bytes.now start }
-    ensures number { IfSome result (λ found. Some found.0 ≡ number_of (next_token (place_in 0 (drop start bytes.now)))) }
+    ensures number { IfSome result (λ found. Some found.0
+        ≡ number_of (next_token (place_in 0 (drop start bytes.now)))) }
     ensures past { IfSome result (λ found. Passes bytes.now start found.1) }
 {
     if is_one_space(bytes, start + 1) && bytes[start].is_ascii_digit() {
@@ -239,7 +241,8 @@ impl<'a> Cursor<'a> {
 
     /// Takes the next token.
     pub fn token(&mut self) -> Option<&'a [u8]>
-        ensures { MatchOption result ((self.old.tokens ≡ []) × (self.new ≡ self.old)) (λ token. self.old ≡ record self.new { tokens = token.now ∷ self.new.tokens }) }
+        ensures { MatchOption result ((self.old.tokens ≡ []) × (self.new ≡ self.old))
+            (λ token. self.old ≡ record self.new { tokens = token.now ∷ self.new.tokens }) }
     {
         let bytes = self.text.as_bytes();
         let start = self.at;
@@ -253,7 +256,8 @@ impl<'a> Cursor<'a> {
 
     /// The lines after this one, if no token of this one is left.
     pub fn finish(self) -> Option<Lines<'a>>
-        ensures { MatchOption result (¬ (self.entry.tokens ≡ [])) (λ lines. (self.entry.tokens ≡ []) × (lines ≡ self.entry.rows)) }
+        ensures { MatchOption result (¬ (self.entry.tokens ≡ []))
+            (λ lines. (self.entry.tokens ≡ []) × (lines ≡ self.entry.rows)) }
     {
         let bytes = self.text.as_bytes();
         if self.at == bytes.len() {

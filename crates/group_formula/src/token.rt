@@ -117,7 +117,8 @@ fn first_token(at: usize, text: &[u8]) -> (Token, usize)
 pub fn next_token(text: &[u8], from: usize) -> Option<Cut>
     requires { from ≤ length text.now }
     ensures found { MatchOption result (tokens_after text.now from ≡ [])
-        (λ cut. tokens_after text.now from ≡ record { at = cut.at; token = cut.token } ∷ tokens_after text.now cut.end) }
+        (λ cut. tokens_after text.now from
+        ≡ record { at = cut.at; token = cut.token } ∷ tokens_after text.now cut.end) }
     ensures ahead { IfSome result (λ cut. (from < cut.end) × (cut.end ≤ length text.now)) }
 {
     let at = from + Run::Blank.length(&text[from..]);

@@ -70,7 +70,8 @@ node_fault node field fields = if node then required_fault None field fields els
 
 -- a field that is not among these, the least by bytes
 unfoldable pub unknown_fault : Option ℕ → List Field → Members → Option JobFault
-unknown_fault session known fields = option_map (λ name. Unknown session name) (least_unknown (map field_text known) fields)
+unknown_fault session known fields =
+    option_map (λ name. Unknown session name) (least_unknown (map field_text known) fields)
 
 -- ---- the top table
 
@@ -119,12 +120,15 @@ count_fault count = ((count == 0) || nat_lt 16 count) answers SessionCount count
 -- one host for each party, each well formed
 unfoldable pub hosts_fault : Members → Option JobFault
 hosts_fault fields = first_fault
-    (((is_there Hosts fields && not (length (texts Hosts fields) == length (texts Parties fields))) answers BadHost (min (length (texts Hosts fields)) (length (texts Parties fields))))
+    (((is_there Hosts fields && not (length (texts Hosts fields) == length (texts Parties fields))) answers BadHost
+        (min (length (texts Hosts fields)) (length (texts Parties fields))))
     ∷ option_map (λ at. BadHost at) (position (λ host. not (is_host host)) (texts Hosts fields))
     ∷ [])
 
 unfoldable pub port_fault : Members → Option JobFault
-port_fault fields = (is_there Port fields && not (is_within (pos 1) (pos 65392) (integer Port fields))) answers BadPort (integer Port fields)
+port_fault fields =
+    (is_there Port fields && not (is_within (pos 1) (pos 65392) (integer Port fields))) answers BadPort
+    (integer Port fields)
 
 -- ---- a session
 
@@ -179,4 +183,5 @@ value_or_fault value (Some fault) = Err fault
 
 -- the job that some bytes stand for, or the first fault
 unfoldable pub job_in : Bool → List ℕ → Result JobForm JobFault
-job_in node bytes = option_map_or (λ fields. value_or_fault (job_form fields) (job_fault node fields)) (document_of bytes) (Err NotToml)
+job_in node bytes =
+    option_map_or (λ fields. value_or_fault (job_form fields) (job_fault node fields)) (document_of bytes) (Err NotToml)

@@ -52,7 +52,9 @@ is_file_byte c = is_ascii_alphanumeric c || ((c == 46) || ((c == 95) || (c == 45
 
 -- 1 to 64 such bytes, of which the first is no `.`
 unfoldable pub is_file_name : List ℕ → Bool
-is_file_name name = (nat_lt 0 (length name) && nat_lt (length name) 65) && (not (slice_index name 0 == 46) && list_all is_file_byte name)
+is_file_name name =
+    (nat_lt 0 (length name) && nat_lt (length name) 65) &&
+    (not (slice_index name 0 == 46) && list_all is_file_byte name)
 
 -- a letter, a digit, `.`, `-` or `:`
 abbrev pub is_host_byte : ℕ → Bool

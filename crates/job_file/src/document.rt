@@ -59,7 +59,8 @@ fn read_table(alloc: Global, table: &Table, node: bool) -> Result<Job, JobFault>
 /// hosts and a port must be there.
 #[tactic(auto, unfolding(crate::specs::Faults::job_in))]
 pub fn read_job(alloc: Global, bytes: &[u8], node: bool) -> Result<Job, JobFault>
-    ensures job { MatchResult result (λ job. job_in node bytes.now ≡ Ok (job_view job)) (λ fault. fault ≢ Memory → job_in node bytes.now ≡ Err fault) }
+    ensures job { MatchResult result (λ job. job_in node bytes.now ≡ Ok (job_view job))
+        (λ fault. fault ≢ Memory → job_in node bytes.now ≡ Err fault) }
     ensures facts { IfOk result IsJob }
 {
     match document(alloc, bytes)? {

@@ -45,7 +45,8 @@ fn check_values(table: &Table, session: u32, names: &Names) -> Result<(), JobFau
 }
 
 fn check_owners(owners: &[Value], session: u32, names: &Names) -> Result<(), JobFault>
-    ensures { TellsFault result (option_map (λ at. BadOwner session at) (position (is_no_party names.now) (map text_of (map view owners.now)))) }
+    ensures { TellsFault result (option_map (λ at. BadOwner session at)
+        (position (is_no_party names.now) (map text_of (map view owners.now)))) }
 {
     match first_stranger(owners, names) {
         Some(at) => Err(JobFault::BadOwner {

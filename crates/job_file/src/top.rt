@@ -131,7 +131,8 @@ pub fn check_hosts(table: &Table, parties: u32) -> Result<(), JobFault>
 }
 
 fn check_host_count(table: &Table, hosts: usize, parties: usize) -> Result<(), JobFault>
-    ensures { TellsFault result ((is_there Hosts (table_view table.now) && not (hosts == parties)) answers BadHost (min hosts parties)) }
+    ensures { TellsFault result ((is_there Hosts (table_view table.now) && not (hosts == parties)) answers BadHost
+        (min hosts parties)) }
 {
     check(
         is_there(table, Field::Hosts) && hosts != parties,
@@ -142,7 +143,8 @@ fn check_host_count(table: &Table, hosts: usize, parties: usize) -> Result<(), J
 }
 
 fn check_host_texts(hosts: &[Value]) -> Result<(), JobFault>
-    ensures { TellsFault result (option_map (λ at. BadHost at) (position (λ host. not (is_host (text_of (view host)))) hosts.now)) }
+    ensures { TellsFault result (option_map (λ at. BadHost at)
+        (position (λ host. not (is_host (text_of (view host)))) hosts.now)) }
 {
     match bad_host(hosts) {
         Some(at) => Err(JobFault::BadHost { at: at as u64 }),

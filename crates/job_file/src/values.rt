@@ -60,14 +60,16 @@ fn with_party(mask: u32, party: u32) -> u32
 }
 
 fn group_of(readers: &[Value], names: &Names) -> Group
-    ensures { result ≡ record { parties = length names.now; mask = mask_of names.now (map text_of (map view readers.now)) } }
+    ensures { result ≡ record { parties = length names.now;
+        mask = mask_of names.now (map text_of (map view readers.now)) } }
 {
     let parties = names.len();
     Group::of_mask(mask_of(readers, names), parties).unwrap_or(Group::empty(parties))
 }
 
 fn groups_of(alloc: Global, values: &[Value], names: &Names) -> Result<Vec<Group>, AllocError>
-    ensures is { IfOk result (λ groups. map (λ (group : Members). group.mask) groups.items ≡ map (mask_of names.now) (map texts_of (map view values.now))) }
+    ensures is { IfOk result (λ groups. map (λ (group : Members). group.mask) groups.items
+        ≡ map (mask_of names.now) (map texts_of (map view values.now))) }
     ensures parties { IfOk result (λ groups. All (λ (group : Members). group.parties ≡ length names.now) groups.items) }
 {
     let mut groups = Vec::new(alloc);
@@ -105,7 +107,8 @@ fn sessions_of(
     tables: &[Value],
     names: &Names,
 ) -> Result<Vec<JobSession>, AllocError>
-    ensures form { IfOk result (λ sessions. map session_view sessions.items ≡ map (session_form names.now) (map fields_of (map view tables.now))) }
+    ensures form { IfOk result (λ sessions. map session_view sessions.items
+        ≡ map (session_form names.now) (map fields_of (map view tables.now))) }
     ensures parties { IfOk result (λ sessions. All (IsSession (length names.now)) sessions.items) }
     ensures count { IfOk result (λ sessions. length sessions.items ≡ length tables.now) }
 {

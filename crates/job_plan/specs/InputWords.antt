@@ -12,7 +12,9 @@ given inputs p s = slice_index_or (slice_index_or inputs p []) s []
 pub record AreInputs (plan : Plan) (inputs : List (List (List ℕ))) : Type 0 where
   pub parties : length inputs ≡ plan.parties
   pub sessions : (p : ℕ) → p < plan.parties → length (slice_index_or inputs p []) ≡ length plan.sessions
-  pub counts : (p s : ℕ) → p < plan.parties → s < length plan.sessions → length (given inputs p s) ≡ total (length (owners (session plan s))) (λ v. if nat_eq (slice_index (owners (session plan s)) v) p then 1 else 0)
+  pub counts : (p s : ℕ) → p < plan.parties → s < length plan.sessions
+      → length (given inputs p s) ≡ total (length (owners (session plan s)))
+      (λ v. if nat_eq (slice_index (owners (session plan s)) v) p then 1 else 0)
   pub below : (p s k : ℕ) → slice_index (given inputs p s) k < 2 ^ plan.bits
 
 -- the words of one party's vectors, and of all parties'

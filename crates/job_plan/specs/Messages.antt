@@ -8,7 +8,9 @@ use Rattle.job_plan.specs.Plans.Slot.{Input, At_gate, Output}
 
 -- summand i of a deal of p, to party q: a message where q is another party that holds it
 abbrev pub deal_message : Plan → ℕ → ℕ → ℕ → ℕ → ℕ → List Key
-deal_message plan s k p i q = only_if (not (nat_eq q p) && holds plan q i) (record { session = s; slot = k; share = i; sender = p; receiver = q } ∷ [])
+deal_message plan s k p i q =
+    only_if (not (nat_eq q p) && holds plan q i)
+    (record { session = s; slot = k; share = i; sender = p; receiver = q } ∷ [])
 
 -- a deal of p: each summand to each other party that holds it
 abbrev pub deal_messages : Plan → ℕ → ℕ → ℕ → List Key
@@ -17,13 +19,17 @@ deal_messages plan s k p = joined (length plan.groups) (λ i. joined plan.partie
 -- an opening to r: each summand that r lacks, from its least holder
 abbrev pub open_messages : Plan → ℕ → ℕ → ℕ → List Key
 open_messages plan s k r =
-    joined (length plan.groups) (λ i. only_if (not (holds plan r i)) (record { session = s; slot = k; share = i; sender = least_holder plan i; receiver = r } ∷ []))
+    joined (length plan.groups) (λ i. only_if (not (holds plan r i))
+        (record { session = s; slot = k; share = i; sender = least_holder plan i; receiver = r } ∷ []))
 
 -- an input is dealt by its owner, a product by each party that has a pair, and an output is opened to each reader
 abbrev pub slot_messages : Plan → ℕ → ℕ → Slot → List Key
 slot_messages plan s k (Input v) = deal_messages plan s k (slice_index (owners (session plan s)) v)
-slot_messages plan s k (At_gate t) = joined plan.parties (λ p. only_if (deals_in plan (session plan s) p (At_gate t)) (deal_messages plan s k p))
-slot_messages plan s k (Output o) = joined plan.parties (λ r. only_if (has_party (slice_index (readers (session plan s)) o) r) (open_messages plan s k r))
+slot_messages plan s k (At_gate t) =
+    joined plan.parties (λ p. only_if (deals_in plan (session plan s) p (At_gate t)) (deal_messages plan s k p))
+slot_messages plan s k (Output o) =
+    joined plan.parties (λ r. only_if (has_party (slice_index (readers (session plan s)) o) r)
+    (open_messages plan s k r))
 
 abbrev pub session_messages : Plan → ℕ → List Key
 session_messages plan s = joined (slots (session plan s)) (λ k. slot_messages plan s k (slot (session plan s) k))

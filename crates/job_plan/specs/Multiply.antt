@@ -1,4 +1,5 @@
--- The plan of one product: three parties of which any two are qualified, the inputs of a and b, and c reads the product.
+-- The plan of one product: three parties of which any two are qualified, the inputs of a and b, and c reads the
+-- product.
 use Rattle.std.specs.Prelude.{ℕ, [], ◌∷◌}
 use Rattle.circuit_model.specs.declared.gate.Operation.TheVariants.{Mul}
 use Rattle.party_set.specs.Parties.{Structure}

@@ -8,7 +8,9 @@ use Rattle.job_plan.specs.Plans.Slot.{Output}
 use Rattle.job_plan.specs.Messages.{messages}
 
 abbrev pub same_key : Key → Key → Bool
-same_key a b = nat_eq a.session b.session && (nat_eq a.slot b.slot && (nat_eq a.share b.share && (nat_eq a.sender b.sender && nat_eq a.receiver b.receiver)))
+same_key a b =
+    nat_eq a.session b.session && (nat_eq a.slot b.slot &&
+    (nat_eq a.share b.share && (nat_eq a.sender b.sender && nat_eq a.receiver b.receiver)))
 
 abbrev pub no_key : Key
 no_key = record { session = 0; slot = 0; share = 0; sender = 0; receiver = 0 }
@@ -30,7 +32,8 @@ abbrev pub rank : Bool → Key → ℕ
 rank by_receiver key = ((if by_receiver then key.receiver else key.sender) * 64 + key.share) * 12 + key.receiver
 
 abbrev pub IsRising : (Key → ℕ) → List Key → Type 0
-IsRising f keys = (i j : ℕ) → i < j → j < length keys → f (slice_index_or keys i no_key) < f (slice_index_or keys j no_key)
+IsRising f keys =
+    (i j : ℕ) → i < j → j < length keys → f (slice_index_or keys i no_key) < f (slice_index_or keys j no_key)
 
 -- messages and numbers are each other's inverse
 abbrev pub NumbersAreInverse : Plan → Type 0
@@ -41,8 +44,10 @@ NumbersAreInverse plan =
 -- different words of a party have different places
 abbrev pub PlacesDiffer : Plan → ℕ → Type 0
 PlacesDiffer plan p =
-    (s k i s' k' i' : ℕ) → s < length plan.sessions → k < slots (session plan s) → i < words_in plan (session plan s) p (slot (session plan s) k)
-    → s' < length plan.sessions → k' < slots (session plan s') → i' < words_in plan (session plan s') p (slot (session plan s') k')
+    (s k i s' k' i' : ℕ) → s < length plan.sessions → k < slots (session plan s)
+        → i < words_in plan (session plan s) p (slot (session plan s) k)
+    → s' < length plan.sessions → k' < slots (session plan s')
+    → i' < words_in plan (session plan s') p (slot (session plan s') k')
     → place plan p s k + i ≡ place plan p s' k' + i' → (s ≡ s') × (k ≡ k') × (i ≡ i')
 
 -- how many deals of p stand before slot k of session s, and in session s

@@ -27,7 +27,8 @@ pub record Plan : Type 0 where
 -- ---- parties and summands
 
 abbrev pub plan_of : ℕ → Structure → List Session → Plan
-plan_of bits structure sessions = record { bits = bits; parties = structure.parties; groups = structure.groups; sessions = sessions }
+plan_of bits structure sessions =
+    record { bits = bits; parties = structure.parties; groups = structure.groups; sessions = sessions }
 
 abbrev pub structure : Plan → Structure
 structure plan = record { parties = plan.parties; groups = plan.groups }

@@ -33,7 +33,8 @@ pub record IsOutline (plan : Plan) : Type 0 where
   pub few_sessions : length plan.sessions ≤ 16
   pub sessions : (s : ℕ) → s < length plan.sessions → IsSoundSession plan.parties (session plan s)
 
--- a sharing in which products can be computed, and all is within the limits: ring, parties, groups, sessions, messages, tape words of a party
+-- a sharing in which products can be computed, and all is within the limits: ring, parties, groups, sessions, messages,
+-- tape words of a party
 pub record IsSound (plan : Plan) : Type 0 where
   pub some_bits : 0 < plan.bits
   pub bits : plan.bits ≤ 32

@@ -89,7 +89,8 @@ fn push_product_of(
 ) -> Result<(), AllocError>
     requires session { s < length outline.now.sessions }
     requires party { p < outline.now.parties }
-    ensures { OnOk result (keys.new ≡ keys.old ++ only_if (has_pair (scheme outline.now) p) (deal_messages outline.now s k p)) }
+    ensures { OnOk result (keys.new ≡ keys.old
+        ++ only_if (has_pair (scheme outline.now) p) (deal_messages outline.now s k p)) }
 {
     if outline.multiplies(p) {
         push_deal(outline, s, k, p, keys)?;
@@ -100,7 +101,9 @@ fn push_product_of(
 // The messages of a product in slot k.
 fn push_product(outline: &Outline, s: u32, k: u32, keys: &mut Keys) -> Result<(), AllocError>
     requires { s < length outline.now.sessions }
-    ensures { OnOk result (keys.new ≡ keys.old ++ joined outline.now.parties (λ p. only_if (has_pair (scheme outline.now) p) (deal_messages outline.now s k p))) }
+    ensures { OnOk result (keys.new ≡ keys.old
+        ++ joined outline.now.parties (λ p. only_if (has_pair (scheme outline.now) p)
+        (deal_messages outline.now s k p))) }
 {
     for p in 0..outline.parties() {
         push_product_of(outline, s, k, p, keys)?;
@@ -137,7 +140,8 @@ fn push_output(
     keys: &mut Keys,
 ) -> Result<(), AllocError>
     requires { s < length outline.now.sessions }
-    ensures { OnOk result (keys.new ≡ keys.old ++ joined outline.now.parties (λ r. only_if (has_party readers r) (open_messages outline.now s k r))) }
+    ensures { OnOk result (keys.new ≡ keys.old
+        ++ joined outline.now.parties (λ r. only_if (has_party readers r) (open_messages outline.now s k r))) }
 {
     for r in 0..outline.parties() {
         push_output_to(outline, s, k, readers, r, keys)?;

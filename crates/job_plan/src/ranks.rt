@@ -22,7 +22,8 @@ pub(crate) fn search(keys: &[PackedKey], by_receiver: bool, key: Key) -> Option<
     requires { IsRising (rank by_receiver) (names keys.now) }
     ensures within { IfSome result (λ i. i < length (names keys.now)) }
     ensures found { IfSome result (λ i. slice_index_or (names keys.now) i no_key ≡ key) }
-    ensures absent { IfNone result ((i : ℕ) → i < length (names keys.now) → slice_index_or (names keys.now) i no_key ≢ key) }
+    ensures absent { IfNone result ((i : ℕ) → i < length (names keys.now)
+        → slice_index_or (names keys.now) i no_key ≢ key) }
 {
     let wanted = rank(by_receiver, key);
     match keys.binary_search_by_key(&wanted, |held| rank(by_receiver, held.key())) {

@@ -53,7 +53,8 @@ impl SessionPart {
         inputs: Vec<InputValue>,
         outputs: Vec<OutputValue>,
     ) -> Result<SessionPart, AllocError>
-        ensures made { IfOk result (λ part. part ≡ record { gates = gates.items; wires = wires; inputs = inputs.items; outputs = outputs.items }) }
+        ensures made { IfOk result (λ part. part
+            ≡ record { gates = gates.items; wires = wires; inputs = inputs.items; outputs = outputs.items }) }
         ensures within { IfOk result (λ part. AreWithin part.outputs) }
     {
         let owners = owners_by_wire(alloc, &inputs)?;
@@ -80,7 +81,8 @@ impl SessionPart {
     ) -> Result<SessionPart, PartFault>
         ensures made { Makes circuit owners.items readers.items result }
         ensures valid { IsCircuit circuit }
-        ensures sound { IfOk result (λ part. (parties : ℕ) → AreOf parties owners.items readers.items → IsSoundSession parties part) }
+        ensures sound { IfOk result (λ part. (parties : ℕ) → AreOf parties owners.items readers.items
+            → IsSoundSession parties part) }
     {
         let wires = circuit.wires();
         check_counts(

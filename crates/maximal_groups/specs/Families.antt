@@ -30,7 +30,8 @@ is_maximal n tolerated a = tolerated a && every_below (2 ^ n) (λ b. not (is_lar
 
 -- the maximal tolerated groups of n parties, by rising mask
 abbrev pub maximal_structure : ℕ → (ℕ → Bool) → Structure
-maximal_structure n tolerated = record { parties = n; groups = filter (is_maximal n tolerated) (range_with_len 0 (2 ^ n)) }
+maximal_structure n tolerated =
+    record { parties = n; groups = filter (is_maximal n tolerated) (range_with_len 0 (2 ^ n)) }
 
 -- the maximal groups of the family that a list tells
 abbrev pub listed_structure : ℕ → List ℕ → Structure

@@ -24,7 +24,8 @@ others (x ∷ xs) = xs
 module _ {W : Type 0} where
   -- a new seat's
   abbrev pub newcomer : About W → ℕ → View W
-  newcomer about seats = record { about = Some about; seats = seats; seen = []; mine = []; looked = []; stored = []; full = []; out = [] }
+  newcomer about seats =
+      record { about = Some about; seats = seats; seen = []; mine = []; looked = []; stored = []; full = []; out = [] }
 
   -- after the store of a value, and after the number was used
   abbrev pub stores : View W → ℕ → View W
@@ -88,9 +89,12 @@ module _ {W T : Type 0} (list : W → List ℕ) (good : W → T → ℕ → Type
 
   -- each pair is a full cell and its word
   abbrev pub Stand : About W → List ℕ → List (ℕ × ℕ) → Type 0
-  Stand about words pairs = (k w : ℕ) → Knows pairs k w → (k < length (list about.world)) × (cell words (full_place about k) ≡ 1) × (cell words k ≡ w)
+  Stand about words pairs =
+      (k w : ℕ) → Knows pairs k w → (k < length (list about.world)) × (cell words (full_place about k) ≡ 1)
+      × (cell words k ≡ w)
 
-  -- what a view knows of the cells: each pair seen is there, each value stored is the promised one, each full word found is 1
+  -- what a view knows of the cells: each pair seen is there, each value stored is the promised one, each full word
+  -- found is 1
   abbrev pub IsTold : About W → List ℕ → View W → Type 0
   IsTold about words v =
       Stand about words v.seen
@@ -100,7 +104,8 @@ module _ {W T : Type 0} (list : W → List ℕ) (good : W → T → ℕ → Type
   abbrev pub IsHome : About W → State (Option T) (View W) → ℕ → Type 0
   IsHome about s i =
       (cell s.words (turn about i) ≡ 1)
-      × ((x : T) × (get_elem? s.homes i ≡ some (some (Some x))) × good about.world x i × Stand about s.words (posted about.world x))
+      × ((x : T) × (get_elem? s.homes i ≡ some (some (Some x))) × good about.world x i
+          × Stand about s.words (posted about.world x))
 
   abbrev pub IsOut : About W → State (Option T) (View W) → ℕ → Type 0
   IsOut about s i =
@@ -112,11 +117,13 @@ module _ {W T : Type 0} (list : W → List ℕ) (good : W → T → ℕ → Type
     pub size : length s.words ≡ length (list about.world) + length (list about.world) + length s.homes + 1
     -- each cell is empty or holds its promised word
     pub cells : (k : ℕ) → k < length (list about.world)
-        → (cell s.words (full_place about k) ≡ 0) ⊎ ((cell s.words (full_place about k) ≡ 1) × (cell s.words k ≡ slice_index (list about.world) k))
+        → (cell s.words (full_place about k) ≡ 0)
+        ⊎ ((cell s.words (full_place about k) ≡ 1) × (cell s.words k ≡ slice_index (list about.world) k))
     -- what a view knows is so
     pub told : (id : ℕ) (v : View W) → get_elem? s.views id ≡ some v → IsTold about s.words v
     -- what a view has posted it has seen
-    pub mine : (id : ℕ) (v : View W) → get_elem? s.views id ≡ some v → (k : ℕ) → 0 < times k v.mine → (w : ℕ) × Knows v.seen k w
+    pub mine : (id : ℕ) (v : View W) → get_elem? s.views id ≡ some v → (k : ℕ) → 0 < times k v.mine
+        → (w : ℕ) × Knows v.seen k w
     -- no number was posted twice
     pub once : (k : ℕ) → total_over (λ (v : View W). times k v.mine) s.views ≤ 1
     -- each slot has a good item, whose posts are there, or is out with a view
@@ -137,28 +144,34 @@ module _ {W T : Type 0} (list : W → List ℕ) (good : W → T → ℕ → Type
   -- the compare-and-exchange of a full word, 0 to 1, which ends a post
   abbrev pub posted_step : Step (Option T) → Sat → ℕ → Sat → Type 0
   posted_step st me n me' =
-      (about : About W) (k w : ℕ) → me.0.about ≡ Some about → st.word ≡ full_place about k + 1 → slice_index (list about.world) k ≡ w
-      → (me'.1 ≡ me.1) × (((n ≡ 0) × (me'.0 ≡ unstores (posts me.0 k w Done))) ⊎ ((n ≡ 1) × (me'.0 ≡ unstores (posts me.0 k w (Occupied w)))))
+      (about : About W) (k w : ℕ) → me.0.about ≡ Some about → st.word ≡ full_place about k + 1
+          → slice_index (list about.world) k ≡ w
+      → (me'.1 ≡ me.1) × (((n ≡ 0) × (me'.0 ≡ unstores (posts me.0 k w Done)))
+      ⊎ ((n ≡ 1) × (me'.0 ≡ unstores (posts me.0 k w (Occupied w)))))
 
   -- the load of a full word, the first step of a take. Where it is 0 the seat knew no word of the cell
   abbrev pub found_step : Step (Option T) → Sat → ℕ → Sat → Type 0
   found_step st me n me' =
       (about : About W) (k : ℕ) → me.0.about ≡ Some about → st.word ≡ full_place about k + 1
-      → (me'.1 ≡ me.1) × (((n ≡ 0) × (me'.0 ≡ looks me.0 k) × ((w : ℕ) → ¬ Knows me.0.seen k w)) ⊎ ((n ≡ 1) × (me'.0 ≡ finds me.0 k)))
+      → (me'.1 ≡ me.1) × (((n ≡ 0) × (me'.0 ≡ looks me.0 k) × ((w : ℕ) → ¬ Knows me.0.seen k w))
+      ⊎ ((n ≡ 1) × (me'.0 ≡ finds me.0 k)))
 
   -- the load of a value, which ends a take: it is the promised word, and the one that the seat knew
   abbrev pub taken_step : Step (Option T) → Sat → ℕ → Sat → Type 0
   taken_step st me n me' =
       (about : About W) (k : ℕ) → me.0.about ≡ Some about → st.word ≡ k + 1
-      → (me'.1 ≡ me.1) × (slice_index (list about.world) k ≡ n) × (me'.0 ≡ unfinds (takes me.0 k (Some n))) × ((x : ℕ) → Knows me.0.seen k x → x ≡ n)
+      → (me'.1 ≡ me.1) × (slice_index (list about.world) k ≡ n) × (me'.0 ≡ unfinds (takes me.0 k (Some n)))
+      × ((x : ℕ) → Knows me.0.seen k x → x ≡ n)
 
   -- the compare-and-exchange of a turn word, 1 to 0. Where it was 1 the item is the seat's, and good for the slot; else
   -- the slot was out, with this seat where it stands for all seats
   abbrev pub out_step : Step (Option T) → Sat → ℕ → Sat → Type 0
   out_step st me n me' =
       (about : About W) (i : ℕ) → me.0.about ≡ Some about → st.word ≡ turn about i + 1
-      → ((n ≡ 1) × ((x : T) × good about.world x i × (me'.0 ≡ takes_out me.0 i (posted about.world x)) × (me'.1 ≡ (i, Some x) ∷ me.1)))
-      ⊎ ((n ≡ 0) × (me'.0 ≡ looks me.0 (length (list about.world) + i)) × (me'.1 ≡ me.1) × (me.0.seats ≡ about.seats → Has me.0.out i))
+      → ((n ≡ 1) × ((x : T) × good about.world x i × (me'.0 ≡ takes_out me.0 i (posted about.world x))
+      × (me'.1 ≡ (i, Some x) ∷ me.1)))
+      ⊎ ((n ≡ 0) × (me'.0 ≡ looks me.0 (length (list about.world) + i)) × (me'.1 ≡ me.1)
+          × (me.0.seats ≡ about.seats → Has me.0.out i))
 
   -- the store of 1 into a turn word, as the item comes home
   abbrev pub home_step : Step (Option T) → Sat → ℕ → Sat → Type 0

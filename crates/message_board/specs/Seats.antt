@@ -24,18 +24,29 @@ pub record Sitting (W : Type 0) : Type 0 where
 
 module _ {W : Type 0} where
   abbrev pub about_coded : Coded W → Coded (About W)
-  about_coded c = coded_via (coded× c coded_ℕ) (λ (a : About W). (a.world, a.seats)) (λ x y e i. record { world = (e i).0; seats = (e i).1 })
+  about_coded c =
+      coded_via (coded× c coded_ℕ) (λ (a : About W). (a.world, a.seats))
+      (λ x y e i. record { world = (e i).0; seats = (e i).1 })
 
   abbrev pub board_coded : Coded W → Coded (BoardModel W)
-  board_coded c = coded_via (coded× table_id_coded (about_coded c)) (λ (b : BoardModel W). (b.id, b.about)) (λ x y e i. record { id = (e i).0; about = (e i).1 })
+  board_coded c =
+      coded_via (coded× table_id_coded (about_coded c)) (λ (b : BoardModel W). (b.id, b.about))
+      (λ x y e i. record { id = (e i).0; about = (e i).1 })
 
   abbrev pub view_coded : Coded W → Coded (View W)
-  view_coded c = coded_via (coded× (coded_option (about_coded c)) (coded× coded_ℕ (coded× (coded_list (coded× coded_ℕ coded_ℕ)) (coded× (coded_list coded_ℕ) (coded× (coded_list coded_ℕ) (coded× (coded_list coded_ℕ) (coded× (coded_list coded_ℕ) (coded_list coded_ℕ))))))))
+  view_coded c =
+      coded_via (coded× (coded_option (about_coded c))
+      (coded× coded_ℕ (coded× (coded_list (coded× coded_ℕ coded_ℕ))
+      (coded× (coded_list coded_ℕ) (coded× (coded_list coded_ℕ)
+      (coded× (coded_list coded_ℕ) (coded× (coded_list coded_ℕ) (coded_list coded_ℕ))))))))
       (λ (v : View W). (v.about, (v.seats, (v.seen, (v.mine, (v.looked, (v.stored, (v.full, v.out))))))))
-      (λ x y e i. record { about = (e i).0; seats = (e i).1.0; seen = (e i).1.1.0; mine = (e i).1.1.1.0; looked = (e i).1.1.1.1.0; stored = (e i).1.1.1.1.1.0; full = (e i).1.1.1.1.1.1.0; out = (e i).1.1.1.1.1.1.1 })
+      (λ x y e i. record { about = (e i).0; seats = (e i).1.0; seen = (e i).1.1.0; mine = (e i).1.1.1.0;
+          looked = (e i).1.1.1.1.0; stored = (e i).1.1.1.1.1.0; full = (e i).1.1.1.1.1.1.0; out = (e i).1.1.1.1.1.1.1 })
 
   abbrev pub sitting_coded : Coded W → Coded (Sitting W)
-  sitting_coded c = coded_via (coded× table_id_coded (view_coded c)) (λ (s : Sitting W). (s.id, s.view)) (λ x y e i. record { id = (e i).0; view = (e i).1 })
+  sitting_coded c =
+      coded_via (coded× table_id_coded (view_coded c)) (λ (s : Sitting W). (s.id, s.view))
+      (λ x y e i. record { id = (e i).0; view = (e i).1 })
 
   -- the board is about this world, with so many seats and slots
   abbrev pub IsBoardOf : W → ℕ → ℕ → BoardModel W → Type 0
@@ -81,7 +92,9 @@ IsTableFor count id = (id.words ≡ count + count + id.slots + 1) × (count < 2 
 
 -- one cell for each word, which is empty or holds the word
 abbrev pub HasCells : List ℕ → List (Option ℕ) → Type 0
-HasCells words cells = (length cells ≡ length words) × ((k : ℕ) → k < length words → (plain_cell cells k ≡ None) ⊎ (plain_cell cells k ≡ Some (slice_index words k)))
+HasCells words cells =
+    (length cells ≡ length words) × ((k : ℕ) → k < length words
+    → (plain_cell cells k ≡ None) ⊎ (plain_cell cells k ≡ Some (slice_index words k)))
 
 -- what a post of w may answer
 abbrev pub IsPostAnswer : ℕ → Posted → Type 0
@@ -91,7 +104,8 @@ IsPostAnswer w r = (r ≡ Done) ⊎ (r ≡ Occupied w)
 abbrev pub HasPosted : {W : Type 0} → BoardModel W → Sitting W → Sitting W → ℕ → ℕ → Posted → Type 0
 HasPosted board before after n w r = IsSeatOf board after × (after.view ≡ posts before.view n w r) × IsPostAnswer w r
 
--- what a take of number n did to a seat, by its answer: the promised word, and the one that the seat knew, if it knew one
+-- what a take of number n did to a seat, by its answer: the promised word, and the one that the seat knew, if it knew
+-- one
 abbrev pub HasTaken : {W : Type 0} → (W → List ℕ) → BoardModel W → Sitting W → Sitting W → ℕ → Option ℕ → Type 0
 HasTaken list board before after n r =
     IsSeatOf board after
@@ -100,8 +114,10 @@ HasTaken list board before after n r =
     × ((w : ℕ) → Knows before.view.seen n w → r ≡ Some w)
 
 -- the item x of a slot went out with a seat: it is good for the slot, and the seat knows what it posted
-abbrev pub TookOut : {W T : Type 0} → (W → T → ℕ → Type 0) → (W → T → List (ℕ × ℕ)) → W → Sitting W → Sitting W → ℕ → T → Type 0
-TookOut good posted world before after slot x = good world x slot × (after.view ≡ takes_out before.view slot (posted world x))
+abbrev pub TookOut : {W T : Type 0} → (W → T → ℕ → Type 0) → (W → T → List (ℕ × ℕ)) → W → Sitting W → Sitting W → ℕ → T
+    → Type 0
+TookOut good posted world before after slot x =
+    good world x slot × (after.view ≡ takes_out before.view slot (posted world x))
 
 -- a seat found a slot out, and holds it itself if it stands for all seats
 abbrev pub FoundOut : {W : Type 0} → (W → List ℕ) → BoardModel W → Sitting W → Sitting W → ℕ → Type 0

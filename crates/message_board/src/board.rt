@@ -155,7 +155,8 @@ impl<W: Promise, T: SlotItem<W>> Board<W, T> {
         requires seats { 0 < about.seats }
         requires few { (vec_len slots < 2 ^ 32) × (length (W.list about.world) < 2 ^ 32) }
         requires words { vec_len start ≡ length (W.list about.world) + length (W.list about.world) + vec_len slots + 1 }
-        requires rule { IsBoard W.list T.good T.posted about (opening start.items slots.items (newcomer about about.seats)) }
+        requires rule { IsBoard W.list T.good T.posted about
+            (opening start.items slots.items (newcomer about about.seats)) }
         ensures board { IfOk result (λ r. (r.0.about ≡ about) × (r.0.id.slots ≡ vec_len slots)) }
         ensures seat { IfOk result (λ r. IsSeatOf r.0 r.1 × (r.1.view ≡ newcomer about about.seats)) }
         ensures back { IfErr result (λ r. r.items ≡ slots.items) }

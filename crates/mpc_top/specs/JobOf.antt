@@ -1,4 +1,5 @@
--- The job that files stand for, where they tell what they hold: one walk, in which each file is judged before the next is read.
+-- The job that files stand for, where they tell what they hold: one walk, in which each file is judged before the next
+-- is read.
 use Rattle.std.specs.Prelude.{◌≡◌, ℕ, nat_le, Bool, if◌then◌else◌, false, List, [], ◌∷◌, ◌++◌, length, map, Option, None, Some, slice_index}
 use Rattle.party_set.specs.Parties.{Structure, Members, IsQ2}
 use Rattle.group_formula.specs.Trees.{Meaning}

@@ -12,4 +12,5 @@ out_fault_line = codes "fault out\n"
 
 -- words that are refused
 unfoldable pub usage_text : List ℕ
-usage_text = codes "refused words\nusage: mpc check DIR\n       mpc run DIR [--workers W] [--view GROUP]\n       mpc pair DIR --group GROUP\n       mpc node DIR NAME\n       mpc sample N\n"
+usage_text =
+    codes "refused words\nusage: mpc check DIR\n       mpc run DIR [--workers W] [--view GROUP]\n       mpc pair DIR --group GROUP\n       mpc node DIR NAME\n       mpc sample N\n"

@@ -1,4 +1,5 @@
-//! The structure of a job: its formula or list, the maximal tolerated groups, and the test that no two of them are all parties.
+//! The structure of a job: its formula or list, the maximal tolerated groups, and the test that no two of them are all
+//! parties.
 ghost use Rattle.std.specs.Prelude.{◌≡◌, All, IfOk, length, map};
 ghost use Rattle.party_set.specs.Parties.{IsQ2, Members};
 ghost use Rattle.job_file.specs.Forms.{by_formula, by_list};

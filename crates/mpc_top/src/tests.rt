@@ -1,4 +1,5 @@
-// Calls from their words and files to the bytes. The table of calls that were worked out by hand stands in `worked_rows`.
+// Calls from their words and files to the bytes. The table of calls that were worked out by hand stands in
+// `worked_rows`.
 
 use crate::command;
 use outer_io::{MapFiles, NoPace, VecSink};

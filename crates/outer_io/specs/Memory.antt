@@ -18,11 +18,15 @@ abbrev pub contents : BTreeMap (String Global) (Vec ℕ Global) → List ℕ →
 contents files name = option_map (λ bytes. bytes.items) (get_by_text files name)
 
 abbrev pub map_reading : MapFiles → FilesReading
-map_reading m = record { told = Some (contents m.files); faults = m.faults; taken = m.taken; steady = all_past m.failing.items m.calls }
+map_reading m =
+    record { told = Some (contents m.files); faults = m.faults; taken = m.taken;
+    steady = all_past m.failing.items m.calls }
 
 -- the bytes that a sink in memory has
 abbrev pub sink_bytes : VecSink → List ℕ
 sink_bytes s = s.bytes.items
 
 abbrev pub sink_reading : VecSink → SinkReading
-sink_reading s = record { told = Some (sink_bytes s); faults = s.faults; steady = all_past s.failing.items s.calls; room = s.limit - vec_len s.bytes }
+sink_reading s =
+    record { told = Some (sink_bytes s); faults = s.faults; steady = all_past s.failing.items s.calls;
+    room = s.limit - vec_len s.bytes }

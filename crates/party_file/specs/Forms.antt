@@ -9,10 +9,14 @@ use Rattle.party_file.specs.declared.data.PartyData.{PartyData}
 abbrev pub form_of : PartyData → PartyForm
 form_of found = record { inputs = session_words found.inputs.items; tapes = found.tapes.items }
 
--- for each session there is a word of the ring for each of the party's input wires, and a tape of as many words of the ring as it draws
+-- for each session there is a word of the ring for each of the party's input wires, and a tape of as many words of the
+-- ring as it draws
 pub record FitsPlan (plan : Plan) (p : ℕ) (form : PartyForm) : Type 0 where
   pub sessions : length form.inputs ≡ length plan.sessions
-  pub counts : (s : ℕ) → s < length plan.sessions → length (slice_index_or form.inputs s []) ≡ total (length (owners (session plan s))) (λ v. if nat_eq (slice_index (owners (session plan s)) v) p then 1 else 0)
+  pub counts : (s : ℕ) → s < length plan.sessions
+      → length (slice_index_or form.inputs s [])
+      ≡ total (length (owners (session plan s)))
+      (λ v. if nat_eq (slice_index (owners (session plan s)) v) p then 1 else 0)
   pub below : (s k : ℕ) → slice_index (slice_index_or form.inputs s []) k < 2 ^ plan.bits
   pub tapes : length form.tapes ≡ length plan.sessions
   pub lengths : (s : ℕ) → s < length plan.sessions → length (slice_index_or form.tapes s []) ≡ words plan p s

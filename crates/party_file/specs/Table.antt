@@ -41,7 +41,8 @@ field_names = codes "version" ∷ codes "inputs" ∷ codes "tape" ∷ codes "see
 
 -- no field has another name; the least one that has is told
 unfoldable pub name_checks : Members → List Check
-name_checks fields = (is_some (least_unknown field_names fields) answers Unknown (unwrap_or (least_unknown field_names fields) [])) ∷ []
+name_checks fields =
+    (is_some (least_unknown field_names fields) answers Unknown (unwrap_or (least_unknown field_names fields) [])) ∷ []
 
 -- the inputs are there, and each field is of its kind
 unfoldable pub kind_checks : Members → List Check
@@ -57,7 +58,8 @@ unfoldable pub count_checks : ℕ → Members → List Check
 count_checks sessions fields =
     ((has_field (codes "tape") fields && has_field (codes "seed") fields) answers TapeAndSeed)
     ∷ (not (has_field (codes "tape") fields || has_field (codes "seed") fields) answers Missing field.Tape)
-    ∷ (not (length (texts_at (codes "inputs") fields) == sessions) answers CountDiffers None sessions (length (texts_at (codes "inputs") fields)))
+    ∷ (not (length (texts_at (codes "inputs") fields) == sessions) answers CountDiffers None sessions
+        (length (texts_at (codes "inputs") fields)))
     ∷ []
 
 -- ---- words
@@ -79,7 +81,8 @@ bad_cause _ = cause.NotNumber
 
 -- some word of the text is bad
 unfoldable pub bad_words : Option ℕ → List ℕ → Check
-bad_words session text = is_err (words_in text) answers BadWords session (bad_place (words_in text)) (bad_cause (words_in text))
+bad_words session text =
+    is_err (words_in text) answers BadWords session (bad_place (words_in text)) (bad_cause (words_in text))
 
 -- the place of the first word that isn't below q
 unfoldable pub first_outside : ℕ → List ℕ → ℕ
@@ -87,7 +90,9 @@ first_outside q words = position_or_len (λ word. not (nat_lt word q)) words
 
 -- some word isn't in the ring of so many bits
 unfoldable pub out_of_ring : ℕ → Option ℕ → List ℕ → Check
-out_of_ring bits session words = nat_lt (first_outside (2 ^ bits) words) (length words) answers WordOutOfRing session (first_outside (2 ^ bits) words)
+out_of_ring bits session words =
+    nat_lt (first_outside (2 ^ bits) words) (length words) answers WordOutOfRing session
+    (first_outside (2 ^ bits) words)
 
 -- ---- inputs
 
@@ -101,7 +106,9 @@ session_checks bits wanted s text =
 
 -- the inputs of party p, session by session
 unfoldable pub input_checks : Plan → ℕ → List (List ℕ) → List Check
-input_checks plan p texts = joined (length plan.sessions) (λ s. session_checks plan.bits (owned (session plan s) p) s (slice_index_or texts s []))
+input_checks plan p texts =
+    joined (length plan.sessions) (λ s. session_checks plan.bits (owned (session plan s) p) s
+    (slice_index_or texts s []))
 
 -- ---- tape or seed
 
@@ -135,7 +142,8 @@ random_checks plan p fields =
 unfoldable pub tapes_of : Plan → ℕ → Members → List (List ℕ)
 tapes_of plan p fields =
     if has_field (codes "seed") fields
-    then listed (length plan.sessions) (λ s. listed (words plan p s) (seed_word (2 ^ plan.bits) (seed_in (text_at (codes "seed") fields)) s))
+    then listed (length plan.sessions) (λ s. listed (words plan p s)
+        (seed_word (2 ^ plan.bits) (seed_in (text_at (codes "seed") fields)) s))
     else cut (word_counts plan p) (numbers_in (text_at (codes "tape") fields))
 
 -- ---- the file
@@ -146,7 +154,8 @@ pub record PartyForm : Type 0 where
   pub tapes : List (List ℕ)
 
 unfoldable pub party_of : Plan → ℕ → Members → PartyForm
-party_of plan p fields = record { inputs = map numbers_in (texts_at (codes "inputs") fields); tapes = tapes_of plan p fields }
+party_of plan p fields =
+    record { inputs = map numbers_in (texts_at (codes "inputs") fields); tapes = tapes_of plan p fields }
 
 -- all checks, in order
 unfoldable pub party_checks : Plan → ℕ → Members → List Check

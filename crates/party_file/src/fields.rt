@@ -38,7 +38,8 @@ pub fn check_version(table: &Table) -> Result<(), PartyFault>
 #[tactic(auto, unfolding(crate::specs::Table::name_checks))]
 pub fn check_names(alloc: Global, table: &Table) -> Result<(), PartyFault>
     ensures passed { OnOk result (first_fault (name_checks (table_view table.now)) ≡ None) }
-    ensures fault { IfErr result (λ fault. (fault ≡ Memory) ⊎ (first_fault (name_checks (table_view table.now)) ≡ Some fault)) }
+    ensures fault { IfErr result (λ fault. (fault ≡ Memory)
+        ⊎ (first_fault (name_checks (table_view table.now)) ≡ Some fault)) }
 {
     match least_unknown(table, &["version", "inputs", "tape", "seed"]) {
         Some(name) => Err(PartyFault::Unknown {

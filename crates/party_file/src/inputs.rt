@@ -25,8 +25,10 @@ fn read_session(
     session: u32,
     text: &str,
 ) -> Result<Vec<u64>, PartyFault>
-    ensures passed { IfOk result (λ words. (first_fault (session_checks ring wanted session text.now) ≡ None) × (words.items ≡ numbers_in text.now)) }
-    ensures fault { IfErr result (λ fault. (fault ≡ Memory) ⊎ (first_fault (session_checks ring wanted session text.now) ≡ Some fault)) }
+    ensures passed { IfOk result (λ words. (first_fault (session_checks ring wanted session text.now) ≡ None)
+        × (words.items ≡ numbers_in text.now)) }
+    ensures fault { IfErr result (λ fault. (fault ≡ Memory)
+        ⊎ (first_fault (session_checks ring wanted session text.now) ≡ Some fault)) }
 {
     let words = read_numbers(alloc, Some(session), text)?;
     check_ring(ring, Some(session), &words)?;
@@ -50,8 +52,11 @@ pub fn read_inputs(
     items: &[Value],
 ) -> Result<Vec<Vec<u64>>, PartyFault>
     requires { length items.now ≡ length plan.now.sessions }
-    ensures passed { let texts = map text_of (map view items.now) in IfOk result (λ inputs. (first_fault (input_checks plan.now party texts) ≡ None) × (session_words inputs.items ≡ map numbers_in texts)) }
-    ensures fault { let texts = map text_of (map view items.now) in IfErr result (λ fault. (fault ≡ Memory) ⊎ (first_fault (input_checks plan.now party texts) ≡ Some fault)) }
+    ensures passed { let texts = map text_of (map view items.now) in IfOk result
+        (λ inputs. (first_fault (input_checks plan.now party texts) ≡ None)
+        × (session_words inputs.items ≡ map numbers_in texts)) }
+    ensures fault { let texts = map text_of (map view items.now) in IfErr result
+        (λ fault. (fault ≡ Memory) ⊎ (first_fault (input_checks plan.now party texts) ≡ Some fault)) }
 {
     let mut inputs = Vec::new(alloc);
     for session in 0..plan.sessions() {

@@ -12,8 +12,10 @@ use std::alloc::Global;
 
 /// The numbers of a text, which are the inputs of a session, or without a session the tape.
 pub fn read_numbers(alloc: Global, session: Option<u32>, text: &str) -> Result<Vec<u64>, PartyFault>
-    ensures passed { IfOk result (λ words. (first_fault (bad_words session text.now ∷ []) ≡ None) × (words.items ≡ numbers_in text.now)) }
-    ensures fault { IfErr result (λ fault. (fault ≡ Memory) ⊎ (first_fault (bad_words session text.now ∷ []) ≡ Some fault)) }
+    ensures passed { IfOk result (λ words. (first_fault (bad_words session text.now ∷ []) ≡ None)
+        × (words.items ≡ numbers_in text.now)) }
+    ensures fault { IfErr result (λ fault. (fault ≡ Memory)
+        ⊎ (first_fault (bad_words session text.now ∷ []) ≡ Some fault)) }
 {
     match read_words(alloc, text) {
         Ok(words) => Ok(words),

@@ -24,8 +24,10 @@ fn read_fields(
     party: u32,
 ) -> Result<PartyData, PartyFault>
     requires { party < plan.now.parties }
-    ensures passed { IfOk result (λ found. (first_fault (party_checks plan.now party (table_view table.now)) ≡ None) × (form_of found ≡ party_of plan.now party (table_view table.now))) }
-    ensures fault { IfErr result (λ fault. (fault ≡ Memory) ⊎ (first_fault (party_checks plan.now party (table_view table.now)) ≡ Some fault)) }
+    ensures passed { IfOk result (λ found. (first_fault (party_checks plan.now party (table_view table.now)) ≡ None)
+        × (form_of found ≡ party_of plan.now party (table_view table.now))) }
+    ensures fault { IfErr result (λ fault. (fault ≡ Memory)
+        ⊎ (first_fault (party_checks plan.now party (table_view table.now)) ≡ Some fault)) }
 {
     check_version(table)?;
     check_names(alloc, table)?;

@@ -35,7 +35,8 @@ fn word_counts(alloc: Global, plan: &Plan, party: u32) -> Result<Vec<u32>, Alloc
 
 /// The tape of these words, if each is in the ring.
 fn whole_tape(ring: Ring, words: Vec<u64>) -> Result<Tape, PartyFault>
-    ensures passed { IfOk result (λ tape. (first_fault (out_of_ring ring None words.items ∷ []) ≡ None) × (tape ≡ words.items)) }
+    ensures passed { IfOk result (λ tape. (first_fault (out_of_ring ring None words.items ∷ []) ≡ None)
+        × (tape ≡ words.items)) }
     ensures fault { IfErr result (λ fault. first_fault (out_of_ring ring None words.items ∷ []) ≡ Some fault) }
 {
     match Tape::from_words(ring, words) {
@@ -59,8 +60,11 @@ fn place(fault: TapeFault) -> u64
 #[tactic(auto, unfolding(crate::specs::Table::tape_checks))]
 fn read_tape(alloc: Global, plan: &Plan, party: u32, text: &str) -> Result<Vec<Tape>, PartyFault>
     requires { party < plan.now.parties }
-    ensures passed { IfOk result (λ tapes. (first_fault (tape_checks plan.now.bits (sum (word_counts plan.now party)) text.now) ≡ None) × (tapes.items ≡ cut (word_counts plan.now party) (numbers_in text.now))) }
-    ensures fault { IfErr result (λ fault. (fault ≡ Memory) ⊎ (first_fault (tape_checks plan.now.bits (sum (word_counts plan.now party)) text.now) ≡ Some fault)) }
+    ensures passed { IfOk result (λ tapes. (first_fault
+        (tape_checks plan.now.bits (sum (word_counts plan.now party)) text.now) ≡ None)
+        × (tapes.items ≡ cut (word_counts plan.now party) (numbers_in text.now))) }
+    ensures fault { IfErr result (λ fault. (fault ≡ Memory)
+        ⊎ (first_fault (tape_checks plan.now.bits (sum (word_counts plan.now party)) text.now) ≡ Some fault)) }
 {
     let words = read_numbers(alloc, None, text)?;
     let tape = whole_tape(plan.ring(), words)?;
@@ -83,7 +87,9 @@ fn seed_tapes(
     seed: &[u8; 32],
 ) -> Result<Vec<Tape>, AllocError>
     requires { party < plan.now.parties }
-    ensures { IfOk result (λ tapes. tapes.items ≡ listed (length plan.now.sessions) (λ s. listed (words plan.now party s) (seed_word (2 ^ plan.now.bits) seed.now s))) }
+    ensures { IfOk result (λ tapes. tapes.items
+        ≡ listed (length plan.now.sessions) (λ s. listed (words plan.now party s)
+        (seed_word (2 ^ plan.now.bits) seed.now s))) }
 {
     let mut tapes = Vec::new(alloc);
     for session in 0..plan.sessions() {
@@ -96,7 +102,9 @@ fn seed_tapes(
 /// The tapes of the seed of 64 hexadecimal digits.
 fn read_seed(alloc: Global, plan: &Plan, party: u32, text: &str) -> Result<Vec<Tape>, PartyFault>
     requires { party < plan.now.parties }
-    ensures passed { IfOk result (λ tapes. (first_fault (seed_checks text.now) ≡ None) × (tapes.items ≡ listed (length plan.now.sessions) (λ s. listed (words plan.now party s) (seed_word (2 ^ plan.now.bits) (seed_in text.now) s)))) }
+    ensures passed { IfOk result (λ tapes. (first_fault (seed_checks text.now) ≡ None)
+        × (tapes.items ≡ listed (length plan.now.sessions)
+        (λ s. listed (words plan.now party s) (seed_word (2 ^ plan.now.bits) (seed_in text.now) s)))) }
     ensures fault { IfErr result (λ fault. (fault ≡ Memory) ⊎ (first_fault (seed_checks text.now) ≡ Some fault)) }
 {
     match <[u8; 32]>::from_hex(text) {
@@ -114,8 +122,10 @@ pub fn read_tapes(
     table: &Table,
 ) -> Result<Vec<Tape>, PartyFault>
     requires { party < plan.now.parties }
-    ensures passed { IfOk result (λ tapes. (first_fault (random_checks plan.now party (table_view table.now)) ≡ None) × (tapes.items ≡ tapes_of plan.now party (table_view table.now))) }
-    ensures fault { IfErr result (λ fault. (fault ≡ Memory) ⊎ (first_fault (random_checks plan.now party (table_view table.now)) ≡ Some fault)) }
+    ensures passed { IfOk result (λ tapes. (first_fault (random_checks plan.now party (table_view table.now)) ≡ None)
+        × (tapes.items ≡ tapes_of plan.now party (table_view table.now))) }
+    ensures fault { IfErr result (λ fault. (fault ≡ Memory)
+        ⊎ (first_fault (random_checks plan.now party (table_view table.now)) ≡ Some fault)) }
 {
     if has_field(table, "seed") {
         read_seed(alloc, plan, party, text_at(table, "seed"))

@@ -22,7 +22,8 @@ fn push_message(
 ) -> Result<(), AllocError>
     requires sound { IsSound plan.now }
     requires number { number < length (messages plan.now) }
-    ensures { OnOk result (program.new ≡ program.old ++ map (passing posting plan.now) (filter (passes posting plan.now p) (number ∷ []))) }
+    ensures { OnOk result (program.new ≡ program.old
+        ++ map (passing posting plan.now) (filter (passes posting plan.now p) (number ∷ []))) }
 {
     let message = plan.message(number);
     let share = message.share;

@@ -47,7 +47,8 @@ pub record IsAntichain (s : Structure) : Type 0 where
   pub few_groups : length s.groups ≤ 64
   pub masks : (i : ℕ) → i < length s.groups → slice_index s.groups i < 2 ^ s.parties
   pub rising : (i j : ℕ) → i < j → j < length s.groups → slice_index s.groups i < slice_index s.groups j
-  pub apart : (i j : ℕ) → i < length s.groups → j < length s.groups → i ≢ j → within s.parties (slice_index s.groups i) (slice_index s.groups j) ≡ false
+  pub apart : (i j : ℕ) → i < length s.groups → j < length s.groups → i ≢ j
+      → within s.parties (slice_index s.groups i) (slice_index s.groups j) ≡ false
 
 -- a and b together are all of n parties
 abbrev pub covers : ℕ → ℕ → ℕ → Bool
@@ -55,4 +56,5 @@ covers n a b = every_below n (λ p. has_party a p || has_party b p)
 
 -- no two groups together are all parties (the condition Q2 of Hirt and Maurer)
 pub record IsQ2 (s : Structure) : Type 0 where
-  pub no_cover : (i j : ℕ) → i < length s.groups → j < length s.groups → covers s.parties (slice_index s.groups i) (slice_index s.groups j) ≡ false
+  pub no_cover : (i j : ℕ) → i < length s.groups → j < length s.groups
+      → covers s.parties (slice_index s.groups i) (slice_index s.groups j) ≡ false

@@ -106,7 +106,8 @@ pub fn names_have_no_fault()
 
 // Tells what is wrong with the name that stands at this place after these names.
 fn check_name(before: &[NameText], name: &str, at: u64) -> Result<(), NamesFault>
-    ensures { MatchResult result (λ _. name_fault before.now name.now at ≡ None) (λ fault. name_fault before.now name.now at ≡ Some fault) }
+    ensures { MatchResult result (λ _. name_fault before.now name.now at ≡ None)
+        (λ fault. name_fault before.now name.now at ≡ Some fault) }
 {
     if !is_name(name) {
         return Err(NamesFault::BadName { at });

@@ -17,7 +17,8 @@ pub enum PartFault {
 
 /// Compares the counts of owners and of groups of readers with those of a circuit's input and output values.
 pub fn check_counts(inputs: u64, owners: u64, outputs: u64, readers: u64) -> Result<(), PartFault>
-    ensures { MatchResult result (λ _. counts_fault inputs owners outputs readers ≡ None) (λ fault. counts_fault inputs owners outputs readers ≡ Some fault) }
+    ensures { MatchResult result (λ _. counts_fault inputs owners outputs readers ≡ None)
+        (λ fault. counts_fault inputs owners outputs readers ≡ Some fault) }
 {
     if owners != inputs {
         return Err(PartFault::OwnersDiffer {

@@ -11,7 +11,8 @@ duty s i j = least_party s (λ p. holds s p i && holds s p j)
 
 -- the sharing that a structure makes, in the ring of so many bits
 abbrev pub scheme_of : ℕ → Structure → Scheme
-scheme_of bits s = record { modulus = 2 ^ bits; parties = s.parties; shares = length s.groups; holds = holds s; duty = duty s }
+scheme_of bits s =
+    record { modulus = 2 ^ bits; parties = s.parties; shares = length s.groups; holds = holds s; duty = duty s }
 
 -- the pairs (i, 0) to (i, m - 1) at which f gives p
 abbrev pub pairs_in_row : (ℕ → ℕ → ℕ) → ℕ → ℕ → ℕ → List (ℕ × ℕ)
@@ -44,6 +45,7 @@ pub record IsTable (s : Structure) (table : List ℕ) (party_lists : List (List 
   pub antichain : IsAntichain s
   pub q2 : IsQ2 s
   pub size : length table ≡ length s.groups * length s.groups
-  pub duties : (i j : ℕ) → i < length s.groups → j < length s.groups → slice_index table (i * length s.groups + j) ≡ duty s i j
+  pub duties : (i j : ℕ) → i < length s.groups → j < length s.groups
+      → slice_index table (i * length s.groups + j) ≡ duty s i j
   pub count : length party_lists ≡ s.parties
   pub lists : (p : ℕ) → p < s.parties → slice_index_or party_lists p [] ≡ pairs_of s p

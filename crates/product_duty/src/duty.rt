@@ -107,7 +107,8 @@ fn masks_of(alloc: Global, groups: &Groups) -> Result<Vec<u32>, AllocError>
 fn duties_of(alloc: Global, groups: &Groups) -> Result<Vec<u32>, AllocError>
     requires { IsQ2 groups.now }
     ensures size { IfOk result (λ duties. length duties.items ≡ length groups.now.groups * length groups.now.groups) }
-    ensures duties { IfOk result (λ duties. (i j : ℕ) → i < length groups.now.groups → j < length groups.now.groups → slice_index duties.items (i * length groups.now.groups + j) ≡ duty groups.now i j) }
+    ensures duties { IfOk result (λ duties. (i j : ℕ) → i < length groups.now.groups → j < length groups.now.groups
+        → slice_index duties.items (i * length groups.now.groups + j) ≡ duty groups.now i j) }
 {
     let mut duties = Vec::new(alloc);
     for i in 0..groups.len() {

@@ -7,7 +7,8 @@ pub record IsFirstCovering (s : Structure) (i j : ℕ) : Type 0 where
   pub order : i ≤ j
   pub group : j < length s.groups
   pub covering : covers s.parties (slice_index s.groups i) (slice_index s.groups j) ≡ true
-  pub earlier_rows : (a b : ℕ) → a < i → a ≤ b → b < length s.groups → covers s.parties (slice_index s.groups a) (slice_index s.groups b) ≡ false
+  pub earlier_rows : (a b : ℕ) → a < i → a ≤ b → b < length s.groups
+      → covers s.parties (slice_index s.groups a) (slice_index s.groups b) ≡ false
   pub earlier : (b : ℕ) → i ≤ b → b < j → covers s.parties (slice_index s.groups i) (slice_index s.groups b) ≡ false
 
 -- the first group is of all parties

@@ -38,7 +38,9 @@ number_line part number name key value = line part number name (number_key key (
 
 -- a file that is too long
 unfoldable pub too_long_line : List ℕ → List ℕ
-too_long_line file = line (codes "files") 1 (codes "TooLong") (key_text (codes "file") (Some file) ++ number_key (codes "limit") (Some 16777216))
+too_long_line file =
+    line (codes "files") 1 (codes "TooLong")
+    (key_text (codes "file") (Some file) ++ number_key (codes "limit") (Some 16777216))
 
 unfoldable pub formula_line : FormulaFault → List ℕ
 formula_line (formula.Syntax at) = number_line (codes "formula") 1 (codes "Syntax") (codes "at") at
@@ -55,7 +57,8 @@ groups_line found = number_line (codes "groups") 1 (codes "TooManyGroups") (code
 -- two tolerated groups that together are all parties
 unfoldable pub covering_line : List (List ℕ) → ℕ → ℕ → List ℕ
 covering_line names first second =
-    line (codes "q2") 1 (codes "Covering") (key_text (codes "first") (Some (group_text names first)) ++ key_text (codes "second") (Some (group_text names second)))
+    line (codes "q2") 1 (codes "Covering") (key_text (codes "first") (Some (group_text names first))
+        ++ key_text (codes "second") (Some (group_text names second)))
 
 -- the file of a session's circuit
 abbrev pub file_keys : List ℕ → ℕ → List ℕ
@@ -64,24 +67,30 @@ file_keys file session = key_text (codes "file") (Some file) ++ number_key (code
 -- what a fault of a circuit carries
 abbrev pub circuit_keys : CircuitFault → List ℕ
 circuit_keys f =
-    number_key (codes "line") (circuit.line_in f) ++ (number_key (codes "wire") (circuit.wire_in f) ++ (number_key (codes "at") (circuit.at_in f)
+    number_key (codes "line") (circuit.line_in f)
+        ++ (number_key (codes "wire") (circuit.wire_in f) ++ (number_key (codes "at") (circuit.at_in f)
     ++ (number_key (codes "found") (circuit.found_in f) ++ signed_key (codes "bits") (circuit.bits_in f))))
 
 unfoldable pub circuit_line : List ℕ → ℕ → CircuitFault → List ℕ
-circuit_line file session f = line (codes "circuit") (circuit.number_of f) (circuit.name_of f) (file_keys file session ++ circuit_keys f)
+circuit_line file session f =
+    line (codes "circuit") (circuit.number_of f) (circuit.name_of f) (file_keys file session ++ circuit_keys f)
 
 -- a party, and how many tape words it draws
 abbrev pub words_keys : List ℕ → ℕ → List ℕ
 words_keys party count = key_text (codes "party") (Some party) ++ number_key (codes "count") (Some count)
 
 unfoldable pub plan_line : List (List ℕ) → PlanFault → List ℕ
-plan_line names (plan.TooManyMessages count) = number_line (codes "plan") 1 (codes "TooManyMessages") (codes "count") count
-plan_line names (plan.TooManyWords party count) = line (codes "plan") 2 (codes "TooManyWords") (words_keys (slice_index_or names party []) count)
+plan_line names (plan.TooManyMessages count) =
+    number_line (codes "plan") 1 (codes "TooManyMessages") (codes "count") count
+plan_line names (plan.TooManyWords party count) =
+    line (codes "plan") 2 (codes "TooManyWords") (words_keys (slice_index_or names party []) count)
 plan_line names plan.Memory = []
 
 -- the counts of a session that differ
 abbrev pub part_keys : ℕ → PartFault → List ℕ
-part_keys session f = number_key (codes "session") (Some session) ++ (number_key (codes "wanted") (wanted_in f) ++ number_key (codes "found") (found_in f))
+part_keys session f =
+    number_key (codes "session") (Some session)
+    ++ (number_key (codes "wanted") (wanted_in f) ++ number_key (codes "found") (found_in f))
 
 unfoldable pub session_line : ℕ → PartFault → List ℕ
 session_line session f = line (codes "session") (part_number_of f) (part_name_of f) (part_keys session f)
@@ -90,12 +99,14 @@ session_line session f = line (codes "session") (part_number_of f) (part_name_of
 abbrev pub job_place : JobFault → List ℕ
 job_place f =
     number_key (codes "session") (job.session_key f) ++ (number_key (codes "value") (job.value_key f)
-    ++ (key_text (codes "field") (option_map job_names.field_text (job.field_key f)) ++ key_text (codes "name") (option_map masked (job.name_key f))))
+    ++ (key_text (codes "field") (option_map job_names.field_text (job.field_key f))
+        ++ key_text (codes "name") (option_map masked (job.name_key f))))
 
 -- the numbers that it carries
 abbrev pub job_numbers : JobFault → List ℕ
 job_numbers f =
-    number_key (codes "at") (job.at_key f) ++ (signed_key (codes "found") (job.found_key f) ++ (number_key (codes "count") (job.count_key f)
+    number_key (codes "at") (job.at_key f)
+        ++ (signed_key (codes "found") (job.found_key f) ++ (number_key (codes "count") (job.count_key f)
     ++ (signed_key (codes "bits") (job.bits_key f) ++ signed_key (codes "port") (job.port_key f))))
 
 unfoldable pub job_line : JobFault → List ℕ
@@ -105,12 +116,15 @@ job_line f = line (job.fault_part f) (job.fault_number f) (job.fault_name f) (jo
 abbrev pub party_place : List ℕ → PartyFault → List ℕ
 party_place file f =
     key_text (codes "file") (Some file) ++ (number_key (codes "session") (party.session_of f)
-    ++ (key_text (codes "field") (option_map party.field_text (party.field_of f)) ++ key_text (codes "name") (option_map masked (party.unknown_of f))))
+    ++ (key_text (codes "field") (option_map party.field_text (party.field_of f))
+        ++ key_text (codes "name") (option_map masked (party.unknown_of f))))
 
 -- what it carries
 abbrev pub party_numbers : PartyFault → List ℕ
 party_numbers f =
-    number_key (codes "at") (party.at_of f) ++ (key_text (codes "cause") (option_map party.cause_text (party.cause_of f)) ++ (number_key (codes "wanted") (party.wanted_of f)
+    number_key (codes "at") (party.at_of f)
+        ++ (key_text (codes "cause") (option_map party.cause_text (party.cause_of f))
+        ++ (number_key (codes "wanted") (party.wanted_of f)
     ++ (signed_key (codes "found") (party.version_of f) ++ number_key (codes "found") (party.found_of f))))
 
 unfoldable pub party_line : List ℕ → PartyFault → List ℕ

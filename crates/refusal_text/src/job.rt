@@ -33,7 +33,8 @@ fn push_place(line: &mut Vec<u8>, fault: &JobFault) -> Result<(), AllocError>
 }
 
 fn push_field(line: &mut Vec<u8>, fault: &JobFault) -> Result<(), AllocError>
-    ensures { OnOk result (line.new.items ≡ line.old.items ++ key_text (codes "field") (option_map field_text (field_key fault.now))) }
+    ensures { OnOk result (line.new.items
+        ≡ line.old.items ++ key_text (codes "field") (option_map field_text (field_key fault.now))) }
 {
     match fault.field() {
         Some(field) => push_text_key(line, "field", field.text().as_bytes()),
@@ -42,7 +43,8 @@ fn push_field(line: &mut Vec<u8>, fault: &JobFault) -> Result<(), AllocError>
 }
 
 fn push_name(line: &mut Vec<u8>, fault: &JobFault) -> Result<(), AllocError>
-    ensures { OnOk result (line.new.items ≡ line.old.items ++ key_text (codes "name") (option_map masked (name_key fault.now))) }
+    ensures { OnOk result (line.new.items
+        ≡ line.old.items ++ key_text (codes "name") (option_map masked (name_key fault.now))) }
 {
     match fault.unknown_name() {
         Some(name) => push_name_key(line, name.as_bytes()),

@@ -32,7 +32,8 @@ fn push_place(line: &mut Vec<u8>, file: &str, fault: &PartyFault) -> Result<(), 
 }
 
 fn push_field(line: &mut Vec<u8>, fault: &PartyFault) -> Result<(), AllocError>
-    ensures { OnOk result (line.new.items ≡ line.old.items ++ key_text (codes "field") (option_map field_text (field_of fault.now))) }
+    ensures { OnOk result (line.new.items
+        ≡ line.old.items ++ key_text (codes "field") (option_map field_text (field_of fault.now))) }
 {
     match fault.field() {
         Some(field) => push_text_key(line, "field", field.text().as_bytes()),
@@ -41,7 +42,8 @@ fn push_field(line: &mut Vec<u8>, fault: &PartyFault) -> Result<(), AllocError>
 }
 
 fn push_name(line: &mut Vec<u8>, fault: &PartyFault) -> Result<(), AllocError>
-    ensures { OnOk result (line.new.items ≡ line.old.items ++ key_text (codes "name") (option_map masked (unknown_of fault.now))) }
+    ensures { OnOk result (line.new.items
+        ≡ line.old.items ++ key_text (codes "name") (option_map masked (unknown_of fault.now))) }
 {
     match fault.unknown_name() {
         Some(name) => push_name_key(line, name.as_bytes()),
@@ -50,7 +52,8 @@ fn push_name(line: &mut Vec<u8>, fault: &PartyFault) -> Result<(), AllocError>
 }
 
 fn push_cause(line: &mut Vec<u8>, fault: &PartyFault) -> Result<(), AllocError>
-    ensures { OnOk result (line.new.items ≡ line.old.items ++ key_text (codes "cause") (option_map cause_text (cause_of fault.now))) }
+    ensures { OnOk result (line.new.items
+        ≡ line.old.items ++ key_text (codes "cause") (option_map cause_text (cause_of fault.now))) }
 {
     match fault.cause() {
         Some(cause) => push_text_key(line, "cause", cause.text().as_bytes()),

@@ -25,7 +25,8 @@ pub fn plan_line(alloc: Global, names: &Names, fault: PlanFault) -> Result<Vec<u
 }
 
 fn words_line(alloc: Global, party: &str, count: u64) -> Result<Vec<u8>, AllocError>
-    ensures { IfOk result (λ text. text.items ≡ line (codes "plan") 2 (codes "TooManyWords") (words_keys party.now count)) }
+    ensures { IfOk result (λ text. text.items
+        ≡ line (codes "plan") 2 (codes "TooManyWords") (words_keys party.now count)) }
 {
     let mut keys = Vec::new(alloc);
     push_words_keys(&mut keys, party, count)?;

@@ -1,4 +1,5 @@
-//! Multiplying: each party multiplies the pairs of summands that are its duty, deals the sum of those products anew, and
+//! Multiplying: each party multiplies the pairs of summands that are its duty, deals the sum of those products anew,
+//! and
 //! adds up what was dealt to it (Maurer 2006).
 #![tactic(auto)]
 
@@ -33,7 +34,8 @@ pub fn add_word(ring: Ring, into: &mut [u64], share: u32, word: u64)
     requires share { share < length into.old }
     requires words { All (λ word. word < 2 ^ ring) into.old }
     requires word { word < 2 ^ ring }
-    ensures sums { (i : ℕ) → slice_index into.new i ≡ set_at (slice_index into.old) share ((slice_index into.old share + word) % 2 ^ ring) i }
+    ensures sums { (i : ℕ) → slice_index into.new i
+        ≡ set_at (slice_index into.old) share ((slice_index into.old share + word) % 2 ^ ring) i }
     ensures below { All (λ word. word < 2 ^ ring) into.new }
 {
     let sum = &mut into[share as usize];

@@ -20,7 +20,8 @@ dealt s v words i = if nat_lt (suc i) s.shares then words i else difference s.mo
 
 -- the sum of the products that are party p's duty
 abbrev pub own_product : Scheme → ℕ → (ℕ → ℕ) → (ℕ → ℕ) → ℕ
-own_product s p x y = total s.shares (λ i. total s.shares (λ j. if nat_eq (s.duty i j) p then x i * y j else 0)) % s.modulus
+own_product s p x y =
+    total s.shares (λ i. total s.shares (λ j. if nat_eq (s.duty i j) p then x i * y j else 0)) % s.modulus
 
 abbrev pub has_pair : Scheme → ℕ → Bool
 has_pair s p = some_below s.shares (λ i. some_below s.shares (λ j. nat_eq (s.duty i j) p))
@@ -48,13 +49,15 @@ pub record Run : Type 0 where
 -- the summands that a gate sets, from those of its wires
 abbrev pub gate_summands : Run → ℕ → (ℕ → ℕ) → (ℕ → ℕ) → ℕ → ℕ
 gate_summands r t x y i =
-    if is_product (r.gates t).operation then r.product t x y i else local r.scheme.modulus (r.gates t).operation (r.gates t).constant i (x i) (y i)
+    if is_product (r.gates t).operation then r.product t x y i
+        else local r.scheme.modulus (r.gates t).operation (r.gates t).constant i (x i) (y i)
 
 -- summand i of wire v after the first t gates
 abbrev pub summands : Run → ℕ → ℕ → ℕ → ℕ
 summands r zero = r.start
 summands r (suc t) =
-    set_at (summands r t) (r.gates t).output (gate_summands r t (summands r t (r.gates t).first) (summands r t (r.gates t).second))
+    set_at (summands r t) (r.gates t).output
+        (gate_summands r t (summands r t (r.gates t).first) (summands r t (r.gates t).second))
 
 -- what party p multiplies at gate t
 abbrev pub own_value : Run → ℕ → ℕ → ℕ
@@ -75,7 +78,8 @@ AddUp s x value = (v : ℕ) → total s.shares (x v) % s.modulus ≡ value v
 
 pub record IsRun (r : Run) : Type 0 where
   pub scheme : IsScheme r.scheme
-  pub products : (t : ℕ) (x y : ℕ → ℕ) → total r.scheme.shares (r.product t x y) % r.scheme.modulus ≡ total r.scheme.shares x * total r.scheme.shares y % r.scheme.modulus
+  pub products : (t : ℕ) (x y : ℕ → ℕ) → total r.scheme.shares (r.product t x y) % r.scheme.modulus
+      ≡ total r.scheme.shares x * total r.scheme.shares y % r.scheme.modulus
 
 -- the summands that are dealt of a value add up to it
 abbrev pub DealtAddUp : Scheme → Type 0
@@ -83,4 +87,5 @@ DealtAddUp s = (v : ℕ) (words : ℕ → ℕ) → total s.shares (dealt s v wor
 
 -- where the summands of each wire add up to its value before the first gate, they do after each gate
 abbrev pub SumIsPlain : Run → (ℕ → ℕ) → Type 0
-SumIsPlain r v = AddUp r.scheme r.start v → (t : ℕ) → AddUp r.scheme (summands r t) (values r.scheme.modulus r.gates v t)
+SumIsPlain r v =
+    AddUp r.scheme r.start v → (t : ℕ) → AddUp r.scheme (summands r t) (values r.scheme.modulus r.gates v t)

@@ -34,17 +34,23 @@ pub record IsWhole (w : World) : Type 0 where
 
 -- the summands of each wire add up to its value
 abbrev pub SumIsPlain : World → Type 0
-SumIsPlain w = (s v : ℕ) → total (length w.plan.groups) (summands (run_of w s) (length (session w.plan s).gates) v) % 2 ^ w.plan.bits ≡ plain w s v
+SumIsPlain w =
+    (s v : ℕ) → total (length w.plan.groups)
+    (summands (run_of w s) (length (session w.plan s).gates) v) % 2 ^ w.plan.bits ≡ plain w s v
 
 -- ---- local runs over the words of the equations
 
 -- the summands that a party holds are those of the equations
 abbrev pub HeldAreDealt : World → Type 0
-HeldAreDealt w = (p s t v i : ℕ) → i < length w.plan.groups → holds w.plan p i ≡ true → summands (local_run w (word w) p s) t v i ≡ summands (run_of w s) t v i
+HeldAreDealt w =
+    (p s t v i : ℕ) → i < length w.plan.groups → holds w.plan p i ≡ true
+    → summands (local_run w (word w) p s) t v i ≡ summands (run_of w s) t v i
 
 -- the words that it sends are those of the equations
 abbrev pub SentAreWords : World → Type 0
-SentAreWords w = (n : ℕ) → n < length (messages w.plan) → local_word w (word w) (message w.plan n).sender (message w.plan n) ≡ word w (message w.plan n)
+SentAreWords w =
+    (n : ℕ) → n < length (messages w.plan)
+    → local_word w (word w) (message w.plan n).sender (message w.plan n) ≡ word w (message w.plan n)
 
 -- the outputs that it opens are the plain values
 abbrev pub OpenedArePlain : World → Type 0

@@ -14,7 +14,9 @@ multiply_world = record {
 
 -- the words of its 21 messages, in the order of their numbers
 abbrev pub MultiplyWords : Type 0
-MultiplyWords = map (word multiply_world) (messages (multiply_plan 8)) ≡ 10 ∷ 10 ∷ 20 ∷ 231 ∷ 30 ∷ 40 ∷ 40 ∷ 193 ∷ 1 ∷ 1 ∷ 2 ∷ 112 ∷ 3 ∷ 4 ∷ 4 ∷ 193 ∷ 5 ∷ 6 ∷ 221 ∷ 221 ∷ 14 ∷ []
+MultiplyWords =
+    map (word multiply_world) (messages (multiply_plan 8))
+    ≡ 10 ∷ 10 ∷ 20 ∷ 231 ∷ 30 ∷ 40 ∷ 40 ∷ 193 ∷ 1 ∷ 1 ∷ 2 ∷ 112 ∷ 3 ∷ 4 ∷ 4 ∷ 193 ∷ 5 ∷ 6 ∷ 221 ∷ 221 ∷ 14 ∷ []
 
 abbrev pub MultiplyPlain : Type 0
 MultiplyPlain = plain multiply_world 0 2 ≡ 35

@@ -31,26 +31,45 @@ pub record GatesInOrder (s : Session) : Type 0 where
 
 -- summands of the wires, and of the deals by party and slot, as the protocol has them
 pub record SummandsSolve (w : World) (s : ℕ) (summand : ℕ → ℕ → ℕ) (deal : ℕ → ℕ → ℕ → ℕ) : Type 0 where
-  pub input_deals : (v i : ℕ) → v < length (owners (session w.plan s)) → deal (slice_index (owners (session w.plan s)) v) v i ≡ dealt (scheme w.plan) (input_of w s v) (tape_word w s v (slice_index (owners (session w.plan s)) v)) i
-  pub product_deals : (t p i : ℕ) → t < length (session w.plan s).gates → is_product (gate (session w.plan s) t).operation ≡ true
-      → deal p (length (owners (session w.plan s)) + t) i ≡ dealt (scheme w.plan) (own_product (scheme w.plan) p (summand (gate (session w.plan s) t).first) (summand (gate (session w.plan s) t).second)) (tape_word w s (length (owners (session w.plan s)) + t) p) i
-  pub inputs : (v i : ℕ) → v < length (owners (session w.plan s)) → summand v i ≡ deal (slice_index (owners (session w.plan s)) v) v i
-  pub linear : (t i : ℕ) → t < length (session w.plan s).gates → is_product (gate (session w.plan s) t).operation ≡ false
-      → summand (gate (session w.plan s) t).output i ≡ local (scheme w.plan).modulus (gate (session w.plan s) t).operation (gate (session w.plan s) t).constant i (summand (gate (session w.plan s) t).first i) (summand (gate (session w.plan s) t).second i)
-  pub products : (t i : ℕ) → t < length (session w.plan s).gates → is_product (gate (session w.plan s) t).operation ≡ true
-      → summand (gate (session w.plan s) t).output i ≡ total w.plan.parties (λ p. if has_pair (scheme w.plan) p then deal p (length (owners (session w.plan s)) + t) i else 0) % (scheme w.plan).modulus
+  pub input_deals : (v i : ℕ) → v < length (owners (session w.plan s))
+      → deal (slice_index (owners (session w.plan s)) v) v i
+      ≡ dealt (scheme w.plan) (input_of w s v) (tape_word w s v (slice_index (owners (session w.plan s)) v)) i
+  pub product_deals : (t p i : ℕ) → t < length (session w.plan s).gates
+      → is_product (gate (session w.plan s) t).operation ≡ true
+      → deal p (length (owners (session w.plan s)) + t) i
+      ≡ dealt (scheme w.plan) (own_product (scheme w.plan) p (summand (gate (session w.plan s) t).first)
+      (summand (gate (session w.plan s) t).second)) (tape_word w s (length (owners (session w.plan s)) + t) p) i
+  pub inputs : (v i : ℕ) → v < length (owners (session w.plan s))
+      → summand v i ≡ deal (slice_index (owners (session w.plan s)) v) v i
+  pub linear : (t i : ℕ) → t < length (session w.plan s).gates
+      → is_product (gate (session w.plan s) t).operation ≡ false
+      → summand (gate (session w.plan s) t).output i
+      ≡ local (scheme w.plan).modulus (gate (session w.plan s) t).operation (gate (session w.plan s) t).constant i
+      (summand (gate (session w.plan s) t).first i) (summand (gate (session w.plan s) t).second i)
+  pub products : (t i : ℕ) → t < length (session w.plan s).gates
+      → is_product (gate (session w.plan s) t).operation ≡ true
+      → summand (gate (session w.plan s) t).output i
+      ≡ total w.plan.parties (λ p. if has_pair (scheme w.plan) p then deal p (length (owners (session w.plan s)) + t) i
+      else 0) % (scheme w.plan).modulus
   pub unset : (v i : ℕ) → (SetBefore (session w.plan s) (length (session w.plan s).gates) v → ⊥) → summand v i ≡ 0
 
 -- these summands of the wires and of the deals are the world's
 pub record AreSummands (w : World) (s : ℕ) (summand : ℕ → ℕ → ℕ) (deal : ℕ → ℕ → ℕ → ℕ) : Type 0 where
-  pub wires : (v i : ℕ) → i < length w.plan.groups → summand v i ≡ summands (run_of w s) (length (session w.plan s).gates) v i
-  pub deals : (p k i : ℕ) → k < slots (session w.plan s) → deals_in w.plan (session w.plan s) p (slot (session w.plan s) k) ≡ true → deal p k i ≡ deal_of w s p k (slot (session w.plan s) k) i
+  pub wires : (v i : ℕ) → i < length w.plan.groups
+      → summand v i ≡ summands (run_of w s) (length (session w.plan s).gates) v i
+  pub deals : (p k i : ℕ) → k < slots (session w.plan s)
+      → deals_in w.plan (session w.plan s) p (slot (session w.plan s) k) ≡ true
+      → deal p k i ≡ deal_of w s p k (slot (session w.plan s) k) i
 
 -- the world's summands are the only solution
 abbrev pub OnlySolution : World → ℕ → Type 0
 OnlySolution w s =
-    GatesInOrder (session w.plan s) → (summand : ℕ → ℕ → ℕ) (deal : ℕ → ℕ → ℕ → ℕ) → SummandsSolve w s summand deal → AreSummands w s summand deal
+    GatesInOrder (session w.plan s) → (summand : ℕ → ℕ → ℕ) (deal : ℕ → ℕ → ℕ → ℕ) → SummandsSolve w s summand deal
+        → AreSummands w s summand deal
 
 -- and they are a solution
 abbrev pub IsSolution : World → ℕ → Type 0
-IsSolution w s = GatesInOrder (session w.plan s) → SummandsSolve w s (summands (run_of w s) (length (session w.plan s).gates)) (λ p k. deal_of w s p k (slot (session w.plan s) k))
+IsSolution w s =
+    GatesInOrder (session w.plan s)
+    → SummandsSolve w s (summands (run_of w s) (length (session w.plan s).gates))
+    (λ p k. deal_of w s p k (slot (session w.plan s) k))

@@ -19,7 +19,8 @@ abbrev pub input_of : World → ℕ → ℕ → ℕ
 input_of w s v =
     let owner = slice_index (owners (session w.plan s)) in
     let p = owner v in
-    slice_index (slice_index_or (slice_index_or w.inputs p []) s []) (total v (λ u. if nat_eq (owner u) p then 1 else 0))
+    slice_index (slice_index_or (slice_index_or w.inputs p []) s [])
+        (total v (λ u. if nat_eq (owner u) p then 1 else 0))
 
 -- word i of those that party p draws in slot k of session s
 abbrev pub tape_word : World → ℕ → ℕ → ℕ → ℕ → ℕ
@@ -30,7 +31,9 @@ first_values w s v = if nat_lt v (length (owners (session w.plan s))) then input
 
 abbrev pub first_summands : World → ℕ → ℕ → ℕ → ℕ
 first_summands w s v i =
-    if nat_lt v (length (owners (session w.plan s))) then dealt (scheme w.plan) (input_of w s v) (tape_word w s v (slice_index (owners (session w.plan s)) v)) i else 0
+    if nat_lt v (length (owners (session w.plan s)))
+        then dealt (scheme w.plan) (input_of w s v) (tape_word w s v (slice_index (owners (session w.plan s)) v)) i
+        else 0
 
 -- the gates of session s
 abbrev pub run_of : World → ℕ → Run
@@ -38,7 +41,9 @@ run_of w s = record {
   scheme = scheme w.plan;
   gates = gate (session w.plan s);
   start = first_summands w s;
-  product = λ t. product_summand (scheme w.plan) (λ p v. dealt (scheme w.plan) v (tape_word w s (length (owners (session w.plan s)) + t) p));
+  product =
+      λ t. product_summand (scheme w.plan) (λ p v. dealt (scheme w.plan) v
+      (tape_word w s (length (owners (session w.plan s)) + t) p));
 }
 
 -- the value of wire v before gate t, and at the end
@@ -64,7 +69,9 @@ deal_of w s p k kind = dealt (scheme w.plan) (dealt_value w s p kind) (tape_word
 
 -- a summand of the sender's deal, or of the wire that is opened
 abbrev pub word_in : World → Key → Slot → ℕ
-word_in w key (Output o) = summands (run_of w key.session) (length (session w.plan key.session).gates) (output_wire (session w.plan key.session) o) key.share
+word_in w key (Output o) =
+    summands (run_of w key.session) (length (session w.plan key.session).gates)
+    (output_wire (session w.plan key.session) o) key.share
 word_in w key kind = deal_of w key.session key.sender key.slot kind key.share
 
 -- the word of a message

@@ -9,7 +9,8 @@ words_text words = joined (length words) (λ i. codes " " ++ decimal (slice_inde
 
 -- a party's name, if it is in the group; after a `+` where a lower party is in it
 abbrev pub member_text : List (List ℕ) → ℕ → ℕ → List ℕ
-member_text names mask p = only_if (has_party mask p) (only_if (not (nat_eq (mask % 2 ^ p) 0)) (codes "+") ++ slice_index_or names p [])
+member_text names mask p =
+    only_if (has_party mask p) (only_if (not (nat_eq (mask % 2 ^ p) 0)) (codes "+") ++ slice_index_or names p [])
 
 -- the names of the group's members, in order and joined by `+`, or `0` for the empty group
 abbrev pub group_text : List (List ℕ) → ℕ → List ℕ

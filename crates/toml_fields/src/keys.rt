@@ -12,7 +12,8 @@ use toml::Table;
 
 /// The least name by bytes of a field that is not among these names.
 pub fn least_unknown<'t>(table: &'t Table, known: &[&str]) -> Option<&'t str>
-    ensures { option_map (λ name. name.now) result ≡ least_unknown (map (λ name. name.now) known.now) (table_view table.now) }
+    ensures { option_map (λ name. name.now) result
+        ≡ least_unknown (map (λ name. name.now) known.now) (table_view table.now) }
 {
     match first_unknown(table, known) {
         Some(name) => Some(name.as_str()),
@@ -21,7 +22,8 @@ pub fn least_unknown<'t>(table: &'t Table, known: &[&str]) -> Option<&'t str>
 }
 
 fn first_unknown<'t>(table: &'t Table, known: &[&str]) -> Option<&'t String>
-    ensures found { option_map (λ name. name.now) result ≡ find (λ name. not (is_known (map (λ other. other.now) known.now) (string_bytes name))) (keys table.now) }
+    ensures found { option_map (λ name. name.now) result
+        ≡ find (λ name. not (is_known (map (λ other. other.now) known.now) (string_bytes name))) (keys table.now) }
     ensures ordered { IsOrdered string_cmp table.now }
 {
     table.keys().find(|name| !is_known(name.as_str(), known))

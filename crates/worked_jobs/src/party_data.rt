@@ -45,8 +45,10 @@ struct FirstParts {
 
 fn first_parts(alloc: Global, all_data: Vec<PartyData>) -> Result<FirstParts, AllocError>
     requires { All (λ tapes. 0 < length tapes) (map (λ form. form.tapes) (map form_of all_data.items)) }
-    ensures inputs { IfOk result (λ parts. input_words parts.inputs.items ≡ map (λ form. form.inputs) (map form_of all_data.items)) }
-    ensures pieces { IfOk result (λ parts. parts.pieces.items ≡ pieces_in 1 (map (λ form. form.tapes) (map form_of all_data.items))) }
+    ensures inputs { IfOk result (λ parts. input_words parts.inputs.items
+        ≡ map (λ form. form.inputs) (map form_of all_data.items)) }
+    ensures pieces { IfOk result (λ parts. parts.pieces.items
+        ≡ pieces_in 1 (map (λ form. form.tapes) (map form_of all_data.items))) }
 {
     let mut inputs = Vec::new(alloc);
     let mut pieces = Vec::new(alloc);

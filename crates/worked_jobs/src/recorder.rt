@@ -115,7 +115,8 @@ impl Cells for Recorder {
 // Steps the desk to its end.
 fn finish_desk(plan: &Plan, desk: &mut Desk, cells: &mut Recorder)
     requires { (w : World) × (s : ℕ) × (p : ℕ) × HasWords plan.now w s p desk.old cells.old }
-    ensures stays { (w : World) (s p : ℕ) → HasWords plan.now w s p desk.old cells.old → HasWords plan.now w s p desk.new cells.new }
+    ensures stays { (w : World) (s p : ℕ) → HasWords plan.now w s p desk.old cells.old
+        → HasWords plan.now w s p desk.new cells.new }
     ensures done { (w : World) (s p : ℕ) → HasWords plan.now w s p desk.old cells.old → IsDone w s p desk.new }
 {
     worlds_are_lawful();
