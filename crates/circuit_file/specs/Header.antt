@@ -14,7 +14,7 @@ count_checks line =
     ∷ (nat_lt 2 (length line.tokens) answers LongLine line.number)
     ∷ (not (all_numbers (tokens_after 0 2 line)) answers BadNumber line.number)
     ∷ ((nat_lt 65536 (number_in (token line 0)) || nat_lt 131072
-        (number_in (token line 1))) answers TooLarge line.number)
+    (number_in (token line 1))) answers TooLarge line.number)
     ∷ []
 
 abbrev pub counts_of : Row → Counts

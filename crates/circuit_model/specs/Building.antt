@@ -27,14 +27,17 @@ header_checks gates wires inputs outputs lines =
 
 abbrev pub no_gates_yet : ℕ → ℕ → ℕ → List ℕ → List ℕ → Draft
 no_gates_yet bits gates wires inputs outputs =
-    record { circuit = record { bits = bits; gates = []; wires = wires; inputs = inputs; outputs = outputs };
-        announced = gates; refused = None }
+    record {
+      circuit = record { bits = bits; gates = []; wires = wires; inputs = inputs; outputs = outputs };
+      announced = gates;
+      refused = None;
+    }
 
 -- a circuit without gates yet, or the first fault of its header
 unfoldable pub start_of : ℕ → ℕ → ℕ → List ℕ → List ℕ → List ℕ → Result Draft CircuitFault
 start_of bits gates wires inputs outputs lines =
     or_fault (first_fault (header_checks gates wires inputs outputs lines))
-        (no_gates_yet bits gates wires inputs outputs)
+    (no_gates_yet bits gates wires inputs outputs)
 
 -- the checks on a gate, for words of so many bits, so many wires, and the wires that are set
 unfoldable pub gate_checks : ℕ → ℕ → (ℕ → Bool) → ℕ → Operation → List ℕ → List ℕ → List Check
@@ -42,15 +45,20 @@ gate_checks bits wires set line o inputs outputs =
     (not ((length inputs == arity o) && (length outputs == 1)) answers WrongArity line)
     ∷ ((is_constant o && not (nat_lt (slice_index inputs 0) (2 ^ bits))) answers BadConstant line)
     ∷ (not (list_all (λ w. nat_lt w wires) (reads o inputs) && nat_lt
-        (slice_index outputs 0) wires) answers WireOutOfRange line)
+    (slice_index outputs 0) wires) answers WireOutOfRange line)
     ∷ (not (list_all set (reads o inputs)) answers ReadBeforeSet line)
     ∷ (set (slice_index outputs 0) answers SetTwice line)
     ∷ []
 
 abbrev pub gate_of : Operation → List ℕ → List ℕ → Gate
 gate_of o inputs outputs =
-    record { operation = o; first = slice_index (reads o inputs) 0; second = slice_index (reads o inputs) 1;
-        output = slice_index outputs 0; constant = if is_constant o then slice_index inputs 0 else 0 }
+    record {
+      operation = o;
+      first = slice_index (reads o inputs) 0;
+      second = slice_index (reads o inputs) 1;
+      output = slice_index outputs 0;
+      constant = if is_constant o then slice_index inputs 0 else 0;
+    }
 
 -- the gate that is next, or its first fault
 unfoldable pub next_gate : Netlist → ℕ → Operation → List ℕ → List ℕ → Result Gate CircuitFault

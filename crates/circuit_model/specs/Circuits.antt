@@ -32,4 +32,4 @@ values q gates start zero = start
 values q gates start (suc t) =
     set_at (values q gates start t) (gates t).output
     (operate q (gates t).operation (gates t).constant (values q gates start t (gates t).first)
-        (values q gates start t (gates t).second))
+    (values q gates start t (gates t).second))

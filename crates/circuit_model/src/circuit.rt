@@ -41,10 +41,20 @@ impl Circuit {
         inputs: Vec<u64>,
         outputs: Vec<u64>,
     ) -> Circuit
-        requires { IsCircuit (record { bits = ring; gates = gates.items; wires = wires; inputs = inputs.items;
-            outputs = outputs.items }) }
-        ensures { result ≡ record { bits = ring; gates = gates.items; wires = wires; inputs = inputs.items;
-            outputs = outputs.items } }
+        requires { IsCircuit (record {
+          bits = ring;
+          gates = gates.items;
+          wires = wires;
+          inputs = inputs.items;
+          outputs = outputs.items;
+        }) }
+        ensures { result ≡ record {
+          bits = ring;
+          gates = gates.items;
+          wires = wires;
+          inputs = inputs.items;
+          outputs = outputs.items;
+        } }
     {
         let input_wires = count_wires(&inputs);
         let output_wires = count_wires(&outputs);

@@ -48,7 +48,17 @@ fn one_to_sixteen_workers_are_taken(rt: HostRuntime) -> Result<(), Fail> {
     assert_eq!(rt; workers_of(alloc, "16")?, 16);
     assert_eq!(rt; workers_of(alloc, "05")?, 5);
     assert_eq!(rt; workers_of(alloc, "0000000000000000000000000000002")?, 2);
-    for count in ["0", "00", "17", "", "-1", "+2", "2 ", "x", "18446744073709551617"] {
+    for count in [
+        "0",
+        "00",
+        "17",
+        "",
+        "-1",
+        "+2",
+        "2 ",
+        "x",
+        "18446744073709551617",
+    ] {
         assert_eq!(rt; workers_of(alloc, count)?, 0, "{count}");
     }
     Ok(())
@@ -70,7 +80,12 @@ fn other_words_are_refused(rt: HostRuntime) -> Result<(), Fail> {
     assert!(rt; is_refused(alloc, &["mpc", "run", "x", "--workers"])?);
     assert!(rt; is_refused(alloc, &["mpc", "run", "x", "--worker", "2"])?);
     assert!(rt; is_refused(alloc, &["mpc", "run", "--workers", "2", "x"])?);
-    assert!(rt; is_refused(alloc, &["mpc", "run", "x", "--workers", "2", "--workers", "2"])?);
+    assert!(rt;
+        is_refused(
+            alloc,
+            &["mpc", "run", "x", "--workers", "2", "--workers", "2"]
+        )?
+    );
     assert!(rt; is_refused(alloc, &["mpc", "check", "x", "--workers", "2"])?);
     Ok(())
 }

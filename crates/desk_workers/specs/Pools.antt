@@ -42,12 +42,12 @@ IsDeskOf board seat d = (k : ℕ) × StandsIn (world_in board.about.world) seat.
 abbrev pub LeadsOn : BoardModel Promised → Sitting Promised → Desk → Sitting Promised → Desk → ℕ → Type 0
 LeadsOn board seat d seat' d' moves =
     (k : ℕ) → StandsIn (world_in board.about.world) seat.view.seen k d
-        → Leads (world_in board.about.world) k seat d seat' d' moves
+    → Leads (world_in board.about.world) k seat d seat' d' moves
 
 abbrev pub IsStuck : BoardModel Promised → Sitting Promised → Desk → Type 0
 IsStuck board seat d =
     (k : ℕ) → StandsIn (world_in board.about.world) seat.view.seen k d
-        → Stuck (Knows seat.view.seen) (world_in board.about.world) k d.position
+    → Stuck (Knows seat.view.seen) (world_in board.about.world) k d.position
 
 -- each desk stands where its program leaves it in the world, and these pairs have what they posted
 abbrev pub AllStand : World → List (ℕ × ℕ) → List Desk → Type 0
@@ -61,7 +61,7 @@ AllFree board seats = All (IsFreeSeatOf board) seats
 abbrev pub SameSeatCounts : List (Sitting Promised) → List (Sitting Promised) → Type 0
 SameSeatCounts seats seats' =
     (i : ℕ) (seat seat' : Sitting Promised) → slice_get seats i ≡ Some seat → slice_get seats' i ≡ Some seat'
-        → seat'.view.seats ≡ seat.view.seats
+    → seat'.view.seats ≡ seat.view.seats
 
 abbrev pub seats_in : Sitting Promised → ℕ
 seats_in seat = seat.view.seats

@@ -78,14 +78,24 @@ kept_of (want (level ors ands) fs) = record { mode = modes.Want; or_waits = ther
 kept_of (want_of n (level ors ands) fs) = record { mode = modes.WantOf n; or_waits = there ors; and_waits = there ands; frames = frames_of fs; out = nodes_all fs ++ (nodes_ors ors ++ nodes_ands ands) }
 kept_of (want_open n (level ors ands) fs) = record { mode = modes.WantOpen n; or_waits = there ors; and_waits = there ands; frames = frames_of fs; out = nodes_all fs ++ (nodes_ors ors ++ nodes_ands ands) }
 kept_of (have ors t fs) =
-    record { mode = modes.Have; or_waits = there ors; and_waits = false; frames = frames_of fs;
-    out = nodes_all fs ++ (nodes_ors ors ++ postfix (shape_term t)) }
+    record {
+      mode = modes.Have;
+      or_waits = there ors;
+      and_waits = false;
+      frames = frames_of fs;
+      out = nodes_all fs ++ (nodes_ors ors ++ postfix (shape_term t));
+    }
 
 -- a factor was written
 abbrev pub with_factor : Kept → Kept
 with_factor c =
-    record { mode = modes.Have; or_waits = c.or_waits; and_waits = false; frames = c.frames;
-    out = (if c.and_waits then c.out ++ (And ∷ []) else c.out) }
+    record {
+      mode = modes.Have;
+      or_waits = c.or_waits;
+      and_waits = false;
+      frames = c.frames;
+      out = (if c.and_waits then c.out ++ (And ∷ []) else c.out);
+    }
 
 -- a term was written, and the expression before it is joined to it
 abbrev pub joined_out : Kept → List Node
@@ -99,8 +109,13 @@ closed_out (brackets.List n parts) out = out ++ (AtLeast n (parts + 1) ∷ [])
 -- what a closing parenthesis makes of what is kept
 abbrev pub closed : Kept → List Frame → Frame → Kept
 closed old rest f =
-    with_factor (record { mode = old.mode; or_waits = f.or_waits; and_waits = f.and_waits; frames = rest;
-    out = closed_out f.bracket (joined_out old) })
+    with_factor (record {
+      mode = old.mode;
+      or_waits = f.or_waits;
+      and_waits = f.and_waits;
+      frames = rest;
+      out = closed_out f.bracket (joined_out old);
+    })
 
 -- what a closing parenthesis leaves: false where none is open
 abbrev pub Closes : Kept → Bool → Kept → Type 0
@@ -110,8 +125,13 @@ Closes old true new = (rest : List Frame) × (f : Frame) × (old.frames ≡ rest
 -- what a comma makes of it, in the list after the number n
 abbrev pub separated : Kept → List Frame → Frame → ℕ → ℕ → Kept
 separated old rest f n parts =
-    record { mode = modes.Want; or_waits = false; and_waits = false;
-    frames = rest ++ (record f { bracket = brackets.List n (parts + 1) } ∷ []); out = joined_out old }
+    record {
+      mode = modes.Want;
+      or_waits = false;
+      and_waits = false;
+      frames = rest ++ (record f { bracket = brackets.List n (parts + 1) } ∷ []);
+      out = joined_out old;
+    }
 
 -- what a comma leaves: false where no list is open
 abbrev pub Separates : Kept → Bool → Kept → Type 0

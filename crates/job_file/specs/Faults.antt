@@ -121,7 +121,7 @@ count_fault count = ((count == 0) || nat_lt 16 count) answers SessionCount count
 unfoldable pub hosts_fault : Members → Option JobFault
 hosts_fault fields = first_fault
     (((is_there Hosts fields && not (length (texts Hosts fields) == length (texts Parties fields))) answers BadHost
-        (min (length (texts Hosts fields)) (length (texts Parties fields))))
+    (min (length (texts Hosts fields)) (length (texts Parties fields))))
     ∷ option_map (λ at. BadHost at) (position (λ host. not (is_host host)) (texts Hosts fields))
     ∷ [])
 

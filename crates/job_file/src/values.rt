@@ -60,8 +60,10 @@ fn with_party(mask: u32, party: u32) -> u32
 }
 
 fn group_of(readers: &[Value], names: &Names) -> Group
-    ensures { result ≡ record { parties = length names.now;
-        mask = mask_of names.now (map text_of (map view readers.now)) } }
+    ensures { result ≡ record {
+      parties = length names.now;
+      mask = mask_of names.now (map text_of (map view readers.now));
+    } }
 {
     let parties = names.len();
     Group::of_mask(mask_of(readers, names), parties).unwrap_or(Group::empty(parties))

@@ -20,7 +20,7 @@ deal_messages plan s k p = joined (length plan.groups) (λ i. joined plan.partie
 abbrev pub open_messages : Plan → ℕ → ℕ → ℕ → List Key
 open_messages plan s k r =
     joined (length plan.groups) (λ i. only_if (not (holds plan r i))
-        (record { session = s; slot = k; share = i; sender = least_holder plan i; receiver = r } ∷ []))
+    (record { session = s; slot = k; share = i; sender = least_holder plan i; receiver = r } ∷ []))
 
 -- an input is dealt by its owner, a product by each party that has a pair, and an output is opened to each reader
 abbrev pub slot_messages : Plan → ℕ → ℕ → Slot → List Key

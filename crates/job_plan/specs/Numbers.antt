@@ -45,7 +45,7 @@ NumbersAreInverse plan =
 abbrev pub PlacesDiffer : Plan → ℕ → Type 0
 PlacesDiffer plan p =
     (s k i s' k' i' : ℕ) → s < length plan.sessions → k < slots (session plan s)
-        → i < words_in plan (session plan s) p (slot (session plan s) k)
+    → i < words_in plan (session plan s) p (slot (session plan s) k)
     → s' < length plan.sessions → k' < slots (session plan s')
     → i' < words_in plan (session plan s') p (slot (session plan s') k')
     → place plan p s k + i ≡ place plan p s' k' + i' → (s ≡ s') × (k ≡ k') × (i ≡ i')

@@ -13,8 +13,13 @@ pub record IsPackable (key : Key) : Type 0 where
 -- the parts beside the slot are digits of one number: the receiver the last, then the sender, the share and the session
 abbrev pub unpacked : PackedKey → Key
 unpacked p =
-    record { session = p.rest / 16384; slot = p.slot; share = p.rest / 256 % 64; sender = p.rest / 16 % 16;
-    receiver = p.rest % 16 }
+    record {
+      session = p.rest / 16384;
+      slot = p.slot;
+      share = p.rest / 256 % 64;
+      sender = p.rest / 16 % 16;
+      receiver = p.rest % 16;
+    }
 
 -- the names that a list of packed keys holds
 abbrev pub names : List PackedKey → List Key

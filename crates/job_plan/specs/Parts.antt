@@ -24,8 +24,12 @@ output_values (w ∷ ws) (g ∷ gs) = record { width = w; readers = g } ∷ outp
 -- the session of a circuit, with an owner for each input value and readers for each output value
 abbrev pub session_of : Netlist → List ℕ → List Members → Session
 session_of c owners readers =
-    record { gates = c.gates; wires = c.wires; inputs = input_values c.inputs owners;
-        outputs = output_values c.outputs readers }
+    record {
+      gates = c.gates;
+      wires = c.wires;
+      inputs = input_values c.inputs owners;
+      outputs = output_values c.outputs readers;
+    }
 
 -- each owner is one of so many parties, and each group of readers is of so many
 pub record AreOf (parties : ℕ) (owners : List ℕ) (readers : List Members) : Type 0 where

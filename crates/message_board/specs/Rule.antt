@@ -105,7 +105,7 @@ module _ {W T : Type 0} (list : W → List ℕ) (good : W → T → ℕ → Type
   IsHome about s i =
       (cell s.words (turn about i) ≡ 1)
       × ((x : T) × (get_elem? s.homes i ≡ some (some (Some x))) × good about.world x i
-          × Stand about s.words (posted about.world x))
+      × Stand about s.words (posted about.world x))
 
   abbrev pub IsOut : About W → State (Option T) (View W) → ℕ → Type 0
   IsOut about s i =
@@ -145,7 +145,7 @@ module _ {W T : Type 0} (list : W → List ℕ) (good : W → T → ℕ → Type
   abbrev pub posted_step : Step (Option T) → Sat → ℕ → Sat → Type 0
   posted_step st me n me' =
       (about : About W) (k w : ℕ) → me.0.about ≡ Some about → st.word ≡ full_place about k + 1
-          → slice_index (list about.world) k ≡ w
+      → slice_index (list about.world) k ≡ w
       → (me'.1 ≡ me.1) × (((n ≡ 0) × (me'.0 ≡ unstores (posts me.0 k w Done)))
       ⊎ ((n ≡ 1) × (me'.0 ≡ unstores (posts me.0 k w (Occupied w)))))
 
@@ -171,7 +171,7 @@ module _ {W T : Type 0} (list : W → List ℕ) (good : W → T → ℕ → Type
       → ((n ≡ 1) × ((x : T) × good about.world x i × (me'.0 ≡ takes_out me.0 i (posted about.world x))
       × (me'.1 ≡ (i, Some x) ∷ me.1)))
       ⊎ ((n ≡ 0) × (me'.0 ≡ looks me.0 (length (list about.world) + i)) × (me'.1 ≡ me.1)
-          × (me.0.seats ≡ about.seats → Has me.0.out i))
+      × (me.0.seats ≡ about.seats → Has me.0.out i))
 
   -- the store of 1 into a turn word, as the item comes home
   abbrev pub home_step : Step (Option T) → Sat → ℕ → Sat → Type 0

@@ -40,8 +40,16 @@ module _ {W : Type 0} where
       (coded× (coded_list coded_ℕ) (coded× (coded_list coded_ℕ)
       (coded× (coded_list coded_ℕ) (coded× (coded_list coded_ℕ) (coded_list coded_ℕ))))))))
       (λ (v : View W). (v.about, (v.seats, (v.seen, (v.mine, (v.looked, (v.stored, (v.full, v.out))))))))
-      (λ x y e i. record { about = (e i).0; seats = (e i).1.0; seen = (e i).1.1.0; mine = (e i).1.1.1.0;
-          looked = (e i).1.1.1.1.0; stored = (e i).1.1.1.1.1.0; full = (e i).1.1.1.1.1.1.0; out = (e i).1.1.1.1.1.1.1 })
+      (λ x y e i. record {
+        about = (e i).0;
+        seats = (e i).1.0;
+        seen = (e i).1.1.0;
+        mine = (e i).1.1.1.0;
+        looked = (e i).1.1.1.1.0;
+        stored = (e i).1.1.1.1.1.0;
+        full = (e i).1.1.1.1.1.1.0;
+        out = (e i).1.1.1.1.1.1.1;
+      })
 
   abbrev pub sitting_coded : Coded W → Coded (Sitting W)
   sitting_coded c =

@@ -35,6 +35,14 @@ fn main(rt: HostRuntime) -> ExitCode {
     let mut files = StdFiles::new(&rt);
     let mut out = StdSink::new(rt.stdout());
     let mut err = StdSink::new(rt.stderr());
-    let status = command(&rt, rt.alloc(), &words, &mut files, &mut out, &mut err, &NoPace);
+    let status = command(
+        &rt,
+        rt.alloc(),
+        &words,
+        &mut files,
+        &mut out,
+        &mut err,
+        &NoPace,
+    );
     ExitCode::from(status)
 }

@@ -63,13 +63,29 @@ fn a_failing_sink_has_a_prefix(rt: HostRuntime) -> Result<(), Fail> {
     let mut short_err = sink(alloc, 10)?;
     let mut err = sink(alloc, 300)?;
     assert_eq!(rt;
-        command(&rt, alloc, &run, &mut accepted, &mut short_out, &mut err, &NoPace),
+        command(
+            &rt,
+            alloc,
+            &run,
+            &mut accepted,
+            &mut short_out,
+            &mut err,
+            &NoPace
+        ),
         5
     );
     assert_eq!(rt; short_out.bytes(), b"out ".as_slice());
     assert_eq!(rt; err.bytes(), b"fault out\n".as_slice());
     assert_eq!(rt;
-        command(&rt, alloc, &run, &mut refused, &mut out, &mut short_err, &NoPace),
+        command(
+            &rt,
+            alloc,
+            &run,
+            &mut refused,
+            &mut out,
+            &mut short_err,
+            &NoPace
+        ),
         5
     );
     assert_eq!(rt; out.bytes(), b"".as_slice());
@@ -84,10 +100,19 @@ fn calls_in_a_row_add_their_texts(rt: HostRuntime) -> Result<(), Fail> {
     let mut files = files(alloc, [JOB, MUL, A, B, C])?;
     let mut out = sink(alloc, 30)?;
     let mut err = sink(alloc, 300)?;
-    assert_eq!(rt; command(&rt, alloc, &run, &mut files, &mut out, &mut err, &NoPace), 0);
-    assert_eq!(rt; command(&rt, alloc, &run, &mut files, &mut out, &mut err, &NoPace), 0);
+    assert_eq!(rt;
+        command(&rt, alloc, &run, &mut files, &mut out, &mut err, &NoPace),
+        0
+    );
+    assert_eq!(rt;
+        command(&rt, alloc, &run, &mut files, &mut out, &mut err, &NoPace),
+        0
+    );
     assert_eq!(rt; out.bytes(), b"out 0 0 c 35\nout 0 0 c 35\n".as_slice());
-    assert_eq!(rt; command(&rt, alloc, &run, &mut files, &mut out, &mut err, &NoPace), 5);
+    assert_eq!(rt;
+        command(&rt, alloc, &run, &mut files, &mut out, &mut err, &NoPace),
+        5
+    );
     assert_eq!(rt; out.bytes(), b"out 0 0 c 35\nout 0 0 c 35\nout ".as_slice());
     assert_eq!(rt; err.bytes(), b"fault out\n".as_slice());
     Ok(())

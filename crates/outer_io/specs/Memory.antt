@@ -19,8 +19,12 @@ contents files name = option_map (λ bytes. bytes.items) (get_by_text files name
 
 abbrev pub map_reading : MapFiles → FilesReading
 map_reading m =
-    record { told = Some (contents m.files); faults = m.faults; taken = m.taken;
-    steady = all_past m.failing.items m.calls }
+    record {
+      told = Some (contents m.files);
+      faults = m.faults;
+      taken = m.taken;
+      steady = all_past m.failing.items m.calls;
+    }
 
 -- the bytes that a sink in memory has
 abbrev pub sink_bytes : VecSink → List ℕ
@@ -28,5 +32,9 @@ sink_bytes s = s.bytes.items
 
 abbrev pub sink_reading : VecSink → SinkReading
 sink_reading s =
-    record { told = Some (sink_bytes s); faults = s.faults; steady = all_past s.failing.items s.calls;
-    room = s.limit - vec_len s.bytes }
+    record {
+      told = Some (sink_bytes s);
+      faults = s.faults;
+      steady = all_past s.failing.items s.calls;
+      room = s.limit - vec_len s.bytes;
+    }

@@ -59,7 +59,7 @@ count_checks sessions fields =
     ((has_field (codes "tape") fields && has_field (codes "seed") fields) answers TapeAndSeed)
     ∷ (not (has_field (codes "tape") fields || has_field (codes "seed") fields) answers Missing field.Tape)
     ∷ (not (length (texts_at (codes "inputs") fields) == sessions) answers CountDiffers None sessions
-        (length (texts_at (codes "inputs") fields)))
+    (length (texts_at (codes "inputs") fields)))
     ∷ []
 
 -- ---- words
@@ -143,7 +143,7 @@ unfoldable pub tapes_of : Plan → ℕ → Members → List (List ℕ)
 tapes_of plan p fields =
     if has_field (codes "seed") fields
     then listed (length plan.sessions) (λ s. listed (words plan p s)
-        (seed_word (2 ^ plan.bits) (seed_in (text_at (codes "seed") fields)) s))
+    (seed_word (2 ^ plan.bits) (seed_in (text_at (codes "seed") fields)) s))
     else cut (word_counts plan p) (numbers_in (text_at (codes "tape") fields))
 
 -- ---- the file

@@ -28,8 +28,10 @@ impl Groups {
     /// The groups, which are of so many parties.
     pub fn of(parties: u32, groups: Vec<Group>) -> Groups
         requires parties { All (λ (m : Members). m.parties ≡ parties) groups.items }
-        requires antichain { IsAntichain (record { parties = parties;
-            groups = map (λ (m : Members). m.mask) groups.items }) }
+        requires antichain { IsAntichain (record {
+          parties = parties;
+          groups = map (λ (m : Members). m.mask) groups.items;
+        }) }
         ensures { result ≡ record { parties = parties; groups = map (λ (m : Members). m.mask) groups.items } }
     {
         Groups { parties, groups }

@@ -58,7 +58,7 @@ groups_line found = number_line (codes "groups") 1 (codes "TooManyGroups") (code
 unfoldable pub covering_line : List (List ℕ) → ℕ → ℕ → List ℕ
 covering_line names first second =
     line (codes "q2") 1 (codes "Covering") (key_text (codes "first") (Some (group_text names first))
-        ++ key_text (codes "second") (Some (group_text names second)))
+    ++ key_text (codes "second") (Some (group_text names second)))
 
 -- the file of a session's circuit
 abbrev pub file_keys : List ℕ → ℕ → List ℕ
@@ -68,7 +68,7 @@ file_keys file session = key_text (codes "file") (Some file) ++ number_key (code
 abbrev pub circuit_keys : CircuitFault → List ℕ
 circuit_keys f =
     number_key (codes "line") (circuit.line_in f)
-        ++ (number_key (codes "wire") (circuit.wire_in f) ++ (number_key (codes "at") (circuit.at_in f)
+    ++ (number_key (codes "wire") (circuit.wire_in f) ++ (number_key (codes "at") (circuit.at_in f)
     ++ (number_key (codes "found") (circuit.found_in f) ++ signed_key (codes "bits") (circuit.bits_in f))))
 
 unfoldable pub circuit_line : List ℕ → ℕ → CircuitFault → List ℕ
@@ -100,13 +100,13 @@ abbrev pub job_place : JobFault → List ℕ
 job_place f =
     number_key (codes "session") (job.session_key f) ++ (number_key (codes "value") (job.value_key f)
     ++ (key_text (codes "field") (option_map job_names.field_text (job.field_key f))
-        ++ key_text (codes "name") (option_map masked (job.name_key f))))
+    ++ key_text (codes "name") (option_map masked (job.name_key f))))
 
 -- the numbers that it carries
 abbrev pub job_numbers : JobFault → List ℕ
 job_numbers f =
     number_key (codes "at") (job.at_key f)
-        ++ (signed_key (codes "found") (job.found_key f) ++ (number_key (codes "count") (job.count_key f)
+    ++ (signed_key (codes "found") (job.found_key f) ++ (number_key (codes "count") (job.count_key f)
     ++ (signed_key (codes "bits") (job.bits_key f) ++ signed_key (codes "port") (job.port_key f))))
 
 unfoldable pub job_line : JobFault → List ℕ
@@ -117,14 +117,14 @@ abbrev pub party_place : List ℕ → PartyFault → List ℕ
 party_place file f =
     key_text (codes "file") (Some file) ++ (number_key (codes "session") (party.session_of f)
     ++ (key_text (codes "field") (option_map party.field_text (party.field_of f))
-        ++ key_text (codes "name") (option_map masked (party.unknown_of f))))
+    ++ key_text (codes "name") (option_map masked (party.unknown_of f))))
 
 -- what it carries
 abbrev pub party_numbers : PartyFault → List ℕ
 party_numbers f =
     number_key (codes "at") (party.at_of f)
-        ++ (key_text (codes "cause") (option_map party.cause_text (party.cause_of f))
-        ++ (number_key (codes "wanted") (party.wanted_of f)
+    ++ (key_text (codes "cause") (option_map party.cause_text (party.cause_of f))
+    ++ (number_key (codes "wanted") (party.wanted_of f)
     ++ (signed_key (codes "found") (party.version_of f) ++ number_key (codes "found") (party.found_of f))))
 
 unfoldable pub party_line : List ℕ → PartyFault → List ℕ

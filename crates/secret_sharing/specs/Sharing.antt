@@ -50,14 +50,14 @@ pub record Run : Type 0 where
 abbrev pub gate_summands : Run → ℕ → (ℕ → ℕ) → (ℕ → ℕ) → ℕ → ℕ
 gate_summands r t x y i =
     if is_product (r.gates t).operation then r.product t x y i
-        else local r.scheme.modulus (r.gates t).operation (r.gates t).constant i (x i) (y i)
+    else local r.scheme.modulus (r.gates t).operation (r.gates t).constant i (x i) (y i)
 
 -- summand i of wire v after the first t gates
 abbrev pub summands : Run → ℕ → ℕ → ℕ → ℕ
 summands r zero = r.start
 summands r (suc t) =
     set_at (summands r t) (r.gates t).output
-        (gate_summands r t (summands r t (r.gates t).first) (summands r t (r.gates t).second))
+    (gate_summands r t (summands r t (r.gates t).first) (summands r t (r.gates t).second))
 
 -- what party p multiplies at gate t
 abbrev pub own_value : Run → ℕ → ℕ → ℕ

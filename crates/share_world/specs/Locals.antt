@@ -18,14 +18,24 @@ local_run w got p s = record {
   start = λ v i.
       if nat_lt v (length (owners (session w.plan s))) then
       (if nat_eq (slice_index (owners (session w.plan s)) v) p
-          then dealt (scheme w.plan) (input_of w s v) (tape_word w s v p) i
-      else got (record { session = s; slot = v; share = i; sender = slice_index (owners (session w.plan s)) v;
-          receiver = p }))
+      then dealt (scheme w.plan) (input_of w s v) (tape_word w s v p) i
+      else got (record {
+        session = s;
+        slot = v;
+        share = i;
+        sender = slice_index (owners (session w.plan s)) v;
+        receiver = p;
+      }))
       else 0;
   product = λ t. product_summand (scheme w.plan) (λ q v i.
       if nat_eq q p then dealt (scheme w.plan) v (tape_word w s (length (owners (session w.plan s)) + t) p) i
-      else got (record { session = s; slot = length (owners (session w.plan s)) + t; share = i; sender = q;
-          receiver = p }));
+      else got (record {
+        session = s;
+        slot = length (owners (session w.plan s)) + t;
+        share = i;
+        sender = q;
+        receiver = p;
+      }));
 }
 
 -- what p deals in a slot: its input, or its own product
@@ -51,21 +61,26 @@ local_output w got p s o =
     let x = session w.plan s in
     total (length w.plan.groups) (λ i.
     if holds w.plan p i then summands (local_run w got p s) (length x.gates) (output_wire x o) i
-    else got (record { session = s; slot = length (owners x) + length x.gates + o; share = i;
-        sender = least_holder w.plan i; receiver = p }))
+    else got (record {
+      session = s;
+      slot = length (owners x) + length x.gates + o;
+      share = i;
+      sender = least_holder w.plan i;
+      receiver = p;
+    }))
     % 2 ^ w.plan.bits
 
 -- if each party got what the senders send, all words are those of the equations
 abbrev pub LocalsJoin : World → Type 0
 LocalsJoin w =
     (got : ℕ → Key → ℕ) → AllByRecursion (λ key. got key.receiver key ≡ local_word w (got key.sender) key.sender key)
-        (messages w.plan)
+    (messages w.plan)
     → AllByRecursion (λ key. got key.receiver key ≡ word w key) (messages w.plan)
 
 -- the first n gates read what was got in the slots before
 abbrev pub ReadsBefore : World → Type 0
 ReadsBefore w =
     (p s n : ℕ) (got later : Key → ℕ) → n ≤ length (session w.plan s).gates
-        → ((key : Key) → key.session ≡ s → key.slot < length (owners (session w.plan s)) + n → got key ≡ later key)
+    → ((key : Key) → key.session ≡ s → key.slot < length (owners (session w.plan s)) + n → got key ≡ later key)
     → (v i : ℕ) → i < length w.plan.groups
     → summands (local_run w got p s) n v i ≡ summands (local_run w later p s) n v i

@@ -17,5 +17,5 @@ MadeIsCircuit =
 abbrev pub MadeHasValues : World → ℕ → Type 0
 MadeHasValues w s =
     (c : Netlist) (owners : List ℕ) (readers : List Members) → session w.plan s ≡ session_of c owners readers
-        → w.plan.bits ≡ c.bits → length owners ≡ length c.inputs
+    → w.plan.bits ≡ c.bits → length owners ≡ length c.inputs
     → (v : ℕ) → plain w s v ≡ value c (input_of w s) v

@@ -65,7 +65,7 @@ pub record AreSummands (w : World) (s : ℕ) (summand : ℕ → ℕ → ℕ) (de
 abbrev pub OnlySolution : World → ℕ → Type 0
 OnlySolution w s =
     GatesInOrder (session w.plan s) → (summand : ℕ → ℕ → ℕ) (deal : ℕ → ℕ → ℕ → ℕ) → SummandsSolve w s summand deal
-        → AreSummands w s summand deal
+    → AreSummands w s summand deal
 
 -- and they are a solution
 abbrev pub IsSolution : World → ℕ → Type 0

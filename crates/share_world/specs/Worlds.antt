@@ -20,7 +20,7 @@ input_of w s v =
     let owner = slice_index (owners (session w.plan s)) in
     let p = owner v in
     slice_index (slice_index_or (slice_index_or w.inputs p []) s [])
-        (total v (λ u. if nat_eq (owner u) p then 1 else 0))
+    (total v (λ u. if nat_eq (owner u) p then 1 else 0))
 
 -- word i of those that party p draws in slot k of session s
 abbrev pub tape_word : World → ℕ → ℕ → ℕ → ℕ → ℕ
@@ -32,8 +32,8 @@ first_values w s v = if nat_lt v (length (owners (session w.plan s))) then input
 abbrev pub first_summands : World → ℕ → ℕ → ℕ → ℕ
 first_summands w s v i =
     if nat_lt v (length (owners (session w.plan s)))
-        then dealt (scheme w.plan) (input_of w s v) (tape_word w s v (slice_index (owners (session w.plan s)) v)) i
-        else 0
+    then dealt (scheme w.plan) (input_of w s v) (tape_word w s v (slice_index (owners (session w.plan s)) v)) i
+    else 0
 
 -- the gates of session s
 abbrev pub run_of : World → ℕ → Run

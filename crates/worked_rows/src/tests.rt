@@ -67,12 +67,7 @@ fn first_bytes_of_the_circuit(rt: HostRuntime) -> Result<(), Fail> {
     Ok(())
 }
 
-fn expect_formula(
-    rt: &HostRuntime,
-    name: &str,
-    formula: &str,
-    line: &str,
-) -> Result<(), Fail> {
+fn expect_formula(rt: &HostRuntime, name: &str, formula: &str, line: &str) -> Result<(), Fail> {
     let changes = [Change::Edit("job.toml", "2 of (a, b, c)", formula)];
     expect_refusal(rt, name, &changes, line)
 }
@@ -153,15 +148,7 @@ fn a_list_has_at_most_4096_groups(rt: HostRuntime) -> Result<(), Fail> {
         lists.push_str("[\"a\"],")?;
     }
     lists.push_str("[\"x\"]")?;
-    expect_long_list(
-        &rt,
-        &lists,
-        "refused job 15 BadTolerated value=4095 at=0\n",
-    )?;
+    expect_long_list(&rt, &lists, "refused job 15 BadTolerated value=4095 at=0\n")?;
     lists.push_str(",[]")?;
-    expect_long_list(
-        &rt,
-        &lists,
-        "refused job 16 TooManyTolerated count=4097\n",
-    )
+    expect_long_list(&rt, &lists, "refused job 16 TooManyTolerated count=4097\n")
 }

@@ -37,7 +37,10 @@ fn any_number_of_workers_writes_the_same(rt: HostRuntime) -> Result<(), Fail> {
     let rows = [
         product("two_workers", &["mpc", "run", "d", "--workers", "2"]),
         product("five_workers", &["mpc", "run", "d", "--workers", "05"]),
-        product("more_workers_than_desks", &["mpc", "run", "d", "--workers", "16"]),
+        product(
+            "more_workers_than_desks",
+            &["mpc", "run", "d", "--workers", "16"],
+        ),
         two_products("one_worker", &["mpc", "run", "d", "--workers", "1"]),
         two_products("two_workers", &["mpc", "run", "d", "--workers", "2"]),
         two_products("sixteen_workers", &["mpc", "run", "d", "--workers", "16"]),
