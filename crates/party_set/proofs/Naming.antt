@@ -1,7 +1,8 @@
 -- Faults of names, and what a list of names without one tells.
-use Rattle.std.proofs.Common.{◌≡◌, ℕ, zero, suc, ◌+◌, ◌<◌, ◌≤◌, inl, inr, Bool, true, false, not, ◌&&◌, ◌||◌, cond, nat_eq, nat_lt, Option, Some, None, List, [], length, take, get_or, get_or-take, length-take, refl, sym, ◌∙◌, ap, arith}
+use Rattle.std.proofs.Common.{◌≡◌, ℕ, zero, suc, ◌+◌, ◌<◌, ◌≤◌, inl, inr, Bool, true, false, not, ◌&&◌, ◌||◌, cond, nat_eq, nat_lt, if◌then◌else◌, Option, Some, None, List, [], ◌∷◌, ◌++◌, length, take, get_or, get_or-take, length-take, refl, sym, ◌∙◌, ap, arith}
 use Rattle.std.specs.Prelude.{slice_get, slice_index, codes}
 use Rattle.std.specs.List.{list_all, list_any}
+use Rattle.std.specs.Cmp.Lexicographic.{nat_list_eq_equiv}
 use Rattle.std.specs.Str.{bytes_eq}
 use Rattle.std.specs.Char.{is_ascii_alphabetic}
 use Rattle.std.proofs.lemmas.Bool.{cases_eq, cases_lt, eq-eqb, lt-ltb, le-ltb, ne_eqb}
@@ -10,6 +11,7 @@ use Rattle.std.proofs.lemmas.List.Quantifiers.{position-Some}
 use Rattle.std.proofs.lemmas.List.Folds.{list_any_at, list_any_none}
 use Rattle.std.proofs.lemmas.Option.{slice_get-get_or}
 use Rattle.std.proofs.lemmas.Slice.Eq.{bytes_eq-Decides}
+use Rattle.indexmap.specs.IndexSet.{insert_key}
 use Rattle.party_set.specs.declared.names.NamesFault.{NamesFault}
 use Rattle.party_set.specs.declared.names.NamesFault.TheVariants.{BadName, TwiceNamed, PartyCount}
 use Rattle.party_set.specs.Names.{is_name, is_name_byte, name_at, name_fault, first_of, first_name_fault, names_fault, number_of, AreNames}
@@ -68,7 +70,7 @@ none_before names (suc n) k l e =
     ]
 
 -- no fault of one name
-passes : (name_ok among : Bool) (k : ℕ) → cond (not name_ok) (Some (BadName k)) (cond among (Some (TwiceNamed k)) None) ≡ None → (name_ok ≡ true) × (among ≡ false)
+pub passes : (name_ok among : Bool) (k : ℕ) → cond (not name_ok) (Some (BadName k)) (cond among (Some (TwiceNamed k)) None) ≡ None → (name_ok ≡ true) × (among ≡ false)
 passes true true k e = cc
 passes true false k e = (refl, refl)
 passes false among k e = cc
@@ -87,6 +89,10 @@ sound names some few e = record {
       list_any_at (λ other. bytes_eq other (name_at names j)) (take j names) i [] (omega (arith, length-take j names)) equal in
       absurd cc;
 }
+
+-- a name that does not stand among others goes last
+pub inserted_last : (names : List (List ℕ)) (name : List ℕ) → list_any (λ other. bytes_eq other name) names ≡ false → insert_key bytes_eq names name ≡ names ++ name ∷ []
+inserted_last names name absent = ap (λ among. if among then names else names ++ name ∷ []) (ap (λ test. list_any test names) (λ i other. nat_list_eq_equiv.symm name other i) ∙ absent)
 
 -- ---- a list of names has no fault exactly where it is one
 

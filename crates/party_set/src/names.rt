@@ -1,12 +1,12 @@
 //! The names of the parties.
-ghost use Rattle.std.specs.Prelude.{◌≡◌, ℕ, List, ◌<◌, ◌≤◌, ◌⊎◌, IfSome, MatchResult, Some, None, length, map, slice_get, slice_index_or};
-ghost use Rattle.std.specs.List.{list_all, list_any};
-ghost use Rattle.std.specs.Str.{bytes_eq};
+ghost use Rattle.std.specs.Prelude.{◌≡◌, ℕ, List, ◌<◌, ◌≤◌, ◌⊎◌, IfSome, MatchResult, Some, None, length, map, slice_get};
+ghost use Rattle.std.specs.List.{list_all};
 ghost use Rattle.std.specs.String.{string_bytes};
 ghost use Rattle.party_set.specs.Names.{is_name, is_name_byte, name_fault, names_fault, number_of, AreNames};
 ghost use Rattle.party_set.specs.declared.names.NamesFault.TheVariants.{Memory};
 
 use crate::name_text::NameText;
+use indexmap::IndexSet;
 use std::alloc::{AllocError, Global};
 use std::marker::Model;
 
@@ -34,7 +34,7 @@ impl From<AllocError> for NamesFault {
 /// The names of 1 to 12 parties, in the order of their numbers. Contracts see a list of texts.
 #[derive(Drop)]
 pub struct Names {
-    names: Vec<NameText>,
+    names: IndexSet<NameText>,
 }
 
 impl Model for Names {
@@ -43,9 +43,9 @@ impl Model for Names {
 
     ghost Value = { List (List ℕ) };
 
-    ghost view = { λ n. n.names.items };
+    ghost view = { λ n. n.names.keys };
 
-    ghost invariant = { λ n. AreNames n.names.items };
+    ghost invariant = { λ n. AreNames n.names.keys };
 }
 
 /// The names, if there are 1 to 12, each of 1 to 16 letters, digits and `_` after a letter, none `of` and no two equal.
@@ -59,10 +59,10 @@ pub fn read_names(alloc: Global, texts: &[String]) -> Result<Names, NamesFault>
             count: texts.len() as u64,
         });
     }
-    let mut names = Vec::new(alloc);
+    let mut names = IndexSet::new(alloc);
     for (at, text) in texts.iter().enumerate() {
         check_name(&names, text.as_str(), at as u64)?;
-        if names.push(NameText::of(text.clone()?)).is_err() {
+        if names.insert(NameText::of(text.clone()?)).is_err() {
             return Err(NamesFault::Memory);
         }
     }
@@ -93,7 +93,7 @@ impl Names {
         ensures is { result ≡ number_of self.now name.now }
         ensures party { IfSome result (λ p. slice_get self.now p ≡ Some name.now) }
     {
-        let p = place_of(&self.names, name)?;
+        let p = self.names.get_index_of(name)?;
         Some(p as u32)
     }
 }
@@ -105,30 +105,17 @@ pub fn names_have_no_fault()
 {}
 
 // Tells what is wrong with the name that stands at this place after these names.
-fn check_name(before: &[NameText], name: &str, at: u64) -> Result<(), NamesFault>
-    ensures { MatchResult result (λ _. name_fault before.now name.now at ≡ None)
-        (λ fault. name_fault before.now name.now at ≡ Some fault) }
+fn check_name(before: &IndexSet<NameText>, name: &str, at: u64) -> Result<(), NamesFault>
+    ensures { MatchResult result (λ _. name_fault before.now.keys name.now at ≡ None)
+        (λ fault. name_fault before.now.keys name.now at ≡ Some fault) }
 {
     if !is_name(name) {
         return Err(NamesFault::BadName { at });
     }
-    if is_among(before, name) {
+    if before.contains(name) {
         return Err(NamesFault::TwiceNamed { at });
     }
     Ok(())
-}
-
-fn is_among(names: &[NameText], name: &str) -> bool
-    ensures { result ≡ list_any (λ other. bytes_eq other name.now) names.now }
-{
-    names.iter().any(|other| other.as_str() == name)
-}
-
-fn place_of(names: &[NameText], name: &str) -> Option<usize>
-    ensures is { result ≡ number_of names.now name.now }
-    ensures within { IfSome result (λ p. p < length names.now) }
-{
-    names.iter().position(|other| other.as_str() == name)
 }
 
 fn is_name(name: &str) -> bool

@@ -9,8 +9,17 @@ use Rattle.job_file.specs.declared.field.Field.TheVariants.{Parties, Session}
 use Rattle.job_file.specs.declared.fault.JobFault.{JobFault}
 use Rattle.job_file.specs.Forms.{items, texts, tables}
 use Rattle.job_file.specs.Faults.{count_fault, sessions_fault}
-use Rattle.job_file.proofs.Rows.{at_sessions, last_rows}
+use Rattle.job_file.proofs.Rows.{at_count, at_sessions, last_rows, session_rows}
 use Rattle.job_file.proofs.document.read_table.Goals as goal
+
+pub returns-in_err-check_count-clause-job : goal.returns-in_err-check_count-clause-job
+returns-in_err-check_count-clause-job c =
+    let fields : Members = table_view c.args.table.now in
+    let same : map view c.items_at-sessions.result.now ≡ items Session fields = c.items_at-sessions.ensures ∙ ap (λ key. items_at key fields) c.text.ensures in
+    let size : length c.items_at-sessions.result.now ≡ length (items Session fields) = sym (length-map c.items_at-sessions.result.now view) ∙ ap length same in
+    let p = err_from_is_err_and c.from_residual-in_err-check_count.result c.from_residual-in_err-check_count.ensures.1 in
+    rw (p.1, p.2) (λ other. at_count c.args.node fields c.in_ok-check_head.ensures c.in_ok-names.ensures.1 c.in_ok-check_adversary.ensures
+    ∙ ap (λ o. option_or o (session_rows fields)) (ap count_fault (sym size) ∙ c.in_err-check_count.ensures.told))
 
 pub returns-in_err-check_sessions-clause-job : goal.returns-in_err-check_sessions-clause-job
 returns-in_err-check_sessions-clause-job c =

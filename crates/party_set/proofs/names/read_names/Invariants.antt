@@ -5,6 +5,6 @@ use Rattle.party_set.proofs.names.read_names.Given as goal
 
 abbrev pub invariant-loop-at : goal.invariant-loop-at
 invariant-loop-at l = record {
-  read : l.names.items ≡ take l.at (map string_bytes l.texts);
+  read : l.names.keys ≡ take l.at (map string_bytes l.texts);
   sound : first_name_fault (map string_bytes l.texts) l.at ≡ None;
 }
