@@ -21,22 +21,19 @@ returns-in_err-ready g c =
     runs_memory (run c.args.dir.now c.args.workers) _ _ _ _ _ c.from_residual-in_err-ready.ensures.1 refl (c.in_ok-parties.ensures.reads.quiet ∙ c.in_ok-planned.ensures.reads.quiet)
     (keeps_then _ _ _ c.in_ok-planned.ensures.reads.keeps c.in_ok-parties.ensures.reads.keeps)
 
-pub run-requires : goal.run-requires
-run-requires g c = (world_of c.in_ok-planned.planned.plan (parties_view c.in_ok-parties.parties), refl, c.in_ok-ready.ensures.ready)
-
 pub write_out-requires-clause-over : goal.write_out-requires-clause-over
 write_out-requires-clause-over g c =
     let w = world_of c.in_ok-planned.planned.plan (parties_view c.in_ok-parties.parties) in
-    (w, refl, c.run.ensures w refl c.in_ok-ready.ensures.ready)
+    (w, refl, c.run-done.ensures w refl c.in_ok-ready.ensures.ready)
 
 pub returns-in_err-write_out : goal.returns-in_err-write_out
 returns-in_err-write_out g c =
     let read = run_read c.args.dir.now c.args.workers c.in_ok-planned.planned _ _ _ c.in_ok-planned.ensures.reads c.in_ok-parties.parties c.in_ok-parties.ensures.reads in
     let w = world_of c.in_ok-planned.planned.plan (parties_view c.in_ok-parties.parties) in
-    runs_cut (run c.args.dir.now c.args.workers) _ _ _ _ (out_text c.in_ok-planned.planned.names w) _ _ c.from_residual-in_err-write_out.ensures.1 read (c.in_err-write_out.ensures w refl (c.run.ensures w refl c.in_ok-ready.ensures.ready))
+    runs_cut (run c.args.dir.now c.args.workers) _ _ _ _ (out_text c.in_ok-planned.planned.names w) _ _ c.from_residual-in_err-write_out.ensures.1 read (c.in_err-write_out.ensures w refl (c.run-done.ensures w refl c.in_ok-ready.ensures.ready))
 
 pub returns : goal.returns
 returns g c =
     let read = run_read c.args.dir.now c.args.workers c.in_ok-planned.planned _ _ _ c.in_ok-planned.ensures.reads c.in_ok-parties.parties c.in_ok-parties.ensures.reads in
     let w = world_of c.in_ok-planned.planned.plan (parties_view c.in_ok-parties.parties) in
-    runs_written (run c.args.dir.now c.args.workers) _ _ _ _ (out_text c.in_ok-planned.planned.names w) _ read (c.in_ok-write_out.ensures w refl (c.run.ensures w refl c.in_ok-ready.ensures.ready))
+    runs_written (run c.args.dir.now c.args.workers) _ _ _ _ (out_text c.in_ok-planned.planned.names w) _ read (c.in_ok-write_out.ensures w refl (c.run-done.ensures w refl c.in_ok-ready.ensures.ready))
