@@ -1,6 +1,6 @@
 -- Circuits, and the value of each wire.
 use Rattle.std.specs.Prelude.{ℕ, zero, suc, ◌+◌, ◌*◌, ◌%◌, Bool, true, false, nat_eq, if◌then◌else◌}
-use Rattle.mpc_ring.specs.Sums.{difference}
+use Rattle.mpc_ring.specs.Differences.{difference}
 use Rattle.circuit_model.specs.declared.gate.Operation.{Operation}
 use Rattle.circuit_model.specs.declared.gate.Operation.TheVariants.{Add, Sub, Neg, Mul, Xor, And, Inv, Eq, Eqw}
 use Rattle.circuit_model.specs.declared.gate.Gate.{Gate}

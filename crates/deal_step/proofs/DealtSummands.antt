@@ -7,7 +7,8 @@ use Rattle.std.proofs.lemmas.Grind.{get_or_default_zero}
 use Rattle.std.proofs.Math.ListN.{get_or-append}
 use Rattle.std.proofs.Math.Nat.{mod-eq_of_lt, mod-lt}
 use mathlib.Core.Logic.{inl, inr}
-use Rattle.mpc_ring.specs.Sums.{total, difference}
+use Rattle.list_laws.specs.Lists.{total}
+use Rattle.mpc_ring.specs.Differences.{difference}
 use Rattle.secret_sharing.specs.Sharing.{Scheme, dealt}
 
 -- what is taken away may be taken modulo q before

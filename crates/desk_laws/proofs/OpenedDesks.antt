@@ -8,9 +8,9 @@ use Rattle.std.proofs.lemmas.List.{length-drop, length-take-le, get_or-take, get
 use Rattle.std.proofs.lemmas.List.Elements.{recursion_from_All}
 use Rattle.std.proofs.Math.Nat.{mod-lt, div-add-mod, div-mul-le_self, mul-le-mul_left}
 use mathlib.Core.Logic.{inl, inr}
-use Rattle.mpc_ring.specs.Sums.{total, joined}
-use Rattle.mpc_ring.proofs.Totals.{total_eq}
-use Rattle.mpc_ring.proofs.JoinedLists.{length-joined, length-listed, listed_at, joined_at, total_within, every_joined, every_at}
+use Rattle.list_laws.specs.Lists.{total, joined}
+use Rattle.list_laws.proofs.Totals.{total_eq}
+use Rattle.list_laws.proofs.JoinedLists.{length-joined, length-listed, listed_at, joined_at, total_within, every_joined, every_at}
 use Rattle.job_plan.specs.Plans.{Plan, words, place}
 use Rattle.job_plan.specs.InputWords.{AreInputs, given}
 use Rattle.job_plan.specs.Sound.{IsSound}

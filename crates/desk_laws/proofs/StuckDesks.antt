@@ -5,9 +5,9 @@ use Rattle.std.proofs.lemmas.Bool.{cases_lt}
 use Rattle.std.proofs.Math.Nat.{mod-lt, div-mul-le_self, mul-le-mul_left, mul-le-mul_right}
 use Rattle.std.proofs.lemmas.Nat.{div-mul-add, mod-mul-add}
 use mathlib.Core.Logic.{inl, inr}
-use Rattle.mpc_ring.specs.Sums.{total}
-use Rattle.mpc_ring.proofs.JoinedLists.{length-joined}
-use Rattle.mpc_ring.proofs.Totals.{total_eq}
+use Rattle.list_laws.specs.Lists.{total}
+use Rattle.list_laws.proofs.JoinedLists.{length-joined}
+use Rattle.list_laws.proofs.Totals.{total_eq}
 use Rattle.job_plan.specs.Plans.{Plan, session, slot, slots}
 use Rattle.job_plan.specs.Messages.{messages, slot_messages}
 use Rattle.job_plan.specs.Numbers.{message}

@@ -1,7 +1,7 @@
 -- What desks count together.
 use Rattle.std.proofs.Common.{◌≡◌, ℕ, zero, suc, ◌+◌, ◌*◌, ◌/◌, ◌%◌, ◌<◌, ◌≤◌, ◌^◌, List, [], ◌∷◌, length, take, get_or, refl, ap, ◌∙◌, arith}
 use Rattle.std.proofs.Math.Nat.{mul-le-mul_right}
-use Rattle.mpc_ring.specs.Sums as sums
+use Rattle.list_laws.specs.Lists as sums
 use Rattle.message_board.specs.Pairs.{total_over}
 use Rattle.job_plan.specs.Plans.{Plan}
 use Rattle.job_plan.specs.Sound.{IsSound}

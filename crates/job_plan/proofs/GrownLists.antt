@@ -1,9 +1,9 @@
 -- Lists of messages and of starts as they grow.
 use Rattle.std.proofs.Common.{◌≡◌, ℕ, zero, suc, ◌+◌, ◌<◌, Bool, true, false, ◌&&◌, List, [], ◌∷◌, ◌++◌, length, refl, sym, ap, ap₂, ◌∙◌, length-append}
 use Rattle.std.specs.Prelude.{slice_index_or}
-use Rattle.mpc_ring.specs.Sums.{joined, listed, only_if}
-use Rattle.mpc_ring.proofs.Totals.{total_eq}
-use Rattle.mpc_ring.proofs.JoinedLists.{length-joined, joined_more, listed_at}
+use Rattle.list_laws.specs.Lists.{joined, listed, only_if}
+use Rattle.list_laws.proofs.Totals.{total_eq}
+use Rattle.list_laws.proofs.JoinedLists.{length-joined, joined_more, listed_at}
 use Rattle.circuit_model.specs.Circuits.{is_product}
 use Rattle.job_plan.specs.Plans.{Plan, session, gate, slot, slots}
 use Rattle.job_plan.specs.Plans.Slot.{At_gate}

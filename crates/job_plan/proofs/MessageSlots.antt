@@ -6,9 +6,9 @@ use Rattle.std.proofs.lemmas.Bool.{cases_lt}
 use Rattle.std.proofs.lemmas.List.{length-take, length-drop, get_or-take, get_or-drop, ext_get_or}
 use Rattle.std.proofs.lemmas.List.Sums.{passes_at_first}
 use mathlib.Core.Logic.{inl, inr}
-use Rattle.mpc_ring.specs.Sums.{total, joined}
-use Rattle.mpc_ring.proofs.Totals.{total_more}
-use Rattle.mpc_ring.proofs.JoinedLists.{length-joined}
+use Rattle.list_laws.specs.Lists.{total, joined}
+use Rattle.list_laws.proofs.Totals.{total_more}
+use Rattle.list_laws.proofs.JoinedLists.{length-joined}
 use Rattle.job_plan.specs.Plans.{Plan, session, slot, slots}
 use Rattle.job_plan.specs.declared.key.Key.{Key}
 use Rattle.job_plan.specs.Messages.{slot_messages, session_messages, messages}

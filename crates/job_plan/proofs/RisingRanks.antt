@@ -1,7 +1,7 @@
 -- Ranks rise along the messages of a slot.
 use Rattle.std.proofs.Common.{◌≡◌, ℕ, zero, suc, ◌+◌, ◌*◌, ◌<◌, ◌≤◌, Bool, true, false, not, ◌&&◌, nat_eq, List, [], ◌∷◌, ◌++◌, length, subst, arith}
 use Rattle.std.specs.Prelude.{slice_index, slice_index_or}
-use Rattle.mpc_ring.specs.Sums.{joined, only_if}
+use Rattle.list_laws.specs.Lists.{joined, only_if}
 use Rattle.party_set.specs.Parties.{has_party}
 use Rattle.job_plan.specs.Plans.{Plan, Slot, session, owners, readers, holds, deals_in}
 use Rattle.job_plan.specs.Plans.Slot.{Input, At_gate, Output}

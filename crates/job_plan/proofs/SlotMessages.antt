@@ -7,13 +7,13 @@ use Rattle.std.proofs.lemmas.List.{get_or-append-add, ext_get_or}
 use Rattle.std.proofs.lemmas.List.FromFn.{length-map-range_with_len, get_or-map-range_with_len}
 use Rattle.std.proofs.Math.ListN.{get_or-append}
 use mathlib.Core.Logic.{inl, inr}
-use Rattle.mpc_ring.specs.Sums.{total, joined}
+use Rattle.list_laws.specs.Lists.{total, joined}
 use Rattle.job_plan.specs.Plans.{Plan, session, slot, slots}
 use Rattle.job_plan.specs.declared.key.Key.{Key}
 use Rattle.job_plan.specs.Messages.{slot_messages, messages}
 use Rattle.job_plan.specs.Numbers.{message, no_key}
-use Rattle.mpc_ring.proofs.JoinedLists.{length-joined, total_within}
-use Rattle.mpc_ring.proofs.Totals.{total_eq}
+use Rattle.list_laws.proofs.JoinedLists.{length-joined, total_within}
+use Rattle.list_laws.proofs.Totals.{total_eq}
 use Rattle.job_plan.specs.Firsts.{count, session_count, first}
 use Rattle.job_plan.specs.Firsts.{numbers}
 

@@ -6,9 +6,9 @@ use Rattle.std.proofs.lemmas.Bool.{cases_eq, cases_Bool, cond-true, cond-false, 
 use Rattle.std.proofs.Math.Seq.{take-length}
 use Rattle.std.proofs.lemmas.List.Sums.{count_by_more_yes, count_by_more_no}
 use mathlib.Core.Logic.{inl, inr}
-use Rattle.mpc_ring.specs.Sums.{total, joined, only_if}
-use Rattle.mpc_ring.proofs.Totals.{total_eq, total_zero, total_add, total_mul_left, total_swap, total_pick}
-use Rattle.mpc_ring.proofs.JoinedLists.{length-joined, joined_more}
+use Rattle.list_laws.specs.Lists.{total, joined, only_if}
+use Rattle.list_laws.proofs.Totals.{total_eq, total_zero, total_add, total_mul_left, total_swap, total_pick}
+use Rattle.list_laws.proofs.JoinedLists.{length-joined, joined_more}
 use Rattle.circuit_model.specs.declared.gate.Gate.{Gate}
 use Rattle.circuit_model.specs.Circuits.{is_product}
 use Rattle.secret_sharing.specs.Sharing.{has_pair}

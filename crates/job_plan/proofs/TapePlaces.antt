@@ -1,8 +1,8 @@
 -- Tape places within the limits.
 use Rattle.std.proofs.Common.{◌≡◌, ℕ, ◌+◌, ◌-◌, ◌*◌, ◌<◌, ◌≤◌, zero, suc, Bool, true, false, if◌then◌else◌, length, arith}
 use Rattle.std.proofs.Math.Nat.{mul-le-mul_left}
-use Rattle.mpc_ring.specs.Sums.{total}
-use Rattle.mpc_ring.proofs.JoinedLists.{total_within}
+use Rattle.list_laws.specs.Lists.{total}
+use Rattle.list_laws.proofs.JoinedLists.{total_within}
 use Rattle.job_plan.specs.Plans.{Plan, session, slot, slots, words, deals_in}
 use Rattle.job_plan.specs.Numbers.{deals, deals_before, deal_place}
 use Rattle.job_plan.specs.Sound.{IsSound}

@@ -1,7 +1,7 @@
 -- Where the messages of a slot begin, and the deals of a session.
 use Rattle.std.specs.Prelude.{ℕ, ◌+◌, List, length}
 use Rattle.std.specs.List.{range_with_len}
-use Rattle.mpc_ring.specs.Sums.{total, listed}
+use Rattle.list_laws.specs.Lists.{total, listed}
 use Rattle.job_plan.specs.Plans.{Plan, session, slot, slots}
 use Rattle.job_plan.specs.Messages.{slot_messages}
 use Rattle.job_plan.specs.Numbers.{deals}

@@ -1,7 +1,7 @@
 -- The inputs of all parties.
 use Rattle.std.specs.Prelude.{◌≡◌, ℕ, ◌<◌, ◌^◌, nat_eq, if◌then◌else◌, List, [], map, length, slice_index, slice_index_or}
 use Rattle.std.specs.Global.{Vec}
-use Rattle.mpc_ring.specs.Sums.{total}
+use Rattle.list_laws.specs.Lists.{total}
 use Rattle.job_plan.specs.Plans.{Plan, session, owners}
 
 -- what party p gives in session s, where inputs stand by party, session and position

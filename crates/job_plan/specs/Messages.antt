@@ -1,6 +1,6 @@
 -- The messages of a plan, in the order of their numbers: session by session and slot by slot.
 use Rattle.std.specs.Prelude.{ℕ, ◌&&◌, not, nat_eq, List, [], ◌∷◌, length, slice_index}
-use Rattle.mpc_ring.specs.Sums.{joined, only_if}
+use Rattle.list_laws.specs.Lists.{joined, only_if}
 use Rattle.party_set.specs.Parties.{has_party}
 use Rattle.job_plan.specs.declared.key.Key.{Key}
 use Rattle.job_plan.specs.Plans.{Plan, Slot, holds, least_holder, deals_in, session, owners, readers, slot, slots}

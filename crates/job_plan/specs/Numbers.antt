@@ -1,7 +1,7 @@
 -- The numbers of messages, and the places of tape words.
 use Rattle.std.specs.Prelude.{◌≡◌, ℕ, ◌+◌, ◌-◌, ◌*◌, ◌<◌, Bool, true, false, ◌&&◌, nat_eq, List, length, slice_index_or, if◌then◌else◌}
 use Rattle.std.specs.List.{position_or_len}
-use Rattle.mpc_ring.specs.Sums.{total}
+use Rattle.list_laws.specs.Lists.{total}
 use Rattle.job_plan.specs.Plans.{Plan, Slot, session, slot, slots, words_in, place, deals_in}
 use Rattle.job_plan.specs.declared.key.Key.{Key}
 use Rattle.job_plan.specs.Plans.Slot.{Output}

@@ -1,6 +1,6 @@
 -- How often things stand in a session.
 use Rattle.std.specs.Prelude.{ℕ, ◌+◌, ◌*◌, List, length, nat_eq, count_by}
-use Rattle.mpc_ring.specs.Sums.{total}
+use Rattle.list_laws.specs.Lists.{total}
 use Rattle.circuit_model.specs.declared.gate.Gate.{Gate}
 use Rattle.circuit_model.specs.Circuits.{is_product}
 use Rattle.party_set.specs.Parties.{has_party}

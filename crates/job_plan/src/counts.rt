@@ -1,6 +1,6 @@
 //! How many messages and tape words a plan has, found without making a list of them.
 ghost use Rattle.std.specs.Prelude.{◌≡◌, ℕ, ◌^◌, ◌<◌, ◌≤◌, ◌&&◌, nat_eq, not, length};
-ghost use Rattle.mpc_ring.specs.Sums.{total, joined};
+ghost use Rattle.list_laws.specs.Lists.{total, joined};
 ghost use Rattle.job_plan.specs.Plans.{holds, session};
 ghost use Rattle.job_plan.specs.Messages.{deal_message, deal_messages, open_messages, messages};
 ghost use Rattle.job_plan.specs.Numbers.{deals};

@@ -24,7 +24,7 @@ impl Model for Keys {
 impl Keys {
     ghost use Rattle.std.specs.Prelude.{◌≡◌, ◌<◌, ◌≤◌, [], ◌∷◌, ◌++◌, IfOk, OnOk, length, slice_index_or};
     ghost use Rattle.std.specs.List.{slice_range};
-    ghost use Rattle.mpc_ring.specs.Sums.{only_if};
+    ghost use Rattle.list_laws.specs.Lists.{only_if};
     ghost use Rattle.job_plan.specs.Numbers.{no_key};
     ghost use Rattle.job_plan.specs.Packing.{IsPackable, names};
 

@@ -1,6 +1,6 @@
 //! Lists the messages of a plan in the order of their numbers.
 ghost use Rattle.std.specs.Prelude.{◌≡◌, ◌+◌, ◌<◌, ◌≤◌, ◌++◌, OnOk, IfOk, length};
-ghost use Rattle.mpc_ring.specs.Sums.{joined, only_if};
+ghost use Rattle.list_laws.specs.Lists.{joined, only_if};
 ghost use Rattle.secret_sharing.specs.Sharing.{has_pair};
 ghost use Rattle.party_set.specs.Parties.{has_party};
 ghost use Rattle.job_plan.specs.Plans.{scheme, session, slot, slots};

@@ -9,8 +9,8 @@ use Rattle.std.proofs.lemmas.List.{append-nil, ext_get_or, get_or-append-add, ge
 use Rattle.std.proofs.lemmas.List.Elements.{All-from_recursion, All-map, recursion_from_All}
 use Rattle.std.proofs.Math.ListN.{get_or-append}
 use Rattle.std.proofs.Math.Nat.{mul-le-mul_left}
-use Rattle.mpc_ring.specs.Sums.{joined, listed}
-use Rattle.mpc_ring.proofs.JoinedLists.{joined_eq, length-listed, listed_at, every_joined}
+use Rattle.list_laws.specs.Lists.{joined, listed}
+use Rattle.list_laws.proofs.JoinedLists.{joined_eq, length-listed, listed_at, every_joined}
 use Rattle.job_plan.specs.Plans.{Plan}
 use Rattle.job_plan.specs.InputWords.{AreInputs, given}
 use Rattle.party_file.specs.Table.{PartyForm}

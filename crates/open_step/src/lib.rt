@@ -2,7 +2,7 @@
 #![tactic(auto)]
 
 ghost use Rattle.std.specs.Prelude.{◌≡◌, ◌%◌, ◌^◌, ◌<◌, All, length, slice_index};
-ghost use Rattle.mpc_ring.specs.Sums.{total};
+ghost use Rattle.list_laws.specs.Lists.{total};
 
 use mpc_ring::Ring;
 

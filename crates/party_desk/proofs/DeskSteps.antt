@@ -10,7 +10,7 @@ use Rattle.secret_sharing.specs.Sharing.{Scheme, dealt, own_product, local}
 use Rattle.job_plan.specs.Plans.{Plan, Slot, holds, scheme, session}
 use Rattle.job_plan.specs.Plans.Slot.{Input, At_gate, Output}
 use Rattle.job_plan.specs.Plans.{output_wire}
-use Rattle.mpc_ring.proofs.Totals.{total_eq}
+use Rattle.list_laws.proofs.Totals.{total_eq}
 use Rattle.party_program.specs.declared.program.Instruction.{Instruction}
 use Rattle.party_program.specs.declared.program.Instruction.TheVariants.{Deal, Post, Take, Linear, Own, Sum, Deliver, End}
 use Rattle.party_desk.specs.declared.desk.Desk.{Desk}

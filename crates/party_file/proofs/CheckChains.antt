@@ -3,7 +3,7 @@ use Rattle.std.proofs.Common.{◌≡◌, ℕ, zero, suc, ◌+◌, ◌<◌, Bool,
 use Rattle.std.specs.Prelude.{if◌then◌else◌, ◌⊎◌, IfErr}
 use Rattle.std.specs.Result.{IsErrAnd}
 use Rattle.std.proofs.lemmas.Bool.{cases_eq}
-use Rattle.mpc_ring.specs.Sums.{joined}
+use Rattle.list_laws.specs.Lists.{joined}
 use Rattle.party_file.specs.Checks.{Check, ◌answers◌, first_fault, or_fault}
 use Rattle.party_file.specs.declared.fault.PartyFault.{PartyFault}
 use Rattle.party_file.specs.declared.fault.PartyFault.TheVariants.{Memory}

@@ -8,8 +8,8 @@ use Rattle.std.proofs.lemmas.List.Sums.{fails_before_first, sum_by-cons}
 use Rattle.std.proofs.lemmas.Nat.{pow_pos}
 use Rattle.std.proofs.Math.Nat.{mod-lt}
 use Rattle.toml.specs.Data.{Members}
-use Rattle.mpc_ring.specs.Sums.{total, listed}
-use Rattle.mpc_ring.proofs.JoinedLists.{length-listed, listed_at}
+use Rattle.list_laws.specs.Lists.{total, listed}
+use Rattle.list_laws.proofs.JoinedLists.{length-listed, listed_at}
 use Rattle.tape_words.specs.Cuts.{cut}
 use Rattle.tape_words.specs.Seeds.{seed_word}
 use Rattle.toml_fields.specs.Fields.{has_field, text_at, texts_at}

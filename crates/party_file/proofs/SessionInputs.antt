@@ -11,8 +11,8 @@ use Rattle.std.proofs.Math.Seq.{take-length}
 use Rattle.job_plan.specs.Plans.{Plan, session, words}
 use Rattle.job_plan.specs.Tallies.{owned}
 use Rattle.job_plan.specs.InputWords.{session_words}
-use Rattle.mpc_ring.specs.Sums.{joined}
-use Rattle.mpc_ring.proofs.JoinedLists.{length-listed}
+use Rattle.list_laws.specs.Lists.{joined}
+use Rattle.list_laws.proofs.JoinedLists.{length-listed}
 use Rattle.party_file.specs.Checks.{Check, first_fault}
 use Rattle.party_file.specs.Table.{session_checks, input_checks, numbers_in, word_counts}
 use Rattle.party_file.specs.declared.fault.PartyFault.{PartyFault}

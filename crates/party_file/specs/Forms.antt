@@ -1,6 +1,6 @@
 -- What a party's file gives, and that it fits the plan.
 use Rattle.std.specs.Prelude.{◌≡◌, ℕ, ◌<◌, ◌^◌, nat_eq, if◌then◌else◌, [], length, slice_index, slice_index_or, All}
-use Rattle.mpc_ring.specs.Sums.{total}
+use Rattle.list_laws.specs.Lists.{total}
 use Rattle.job_plan.specs.Plans.{Plan, session, owners, words}
 use Rattle.job_plan.specs.InputWords.{session_words}
 use Rattle.party_file.specs.Table.{PartyForm}

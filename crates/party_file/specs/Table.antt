@@ -6,7 +6,7 @@ use Rattle.std.specs.Ordering.{int_eq}
 use Rattle.std.specs.Result.{is_err, result_unwrap_or}
 use Rattle.hex.specs.Hex.{decode_sized}
 use Rattle.toml.specs.Data.{Members}
-use Rattle.mpc_ring.specs.Sums.{joined, listed}
+use Rattle.list_laws.specs.Lists.{joined, listed}
 use Rattle.plain_text.specs.Words.{words_in}
 use Rattle.plain_text.specs.declared.fault.WordsFault.{WordsFault}
 use Rattle.plain_text.specs.declared.fault.WordsFault.TheVariants.{NotNumber, TooLarge}

@@ -1,6 +1,6 @@
 //! The tapes of a party: from its tape, or from its seed.
 ghost use Rattle.std.specs.Prelude.{◌≡◌, ◌⊎◌, ◌<◌, ◌^◌, [], ◌∷◌, Some, None, IfOk, IfErr, OnErr, Ok, length, sum};
-ghost use Rattle.mpc_ring.specs.Sums.{listed};
+ghost use Rattle.list_laws.specs.Lists.{listed};
 ghost use Rattle.tape_words.specs.Cuts.{cut};
 ghost use Rattle.tape_words.specs.declared.tape.TapeFault.TheVariants.{WordOutOfRing};
 ghost use Rattle.tape_words.specs.Seeds.{seed_word};

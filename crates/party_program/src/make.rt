@@ -1,6 +1,6 @@
 //! Makes programs.
 ghost use Rattle.std.specs.Prelude.{◌≡◌, ℕ, ◌+◌, ◌-◌, ◌*◌, ◌<◌, ◌≤◌, ◌++◌, ◌∷◌, [], suc, OnOk, IfOk, length, map, filter};
-ghost use Rattle.mpc_ring.specs.Sums.{joined, only_if};
+ghost use Rattle.list_laws.specs.Lists.{joined, only_if};
 ghost use Rattle.job_plan.specs.Plans.{session, slot, slots};
 ghost use Rattle.job_plan.specs.Messages.{messages};
 ghost use Rattle.job_plan.specs.Sound.{IsSound};

@@ -4,7 +4,7 @@ use Rattle.std.specs.Prelude.{count_by, slice_index_or}
 use Rattle.std.proofs.lemmas.Bool.{cases_lt}
 use Rattle.std.proofs.lemmas.List.{get_or_append_left, get_or_push}
 use Rattle.std.proofs.lemmas.List.Sums.{sum_by-append}
-use Rattle.mpc_ring.specs.Sums.{total, some_below, joined, only_if}
+use Rattle.list_laws.specs.Lists.{total, some_below, joined, only_if}
 
 pub joined_more : {A : Type 0} (n : ℕ) (f : ℕ → List A) → joined (n + 1) f ≡ joined n f ++ f n
 joined_more n f = let more : n + 1 ≡ suc n = omega arith in ap (λ k. joined k f) more

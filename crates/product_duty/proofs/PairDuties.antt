@@ -5,8 +5,8 @@ use Rattle.std.proofs.lemmas.Bool.{cond-true, cond-false, cases_eq}
 use Rattle.std.proofs.lemmas.Nat.{div-mul-add, mod-mul-add, mul-add-lt}
 use Rattle.std.proofs.lemmas.List.{get_or_default}
 use Rattle.std.proofs.Math.Pow.{pow-lt}
-use Rattle.mpc_ring.specs.Sums.{only_if}
-use Rattle.mpc_ring.proofs.Totals.{total_eq, total_zero, total_pick}
+use Rattle.list_laws.specs.Lists.{only_if}
+use Rattle.list_laws.proofs.Totals.{total_eq, total_zero, total_pick}
 use Rattle.secret_sharing.specs.Sharing.{has_pair, IsScheme}
 use Rattle.party_set.specs.Parties.{Structure, Members, IsAntichain, IsQ2, IsUnion, IsLeastOutside, has_party, is_all, covers}
 use Rattle.party_set.proofs.Every.{and_both, every_from, every_at, every_not}

@@ -4,8 +4,8 @@ use Rattle.std.specs.Prelude.{slice_index_or}
 use Rattle.std.proofs.lemmas.Bool.{cases_lt}
 use Rattle.std.proofs.lemmas.List.{length-drop, length-take-le, get_or_past}
 use mathlib.Core.Logic.{inl, inr}
-use Rattle.mpc_ring.specs.Sums.{total}
-use Rattle.mpc_ring.proofs.JoinedLists.{total_within}
+use Rattle.list_laws.specs.Lists.{total}
+use Rattle.list_laws.proofs.JoinedLists.{total_within}
 use Rattle.job_plan.specs.Plans.{session, words, place}
 use Rattle.job_plan.specs.Numbers.{message}
 use Rattle.share_world.specs.Worlds.{World, word}

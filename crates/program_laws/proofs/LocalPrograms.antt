@@ -7,7 +7,7 @@ use Rattle.std.proofs.lemmas.List.{get_or-drop}
 use Rattle.std.proofs.lemmas.Nat.{pow_pos}
 use Rattle.std.proofs.Math.Nat.{mod-eq_of_lt, mul-le-mul_left}
 use mathlib.Core.Logic.{inl, inr}
-use Rattle.mpc_ring.specs.Sums.{total, joined, only_if}
+use Rattle.list_laws.specs.Lists.{total, joined, only_if}
 use Rattle.circuit_model.specs.Circuits.{is_product, set_at}
 use Rattle.circuit_model.specs.declared.gate.Gate.{Gate}
 use Rattle.secret_sharing.proofs.SummandSums.{dealt_eq, dealt_small}
@@ -22,8 +22,9 @@ use Rattle.job_plan.specs.Plans.{output_wire}
 use Rattle.share_world.specs.Locals.{local_run, local_word, local_word_in, local_output}
 use Rattle.job_plan.specs.Numbers.{message, deals_before, deals}
 use Rattle.mpc_ring.proofs.Remainders.{same_refl, same_mod, same_trans, mods_of_same}
-use Rattle.mpc_ring.proofs.Totals.{total_same, total_eq, total_one, total_zero}
-use Rattle.mpc_ring.proofs.JoinedLists.{every_joined, every_only_if, total_within}
+use Rattle.list_laws.proofs.Totals.{total_eq, total_one, total_zero}
+use Rattle.mpc_ring.proofs.Totals.{total_same}
+use Rattle.list_laws.proofs.JoinedLists.{every_joined, every_only_if, total_within}
 use Rattle.job_plan.proofs.Slots.{slot_input, slot_gate, slot_output}
 use Rattle.share_world.proofs.LocalWords.{holder_own}
 use Rattle.job_plan.proofs.PlanSchemes.{least_holds}

@@ -3,8 +3,8 @@ use Rattle.std.proofs.Common.{◌≡◌, ℕ, ◌<◌, Bool, true, false, not, �
 use Rattle.std.specs.Prelude.{slice_index}
 use Rattle.std.specs.List.{AllByRecursion}
 use Rattle.std.proofs.lemmas.Bool.{and_parts, both_ways, eq-eqb}
-use Rattle.mpc_ring.specs.Sums.{joined}
-use Rattle.mpc_ring.proofs.JoinedLists.{every_joined, every_only_if}
+use Rattle.list_laws.specs.Lists.{joined}
+use Rattle.list_laws.proofs.JoinedLists.{every_joined, every_only_if}
 use Rattle.party_set.specs.Parties.{has_party}
 use Rattle.job_plan.specs.Plans.{Plan, Slot, session, slot, slots, owners, readers, holds, deals_in, IsPlan}
 use Rattle.job_plan.specs.Plans.Slot.{Input, At_gate, Output}

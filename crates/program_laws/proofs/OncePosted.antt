@@ -6,8 +6,8 @@ use Rattle.std.proofs.lemmas.Bool.{cases_eq, cases_lt, cases_Bool, cond-true, co
 use Rattle.std.proofs.lemmas.List.{get_or-append-add}
 use Rattle.std.proofs.Math.ListN.{get_or-append}
 use mathlib.Core.Logic.{inl, inr}
-use Rattle.mpc_ring.specs.Sums.{total, joined, only_if}
-use Rattle.mpc_ring.proofs.JoinedLists.{length-joined, total_within, every_only_if, every_append}
+use Rattle.list_laws.specs.Lists.{total, joined, only_if}
+use Rattle.list_laws.proofs.JoinedLists.{length-joined, total_within, every_only_if, every_append}
 use Rattle.circuit_model.specs.Circuits.{is_product}
 use Rattle.party_set.specs.Parties.{has_party}
 use Rattle.job_plan.specs.Plans.{Plan, Slot, session, gate, slot, slots, deals_in}

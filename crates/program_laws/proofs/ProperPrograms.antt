@@ -6,9 +6,9 @@ use Rattle.std.proofs.lemmas.List.{get_or_past}
 use Rattle.std.proofs.lemmas.Nat.{pow_pos}
 use Rattle.std.proofs.Math.Nat.{mul-le-mul_left}
 use mathlib.Core.Logic.{inl, inr}
-use Rattle.mpc_ring.specs.Sums.{total}
-use Rattle.mpc_ring.proofs.Totals.{total_eq}
-use Rattle.mpc_ring.proofs.JoinedLists.{total_within}
+use Rattle.list_laws.specs.Lists.{total}
+use Rattle.list_laws.proofs.Totals.{total_eq}
+use Rattle.list_laws.proofs.JoinedLists.{total_within}
 use Rattle.job_plan.specs.Plans.{Plan, Slot, owners, session, slot, slots, deals_in, words, place, IsPlan}
 use Rattle.job_plan.specs.Plans.Slot.{Input, At_gate, Output}
 use Rattle.job_plan.specs.Sound.{IsSound}

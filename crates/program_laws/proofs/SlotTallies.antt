@@ -3,12 +3,12 @@ use Rattle.std.proofs.Common.{◌≡◌, ◌⊎◌, ℕ, zero, suc, ◌+◌, ◌
 use Rattle.std.specs.List.{filter}
 use Rattle.std.proofs.lemmas.Bool.{cases_eq, cases_Bool, cond-true, cond-false, eq-eqb, ne_eqb, and_from, and_left, not_from_false, not_from_true, both_ways}
 use mathlib.Core.Logic.{inl, inr}
-use Rattle.mpc_ring.specs.Sums.{total, joined, only_if}
+use Rattle.list_laws.specs.Lists.{total, joined, only_if}
 use Rattle.job_plan.specs.Plans.{Plan, holds}
 use Rattle.job_plan.specs.declared.key.Key.{Key}
 use Rattle.job_plan.specs.Messages.{deal_message, deal_messages}
 use Rattle.job_plan.specs.Numbers.{message}
-use Rattle.mpc_ring.proofs.Totals.{total_eq, total_zero, total_one}
+use Rattle.list_laws.proofs.Totals.{total_eq, total_zero, total_one}
 use Rattle.party_program.specs.Programs.{to}
 use Rattle.party_program.specs.States.{Given}
 use Rattle.program_laws.proofs.SlotTakes.{tally, Has}

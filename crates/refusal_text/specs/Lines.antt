@@ -2,7 +2,7 @@
 use Rattle.std.specs.Prelude.{ℕ, ℤ, nat_le, ◌&&◌, if◌then◌else◌, List, [], ◌++◌, length, Option, None, Some, slice_index, slice_index_or, codes, decimal}
 use Rattle.std.specs.Option.{option_map}
 use Rattle.std.specs.Fmt.{signed_decimal}
-use Rattle.mpc_ring.specs.Sums.{listed}
+use Rattle.list_laws.specs.Lists.{listed}
 use Rattle.group_formula.specs.declared.fault.FormulaFault.{FormulaFault}
 use Rattle.group_formula.specs.declared.fault.FormulaFault.TheVariants as formula
 use Rattle.circuit_model.specs.declared.fault.CircuitFault.{CircuitFault}

@@ -2,9 +2,9 @@
 use Rattle.std.proofs.Common.{◌≡◌, ℕ, zero, suc, ◌+◌, ◌*◌, ◌%◌, ◌<◌, true, false, List, [], ◌∷◌, ◌++◌, nat_eq, if◌then◌else◌, refl, sym, ap, ◌∙◌, subst, arith}
 use Rattle.std.specs.Prelude.{sum_by}
 use Rattle.std.proofs.lemmas.List.Sums.{sum_by-append}
-use Rattle.mpc_ring.specs.Sums.{total, joined, only_if}
+use Rattle.list_laws.specs.Lists.{total, joined, only_if}
 use Rattle.mpc_ring.proofs.Remainders.{same_refl, same_trans, same_add, same_mod, mods_of_same}
-use Rattle.mpc_ring.proofs.Totals.{total_eq}
+use Rattle.list_laws.proofs.Totals.{total_eq}
 use Rattle.product_duty.specs.Duties.{pairs_where}
 
 -- the numbers of each pair are below n and below m

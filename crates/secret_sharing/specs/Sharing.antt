@@ -1,6 +1,7 @@
 -- Maurer's protocol over replicated additive shares, as one system of equations.
 use Rattle.std.specs.Prelude.{◌≡◌, ℕ, zero, suc, ◌+◌, ◌-◌, ◌*◌, ◌%◌, ◌<◌, Bool, true, nat_eq, nat_lt, if◌then◌else◌}
-use Rattle.mpc_ring.specs.Sums.{total, some_below, difference}
+use Rattle.list_laws.specs.Lists.{total, some_below}
+use Rattle.mpc_ring.specs.Differences.{difference}
 use Rattle.circuit_model.specs.declared.gate.Operation.{Operation}
 use Rattle.circuit_model.specs.declared.gate.Gate.{Gate}
 use Rattle.circuit_model.specs.Circuits.{is_product, operate, set_at, values}

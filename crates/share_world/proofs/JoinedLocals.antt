@@ -12,7 +12,7 @@ use Rattle.job_plan.specs.Plans.Slot.{Input, At_gate}
 use Rattle.share_world.specs.Worlds.{World, run_of, word, first_summands, input_of, tape_word}
 use Rattle.share_world.specs.Locals.{local_run, local_word, local_word_in, LocalsJoin}
 use Rattle.secret_sharing.proofs.Agreement.{gate_agrees, product_agrees}
-use Rattle.mpc_ring.proofs.JoinedLists.{every_both, at_joined, at_only_if}
+use Rattle.list_laws.proofs.JoinedLists.{every_both, at_joined, at_only_if}
 use Rattle.job_plan.proofs.Slots.{slot_input, slot_gate, product_within}
 use Rattle.share_world.proofs.LocalWords.{holder_own, seen}
 use Rattle.share_world.proofs.SentWords.{SendsWord, all_sent}

@@ -4,8 +4,8 @@ use Rattle.std.specs.Prelude.{slice_index}
 use Rattle.std.specs.List.{AllByRecursion}
 use Rattle.std.proofs.lemmas.Bool.{cases_Bool, cond-true, cond-false}
 use mathlib.Core.Logic.{inl, inr}
-use Rattle.mpc_ring.proofs.JoinedLists.{every_joined, every_only_if}
-use Rattle.mpc_ring.proofs.Totals.{total_eq}
+use Rattle.list_laws.proofs.JoinedLists.{every_joined, every_only_if}
+use Rattle.list_laws.proofs.Totals.{total_eq}
 use Rattle.party_set.specs.Parties.{has_party}
 use Rattle.secret_sharing.specs.Sharing.{dealt, summands}
 use Rattle.job_plan.specs.declared.key.Key.{Key}

@@ -13,7 +13,7 @@ use Rattle.share_world.specs.Worlds.{World, run_of, tape_word, deal_of}
 use Rattle.share_world.specs.Solutions.{reads_first, reads_second, SetBefore, GatesInOrder, SummandsSolve, OnlySolution, IsSolution}
 use Rattle.job_plan.proofs.Slots.{slot_input, slot_gate, slot_cases}
 use Rattle.mpc_ring.proofs.Remainders.{same_refl}
-use Rattle.mpc_ring.proofs.Totals.{total_eq}
+use Rattle.list_laws.proofs.Totals.{total_eq}
 use Rattle.secret_sharing.proofs.Agreement.{own_same}
 
 set_later : (s : Session) (t v : ℕ) → SetBefore s t v → SetBefore s (suc t) v

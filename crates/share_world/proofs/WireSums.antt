@@ -10,7 +10,7 @@ use Rattle.job_plan.specs.Plans.{owners, scheme, session, IsPlan}
 use Rattle.share_world.specs.Worlds.{World, run_of, first_summands, first_values, input_of, tape_word}
 use Rattle.share_world.specs.Laws.{IsWorld, SumIsPlain}
 use Rattle.mpc_ring.proofs.Remainders.{mods_of_same}
-use Rattle.mpc_ring.proofs.Totals.{total_zero, total_eq}
+use Rattle.list_laws.proofs.Totals.{total_zero, total_eq}
 use Rattle.secret_sharing.proofs.SummandSums.{dealt_sum, product_sum, sum_is_plain}
 use Rattle.job_plan.proofs.PlanSchemes.{scheme_is}
 

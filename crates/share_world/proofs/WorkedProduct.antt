@@ -2,8 +2,8 @@
 use Rattle.std.proofs.Common.{◌≡◌, ℕ, zero, suc, ◌<◌, ◌≤◌, true, false, List, [], ◌∷◌, length, refl, arith}
 use Rattle.std.specs.Prelude.{slice_index, slice_index_or, nat_eq, if◌then◌else◌}
 use Rattle.std.specs.List.{AllByRecursion}
-use Rattle.mpc_ring.specs.Sums.{total}
-use Rattle.mpc_ring.proofs.JoinedLists.{every_at}
+use Rattle.list_laws.specs.Lists.{total}
+use Rattle.list_laws.proofs.JoinedLists.{every_at}
 use Rattle.party_set.specs.Parties.{IsQ2, covers}
 use Rattle.job_plan.specs.Plans.{session, owners, readers, structure, gate, words}
 use Rattle.job_plan.specs.Sound.{IsSound, IsSoundSession}

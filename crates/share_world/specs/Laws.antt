@@ -1,6 +1,6 @@
 -- What a valid world is, the law of sums, and the law of local runs.
 use Rattle.std.specs.Prelude.{◌≡◌, ℕ, ◌%◌, ◌^◌, ◌<◌, true, List, [], length, slice_index, slice_index_or}
-use Rattle.mpc_ring.specs.Sums.{total}
+use Rattle.list_laws.specs.Lists.{total}
 use Rattle.secret_sharing.specs.Sharing.{summands}
 use Rattle.job_plan.specs.Plans.{Plan, IsPlan, holds, output_wire, session}
 use Rattle.job_plan.specs.Sound.{IsSound}

@@ -1,7 +1,7 @@
 -- What one party computes by itself, from its inputs, its tape and the words that it got.
 use Rattle.std.specs.List.{AllByRecursion}
 use Rattle.std.specs.Prelude.{◌≡◌, ℕ, ◌<◌, ◌≤◌, ◌+◌, ◌%◌, ◌^◌, nat_eq, nat_lt, if◌then◌else◌, length, slice_index}
-use Rattle.mpc_ring.specs.Sums.{total}
+use Rattle.list_laws.specs.Lists.{total}
 use Rattle.secret_sharing.specs.Sharing.{Run, dealt, product_summand, own_value, summands}
 use Rattle.job_plan.specs.declared.key.Key.{Key}
 use Rattle.job_plan.specs.Plans.{owners, holds, least_holder, scheme, session, gate, Slot, slot}

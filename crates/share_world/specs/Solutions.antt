@@ -1,6 +1,6 @@
 -- The equations of the protocol over the wires of a valid circuit.
 use Rattle.std.specs.Prelude.{◌≡◌, ℕ, ◌+◌, ◌%◌, ◌<◌, ◌⊎◌, Bool, true, false, if◌then◌else◌, length, slice_index}
-use Rattle.mpc_ring.specs.Sums.{total}
+use Rattle.list_laws.specs.Lists.{total}
 use Rattle.circuit_model.specs.declared.gate.Operation.{Operation}
 use Rattle.circuit_model.specs.Circuits.{is_product}
 use Rattle.circuit_model.specs.declared.gate.Operation.TheVariants.{Neg, Inv, Eq, Eqw}

@@ -1,6 +1,6 @@
 -- A world: a plan, the inputs of all parties, and their tapes. Its words, and what a group sees.
 use Rattle.std.specs.Prelude.{ℕ, ◌+◌, ◌^◌, Bool, ◌||◌, nat_eq, nat_lt, if◌then◌else◌, List, [], map, length, slice_index, slice_index_or, filter}
-use Rattle.mpc_ring.specs.Sums.{total}
+use Rattle.list_laws.specs.Lists.{total}
 use Rattle.circuit_model.specs.Circuits.{values}
 use Rattle.secret_sharing.specs.Sharing.{Run, dealt, product_summand, own_value, summands}
 use Rattle.job_plan.specs.Plans.{owners, output_wire, Plan, Slot, scheme, session, gate, slot, place}

@@ -1,6 +1,6 @@
 //! Tapes, and how they are cut.
 ghost use Rattle.std.specs.Prelude.{◌≡◌, ◌^◌, ◌<◌, ◌≤◌, [], ◌∷◌, All, IfOk, IfErr, OnOk, MatchOption, length, sum};
-ghost use Rattle.mpc_ring.specs.Sums.{listed};
+ghost use Rattle.list_laws.specs.Lists.{listed};
 ghost use Rattle.tape_words.specs.Cuts.{cut, IsFirstOutside, IsSplitRefusal};
 ghost use Rattle.tape_words.specs.Seeds.{seed_word};
 

@@ -1,7 +1,7 @@
 -- Texts that are gathered in a loop.
 use Rattle.std.proofs.Common.{◌≡◌, ℕ, ◌+◌, List, ◌++◌, sym, ap, ◌∙◌, subst}
-use Rattle.mpc_ring.specs.Sums.{joined}
-use Rattle.mpc_ring.proofs.JoinedLists.{joined_more}
+use Rattle.list_laws.specs.Lists.{joined}
+use Rattle.list_laws.proofs.JoinedLists.{joined_more}
 use Rattle.outer_io.specs.Gathering.{Gathering, Adds}
 use Rattle.outer_io.proofs.GatheredTexts.{adds_then}
 

@@ -3,7 +3,7 @@ use Rattle.std.proofs.Common.{◌≡◌, ℕ, ◌*◌, ◌+◌, ◌^◌, ◌%◌
 use Rattle.std.specs.Prelude.{not, Option, Some, Result, Ok, Err, OnOk, slice_get, slice_index_or, codes}
 use Rattle.std.proofs.lemmas.Bool.{cond-true, cond-false}
 use Rattle.std.proofs.lemmas.Option.{get_or_from_slice_get}
-use Rattle.mpc_ring.specs.Sums.{only_if}
+use Rattle.list_laws.specs.Lists.{only_if}
 use Rattle.party_set.specs.Parties.{has_party}
 use Rattle.text_parts.specs.Parts.{member_text}
 

@@ -1,6 +1,6 @@
 //! Numbers and groups as pieces of a text that is gathered.
 ghost use Rattle.std.specs.Prelude.{◌≡◌, ◌<◌, ◌++◌, codes, decimal, length};
-ghost use Rattle.mpc_ring.specs.Sums.{only_if};
+ghost use Rattle.list_laws.specs.Lists.{only_if};
 ghost use Rattle.outer_io.specs.Gathering.{Adds};
 ghost use Rattle.text_parts.specs.Parts.{group_text, member_text};
 

@@ -1,6 +1,6 @@
 //! Numbers and groups, written at the end of a text.
 ghost use Rattle.std.specs.Prelude.{◌≡◌, ◌<◌, ◌++◌, OnOk, codes, decimal, length};
-ghost use Rattle.mpc_ring.specs.Sums.{only_if};
+ghost use Rattle.list_laws.specs.Lists.{only_if};
 ghost use Rattle.text_parts.specs.Parts.{group_text, member_text};
 
 use itoa::Buffer;

@@ -2,7 +2,8 @@ use Rattle.std.proofs.Common.{◌≡◌, ℕ, suc, ◌+◌, ◌-◌, ◌^◌, �
 use Rattle.std.specs.Prelude.{slice_index}
 use Rattle.std.proofs.lemmas.List.{get_or-drop, at_drop_more, length-take-le, length-append, length-set, length-drop}
 use Rattle.std.proofs.lemmas.Nat.{pow_pos}
-use Rattle.mpc_ring.specs.Sums.{total, difference}
+use Rattle.list_laws.specs.Lists.{total}
+use Rattle.mpc_ring.specs.Differences.{difference}
 use Rattle.mpc_ring.proofs.Totals.{total_step_alone}
 use Rattle.deal_step.proofs.DealtSummands.{missing, filled_below, filled_dealt}
 use Rattle.deal_step.proofs.deal.Goals as goal

@@ -1,6 +1,6 @@
 use Rattle.std.proofs.Common.{◌≡◌, ℕ, ◌%◌, ◌^◌, ◌<◌, All, drop}
 use Rattle.std.specs.Prelude.{slice_index}
-use Rattle.mpc_ring.specs.Sums.{total}
+use Rattle.list_laws.specs.Lists.{total}
 use Rattle.deal_step.proofs.deal.Given as goal
 
 -- the places so far have the words so far

@@ -1,5 +1,5 @@
 use Rattle.std.proofs.Common.{◌≡◌, ◌*◌, ◌≤◌}
-use Rattle.mpc_ring.specs.Sums.{total}
+use Rattle.list_laws.specs.Lists.{total}
 use Rattle.job_plan.specs.Plans.{session}
 use Rattle.job_plan.specs.Tallies.{outputs_read}
 use Rattle.job_plan.proofs.counts.all_reads.Given as goal

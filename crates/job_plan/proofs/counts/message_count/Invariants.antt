@@ -1,5 +1,5 @@
 use Rattle.std.proofs.Common.{◌≡◌, ◌*◌, ◌^◌, ◌≤◌}
-use Rattle.mpc_ring.specs.Sums.{total}
+use Rattle.list_laws.specs.Lists.{total}
 use Rattle.job_plan.specs.Tallies.{party_messages}
 use Rattle.job_plan.proofs.counts.message_count.Given as goal
 

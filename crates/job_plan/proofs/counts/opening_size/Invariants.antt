@@ -1,5 +1,5 @@
 use Rattle.std.proofs.Common.{◌≡◌, ℕ, ◌≤◌, length}
-use Rattle.mpc_ring.specs.Sums.{joined}
+use Rattle.list_laws.specs.Lists.{joined}
 use Rattle.job_plan.proofs.TallyLaws.{open_message}
 use Rattle.job_plan.proofs.counts.opening_size.Given as goal
 

@@ -1,5 +1,5 @@
 use Rattle.std.proofs.Common.{◌≡◌}
-use Rattle.mpc_ring.specs.Sums.{listed}
+use Rattle.list_laws.specs.Lists.{listed}
 use Rattle.job_plan.specs.Firsts.{deal_starts}
 use Rattle.job_plan.proofs.lists.list_deals.Given as goal
 

@@ -1,5 +1,5 @@
 use Rattle.std.proofs.Common.{◌≡◌, ◌*◌, ◌≤◌}
-use Rattle.mpc_ring.specs.Sums.{total, listed}
+use Rattle.list_laws.specs.Lists.{total, listed}
 use Rattle.job_plan.specs.Numbers.{deals}
 use Rattle.job_plan.proofs.lists.list_deals_of.Given as goal
 

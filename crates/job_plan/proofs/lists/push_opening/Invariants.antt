@@ -1,5 +1,5 @@
 use Rattle.std.proofs.Common.{◌≡◌, ◌++◌}
-use Rattle.mpc_ring.specs.Sums.{joined}
+use Rattle.list_laws.specs.Lists.{joined}
 use Rattle.job_plan.proofs.TallyLaws.{open_message}
 use Rattle.job_plan.proofs.lists.push_opening.Given as goal
 

@@ -1,5 +1,5 @@
 use Rattle.std.proofs.Common.{◌≡◌, ◌++◌}
-use Rattle.mpc_ring.specs.Sums.{joined, only_if}
+use Rattle.list_laws.specs.Lists.{joined, only_if}
 use Rattle.party_set.specs.Parties.{has_party}
 use Rattle.job_plan.specs.Messages.{open_messages}
 use Rattle.job_plan.proofs.lists.push_output.Given as goal

@@ -1,5 +1,5 @@
 use Rattle.std.proofs.Common.{◌≡◌, ◌++◌}
-use Rattle.mpc_ring.specs.Sums.{joined, only_if}
+use Rattle.list_laws.specs.Lists.{joined, only_if}
 use Rattle.secret_sharing.specs.Sharing.{has_pair}
 use Rattle.job_plan.specs.Plans.{scheme}
 use Rattle.job_plan.specs.Messages.{deal_messages}

@@ -1,6 +1,6 @@
 use Rattle.std.proofs.Common.{◌≡◌, ℕ, List, ◌+◌, length, refl, ap, ◌∙◌, arith}
-use Rattle.mpc_ring.specs.Sums.{joined, listed}
-use Rattle.mpc_ring.proofs.JoinedLists.{joined_step}
+use Rattle.list_laws.specs.Lists.{joined, listed}
+use Rattle.list_laws.proofs.JoinedLists.{joined_step}
 use Rattle.job_plan.specs.Plans.{session, slot, slots}
 use Rattle.job_plan.specs.declared.key.Key.{Key}
 use Rattle.job_plan.specs.Messages.{slot_messages, session_messages}

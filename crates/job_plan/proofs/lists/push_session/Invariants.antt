@@ -1,5 +1,5 @@
 use Rattle.std.proofs.Common.{◌≡◌, ◌++◌}
-use Rattle.mpc_ring.specs.Sums.{joined, listed}
+use Rattle.list_laws.specs.Lists.{joined, listed}
 use Rattle.job_plan.specs.Plans.{session, slot}
 use Rattle.job_plan.specs.Messages.{slot_messages, session_messages}
 use Rattle.job_plan.specs.Firsts.{first}

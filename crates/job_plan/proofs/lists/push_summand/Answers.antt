@@ -1,6 +1,6 @@
 use Rattle.std.proofs.Common.{[], ◌∷◌, ap, ◌∙◌}
-use Rattle.mpc_ring.specs.Sums.{only_if}
-use Rattle.mpc_ring.proofs.JoinedLists.{joined_step}
+use Rattle.list_laws.specs.Lists.{only_if}
+use Rattle.list_laws.proofs.JoinedLists.{joined_step}
 use Rattle.job_plan.specs.declared.key.Key.{Key}
 use Rattle.job_plan.specs.Messages.{deal_message}
 use Rattle.job_plan.proofs.lists.push_summand.Goals as goal

@@ -1,5 +1,5 @@
 use Rattle.std.proofs.Common.{◌≡◌, ◌^◌}
-use Rattle.mpc_ring.specs.Sums.{listed}
+use Rattle.list_laws.specs.Lists.{listed}
 use Rattle.tape_words.specs.Seeds.{seed_word}
 use Rattle.job_plan.specs.Plans.{words}
 use Rattle.party_file.proofs.tapes.seed_tapes.Given as goal

@@ -1,5 +1,5 @@
 use Rattle.std.proofs.Common.{◌≡◌}
-use Rattle.mpc_ring.specs.Sums.{listed}
+use Rattle.list_laws.specs.Lists.{listed}
 use Rattle.job_plan.specs.Plans.{words}
 use Rattle.party_file.proofs.tapes.word_counts.Given as goal
 

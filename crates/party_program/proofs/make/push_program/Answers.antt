@@ -1,5 +1,5 @@
 use Rattle.std.proofs.Common.{◌≡◌, suc, ◌+◌, ◌∙◌, ap, refl, arith}
-use Rattle.mpc_ring.proofs.JoinedLists.{joined_step}
+use Rattle.list_laws.proofs.JoinedLists.{joined_step}
 use Rattle.job_plan.specs.Numbers.{deals_before}
 use Rattle.party_program.specs.Programs.{slot_program}
 use Rattle.party_program.proofs.make.push_program.Goals as goal

@@ -1,5 +1,5 @@
 use Rattle.std.proofs.Common.{◌≡◌, ◌≤◌, ◌++◌}
-use Rattle.mpc_ring.specs.Sums.{joined}
+use Rattle.list_laws.specs.Lists.{joined}
 use Rattle.job_plan.specs.Numbers.{deals_before}
 use Rattle.party_program.specs.Programs.{slot_program}
 use Rattle.party_program.proofs.make.push_program.Given as goal

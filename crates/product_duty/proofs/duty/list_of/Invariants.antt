@@ -1,6 +1,6 @@
 use Rattle.std.proofs.Common.{◌≡◌, ◌+◌, ◌*◌, ◌++◌}
 use Rattle.std.specs.Prelude.{slice_index}
-use Rattle.mpc_ring.specs.Sums.{joined}
+use Rattle.list_laws.specs.Lists.{joined}
 use Rattle.product_duty.specs.Duties.{pairs_in_row}
 use Rattle.product_duty.proofs.duty.list_of.Given as goal
 

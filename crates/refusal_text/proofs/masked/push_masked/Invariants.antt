@@ -1,6 +1,6 @@
 use Rattle.std.proofs.Common.{◌≡◌, ◌++◌}
 use Rattle.std.specs.Prelude.{nat_le, ◌&&◌, if◌then◌else◌, slice_index}
-use Rattle.mpc_ring.specs.Sums.{listed}
+use Rattle.list_laws.specs.Lists.{listed}
 use Rattle.refusal_text.proofs.masked.push_masked.Given as goal
 
 abbrev pub invariant-loop-byte : goal.invariant-loop-byte

@@ -1,4 +1,4 @@
-use Rattle.mpc_ring.specs.Sums.{joined}
+use Rattle.list_laws.specs.Lists.{joined}
 use Rattle.outer_io.specs.Gathering.{Adds}
 use Rattle.text_parts.specs.Parts.{member_text}
 use Rattle.text_parts.proofs.gathered.gather_group.Given as goal

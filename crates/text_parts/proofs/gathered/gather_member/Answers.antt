@@ -1,6 +1,6 @@
 use Rattle.std.proofs.Common.{◌≡◌, true, [], refl, sym, ap, ap₂, ◌∙◌, nat_eq, ◌++◌, ◌*◌, ◌^◌, ◌%◌, arith}
 use Rattle.std.specs.Prelude.{not, codes}
-use Rattle.mpc_ring.specs.Sums.{only_if}
+use Rattle.list_laws.specs.Lists.{only_if}
 use Rattle.party_set.specs.Parties.{has_party}
 use Rattle.party_set.proofs.Masks.{power_is}
 use Rattle.outer_io.proofs.GatheredTexts.{adds_then}

@@ -1,5 +1,5 @@
 use Rattle.std.proofs.Common.{◌≡◌, ◌++◌}
-use Rattle.mpc_ring.specs.Sums.{joined}
+use Rattle.list_laws.specs.Lists.{joined}
 use Rattle.text_parts.specs.Parts.{member_text}
 use Rattle.text_parts.proofs.parts.push_group.Given as goal
 

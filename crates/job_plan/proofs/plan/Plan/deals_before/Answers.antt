@@ -1,7 +1,7 @@
 use Rattle.std.proofs.Common.{◌≡◌, ℕ, ◌+◌, length, ap, ◌∙◌, arith}
 use Rattle.std.specs.Prelude.{slice_index}
-use Rattle.mpc_ring.specs.Sums.{total}
-use Rattle.mpc_ring.proofs.JoinedLists.{length-listed, listed_at}
+use Rattle.list_laws.specs.Lists.{total}
+use Rattle.list_laws.proofs.JoinedLists.{length-listed, listed_at}
 use Rattle.job_plan.specs.Numbers.{deals}
 use Rattle.job_plan.specs.Firsts.{deal_starts, deal_starts_of}
 use Rattle.job_plan.proofs.GrownLists.{row_is}

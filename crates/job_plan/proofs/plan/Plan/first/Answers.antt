@@ -1,6 +1,6 @@
 use Rattle.std.proofs.Common.{◌≡◌, ◌+◌, length, ap, ◌∙◌, arith}
 use Rattle.std.specs.Prelude.{slice_index}
-use Rattle.mpc_ring.proofs.JoinedLists.{length-listed, listed_at}
+use Rattle.list_laws.proofs.JoinedLists.{length-listed, listed_at}
 use Rattle.job_plan.specs.Plans.{session, slots}
 use Rattle.job_plan.specs.Firsts.{first, session_starts, starts_of}
 use Rattle.job_plan.proofs.SlotMessages.{first_within}

@@ -1,5 +1,5 @@
 use Rattle.std.proofs.Common.{◌≡◌, ◌^◌, ◌<◌, All}
-use Rattle.mpc_ring.specs.Sums.{listed}
+use Rattle.list_laws.specs.Lists.{listed}
 use Rattle.rand_chacha.specs.ChaCha.{of_seed}
 use Rattle.tape_words.specs.Seeds.{seed_word}
 use Rattle.tape_words.proofs.tape.Tape.from_seed.Given as goal

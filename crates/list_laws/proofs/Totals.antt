@@ -1,0 +1,61 @@
+-- Sums over the numbers below n.
+use Rattle.std.proofs.Common.{◌≡◌, ℕ, zero, suc, ◌+◌, ◌*◌, ◌<◌, ◌≢◌, nat_eq, if◌then◌else◌, refl, sym, ap, ◌∙◌, subst, arith}
+use Rattle.std.proofs.lemmas.Bool.{cases_eq, cond-true, cond-false, eq-eqb, ne_eqb}
+use mathlib.Core.Logic.{inl, inr}
+use Rattle.list_laws.specs.Lists.{total}
+
+pub total_add : (n : ℕ) (f g : ℕ → ℕ) → total n (λ i. f i + g i) ≡ total n f + total n g
+total_add zero f g = refl
+total_add (suc n) f g = omega (arith, total_add n f g)
+
+pub total_mul : (n : ℕ) (f : ℕ → ℕ) (c : ℕ) → total n (λ i. f i * c) ≡ total n f * c
+total_mul zero f c = omega arith
+total_mul (suc n) f c = omega (arith, total_mul n f c)
+
+pub total_mul_left : (n : ℕ) (c : ℕ) (f : ℕ → ℕ) → total n (λ i. c * f i) ≡ c * total n f
+total_mul_left zero c f = omega arith
+total_mul_left (suc n) c f = omega (arith, total_mul_left n c f)
+
+pub total_eq : (n : ℕ) (f g : ℕ → ℕ) → ((i : ℕ) → i < n → f i ≡ g i) → total n f ≡ total n g
+total_eq zero f g h = refl
+total_eq (suc n) f g h =
+    let e = total_eq n f g (λ i l. h i (omega arith)) in
+    let k = h n (omega arith) in
+    omega (arith, e, k)
+
+pub total_zero : (n : ℕ) (f : ℕ → ℕ) → ((i : ℕ) → i < n → f i ≡ 0) → total n f ≡ 0
+total_zero zero f h = refl
+total_zero (suc n) f h =
+    let e = total_zero n f (λ i l. h i (omega arith)) in
+    let k = h n (omega arith) in
+    omega (arith, e, k)
+
+pub total_swap : (n m : ℕ) (f : ℕ → ℕ → ℕ) → total n (λ i. total m (λ j. f i j)) ≡ total m (λ j. total n (λ i. f i j))
+total_swap zero m f = sym (total_zero m (λ j. 0) (λ j l. refl))
+total_swap (suc n) m f = ap (λ z. z + total m (λ j. f n j)) (total_swap n m f) ∙ sym (total_add m (λ j. total n (λ i. f i j)) (λ j. f n j))
+
+-- a sum changes by what one term changes
+pub total_one : (n k : ℕ) (f g : ℕ → ℕ) → k < n → ((i : ℕ) → i < n → i ≢ k → f i ≡ g i) → total n f + g k ≡ total n g + f k
+total_one zero k f g l h = omega arith
+total_one (suc n) k f g l h = elim (cases_eq k n) [
+  | inl e ↦ let same = total_eq n f g (λ i b. h i (omega arith) (omega arith)) in
+      subst (λ z. total n f + f n + g z ≡ total n g + g n + f z) (sym e) (omega (arith, same))
+  | inr ne ↦ let rest = total_one n k f g (omega arith) (λ i b. h i (omega arith)) in
+      let last = h n (omega arith) (λ z. ne (sym z)) in
+      omega (arith, rest, last)
+]
+
+-- one term alone
+pub total_pick : (n d a : ℕ) → d < n → total n (λ p. if nat_eq d p then a else 0) ≡ a
+total_pick zero d a l = omega arith
+total_pick (suc n) d a l = elim (cases_eq d n) [
+  | inl e ↦ let none = total_zero n (λ p. if nat_eq d p then a else 0) (λ i b. cond-false (nat_eq d i) a 0 (ne_eqb d i (omega arith))) in
+      let here = cond-true (nat_eq d n) a 0 (eq-eqb d n e) in
+      omega (arith, none, here)
+  | inr ne ↦ let rest = total_pick n d a (omega arith) in
+      let here = cond-false (nat_eq d n) a 0 (ne_eqb d n ne) in
+      omega (arith, rest, here)
+]
+
+pub total_more : (n : ℕ) (f : ℕ → ℕ) → total (n + 1) f ≡ total n f + f n
+total_more n f = let more : n + 1 ≡ suc n = omega arith in ap (λ z. total z f) more
