@@ -1,4 +1,5 @@
-//! Workers, each of which steps any desk that it finds at home.
+//! Workers, each of which steps any desk that it finds at home: first those of its share, so that what the desks hold stays
+//! near the processor, and the others where none of these moves.
 ghost use Rattle.std.specs.Prelude.{◌≡◌, ◌+◌, ◌<◌, ◌≤◌, ◌^◌, length, vec_len};
 ghost use Rattle.message_board.specs.Seats.{IsFreeSeatOf};
 ghost use Rattle.desk_workers.specs.Pools.{IsPool, AllFree, SameSeatCounts};
@@ -13,7 +14,7 @@ use party_desk::Desk;
 use std::thread;
 use std::thread::Threads;
 
-/// So many passes in a row without a move end a worker.
+/// So many rounds in a row without a move end a worker.
 const MOST_IDLE: u32 = 64;
 
 // What a worker saw: how often desks moved, and whether all that it came to were at home and at their end.
@@ -51,38 +52,91 @@ fn look_in<P: Pace>(
     Visit { moves, over }
 }
 
-// The slot that the worker comes to after so many others.
-fn slot_at(worker: u32, others: u32, slots: u32) -> u32
-    requires { 0 < slots }
-    ensures { result < slots }
-{
-    ((u64::from(worker) + u64::from(others)) % u64::from(slots)) as u32
+// Slots that a worker goes round: so many from this one on.
+#[derive(Clone, Copy)]
+struct Slots {
+    first: u64,
+    count: u32,
 }
 
-// Visits each slot once, in rising order, from the worker's number on and round.
+// The slots that a worker goes round first, where each of so many workers has a share as large.
+fn share_of(worker: u64, workers: usize, slots: u32) -> Slots
+    requires { worker < 2 ^ 16 }
+    ensures first { result.first < 2 ^ 48 }
+    ensures count { result.count ≤ slots }
+{
+    let workers = u64::from(slots).min(workers as u64).max(1);
+    let count = (u64::from(slots) + workers - 1) / workers;
+    let count = count.min(u64::from(slots)) as u32;
+    Slots {
+        first: worker * u64::from(count),
+        count,
+    }
+}
+
+// The slot that comes so many others after this one, round all slots.
+fn slot_at(first: u64, others: u32, slots: u32) -> u32
+    requires first { first < 2 ^ 48 }
+    requires some { 0 < slots }
+    ensures { result < slots }
+{
+    ((first + u64::from(others)) % u64::from(slots)) as u32
+}
+
+// Visits each of these slots once, in rising order and round.
 fn pass<P: Pace>(
     rack: &Rack<Promised, Desk>,
     plan: &Plan,
     pace: &P,
     worker: u32,
+    visited: Slots,
     seat: &mut BoardSeat<Promised, Desk>,
 ) -> Visit
     requires pool { IsPool plan.now rack.now }
+    requires first { visited.first < 2 ^ 48 }
+    requires count { visited.count ≤ rack.now.id.slots }
     requires seat { IsFreeSeatOf rack.now seat.old }
     ensures seat { IsFreeSeatOf rack.now seat.new }
     ensures seats { seat.new.view.seats ≡ seat.old.view.seats }
     ensures moves { result.moves < 2 ^ 40 }
 {
-    let slots = rack.slots();
     let mut moves = 0;
     let mut over = true;
-    for others in 0..slots {
-        let desk = slot_at(worker, others, slots);
+    for others in 0..visited.count {
+        let desk = slot_at(visited.first, others, rack.slots());
         let seen = look_in(rack, plan, pace, Turn { worker, desk }, seat);
         moves += seen.moves;
         over = over && seen.over;
     }
     Visit { moves, over }
+}
+
+// Visits the slots of the worker's share, and where no desk of them moved, all slots.
+fn round<P: Pace>(
+    rack: &Rack<Promised, Desk>,
+    plan: &Plan,
+    pace: &P,
+    worker: u32,
+    share: Slots,
+    seat: &mut BoardSeat<Promised, Desk>,
+) -> Visit
+    requires pool { IsPool plan.now rack.now }
+    requires first { share.first < 2 ^ 48 }
+    requires count { share.count ≤ rack.now.id.slots }
+    requires seat { IsFreeSeatOf rack.now seat.old }
+    ensures seat { IsFreeSeatOf rack.now seat.new }
+    ensures seats { seat.new.view.seats ≡ seat.old.view.seats }
+    ensures moves { result.moves < 2 ^ 40 }
+{
+    let own = pass(rack, plan, pace, worker, share, seat);
+    if own.moves > 0 {
+        return own;
+    }
+    let all = Slots {
+        first: share.first,
+        count: rack.slots(),
+    };
+    pass(rack, plan, pace, worker, all, seat)
 }
 
 fn next_idle(idle: u32, moves: u64) -> u32
@@ -93,27 +147,30 @@ fn next_idle(idle: u32, moves: u64) -> u32
     if moves == 0 { idle + 1 } else { 0 }
 }
 
-// Steps desks until a pass finds all of them at home and at their end, or so many passes in a row moved none, or the
-// worker has made as many moves as there are instructions.
+// Steps desks until all were found at home and at their end, or so many rounds in a row moved none, or the worker has made
+// as many moves as there are instructions.
 fn work<P: Pace>(
     rack: &Rack<Promised, Desk>,
     plan: &Plan,
     pace: &P,
     worker: u32,
+    workers: usize,
     instructions: u64,
     seat: &mut BoardSeat<Promised, Desk>,
 )
     requires pool { IsPool plan.now rack.now }
+    requires worker { worker < 2 ^ 16 }
     requires few { instructions < 2 ^ 40 }
     requires seat { IsFreeSeatOf rack.now seat.old }
     ensures seat { IsFreeSeatOf rack.now seat.new }
     ensures seats { seat.new.view.seats ≡ seat.old.view.seats }
 {
+    let share = share_of(u64::from(worker), workers, rack.slots());
     let mut idle = 0;
     let mut made = 0;
     let mut over = false;
     while !over && idle < MOST_IDLE && made < instructions {
-        let seen = pass(rack, plan, pace, worker, seat);
+        let seen = round(rack, plan, pace, worker, share, seat);
         made += seen.moves;
         idle = next_idle(idle, seen.moves);
         over = seen.over;
@@ -141,7 +198,17 @@ fn fan_out<P: Pace, R: Threads + Sync>(
     let job = move |i: usize, seat: &mut BoardSeat<Promised, Desk>|
         requires { IsPool plan.now rack.now × IsFreeSeatOf rack.now seat.old × (instructions < 2 ^ 40) }
         ensures { IsFreeSeatOf rack.entry.now seat.new × (seat.new.view.seats ≡ seat.old.view.seats) }
-    { work(rack, plan, pace, (i % 0x1_0000) as u32, instructions, seat) };
+    {
+        work(
+            rack,
+            plan,
+            pace,
+            (i % 0x1_0000) as u32,
+            count,
+            instructions,
+            seat,
+        )
+    };
     thread::for_each_mut(rt, seats, count, &job);
 }
 
