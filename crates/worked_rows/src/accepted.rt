@@ -14,8 +14,30 @@ pub const PRODUCTS_OF_TWO_SESSIONS: [Change<'static>; 7] = [
     Change::Edit("party_c.toml", "5 6", "5 6 7 8"),
 ];
 
+/// A seed, which stands in place of a tape.
+const SEED: &str = "seed = \"0000000000000000000000000000000000000000000000000000000000000000\"";
+
+/// The tapes of the product.
+const TAPE_A: &str = "tape = \"10 20 1 2\"";
+
+const TAPE_B: &str = "tape = \"30 40 3 4\"";
+
+const TAPE_C: &str = "tape = \"5 6\"";
+
+/// The file of a party without inputs.
+const NO_INPUTS: &[u8] =
+    b"version = 1\ninputs = [\"\"]\nseed = \"0000000000000000000000000000000000000000000000000000000000000000\"\n";
+
+/// Which of two bids of two bits, the lower one first, is higher: 0 for the first, 1 for the second; and that bid.
+const HIGHEST_BID: &[u8] =
+    b"13 17\n2 2 2\n2 1 2\n2 1 1 3 4 XOR\n1 1 4 5 INV\n1 1 0 6 INV\n2 1 2 6 7 AND\n2 1 5 7 8 AND\n2 1 3 4 9 AND\n2 1 8 9 10 XOR\n2 1 0 2 11 XOR\n2 1 10 11 12 AND\n2 1 10 4 13 AND\n1 1 10 14 EQW\n2 1 0 12 15 XOR\n2 1 1 13 16 XOR\n";
+
+/// A session for the sum of three words, and one for the sum of their squares.
+const SUM_AND_SQUARES: &str =
+    "[[session]]\ncircuit = \"sum.txt\"\nlayout = \"ring\"\nowners = [\"a\", \"b\", \"c\"]\nreaders = [[\"a\", \"b\", \"c\"]]\n[[session]]\ncircuit = \"squares.txt\"\nlayout = \"ring\"\nowners = [\"a\", \"b\", \"c\"]\nreaders = [[\"b\"]]\n";
+
 /// Calls that end with status 0.
-pub const ACCEPTED: [Row<'static>; 17] = [
+pub const ACCEPTED: [Row<'static>; 20] = [
     Row {
         name: "multiply",
         words: &RUN,
@@ -46,11 +68,7 @@ pub const ACCEPTED: [Row<'static>; 17] = [
     Row {
         name: "words_of_a_seed",
         words: &RUN,
-        changes: &[Change::Edit(
-            "party_a.toml",
-            "tape = \"10 20 1 2\"",
-            "seed = \"0000000000000000000000000000000000000000000000000000000000000000\"",
-        )],
+        changes: &[Change::Edit("party_a.toml", TAPE_A, SEED)],
         status: 0,
         out: "out 0 0 c 35\n",
         err: "",
@@ -190,6 +208,72 @@ pub const ACCEPTED: [Row<'static>; 17] = [
         )],
         status: 0,
         out: "out 0 0 c 35\n",
+        err: "",
+    },
+    Row {
+        name: "auction",
+        words: &RUN,
+        changes: &[
+            Change::Edit("job.toml", "8", "1"),
+            Change::Edit("job.toml", "\"ring\"", "\"bristol\""),
+            Change::Edit("job.toml", "[[\"c\"]]", "[[\"a\", \"b\", \"c\"], [\"c\"]]"),
+            Change::Whole("mul.txt", HIGHEST_BID),
+            Change::Edit("party_a.toml", "[\"5\"]", "[\"0 1\"]"),
+            Change::Edit("party_a.toml", TAPE_A, SEED),
+            Change::Edit("party_b.toml", "[\"7\"]", "[\"1 1\"]"),
+            Change::Edit("party_b.toml", TAPE_B, SEED),
+            Change::Edit("party_c.toml", TAPE_C, SEED),
+        ],
+        status: 0,
+        out: "out 0 0 a 1\nout 0 0 b 1\nout 0 0 c 1\nout 0 1 c 1 1\n",
+        err: "",
+    },
+    Row {
+        name: "statistics",
+        words: &RUN,
+        changes: &[
+            Change::Edit("job.toml", SESSION, SUM_AND_SQUARES),
+            Change::Whole(
+                "sum.txt",
+                b"2 5\n3 1 1 1\n1 1\n2 1 0 1 3 ADD\n2 1 3 2 4 ADD\n",
+            ),
+            Change::Whole(
+                "squares.txt",
+                b"5 8\n3 1 1 1\n1 1\n2 1 0 0 3 MUL\n2 1 1 1 4 MUL\n2 1 2 2 5 MUL\n2 1 3 4 6 ADD\n2 1 6 5 7 ADD\n",
+            ),
+            Change::Edit("party_a.toml", "[\"5\"]", "[\"5\", \"5\"]"),
+            Change::Edit("party_a.toml", TAPE_A, SEED),
+            Change::Edit("party_b.toml", "[\"7\"]", "[\"7\", \"7\"]"),
+            Change::Edit("party_b.toml", TAPE_B, SEED),
+            Change::Edit("party_c.toml", "[\"\"]", "[\"4\", \"4\"]"),
+            Change::Edit("party_c.toml", TAPE_C, SEED),
+        ],
+        status: 0,
+        out: "out 0 0 a 16\nout 0 0 b 16\nout 0 0 c 16\nout 1 0 b 90\n",
+        err: "",
+    },
+    Row {
+        name: "threshold",
+        words: &RUN,
+        changes: &[
+            Change::Edit("job.toml", "8", "16"),
+            Change::Edit(
+                "job.toml",
+                "\"a\", \"b\", \"c\"",
+                "\"a\", \"b\", \"c\", \"d\", \"e\"",
+            ),
+            Change::Edit("job.toml", "2 of (a, b, c)", "3 of (a, b, c, d, e)"),
+            Change::Edit("job.toml", "[[\"c\"]]", "[[\"c\", \"e\"]]"),
+            Change::Edit("party_a.toml", "[\"5\"]", "[\"125\"]"),
+            Change::Edit("party_a.toml", TAPE_A, SEED),
+            Change::Edit("party_b.toml", "[\"7\"]", "[\"40\"]"),
+            Change::Edit("party_b.toml", TAPE_B, SEED),
+            Change::Edit("party_c.toml", TAPE_C, SEED),
+            Change::Whole("party_d.toml", NO_INPUTS),
+            Change::Whole("party_e.toml", NO_INPUTS),
+        ],
+        status: 0,
+        out: "out 0 0 c 5000\nout 0 0 e 5000\n",
         err: "",
     },
     Row {

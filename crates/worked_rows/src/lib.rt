@@ -10,6 +10,10 @@ mod expect;
 #[cfg(test)]
 mod failing_sinks;
 #[cfg(test)]
+mod in_the_clear;
+#[cfg(test)]
+mod inputs;
+#[cfg(test)]
 mod job_faults;
 #[cfg(test)]
 mod long_files;

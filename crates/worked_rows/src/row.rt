@@ -15,7 +15,7 @@ pub const CHECK: [&str; 3] = ["mpc", "check", "d"];
 pub enum Change<'a> {
     /// In the file of this name, the second text stands in place of the first.
     Edit(&'a str, &'a str, &'a str),
-    /// The file of this name has these bytes.
+    /// The file of this name, which may be another one, has these bytes, whatever the other changes.
     Whole(&'a str, &'a [u8]),
     /// There is no file of this name.
     Without(&'a str),
@@ -33,7 +33,7 @@ pub struct Row<'a> {
     pub err: &'a str,
 }
 
-/// What the changes make of the file that had this text, None where they take it away.
+/// What the edits make of the file that had this text, None where it is taken away.
 fn changed(
     alloc: Global,
     file: &str,
@@ -49,9 +49,6 @@ fn changed(
                 }
                 text = text.replacen(alloc, old, new, 1)?;
             }
-            Change::Whole(of, bytes) if of == file => {
-                return Ok(Some(Vec::from_slice(alloc, bytes)?));
-            }
             Change::Without(of) if of == file => return Ok(None),
             _ => (),
         }
@@ -65,6 +62,14 @@ pub fn files(alloc: Global, changes: &[Change<'_>]) -> Result<MapFiles, Fail> {
     for (file, text) in PRODUCT {
         if let Some(bytes) = changed(alloc, file, text, changes)? {
             all.insert(format!(in alloc; "d/{file}")?, bytes)?;
+        }
+    }
+    for change in changes {
+        if let Change::Whole(file, bytes) = *change {
+            all.insert(
+                format!(in alloc; "d/{file}")?,
+                Vec::from_slice(alloc, bytes)?,
+            )?;
         }
     }
     Ok(MapFiles::new(all, Vec::new(alloc)))

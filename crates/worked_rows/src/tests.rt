@@ -2,6 +2,8 @@ use crate::accepted::ACCEPTED;
 use crate::circuit_faults::{CIRCUIT_FAULTS, FRONTS};
 use crate::expect::{expect_all, expect_within};
 use crate::failing_sinks::{SHORT_ERR, SHORT_OUT};
+use crate::in_the_clear::out_in_the_clear;
+use crate::inputs::inputs_of;
 use crate::job_faults::JOB_FAULTS;
 use crate::long_files::{SEVEN_PARTIES, joined_names, parentheses, products};
 use crate::other_words::OTHER_WORDS;
@@ -20,6 +22,25 @@ fn each_row_has_its_answer(rt: HostRuntime) -> Result<(), Fail> {
     expect_all(&rt, &CIRCUIT_FAULTS)?;
     expect_all(&rt, &PARTY_FAULTS)?;
     expect_all(&rt, &TOLERATED)
+}
+
+/// That each run of these rows that writes outputs writes the values that its circuits have in the clear.
+fn expect_in_the_clear(rt: &HostRuntime, rows: &[Row<'_>]) -> Result<(), Fail> {
+    for row in rows {
+        if row.out.starts_with("out ") {
+            let out = out_in_the_clear(rt.alloc(), row.changes, inputs_of(row.name)?)?;
+            let mut in_the_clear = *row;
+            in_the_clear.out = out.as_str();
+            expect_within(rt, &in_the_clear, 300, 300)?;
+        }
+    }
+    Ok(())
+}
+
+#[test]
+fn each_run_has_the_values_in_the_clear(rt: HostRuntime) -> Result<(), Fail> {
+    expect_in_the_clear(&rt, &ACCEPTED)?;
+    expect_in_the_clear(&rt, &TOLERATED)
 }
 
 #[test]

@@ -1,0 +1,123 @@
+//! What runs write, computed in the clear from the files and the words on the input wires.
+ghost use Rattle.std.specs.Prelude.{◌^◌, ◌<◌, All, IfOk};
+
+use crate::row::{Change, files};
+use circuit_model::{Circuit, CircuitFault, CircuitLayout};
+use job_file::{Job, read_job};
+use mpc_ring::Ring;
+use outer_io::{Files, MapFiles};
+use party_set::Group;
+use plain_eval::eval;
+use std::alloc::{AllocError, Global};
+use std::slice::Iter;
+use std::test::Fail;
+
+fn read_file(alloc: Global, files: &mut MapFiles, name: &str) -> Result<Vec<u8>, Fail> {
+    let path = format!(in alloc; "d/{name}")?;
+    let bytes = files.read(alloc, &path, 10_000);
+    Ok(bytes.ok().ok_or("a file that is not there")?)
+}
+
+fn read_circuit(
+    alloc: Global,
+    bytes: &[u8],
+    layout: CircuitLayout,
+    ring: Ring,
+) -> Result<Circuit, CircuitFault> {
+    match layout {
+        CircuitLayout::Bristol => bristol_reader::read(alloc, bytes, ring),
+        CircuitLayout::Ring => ring_reader::read(alloc, bytes, ring),
+    }
+}
+
+/// These words, modulo the ring's modulus.
+fn reduced(alloc: Global, ring: Ring, words: &[u64]) -> Result<Vec<u64>, AllocError>
+    ensures { IfOk result (λ list. All (λ word. word < 2 ^ ring) list.items) }
+{
+    let mut list = Vec::new(alloc);
+    for word in words {
+        list.push(ring.reduce(*word))?;
+    }
+    Ok(list)
+}
+
+/// The values of all wires.
+fn values_of(
+    alloc: Global,
+    circuit: &Circuit,
+    ring: Ring,
+    inputs: &[u64],
+) -> Result<Vec<u64>, Fail> {
+    let words = reduced(alloc, ring, inputs)?;
+    if words.len() != circuit.inputs() as usize {
+        return Err("not one word for each input wire".into());
+    }
+    Ok(eval(alloc, circuit, ring, &words)?)
+}
+
+/// The next words, a space before each.
+fn words_text(alloc: Global, words: &mut Iter<'_, u64>, count: u64) -> Result<String, Fail> {
+    let mut text = String::new(alloc);
+    for _ in 0..count {
+        let word = *words.next().ok_or("too few output wires")?;
+        text.push_str(format!(in alloc; " {word}")?.as_str())?;
+    }
+    Ok(text)
+}
+
+/// Adds the lines of a session, whose output values lie on the last wires.
+fn push_lines(
+    alloc: Global,
+    out: &mut String,
+    job: &Job,
+    s: usize,
+    readers: &[Group],
+    circuit: &Circuit,
+    values: &[u64],
+) -> Result<(), Fail> {
+    let first = values.len().saturating_sub(circuit.outputs() as usize);
+    let mut words = values[first..].iter();
+    for (v, group) in readers.iter().enumerate() {
+        let width = *circuit
+            .output_widths()
+            .get(v)
+            .ok_or("too few output values")?;
+        let text = words_text(alloc, &mut words, width)?;
+        for p in 0..job.names.len() {
+            if p < group.parties() && group.has(p) {
+                let name = job.names.name(p);
+                out.push_str(format!(in alloc; "out {s} {v} {name}{text}\n")?.as_str())?;
+            }
+        }
+    }
+    Ok(())
+}
+
+/// What a run over the product's files with these changes is to write, from the words on the input wires of each
+/// session.
+pub fn out_in_the_clear(
+    alloc: Global,
+    changes: &[Change<'_>],
+    inputs: &[&[u64]],
+) -> Result<String, Fail> {
+    let mut files = files(alloc, changes)?;
+    let bytes = read_file(alloc, &mut files, "job.toml")?;
+    let job = read_job(alloc, &bytes, false).ok().ok_or("no job")?;
+    let mut out = String::new(alloc);
+    for (s, session) in job.sessions.iter().enumerate() {
+        let words = *inputs.get(s).ok_or("a session without inputs")?;
+        let bytes = read_file(alloc, &mut files, session.circuit.as_str())?;
+        let circuit = read_circuit(alloc, &bytes, session.layout, job.ring)?;
+        let values = values_of(alloc, &circuit, job.ring, words)?;
+        push_lines(
+            alloc,
+            &mut out,
+            &job,
+            s,
+            &session.readers,
+            &circuit,
+            &values,
+        )?;
+    }
+    Ok(out)
+}
