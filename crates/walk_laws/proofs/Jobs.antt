@@ -6,7 +6,7 @@ use Rattle.job_file.specs.Forms.{JobForm, SessionForm}
 use Rattle.party_file.specs.Table.{PartyForm}
 use Rattle.command_words.specs.Commands.{CommandForm, run, check}
 use Rattle.mpc_top.specs.Verdict.{EndsOnce}
-use Rattle.mpc_top.specs.JobOf.{Contents, JobText, StructureOf, SessionAt, SessionsAfter, PlannedOf, PlanAt, HandAt, HandsAfter, JobAt}
+use Rattle.mpc_top.specs.JobOf.{Contents, JobText, StructureOf, SessionAt, SessionsAfter, PlannedOf, PlanAt, PartyAt, PartiesAfter, JobAt}
 use Rattle.mpc_top.specs.Due.{TextOf, IsDue}
 use Rattle.walk_laws.proofs.Walks.{ends_once, then_once}
 use Rattle.walk_laws.proofs.Plans.{groups_once, q2_once, plan_once}
@@ -36,22 +36,22 @@ plan_at_once : (files : Contents) (dir : List ℕ) → EndsOnce (PlanAt files di
 unfolding PlanAt
 plan_at_once files dir = then_once _ _ (text_once files dir) (λ job. then_once _ _ (structure_once job) (planned_once files dir job))
 
-hand_once : (files : Contents) (dir : List ℕ) (plan : Plan) (p : ℕ) (name : List ℕ) → EndsOnce (HandAt files dir plan p name)
-unfolding HandAt
-hand_once files dir plan p name = then_once _ _ (ends_once _) (λ bytes. ends_once _)
+party_once : (files : Contents) (dir : List ℕ) (plan : Plan) (p : ℕ) (name : List ℕ) → EndsOnce (PartyAt files dir plan p name)
+unfolding PartyAt
+party_once files dir plan p name = then_once _ _ (ends_once _) (λ bytes. ends_once _)
 
-hands_once : (files : Contents) (dir : List ℕ) (plan : Plan) (before : List PartyForm) (names : List (List ℕ)) → EndsOnce (HandsAfter files dir plan before names)
-unfolding HandsAfter
-hands_once files dir plan before [] = ends_once _
-hands_once files dir plan before (name ∷ names) = then_once _ _ (hand_once files dir plan (length before) name) (λ hand. hands_once files dir plan (before ++ hand ∷ []) names)
+parties_once : (files : Contents) (dir : List ℕ) (plan : Plan) (before : List PartyForm) (names : List (List ℕ)) → EndsOnce (PartiesAfter files dir plan before names)
+unfolding PartiesAfter
+parties_once files dir plan before [] = ends_once _
+parties_once files dir plan before (name ∷ names) = then_once _ _ (party_once files dir plan (length before) name) (λ party. parties_once files dir plan (before ++ party ∷ []) names)
 
 job_once : (files : Contents) (dir : List ℕ) → EndsOnce (JobAt files dir)
 unfolding JobAt
-job_once files dir = then_once _ _ (plan_at_once files dir) (λ planned. then_once _ _ (hands_once files dir planned.plan [] planned.names) (λ hands. ends_once _))
+job_once files dir = then_once _ _ (plan_at_once files dir) (λ planned. then_once _ _ (parties_once files dir planned.plan [] planned.names) (λ parties. ends_once _))
 
 command_once : (command : CommandForm) (files : Contents) → EndsOnce (TextOf command files)
 unfolding TextOf
-command_once (run dir) files = then_once _ _ (job_once files dir) (λ job. ends_once _)
+command_once (run dir workers) files = then_once _ _ (job_once files dir) (λ job. ends_once _)
 command_once (check dir) files = then_once _ _ (plan_at_once files dir) (λ planned. ends_once _)
 
 pub due_once : (command : Option CommandForm) (files : Contents) → EndsOnce (IsDue command (Some files))
