@@ -1,6 +1,6 @@
 //! A rack of one item, for which two seats ask.
 ghost use Rattle.std.specs.Prelude.{◌≡◌, [], IfOk, IfSome};
-ghost use Rattle.message_board.specs.Seats.{AreNew, IsSeatOf};
+ghost use Rattle.message_board.specs.Seats.{AreNewSeats, IsSeatOf};
 
 use crate::Rack;
 use message_board::{BoardSeat, Promise, SlotItem};
@@ -36,7 +36,7 @@ type ItemSeat = BoardSeat<NoWords, Item>;
 
 // A rack with the item 7 in its one slot, and its two seats.
 fn one_item(alloc: Global) -> Result<(ItemRack, Vec<ItemSeat>), Fail>
-    ensures seats { IfOk result (λ r. AreNew r.0 r.1.items) }
+    ensures seats { IfOk result (λ r. AreNewSeats r.0 r.1.items) }
     ensures slots { IfOk result (λ r. r.0.id.slots ≡ 1) }
 {
     let items = vec![in alloc; Item(7)]?;
@@ -46,13 +46,14 @@ fn one_item(alloc: Global) -> Result<(ItemRack, Vec<ItemSeat>), Fail>
     }
 }
 
-// The last of these seats.
-fn a_seat(rack: &ItemRack, seats: &mut Vec<ItemSeat>) -> Option<ItemSeat>
-    requires { AreNew rack.now seats.old.items }
-    ensures seat { IfSome result (IsSeatOf rack.now) }
-    ensures others { AreNew rack.now seats.new.items }
+// The two seats.
+fn two_seats(rack: &ItemRack, mut seats: Vec<ItemSeat>) -> Option<(ItemSeat, ItemSeat)>
+    requires { AreNewSeats rack.now seats.items }
+    ensures { IfSome result (λ two. IsSeatOf rack.now two.0 × IsSeatOf rack.now two.1) }
 {
-    seats.pop()
+    let second = seats.pop()?;
+    let first = seats.pop()?;
+    Some((first, second))
 }
 
 // That the item has one holder at a time.
@@ -76,8 +77,7 @@ fn expect_one_holder(
 
 #[test]
 fn an_item_has_one_holder(rt: HostRuntime) -> Result<(), Fail> {
-    let (rack, mut seats) = one_item(rt.alloc())?;
-    let mut first = a_seat(&rack, &mut seats).ok_or("no seat")?;
-    let mut second = a_seat(&rack, &mut seats).ok_or("no second seat")?;
+    let (rack, seats) = one_item(rt.alloc())?;
+    let (mut first, mut second) = two_seats(&rack, seats).ok_or("not two seats")?;
     expect_one_holder(&rt, &rack, &mut first, &mut second)
 }

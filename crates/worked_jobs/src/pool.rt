@@ -11,17 +11,25 @@ use job_plan::Plan;
 use job_run::prepared;
 use mpc_ring::Ring;
 use outer_io::NoPace;
+use std::alloc::Global;
 use std::process::Abort;
 use std::test::Fail;
+use std::thread::Threads;
 
 // The run of these files by so many workers.
-fn run_by(rt: &HostRuntime, plan: &Plan, files: &[&str], workers: u32) -> Result<Done, Fail>
+fn run_by<R: Threads + Sync>(
+    rt: &R,
+    alloc: Global,
+    plan: &Plan,
+    files: &[&str],
+    workers: u32,
+) -> Result<Done, Fail>
     requires files { length files.now ≡ plan.now.parties }
     requires workers { (0 < workers) × (workers ≤ 16) }
     ensures { IfOk result (λ done. (w : worlds.World) × (w.plan ≡ plan.now) × IsOver w done) }
 {
-    let all_data = all_data(rt.alloc(), plan, files)?;
-    let ready = prepared(rt.alloc(), plan, all_data, workers)?;
+    let all_data = all_data(alloc, plan, files)?;
+    let ready = prepared(alloc, plan, all_data, workers)?;
     Ok(ready.run(rt, plan, &NoPace))
 }
 
@@ -44,7 +52,7 @@ fn any_number_of_workers_has_the_words(rt: HostRuntime) -> Result<(), Fail> {
     let ring = Ring::new(8).ok_or("no ring")?;
     let plan = multiply_plan(rt.alloc(), ring)?;
     for workers in [1, 2, 16] {
-        let done = run_by(&rt, &plan, &FILES, workers)?;
+        let done = run_by(&rt, rt.alloc(), &plan, &FILES, workers)?;
         expect_words(&rt, &done);
     }
     Ok(())

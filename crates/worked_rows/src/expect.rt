@@ -6,6 +6,7 @@ use outer_io::{NoPace, Pace, VecSink};
 use std::alloc::{AllocError, Global};
 use std::process::Abort;
 use std::test::Fail;
+use std::thread::Threads;
 
 /// A sink that takes so many bytes.
 fn sink(alloc: Global, room: usize) -> Result<VecSink, AllocError> {
@@ -24,14 +25,14 @@ fn compare(rt: &impl Abort, row: &Row<'_>, status: u8, out: &[u8], err: &[u8]) {
 }
 
 /// That the call of the row gives its answer at this pace, over sinks that take so many bytes.
-fn expect_call<P: Pace>(
-    rt: &HostRuntime,
+fn expect_call<P: Pace, R: Abort + Threads + Sync>(
+    rt: &R,
+    alloc: Global,
     row: &Row<'_>,
     pace: &P,
     room_out: usize,
     room_err: usize,
 ) -> Result<(), Fail> {
-    let alloc = rt.alloc();
     let words = words(alloc, row.words)?;
     let mut files = files(alloc, row.changes)?;
     let mut out = sink(alloc, room_out)?;
@@ -42,24 +43,34 @@ fn expect_call<P: Pace>(
 }
 
 /// That the call of the row gives its answer, over sinks that take so many bytes.
-pub fn expect_within(
-    rt: &HostRuntime,
+pub fn expect_within<R: Abort + Threads + Sync>(
+    rt: &R,
+    alloc: Global,
     row: &Row<'_>,
     room_out: usize,
     room_err: usize,
 ) -> Result<(), Fail> {
-    expect_call(rt, row, &NoPace, room_out, room_err)
+    expect_call(rt, alloc, row, &NoPace, room_out, room_err)
 }
 
 /// That the call of the row gives its answer at this pace.
-pub fn expect_paced<P: Pace>(rt: &HostRuntime, row: &Row<'_>, pace: &P) -> Result<(), Fail> {
-    expect_call(rt, row, pace, 300, 300)
+pub fn expect_paced<P: Pace, R: Abort + Threads + Sync>(
+    rt: &R,
+    alloc: Global,
+    row: &Row<'_>,
+    pace: &P,
+) -> Result<(), Fail> {
+    expect_call(rt, alloc, row, pace, 300, 300)
 }
 
 /// That the call of each row gives its answer.
-pub fn expect_all(rt: &HostRuntime, rows: &[Row<'_>]) -> Result<(), Fail> {
+pub fn expect_all<R: Abort + Threads + Sync>(
+    rt: &R,
+    alloc: Global,
+    rows: &[Row<'_>],
+) -> Result<(), Fail> {
     for row in rows {
-        expect_within(rt, row, 300, 300)?;
+        expect_within(rt, alloc, row, 300, 300)?;
     }
     Ok(())
 }

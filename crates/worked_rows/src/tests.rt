@@ -12,26 +12,34 @@ use crate::product::{CIRCUIT, SESSION, TWO_SESSIONS};
 use crate::row::{CHECK, Change, RUN, Row};
 use crate::tolerated::TOLERATED;
 use mpc_ring::Ring;
+use std::alloc::Global;
+use std::process::Abort;
 use std::test::Fail;
+use std::thread::Threads;
 
 #[test]
 fn each_row_has_its_answer(rt: HostRuntime) -> Result<(), Fail> {
-    expect_all(&rt, &ACCEPTED)?;
-    expect_all(&rt, &OTHER_WORDS)?;
-    expect_all(&rt, &JOB_FAULTS)?;
-    expect_all(&rt, &CIRCUIT_FAULTS)?;
-    expect_all(&rt, &PARTY_FAULTS)?;
-    expect_all(&rt, &TOLERATED)
+    let alloc = rt.alloc();
+    expect_all(&rt, alloc, &ACCEPTED)?;
+    expect_all(&rt, alloc, &OTHER_WORDS)?;
+    expect_all(&rt, alloc, &JOB_FAULTS)?;
+    expect_all(&rt, alloc, &CIRCUIT_FAULTS)?;
+    expect_all(&rt, alloc, &PARTY_FAULTS)?;
+    expect_all(&rt, alloc, &TOLERATED)
 }
 
 /// That each run of these rows that writes outputs writes the values that its circuits have in the clear.
-fn expect_in_the_clear(rt: &HostRuntime, rows: &[Row<'_>]) -> Result<(), Fail> {
+fn expect_in_the_clear<R: Abort + Threads + Sync>(
+    rt: &R,
+    alloc: Global,
+    rows: &[Row<'_>],
+) -> Result<(), Fail> {
     for row in rows {
         if row.out.starts_with("out ") {
-            let out = out_in_the_clear(rt.alloc(), row.changes, inputs_of(row.name)?)?;
+            let out = out_in_the_clear(alloc, row.changes, inputs_of(row.name)?)?;
             let mut in_the_clear = *row;
             in_the_clear.out = out.as_str();
-            expect_within(rt, &in_the_clear, 300, 300)?;
+            expect_within(rt, alloc, &in_the_clear, 300, 300)?;
         }
     }
     Ok(())
@@ -39,19 +47,22 @@ fn expect_in_the_clear(rt: &HostRuntime, rows: &[Row<'_>]) -> Result<(), Fail> {
 
 #[test]
 fn each_run_has_the_values_in_the_clear(rt: HostRuntime) -> Result<(), Fail> {
-    expect_in_the_clear(&rt, &ACCEPTED)?;
-    expect_in_the_clear(&rt, &TOLERATED)
+    let alloc = rt.alloc();
+    expect_in_the_clear(&rt, alloc, &ACCEPTED)?;
+    expect_in_the_clear(&rt, alloc, &TOLERATED)
 }
 
 #[test]
 fn a_failing_sink_has_the_first_bytes(rt: HostRuntime) -> Result<(), Fail> {
-    expect_within(&rt, &SHORT_OUT, 4, 300)?;
-    expect_within(&rt, &SHORT_ERR, 300, 10)
+    let alloc = rt.alloc();
+    expect_within(&rt, alloc, &SHORT_OUT, 4, 300)?;
+    expect_within(&rt, alloc, &SHORT_ERR, 300, 10)
 }
 
 /// That a run over the product's files with these changes is refused with this line, or accepted where it is empty.
-fn expect_refusal(
-    rt: &HostRuntime,
+fn expect_refusal<R: Abort + Threads + Sync>(
+    rt: &R,
+    alloc: Global,
     name: &str,
     changes: &[Change<'_>],
     line: &str,
@@ -65,7 +76,7 @@ fn expect_refusal(
         out: if accepted { "out 0 0 c 35\n" } else { "" },
         err: line,
     };
-    expect_within(rt, &row, 300, 300)
+    expect_within(rt, alloc, &row, 300, 300)
 }
 
 fn refusal_of_front(length: usize) -> &'static str {
@@ -79,18 +90,25 @@ fn refusal_of_front(length: usize) -> &'static str {
 
 #[test]
 fn first_bytes_of_the_circuit(rt: HostRuntime) -> Result<(), Fail> {
+    let alloc = rt.alloc();
     let bytes = CIRCUIT.as_bytes();
     for length in 0..=bytes.len() {
-        let name = format!(in rt.alloc(); "{length} bytes of the circuit")?;
+        let name = format!(in alloc; "{length} bytes of the circuit")?;
         let changes = [Change::Whole("mul.txt", &bytes[..length])];
-        expect_refusal(&rt, &name, &changes, refusal_of_front(length))?;
+        expect_refusal(&rt, alloc, &name, &changes, refusal_of_front(length))?;
     }
     Ok(())
 }
 
-fn expect_formula(rt: &HostRuntime, name: &str, formula: &str, line: &str) -> Result<(), Fail> {
+fn expect_formula<R: Abort + Threads + Sync>(
+    rt: &R,
+    alloc: Global,
+    name: &str,
+    formula: &str,
+    line: &str,
+) -> Result<(), Fail> {
     let changes = [Change::Edit("job.toml", "2 of (a, b, c)", formula)];
-    expect_refusal(rt, name, &changes, line)
+    expect_refusal(rt, alloc, name, &changes, line)
 }
 
 #[test]
@@ -99,41 +117,44 @@ fn long_formulas(rt: HostRuntime) -> Result<(), Fail> {
     let too_deep = "refused formula 4 TooDeep at=32\n";
     let too_many = "refused formula 5 TooManyNodes at=256\n";
     let nested = parentheses(alloc, 33, 33)?;
-    expect_formula(&rt, "33_parentheses", &nested, too_deep)?;
+    expect_formula(&rt, alloc, "33_parentheses", &nested, too_deep)?;
     let million = parentheses(alloc, 1_000_000, 0)?;
-    expect_formula(&rt, "a_million_parentheses", &million, too_deep)?;
+    expect_formula(&rt, alloc, "a_million_parentheses", &million, too_deep)?;
     let joined = joined_names(alloc, 128)?;
-    expect_formula(&rt, "a_name_129_times", &joined, too_many)
+    expect_formula(&rt, alloc, "a_name_129_times", &joined, too_many)
 }
 
 #[test]
 fn a_job_past_the_limit(rt: HostRuntime) -> Result<(), Fail> {
-    let bytes = vec![in rt.alloc(); b' '; 16_777_217]?;
+    let alloc = rt.alloc();
+    let bytes = vec![in alloc; b' '; 16_777_217]?;
     let changes = [Change::Whole("job.toml", &bytes)];
     let line = "refused files 1 TooLong file=job.toml limit=16777216\n";
-    expect_refusal(&rt, "a_job_past_the_limit", &changes, line)
+    expect_refusal(&rt, alloc, "a_job_past_the_limit", &changes, line)
 }
 
 #[test]
 fn two_sessions_of_65536_products(rt: HostRuntime) -> Result<(), Fail> {
-    let circuit = products(rt.alloc(), "65536 65538\n2 1 1\n1 1\n", "0 1", 2..65_538)?;
+    let alloc = rt.alloc();
+    let circuit = products(alloc, "65536 65538\n2 1 1\n1 1\n", "0 1", 2..65_538)?;
     let changes = [
         Change::Whole("mul.txt", circuit.as_bytes()),
         Change::Edit("job.toml", SESSION, TWO_SESSIONS),
     ];
     let line = "refused plan 1 TooManyMessages count=1572882\n";
-    expect_refusal(&rt, "two_sessions", &changes, line)
+    expect_refusal(&rt, alloc, "two_sessions", &changes, line)
 }
 
 #[test]
 fn seven_parties_and_1024_products(rt: HostRuntime) -> Result<(), Fail> {
-    let circuit = products(rt.alloc(), "1024 2624\n1 1600\n1 1\n", "0 0", 1_600..2_624)?;
+    let alloc = rt.alloc();
+    let circuit = products(alloc, "1024 2624\n1 1600\n1 1\n", "0 0", 1_600..2_624)?;
     let changes = [
         Change::Whole("mul.txt", circuit.as_bytes()),
         Change::Whole("job.toml", SEVEN_PARTIES),
     ];
     let line = "refused plan 1 TooManyMessages count=1052160\n";
-    expect_refusal(&rt, "seven_parties", &changes, line)
+    expect_refusal(&rt, alloc, "seven_parties", &changes, line)
 }
 
 #[test]
@@ -145,8 +166,13 @@ fn rings_of_1_to_32_bits(rt: HostRuntime) {
 }
 
 /// That a list of so many groups is refused with this line.
-fn expect_long_list(rt: &HostRuntime, lists: &str, line: &str) -> Result<(), Fail> {
-    let list = format!(in rt.alloc(); "tolerated = [{lists}]")?;
+fn expect_long_list<R: Abort + Threads + Sync>(
+    rt: &R,
+    alloc: Global,
+    lists: &str,
+    line: &str,
+) -> Result<(), Fail> {
+    let list = format!(in alloc; "tolerated = [{lists}]")?;
     let row = Row {
         name: "a long list",
         words: &CHECK,
@@ -158,7 +184,7 @@ fn expect_long_list(rt: &HostRuntime, lists: &str, line: &str) -> Result<(), Fai
         out: "",
         err: line,
     };
-    expect_within(rt, &row, 300, 300)
+    expect_within(rt, alloc, &row, 300, 300)
 }
 
 #[test]
@@ -169,7 +195,17 @@ fn a_list_has_at_most_4096_groups(rt: HostRuntime) -> Result<(), Fail> {
         lists.push_str("[\"a\"],")?;
     }
     lists.push_str("[\"x\"]")?;
-    expect_long_list(&rt, &lists, "refused job 15 BadTolerated value=4095 at=0\n")?;
+    expect_long_list(
+        &rt,
+        alloc,
+        &lists,
+        "refused job 15 BadTolerated value=4095 at=0\n",
+    )?;
     lists.push_str(",[]")?;
-    expect_long_list(&rt, &lists, "refused job 16 TooManyTolerated count=4097\n")
+    expect_long_list(
+        &rt,
+        alloc,
+        &lists,
+        "refused job 16 TooManyTolerated count=4097\n",
+    )
 }

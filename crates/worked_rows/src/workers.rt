@@ -5,8 +5,10 @@ use crate::expect::{expect_all, expect_paced};
 use crate::row::Row;
 use outer_io::Pace;
 use std::alloc::{AllocError, Global};
+use std::process::Abort;
 use std::sync::atomic::{AtomicU64, Ordering};
 use std::test::Fail;
+use std::thread::Threads;
 
 /// One product, run by workers of the number that the words ask for.
 const fn product<'w>(name: &'w str, words: &'w [&'w str]) -> Row<'w> {
@@ -45,7 +47,7 @@ fn any_number_of_workers_writes_the_same(rt: HostRuntime) -> Result<(), Fail> {
         two_products("two_workers", &["mpc", "run", "d", "--workers", "2"]),
         two_products("sixteen_workers", &["mpc", "run", "d", "--workers", "16"]),
     ];
-    expect_all(&rt, &rows)
+    expect_all(&rt, rt.alloc(), &rows)
 }
 
 /// The most turns that a worker is held.
@@ -144,18 +146,29 @@ impl Pace for Held {
 }
 
 /// That the row has its answer where workers are held so, and that none waited in vain.
-fn expect_together(rt: &HostRuntime, hold: Hold, row: &Row<'_>) -> Result<(), Fail> {
-    let pace = Held::new(rt.alloc(), hold)?;
-    expect_paced(rt, row, &pace)?;
+fn expect_together<R: Abort + Threads + Sync>(
+    rt: &R,
+    alloc: Global,
+    hold: Hold,
+    row: &Row<'_>,
+) -> Result<(), Fail> {
+    let pace = Held::new(alloc, hold)?;
+    expect_paced(rt, alloc, row, &pace)?;
     assert_eq!(rt; pace.missed.load(Ordering::SeqCst), 0, "{}", row.name);
     Ok(())
 }
 
 #[test]
 fn workers_run_at_the_same_time(rt: HostRuntime) -> Result<(), Fail> {
+    let alloc = rt.alloc();
     let two = ["mpc", "run", "d", "--workers", "2"];
     let six = ["mpc", "run", "d", "--workers", "6"];
-    expect_together(&rt, Hold::SecondCall, &product("a_second_call", &two))?;
-    expect_together(&rt, Hold::TwoDesks, &product("two_desks", &two))?;
-    expect_together(&rt, Hold::AllSix, &two_products("six_workers", &six))
+    expect_together(
+        &rt,
+        alloc,
+        Hold::SecondCall,
+        &product("a_second_call", &two),
+    )?;
+    expect_together(&rt, alloc, Hold::TwoDesks, &product("two_desks", &two))?;
+    expect_together(&rt, alloc, Hold::AllSix, &two_products("six_workers", &six))
 }
