@@ -37,8 +37,14 @@ fn expect_in_the_clear<R: Abort + Threads + Sync>(
     for row in rows {
         if row.out.starts_with("out ") {
             let out = out_in_the_clear(alloc, row.changes, inputs_of(row.name)?)?;
-            let mut in_the_clear = *row;
-            in_the_clear.out = out.as_str();
+            let in_the_clear = Row {
+                name: row.name,
+                words: row.words,
+                changes: row.changes,
+                status: 0,
+                out: out.as_str(),
+                err: "",
+            };
             expect_within(rt, alloc, &in_the_clear, 300, 300)?;
         }
     }
