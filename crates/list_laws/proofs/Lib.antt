@@ -1,2 +1,5 @@
 pub mod Totals
 pub mod JoinedLists
+pub mod Short
+pub mod Pushing
+pub mod Passing
