@@ -4,6 +4,7 @@ use Rattle.std.specs.Prelude.{◌==◌}
 use Rattle.std.specs.List.{list_all, list_any}
 use Rattle.std.proofs.Math.Seq.{take-suc, take-length}
 use Rattle.std.proofs.lemmas.Bool.{cases_eq, both_ways, lt-ltb, ltb-true, cond-true, cond-false, eq-eqb, ne_eqb, and_parts, or_parts}
+use Rattle.list_laws.proofs.Tests.{or_true}
 use Rattle.circuit_model.specs.declared.gate.Gate.{Gate}
 use Rattle.circuit_model.specs.declared.gate.Operation.{Operation}
 use Rattle.circuit_model.specs.declared.gate.Operation.TheVariants.{Add, Sub, Neg, Mul, Xor, And, Inv, Eq, Eqw}
@@ -48,10 +49,6 @@ set_from c u (suc t) w le l e = elim (cases_eq u (suc t)) [
 
 own_set : (c : Netlist) (t : ℕ) → t < length c.gates → set_before c (suc t) (gate c t).output ≡ true
 own_set c t l = before_next c t (gate c t).output l ∙ ap (λ b. set_before c t (gate c t).output || b) (eq-eqb (gate c t).output (gate c t).output refl) ∙ or_true (set_before c t (gate c t).output)
-  where
-    or_true : (b : Bool) → (b || true) ≡ true
-    or_true true = refl
-    or_true false = refl
 
 -- a gate leaves the wires that are set
 stays : (c : Netlist) (inputs : ℕ → ℕ) (t w : ℕ) → IsCircuit c → t < length c.gates → set_before c t w ≡ true → values_at c inputs (suc t) w ≡ values_at c inputs t w

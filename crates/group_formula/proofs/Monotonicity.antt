@@ -3,6 +3,7 @@ use Rattle.std.specs.Prelude.{◌≡◌, ℕ, ◌+◌, ◌-◌, ◌^◌, ◌≤�
 use Rattle.std.proofs.Common.{sym, ◌∙◌, ap, arith, subst, eq-eqb}
 use Rattle.std.proofs.lemmas.Bool.{le-leb, leb-true, not_from_false, not-true, false_from_ne_true, and_from}
 use Rattle.std.proofs.lemmas.Nat.Bits.{bit_at_ones, bit_at-zero}
+use Rattle.list_laws.proofs.Tests.{or_true}
 use Rattle.party_set.specs.Parties.{has_party}
 use Rattle.party_set.proofs.Every.{every_at, implies_at}
 use Rattle.maximal_groups.specs.Families.{IsClosed, IsFamily}
@@ -13,10 +14,6 @@ use Rattle.group_formula.specs.Trees.Trees.{one_tree, more_trees}
 or_keeps : (a b c d : Bool) → (a ≡ true → c ≡ true) → (b ≡ true → d ≡ true) → (a || b) ≡ true → (c || d) ≡ true
 or_keeps true b c d f g e = ap (λ x. x || d) (f refl)
 or_keeps false true c d f g e = ap (λ x. c || x) (g refl) ∙ or_true c
-  where
-    or_true : (x : Bool) → (x || true) ≡ true
-    or_true true = refl
-    or_true false = refl
 or_keeps false false c d f g e = cc
 
 and_keeps : (a b c d : Bool) → (a ≡ true → c ≡ true) → (b ≡ true → d ≡ true) → (a && b) ≡ true → (c && d) ≡ true

@@ -3,3 +3,4 @@ pub mod JoinedLists
 pub mod Short
 pub mod Pushing
 pub mod Passing
+pub mod Tests

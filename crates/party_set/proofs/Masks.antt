@@ -8,6 +8,7 @@ use Rattle.std.proofs.lemmas.Bool.Decides.{eqb_tells}
 use Rattle.std.proofs.Math.Pow.{pow-lt, pow_mono}
 use Rattle.std.proofs.Math.Nat.{mod-eq_of_lt}
 use Rattle.std.proofs.lemmas.Bool.{false_from_ne_true}
+use Rattle.list_laws.proofs.Tests.{or_true, or_false}
 use Rattle.party_set.specs.Parties.{has_party, within, is_all, IsLeastOutside}
 use Rattle.party_set.proofs.Every.{every_from, every_at}
 
@@ -35,14 +36,6 @@ absorbed false b e = refl
 
 pub has_union : (a b p : ℕ) → has_party (bit_or a b) p ≡ (has_party a p || has_party b p)
 has_union a b p = ap (λ bit. nat_eq bit 1) (bit_at_or a b p) ∙ one_of (bit_at a p) (bit_at b p) (bit_at-lt a p) (bit_at-lt b p)
-
-or_true : (a : Bool) → (a || true) ≡ true
-or_true true = refl
-or_true false = refl
-
-or_false : (a : Bool) → (a || false) ≡ a
-or_false true = refl
-or_false false = refl
 
 pub has_with : (a p q : ℕ) → p < 32 → has_party (bit_or a (1 * 2 ^ p % 2 ^ 32)) q ≡ (has_party a q || nat_eq q p)
 has_with a p q l =
