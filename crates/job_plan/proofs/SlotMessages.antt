@@ -12,11 +12,9 @@ use Rattle.job_plan.specs.Plans.{Plan, session, slot, slots}
 use Rattle.job_plan.specs.declared.key.Key.{Key}
 use Rattle.job_plan.specs.Messages.{slot_messages, messages}
 use Rattle.job_plan.specs.Numbers.{message, no_key}
-use Rattle.list_laws.proofs.JoinedLists.{length-joined, total_within}
-use Rattle.list_laws.proofs.Laying.{every_range, every_both}
+use Rattle.list_laws.proofs.JoinedLists.{length-joined, total_within, every_range, every_both}
 use Rattle.list_laws.proofs.Totals.{total_eq}
-use Rattle.job_plan.specs.Firsts.{count, session_count, first}
-use Rattle.job_plan.specs.Firsts.{numbers}
+use Rattle.job_plan.specs.Firsts.{count, session_count, first, numbers}
 
 -- what stands at place i of part k
 pub joined_place : {A : Type 0} (d : A) (n k : ℕ) (f : ℕ → List A) (i : ℕ) → k < n → i < length (f k) → slice_index_or (joined n f) (total k (λ j. length (f j)) + i) d ≡ slice_index_or (f k) i d

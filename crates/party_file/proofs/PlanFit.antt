@@ -20,10 +20,9 @@ use Rattle.list_laws.specs.Checks.{◌answers◌, first_fault}
 use Rattle.party_file.specs.Table.{version_checks, name_checks, kind_checks, count_checks, session_checks, input_checks, random_checks, tape_checks, seed_checks, seed_in, party_checks, party_of, PartyForm, numbers_in, tapes_of, first_outside, out_of_ring, bad_words, word_counts}
 use Rattle.party_file.specs.declared.fault.PartyFault.TheVariants.{CountDiffers, TapeShort}
 use Rattle.party_file.specs.Forms.{FitsPlan}
-use Rattle.party_file.proofs.CheckChains.{passed-front, passed-back, passed-checks, joined-passed}
+use Rattle.party_file.proofs.CheckChains.{passed-front, passed-back, passed-checks, joined-passed, not_failed}
 use Rattle.party_file.proofs.FaultRows.{counted}
 use Rattle.party_file.proofs.SessionInputs.{checks_of}
-use Rattle.party_file.proofs.Chains.{not_failed}
 
 -- ---- words of the ring
 

@@ -5,7 +5,7 @@ use Rattle.std.proofs.lemmas.Bool.{cond-true, cond-false, cases_eq, and_parts}
 use Rattle.std.proofs.lemmas.Nat.{div-mul-add, mod-mul-add, mul-add-lt}
 use Rattle.std.proofs.lemmas.List.{get_or_default}
 use Rattle.std.proofs.Math.Pow.{pow-lt}
-use Rattle.list_laws.proofs.Laying.{joined_eq, joined_more}
+use Rattle.list_laws.proofs.JoinedLists.{joined_eq, joined_more}
 use Rattle.list_laws.specs.Lists.{only_if}
 use Rattle.list_laws.proofs.Totals.{total_eq, total_zero, total_pick}
 use Rattle.secret_sharing.specs.Sharing.{has_pair, IsScheme}

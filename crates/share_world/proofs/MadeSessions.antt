@@ -11,8 +11,7 @@ use Rattle.circuit_model.specs.declared.gate.Gate.{Gate}
 use Rattle.circuit_model.specs.declared.gate.Operation.{Operation}
 use Rattle.circuit_model.specs.declared.gate.Operation.TheVariants.{Add, Sub, Neg, Mul, Xor, And, Inv, Eq, Eqw}
 use Rattle.circuit_model.specs.Circuits.{values}
-use Rattle.circuit_model.specs.Netlists.{Netlist, IsCircuit, arity, reads, no_gate, is_set, input_wires}
-use Rattle.circuit_model.specs.Netlists.{gate as gate_of}
+use Rattle.circuit_model.specs.Netlists.{Netlist, IsCircuit, arity, reads, no_gate, is_set, input_wires, gate as gate_of}
 use Rattle.job_plan.specs.Plans.{Session, session, gate, owners}
 use Rattle.job_plan.specs.Parts.{session_of}
 use Rattle.job_plan.proofs.CircuitSessions.{owners_long}
