@@ -3,11 +3,12 @@ use Rattle.std.proofs.Common.{◌≡◌, ℕ, zero, suc, ◌≤◌, ◌<◌, Boo
 use Rattle.std.specs.Str.{IsUtf8, is_utf8}
 use Rattle.std.specs.Str.Lossy.{utf8_valid_len, valid_len_up_to}
 use Rattle.std.proofs.Math.Seq.{take-length}
-use Rattle.std.proofs.lemmas.Bool.{le-ltb, ltb-false, eqb-true}
+use Rattle.std.proofs.lemmas.Bool.{le-ltb, ltb-false, eqb-true, not-false}
 use Rattle.std.proofs.lemmas.Str.{utf8_valid_len-IsUtf8, IsUtf8-from_is_utf8}
+use Rattle.list_laws.proofs.Passing.{none_failed}
 use Rattle.gate_lines.specs.Rows.{Row, rows_of}
-use Rattle.circuit_model.specs.Checks.{first_fault, then_fault}
 use Rattle.circuit_model.specs.Netlists.{Netlist, AllGatesFit, IsCircuit}
+use Rattle.list_laws.specs.Checks.{first_fault, then_fault}
 use Rattle.circuit_model.specs.Building.{unset_output}
 use Rattle.circuit_file.specs.Answers.{◌>>=◌}
 use Rattle.circuit_file.specs.Header.{counts_in, widths_in}
@@ -15,7 +16,7 @@ use Rattle.circuit_file.specs.CircuitFiles.{next_row, gates_in, ended, no_gates,
 use Rattle.circuit_file.specs.Grammar.{Write, AreGateLines, StandsFor}
 use Rattle.circuit_model.specs.declared.layout.CircuitLayout.{CircuitLayout}
 use Rattle.circuit_model.specs.declared.layout.CircuitLayout.TheVariants.{Bristol, Ring}
-use Rattle.circuit_file.proofs.Passing.{bind_ok, bind_from, then_ok, ok_same, none_failed, true_from_not}
+use Rattle.circuit_file.proofs.Passing.{bind_ok, bind_from, then_ok, ok_same}
 use Rattle.circuit_file.proofs.HeaderLaws.{AreCounts, AreWidths, counts_grounded, counts_related, widths_grounded, widths_related}
 use Rattle.circuit_file.proofs.WalkLaws.{Walked, walk_grounded, walk_related, fit_on, ended_grounded, ended_related, outputs_set, none_unset}
 
@@ -89,7 +90,7 @@ unfolding utf8_valid_len
 text_grounded bytes e = subst (λ (bs : List ℕ). IsUtf8 bs) (take-length bytes) (text_front bytes (length bytes) (ltb-false _ _ e))
 
 boolean_grounded : (layout : CircuitLayout) (bits : ℕ) → (is_bristol layout && not (nat_eq bits 1)) ≡ false → layout ≡ Bristol → bits ≡ 1
-boolean_grounded Bristol bits e is = eqb-true bits 1 (true_from_not _ e)
+boolean_grounded Bristol bits e is = eqb-true bits 1 (not-false _ e)
 boolean_grounded Ring bits e is = cc
 
 boolean_related : (layout : CircuitLayout) (bits : ℕ) → (layout ≡ Bristol → bits ≡ 1) → (is_bristol layout && not (nat_eq bits 1)) ≡ false

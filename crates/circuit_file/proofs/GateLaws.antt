@@ -3,24 +3,26 @@ use Rattle.std.proofs.Common.{◌≡◌, ℕ, suc, ◌+◌, ◌^◌, ◌≤◌, 
 use Rattle.std.specs.Prelude.{slice_index, slice_index_or}
 use Rattle.std.specs.Option.{is_some, unwrap_or}
 use Rattle.std.specs.List.{list_all}
-use Rattle.std.proofs.lemmas.Bool.{lt-ltb, ltb-false, eqb-true}
+use Rattle.std.proofs.lemmas.Bool.{lt-ltb, ltb-false, eqb-true, and_parts, and_from, not-false}
 use Rattle.std.proofs.lemmas.List.{take_more, take-append-drop, length-take-le, length-map}
 use Rattle.std.proofs.Math.Seq.{take-length}
 use Rattle.text_tokens.specs.Numbers.{number_of}
+use Rattle.list_laws.proofs.Passing.{none_failed}
+use Rattle.list_laws.proofs.Short.{one_long, two_long}
 use Rattle.gate_lines.specs.Rows.{Row}
 use Rattle.circuit_model.specs.declared.gate.Gate.{Gate}
 use Rattle.circuit_model.specs.declared.gate.Operation.{Operation}
 use Rattle.circuit_model.specs.declared.gate.Operation.TheVariants.{Add, Sub, Neg, Mul, Xor, And, Inv, Eq, Eqw}
 use Rattle.circuit_model.specs.declared.fault.CircuitFault.{CircuitFault}
-use Rattle.circuit_model.specs.Checks.{first_fault}
 use Rattle.circuit_model.specs.Netlists.{Netlist, GateFits, arity, is_constant, read_by, sets}
+use Rattle.list_laws.specs.Checks.{first_fault}
 use Rattle.circuit_model.specs.Building.{gate_checks, gate_of, next_gate}
 use Rattle.circuit_file.specs.Tokens.{token, tokens_after, is_number, number_in, all_numbers}
 use Rattle.circuit_file.specs.GateLines.{operation_of, input_count, output_count, wire_count, operation_in, form_checks, wires_in, gate_line_of, gate_line_in, GateLine}
 use Rattle.circuit_file.specs.CircuitFiles.{gate_in}
 use Rattle.circuit_file.specs.Grammar.{Write, listed, IsGateLine}
 use Rattle.circuit_model.specs.declared.layout.CircuitLayout.{CircuitLayout}
-use Rattle.circuit_file.proofs.Passing.{none_failed, or_ok, bind_ok, true_from_not, and_first, and_second, and_true}
+use Rattle.circuit_file.proofs.Passing.{or_ok, bind_ok}
 use Rattle.circuit_file.proofs.Writing.{write_all, write_some, write_none}
 
 -- ---- a gate line in the grammar has no fault
@@ -122,18 +124,7 @@ front (a ∷ b ∷ ts) k l = ap (λ n. take n (a ∷ b ∷ ts)) (let e : k + 2 �
 front_numbers : (ts : List (List ℕ)) → 2 ≤ length ts → all_numbers (take 2 (drop 0 ts)) ≡ true → (is_number (slice_index_or ts 0 []) ≡ true) × (is_number (slice_index_or ts 1 []) ≡ true)
 front_numbers [] l e = absurd (omega arith)
 front_numbers (a ∷ []) l e = absurd (omega arith)
-front_numbers (a ∷ b ∷ ts) l e = (and_first _ _ e, and_first _ _ (and_second (is_number a) _ e))
-
-one_long : (xs : List ℕ) → length xs ≡ 1 → xs ≡ slice_index xs 0 ∷ []
-one_long [] e = absurd (omega arith)
-one_long (x ∷ []) e = refl
-one_long (x ∷ y ∷ xs) e = absurd (omega arith)
-
-two_long : (xs : List ℕ) → length xs ≡ 2 → xs ≡ slice_index xs 0 ∷ slice_index xs 1 ∷ []
-two_long [] e = absurd (omega arith)
-two_long (x ∷ []) e = absurd (omega arith)
-two_long (x ∷ y ∷ []) e = refl
-two_long (x ∷ y ∷ z ∷ xs) e = absurd (omega arith)
+front_numbers (a ∷ b ∷ ts) l e = ((and_parts _ _ e).0, (and_parts _ _ (and_parts (is_number a) _ e).1).0)
 
 inputs_are : (o : Operation) (is os : List ℕ) → length is ≡ arity o → is ≡ listed (gate_of o is os)
 inputs_are Add is os e = two_long is e
@@ -168,15 +159,15 @@ formed layout row e =
     let g = none_failed _ _ _ f.1 in
     let below : wire_count row + 3 ≤ length row.tokens = ltb-false _ _ c.0 in
     let above : length row.tokens ≤ wire_count row + 3 = ltb-false _ _ d.0 in
-    record { two = ltb-false _ _ a.0; counts = true_from_not _ b.0; long = omega (arith, below, above); wires = true_from_not _ f.0; operation = true_from_not _ g.0 }
+    record { two = ltb-false _ _ a.0; counts = not-false _ b.0; long = omega (arith, below, above); wires = not-false _ f.0; operation = not-false _ g.0 }
 
 passed_arity : (c : Netlist) (line : ℕ) (o : Operation) (is os : List ℕ) (g : Gate) → next_gate c line o is os ≡ Ok g → (length is ≡ arity o) × (length os ≡ 1) × (gate_of o is os ≡ g)
 unfolding next_gate gate_checks
 passed_arity c line o is os g e =
     let k = or_ok _ (gate_of o is os) g e in
     let a = none_failed _ _ _ k.0 in
-    let both : (nat_eq (length is) (arity o) && nat_eq (length os) 1) ≡ true = true_from_not _ a.0 in
-    (eqb-true (length is) (arity o) (and_first _ _ both), eqb-true (length os) 1 (and_second (nat_eq (length is) (arity o)) _ both), k.1)
+    let both : (nat_eq (length is) (arity o) && nat_eq (length os) 1) ≡ true = not-false _ a.0 in
+    (eqb-true (length is) (arity o) (and_parts _ _ both).0, eqb-true (length os) 1 (and_parts (nat_eq (length is) (arity o)) _ both).1, k.1)
 
 line_of : (layout : CircuitLayout) (line : Row) (o : Operation) (is os : List ℕ) → IsFormed layout line → o ≡ unwrap_or (operation_in layout line) Eqw → is ≡ take (input_count line) (wires_in line) → os ≡ drop (input_count line) (wires_in line)
     → length is ≡ arity o → length os ≡ 1 → IsGateLine layout line (gate_of o is os)
@@ -196,7 +187,7 @@ line_of layout line o is os f oe ie oe2 li lo =
     let heads = front_numbers ts f.two f.counts in
     let write : Write (token line 0 ∷ token line 1 ∷ tokens_after 2 (wire_count line) line) (input_count line ∷ output_count line ∷ wires_in line) =
     write_all (token line 0 ∷ token line 1 ∷ tokens_after 2 (wire_count line) line)
-    (and_true (is_number (token line 0)) _ heads.0 (and_true (is_number (token line 1)) _ heads.1 f.wires)) in
+    (and_from (is_number (token line 0)) _ heads.0 (and_from (is_number (token line 1)) _ heads.1 f.wires)) in
     record {
       numbers = token line 0 ∷ token line 1 ∷ tokens_after 2 (wire_count line) line;
       name = token line k2;

@@ -1,15 +1,16 @@
 -- Header lines without a fault.
 use Rattle.std.proofs.Common.{◌≡◌, ℕ, ◌+◌, ◌≤◌, true, false, List, [], ◌∷◌, length, take, drop, sum, nat_lt, Some, Ok, refl, sym, ◌∙◌, ap, subst, arith}
 use Rattle.std.specs.Prelude.{slice_index_or}
-use Rattle.std.proofs.lemmas.Bool.{le-ltb, ltb-false}
+use Rattle.std.proofs.lemmas.Bool.{le-ltb, ltb-false, or_parts, not-false}
 use Rattle.std.proofs.lemmas.List.{length-map, take_all}
 use Rattle.text_tokens.specs.Numbers.{number_of}
+use Rattle.list_laws.proofs.Passing.{none_failed}
 use Rattle.gate_lines.specs.Rows.{Row}
 use Rattle.circuit_file.specs.Tokens.{token, is_number, number_in, all_numbers, numbers_in}
 use Rattle.circuit_file.specs.Header.{count_checks, counts_of, counts_in, width_tokens, width_checks, widths_in}
 use Rattle.circuit_file.specs.Grammar.{Write}
 use Rattle.circuit_file.specs.declared.header.Counts.{Counts}
-use Rattle.circuit_file.proofs.Passing.{none_failed, or_ok, true_from_not, neither, some_is}
+use Rattle.circuit_file.proofs.Passing.{or_ok, some_is}
 use Rattle.circuit_file.proofs.Writing.{write_all, write_some, write_none, written_long, written_all, written_are}
 
 two_written : (ts : List (List ℕ)) → 2 ≤ length ts → length ts ≤ 2 → all_numbers (take 2 (drop 0 ts)) ≡ true → Write ts (number_in (slice_index_or ts 0 []) ∷ number_in (slice_index_or ts 1 []) ∷ [])
@@ -31,9 +32,9 @@ counts_grounded line k e =
     let b = none_failed _ _ _ a.1 in
     let c = none_failed _ _ _ b.1 in
     let d = none_failed _ _ _ c.1 in
-    let n = neither (nat_lt 65536 (number_in (token line 0))) (nat_lt 131072 (number_in (token line 1))) d.0 in
+    let n = or_parts (nat_lt 65536 (number_in (token line 0))) (nat_lt 131072 (number_in (token line 1))) d.0 in
     subst (λ (h : Counts). AreCounts line h) o.1 (record {
-      written = two_written line.tokens (ltb-false _ _ a.0) (ltb-false _ _ b.0) (true_from_not _ c.0);
+      written = two_written line.tokens (ltb-false _ _ a.0) (ltb-false _ _ b.0) (not-false _ c.0);
       gates = ltb-false _ _ n.0;
       wires = ltb-false _ _ n.1;
     })
@@ -80,7 +81,7 @@ widths_grounded wires line ws e =
     let below : n + 1 ≤ length line.tokens = ltb-false _ _ c.0 in
     let above : length line.tokens ≤ n + 1 = ltb-false _ _ d.0 in
     let long : length line.tokens ≡ n + 1 = between (length line.tokens) (n + 1) below above in
-    let w = widths_written line.tokens n (true_from_not _ a.0) refl long (true_from_not _ f.0) in
+    let w = widths_written line.tokens n (not-false _ a.0) refl long (not-false _ f.0) in
     subst (λ (h : List ℕ). AreWidths wires line h) o.1 (record {
       written = w.0;
       few = subst (λ k. k ≤ 1024) (sym w.1) (ltb-false _ _ b.0);

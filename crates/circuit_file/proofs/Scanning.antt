@@ -1,7 +1,7 @@
 -- Gate lines that are read in one go.
 use Rattle.std.proofs.Common.{◌≡◌, ℕ, suc, ◌+◌, ◌≤◌, ◌<◌, true, false, ◌&&◌, nat_lt, nat_eq, List, [], ◌∷◌, ◌++◌, length, take, drop, get_or, set, Some, Result, Ok, Err, refl, sym, ◌∙◌, ap, ap₂, subst, arith, append_assoc, length-append, length-drop, inl, inr}
 use Rattle.std.specs.Prelude.{slice_index_or}
-use Rattle.std.proofs.lemmas.Bool.{le-ltb, eqb-true, cases_Bool}
+use Rattle.std.proofs.lemmas.Bool.{le-ltb, eqb-true, cases_Bool, and_parts}
 use Rattle.std.proofs.lemmas.List.{take_more, take_more_set, get_or-drop, map-append, length-map, length-take-le}
 use Rattle.std.proofs.Math.Seq.{take-append_seam, get_or-append_seam}
 use Rattle.text_tokens.specs.Numbers.{number_of}
@@ -11,7 +11,7 @@ use Rattle.circuit_model.specs.declared.gate.Operation.{Operation}
 use Rattle.circuit_model.specs.declared.gate.Operation.TheVariants.{Add, Sub, Neg, Mul, Xor, And, Inv, Eq, Eqw}
 use Rattle.circuit_model.specs.declared.fault.CircuitFault.{CircuitFault}
 use Rattle.circuit_model.specs.declared.fault.CircuitFault.TheVariants.{WrongArity}
-use Rattle.circuit_model.specs.Checks.{first_fault, or_fault}
+use Rattle.list_laws.specs.Checks.{first_fault, or_fault}
 use Rattle.circuit_model.specs.Netlists.{Netlist, arity}
 use Rattle.circuit_model.specs.Building.{Draft, gate_checks, next_gate}
 use Rattle.circuit_file.specs.Tokens.{token, tokens_after, number_in, all_numbers, numbers_in}
@@ -22,7 +22,7 @@ use Rattle.circuit_file.specs.Steps.{Takes, IsSaid, Says, Adds, AddsNext}
 use Rattle.circuit_model.specs.declared.layout.CircuitLayout.{CircuitLayout}
 use Rattle.circuit_file.specs.declared.gate_line.Form.{Form}
 use Rattle.circuit_file.specs.declared.gate_line.Said.{Said}
-use Rattle.circuit_file.proofs.Passing.{or_ok, and_first, and_second}
+use Rattle.circuit_file.proofs.Passing.{or_ok}
 use Rattle.circuit_file.proofs.Writing.{write_some, written_long, written_all, written_are}
 use Rattle.circuit_file.proofs.GateLaws.{IsFormed, formed}
 use Rattle.circuit_file.proofs.Stepping.{read_so, fails_so, gate_stops}
@@ -122,7 +122,7 @@ few_taken Eqw = omega arith
 
 misfit : (o : Operation) (a b : ℕ) → 3 < a + b → (nat_eq a (arity o) && nat_eq b 1) ≡ false
 misfit o a b l = elim (cases_Bool (nat_eq a (arity o) && nat_eq b 1)) [
-  | inl e ↦ absurd (omega (arith, few_taken o, eqb-true a (arity o) (and_first (nat_eq a (arity o)) (nat_eq b 1) e), eqb-true b 1 (and_second (nat_eq a (arity o)) (nat_eq b 1) e), l))
+  | inl e ↦ absurd (omega (arith, few_taken o, eqb-true a (arity o) (and_parts (nat_eq a (arity o)) (nat_eq b 1) e).0, eqb-true b 1 (and_parts (nat_eq a (arity o)) (nat_eq b 1) e).1, l))
   | inr e ↦ e
 ]
 

@@ -10,7 +10,8 @@ use Rattle.circuit_model.specs.declared.gate.Gate.{Gate}
 use Rattle.circuit_model.specs.declared.gate.Operation.{Operation}
 use Rattle.circuit_model.specs.declared.fault.CircuitFault.{CircuitFault}
 use Rattle.circuit_model.specs.declared.fault.CircuitFault.TheVariants.{NotUtf8, FewLines, ExtraLine, WrongRing, Memory}
-use Rattle.circuit_model.specs.Checks.{Gives, first_fault, or_fault}
+use Rattle.list_laws.specs.Checks.{first_fault, or_fault}
+use Rattle.circuit_model.specs.Checks.{Gives}
 use Rattle.circuit_model.specs.Netlists.{Netlist}
 use Rattle.circuit_model.specs.Building.{Draft, header_checks, start_of, no_gates_yet, next_gate, add_gate, take_gate, after_gate, answer_of, circuit_of, Becomes}
 use Rattle.circuit_file.specs.Tokens.{numbers_in}

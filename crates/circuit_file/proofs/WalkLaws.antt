@@ -3,6 +3,7 @@ use Rattle.std.proofs.Common.{◌≡◌, ℕ, zero, suc, ◌+◌, ◌-◌, ◌�
 use Rattle.std.specs.Option.{option_map}
 use Rattle.std.specs.List.{find, range_with_len}
 use Rattle.std.proofs.Math.Seq.{take-append_seam, get_or-append_seam}
+use Rattle.std.proofs.lemmas.Bool.{not-false}
 use Rattle.gate_lines.specs.Rows.{Row}
 use Rattle.circuit_model.specs.declared.gate.Gate.{Gate}
 use Rattle.circuit_model.specs.declared.fault.CircuitFault.TheVariants.{OutputNotSet}
@@ -14,7 +15,7 @@ use Rattle.circuit_file.specs.GateLines.{gate_line_of}
 use Rattle.circuit_file.specs.CircuitFiles.{gate_in, gates_in, ended}
 use Rattle.circuit_file.specs.Grammar.{AreGateLines}
 use Rattle.circuit_model.specs.declared.layout.CircuitLayout.{CircuitLayout}
-use Rattle.circuit_file.proofs.Passing.{bind_ok, bind_from, or_ok, ok_same, true_from_not}
+use Rattle.circuit_file.proofs.Passing.{bind_ok, bind_from, or_ok, ok_same}
 use Rattle.circuit_file.proofs.GateLaws.{gate_related, line_grounded}
 
 -- the gates that were read, beyond those of c
@@ -98,7 +99,7 @@ pub ended_related : (c : Netlist) → unset_output c ≡ None → ended c [] ≡
 ended_related c e = rw e refl
 
 pub outputs_set : (c : Netlist) → output_wires c ≤ c.wires → unset_output c ≡ None → (w : ℕ) → c.wires - output_wires c ≤ w → w < c.wires → sets c w ≡ true
-outputs_set c within e w l h = true_from_not (sets c w) (none_found (λ v. not (sets c v)) (c.wires - output_wires c) (output_wires c) w e l (omega (arith, within, h)))
+outputs_set c within e w l h = not-false (sets c w) (none_found (λ v. not (sets c v)) (c.wires - output_wires c) (output_wires c) w e l (omega (arith, within, h)))
 
 none_pass : (p : ℕ → Bool) (a n : ℕ) → ((w : ℕ) → a ≤ w → w < a + n → p w ≡ false) → find p (range_with_len a n) ≡ None
 none_pass p a zero h = refl

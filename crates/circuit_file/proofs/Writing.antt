@@ -2,13 +2,14 @@
 use Rattle.std.proofs.Common.{◌≡◌, ℕ, suc, true, ◌&&◌, List, [], ◌∷◌, length, Some, refl, ◌∙◌, ap, ap₂}
 use Rattle.std.specs.Option.{is_some, unwrap_or}
 use Rattle.text_tokens.specs.Numbers.{number_of}
+use Rattle.std.proofs.lemmas.Bool.{and_parts}
 use Rattle.circuit_file.specs.Tokens.{is_number, number_in, all_numbers, numbers_in}
 use Rattle.circuit_file.specs.Grammar.{Write}
-use Rattle.circuit_file.proofs.Passing.{some_is, and_first, and_second}
+use Rattle.circuit_file.proofs.Passing.{some_is}
 
 pub write_all : (ts : List (List ℕ)) → all_numbers ts ≡ true → Write ts (numbers_in ts)
 write_all [] e = tt
-write_all (t ∷ ts) e = (some_is (number_of t) (and_first (is_number t) (all_numbers ts) e), write_all ts (and_second (is_number t) (all_numbers ts) e))
+write_all (t ∷ ts) e = (some_is (number_of t) (and_parts (is_number t) (all_numbers ts) e).0, write_all ts (and_parts (is_number t) (all_numbers ts) e).1)
 
 pub write_some : (ts : List (List ℕ)) (n : ℕ) (ns : List ℕ) → Write ts (n ∷ ns) → (t : List ℕ) × (rest : List (List ℕ)) × (ts ≡ t ∷ rest) × (number_of t ≡ Some n) × Write rest ns
 write_some [] n ns w = absurd w

@@ -1,9 +1,9 @@
 -- The circuit of a file, or its first fault.
-use Rattle.std.specs.Prelude.{ℕ, zero, suc, ◌+◌, pos, Bool, true, false, not, ◌&&◌, ◌==◌, nat_lt, List, [], ◌∷◌, length, Result, Ok, Err}
+use Rattle.std.specs.Prelude.{ℕ, zero, suc, ◌+◌, pos, Bool, true, false, not, ◌&&◌, ◌==◌, nat_lt, List, [], ◌∷◌, length, Result, Ok, Err, Option}
 use Rattle.std.specs.Option.{option_map}
 use Rattle.std.specs.Str.Lossy.{utf8_valid_len}
 use Rattle.gate_lines.specs.Rows.{Row, rows_of}
-use Rattle.circuit_model.specs.Checks.{Check, ◌answers◌, first_fault, or_fault, then_fault}
+use Rattle.list_laws.specs.Checks.{◌answers◌, first_fault, or_fault, then_fault}
 use Rattle.circuit_model.specs.Netlists.{Netlist}
 use Rattle.circuit_model.specs.Building.{next_gate, add_gate, unset_output}
 use Rattle.circuit_model.specs.declared.gate.Gate.{Gate}
@@ -58,7 +58,7 @@ is_bristol Bristol = true
 is_bristol Ring = false
 
 -- what is wrong before any line is looked at
-unfoldable pub text_checks : CircuitLayout → ℕ → List ℕ → List Check
+unfoldable pub text_checks : CircuitLayout → ℕ → List ℕ → List (Option CircuitFault)
 text_checks layout bits bytes =
     ((is_bristol layout && not (bits == 1)) answers WrongRing (pos bits))
     ∷ (nat_lt (utf8_valid_len bytes) (length bytes) answers NotUtf8 (utf8_valid_len bytes))

@@ -2,7 +2,7 @@
 use Rattle.std.specs.Prelude.{ℕ, ◌+◌, not, nat_lt, List, [], ◌∷◌, length, take, drop, is_some, unwrap_or, Option, Some, None, if◌then◌else◌, codes, Result}
 use Rattle.std.specs.Str.{bytes_eq}
 use Rattle.gate_lines.specs.Rows.{Row}
-use Rattle.circuit_model.specs.Checks.{Check, ◌answers◌, first_fault, or_fault}
+use Rattle.list_laws.specs.Checks.{◌answers◌, first_fault, or_fault}
 use Rattle.circuit_model.specs.declared.gate.Operation.{Operation}
 use Rattle.circuit_model.specs.declared.gate.Operation.TheVariants.{Add, Sub, Neg, Mul, Xor, And, Inv, Eq, Eqw}
 use Rattle.circuit_model.specs.declared.fault.CircuitFault.{CircuitFault}
@@ -50,7 +50,7 @@ wire_count line = input_count line + output_count line
 abbrev pub operation_in : CircuitLayout → Row → Option Operation
 operation_in layout line = operation_of layout (token line (wire_count line + 2))
 
-unfoldable pub form_checks : CircuitLayout → Row → List Check
+unfoldable pub form_checks : CircuitLayout → Row → List (Option CircuitFault)
 form_checks layout line =
     (nat_lt (length line.tokens) 2 answers ShortLine line.number)
     ∷ (not (all_numbers (tokens_after 0 2 line)) answers BadNumber line.number)

@@ -1,14 +1,14 @@
 -- The three header lines of a circuit file, and their faults in the order of the checks.
-use Rattle.std.specs.Prelude.{ℕ, ◌+◌, not, ◌||◌, nat_lt, List, [], ◌∷◌, length, sum, Result}
+use Rattle.std.specs.Prelude.{ℕ, ◌+◌, not, ◌||◌, nat_lt, List, [], ◌∷◌, length, sum, Result, Option}
 use Rattle.gate_lines.specs.Rows.{Row}
-use Rattle.circuit_model.specs.Checks.{Check, ◌answers◌, first_fault, or_fault}
+use Rattle.list_laws.specs.Checks.{◌answers◌, first_fault, or_fault}
 use Rattle.circuit_model.specs.declared.fault.CircuitFault.{CircuitFault}
 use Rattle.circuit_model.specs.declared.fault.CircuitFault.TheVariants.{BadNumber, ShortLine, LongLine, TooLarge, HeaderWidths}
 use Rattle.circuit_file.specs.Tokens.{token, tokens_after, is_number, number_in, all_numbers, numbers_in}
 use Rattle.circuit_file.specs.declared.header.Counts.{Counts}
 
 -- line one: how many gates and how many wires
-unfoldable pub count_checks : Row → List Check
+unfoldable pub count_checks : Row → List (Option CircuitFault)
 count_checks line =
     (nat_lt (length line.tokens) 2 answers ShortLine line.number)
     ∷ (nat_lt 2 (length line.tokens) answers LongLine line.number)
@@ -27,7 +27,7 @@ counts_in line = or_fault (first_fault (count_checks line)) (counts_of line)
 abbrev pub width_tokens : Row → List (List ℕ)
 width_tokens line = tokens_after 1 (number_in (token line 0)) line
 
-unfoldable pub width_checks : ℕ → Row → List Check
+unfoldable pub width_checks : ℕ → Row → List (Option CircuitFault)
 width_checks wires line =
     (not (is_number (token line 0)) answers BadNumber line.number)
     ∷ (nat_lt 1024 (number_in (token line 0)) answers TooLarge line.number)

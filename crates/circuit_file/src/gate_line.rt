@@ -1,6 +1,6 @@
 //! The form of a gate line.
 ghost use Rattle.std.specs.Prelude.{◌≡◌, ◌≤◌, ◌<◌, ◌+◌, nat_lt, None, Err, IfOk, MatchResult, length, take};
-ghost use Rattle.circuit_model.specs.Checks.{first_fault, or_fault};
+ghost use Rattle.list_laws.specs.Checks.{first_fault, or_fault};
 ghost use Rattle.circuit_file.specs.GateLines.{form_checks, form_of};
 ghost use Rattle.gate_lines.specs.Rows.{Row};
 ghost use Rattle.circuit_model.specs.Netlists.{Netlist};

@@ -1,15 +1,17 @@
 -- What a builder keeps, and what it answers.
-use Rattle.std.proofs.Common.{◌≡◌, ℕ, ◌-◌, ◌≤◌, ◌<◌, Bool, true, false, not, List, [], ◌∷◌, ◌++◌, length, set, Some, None, Result, Ok, Err, refl, sym, ◌∙◌, ap, ap₂, subst, arith}
+use Rattle.std.proofs.Common.{◌≡◌, ℕ, ◌-◌, ◌≤◌, ◌<◌, Bool, true, false, not, List, [], ◌∷◌, ◌++◌, length, set, Some, None, Result, Ok, Err, sym, ◌∙◌, ap, ap₂, subst, arith}
 use Rattle.std.specs.Prelude.{slice_index_or, if◌then◌else◌}
 use Rattle.std.specs.Option.{is_some, option_map}
 use Rattle.std.specs.List.{find, range_with_len}
 use Rattle.std.proofs.lemmas.List.{length_push}
+use Rattle.std.proofs.lemmas.Bool.{not-false}
 use Rattle.circuit_model.specs.declared.gate.Gate.{Gate}
 use Rattle.circuit_model.specs.declared.gate.Operation.{Operation}
 use Rattle.circuit_model.specs.declared.fault.CircuitFault.{CircuitFault}
 use Rattle.circuit_model.specs.declared.fault.CircuitFault.TheVariants.{OutputNotSet}
-use Rattle.circuit_model.specs.Checks.{first_fault, or_fault, then_fault, Gives}
+use Rattle.circuit_model.specs.Checks.{Gives}
 use Rattle.circuit_model.specs.Netlists.{Netlist, IsCircuit, GateFits, sets, input_wires, output_wires}
+use Rattle.list_laws.specs.Checks.{first_fault, or_fault, then_fault}
 use Rattle.circuit_model.specs.Building.{Draft, header_checks, gate_checks, gate_of, next_gate, take_gate, after_gate, no_gates_yet, start_of, unset_output, circuit_of}
 use Rattle.circuit_model.specs.Drafts.{IsDraft}
 use Rattle.circuit_model.proofs.PassedChecks.{IsSmall, header_small, ok_passed, fault_moves}
@@ -150,9 +152,5 @@ end_valid d xs ys n e long many s found =
     record {
       within = s.within;
       fits = s.fits;
-      outputs = λ w l h. yes_not (sets d.circuit w) (none_found (λ v. not (sets d.circuit v)) (d.circuit.wires - output_wires d.circuit) (output_wires d.circuit) w none l (omega (arith, h, s.within.output_wires)));
+      outputs = λ w l h. not-false (sets d.circuit w) (none_found (λ v. not (sets d.circuit v)) (d.circuit.wires - output_wires d.circuit) (output_wires d.circuit) w none l (omega (arith, h, s.within.output_wires)));
     }
-  where
-    yes_not : (b : Bool) → not b ≡ false → b ≡ true
-    yes_not true e = refl
-    yes_not false e = cc

@@ -1,11 +1,11 @@
 -- The wires of each gate of a valid circuit.
-use Rattle.std.proofs.Common.{◌≡◌, ℕ, ◌<◌, ◌≤◌, Bool, true, false, ◌&&◌, length, refl, sym, subst, arith, nat_lt, []}
+use Rattle.std.proofs.Common.{◌≡◌, ℕ, ◌<◌, Bool, true, false, ◌&&◌, length, refl, sym, subst, arith, nat_lt, []}
 use Rattle.std.proofs.lemmas.Bool.{ltb-true}
 use Rattle.std.specs.List.{list_all}
 use Rattle.std.specs.Prelude.{take, ◌∷◌}
 use Rattle.circuit_model.specs.declared.gate.Operation.{Operation}
 use Rattle.circuit_model.specs.declared.gate.Operation.TheVariants.{Add, Sub, Neg, Mul, Xor, And, Inv, Eq, Eqw}
-use Rattle.circuit_model.specs.Netlists.{Netlist, IsCircuit, IsPlain, arity, is_constant, reads, gate}
+use Rattle.circuit_model.specs.Netlists.{Netlist, IsCircuit, arity, is_constant, reads, gate}
 
 both : (a b : Bool) → (a && (b && true)) ≡ true → (a ≡ true) × (b ≡ true)
 both true true e = (refl, refl)

@@ -3,7 +3,7 @@ use Rattle.std.proofs.Common.{◌≡◌, ℕ, zero, suc, ◌+◌, ◌-◌, ◌�
 use Rattle.std.specs.List.{list_all}
 use Rattle.std.proofs.lemmas.List.{drop_all}
 use Rattle.std.proofs.lemmas.List.Sums.{sum_by-drop_more}
-use Rattle.std.proofs.lemmas.Bool.{lt-ltb, le-ltb, ltb-true}
+use Rattle.std.proofs.lemmas.Bool.{lt-ltb, le-ltb, ltb-true, and_parts}
 
 pub all_yes : (p : ℕ → Bool) (xs : List ℕ) (i : ℕ) → i < length xs → p (get_or xs i 0) ≡ true → list_all p (drop i xs) ≡ list_all p (drop (i + 1) xs)
 all_yes p xs i l e = ap (list_all p) (drop-cons xs i 0 l) ∙ ap (λ b. b && list_all p (drop (suc i) xs)) e ∙ ap (λ k. list_all p (drop k xs)) (let n : suc i ≡ i + 1 = omega arith in n)
@@ -16,16 +16,8 @@ all_end p xs i l = ap (list_all p) (drop_all i xs l)
 
 pub all_at : (p : ℕ → Bool) (xs : List ℕ) (i : ℕ) → list_all p xs ≡ true → i < length xs → p (get_or xs i 0) ≡ true
 all_at p [] i e l = absurd (omega arith)
-all_at p (x ∷ xs) zero e l = left (p x) (list_all p xs) e
-  where
-    left : (a b : Bool) → (a && b) ≡ true → a ≡ true
-    left true b e = refl
-    left false b e = cc
-all_at p (x ∷ xs) (suc i) e l = all_at p xs i (right (p x) (list_all p xs) e) (omega arith)
-  where
-    right : (a b : Bool) → (a && b) ≡ true → b ≡ true
-    right true b e = e
-    right false b e = cc
+all_at p (x ∷ xs) zero e l = (and_parts (p x) (list_all p xs) e).0
+all_at p (x ∷ xs) (suc i) e l = all_at p xs i (and_parts (p x) (list_all p xs) e).1 (omega arith)
 
 same_test : (a b c d : ℕ) → (a < b → c < d) → (c < d → a < b) → nat_lt a b ≡ nat_lt c d
 same_test a b c d f g = go (nat_lt a b) refl

@@ -1,20 +1,19 @@
 -- What passed checks tell.
-use Rattle.std.proofs.Common.{◌≡◌, ℕ, ◌^◌, ◌≤◌, ◌<◌, Bool, true, false, not, ◌&&◌, ◌||◌, cond, List, [], ◌∷◌, length, Option, Some, None, Result, Ok, Err, refl, sym, subst, arith, nat_lt, sum, pow_pos, ◌∙◌}
+use Rattle.std.proofs.Common.{◌≡◌, ℕ, ◌^◌, ◌≤◌, ◌<◌, Bool, true, false, not, ◌&&◌, cond, List, [], length, Option, Some, None, Result, Ok, Err, refl, sym, subst, arith, nat_lt, sum, pow_pos, ◌∙◌}
 use Rattle.std.specs.Prelude.{slice_index}
 use Rattle.std.specs.List.{list_all}
 use Rattle.std.proofs.Math.ListN.{get_or-eq_default}
-use Rattle.std.proofs.lemmas.Bool.{eqb-true, ltb-true, ltb-false}
+use Rattle.std.proofs.lemmas.Bool.{eqb-true, ltb-true, ltb-false, and_parts, or_parts, not-false}
+use Rattle.list_laws.proofs.Passing.{none_failed}
+use Rattle.list_laws.proofs.Short.{one_long, two_long}
 use Rattle.circuit_model.specs.declared.gate.Operation.{Operation}
 use Rattle.circuit_model.specs.declared.gate.Operation.TheVariants.{Add, Sub, Neg, Mul, Xor, And, Inv, Eq, Eqw}
 use Rattle.circuit_model.specs.declared.fault.CircuitFault.{CircuitFault}
 use Rattle.circuit_model.specs.declared.fault.CircuitFault.TheVariants.{Memory}
-use Rattle.circuit_model.specs.Checks.{first_fault, or_fault, Gives}
+use Rattle.circuit_model.specs.Checks.{Gives}
 use Rattle.circuit_model.specs.Netlists.{Netlist, arity, is_constant, reads, read_by, sets, GateFits}
+use Rattle.list_laws.specs.Checks.{first_fault, or_fault}
 use Rattle.circuit_model.specs.Building.{header_checks, gate_checks, gate_of, next_gate}
-
-pub none_failed : (b : Bool) (f : CircuitFault) (r : Option CircuitFault) → cond b (Some f) r ≡ None → (b ≡ false) × (r ≡ None)
-none_failed false f r e = (refl, e)
-none_failed true f r e = cc
 
 pub ok_passed : {A : Type 0} (o : Option CircuitFault) (a x : A) → Ok x ≡ or_fault o a → (o ≡ None) × (x ≡ a)
 ok_passed None a x e = (refl, cc)
@@ -31,22 +30,6 @@ fault_moves {A = A} {B = B} o a b f e = given f (or_fault o b) (moved o e)
     given : (h : CircuitFault) (wanted : Result B CircuitFault) → Err h ≡ wanted → Gives (Err h) wanted
     given Memory wanted e = tt
     given _ wanted e = e
-
-true_from_not : (b : Bool) → not b ≡ false → b ≡ true
-true_from_not true e = refl
-true_from_not false e = cc
-
-and_first : (a b : Bool) → (a && b) ≡ true → a ≡ true
-and_first true b e = refl
-and_first false b e = cc
-
-and_second : (a b : Bool) → (a && b) ≡ true → b ≡ true
-and_second true b e = e
-and_second false b e = cc
-
-neither : (a b : Bool) → (a || b) ≡ false → (a ≡ false) × (b ≡ false)
-neither true b e = cc
-neither false b e = (refl, e)
 
 -- ---- a header
 
@@ -66,7 +49,7 @@ header_small gates wires inputs outputs lines e =
     let c = none_failed _ _ _ b.1 in
     let d = none_failed _ _ _ c.1 in
     let f = none_failed _ _ _ d.1 in
-    let n = neither (nat_lt 65536 gates) (nat_lt 131072 wires) a.0 in
+    let n = or_parts (nat_lt 65536 gates) (nat_lt 131072 wires) a.0 in
     record {
       gates = ltb-false 65536 gates n.0;
       wires = ltb-false 131072 wires n.1;
@@ -77,17 +60,6 @@ header_small gates wires inputs outputs lines e =
     }
 
 -- ---- a gate
-
-one_long : (xs : List ℕ) → length xs ≡ 1 → xs ≡ slice_index xs 0 ∷ []
-one_long [] e = absurd (omega arith)
-one_long (x ∷ []) e = refl
-one_long (x ∷ y ∷ xs) e = absurd (omega arith)
-
-two_long : (xs : List ℕ) → length xs ≡ 2 → xs ≡ slice_index xs 0 ∷ slice_index xs 1 ∷ []
-two_long [] e = absurd (omega arith)
-two_long (x ∷ []) e = absurd (omega arith)
-two_long (x ∷ y ∷ []) e = refl
-two_long (x ∷ y ∷ z ∷ xs) e = absurd (omega arith)
 
 reads_are : (o : Operation) (inputs outputs : List ℕ) → length inputs ≡ arity o → reads o inputs ≡ read_by (gate_of o inputs outputs)
 reads_are Add inputs outputs e = two_long inputs e
@@ -113,7 +85,7 @@ no_constant true x e = cc
 no_constant false x e = refl
 
 small_constant : (b : Bool) (x bits : ℕ) → (b && not (nat_lt x (2 ^ bits))) ≡ false → cond b x 0 < 2 ^ bits
-small_constant true x bits e = ltb-true x (2 ^ bits) (true_from_not (nat_lt x (2 ^ bits)) e)
+small_constant true x bits e = ltb-true x (2 ^ bits) (not-false (nat_lt x (2 ^ bits)) e)
 small_constant false x bits e = let positive : 0 < 2 ^ bits = pow_pos bits in positive
 
 pub gate_fits : (c : Netlist) (line : ℕ) (o : Operation) (inputs outputs : List ℕ) → first_fault (gate_checks c.bits c.wires (sets c) line o inputs outputs) ≡ None
@@ -125,10 +97,10 @@ gate_fits c line o inputs outputs e =
     let d = none_failed _ _ _ b.1 in
     let f = none_failed _ _ _ d.1 in
     let g = none_failed _ _ _ f.1 in
-    let counts = true_from_not _ a.0 in
-    let many : length inputs ≡ arity o = eqb-true (length inputs) (arity o) (and_first _ _ counts) in
+    let counts = not-false _ a.0 in
+    let many : length inputs ≡ arity o = eqb-true (length inputs) (arity o) (and_parts _ _ counts).0 in
     let same = reads_are o inputs outputs many in
-    let below = true_from_not _ d.0 in
+    let below = not-false _ d.0 in
     record {
       plain = record {
         first = no_first (is_constant o) inputs;
@@ -136,9 +108,9 @@ gate_fits c line o inputs outputs e =
         constant = no_constant (is_constant o) (slice_index inputs 0);
       };
       constant = small_constant (is_constant o) (slice_index inputs 0) c.bits b.0;
-      below = subst (λ (ws : List ℕ). list_all (λ w. nat_lt w c.wires) ws ≡ true) same (and_first _ _ below);
-      output = ltb-true _ _ (and_second _ _ below);
-      read = subst (λ (ws : List ℕ). list_all (sets c) ws ≡ true) same (true_from_not _ f.0);
+      below = subst (λ (ws : List ℕ). list_all (λ w. nat_lt w c.wires) ws ≡ true) same (and_parts _ _ below).0;
+      output = ltb-true _ _ (and_parts _ _ below).1;
+      read = subst (λ (ws : List ℕ). list_all (sets c) ws ≡ true) same (not-false _ f.0);
       fresh = g.0;
     }
 

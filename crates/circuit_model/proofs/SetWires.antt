@@ -8,20 +8,13 @@ use Rattle.std.specs.Prelude.{slice_index_or, ◌==◌}
 use Rattle.std.specs.List.{find, range_with_len, list_any}
 use Rattle.std.proofs.lemmas.Bool.Decides.{eqb_tells}
 use Rattle.std.proofs.lemmas.Bool.{lt-ltb, le-ltb, ltb-true, ltb-false}
+use Rattle.list_laws.proofs.Tests.{or_true, or_false}
 use Rattle.circuit_model.specs.declared.gate.Gate.{Gate}
 use Rattle.circuit_model.specs.Netlists.{Netlist, no_gate, is_set, GateFits, AllGatesFit}
 use Rattle.circuit_model.specs.Building.{add_gate}
 
 pub funext : {A B : Type 0} (f g : A → B) → ((x : A) → f x ≡ g x) → f ≡ g
 funext f g h = λ i x. h x i
-
-or_true : (b : Bool) → (b || true) ≡ true
-or_true true = refl
-or_true false = refl
-
-or_none : (b : Bool) → (b || false) ≡ b
-or_none true = refl
-or_none false = refl
 
 or_both : (a b c : Bool) → (a || (b || c)) ≡ ((a || b) || c)
 or_both true b c = refl
@@ -37,7 +30,7 @@ lt_or_not a b = from_test (nat_lt a b) refl
 -- a gate more sets its wire
 pub set_next : (inputs : ℕ) (gs : List Gate) (g : Gate) (w : ℕ) → is_set inputs (gs ++ (g ∷ [])) w ≡ (is_set inputs gs w || (g.output == w))
 set_next inputs gs g w =
-    ap (λ b. nat_lt w inputs || b) (list_any-append (λ (h : Gate). h.output == w) gs (g ∷ []) ∙ ap (λ b. list_any (λ (h : Gate). h.output == w) gs || b) (or_none (g.output == w)))
+    ap (λ b. nat_lt w inputs || b) (list_any-append (λ (h : Gate). h.output == w) gs (g ∷ []) ∙ ap (λ b. list_any (λ (h : Gate). h.output == w) gs || b) (or_false (g.output == w)))
     ∙ or_both (nat_lt w inputs) (list_any (λ (h : Gate). h.output == w) gs) (g.output == w)
 
 pub told_next : (inputs : ℕ) (gs : List Gate) (g : Gate) (xs : List Bool) → g.output < length xs
@@ -47,7 +40,7 @@ told_next inputs gs g xs below h w = elim (eqb_tells g.output w) [
       ∙ get_or-set_same xs g.output true false below
       ∙ sym (set_next inputs gs g w ∙ ap (λ b. is_set inputs gs w || b) same.0 ∙ or_true (is_set inputs gs w))
   | inr other ↦ get_or-set_other xs g.output w true false (λ e. other.1 (sym e)) ∙ h w
-      ∙ sym (set_next inputs gs g w ∙ ap (λ b. is_set inputs gs w || b) other.0 ∙ or_none (is_set inputs gs w))
+      ∙ sym (set_next inputs gs g w ∙ ap (λ b. is_set inputs gs w || b) other.0 ∙ or_false (is_set inputs gs w))
 ]
 
 -- the first wires are set before the first gate
@@ -67,8 +60,8 @@ told_pushed xs n inputs long h w = elim (lt_or_not w n) [
 pub told_first : (xs : List Bool) (wires inputs : ℕ) → inputs ≤ wires → ((w : ℕ) → slice_index_or xs w false ≡ (nat_lt w wires && nat_lt w inputs))
     → (w : ℕ) → slice_index_or xs w false ≡ is_set inputs [] w
 told_first xs wires inputs l h w = h w ∙ elim (lt_or_not w inputs) [
-  | inl less ↦ ap (λ b. b && nat_lt w inputs) (lt-ltb w wires (omega (arith, l, less))) ∙ sym (or_none (nat_lt w inputs))
-  | inr more ↦ and_false (nat_lt w wires) (nat_lt w inputs) (le-ltb w inputs more) ∙ sym (or_none (nat_lt w inputs) ∙ le-ltb w inputs more)
+  | inl less ↦ ap (λ b. b && nat_lt w inputs) (lt-ltb w wires (omega (arith, l, less))) ∙ sym (or_false (nat_lt w inputs))
+  | inr more ↦ and_false (nat_lt w wires) (nat_lt w inputs) (le-ltb w inputs more) ∙ sym (or_false (nat_lt w inputs) ∙ le-ltb w inputs more)
 ]
   where
     and_false : (a b : Bool) → b ≡ false → (a && b) ≡ false

@@ -3,7 +3,8 @@ use Rattle.std.proofs.Common.{◌≡◌, ℕ, zero, suc, ◌^◌, ◌≤◌, ◌
 use Rattle.std.specs.Prelude.{◌==◌}
 use Rattle.std.specs.List.{list_all, list_any}
 use Rattle.std.proofs.Math.Seq.{take-suc, take-length}
-use Rattle.std.proofs.lemmas.Bool.{cases_eq, both_ways, lt-ltb, ltb-true, cond-true, cond-false, eq-eqb, ne_eqb}
+use Rattle.std.proofs.lemmas.Bool.{cases_eq, both_ways, lt-ltb, ltb-true, cond-true, cond-false, eq-eqb, ne_eqb, and_parts, or_parts}
+use Rattle.list_laws.proofs.Tests.{or_true}
 use Rattle.circuit_model.specs.declared.gate.Gate.{Gate}
 use Rattle.circuit_model.specs.declared.gate.Operation.{Operation}
 use Rattle.circuit_model.specs.declared.gate.Operation.TheVariants.{Add, Sub, Neg, Mul, Xor, And, Inv, Eq, Eqw}
@@ -13,30 +14,17 @@ use Rattle.circuit_model.specs.Equations.{Solves}
 use Rattle.circuit_model.proofs.SetAt.{set_here, set_there}
 use Rattle.circuit_model.proofs.SetWires.{set_next}
 
-first : (a b : Bool) → (a && b) ≡ true → a ≡ true
-first true b e = refl
-first false b e = cc
-
-second : (a b : Bool) → (a && (b && true)) ≡ true → b ≡ true
-second true true e = refl
-second true false e = cc
-second false b e = cc
-
-neither : (a b : Bool) → (a || b) ≡ false → (a ≡ false) × (b ≡ false)
-neither true b e = cc
-neither false b e = (refl, e)
-
 -- words that agree on what an operation reads give the same
 reads_same : (q : ℕ) (o : Operation) (k a b : ℕ) (x y : ℕ → ℕ) (p : ℕ → Bool) → list_all p (reads o (take (arity o) (a ∷ b ∷ []))) ≡ true → ((w : ℕ) → p w ≡ true → x w ≡ y w)
     → operate q o k (x a) (x b) ≡ operate q o k (y a) (y b)
-reads_same q Add k a b x y p r h = ap₂ (operate q Add k) (h a (first (p a) (p b && true) r)) (h b (second (p a) (p b) r))
-reads_same q Sub k a b x y p r h = ap₂ (operate q Sub k) (h a (first (p a) (p b && true) r)) (h b (second (p a) (p b) r))
-reads_same q Mul k a b x y p r h = ap₂ (operate q Mul k) (h a (first (p a) (p b && true) r)) (h b (second (p a) (p b) r))
-reads_same q Xor k a b x y p r h = ap₂ (operate q Xor k) (h a (first (p a) (p b && true) r)) (h b (second (p a) (p b) r))
-reads_same q And k a b x y p r h = ap₂ (operate q And k) (h a (first (p a) (p b && true) r)) (h b (second (p a) (p b) r))
-reads_same q Neg k a b x y p r h = ap (λ z. operate q Neg k z 0) (h a (first (p a) true r))
-reads_same q Inv k a b x y p r h = ap (λ z. operate q Inv k z 0) (h a (first (p a) true r))
-reads_same q Eqw k a b x y p r h = h a (first (p a) true r)
+reads_same q Add k a b x y p r h = ap₂ (operate q Add k) (h a (and_parts (p a) (p b && true) r).0) (h b (and_parts (p b) true (and_parts (p a) (p b && true) r).1).0)
+reads_same q Sub k a b x y p r h = ap₂ (operate q Sub k) (h a (and_parts (p a) (p b && true) r).0) (h b (and_parts (p b) true (and_parts (p a) (p b && true) r).1).0)
+reads_same q Mul k a b x y p r h = ap₂ (operate q Mul k) (h a (and_parts (p a) (p b && true) r).0) (h b (and_parts (p b) true (and_parts (p a) (p b && true) r).1).0)
+reads_same q Xor k a b x y p r h = ap₂ (operate q Xor k) (h a (and_parts (p a) (p b && true) r).0) (h b (and_parts (p b) true (and_parts (p a) (p b && true) r).1).0)
+reads_same q And k a b x y p r h = ap₂ (operate q And k) (h a (and_parts (p a) (p b && true) r).0) (h b (and_parts (p b) true (and_parts (p a) (p b && true) r).1).0)
+reads_same q Neg k a b x y p r h = ap (λ z. operate q Neg k z 0) (h a (and_parts (p a) true r).0)
+reads_same q Inv k a b x y p r h = ap (λ z. operate q Inv k z 0) (h a (and_parts (p a) true r).0)
+reads_same q Eqw k a b x y p r h = h a (and_parts (p a) true r).0
 reads_same q Eq k a b x y p r h = refl
 
 -- the wires that are set before gate t, and the values then
@@ -61,10 +49,6 @@ set_from c u (suc t) w le l e = elim (cases_eq u (suc t)) [
 
 own_set : (c : Netlist) (t : ℕ) → t < length c.gates → set_before c (suc t) (gate c t).output ≡ true
 own_set c t l = before_next c t (gate c t).output l ∙ ap (λ b. set_before c t (gate c t).output || b) (eq-eqb (gate c t).output (gate c t).output refl) ∙ or_true (set_before c t (gate c t).output)
-  where
-    or_true : (b : Bool) → (b || true) ≡ true
-    or_true true = refl
-    or_true false = refl
 
 -- a gate leaves the wires that are set
 stays : (c : Netlist) (inputs : ℕ → ℕ) (t w : ℕ) → IsCircuit c → t < length c.gates → set_before c t w ≡ true → values_at c inputs (suc t) w ≡ values_at c inputs t w
@@ -98,9 +82,9 @@ inputs_stay c inputs (suc t) w v l h =
     stays c inputs t w v (omega (arith, l)) (ap (λ b. b || list_any (λ (g : Gate). g.output == w) (take t c.gates)) (lt-ltb w (input_wires c) h)) ∙ inputs_stay c inputs t w v (omega (arith, l)) h
 
 unset_zero : (c : Netlist) (inputs : ℕ → ℕ) (t w : ℕ) → t ≤ length c.gates → set_before c t w ≡ false → values_at c inputs t w ≡ 0
-unset_zero c inputs zero w l e = cond-false (nat_lt w (input_wires c)) (inputs w) 0 (neither (nat_lt w (input_wires c)) false e).0
+unset_zero c inputs zero w l e = cond-false (nat_lt w (input_wires c)) (inputs w) 0 (or_parts (nat_lt w (input_wires c)) false e).0
 unset_zero c inputs (suc t) w l e =
-    let parts = neither (set_before c t w) ((gate c t).output == w) (sym (before_next c t w (omega (arith, l))) ∙ e) in
+    let parts = or_parts (set_before c t w) ((gate c t).output == w) (sym (before_next c t w (omega (arith, l))) ∙ e) in
     set_there (values_at c inputs t) (gate c t).output w _ (λ same. both_ways ((gate c t).output == w) parts.1 (eq-eqb (gate c t).output w (sym same)))
     ∙ unset_zero c inputs t w (omega (arith, l)) parts.0
 

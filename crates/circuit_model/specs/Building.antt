@@ -6,7 +6,7 @@ use Rattle.circuit_model.specs.declared.gate.Gate.{Gate}
 use Rattle.circuit_model.specs.declared.gate.Operation.{Operation}
 use Rattle.circuit_model.specs.declared.fault.CircuitFault.{CircuitFault}
 use Rattle.circuit_model.specs.declared.fault.CircuitFault.TheVariants.{TooLarge, HeaderWidths, WrongArity, BadConstant, WireOutOfRange, ReadBeforeSet, SetTwice, OutputNotSet, Memory}
-use Rattle.circuit_model.specs.Checks.{Check, ◌answers◌, first_fault, or_fault, then_fault}
+use Rattle.list_laws.specs.Checks.{◌answers◌, first_fault, or_fault, then_fault}
 use Rattle.circuit_model.specs.Netlists.{Netlist, arity, is_constant, reads, output_wires, sets}
 
 -- a circuit that lacks gates: how many it will have, and the first refusal
@@ -16,7 +16,7 @@ pub record Draft : Type 0 where
   pub refused : Option CircuitFault
 
 -- the checks on the counts of a header, whose three lines have these numbers
-unfoldable pub header_checks : ℕ → ℕ → List ℕ → List ℕ → List ℕ → List Check
+unfoldable pub header_checks : ℕ → ℕ → List ℕ → List ℕ → List ℕ → List (Option CircuitFault)
 header_checks gates wires inputs outputs lines =
     ((nat_lt 65536 gates || nat_lt 131072 wires) answers TooLarge (slice_index lines 0))
     ∷ (nat_lt 1024 (length inputs) answers TooLarge (slice_index lines 1))
@@ -40,7 +40,7 @@ start_of bits gates wires inputs outputs lines =
     (no_gates_yet bits gates wires inputs outputs)
 
 -- the checks on a gate, for words of so many bits, so many wires, and the wires that are set
-unfoldable pub gate_checks : ℕ → ℕ → (ℕ → Bool) → ℕ → Operation → List ℕ → List ℕ → List Check
+unfoldable pub gate_checks : ℕ → ℕ → (ℕ → Bool) → ℕ → Operation → List ℕ → List ℕ → List (Option CircuitFault)
 gate_checks bits wires set line o inputs outputs =
     (not ((length inputs == arity o) && (length outputs == 1)) answers WrongArity line)
     ∷ ((is_constant o && not (nat_lt (slice_index inputs 0) (2 ^ bits))) answers BadConstant line)

@@ -1,7 +1,7 @@
 //! The checks of a header and of a gate.
 ghost use Rattle.std.specs.Prelude.{◌≡◌, ◌^◌, ◌≤◌, ◌<◌, Result, Ok, Err, length, sum, slice_index, slice_index_or, nat_lt, not, ◌&&◌, ◌||◌, ◌==◌, true, false, if◌then◌else◌};
 ghost use Rattle.std.specs.List.{list_all};
-ghost use Rattle.circuit_model.specs.Checks.{or_fault, first_fault};
+ghost use Rattle.list_laws.specs.Checks.{or_fault, first_fault};
 ghost use Rattle.circuit_model.specs.Netlists.{arity, is_constant, reads};
 ghost use Rattle.circuit_model.specs.Building.{header_checks, gate_checks, gate_of};
 

@@ -1,10 +1,11 @@
 -- A formula stays true where more parties are, is false for nobody, and true for all.
 use Rattle.std.specs.Prelude.{◌≡◌, ℕ, ◌+◌, ◌-◌, ◌^◌, ◌≤◌, ◌<◌, nat_eq, nat_le, Bool, true, false, not, ◌&&◌, ◌||◌, if◌then◌else◌, refl}
 use Rattle.std.proofs.Common.{sym, ◌∙◌, ap, arith, subst, eq-eqb}
-use Rattle.std.proofs.lemmas.Bool.{le-leb, leb-true}
+use Rattle.std.proofs.lemmas.Bool.{le-leb, leb-true, not_from_false, not-true, false_from_ne_true, and_from}
 use Rattle.std.proofs.lemmas.Nat.Bits.{bit_at_ones, bit_at-zero}
+use Rattle.list_laws.proofs.Tests.{or_true}
 use Rattle.party_set.specs.Parties.{has_party}
-use Rattle.party_set.proofs.Every.{every_at, implies_at, false_from, not_true, true_not}
+use Rattle.party_set.proofs.Every.{every_at, implies_at}
 use Rattle.maximal_groups.specs.Families.{IsClosed, IsFamily}
 use Rattle.group_formula.specs.Trees.{Tree, Trees, Meaning, count, value, true_ones, IsSoundTree, AreSound, tree_of, is_tolerated}
 use Rattle.group_formula.specs.Trees.Tree.{leaf, both, either, at_least}
@@ -13,10 +14,6 @@ use Rattle.group_formula.specs.Trees.Trees.{one_tree, more_trees}
 or_keeps : (a b c d : Bool) → (a ≡ true → c ≡ true) → (b ≡ true → d ≡ true) → (a || b) ≡ true → (c || d) ≡ true
 or_keeps true b c d f g e = ap (λ x. x || d) (f refl)
 or_keeps false true c d f g e = ap (λ x. c || x) (g refl) ∙ or_true c
-  where
-    or_true : (x : Bool) → (x || true) ≡ true
-    or_true true = refl
-    or_true false = refl
 or_keeps false false c d f g e = cc
 
 and_keeps : (a b c d : Bool) → (a ≡ true → c ≡ true) → (b ≡ true → d ≡ true) → (a && b) ≡ true → (c && d) ≡ true
@@ -58,11 +55,7 @@ mutual
   -- where all parties are
   pub true_for : (n : ℕ) (g : ℕ → Bool) → ((p : ℕ) → p < n → g p ≡ true) → (t : Tree) → IsSoundTree n t → value g t ≡ true
   true_for n g i (leaf p) s = i p s
-  true_for n g i (both a b) s = both_true (value g a) (value g b) (true_for n g i a s.0) (true_for n g i b s.1)
-    where
-      both_true : (a b : Bool) → a ≡ true → b ≡ true → (a && b) ≡ true
-      both_true true b e f = f
-      both_true false b e f = e
+  true_for n g i (both a b) s = and_from (value g a) (value g b) (true_for n g i a s.0) (true_for n g i b s.1)
   true_for n g i (either a b) s = ap (λ x. x || value g b) (true_for n g i a s.0)
   true_for n g i (at_least c ts) s = le-leb c (true_ones g ts) (omega (arith, s.1, all_true n g i ts s.2))
 
@@ -76,7 +69,7 @@ mutual
   false_for n g i (leaf p) s = i p
   false_for n g i (both a b) s = ap (λ x. x && value g b) (false_for n g i a s.0)
   false_for n g i (either a b) s = ap (λ x. x || value g b) (false_for n g i a s.0) ∙ false_for n g i b s.1
-  false_for n g i (at_least c ts) s = false_from (nat_le c (true_ones g ts)) (λ e. omega (arith, leb-true c (true_ones g ts) e, none_true n g i ts s.2, s.0))
+  false_for n g i (at_least c ts) s = false_from_ne_true (nat_le c (true_ones g ts)) (λ e. omega (arith, leb-true c (true_ones g ts) e, none_true n g i ts s.2, s.0))
 
   pub none_true : (n : ℕ) (g : ℕ → Bool) → ((p : ℕ) → g p ≡ false) → (ts : Trees) → AreSound n ts → true_ones g ts ≡ 0
   none_true n g i (one_tree t) s = ap (λ b. if b then 1 else 0) (false_for n g i t s)
@@ -86,9 +79,9 @@ mutual
 closed_of : (f : Meaning) → IsSoundTree f.parties (tree_of f.nodes) → IsClosed f.parties (is_tolerated f)
 closed_of f s a b la lb w e =
     let t : Tree = tree_of f.nodes in
-    not_true (value (has_party a) t) (false_from (value (has_party a) t) (λ va.
+    not_from_false (value (has_party a) t) (false_from_ne_true (value (has_party a) t) (λ va.
     let vb : value (has_party b) t ≡ true = grows f.parties (has_party a) (has_party b) (λ p lp. implies_at (has_party a p) (has_party b p) (every_at f.parties (λ q. not (has_party a q) || has_party b q) w p lp)) t s va in
-    let no_b : value (has_party b) t ≡ false = true_not (value (has_party b) t) e in
+    let no_b : value (has_party b) t ≡ false = not-true (value (has_party b) t) e in
     cc))
 
 zero_bit : (p : ℕ) → has_party 0 p ≡ false
@@ -96,7 +89,7 @@ zero_bit p = ap (λ bit. nat_eq bit 1) (bit_at-zero p)
 
 -- the empty group is tolerated
 nobody_of : (f : Meaning) → IsSoundTree f.parties (tree_of f.nodes) → is_tolerated f 0 ≡ true
-nobody_of f s = not_true (value (has_party 0) (tree_of f.nodes)) (false_for f.parties (has_party 0) zero_bit (tree_of f.nodes) s)
+nobody_of f s = not_from_false (value (has_party 0) (tree_of f.nodes)) (false_for f.parties (has_party 0) zero_bit (tree_of f.nodes) s)
 
 -- the group of all parties is qualified
 pub everybody_of : (f : Meaning) → IsSoundTree f.parties (tree_of f.nodes) → value (has_party (2 ^ f.parties - 1)) (tree_of f.nodes) ≡ true

@@ -12,10 +12,11 @@ use Rattle.job_file.specs.declared.fault.JobFault.{JobFault}
 use Rattle.job_file.specs.declared.fault.JobFault.TheVariants.{BadHost}
 use Rattle.job_file.specs.Names.{is_host}
 use Rattle.job_file.specs.Forms.{texts, items}
-use Rattle.job_file.specs.Faults.{hosts_fault, is_there, ◌answers◌}
+use Rattle.list_laws.specs.Checks.{◌answers◌}
+use Rattle.job_file.specs.Faults.{hosts_fault, is_there}
 use Rattle.job_file.proofs.Lists.{position-texts}
 
-or_none : (o : Option JobFault) → option_or o None ≡ o
+pub or_none : (o : Option JobFault) → option_or o None ≡ o
 or_none None = refl
 or_none (Some fault) = refl
 

@@ -1,10 +1,11 @@
 -- One turn of the loops over readers, values and sessions.
-use Rattle.std.proofs.Common.{◌≡◌, ℕ, ◌+◌, ◌<◌, ◌≤◌, Bool, List, [], ◌∷◌, ◌++◌, ◌∙◌, ap, sym, map, length, take, drop, get_or, length-take-le, Option, Some, None, cond, refl, arith}
+use Rattle.std.proofs.Common.{◌≡◌, ℕ, ◌+◌, ◌<◌, ◌≤◌, Bool, List, [], ◌∷◌, ◌++◌, ◌∙◌, ap, sym, map, length, take, drop, get_or, length-take-le, Option, Some, None, cond, arith}
 use Rattle.std.specs.Prelude.{◌||◌}
 use Rattle.std.specs.List.{list_any}
 use Rattle.std.specs.Option.{option_or, option_map}
 use Rattle.std.specs.Str.{bytes_eq}
 use Rattle.std.proofs.lemmas.List.{drop_more, take_more, map-append, length-map}
+use Rattle.job_file.proofs.Hosts.{or_none}
 use Rattle.toml.specs.Data.{Members}
 use Rattle.toml.specs.View.{view}
 use Rattle.toml.specs.declared.value.Value.{Value}
@@ -51,10 +52,6 @@ pub lists_turn : (names : List (List ℕ)) (vs : List Value) (value : ℕ) (v : 
     ≡ option_or (option_map (λ at. (value, at)) (bad_name names [] (readers_of v))) (bad_in_lists names (value + 1) (map readers_of (drop (value + 1) vs)))
 unfolding bad_in_lists
 lists_turn names vs value v within is = ap (λ xs. bad_in_lists names value (map readers_of xs)) (cut vs value v within is)
-
-or_none : (o : Option JobFault) → option_or o None ≡ o
-or_none None = refl
-or_none (Some fault) = refl
 
 pub sessions_turn : (names : List (List ℕ)) (vs : List Value) (session : ℕ) (v : Value) (fields : Members) → session < length vs → v ≡ get_or vs session v → session_of v ≡ fields
     → sessions_fault names session (map session_of (drop session vs))

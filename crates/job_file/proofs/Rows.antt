@@ -1,12 +1,13 @@
 -- The first fault, where the rows before the sessions tell none.
-use Rattle.std.proofs.Common.{◌≡◌, ℕ, Bool, List, [], ◌∷◌, ◌∙◌, ap, refl, length, Option, Some, None}
+use Rattle.std.proofs.Common.{◌≡◌, Bool, [], ◌∷◌, ◌∙◌, ap, refl, length, Option, Some, None}
 use Rattle.std.specs.Option.{option_or}
 use Rattle.toml.specs.Data.{Members}
 use Rattle.job_file.specs.declared.field.Field.TheVariants.{Parties, Session}
 use Rattle.job_file.specs.declared.fault.JobFault.{JobFault}
 use Rattle.job_file.specs.Names.{top_fields}
 use Rattle.job_file.specs.Forms.{adversary_field, texts, items, tables}
-use Rattle.job_file.specs.Faults.{first_fault, version_fault, unknown_fault, fields_fault, ring_fault, parties_fault, adversary_fault, count_fault, sessions_fault, hosts_fault, port_fault, job_fault}
+use Rattle.list_laws.specs.Checks.{first_fault}
+use Rattle.job_file.specs.Faults.{version_fault, unknown_fault, fields_fault, ring_fault, parties_fault, adversary_fault, count_fault, sessions_fault, hosts_fault, port_fault, job_fault}
 
 head_none : (a b c d rest : Option JobFault) → first_fault (a ∷ b ∷ c ∷ d ∷ []) ≡ None → option_or a (option_or b (option_or c (option_or d rest))) ≡ rest
 head_none None None None None rest e = refl

@@ -1,8 +1,9 @@
 -- The faults of a job's file, in the order in which they are checked.
-use Rattle.std.specs.Prelude.{ℕ, ◌+◌, nat_lt, ◌==◌, min, Bool, not, ◌&&◌, ◌||◌, if◌then◌else◌, ℤ, pos, int_le, List, [], ◌∷◌, ◌++◌, length, map, position, Option, Some, None, Result, Ok, Err}
+use Rattle.std.specs.Prelude.{ℕ, ◌+◌, nat_lt, ◌==◌, min, Bool, not, ◌&&◌, ◌||◌, if◌then◌else◌, ℤ, pos, int_le, List, [], ◌∷◌, ◌++◌, length, map, position, Option, Some, None, Result, Err}
 use Rattle.std.specs.List.{list_any}
 use Rattle.std.specs.Option.{is_none, option_map, option_or, option_map_or}
 use Rattle.std.specs.Str.{bytes_eq}
+use Rattle.list_laws.specs.Checks.{◌answers◌, first_fault, or_fault}
 use Rattle.toml.specs.Data.{Members}
 use Rattle.toml_fields.specs.Documents.{document_of}
 use Rattle.toml_fields.specs.Fields.{has_field, is_misfit}
@@ -14,16 +15,6 @@ use Rattle.job_file.specs.declared.fault.JobFault.{JobFault}
 use Rattle.job_file.specs.declared.fault.JobFault.TheVariants.{NotToml, Version as OtherVersion, Missing, Unknown, WrongKind, BadRing, Names, SessionCount, BadFileName, BadLayout, BadOwner, BadReader, BadHost, BadPort, BadTolerated, TooManyTolerated}
 use Rattle.job_file.specs.Names.{field_text, field_kind, top_fields, session_fields, is_file_name, is_host, layout_of}
 use Rattle.job_file.specs.Forms.{JobForm, job_form, is_listed, adversary_field, integer, text, texts, items, lists, tables}
-
--- a row of the table: a test, and the fault that it tells
-infix 4 ◌answers◌
-abbrev pub ◌answers◌ : Bool → JobFault → Option JobFault
-failed answers fault = if failed then Some fault else None
-
--- the first fault of some rows
-abbrev pub first_fault : List (Option JobFault) → Option JobFault
-first_fault [] = None
-first_fault (row ∷ rows) = option_or row (first_fault rows)
 
 -- ---- lists of parties' names
 
@@ -176,12 +167,7 @@ job_fault node fields = first_fault
     ∷ port_fault fields
     ∷ [])
 
--- a value, where there is no fault
-abbrev pub value_or_fault : {A : Type 0} → A → Option JobFault → Result A JobFault
-value_or_fault value None = Ok value
-value_or_fault value (Some fault) = Err fault
-
 -- the job that some bytes stand for, or the first fault
 unfoldable pub job_in : Bool → List ℕ → Result JobForm JobFault
 job_in node bytes =
-    option_map_or (λ fields. value_or_fault (job_form fields) (job_fault node fields)) (document_of bytes) (Err NotToml)
+    option_map_or (λ fields. or_fault (job_fault node fields) (job_form fields)) (document_of bytes) (Err NotToml)

@@ -3,8 +3,9 @@ ghost use Rattle.std.specs.Prelude.{◌≡◌, IfOk};
 ghost use Rattle.toml.specs.View.{table_view};
 ghost use Rattle.job_file.specs.Names.{top_fields, session_fields};
 ghost use Rattle.job_file.specs.Forms.{is_listed, adversary_field};
-ghost use Rattle.job_file.specs.Faults.{◌answers◌, is_there, is_of_other_kind, required_fault, optional_fault, node_fault, unknown_fault};
+ghost use Rattle.job_file.specs.Faults.{is_there, is_of_other_kind, required_fault, optional_fault, node_fault, unknown_fault};
 ghost use Rattle.job_file.specs.Answers.{TellsFault, TellsOrMemory};
+ghost use Rattle.list_laws.specs.Checks.{◌answers◌};
 ghost use Rattle.job_file.specs.declared.fault.JobFault.TheVariants.{Unknown};
 
 use crate::fault::JobFault;

@@ -5,7 +5,8 @@ ghost use Rattle.job_file.specs.Answers.{TellsOrMemory};
 ghost use Rattle.job_file.specs.Names.{top_fields};
 ghost use Rattle.job_file.specs.Forms.{adversary_field, job_form};
 ghost use Rattle.job_file.specs.Jobs.{job_view, IsJob};
-ghost use Rattle.job_file.specs.Faults.{first_fault, version_fault, unknown_fault, fields_fault, ring_fault, job_fault, job_in};
+ghost use Rattle.list_laws.specs.Checks.{first_fault};
+ghost use Rattle.job_file.specs.Faults.{version_fault, unknown_fault, fields_fault, ring_fault, job_fault, job_in};
 ghost use Rattle.job_file.specs.declared.fault.JobFault.TheVariants.{Memory};
 
 use crate::check::check_top_known;

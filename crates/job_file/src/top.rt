@@ -6,7 +6,8 @@ ghost use Rattle.toml_fields.specs.Fields.{text_of, texts_of};
 ghost use Rattle.job_file.specs.Answers.{TellsFault, TellsOrMemory};
 ghost use Rattle.job_file.specs.Names.{is_host};
 ghost use Rattle.job_file.specs.Forms.{texts};
-ghost use Rattle.job_file.specs.Faults.{version_fault, fields_fault, ring_fault, parties_fault, groups_fault, adversary_fault, count_fault, hosts_fault, port_fault, is_there, ◌answers◌};
+ghost use Rattle.list_laws.specs.Checks.{◌answers◌};
+ghost use Rattle.job_file.specs.Faults.{version_fault, fields_fault, ring_fault, parties_fault, groups_fault, adversary_fault, count_fault, hosts_fault, port_fault, is_there};
 ghost use Rattle.job_file.specs.declared.field.Field.TheVariants.{Parties, Hosts};
 ghost use Rattle.job_file.specs.declared.fault.JobFault.TheVariants.{Memory, BadHost};
 

@@ -1,7 +1,7 @@
 -- The messages of a slot, by number and by key.
 use Rattle.std.proofs.Common.{◌≡◌, ℕ, zero, suc, ◌+◌, ◌<◌, ◌≤◌, Bool, true, List, [], ◌∷◌, ◌++◌, map, length, refl, sym, ap, ◌∙◌, subst, arith}
 use Rattle.std.specs.Prelude.{slice_index_or}
-use Rattle.std.specs.List.{AllByRecursion, range_with_len, filter}
+use Rattle.std.specs.List.{AllByRecursion, filter}
 use Rattle.std.proofs.lemmas.Bool.{cases_eq, cases_Bool, cond-true, cond-false}
 use Rattle.std.proofs.lemmas.List.{get_or-append-add, ext_get_or}
 use Rattle.std.proofs.lemmas.List.FromFn.{length-map-range_with_len, get_or-map-range_with_len}
@@ -12,10 +12,9 @@ use Rattle.job_plan.specs.Plans.{Plan, session, slot, slots}
 use Rattle.job_plan.specs.declared.key.Key.{Key}
 use Rattle.job_plan.specs.Messages.{slot_messages, messages}
 use Rattle.job_plan.specs.Numbers.{message, no_key}
-use Rattle.list_laws.proofs.JoinedLists.{length-joined, total_within}
+use Rattle.list_laws.proofs.JoinedLists.{length-joined, total_within, every_range, every_both}
 use Rattle.list_laws.proofs.Totals.{total_eq}
-use Rattle.job_plan.specs.Firsts.{count, session_count, first}
-use Rattle.job_plan.specs.Firsts.{numbers}
+use Rattle.job_plan.specs.Firsts.{count, session_count, first, numbers}
 
 -- what stands at place i of part k
 pub joined_place : {A : Type 0} (d : A) (n k : ℕ) (f : ℕ → List A) (i : ℕ) → k < n → i < length (f k) → slice_index_or (joined n f) (total k (λ j. length (f j)) + i) d ≡ slice_index_or (f k) i d
@@ -59,24 +58,13 @@ module _ (plan : Plan) (s k : ℕ) (ls : s < length plan.sessions) (lk : k < slo
       let li : i < count plan s k = omega (arith, l, length-map-range_with_len (message plan) (first plan s k) (count plan s k)) in
       get_or-map-range_with_len (message plan) (first plan s k) (count plan s k) i (first plan s k + i) no_key li refl ∙ message_at i li)
 
-  every_in : (P : ℕ → Type 0) (a n : ℕ) → ((i : ℕ) → i < n → P (a + i)) → AllByRecursion P (range_with_len a n)
-  every_in P a zero h = tt
-  every_in P a (suc n) h = (
-    (let none : a + 0 ≡ a = omega arith in subst P none (h 0 (omega arith))),
-    every_in P (a + 1) n (λ i l. let same : a + suc i ≡ a + 1 + i = omega arith in subst P same (h (suc i) (omega arith))),
-  )
-
   every_key : (F : Key → Type 0) (ns : List ℕ) → AllByRecursion F (map (message plan) ns) → AllByRecursion (λ n. F (message plan n)) ns
   every_key F [] h = tt
   every_key F (n ∷ ns) h = (h.0, every_key F ns h.1)
 
-  both : (F G : ℕ → Type 0) (ns : List ℕ) → AllByRecursion F ns → AllByRecursion G ns → AllByRecursion (λ n. F n × G n) ns
-  both F G [] h g = tt
-  both F G (n ∷ ns) h g = ((h.0, g.0), both F G ns h.1 g.1)
-
   -- what holds of each key of the slot, with its number
   pub each_number : (F : Key → Type 0) → AllByRecursion F (part k) → AllByRecursion (λ n. (n < length (messages plan)) × F (message plan n)) (numbers plan s k)
-  each_number F h = both _ _ (numbers plan s k) (every_in (λ n. n < length (messages plan)) (first plan s k) (count plan s k) number_within) (every_key F (numbers plan s k) (subst (AllByRecursion F) (sym keys_are) h))
+  each_number F h = every_both (λ n. n < length (messages plan)) (λ n. F (message plan n)) _ (numbers plan s k) (λ n within holds. (within, holds)) (every_range (λ n. n < length (messages plan)) (first plan s k) (count plan s k) number_within) (every_key F (numbers plan s k) (subst (AllByRecursion F) (sym keys_are) h))
 
 pub every_filter : (F G : ℕ → Type 0) (test : ℕ → Bool) (ns : List ℕ) → AllByRecursion F ns → ((n : ℕ) → F n → test n ≡ true → G n) → AllByRecursion G (filter test ns)
 every_filter F G test [] h g = tt

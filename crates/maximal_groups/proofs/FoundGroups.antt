@@ -3,12 +3,12 @@ use Rattle.std.proofs.Common.{◌≡◌, ◌≢◌, ℕ, suc, ◌+◌, ◌^◌, 
 use Rattle.std.specs.Prelude.{bit_or, slice_index, filter, All, SomeIff}
 use Rattle.std.specs.List.{range_with_len}
 use Rattle.std.proofs.lemmas.Nat.{le_or_l, pow_pos}
-use Rattle.std.proofs.lemmas.Bool.{ltb-true, ltb-false}
+use Rattle.std.proofs.lemmas.Bool.{ltb-true, ltb-false, and_parts, and_from, not_from_false, not-true, false_from_ne_true}
 use Rattle.std.proofs.lemmas.Bool.Decides.{eqb_tells}
 use Rattle.std.proofs.lemmas.Grind.{common_steps}
 use Rattle.std.proofs.lemmas.List.{map-append}
 use Rattle.party_set.specs.Parties.{Members, Structure, has_party, within, IsAntichain}
-use Rattle.party_set.proofs.Every.{and_both, and_from, implies_from, implies_at, not_true, true_not, false_from, every_from, every_at}
+use Rattle.party_set.proofs.Every.{implies_from, implies_at, every_from, every_at}
 use Rattle.party_set.proofs.Masks.{within_word}
 use Rattle.maximal_groups.specs.Families.{IsClosed, is_larger, is_maximal, maximal_structure, LiesWithin, TellsTolerated}
 use Rattle.maximal_groups.proofs.Largest.{none_larger}
@@ -37,9 +37,9 @@ within_same n a b la lb e f = omega (arith, within_le n a b la lb e, within_le n
 
 pub larger_lt : (n a b : ℕ) → a < 2 ^ n → b < 2 ^ n → is_larger n a b ≡ true → a < b
 larger_lt n a b la lb e =
-    let parts : (within n a b ≡ true) × (not (within n b a) ≡ true) = and_both _ _ e in
+    let parts : (within n a b ≡ true) × (not (within n b a) ≡ true) = and_parts _ _ e in
     elim (eqb_tells a b) [
-      | inl same ↦ (let bad : true ≡ false = sym (within_self n a) ∙ ap (λ m. within n m a) same.1 ∙ true_not _ parts.1 in absurd cc)
+      | inl same ↦ (let bad : true ≡ false = sym (within_self n a) ∙ ap (λ m. within n m a) same.1 ∙ not-true _ parts.1 in absurd cc)
       | inr other ↦ omega (arith, within_le n a b la lb parts.0, other.1)
     ]
 
@@ -48,10 +48,10 @@ pub some_maximal : (n : ℕ) (t : ℕ → Bool) (a : ℕ) → a < 2 ^ n → t a 
 some_maximal n t a la e =
     let above : ℕ → Bool = λ m. t m && within n a m in
     let top : (m : ℕ) × IsGreatest (2 ^ n) above m = greatest (2 ^ n) above a la (and_from _ _ e (within_self n a)) in
-    let parts : (t top.0 ≡ true) × (within n a top.0 ≡ true) = and_both (t top.0) (within n a top.0) top.1.passes in
+    let parts : (t top.0 ≡ true) × (within n a top.0 ≡ true) = and_parts (t top.0) (within n a top.0) top.1.passes in
     let alone : none_larger n t top.0 ≡ true = every_from (2 ^ n) _ (λ h lh. implies_from (is_larger n top.0 h) (not (t h)) (λ more.
-    not_true (t h) (false_from (t h) (λ th.
-    let both : (within n top.0 h ≡ true) × (not (within n h top.0) ≡ true) = and_both _ _ more in
+    not_from_false (t h) (false_from_ne_true (t h) (λ th.
+    let both : (within n top.0 h ≡ true) × (not (within n h top.0) ≡ true) = and_parts _ _ more in
     let at : above h ≡ true = and_from (t h) (within n a h) th (within_both n a top.0 h parts.1 both.0) in
     let none : above h ≡ false = top.1.above h (larger_lt n top.0 h top.1.below lh more) lh in
     cc)))) in
@@ -63,21 +63,21 @@ tells n t closed a la = (
   some_maximal n t a la,
   λ (i, li, e).
       let found : Listed (is_maximal n t) 0 (2 ^ n) (slice_index (maximal_structure n t).groups i) = listed (is_maximal n t) 0 (2 ^ n) i li in
-      closed a (slice_index (maximal_structure n t).groups i) la (omega (arith, found.below)) e (and_both _ _ found.passes).0,
+      closed a (slice_index (maximal_structure n t).groups i) la (omega (arith, found.below)) e (and_parts _ _ found.passes).0,
 )
 
 -- of two listed groups none lies within the other
 apart : (n : ℕ) (t : ℕ → Bool) (a b : ℕ) → Listed (is_maximal n t) 0 (2 ^ n) a → Listed (is_maximal n t) 0 (2 ^ n) b → a ≢ b → within n a b ≡ false
-apart n t a b la lb ne = false_from _ (λ e. ne (within_same n a b (omega (arith, la.below)) (omega (arith, lb.below)) e (back (within n b a) refl e)))
+apart n t a b la lb ne = false_from_ne_true _ (λ e. ne (within_same n a b (omega (arith, la.below)) (omega (arith, lb.below)) e (back (within n b a) refl e)))
   where
     back : (w : Bool) → within n b a ≡ w → within n a b ≡ true → within n b a ≡ true
     back true f e = f
     back false f e =
         let larger : is_larger n a b ≡ true = and_from (within n a b) (not (within n b a)) e (ap not f) in
-        let both : (t a ≡ true) × (none_larger n t a ≡ true) = and_both (t a) (none_larger n t a) la.passes in
+        let both : (t a ≡ true) × (none_larger n t a ≡ true) = and_parts (t a) (none_larger n t a) la.passes in
         let one : (not (is_larger n a b) || not (t b)) ≡ true = every_at (2 ^ n) (λ h. not (is_larger n a h) || not (t h)) both.1 b (omega (arith, lb.below)) in
-        let none : t b ≡ false = true_not _ (implies_at (is_larger n a b) (not (t b)) one larger) in
-        let some : t b ≡ true = (and_both (t b) (none_larger n t b) lb.passes).0 in
+        let none : t b ≡ false = not-true _ (implies_at (is_larger n a b) (not (t b)) one larger) in
+        let some : t b ≡ true = (and_parts (t b) (none_larger n t b) lb.passes).0 in
         absurd cc
 
 pub antichain : (n : ℕ) (t : ℕ → Bool) → 1 ≤ n → n ≤ 12 → t 0 ≡ true → length (maximal_structure n t).groups ≤ 64 → IsAntichain (maximal_structure n t)

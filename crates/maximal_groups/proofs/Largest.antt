@@ -5,8 +5,9 @@ use Rattle.std.specs.Int.{bit_at}
 use Rattle.std.proofs.lemmas.Nat.Bits.{same_from_bits, bit_at-lt}
 use Rattle.std.proofs.lemmas.Nat.{or_lt}
 use Rattle.std.proofs.lemmas.Bool.Decides.{eqb_tells}
+use Rattle.std.proofs.lemmas.Bool.{and_parts, and_from, not_from_false, not-true, false_from_ne_true, or_right, or_left}
 use Rattle.party_set.specs.Parties.{has_party, every_below, within}
-use Rattle.party_set.proofs.Every.{and_both, and_from, implies_from, implies_at, implies_not, not_true, true_not, false_from, every_from, every_at, every_not}
+use Rattle.party_set.proofs.Every.{implies_from, implies_at, implies_not, every_from, every_at, every_not}
 use Rattle.party_set.proofs.Masks.{has_with, bit_power}
 use Rattle.maximal_groups.specs.Families.{IsClosed, is_larger, is_maximal}
 
@@ -22,23 +23,15 @@ pub is_joined : (g p r : ℕ) → p < 32 → ((q : ℕ) → has_party r q ≡ (h
 is_joined g p r l e =
     same_from_bits r (joined g p) (λ q. same_bit (bit_at r q) (bit_at (joined g p) q) (bit_at-lt r q) (bit_at-lt (joined g p) q) (e q ∙ sym (has_with g p q l)))
 
-or_self_true : (a b : Bool) → b ≡ true → (a || b) ≡ true
-or_self_true true b e = refl
-or_self_true false b e = e
-
-or_true_side : (a b : Bool) → a ≡ true → (a || b) ≡ true
-or_true_side true b e = refl
-or_true_side false b e = cc
-
 or_no_side : (a b : Bool) → b ≡ false → (a || b) ≡ a
 or_no_side true b e = refl
 or_no_side false b e = e
 
 has_joined : (g p : ℕ) → p < 32 → has_party (joined g p) p ≡ true
-has_joined g p l = has_with g p p l ∙ or_self_true (has_party g p) (nat_eq p p) (elim (eqb_tells p p) [ inl same ↦ same.0 | inr other ↦ absurd (other.1 refl) ])
+has_joined g p l = has_with g p p l ∙ or_right (has_party g p) (nat_eq p p) (elim (eqb_tells p p) [ inl same ↦ same.0 | inr other ↦ absurd (other.1 refl) ])
 
 has_joined_of : (g p q : ℕ) → p < 32 → has_party g q ≡ true → has_party (joined g p) q ≡ true
-has_joined_of g p q l e = has_with g p q l ∙ or_true_side (has_party g q) (nat_eq q p) e
+has_joined_of g p q l e = has_with g p q l ∙ or_left (has_party g q) (nat_eq q p) e
 
 has_joined_other : (g p q : ℕ) → p < 32 → nat_eq q p ≡ false → has_party (joined g p) q ≡ has_party g q
 has_joined_other g p q l ne = has_with g p q l ∙ or_no_side (has_party g q) (nat_eq q p) ne
@@ -56,7 +49,7 @@ joined_within n g h p l w b e = every_from n _ (λ q lq. implies_from (has_party
 joined_larger : (n g p : ℕ) → n ≤ 12 → p < n → has_party g p ≡ false → is_larger n g (joined g p) ≡ true
 joined_larger n g p l b e = and_from _ _
     (every_from n _ (λ q lq. implies_from (has_party g q) (has_party (joined g p) q) (has_joined_of g p q (omega arith))))
-    (not_true _ (false_from _ (λ t.
+    (not_from_false _ (false_from_ne_true _ (λ t.
     let f : has_party g p ≡ true = implies_at (has_party (joined g p) p) (has_party g p) (every_at n (λ q. not (has_party (joined g p) q) || has_party g q) t p b) (has_joined g p (omega arith)) in cc)))
 
 -- a party of h that is not in g
@@ -74,9 +67,9 @@ pub maximal_yes : (n : ℕ) (t : ℕ → Bool) (g : ℕ) → n ≤ 12 → g < 2 
     → ((p : ℕ) → p < n → has_party g p ≡ false → t (joined g p) ≡ false) → is_maximal n t g ≡ true
 maximal_yes n t g l b closed e alone = and_from _ _ e (every_from (2 ^ n) _ (λ h lh.
     implies_from (is_larger n g h) (not (t h)) (λ more.
-    let parts : (within n g h ≡ true) × (not (within n h g) ≡ true) = and_both _ _ more in
-    let found : (p : ℕ) × (p < n) × (has_party h p ≡ true) × (has_party g p ≡ false) = outside n g h (true_not _ parts.1) in
-    not_true (t h) (false_from (t h) (λ th.
+    let parts : (within n g h ≡ true) × (not (within n h g) ≡ true) = and_parts _ _ more in
+    let found : (p : ℕ) × (p < n) × (has_party h p ≡ true) × (has_party g p ≡ false) = outside n g h (not-true _ parts.1) in
+    not_from_false (t h) (false_from_ne_true (t h) (λ th.
     let one : t (joined g found.0) ≡ true = closed (joined g found.0) h (joined_below n g found.0 l b found.1) lh (joined_within n g h found.0 l parts.0 found.1 found.2) th in
     let none : t (joined g found.0) ≡ false = alone found.0 found.1 found.3 in
     cc)))))
@@ -85,8 +78,8 @@ pub maximal_no_self : (n : ℕ) (t : ℕ → Bool) (g : ℕ) → t g ≡ false �
 maximal_no_self n t g e = ap (λ b. b && none_larger n t g) e
 
 pub maximal_no_more : (n : ℕ) (t : ℕ → Bool) (g p : ℕ) → n ≤ 12 → g < 2 ^ n → p < n → has_party g p ≡ false → t (joined g p) ≡ true → is_maximal n t g ≡ false
-maximal_no_more n t g p l b lp e f = false_from _ (λ yes_all.
-    let parts : (t g ≡ true) × (none_larger n t g ≡ true) = and_both (t g) (none_larger n t g) yes_all in
+maximal_no_more n t g p l b lp e f = false_from_ne_true _ (λ yes_all.
+    let parts : (t g ≡ true) × (none_larger n t g ≡ true) = and_parts (t g) (none_larger n t g) yes_all in
     let at : (not (is_larger n g (joined g p)) || not (t (joined g p))) ≡ true = every_at (2 ^ n) (λ h. not (is_larger n g h) || not (t h)) parts.1 (joined g p) (joined_below n g p l b lp) in
-    let none : t (joined g p) ≡ false = true_not _ (implies_at (is_larger n g (joined g p)) _ at (joined_larger n g p l lp e)) in
+    let none : t (joined g p) ≡ false = not-true _ (implies_at (is_larger n g (joined g p)) _ at (joined_larger n g p l lp e)) in
     cc)

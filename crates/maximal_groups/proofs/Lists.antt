@@ -1,29 +1,18 @@
 -- Families that a list of groups tells, and families that say the same.
-use Rattle.std.proofs.Common.{◌≡◌, ◌≢◌, ℕ, zero, suc, ◌-◌, ◌^◌, ◌<◌, ◌⊎◌, inl, inr, Bool, true, false, not, ◌&&◌, ◌||◌, List, [], ◌∷◌, ◌++◌, length, map, refl, sym, ◌∙◌, ap, ap₂, arith, cond, nat_eq, eq-eqb, ne_eqb}
+use Rattle.std.proofs.Common.{◌≡◌, ◌≢◌, ℕ, zero, suc, ◌-◌, ◌^◌, ◌<◌, inl, inr, Bool, true, false, not, ◌&&◌, ◌||◌, List, [], ◌∷◌, ◌++◌, length, map, refl, sym, ◌∙◌, ap, ap₂, arith, cond, nat_eq, eq-eqb, ne_eqb}
 use Rattle.std.specs.Prelude.{slice_index, filter}
 use Rattle.std.specs.List.{list_any, range_with_len}
 use Rattle.std.proofs.lemmas.Nat.{pow_pos}
 use Rattle.std.proofs.lemmas.Nat.Bits.{bit_at_ones}
 use Rattle.std.proofs.lemmas.Bool.Decides.{eqb_tells}
 use Rattle.std.proofs.lemmas.List.Folds.{list_any_at}
+use Rattle.std.proofs.lemmas.Bool.{and_parts, and_from, not-true, false_from_ne_true, or_cases, or_left, or_right}
 use Rattle.party_set.specs.Parties.{Structure, Members, has_party, within, every_below}
-use Rattle.party_set.proofs.Every.{and_both, and_from, implies_from, false_from, true_not, every_from, every_at, implies_at}
+use Rattle.party_set.proofs.Every.{implies_from, every_from, every_at, implies_at}
 use Rattle.maximal_groups.specs.Families.{is_tolerated_by, is_larger, is_maximal, maximal_structure, IsFamily, IsCoveredBy, LiesWithin}
 use Rattle.maximal_groups.proofs.FoundGroups.{within_both, within_le, some_maximal, tells}
 use Rattle.maximal_groups.proofs.Largest.{none_larger}
 use Rattle.maximal_groups.proofs.NumberFilters.{filter_suc}
-
-or_cases : (a b : Bool) → (a || b) ≡ true → (a ≡ true) ⊎ (b ≡ true)
-or_cases true b e = inl refl
-or_cases false b e = inr e
-
-or_first : (a b : Bool) → a ≡ true → (a || b) ≡ true
-or_first true b e = refl
-or_first false b e = cc
-
-or_second : (a b : Bool) → b ≡ true → (a || b) ≡ true
-or_second true b e = refl
-or_second false b e = e
 
 find_any : (p : ℕ → Bool) (xs : List ℕ) → list_any p xs ≡ true → (i : ℕ) × (i < length xs) × (p (slice_index xs i) ≡ true)
 find_any p [] e = cc
@@ -44,10 +33,10 @@ any_mask p (g ∷ groups) = ap (λ b. p g.mask || b) (any_mask p groups)
 -- ---- what a list tolerates
 
 by_none : (n a : ℕ) (groups : List ℕ) → a ≡ 0 → is_tolerated_by n groups a ≡ true
-by_none n a groups e = or_first (nat_eq a 0) (list_any (within n a) groups) (eq-eqb a 0 e)
+by_none n a groups e = or_left (nat_eq a 0) (list_any (within n a) groups) (eq-eqb a 0 e)
 
 by_group : (n a : ℕ) (groups : List ℕ) (i : ℕ) → i < length groups → within n a (slice_index groups i) ≡ true → is_tolerated_by n groups a ≡ true
-by_group n a groups i l e = or_second (nat_eq a 0) (list_any (within n a) groups) (list_any_at (within n a) groups i 0 l e)
+by_group n a groups i l e = or_right (nat_eq a 0) (list_any (within n a) groups) (list_any_at (within n a) groups i 0 l e)
 
 -- a group that has a member is tolerated where it lies within a listed group
 pub by_masks : (s : Structure) (n : ℕ) (g : Members) (read groups : List Members) (r : Bool) → record { parties = n; groups = map (λ (m : Members). m.mask) groups } ≡ s → read ≡ groups
@@ -133,19 +122,19 @@ within_all n a = every_from n _ (λ p lp. implies_from (has_party a p) (has_part
 
 all_maximal : (n : ℕ) (t : ℕ → Bool) → t (2 ^ n - 1) ≡ true → is_maximal n t (2 ^ n - 1) ≡ true
 all_maximal n t e = and_from (t (2 ^ n - 1)) (none_larger n t (2 ^ n - 1)) e (every_from (2 ^ n) _ (λ b _. implies_from (is_larger n (2 ^ n - 1) b) (not (t b)) (λ more.
-    let both : (within n (2 ^ n - 1) b ≡ true) × (not (within n b (2 ^ n - 1)) ≡ true) = and_both _ _ more in
-    let outside : within n b (2 ^ n - 1) ≡ false = true_not _ both.1 in
+    let both : (within n (2 ^ n - 1) b ≡ true) × (not (within n b (2 ^ n - 1)) ≡ true) = and_parts _ _ more in
+    let outside : within n b (2 ^ n - 1) ≡ false = not-true _ both.1 in
     let inside : within n b (2 ^ n - 1) ≡ true = within_all n b in
     cc)))
 
 no_other : (n : ℕ) (t : ℕ → Bool) → t (2 ^ n - 1) ≡ true → (a : ℕ) → a < 2 ^ n - 1 → is_maximal n t a ≡ false
-no_other n t e a la = false_from _ (λ top.
+no_other n t e a la = false_from_ne_true _ (λ top.
     let positive : 0 < 2 ^ n = pow_pos n in
-    let both : (t a ≡ true) × (none_larger n t a ≡ true) = and_both (t a) (none_larger n t a) top in
+    let both : (t a ≡ true) × (none_larger n t a ≡ true) = and_parts (t a) (none_larger n t a) top in
     let at : (not (is_larger n a (2 ^ n - 1)) || not (t (2 ^ n - 1))) ≡ true = every_at (2 ^ n) (λ b. not (is_larger n a b) || not (t b)) both.1 (2 ^ n - 1) (omega arith) in
-    let apart : within n (2 ^ n - 1) a ≡ false = false_from _ (λ w. omega (arith, within_le n (2 ^ n - 1) a (omega arith) (omega arith) w)) in
+    let apart : within n (2 ^ n - 1) a ≡ false = false_from_ne_true _ (λ w. omega (arith, within_le n (2 ^ n - 1) a (omega arith) (omega arith) w)) in
     let larger : is_larger n a (2 ^ n - 1) ≡ true = and_from _ _ (within_all n a) (ap not apart) in
-    let none : t (2 ^ n - 1) ≡ false = true_not _ (implies_at (is_larger n a (2 ^ n - 1)) (not (t (2 ^ n - 1))) at larger) in
+    let none : t (2 ^ n - 1) ≡ false = not-true _ (implies_at (is_larger n a (2 ^ n - 1)) (not (t (2 ^ n - 1))) at larger) in
     cc)
 
 filter_none : (p : ℕ → Bool) (n : ℕ) → ((k : ℕ) → k < n → p k ≡ false) → filter p (range_with_len 0 n) ≡ []

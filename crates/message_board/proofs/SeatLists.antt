@@ -1,5 +1,5 @@
 -- Lists of seats, and a board at its start and its end.
-use Rattle.std.proofs.Common.{◌≡◌, ◌⊎◌, ℕ, zero, suc, ◌+◌, ◌<◌, ◌≤◌, List, [], ◌∷◌, ◌++◌, length, map, reverse, append_assoc, take, drop, replicate, Option, Some, None, sym, refl, ap, ◌∙◌, subst, inl, inr, ⊎_elim, arith}
+use Rattle.std.proofs.Common.{◌≡◌, ◌⊎◌, ℕ, zero, suc, ◌+◌, ◌<◌, ◌≤◌, List, [], ◌∷◌, ◌++◌, length, map, reverse, append_assoc, take, drop, replicate, Option, Some, None, sym, refl, ap, ◌∙◌, subst, inl, inr, ⊎_elim, arith, get_or-take}
 use Rattle.std.specs.Prelude.{slice_index, slice_get}
 use mathlib.Core.Option.{some, some-injective, some-ne-none}
 use lib.ListN.{get_elem?}
@@ -143,12 +143,6 @@ take_length zero ns h = refl
 take_length (suc c) [] h = absurd (omega arith)
 take_length (suc c) (n ∷ ns) h = ap suc (take_length c ns (omega arith))
 
-take_at : (c : ℕ) (ns : List ℕ) (k : ℕ) → k < c → slice_index (take c ns) k ≡ slice_index ns k
-take_at zero ns k h = absurd (omega arith)
-take_at (suc c) [] k h = refl
-take_at (suc c) (n ∷ ns) zero h = refl
-take_at (suc c) (n ∷ ns) (suc k) h = take_at c ns k (omega arith)
-
 drop_length : (c : ℕ) (ns : List ℕ) → c ≤ length ns → length (drop c ns) + c ≡ length ns
 drop_length zero ns h = omega arith
 drop_length (suc c) [] h = absurd (omega arith)
@@ -170,7 +164,7 @@ cells_at count (n ∷ ns) k a h =
     let t = take_length count ns (omega arith) in
     let d = drop_length count ns (omega arith) in
     let full : slice_index (drop count ns) k ≡ slice_index (n ∷ ns) (count + k + 1) = drop_at count ns k (count + k) refl ∙ ap (slice_index (n ∷ ns)) (let q : suc (count + k) ≡ count + k + 1 = omega arith in q) in
-    let value : slice_index (take count ns) k ≡ slice_index (n ∷ ns) (k + 1) = take_at count ns k a ∙ ap (slice_index (n ∷ ns)) (let q : suc k ≡ k + 1 = omega arith in q) in
+    let value : slice_index (take count ns) k ≡ slice_index (n ∷ ns) (k + 1) = get_or-take count ns k 0 a ∙ ap (slice_index (n ∷ ns)) (let q : suc k ≡ k + 1 = omega arith in q) in
     from_at (take count ns) (drop count ns) k (omega arith) (omega arith) ∙ (λ i. word_as (full i) (value i))
 
 module _ {W T : Type 0} (list : W → List ℕ) (good : W → T → ℕ → Type 0) (posted : W → T → List (ℕ × ℕ)) (about : About W) where

@@ -1,6 +1,6 @@
 -- How the sessions, and the parties' files, are read one after another.
-use Rattle.std.proofs.Common.{◌≡◌, ℕ, ◌<◌, ◌≤◌, ◌+◌, List, [], ◌∷◌, ◌++◌, length, drop, map, get_or, Result, Ok, Err, Vec, zero, suc, inl, inr, refl, sym, ap, ◌∙◌, subst}
-use Rattle.std.specs.Prelude.{IsErrAnd, Some, ◌⊎◌, slice_get}
+use Rattle.std.proofs.Common.{◌≡◌, ℕ, ◌<◌, ◌≤◌, ◌+◌, List, [], ◌∷◌, ◌++◌, length, drop, map, get_or, Result, Ok, Err, Vec, suc, refl, sym, ap, ◌∙◌, subst}
+use Rattle.std.specs.Prelude.{IsErrAnd}
 use Rattle.job_run.specs.Parties.{AllFit}
 use Rattle.std.specs.declared.alloc.Global.{Global}
 use Rattle.outer_io.specs.Files.{FilesReading}
@@ -9,7 +9,7 @@ use Rattle.job_file.specs.Forms.{JobForm, SessionForm}
 use Rattle.job_file.specs.Jobs.{session_view}
 use Rattle.job_file.specs.declared.job.JobSession.{JobSession}
 use Rattle.party_file.specs.Table.{PartyForm}
-use Rattle.party_file.specs.Forms.{form_of, FitsPlan}
+use Rattle.party_file.specs.Forms.{form_of}
 use Rattle.party_file.specs.declared.data.PartyData.{PartyData}
 use Rattle.mpc_top.specs.declared.stop.Stop.{Stop}
 use Rattle.mpc_top.specs.JobOf.{SessionAt, SessionsAfter, PartyAt, PartiesAfter}
@@ -89,21 +89,6 @@ same_names [] = refl
 same_names (name ∷ names) = ap (λ ns. name ∷ ns) (same_names names)
 
 -- ---- what the parties fit
-
-got_push : {A : Type 0} (xs : List A) (y h : A) (k : ℕ) → slice_get (xs ++ y ∷ []) k ≡ Some h → (slice_get xs k ≡ Some h) ⊎ ((k ≡ length xs) × (y ≡ h))
-got_push [] y h zero e = let same : y ≡ h = cc in inr (refl, same)
-got_push [] y h (suc k) e = cc
-got_push (x ∷ xs) y h zero e = inl e
-got_push (x ∷ xs) y h (suc k) e = elim (got_push xs y h k e) [
-  | inl is ↦ inl is
-  | inr last ↦ inr (ap suc last.0, last.1)
-]
-
-pub fit_push : (plan : Plan) (parties parties' : List PartyData) (p : ℕ) (party : PartyData) → parties' ≡ parties ++ party ∷ [] → length parties ≡ p → AllFit plan parties → FitsPlan plan p (form_of party) → AllFit plan parties'
-fit_push plan parties parties' p party is count fit fits = subst (AllFit plan) (sym is) (λ k h e. elim (got_push parties party h k e) [
-  | inl old ↦ fit k h old
-  | inr last ↦ subst (λ n. FitsPlan plan n (form_of h)) (sym (last.0 ∙ count)) (subst (λ x. FitsPlan plan p (form_of x)) last.1 fits)
-])
 
 pub parties_push : (parties parties' : List PartyData) (party : PartyData) → parties' ≡ parties ++ party ∷ [] → map form_of parties' ≡ map form_of parties ++ form_of party ∷ []
 parties_push parties parties' party is = ap (map form_of) is ∙ mapped parties where

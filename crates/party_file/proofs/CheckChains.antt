@@ -1,38 +1,33 @@
 -- The first fault of checks that follow each other.
 use Rattle.std.proofs.Common.{◌≡◌, ℕ, zero, suc, ◌+◌, ◌<◌, Bool, true, false, List, [], ◌∷◌, ◌++◌, Option, Some, None, Result, Ok, Err, refl, sym, ◌∙◌, ap, subst, arith, inl, inr}
-use Rattle.std.specs.Prelude.{if◌then◌else◌, ◌⊎◌, IfErr}
+use Rattle.std.specs.Prelude.{◌⊎◌, IfErr}
 use Rattle.std.specs.Result.{IsErrAnd}
 use Rattle.std.proofs.lemmas.Bool.{cases_eq}
 use Rattle.list_laws.specs.Lists.{joined}
-use Rattle.party_file.specs.Checks.{Check, ◌answers◌, first_fault, or_fault}
+use Rattle.list_laws.specs.Checks.{◌answers◌, first_fault, or_fault}
 use Rattle.party_file.specs.declared.fault.PartyFault.{PartyFault}
 use Rattle.party_file.specs.declared.fault.PartyFault.TheVariants.{Memory}
 
-after_one : (failed : Bool) (fault : PartyFault) (a b : Option PartyFault) (o : Option PartyFault) → (a ≡ None → b ≡ o) → (if failed then Some fault else a) ≡ None → (if failed then Some fault else b) ≡ o
-after_one true fault a b o k e = cc
-after_one false fault a b o k e = k e
-
 -- checks after others that passed
-pub first-after : (a b : List Check) → first_fault a ≡ None → first_fault (a ++ b) ≡ first_fault b
+pub first-after : (a b : List (Option PartyFault)) → first_fault a ≡ None → first_fault (a ++ b) ≡ first_fault b
 first-after [] b e = refl
-first-after (c ∷ cs) b e = after_one c.failed c.fault (first_fault cs) (first_fault (cs ++ b)) (first_fault b) (λ k. first-after cs b k) e
+first-after (None ∷ cs) b e = first-after cs b e
+first-after (Some fault ∷ cs) b e = cc
 
-pub after_passed : (a b : List Check) (o : Option PartyFault) → first_fault a ≡ None → first_fault b ≡ o → first_fault (a ++ b) ≡ o
+pub after_passed : (a b : List (Option PartyFault)) (o : Option PartyFault) → first_fault a ≡ None → first_fault b ≡ o → first_fault (a ++ b) ≡ o
 after_passed a b o e h = first-after a b e ∙ h
 
-front_one : (failed : Bool) (at fault : PartyFault) (a b : Option PartyFault) → (a ≡ Some fault → b ≡ Some fault) → (if failed then Some at else a) ≡ Some fault → (if failed then Some at else b) ≡ Some fault
-front_one true at fault a b k e = e
-front_one false at fault a b k e = k e
-
 -- checks of which the front has a fault
-pub first-front : (a b : List Check) (fault : PartyFault) → first_fault a ≡ Some fault → first_fault (a ++ b) ≡ Some fault
+pub first-front : (a b : List (Option PartyFault)) (fault : PartyFault) → first_fault a ≡ Some fault → first_fault (a ++ b) ≡ Some fault
 first-front [] b fault e = cc
-first-front (c ∷ cs) b fault e = front_one c.failed c.fault fault (first_fault cs) (first_fault (cs ++ b)) (λ k. first-front cs b fault k) e
+first-front (None ∷ cs) b fault e = first-front cs b fault e
+first-front (Some at ∷ cs) b fault e = e
 
 -- checks that all passed, of which these are the front, and the back
-pub passed-front : (a b : List Check) → first_fault (a ++ b) ≡ None → first_fault a ≡ None
+pub passed-front : (a b : List (Option PartyFault)) → first_fault (a ++ b) ≡ None → first_fault a ≡ None
 passed-front [] b e = refl
-passed-front (c ∷ cs) b e = after_one c.failed c.fault (first_fault (cs ++ b)) (first_fault cs) None (λ k. passed-front cs b k) e
+passed-front (None ∷ cs) b e = passed-front cs b e
+passed-front (Some fault ∷ cs) b e = cc
 
 pub passed-three : (a b c : Bool) (f g h : PartyFault) → first_fault ((a answers f) ∷ (b answers g) ∷ (c answers h) ∷ []) ≡ None → (a ≡ false) × (b ≡ false) × (c ≡ false)
 passed-three true b c f g h e = cc
@@ -40,19 +35,27 @@ passed-three false true c f g h e = cc
 passed-three false false true f g h e = cc
 passed-three false false false f g h e = (refl, refl, refl)
 
-pub passed-back : (a b : List Check) → first_fault (a ++ b) ≡ None → first_fault b ≡ None
+pub passed-back : (a b : List (Option PartyFault)) → first_fault (a ++ b) ≡ None → first_fault b ≡ None
 passed-back a b e = sym (first-after a b (passed-front a b e)) ∙ e
 
-pub passed-checks : (a b c : Check) → first_fault (a ∷ b ∷ c ∷ []) ≡ None → (a.failed ≡ false) × (b.failed ≡ false) × (c.failed ≡ false)
-passed-checks a b c e = passed-three a.failed b.failed c.failed a.fault b.fault c.fault e
+-- a check that passed
+pub not_failed : (failed : Bool) (fault : PartyFault) → (failed answers fault) ≡ None → failed ≡ false
+not_failed false fault e = refl
+not_failed true fault e = cc
 
-pub joined_more-passed : (n : ℕ) (f : ℕ → List Check) → first_fault (joined n f) ≡ None → first_fault (f n) ≡ None → first_fault (joined (n + 1) f) ≡ None
+pub passed-checks : (a b c : Option PartyFault) → first_fault (a ∷ b ∷ c ∷ []) ≡ None → (a ≡ None) × (b ≡ None) × (c ≡ None)
+passed-checks None None None e = (refl, refl, refl)
+passed-checks None None (Some fault) e = cc
+passed-checks None (Some fault) c e = cc
+passed-checks (Some fault) b c e = cc
+
+pub joined_more-passed : (n : ℕ) (f : ℕ → List (Option PartyFault)) → first_fault (joined n f) ≡ None → first_fault (f n) ≡ None → first_fault (joined (n + 1) f) ≡ None
 joined_more-passed n f before here =
     let more : n + 1 ≡ suc n = omega arith in
     ap (λ k. first_fault (joined k f)) more ∙ first-after (joined n f) (f n) before ∙ here
 
 -- the first fault of lists of checks is that of the first list that has one
-pub joined-stops : (n k : ℕ) (f : ℕ → List Check) (fault : PartyFault) → k < n → first_fault (joined k f) ≡ None → first_fault (f k) ≡ Some fault → first_fault (joined n f) ≡ Some fault
+pub joined-stops : (n k : ℕ) (f : ℕ → List (Option PartyFault)) (fault : PartyFault) → k < n → first_fault (joined k f) ≡ None → first_fault (f k) ≡ Some fault → first_fault (joined n f) ≡ Some fault
 joined-stops zero k f fault l before here = absurd (omega arith)
 joined-stops (suc n) k f fault l before here = elim (cases_eq k n) [
   | inl e ↦
@@ -61,7 +64,7 @@ joined-stops (suc n) k f fault l before here = elim (cases_eq k n) [
   | inr ne ↦ first-front (joined n f) (f n) fault (joined-stops n k f fault (omega arith) before here)
 ]
 
-pub joined-passed : (n k : ℕ) (f : ℕ → List Check) → k < n → first_fault (joined n f) ≡ None → first_fault (f k) ≡ None
+pub joined-passed : (n k : ℕ) (f : ℕ → List (Option PartyFault)) → k < n → first_fault (joined n f) ≡ None → first_fault (f k) ≡ None
 joined-passed zero k f l e = absurd (omega arith)
 joined-passed (suc n) k f l e = elim (cases_eq k n) [
   | inl same ↦ ap (λ j. first_fault (f j)) same ∙ passed-back (joined n f) (f n) e

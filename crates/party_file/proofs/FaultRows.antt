@@ -1,7 +1,7 @@
 -- Where a fault stands among all checks of a party's file.
-use Rattle.std.proofs.Common.{◌≡◌, ℕ, Bool, true, false, not, List, length, map, Option, None, Some, Ok, Err, refl, sym, ◌∙◌, ap, inl, inr}
+use Rattle.std.proofs.Common.{◌≡◌, ℕ, Bool, true, not, List, length, map, Option, None, Some, Ok, Err, sym, ◌∙◌, ap, inl, inr}
 use Rattle.std.specs.Prelude.{codes, ◌⊎◌, sum, ◌==◌, ◌&&◌, ◌||◌, if◌then◌else◌, ◌^◌}
-use Rattle.std.proofs.lemmas.Bool.{eqb-true}
+use Rattle.std.proofs.lemmas.Bool.{eqb-true, not-false}
 use Rattle.std.proofs.lemmas.List.{length-map}
 use Rattle.toml.specs.Data.{Data, Members}
 use Rattle.toml_fields.specs.Fields.{has_field, text_of, text_at, texts_at, items_at}
@@ -10,7 +10,7 @@ use Rattle.list_laws.specs.Lists.{listed}
 use Rattle.tape_words.specs.Cuts.{cut}
 use Rattle.tape_words.specs.Seeds.{seed_word}
 use Rattle.toml_fields.specs.Documents.{document_of}
-use Rattle.party_file.specs.Checks.{first_fault, or_fault}
+use Rattle.list_laws.specs.Checks.{first_fault, or_fault}
 use Rattle.party_file.specs.Table.{version_checks, name_checks, kind_checks, count_checks, input_checks, random_checks, seed_checks, seed_in, tape_checks, word_counts, party_checks, party_of, party_in, party_in_fields, PartyForm, numbers_in, tapes_of}
 use Rattle.party_file.specs.declared.field.Field.TheVariants as field
 use Rattle.party_file.specs.declared.fault.PartyFault.{PartyFault}
@@ -21,13 +21,9 @@ pub texts_at-items : (key : List ℕ) (fields : Members) (items : List Data) →
 unfolding texts_at
 texts_at-items key fields items e = ap (map text_of) e
 
-pub not_false : (b : Bool) → not b ≡ false → b ≡ true
-not_false true e = refl
-not_false false e = cc
-
 pub counted : (n : ℕ) (fields : Members) → first_fault (count_checks n fields) ≡ None → length (texts_at (codes "inputs") fields) ≡ n
 unfolding count_checks
-counted n fields e = eqb-true _ _ (not_false (length (texts_at (codes "inputs") fields) == n) (passed-three (has_field (codes "tape") fields && has_field (codes "seed") fields) (not (has_field (codes "tape") fields || has_field (codes "seed") fields))
+counted n fields e = eqb-true _ _ (not-false (length (texts_at (codes "inputs") fields) == n) (passed-three (has_field (codes "tape") fields && has_field (codes "seed") fields) (not (has_field (codes "tape") fields || has_field (codes "seed") fields))
     (not (length (texts_at (codes "inputs") fields) == n)) TapeAndSeed (Missing field.Tape) (CountDiffers None n (length (texts_at (codes "inputs") fields))) e).2)
 
 pub counted_items : (n : ℕ) (fields : Members) (items : List Data) → items ≡ items_at (codes "inputs") fields → first_fault (count_checks n fields) ≡ None → length items ≡ n

@@ -1,7 +1,7 @@
 -- What a party's file without a fault gives fits the plan.
 use Rattle.std.proofs.Common.{◌≡◌, ℕ, zero, suc, ◌^◌, ◌<◌, ◌≤◌, Bool, true, false, not, nat_lt, nat_eq, List, [], ◌∷◌, length, map, drop, Option, None, Some, refl, sym, ◌∙◌, ap, subst, arith, inl, inr, length-drop}
 use Rattle.std.specs.Prelude.{codes, All, sum, slice_index, slice_index_or, ◌==◌, if◌then◌else◌}
-use Rattle.std.proofs.lemmas.Bool.{eqb-true, ltb-true, ltb-false, cases_lt}
+use Rattle.std.proofs.lemmas.Bool.{eqb-true, ltb-true, ltb-false, cases_lt, not-false}
 use Rattle.std.proofs.lemmas.List.{get_or-map, length-map, get_or_past, length-take-le}
 use Rattle.std.proofs.lemmas.List.Elements.{All-take, All-drop}
 use Rattle.std.proofs.lemmas.List.Sums.{fails_before_first, sum_by-cons}
@@ -16,12 +16,12 @@ use Rattle.toml_fields.specs.Fields.{has_field, text_at, texts_at}
 use Rattle.job_plan.specs.Plans.{Plan, session, owners, words}
 use Rattle.job_plan.specs.Tallies.{owned}
 use Rattle.job_plan.proofs.TallyLaws.{total_count}
-use Rattle.party_file.specs.Checks.{◌answers◌, first_fault}
+use Rattle.list_laws.specs.Checks.{◌answers◌, first_fault}
 use Rattle.party_file.specs.Table.{version_checks, name_checks, kind_checks, count_checks, session_checks, input_checks, random_checks, tape_checks, seed_checks, seed_in, party_checks, party_of, PartyForm, numbers_in, tapes_of, first_outside, out_of_ring, bad_words, word_counts}
 use Rattle.party_file.specs.declared.fault.PartyFault.TheVariants.{CountDiffers, TapeShort}
 use Rattle.party_file.specs.Forms.{FitsPlan}
-use Rattle.party_file.proofs.CheckChains.{passed-front, passed-back, passed-checks, joined-passed}
-use Rattle.party_file.proofs.FaultRows.{counted, not_false}
+use Rattle.party_file.proofs.CheckChains.{passed-front, passed-back, passed-checks, joined-passed, not_failed}
+use Rattle.party_file.proofs.FaultRows.{counted}
 use Rattle.party_file.proofs.SessionInputs.{checks_of}
 
 -- ---- words of the ring
@@ -31,11 +31,11 @@ InRing bits words = All (λ word. word < 2 ^ bits) words
 
 inside : (q : ℕ) (words : List ℕ) → length words ≤ first_outside q words → All (λ word. word < q) words
 unfolding first_outside
-inside q words long = λ k d l. ltb-true _ _ (not_false _ (fails_before_first (λ word. not (nat_lt word q)) words k d (omega (arith, l, long))))
+inside q words long = λ k d l. ltb-true _ _ (not-false _ (fails_before_first (λ word. not (nat_lt word q)) words k d (omega (arith, l, long))))
 
-all_inside : (bits : ℕ) (session : Option ℕ) (words : List ℕ) → (out_of_ring bits session words).failed ≡ false → InRing bits words
+all_inside : (bits : ℕ) (session : Option ℕ) (words : List ℕ) → out_of_ring bits session words ≡ None → InRing bits words
 unfolding out_of_ring
-all_inside bits session words e = inside (2 ^ bits) words (ltb-false _ _ e)
+all_inside bits session words e = inside (2 ^ bits) words (ltb-false _ _ (not_failed _ _ e))
 
 in_ring-none : (bits : ℕ) → InRing bits []
 in_ring-none bits = λ k d l. absurd (omega arith)
@@ -53,7 +53,7 @@ unfolding session_checks
 session_sound bits wanted s text e =
     let found = numbers_in text in
     let passed = passed-checks (bad_words (Some s) text) (out_of_ring bits (Some s) found) (not (length found == wanted) answers CountDiffers (Some s) wanted (length found)) e in
-    (eqb-true _ _ (not_false (length found == wanted) passed.2), all_inside bits (Some s) found passed.1)
+    (eqb-true _ _ (not-false (length found == wanted) (not_failed _ _ passed.2)), all_inside bits (Some s) found passed.1)
 
 module _ (plan : Plan) (p : ℕ) (texts : List (List ℕ)) (counted : length texts ≡ length plan.sessions) (passed : first_fault (input_checks plan p texts) ≡ None) where
   input_at : (s : ℕ) → s < length plan.sessions → slice_index_or (map numbers_in texts) s [] ≡ numbers_in (slice_index_or texts s [])
@@ -93,7 +93,7 @@ unfolding tape_checks
 tape_sound bits wanted text e =
     let found = numbers_in text in
     let passed = passed-checks (bad_words None text) (out_of_ring bits None found) (nat_lt (length found) wanted answers TapeShort wanted (length found)) e in
-    (ltb-false _ _ passed.2, all_inside bits None found passed.1)
+    (ltb-false _ _ (not_failed _ _ passed.2), all_inside bits None found passed.1)
 
 -- as many pieces as sessions, each of as many words of the ring as are drawn
 record AreTapes (plan : Plan) (p : ℕ) (tapes : List (List ℕ)) : Type 0 where

@@ -1,24 +1,23 @@
 -- The inputs of a party, session by session.
-use Rattle.std.proofs.Common.{◌≡◌, ℕ, ◌+◌, ◌<◌, ◌≤◌, List, [], ◌∷◌, ◌++◌, length, map, take, get_or, None, Some, sym, ◌∙◌, ap, ap₂, arith}
+use Rattle.std.proofs.Common.{◌≡◌, ℕ, ◌+◌, ◌<◌, ◌≤◌, List, [], ◌∷◌, ◌++◌, length, map, take, get_or, None, Some, sym, ◌∙◌, ap, ap₂, arith, Option}
 use Rattle.std.specs.Prelude.{slice_index_or}
 use Rattle.std.specs.Global.{Vec}
 use Rattle.std.proofs.lemmas.List.{map_more, get_or-map, length-map, map-append}
 use Rattle.toml.specs.View.{view}
 use Rattle.toml.specs.declared.value.Value.{Value}
 use Rattle.toml_fields.specs.Fields.{text_of}
-use Rattle.job_plan.specs.Plans.{Session}
+use Rattle.job_plan.specs.Plans.{Session, Plan, session, words}
 use Rattle.std.proofs.Math.Seq.{take-length}
-use Rattle.job_plan.specs.Plans.{Plan, session, words}
 use Rattle.job_plan.specs.Tallies.{owned}
 use Rattle.job_plan.specs.InputWords.{session_words}
 use Rattle.list_laws.specs.Lists.{joined}
 use Rattle.list_laws.proofs.JoinedLists.{length-listed}
-use Rattle.party_file.specs.Checks.{Check, first_fault}
+use Rattle.list_laws.specs.Checks.{first_fault}
 use Rattle.party_file.specs.Table.{session_checks, input_checks, numbers_in, word_counts}
 use Rattle.party_file.specs.declared.fault.PartyFault.{PartyFault}
 use Rattle.party_file.proofs.CheckChains.{joined-stops}
 
-abbrev pub checks_of : Plan → ℕ → List (List ℕ) → ℕ → List Check
+abbrev pub checks_of : Plan → ℕ → List (List ℕ) → ℕ → List (Option PartyFault)
 checks_of plan p texts s = session_checks plan.bits (owned (session plan s) p) s (slice_index_or texts s [])
 
 pub inputs-stop : (plan : Plan) (p : ℕ) (texts : List (List ℕ)) (s : ℕ) (fault : PartyFault) → s < length plan.sessions → first_fault (joined s (checks_of plan p texts)) ≡ None

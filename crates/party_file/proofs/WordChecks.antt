@@ -9,12 +9,13 @@ use Rattle.hex.specs.declared.error.FromHexError.{FromHexError}
 use Rattle.plain_text.specs.Words.{words_in}
 use Rattle.plain_text.specs.declared.fault.WordsFault.{WordsFault}
 use Rattle.plain_text.specs.declared.fault.WordsFault.TheVariants.{NotNumber, TooLarge, Memory}
-use Rattle.party_file.specs.Checks.{Check, ◌answers◌, first_fault}
+use Rattle.list_laws.specs.Checks.{◌answers◌, first_fault}
 use Rattle.party_file.specs.Table.{bad_words, bad_place, bad_cause, numbers_in, first_outside, out_of_ring, seed_checks, seed_in}
 use Rattle.party_file.specs.declared.fault.WordCause.TheVariants as cause
 use Rattle.party_file.specs.declared.fault.PartyFault.TheVariants.{BadWords, WordOutOfRing, BadSeed}
+use Rattle.party_file.specs.declared.fault.PartyFault.{PartyFault}
 
-abbrev row : Option ℕ → Result (List ℕ) WordsFault → Check
+abbrev row : Option ℕ → Result (List ℕ) WordsFault → Option PartyFault
 row session r = is_err r answers BadWords session (bad_place r) (bad_cause r)
 
 pub bad_words-ok : (session : Option ℕ) (text words : List ℕ) → words_in text ≡ Ok words → (first_fault (bad_words session text ∷ []) ≡ None) × (words ≡ numbers_in text)

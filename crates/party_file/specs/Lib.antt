@@ -1,4 +1,3 @@
 pub mod Faults
-pub mod Checks
 pub mod Table
 pub mod Forms

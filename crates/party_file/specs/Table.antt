@@ -18,7 +18,7 @@ use Rattle.toml_fields.specs.Keys.{least_unknown}
 use Rattle.toml_fields.specs.declared.kind.Kind.TheVariants as kind
 use Rattle.job_plan.specs.Plans.{Plan, session, words}
 use Rattle.job_plan.specs.Tallies.{owned}
-use Rattle.party_file.specs.Checks.{Check, ◌answers◌, first_fault, or_fault}
+use Rattle.list_laws.specs.Checks.{◌answers◌, first_fault, or_fault}
 use Rattle.party_file.specs.declared.field.Field.TheVariants as field
 use Rattle.party_file.specs.declared.fault.WordCause.{WordCause}
 use Rattle.party_file.specs.declared.fault.WordCause.TheVariants as cause
@@ -28,7 +28,7 @@ use Rattle.party_file.specs.declared.fault.PartyFault.TheVariants.{NotToml, Vers
 -- ---- the fields
 
 -- the version is there, an integer, and 1
-unfoldable pub version_checks : Members → List Check
+unfoldable pub version_checks : Members → List (Option PartyFault)
 version_checks fields =
     (not (has_field (codes "version") fields) answers Missing field.Version)
     ∷ (is_misfit kind.Integer (codes "version") fields answers WrongKind field.Version)
@@ -40,12 +40,12 @@ abbrev pub field_names : List (List ℕ)
 field_names = codes "version" ∷ codes "inputs" ∷ codes "tape" ∷ codes "seed" ∷ []
 
 -- no field has another name; the least one that has is told
-unfoldable pub name_checks : Members → List Check
+unfoldable pub name_checks : Members → List (Option PartyFault)
 name_checks fields =
     (is_some (least_unknown field_names fields) answers Unknown (unwrap_or (least_unknown field_names fields) [])) ∷ []
 
 -- the inputs are there, and each field is of its kind
-unfoldable pub kind_checks : Members → List Check
+unfoldable pub kind_checks : Members → List (Option PartyFault)
 kind_checks fields =
     (not (has_field (codes "inputs") fields) answers Missing field.Inputs)
     ∷ (is_misfit kind.Texts (codes "inputs") fields answers WrongKind field.Inputs)
@@ -54,7 +54,7 @@ kind_checks fields =
     ∷ []
 
 -- one of tape and seed, and a text of inputs for each of so many sessions
-unfoldable pub count_checks : ℕ → Members → List Check
+unfoldable pub count_checks : ℕ → Members → List (Option PartyFault)
 count_checks sessions fields =
     ((has_field (codes "tape") fields && has_field (codes "seed") fields) answers TapeAndSeed)
     ∷ (not (has_field (codes "tape") fields || has_field (codes "seed") fields) answers Missing field.Tape)
@@ -80,7 +80,7 @@ bad_cause (Err (TooLarge at)) = cause.TooLarge
 bad_cause _ = cause.NotNumber
 
 -- some word of the text is bad
-unfoldable pub bad_words : Option ℕ → List ℕ → Check
+unfoldable pub bad_words : Option ℕ → List ℕ → Option PartyFault
 bad_words session text =
     is_err (words_in text) answers BadWords session (bad_place (words_in text)) (bad_cause (words_in text))
 
@@ -89,7 +89,7 @@ unfoldable pub first_outside : ℕ → List ℕ → ℕ
 first_outside q words = position_or_len (λ word. not (nat_lt word q)) words
 
 -- some word isn't in the ring of so many bits
-unfoldable pub out_of_ring : ℕ → Option ℕ → List ℕ → Check
+unfoldable pub out_of_ring : ℕ → Option ℕ → List ℕ → Option PartyFault
 out_of_ring bits session words =
     nat_lt (first_outside (2 ^ bits) words) (length words) answers WordOutOfRing session
     (first_outside (2 ^ bits) words)
@@ -97,7 +97,7 @@ out_of_ring bits session words =
 -- ---- inputs
 
 -- the inputs of a session in which so many words are wanted
-unfoldable pub session_checks : ℕ → ℕ → ℕ → List ℕ → List Check
+unfoldable pub session_checks : ℕ → ℕ → ℕ → List ℕ → List (Option PartyFault)
 session_checks bits wanted s text =
     bad_words (Some s) text
     ∷ out_of_ring bits (Some s) (numbers_in text)
@@ -105,7 +105,7 @@ session_checks bits wanted s text =
     ∷ []
 
 -- the inputs of party p, session by session
-unfoldable pub input_checks : Plan → ℕ → List (List ℕ) → List Check
+unfoldable pub input_checks : Plan → ℕ → List (List ℕ) → List (Option PartyFault)
 input_checks plan p texts =
     joined (length plan.sessions) (λ s. session_checks plan.bits (owned (session plan s) p) s
     (slice_index_or texts s []))
@@ -117,7 +117,7 @@ unfoldable pub word_counts : Plan → ℕ → List ℕ
 word_counts plan p = listed (length plan.sessions) (words plan p)
 
 -- a tape of which so many words are drawn
-unfoldable pub tape_checks : ℕ → ℕ → List ℕ → List Check
+unfoldable pub tape_checks : ℕ → ℕ → List ℕ → List (Option PartyFault)
 tape_checks bits wanted text =
     bad_words None text
     ∷ out_of_ring bits None (numbers_in text)
@@ -125,7 +125,7 @@ tape_checks bits wanted text =
     ∷ []
 
 -- 64 hexadecimal digits
-unfoldable pub seed_checks : List ℕ → List Check
+unfoldable pub seed_checks : List ℕ → List (Option PartyFault)
 seed_checks text = (is_err (decode_sized text 32) answers BadSeed) ∷ []
 
 -- the bytes of a seed; none, where it is bad
@@ -133,7 +133,7 @@ unfoldable pub seed_in : List ℕ → List ℕ
 seed_in text = result_unwrap_or (decode_sized text 32) []
 
 -- the tape or the seed, whichever stands there
-unfoldable pub random_checks : Plan → ℕ → Members → List Check
+unfoldable pub random_checks : Plan → ℕ → Members → List (Option PartyFault)
 random_checks plan p fields =
     if has_field (codes "seed") fields then seed_checks (text_at (codes "seed") fields)
     else tape_checks plan.bits (sum (word_counts plan p)) (text_at (codes "tape") fields)
@@ -158,7 +158,7 @@ party_of plan p fields =
     record { inputs = map numbers_in (texts_at (codes "inputs") fields); tapes = tapes_of plan p fields }
 
 -- all checks, in order
-unfoldable pub party_checks : Plan → ℕ → Members → List Check
+unfoldable pub party_checks : Plan → ℕ → Members → List (Option PartyFault)
 party_checks plan p fields =
     version_checks fields ++ (name_checks fields ++ (kind_checks fields ++ (count_checks (length plan.sessions) fields
     ++ (input_checks plan p (texts_at (codes "inputs") fields) ++ random_checks plan p fields))))

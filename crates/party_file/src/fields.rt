@@ -1,7 +1,7 @@
 //! The checks of the fields of a party's file.
 ghost use Rattle.std.specs.Prelude.{◌≡◌, ◌⊎◌, Some, None, Ok, Err, IfErr, OnOk, if◌then◌else◌};
 ghost use Rattle.toml.specs.View.{table_view};
-ghost use Rattle.party_file.specs.Checks.{first_fault, or_fault};
+ghost use Rattle.list_laws.specs.Checks.{first_fault, or_fault};
 ghost use Rattle.party_file.specs.Table.{version_checks, name_checks, kind_checks, count_checks};
 ghost use Rattle.party_file.specs.declared.fault.PartyFault.TheVariants.{Memory};
 

@@ -3,7 +3,7 @@ ghost use Rattle.std.specs.Prelude.{◌≡◌, ◌⊎◌, ◌<◌, ◌≤◌, []
 ghost use Rattle.toml.specs.View.{view};
 ghost use Rattle.toml_fields.specs.Fields.{text_of};
 ghost use Rattle.job_plan.specs.InputWords.{session_words};
-ghost use Rattle.party_file.specs.Checks.{first_fault};
+ghost use Rattle.list_laws.specs.Checks.{first_fault};
 ghost use Rattle.party_file.specs.Table.{numbers_in, session_checks, input_checks};
 ghost use Rattle.party_file.specs.declared.fault.PartyFault.TheVariants.{Memory};
 

@@ -1,6 +1,6 @@
 //! Words of inputs and of tapes.
 ghost use Rattle.std.specs.Prelude.{◌≡◌, ◌⊎◌, ◌^◌, [], ◌∷◌, Some, None, IfOk, IfErr};
-ghost use Rattle.party_file.specs.Checks.{first_fault, or_fault};
+ghost use Rattle.list_laws.specs.Checks.{first_fault, or_fault};
 ghost use Rattle.party_file.specs.Table.{numbers_in, bad_words, first_outside, out_of_ring};
 ghost use Rattle.party_file.specs.declared.fault.PartyFault.TheVariants.{Memory};
 

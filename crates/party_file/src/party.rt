@@ -1,7 +1,7 @@
 //! The file of a party.
 ghost use Rattle.std.specs.Prelude.{◌≡◌, ◌⊎◌, ◌<◌, Some, None, Ok, Err, IfOk, IfErr};
 ghost use Rattle.toml.specs.View.{table_view};
-ghost use Rattle.party_file.specs.Checks.{first_fault};
+ghost use Rattle.list_laws.specs.Checks.{first_fault};
 ghost use Rattle.party_file.specs.Table.{party_checks, party_of, party_in};
 ghost use Rattle.party_file.specs.Forms.{form_of, FitsPlan};
 ghost use Rattle.party_file.specs.declared.fault.PartyFault.TheVariants.{Memory};

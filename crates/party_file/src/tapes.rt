@@ -6,7 +6,7 @@ ghost use Rattle.tape_words.specs.declared.tape.TapeFault.TheVariants.{WordOutOf
 ghost use Rattle.tape_words.specs.Seeds.{seed_word};
 ghost use Rattle.toml.specs.View.{table_view};
 ghost use Rattle.job_plan.specs.Plans.{words};
-ghost use Rattle.party_file.specs.Checks.{first_fault};
+ghost use Rattle.list_laws.specs.Checks.{first_fault};
 ghost use Rattle.party_file.specs.Table.{numbers_in, out_of_ring, word_counts, tape_checks, seed_checks, seed_in, random_checks, tapes_of};
 ghost use Rattle.party_file.specs.declared.fault.PartyFault.TheVariants.{Memory};
 

@@ -1,17 +1,8 @@
 -- Tests of every number below a bound.
 use Rattle.std.proofs.Common.{◌≡◌, ℕ, zero, suc, ◌<◌, ◌⊎◌, inl, inr, Bool, true, false, not, ◌&&◌, ◌||◌, refl, ◌∙◌, ap, arith}
 use Rattle.std.proofs.lemmas.Bool.Decides.{eqb_tells}
+use Rattle.std.proofs.lemmas.Bool.{and_parts, and_from}
 use Rattle.party_set.specs.Parties.{every_below}
-
-pub and_both : (a b : Bool) → (a && b) ≡ true → (a ≡ true) × (b ≡ true)
-and_both true true e = (refl, refl)
-and_both true false e = cc
-and_both false b e = cc
-
-pub and_from : (a b : Bool) → a ≡ true → b ≡ true → (a && b) ≡ true
-and_from true true e f = refl
-and_from true false e f = cc
-and_from false b e f = cc
 
 pub and_not : (a b : Bool) → (a && b) ≡ false → (a ≡ false) ⊎ ((a ≡ true) × (b ≡ false))
 and_not true true e = cc
@@ -32,22 +23,6 @@ implies_not true false e = (refl, refl)
 implies_not true true e = cc
 implies_not false b e = cc
 
-pub or_not : (a b : Bool) → (a || b) ≡ false → (a ≡ false) × (b ≡ false)
-or_not true b e = cc
-or_not false b e = (refl, e)
-
-pub not_true : (b : Bool) → b ≡ false → not b ≡ true
-not_true false e = refl
-not_true true e = cc
-
-pub true_not : (b : Bool) → not b ≡ true → b ≡ false
-true_not false e = refl
-true_not true e = cc
-
-pub false_from : (b : Bool) → (b ≡ true → ⊥) → b ≡ false
-false_from false f = refl
-false_from true f = absurd (f refl)
-
 pub every_from : (n : ℕ) (test : ℕ → Bool) → ((k : ℕ) → k < n → test k ≡ true) → every_below n test ≡ true
 every_from zero test h = refl
 every_from (suc n) test h = and_from _ _ (every_from n test (λ k l. h k (omega arith))) (h n (omega arith))
@@ -55,7 +30,7 @@ every_from (suc n) test h = and_from _ _ (every_from n test (λ k l. h k (omega 
 pub every_at : (n : ℕ) (test : ℕ → Bool) → every_below n test ≡ true → (k : ℕ) → k < n → test k ≡ true
 every_at zero test e k l = absurd (omega arith)
 every_at (suc n) test e k l =
-    let both : (every_below n test ≡ true) × (test n ≡ true) = and_both _ _ e in
+    let both : (every_below n test ≡ true) × (test n ≡ true) = and_parts _ _ e in
     elim (eqb_tells k n) [ inl same ↦ ap test same.1 ∙ both.1 | inr other ↦ every_at n test both.0 k (omega (arith, other.1)) ]
 
 -- a number that fails

@@ -7,8 +7,10 @@ use Rattle.std.proofs.lemmas.Nat.{or_lt, pow_pos}
 use Rattle.std.proofs.lemmas.Bool.Decides.{eqb_tells}
 use Rattle.std.proofs.Math.Pow.{pow-lt, pow_mono}
 use Rattle.std.proofs.Math.Nat.{mod-eq_of_lt}
+use Rattle.std.proofs.lemmas.Bool.{false_from_ne_true}
+use Rattle.list_laws.proofs.Tests.{or_true, or_false}
 use Rattle.party_set.specs.Parties.{has_party, within, is_all, IsLeastOutside}
-use Rattle.party_set.proofs.Every.{every_from, every_at, false_from}
+use Rattle.party_set.proofs.Every.{every_from, every_at}
 
 -- `1 << n`
 pub power_is : (n : ℕ) → n ≤ 12 → 1 * 2 ^ n % 2 ^ 32 ≡ 2 ^ n
@@ -35,14 +37,6 @@ absorbed false b e = refl
 pub has_union : (a b p : ℕ) → has_party (bit_or a b) p ≡ (has_party a p || has_party b p)
 has_union a b p = ap (λ bit. nat_eq bit 1) (bit_at_or a b p) ∙ one_of (bit_at a p) (bit_at b p) (bit_at-lt a p) (bit_at-lt b p)
 
-or_true : (a : Bool) → (a || true) ≡ true
-or_true true = refl
-or_true false = refl
-
-or_false : (a : Bool) → (a || false) ≡ a
-or_false true = refl
-or_false false = refl
-
 pub has_with : (a p q : ℕ) → p < 32 → has_party (bit_or a (1 * 2 ^ p % 2 ^ 32)) q ≡ (has_party a q || nat_eq q p)
 has_with a p q l =
     elim (eqb_tells q p) [
@@ -60,7 +54,7 @@ pub within_word : (n a b : ℕ) → a < 2 ^ n → b < 2 ^ n → nat_eq (bit_or a
 within_word n a b la lb =
     elim (eqb_tells (bit_or a b) b) [
       | inl same ↦ same.0 ∙ sym (every_from n _ (λ p _. absorbed (has_party a p) (has_party b p) (sym (has_union a b p) ∙ ap (λ m. has_party m p) same.1)))
-      | inr other ↦ other.0 ∙ sym (false_from (within n a b) (λ yes_all. other.1 (same_from_bits_below n (bit_or a b) b (or_lt n a b la lb) lb
+      | inr other ↦ other.0 ∙ sym (false_from_ne_true (within n a b) (λ yes_all. other.1 (same_from_bits_below n (bit_or a b) b (or_lt n a b la lb) lb
           (λ p lp. bit_at_or a b p ∙ max_is (bit_at a p) (bit_at b p) (bit_at-lt a p) (bit_at-lt b p) (every_at n (λ q. not (has_party a q) || has_party b q) yes_all p lp)))))
     ]
 
@@ -76,7 +70,7 @@ all_word n a l la =
           same.0 ∙ sym (every_from n _ (λ p lp. eq-eqb _ 1 (ap (λ m. bit_at m p) full ∙ bit_at_ones n p lp))))
       | inr other ↦
           (let less : a ≡ 2 ^ n - 1 → ⊥ = λ full. other.1 (omega (arith, power_is n l, full)) in
-          other.0 ∙ sym (false_from (is_all n a) (λ yes_all. less (same_from_bits_below n a (2 ^ n - 1) la (omega arith)
+          other.0 ∙ sym (false_from_ne_true (is_all n a) (λ yes_all. less (same_from_bits_below n a (2 ^ n - 1) la (omega arith)
           (λ p lp. one_is (bit_at a p) (every_at n (has_party a) yes_all p lp) ∙ sym (bit_at_ones n p lp))))))
     ]
 

@@ -5,7 +5,7 @@ use Rattle.std.specs.List.{list_all, list_any}
 use Rattle.std.specs.Cmp.Lexicographic.{nat_list_eq_equiv}
 use Rattle.std.specs.Str.{bytes_eq}
 use Rattle.std.specs.Char.{is_ascii_alphabetic}
-use Rattle.std.proofs.lemmas.Bool.{cases_eq, cases_lt, eq-eqb, lt-ltb, le-ltb, ne_eqb}
+use Rattle.std.proofs.lemmas.Bool.{cases_eq, cases_lt, eq-eqb, lt-ltb, le-ltb, ne_eqb, false_from_ne_true}
 use Rattle.std.proofs.lemmas.List.{get_or_default}
 use Rattle.std.proofs.lemmas.List.Quantifiers.{position-Some}
 use Rattle.std.proofs.lemmas.List.Folds.{list_any_at, list_any_none}
@@ -15,7 +15,6 @@ use Rattle.indexmap.specs.IndexSet.{insert_key}
 use Rattle.party_set.specs.declared.names.NamesFault.{NamesFault}
 use Rattle.party_set.specs.declared.names.NamesFault.TheVariants.{BadName, TwiceNamed, PartyCount}
 use Rattle.party_set.specs.Names.{is_name, is_name_byte, name_at, name_fault, first_of, first_name_fault, names_fault, number_of, AreNames}
-use Rattle.party_set.proofs.Every.{false_from}
 
 all_true : (a b c d e r : Bool) → a ≡ true → b ≡ true → c ≡ true → d ≡ true → r ≡ e → r ≡ (a && (b && (c && (d && e))))
 all_true true true true true e r p q s t h = h
@@ -114,7 +113,7 @@ none_from names is zero l = refl
 none_from names is (suc n) l =
     let apart : list_any (λ other. bytes_eq other (name_at names n)) (take n names) ≡ false =
     list_any_none (λ other. bytes_eq other (name_at names n)) (take n names)
-    (λ k d lk. false_from (bytes_eq (get_or (take n names) k d) (name_at names n)) (λ equal.
+    (λ k d lk. false_from_ne_true (bytes_eq (get_or (take n names) k d) (name_at names n)) (λ equal.
     let lower : k < n = omega (arith, length-take n names) in
     is.different k n lower l
     (get_or_default names k [] d (omega arith) ∙ sym (get_or-take n names k d lower) ∙ (bytes_eq-Decides (get_or (take n names) k d) (name_at names n)).0 equal))) in

@@ -6,16 +6,6 @@ use Rattle.std.proofs.lemmas.List.{get_or_append_left, get_or_push}
 use Rattle.std.proofs.lemmas.List.Sums.{sum_by-append}
 use Rattle.list_laws.specs.Lists.{total, some_below, joined, only_if}
 
-pub joined_more : {A : Type 0} (n : ℕ) (f : ℕ → List A) → joined (n + 1) f ≡ joined n f ++ f n
-joined_more n f = let more : n + 1 ≡ suc n = omega arith in ap (λ k. joined k f) more
-
-pub joined_eq : {A : Type 0} (n : ℕ) (f g : ℕ → List A) → ((i : ℕ) → i < n → f i ≡ g i) → joined n f ≡ joined n g
-joined_eq zero f g h = refl
-joined_eq (suc n) f g h =
-    let front : joined n f ≡ joined n g = joined_eq n f g (λ i l. h i (omega arith)) in
-    let last : f n ≡ g n = h n (omega arith) in
-    ap (λ xs. xs ++ f n) front ∙ ap (λ ys. joined n g ++ ys) last
-
 -- something stands in the list
 abbrev pub is_filled : {A : Type 0} → List A → Bool
 is_filled xs = not (nat_eq (length xs) 0)

@@ -1,19 +1,20 @@
 -- Each pair of summands is one party's duty.
 use Rattle.std.proofs.Common.{◌≡◌, ◌≢◌, ℕ, ◌+◌, ◌*◌, ◌/◌, ◌%◌, ◌<◌, inl, inr, Bool, true, false, not, ◌&&◌, ◌||◌, cond, nat_eq, if◌then◌else◌, Option, Some, None, List, [], ◌∷◌, ◌++◌, length, refl, sym, ◌∙◌, get_or, ap, subst, arith, eq-eqb, ne_eqb, append_assoc, append-nil}
 use Rattle.std.specs.Prelude.{slice_index, MatchOption, IsSome}
-use Rattle.std.proofs.lemmas.Bool.{cond-true, cond-false, cases_eq}
+use Rattle.std.proofs.lemmas.Bool.{cond-true, cond-false, cases_eq, and_parts}
 use Rattle.std.proofs.lemmas.Nat.{div-mul-add, mod-mul-add, mul-add-lt}
 use Rattle.std.proofs.lemmas.List.{get_or_default}
 use Rattle.std.proofs.Math.Pow.{pow-lt}
+use Rattle.list_laws.proofs.JoinedLists.{joined_eq, joined_more}
 use Rattle.list_laws.specs.Lists.{only_if}
 use Rattle.list_laws.proofs.Totals.{total_eq, total_zero, total_pick}
 use Rattle.secret_sharing.specs.Sharing.{has_pair, IsScheme}
 use Rattle.party_set.specs.Parties.{Structure, Members, IsAntichain, IsQ2, IsUnion, IsLeastOutside, has_party, is_all, covers}
-use Rattle.party_set.proofs.Every.{and_both, every_from, every_at, every_not}
+use Rattle.party_set.proofs.Every.{every_from, every_at, every_not}
 use Rattle.share_layout.specs.Layouts.{holds, IsLeastParty}
 use Rattle.share_layout.proofs.Holders.{least_party_is, least_party_of}
 use Rattle.product_duty.specs.Duties.{duty, pairs_in_row, pairs_where, pairs_of, scheme_of, times, EachIsDuty, IsTable}
-use Rattle.product_duty.proofs.JoinedLists.{is_filled, filled_joined, filled_only_if, some_below_eq, count_joined, joined_eq, joined_more}
+use Rattle.product_duty.proofs.JoinedLists.{is_filled, filled_joined, filled_only_if, some_below_eq, count_joined}
 
 outside_both : (a b : Bool) → (a || b) ≡ false → (not a && not b) ≡ true
 outside_both false false e = refl
@@ -151,8 +152,8 @@ scheme bits s l antichain q2 = record {
   modulus = pow-lt {i = 0} {j = bits} l;
   shares = antichain.some_group;
   duty = λ i j li lj. (duty_holds s q2 i j li lj).party;
-  first = λ i j li lj. (and_both (holds s (duty s i j) i) (holds s (duty s i j) j) (duty_holds s q2 i j li lj).passes).0;
-  second = λ i j li lj. (and_both (holds s (duty s i j) i) (holds s (duty s i j) j) (duty_holds s q2 i j li lj).passes).1;
+  first = λ i j li lj. (and_parts (holds s (duty s i j) i) (holds s (duty s i j) j) (duty_holds s q2 i j li lj).passes).0;
+  second = λ i j li lj. (and_parts (holds s (duty s i j) i) (holds s (duty s i j) j) (duty_holds s q2 i j li lj).passes).1;
 }
 
 -- ---- the steps of the loops

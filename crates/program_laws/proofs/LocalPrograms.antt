@@ -1,5 +1,5 @@
 -- A program posts and delivers what its party computes by itself.
-use Rattle.std.proofs.Common.{◌≡◌, ℕ, zero, suc, ◌+◌, ◌-◌, ◌*◌, ◌%◌, ◌<◌, ◌≤◌, ◌≢◌, ◌^◌, Bool, true, false, not, ◌&&◌, nat_eq, nat_lt, if◌then◌else◌, List, [], ◌∷◌, ◌++◌, map, take, drop, length, refl, sym, ap, ap₂, ◌∙◌, subst, arith}
+use Rattle.std.proofs.Common.{◌≡◌, ℕ, suc, ◌+◌, ◌-◌, ◌*◌, ◌%◌, ◌<◌, ◌≤◌, ◌≢◌, ◌^◌, Bool, true, false, not, ◌&&◌, nat_eq, nat_lt, if◌then◌else◌, List, [], ◌∷◌, ◌++◌, map, drop, length, refl, sym, ap, ap₂, ◌∙◌, subst, arith, get_or-take}
 use Rattle.std.specs.Prelude.{slice_index, slice_index_or, Some}
 use Rattle.std.specs.List.{AllByRecursion, filter}
 use Rattle.std.proofs.lemmas.Bool.{cases_eq, cases_lt, cases_Bool, cond-true, cond-false, eq-eqb, ne_eqb, eqb-true, lt-ltb, le-ltb, and_parts, both_ways, not_from_true, not_from_false}
@@ -12,13 +12,12 @@ use Rattle.circuit_model.specs.Circuits.{is_product, set_at}
 use Rattle.circuit_model.specs.declared.gate.Gate.{Gate}
 use Rattle.secret_sharing.proofs.SummandSums.{dealt_eq, dealt_small}
 use Rattle.secret_sharing.specs.Sharing.{Run, dealt, own_product, own_value, has_pair, local, gate_summands, summands}
-use Rattle.job_plan.specs.Plans.{readers, owners, Plan, Session, scheme, session, gate, slot, slots, holds, least_holder, deals_in, words, place, IsPlan}
+use Rattle.job_plan.specs.Plans.{readers, owners, Plan, Session, scheme, session, gate, slot, slots, holds, least_holder, deals_in, words, place, IsPlan, output_wire}
 use Rattle.job_plan.specs.declared.key.Key.{Key}
 use Rattle.party_set.specs.Parties.{has_party}
 use Rattle.job_plan.specs.Messages.{messages, slot_messages, deal_messages, open_messages}
 use Rattle.job_plan.specs.Plans.Slot.{Input, At_gate, Output}
 use Rattle.share_world.specs.Worlds.{World, input_of, tape_word}
-use Rattle.job_plan.specs.Plans.{output_wire}
 use Rattle.share_world.specs.Locals.{local_run, local_word, local_word_in, local_output}
 use Rattle.job_plan.specs.Numbers.{message, deals_before, deals}
 use Rattle.mpc_ring.proofs.Remainders.{same_refl, same_mod, same_trans, mods_of_same}
@@ -85,15 +84,9 @@ module _ (w : World) (h' : IsPlan w.plan) (got : Key → ℕ) (s p : ℕ) (ls : 
       let more : (m - 1) * (deals_before plan p s k + 1) ≤ (m - 1) * deals plan p s = mul-le-mul_left (m - 1) (omega arith) in
       let inside : deals_before plan p s k * (m - 1) + j < words plan p s = omega arith in
       let at : place plan p s 0 + (deals_before plan p s k * (m - 1) + j) ≡ place plan p s k + j = omega arith in
-      taken (words plan p s) (drop (place plan p s 0) (slice_index_or w.tapes p [])) (deals_before plan p s k * (m - 1) + j) inside
+      get_or-take (words plan p s) (drop (place plan p s 0) (slice_index_or w.tapes p [])) (deals_before plan p s k * (m - 1) + j) 0 inside
       ∙ get_or-drop (place plan p s 0) (slice_index_or w.tapes p []) (deals_before plan p s k * (m - 1) + j) 0
       ∙ ap (slice_index (slice_index_or w.tapes p [])) at
-    where
-      taken : (n : ℕ) (xs : List ℕ) (i : ℕ) → i < n → slice_index (take n xs) i ≡ slice_index xs i
-      taken zero xs i l = absurd (omega arith)
-      taken (suc n) [] i l = refl
-      taken (suc n) (y ∷ xs) zero l = refl
-      taken (suc n) (y ∷ xs) (suc i) l = taken n xs i (omega arith)
 
   deal_more : (k : ℕ) → deals_in plan x p (slot x k) ≡ true → deals_before plan p s (suc k) ≡ deals_before plan p s k + 1
   deal_more k e = ap (λ z. deals_before plan p s k + z) (cond-true (deals_in plan x p (slot x k)) 1 0 e)

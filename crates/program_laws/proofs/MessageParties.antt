@@ -1,8 +1,8 @@
 -- Each message goes from one party to another.
-use Rattle.std.proofs.Common.{◌≡◌, ℕ, ◌<◌, Bool, true, false, not, ◌&&◌, nat_eq, length, refl, sym, ap, ◌∙◌, subst}
+use Rattle.std.proofs.Common.{◌≡◌, ℕ, ◌<◌, not, ◌&&◌, nat_eq, length, refl, sym, ap, ◌∙◌, subst}
 use Rattle.std.specs.Prelude.{slice_index}
 use Rattle.std.specs.List.{AllByRecursion}
-use Rattle.std.proofs.lemmas.Bool.{and_parts, both_ways, eq-eqb}
+use Rattle.std.proofs.lemmas.Bool.{and_parts, both_ways, eq-eqb, not-true}
 use Rattle.list_laws.specs.Lists.{joined}
 use Rattle.list_laws.proofs.JoinedLists.{every_joined, every_only_if}
 use Rattle.party_set.specs.Parties.{has_party}
@@ -17,10 +17,6 @@ use Rattle.job_plan.proofs.DistinctMessages.{every_place}
 use Rattle.program_laws.specs.Once.{OwnersAreParties, IsBetweenParties}
 use Rattle.program_laws.proofs.OncePosted.{there}
 
-not_true : (b : Bool) → not b ≡ true → b ≡ false
-not_true true e = absurd (cc)
-not_true false e = refl
-
 module _ (plan : Plan) (h : IsPlan plan) (s k : ℕ) where
   abbrev Between : Key → Type 0
   Between = IsBetweenParties plan
@@ -31,7 +27,7 @@ module _ (plan : Plan) (h : IsPlan plan) (s k : ℕ) where
         record {
           sender = lp;
           receiver = lq;
-          apart = λ same. both_ways (nat_eq q p) (not_true (nat_eq q p) (and_parts (not (nat_eq q p)) (holds plan q i) e).0) (eq-eqb q p (sym same));
+          apart = λ same. both_ways (nat_eq q p) (not-true (nat_eq q p) (and_parts (not (nat_eq q p)) (holds plan q i) e).0) (eq-eqb q p (sym same));
         },
         tt,
       ))))
@@ -41,7 +37,7 @@ module _ (plan : Plan) (h : IsPlan plan) (s k : ℕ) where
     record {
       sender = least_within plan h i li;
       receiver = lr;
-      apart = λ same. both_ways (holds plan r i) (not_true (holds plan r i) e) (ap (λ p. holds plan p i) (sym same) ∙ least_holds plan h i li);
+      apart = λ same. both_ways (holds plan r i) (not-true (holds plan r i) e) (ap (λ p. holds plan p i) (sym same) ∙ least_holds plan h i li);
     },
     tt,
   )))

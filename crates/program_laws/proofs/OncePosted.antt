@@ -3,8 +3,6 @@ use Rattle.std.proofs.Common.{◌≡◌, ℕ, zero, suc, ◌+◌, ◌<◌, ◌�
 use Rattle.std.specs.Prelude.{Option, Some, None}
 use Rattle.std.specs.List.{AllByRecursion, range_with_len, filter}
 use Rattle.std.proofs.lemmas.Bool.{cases_eq, cases_lt, cases_Bool, cond-true, cond-false, eq-eqb, eqb-true}
-use Rattle.std.proofs.lemmas.List.{get_or-append-add}
-use Rattle.std.proofs.Math.ListN.{get_or-append}
 use mathlib.Core.Logic.{inl, inr}
 use Rattle.list_laws.specs.Lists.{total, joined, only_if}
 use Rattle.list_laws.proofs.JoinedLists.{length-joined, total_within, every_only_if, every_append}
@@ -23,6 +21,7 @@ use Rattle.party_program.specs.declared.program.Instruction.{Instruction}
 use Rattle.party_program.specs.declared.program.Instruction.TheVariants.{Deal, Post, Take, Linear, Own, Sum, Deliver, End}
 use Rattle.party_program.specs.Programs.{program, at, from, to, post, take_of, opening, closing, posts, takes, slot_program}
 use Rattle.program_laws.specs.Once.{StandsOnce, IsOnce}
+use Rattle.program_laws.proofs.Standing.{Contains, contains_left, contains_right, contains_kept}
 
 -- ---- the numbers that instructions name, of posts or else of takes
 
@@ -179,31 +178,6 @@ one_part f s t n a c d e = elim (cases_eq t s) [
     | inr more ↦ absurd (let w = total_within t s f (omega arith) in omega arith)
   ]
 ]
-
--- ---- an instruction stands in a list
-
-abbrev Contains : List Instruction → Instruction → Type 0
-Contains es e = (q : ℕ) × (q < length es) × (at es q ≡ e)
-
-contains_left : (xs ys : List Instruction) (e : Instruction) → Contains xs e → Contains (xs ++ ys) e
-contains_left xs ys e h = (h.0, (let a = h.1 in omega (arith, length-append xs ys)), get_or-append xs ys End h.0 h.1 ∙ h.2)
-
-contains_right : (xs ys : List Instruction) (e : Instruction) → Contains ys e → Contains (xs ++ ys) e
-contains_right xs ys e h = (length xs + h.0, (let a = h.1 in omega (arith, length-append xs ys)), get_or-append-add xs ys h.0 End ∙ h.2)
-
-contains_kept : (f : ℕ → Instruction) (test : ℕ → Bool) (a n j : ℕ) → j < n → test (a + j) ≡ true → Contains (map f (filter test (range_with_len a n))) (f (a + j))
-contains_kept f test a zero j l e = absurd (omega arith)
-contains_kept f test a (suc n) zero l e =
-    let same : a + 0 ≡ a = omega arith in
-    subst (λ ns. Contains (map f ns) (f (a + 0))) (sym (cond-true (test a) (a ∷ filter test (range_with_len (a + 1) n)) (filter test (range_with_len (a + 1) n)) (ap test (sym same) ∙ e))) (0, omega arith, ap f (sym same))
-contains_kept f test a (suc n) (suc j) l e =
-    let others : List ℕ = filter test (range_with_len (a + 1) n) in
-    let same : a + 1 + j ≡ a + suc j = omega arith in
-    let rest : Contains (map f others) (f (a + suc j)) = subst (λ z. Contains (map f others) (f z)) same (contains_kept f test (a + 1) n j (omega arith) (ap test same ∙ e)) in
-    elim (cases_Bool (test a)) [
-      | inl yes' ↦ subst (λ ns. Contains (map f ns) (f (a + suc j))) (sym (cond-true (test a) (a ∷ others) others yes')) (contains_right (f a ∷ []) (map f others) (f (a + suc j)) rest)
-      | inr no' ↦ subst (λ ns. Contains (map f ns) (f (a + suc j))) (sym (cond-false (test a) (a ∷ others) others no')) rest
-    ]
 
 -- ---- one message
 

@@ -4,10 +4,10 @@ use Rattle.std.specs.Prelude.{slice_index, IsSome, MatchOption}
 use Rattle.std.specs.List.{position_or_len, range_with_len}
 use Rattle.std.proofs.lemmas.List.FromFn.{length-range_with_len, get_or-range_with_len}
 use Rattle.std.proofs.lemmas.List.Sums.{position_or_len_is, passes_at_first, fails_before_first}
-use Rattle.std.proofs.lemmas.Bool.{cases_lt}
+use Rattle.std.proofs.lemmas.Bool.{cases_lt, or_parts, not_from_false, not-true}
 use Rattle.std.proofs.lemmas.List.{get_or_append_left, get_or_push, get_or_default}
 use Rattle.party_set.specs.Parties.{Structure, IsQ2, IsLeastOutside, Members, has_party, is_all}
-use Rattle.party_set.proofs.Every.{every_not, every_at, not_true, true_not, or_not}
+use Rattle.party_set.proofs.Every.{every_not, every_at}
 use Rattle.share_layout.specs.Layouts.{holds, least_party, least_holder, IsLeastParty, EachIsHeld, IsLayout}
 
 at : (n p : ℕ) → p < n → slice_index (range_with_len 0 n) p ≡ p
@@ -39,7 +39,7 @@ pub held : (s : Structure) → IsQ2 s → EachIsHeld s
 held s q2 i l =
     let found : (p : ℕ) × (p < s.parties) × ((has_party (slice_index s.groups i) p || has_party (slice_index s.groups i) p) ≡ false) =
     every_not s.parties (λ p. has_party (slice_index s.groups i) p || has_party (slice_index s.groups i) p) (q2.no_cover i i l l) in
-    least_party_of s (λ p. holds s p i) found.0 found.1 (not_true _ (or_not _ _ found.2).0)
+    least_party_of s (λ p. holds s p i) found.0 found.1 (not_from_false _ (or_parts _ _ found.2).0)
 
 -- a group that is left out by someone: its least party outside is there
 pub some_outside : (s : Structure) (i : ℕ) (g : Members) (r : Option ℕ) → IsQ2 s → i < length s.groups → g ≡ record { parties = s.parties; mask = slice_index s.groups i }
@@ -49,11 +49,11 @@ some_outside s i g None q2 l group found =
     let every : is_all s.parties (slice_index s.groups i) ≡ true = subst (λ (m : Members). is_all m.parties m.mask ≡ true) group found in
     let someone : IsLeastParty s (λ p. holds s p i) (least_holder s i) = held s q2 i l in
     let inside : has_party (slice_index s.groups i) (least_holder s i) ≡ true = every_at s.parties (has_party (slice_index s.groups i)) every (least_holder s i) someone.party in
-    let outside : has_party (slice_index s.groups i) (least_holder s i) ≡ false = true_not _ someone.passes in
+    let outside : has_party (slice_index s.groups i) (least_holder s i) ≡ false = not-true _ someone.passes in
     absurd cc
 
 pub least_outside_is : (s : Structure) (i p : ℕ) → IsLeastOutside s.parties (slice_index s.groups i) p → least_holder s i ≡ p
-least_outside_is s i p is = least_party_is s (λ q. holds s q i) p (record { party = is.party; passes = not_true _ is.outside; least = λ q l. ap not (is.least q l) })
+least_outside_is s i p is = least_party_is s (λ q. holds s q i) p (record { party = is.party; passes = not_from_false _ is.outside; least = λ q l. ap not (is.least q l) })
 
 -- a table that grows by the entry of its next place
 pub table_more : (f : ℕ → ℕ) (xs : List ℕ) (i y : ℕ) → length xs ≡ i → ((k : ℕ) → k < i → slice_index xs k ≡ f k) → y ≡ f i

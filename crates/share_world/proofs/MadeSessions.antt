@@ -4,14 +4,14 @@ use Rattle.std.specs.Prelude.{◌==◌}
 use Rattle.std.specs.List.{list_all, list_any}
 use Rattle.std.proofs.lemmas.List.{get_or-take, length-take-le}
 use Rattle.std.proofs.lemmas.List.Folds.{list_any_at}
-use Rattle.std.proofs.lemmas.Bool.{both_ways, eqb-true, eq-eqb, lt-ltb, ltb-true}
+use Rattle.std.proofs.lemmas.Bool.{both_ways, eqb-true, eq-eqb, lt-ltb, ltb-true, and_parts}
+use Rattle.list_laws.proofs.Tests.{or_true}
 use Rattle.party_set.specs.Parties.{Members}
 use Rattle.circuit_model.specs.declared.gate.Gate.{Gate}
 use Rattle.circuit_model.specs.declared.gate.Operation.{Operation}
 use Rattle.circuit_model.specs.declared.gate.Operation.TheVariants.{Add, Sub, Neg, Mul, Xor, And, Inv, Eq, Eqw}
 use Rattle.circuit_model.specs.Circuits.{values}
-use Rattle.circuit_model.specs.Netlists.{Netlist, IsCircuit, arity, reads, no_gate, is_set, input_wires}
-use Rattle.circuit_model.specs.Netlists.{gate as gate_of}
+use Rattle.circuit_model.specs.Netlists.{Netlist, IsCircuit, arity, reads, no_gate, is_set, input_wires, gate as gate_of}
 use Rattle.job_plan.specs.Plans.{Session, session, gate, owners}
 use Rattle.job_plan.specs.Parts.{session_of}
 use Rattle.job_plan.proofs.CircuitSessions.{owners_long}
@@ -19,32 +19,23 @@ use Rattle.share_world.specs.Worlds.{World, input_of}
 use Rattle.share_world.specs.Solutions.{GatesInOrder, SetBefore, reads_first, reads_second}
 use Rattle.share_world.specs.Made.{MadeHasValues}
 
-left : (a b : Bool) → (a && b) ≡ true → a ≡ true
-left true b e = refl
-left false b e = cc
-
-middle : (a b : Bool) → (a && (b && true)) ≡ true → b ≡ true
-middle true true e = refl
-middle true false e = cc
-middle false b e = cc
-
 first_passes : (o : Operation) (p : ℕ → Bool) (a b : ℕ) → list_all p (reads o (take (arity o) (a ∷ b ∷ []))) ≡ true → reads_first o ≡ true → p a ≡ true
-first_passes Add p a b e r = left (p a) (p b && true) e
-first_passes Sub p a b e r = left (p a) (p b && true) e
-first_passes Mul p a b e r = left (p a) (p b && true) e
-first_passes Xor p a b e r = left (p a) (p b && true) e
-first_passes And p a b e r = left (p a) (p b && true) e
-first_passes Neg p a b e r = left (p a) true e
-first_passes Inv p a b e r = left (p a) true e
-first_passes Eqw p a b e r = left (p a) true e
+first_passes Add p a b e r = (and_parts (p a) (p b && true) e).0
+first_passes Sub p a b e r = (and_parts (p a) (p b && true) e).0
+first_passes Mul p a b e r = (and_parts (p a) (p b && true) e).0
+first_passes Xor p a b e r = (and_parts (p a) (p b && true) e).0
+first_passes And p a b e r = (and_parts (p a) (p b && true) e).0
+first_passes Neg p a b e r = (and_parts (p a) true e).0
+first_passes Inv p a b e r = (and_parts (p a) true e).0
+first_passes Eqw p a b e r = (and_parts (p a) true e).0
 first_passes Eq p a b e r = cc
 
 second_passes : (o : Operation) (p : ℕ → Bool) (a b : ℕ) → list_all p (reads o (take (arity o) (a ∷ b ∷ []))) ≡ true → reads_second o ≡ true → p b ≡ true
-second_passes Add p a b e r = middle (p a) (p b) e
-second_passes Sub p a b e r = middle (p a) (p b) e
-second_passes Mul p a b e r = middle (p a) (p b) e
-second_passes Xor p a b e r = middle (p a) (p b) e
-second_passes And p a b e r = middle (p a) (p b) e
+second_passes Add p a b e r = (and_parts (p b) true (and_parts (p a) (p b && true) e).1).0
+second_passes Sub p a b e r = (and_parts (p b) true (and_parts (p a) (p b && true) e).1).0
+second_passes Mul p a b e r = (and_parts (p b) true (and_parts (p a) (p b && true) e).1).0
+second_passes Xor p a b e r = (and_parts (p b) true (and_parts (p a) (p b && true) e).1).0
+second_passes And p a b e r = (and_parts (p b) true (and_parts (p a) (p b && true) e).1).0
 second_passes Neg p a b e r = cc
 second_passes Inv p a b e r = cc
 second_passes Eqw p a b e r = cc
@@ -81,10 +72,6 @@ is_so c owned readers t v same le (inr u) =
     let there : u.0 < length (take t c.gates) = omega (arith, u.1, length-take-le t c.gates le) in
     let sets : (get_or (take t c.gates) u.0 no_gate).output ≡ v = ap (λ (g : Gate). g.output) (get_or-take t c.gates u.0 no_gate u.1) ∙ u.2 in
     ap (λ b. nat_lt v (input_wires c) || b) (list_any_at (λ (g : Gate). g.output == v) (take t c.gates) u.0 no_gate there (eq-eqb _ v sets)) ∙ or_true (nat_lt v (input_wires c))
-  where
-    or_true : (b : Bool) → (b || true) ≡ true
-    or_true true = refl
-    or_true false = refl
 
 pub made_is_circuit : (c : Netlist) (owned : List ℕ) (readers : List Members) → IsCircuit c → length owned ≡ length c.inputs → GatesInOrder (session_of c owned readers)
 made_is_circuit c owned readers v same = record {

@@ -1,16 +1,16 @@
 -- The worked job, by computation.
-use Rattle.std.proofs.Common.{◌≡◌, ℕ, zero, suc, ◌<◌, ◌≤◌, true, false, List, [], ◌∷◌, length, refl, arith}
+use Rattle.std.proofs.Common.{◌≡◌, ℕ, zero, suc, ◌<◌, ◌≤◌, false, List, [], ◌∷◌, length, refl, arith}
 use Rattle.std.specs.Prelude.{slice_index, slice_index_or, nat_eq, if◌then◌else◌}
 use Rattle.std.specs.List.{AllByRecursion}
 use Rattle.list_laws.specs.Lists.{total}
 use Rattle.list_laws.proofs.JoinedLists.{every_at}
 use Rattle.party_set.specs.Parties.{IsQ2, covers}
-use Rattle.job_plan.specs.Plans.{session, owners, readers, structure, gate, words}
+use Rattle.job_plan.specs.Plans.{session, owners, structure, gate, words}
 use Rattle.job_plan.specs.Sound.{IsSound, IsSoundSession}
 use Rattle.job_plan.specs.InputWords.{AreInputs, given}
 use Rattle.job_plan.specs.Tallies.{tape_length}
 use Rattle.job_plan.specs.Multiply.{multiply_plan, multiply_session}
-use Rattle.share_world.specs.Laws.{IsWhole, AreTapes}
+use Rattle.share_world.specs.Laws.{AreTapes}
 use Rattle.share_world.specs.Multiply.{multiply_world, MultiplyWhole, MultiplyWords, MultiplyPlain}
 
 pub plain_is : MultiplyPlain

@@ -1,13 +1,12 @@
-use Rattle.std.proofs.Common.{◌≡◌, ◌∙◌, List, ap, sym, map, length, None, Option}
+use Rattle.std.proofs.Common.{◌≡◌, ◌∙◌, ap, sym, map, length, None}
 use Rattle.std.proofs.lemmas.List.{length-map}
 use Rattle.std.proofs.lemmas.Result.{err_from_is_err_and}
 use Rattle.std.specs.Option.{option_or}
-use Rattle.toml.specs.Data.{Data, Members}
+use Rattle.toml.specs.Data.{Members}
 use Rattle.toml.specs.View.{view, table_view}
 use Rattle.toml_fields.specs.Fields.{items_at, fields_of}
 use Rattle.job_file.specs.declared.field.Field.TheVariants.{Parties, Session}
-use Rattle.job_file.specs.declared.fault.JobFault.{JobFault}
-use Rattle.job_file.specs.Forms.{items, texts, tables}
+use Rattle.job_file.specs.Forms.{items, texts}
 use Rattle.job_file.specs.Faults.{count_fault, sessions_fault}
 use Rattle.job_file.proofs.Rows.{at_count, at_sessions, last_rows, session_rows}
 use Rattle.job_file.proofs.document.read_table.Goals as goal

@@ -5,7 +5,8 @@ use Rattle.mpc_top.specs.JobOf.{PartiesAfter}
 use Rattle.mpc_top.specs.Seen.{parties_view}
 use Rattle.mpc_top.specs.Reads.{ReadsAs}
 use Rattle.mpc_top.proofs.Steps.{reads_memory}
-use Rattle.mpc_top.proofs.Loops.{party_next, party_stops, parties_end, parties_same, same_names, fit_push, parties_push, length-forms, fit_none}
+use Rattle.job_run.proofs.PartyForms.{fit_push}
+use Rattle.mpc_top.proofs.Loops.{party_next, party_stops, parties_end, parties_same, same_names, parties_push, length-forms, fit_none}
 use Rattle.mpc_top.proofs.parties.read_parties.Goals as goal
 
 pub returns-in_err-party-clause-reads : goal.returns-in_err-party-clause-reads

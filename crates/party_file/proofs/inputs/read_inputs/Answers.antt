@@ -2,7 +2,7 @@ use Rattle.std.proofs.Common.{◌∙◌, ◌≡◌, ap, sym, map, length, arith,
 use Rattle.toml.specs.View.{view}
 use Rattle.toml_fields.specs.Fields.{text_of}
 use Rattle.std.proofs.lemmas.List.{length-map}
-use Rattle.party_file.specs.Checks.{first_fault}
+use Rattle.list_laws.specs.Checks.{first_fault}
 use Rattle.party_file.specs.Table.{numbers_in}
 use Rattle.party_file.proofs.SessionInputs.{inputs-stop, inputs-passed, pushed, read_more, read_all, same_checks, text_at_place, checks_of}
 use Rattle.party_file.proofs.CheckChains.{stops_by, joined_more-passed}

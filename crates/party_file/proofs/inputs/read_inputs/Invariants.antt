@@ -3,7 +3,7 @@ use Rattle.toml.specs.View.{view}
 use Rattle.toml_fields.specs.Fields.{text_of}
 use Rattle.job_plan.specs.InputWords.{session_words}
 use Rattle.list_laws.specs.Lists.{joined}
-use Rattle.party_file.specs.Checks.{first_fault}
+use Rattle.list_laws.specs.Checks.{first_fault}
 use Rattle.party_file.specs.Table.{numbers_in}
 use Rattle.party_file.proofs.SessionInputs.{checks_of}
 use Rattle.party_file.proofs.inputs.read_inputs.Given as goal

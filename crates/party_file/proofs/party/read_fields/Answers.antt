@@ -2,7 +2,7 @@ use Rattle.std.proofs.Common.{◌∙◌, sym, ap, map}
 use Rattle.std.specs.Prelude.{codes}
 use Rattle.std.proofs.lemmas.List.{length-map}
 use Rattle.toml.specs.View.{view, table_view}
-use Rattle.party_file.specs.Checks.{first_fault}
+use Rattle.list_laws.specs.Checks.{first_fault}
 use Rattle.party_file.specs.Table.{count_checks, input_checks, numbers_in}
 use Rattle.party_file.proofs.CheckChains.{stops_by, stops_at, or_fault-ok}
 use Rattle.party_file.proofs.FaultRows.{at_version, at_names, at_kinds, at_counts, at_inputs, at_random, counted_items, texts_at-items, form-read}

@@ -1,5 +1,5 @@
 use Rattle.std.proofs.Common.{◌+◌, ◌∷◌, [], length, length-append, ap, ◌∙◌}
-use Rattle.worked_jobs.proofs.PartyForms.{fit_push}
+use Rattle.job_run.proofs.PartyForms.{fit_push}
 use Rattle.worked_jobs.proofs.party_data.all_data.Goals as goal
 
 pub loop-p-preserved : goal.loop-p-preserved
