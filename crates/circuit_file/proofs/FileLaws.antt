@@ -16,7 +16,7 @@ use Rattle.circuit_file.specs.CircuitFiles.{next_row, gates_in, ended, no_gates,
 use Rattle.circuit_file.specs.Grammar.{Write, AreGateLines, StandsFor}
 use Rattle.circuit_model.specs.declared.layout.CircuitLayout.{CircuitLayout}
 use Rattle.circuit_model.specs.declared.layout.CircuitLayout.TheVariants.{Bristol, Ring}
-use Rattle.circuit_file.proofs.Passing.{bind_ok, bind_from, then_ok, ok_same}
+use Rattle.circuit_file.proofs.PassedChecks.{bind_ok, bind_from, then_ok, ok_same}
 use Rattle.circuit_file.proofs.HeaderLaws.{AreCounts, AreWidths, counts_grounded, counts_related, widths_grounded, widths_related}
 use Rattle.circuit_file.proofs.WalkLaws.{Walked, walk_grounded, walk_related, fit_on, ended_grounded, ended_related, outputs_set, none_unset}
 

@@ -22,8 +22,8 @@ use Rattle.circuit_file.specs.GateLines.{operation_of, input_count, output_count
 use Rattle.circuit_file.specs.CircuitFiles.{gate_in}
 use Rattle.circuit_file.specs.Grammar.{Write, listed, IsGateLine}
 use Rattle.circuit_model.specs.declared.layout.CircuitLayout.{CircuitLayout}
-use Rattle.circuit_file.proofs.Passing.{or_ok, bind_ok}
-use Rattle.circuit_file.proofs.Writing.{write_all, write_some, write_none}
+use Rattle.circuit_file.proofs.PassedChecks.{or_ok, bind_ok}
+use Rattle.circuit_file.proofs.WrittenNumbers.{write_all, write_some, write_none}
 
 -- ---- a gate line in the grammar has no fault
 

@@ -10,8 +10,8 @@ use Rattle.circuit_file.specs.Tokens.{token, is_number, number_in, all_numbers, 
 use Rattle.circuit_file.specs.Header.{count_checks, counts_of, counts_in, width_tokens, width_checks, widths_in}
 use Rattle.circuit_file.specs.Grammar.{Write}
 use Rattle.circuit_file.specs.declared.header.Counts.{Counts}
-use Rattle.circuit_file.proofs.Passing.{or_ok, some_is}
-use Rattle.circuit_file.proofs.Writing.{write_all, write_some, write_none, written_long, written_all, written_are}
+use Rattle.circuit_file.proofs.PassedChecks.{or_ok, some_is}
+use Rattle.circuit_file.proofs.WrittenNumbers.{write_all, write_some, write_none, written_long, written_all, written_are}
 
 two_written : (ts : List (List ℕ)) → 2 ≤ length ts → length ts ≤ 2 → all_numbers (take 2 (drop 0 ts)) ≡ true → Write ts (number_in (slice_index_or ts 0 []) ∷ number_in (slice_index_or ts 1 []) ∷ [])
 two_written [] l m e = absurd (omega arith)

@@ -1,9 +1,9 @@
-pub mod Passing
-pub mod Walking
-pub mod Writing
+pub mod PassedChecks
+pub mod LineTokens
+pub mod WrittenNumbers
 pub mod HeaderLaws
 pub mod GateLaws
 pub mod WalkLaws
 pub mod FileLaws
-pub mod Stepping
-pub mod Scanning
+pub mod ReaderSteps
+pub mod GateScans

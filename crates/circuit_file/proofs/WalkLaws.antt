@@ -15,7 +15,7 @@ use Rattle.circuit_file.specs.GateLines.{gate_line_of}
 use Rattle.circuit_file.specs.CircuitFiles.{gate_in, gates_in, ended}
 use Rattle.circuit_file.specs.Grammar.{AreGateLines}
 use Rattle.circuit_model.specs.declared.layout.CircuitLayout.{CircuitLayout}
-use Rattle.circuit_file.proofs.Passing.{bind_ok, bind_from, or_ok, ok_same}
+use Rattle.circuit_file.proofs.PassedChecks.{bind_ok, bind_from, or_ok, ok_same}
 use Rattle.circuit_file.proofs.GateLaws.{gate_related, line_grounded}
 
 -- the gates that were read, beyond those of c

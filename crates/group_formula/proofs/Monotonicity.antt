@@ -5,7 +5,7 @@ use Rattle.std.proofs.lemmas.Bool.{le-leb, leb-true, not_from_false, not-true, f
 use Rattle.std.proofs.lemmas.Nat.Bits.{bit_at_ones, bit_at-zero}
 use Rattle.list_laws.proofs.Tests.{or_true}
 use Rattle.party_set.specs.Parties.{has_party}
-use Rattle.party_set.proofs.Every.{every_at, implies_at}
+use Rattle.party_set.proofs.EveryNumber.{every_at, implies_at}
 use Rattle.maximal_groups.specs.Families.{IsClosed, IsFamily}
 use Rattle.group_formula.specs.Trees.{Tree, Trees, Meaning, count, value, true_ones, IsSoundTree, AreSound, tree_of, is_tolerated}
 use Rattle.group_formula.specs.Trees.Tree.{leaf, both, either, at_least}

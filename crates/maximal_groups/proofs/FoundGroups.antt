@@ -8,7 +8,7 @@ use Rattle.std.proofs.lemmas.Bool.Decides.{eqb_tells}
 use Rattle.std.proofs.lemmas.Grind.{common_steps}
 use Rattle.std.proofs.lemmas.List.{map-append}
 use Rattle.party_set.specs.Parties.{Members, Structure, has_party, within, IsAntichain}
-use Rattle.party_set.proofs.Every.{implies_from, implies_at, every_from, every_at}
+use Rattle.party_set.proofs.EveryNumber.{implies_from, implies_at, every_from, every_at}
 use Rattle.party_set.proofs.Masks.{within_word}
 use Rattle.maximal_groups.specs.Families.{IsClosed, is_larger, is_maximal, maximal_structure, LiesWithin, TellsTolerated}
 use Rattle.maximal_groups.proofs.Largest.{none_larger}

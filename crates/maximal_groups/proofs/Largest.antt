@@ -7,7 +7,7 @@ use Rattle.std.proofs.lemmas.Nat.{or_lt}
 use Rattle.std.proofs.lemmas.Bool.Decides.{eqb_tells}
 use Rattle.std.proofs.lemmas.Bool.{and_parts, and_from, not_from_false, not-true, false_from_ne_true, or_right, or_left}
 use Rattle.party_set.specs.Parties.{has_party, every_below, within}
-use Rattle.party_set.proofs.Every.{implies_from, implies_at, implies_not, every_from, every_at, every_not}
+use Rattle.party_set.proofs.EveryNumber.{implies_from, implies_at, implies_not, every_from, every_at, every_not}
 use Rattle.party_set.proofs.Masks.{has_with, bit_power}
 use Rattle.maximal_groups.specs.Families.{IsClosed, is_larger, is_maximal}
 

@@ -8,7 +8,7 @@ use Rattle.std.proofs.lemmas.Bool.Decides.{eqb_tells}
 use Rattle.std.proofs.lemmas.List.Folds.{list_any_at}
 use Rattle.std.proofs.lemmas.Bool.{and_parts, and_from, not-true, false_from_ne_true, or_cases, or_left, or_right}
 use Rattle.party_set.specs.Parties.{Structure, Members, has_party, within, every_below}
-use Rattle.party_set.proofs.Every.{implies_from, every_from, every_at, implies_at}
+use Rattle.party_set.proofs.EveryNumber.{implies_from, every_from, every_at, implies_at}
 use Rattle.maximal_groups.specs.Families.{is_tolerated_by, is_larger, is_maximal, maximal_structure, IsFamily, IsCoveredBy, LiesWithin}
 use Rattle.maximal_groups.proofs.FoundGroups.{within_both, within_le, some_maximal, tells}
 use Rattle.maximal_groups.proofs.Largest.{none_larger}

@@ -1,3 +1,3 @@
-pub mod Every
+pub mod EveryNumber
 pub mod Masks
-pub mod Naming
+pub mod NameFaults

@@ -10,7 +10,7 @@ use Rattle.std.proofs.Math.Nat.{mod-eq_of_lt}
 use Rattle.std.proofs.lemmas.Bool.{false_from_ne_true}
 use Rattle.list_laws.proofs.Tests.{or_true, or_false}
 use Rattle.party_set.specs.Parties.{has_party, within, is_all, IsLeastOutside}
-use Rattle.party_set.proofs.Every.{every_from, every_at}
+use Rattle.party_set.proofs.EveryNumber.{every_from, every_at}
 
 -- `1 << n`
 pub power_is : (n : ℕ) → n ≤ 12 → 1 * 2 ^ n % 2 ^ 32 ≡ 2 ^ n

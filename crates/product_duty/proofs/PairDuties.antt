@@ -10,7 +10,7 @@ use Rattle.list_laws.specs.Lists.{only_if}
 use Rattle.list_laws.proofs.Totals.{total_eq, total_zero, total_pick}
 use Rattle.secret_sharing.specs.Sharing.{has_pair, IsScheme}
 use Rattle.party_set.specs.Parties.{Structure, Members, IsAntichain, IsQ2, IsUnion, IsLeastOutside, has_party, is_all, covers}
-use Rattle.party_set.proofs.Every.{every_from, every_at, every_not}
+use Rattle.party_set.proofs.EveryNumber.{every_from, every_at, every_not}
 use Rattle.share_layout.specs.Layouts.{holds, IsLeastParty}
 use Rattle.share_layout.proofs.Holders.{least_party_is, least_party_of}
 use Rattle.product_duty.specs.Duties.{duty, pairs_in_row, pairs_where, pairs_of, scheme_of, times, EachIsDuty, IsTable}

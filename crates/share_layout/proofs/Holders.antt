@@ -7,7 +7,7 @@ use Rattle.std.proofs.lemmas.List.Sums.{position_or_len_is, passes_at_first, fai
 use Rattle.std.proofs.lemmas.Bool.{cases_lt, or_parts, not_from_false, not-true}
 use Rattle.std.proofs.lemmas.List.{get_or_append_left, get_or_push, get_or_default}
 use Rattle.party_set.specs.Parties.{Structure, IsQ2, IsLeastOutside, Members, has_party, is_all}
-use Rattle.party_set.proofs.Every.{every_not, every_at}
+use Rattle.party_set.proofs.EveryNumber.{every_not, every_at}
 use Rattle.share_layout.specs.Layouts.{holds, least_party, least_holder, IsLeastParty, EachIsHeld, IsLayout}
 
 at : (n p : ℕ) → p < n → slice_index (range_with_len 0 n) p ≡ p

@@ -2,4 +2,4 @@ mod Walks
 mod Plans
 mod Jobs
 mod Statuses
-mod InARow
+mod CallsInARow

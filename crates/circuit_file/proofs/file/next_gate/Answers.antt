@@ -2,8 +2,8 @@ use Rattle.std.proofs.Common.{◌≡◌, ◌∷◌, suc, refl, sym, ◌∙◌, a
 use Rattle.circuit_file.specs.CircuitFiles.{next_row, gates_in}
 use Rattle.circuit_file.specs.Steps.{Says, AddsNext}
 use Rattle.circuit_file.proofs.FileLaws.{row_next}
-use Rattle.circuit_file.proofs.Stepping.{sent, fails, lines_end, gate_stops}
-use Rattle.circuit_file.proofs.Scanning.{added_next}
+use Rattle.circuit_file.proofs.ReaderSteps.{sent, fails, lines_end, gate_stops}
+use Rattle.circuit_file.proofs.GateScans.{added_next}
 use Rattle.circuit_file.proofs.file.next_gate.Goals as goal
 
 pub returns-in-Some : goal.returns-in-Some

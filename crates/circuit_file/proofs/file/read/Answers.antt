@@ -2,7 +2,7 @@ use Rattle.std.proofs.Common.{◌≡◌, Err, ◌∙◌, ap}
 use Rattle.gate_lines.specs.Rows.{rows_of}
 use Rattle.circuit_model.specs.Checks.{Gives}
 use Rattle.circuit_file.specs.CircuitFiles.{lines_in, circuit_in}
-use Rattle.circuit_file.proofs.Stepping.{sent, fails, gives_fault, gives_along, ring_stops, ring_passes, text_refused, text_read}
+use Rattle.circuit_file.proofs.ReaderSteps.{sent, fails, gives_fault, gives_along, ring_stops, ring_passes, text_refused, text_read}
 use Rattle.circuit_file.proofs.file.read.Goals as goal
 
 pub returns-in_err-check_ring : goal.returns-in_err-check_ring

@@ -3,7 +3,7 @@ use Rattle.std.proofs.lemmas.List.{length_push}
 use Rattle.circuit_model.specs.Building.{Draft}
 use Rattle.circuit_file.specs.CircuitFiles.{gates_in}
 use Rattle.circuit_file.specs.Steps.{AddsAll}
-use Rattle.circuit_file.proofs.Stepping.{sent, fails_so, gate_goes, gates_end}
+use Rattle.circuit_file.proofs.ReaderSteps.{sent, fails_so, gate_goes, gates_end}
 use Rattle.circuit_file.proofs.file.read_gates.Goals as goal
 
 pub returns-in_err-next_gate : goal.returns-in_err-next_gate

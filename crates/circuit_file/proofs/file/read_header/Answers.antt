@@ -3,7 +3,7 @@ use Rattle.circuit_file.specs.Header.{widths_in}
 use Rattle.circuit_file.specs.CircuitFiles.{header_in}
 use Rattle.circuit_file.specs.Steps.{Begins}
 use Rattle.circuit_file.proofs.FileLaws.{row_next}
-use Rattle.circuit_file.proofs.Stepping.{sent, fails, fails_so, few_1, bad_1, few_2, bad_2, few_3, bad_3, start_fails, begun}
+use Rattle.circuit_file.proofs.ReaderSteps.{sent, fails, fails_so, few_1, bad_1, few_2, bad_2, few_3, bad_3, start_fails, begun}
 use Rattle.circuit_file.proofs.file.read_header.Goals as goal
 
 pub returns-in_err-one : goal.returns-in_err-one

@@ -2,7 +2,7 @@ use Rattle.std.proofs.Common.{◌≡◌, Err, sym, ◌∙◌, ap}
 use Rattle.circuit_model.specs.declared.fault.CircuitFault.TheVariants.{ExtraLine}
 use Rattle.circuit_model.specs.Checks.{Gives}
 use Rattle.circuit_file.specs.CircuitFiles.{ended, header_in, gates_in, lines_in}
-use Rattle.circuit_file.proofs.Stepping.{sent, fails_so, gives_fault, gives_same, lines_fail, lines_stop, lines_done, line_left, finished}
+use Rattle.circuit_file.proofs.ReaderSteps.{sent, fails_so, gives_fault, gives_same, lines_fail, lines_stop, lines_done, line_left, finished}
 use Rattle.circuit_file.proofs.file.read_lines.Goals as goal
 
 pub returns-in_err-gates : goal.returns-in_err-gates

@@ -1,6 +1,6 @@
 use Rattle.std.proofs.Common.{take, drop, refl, sym}
 use Rattle.circuit_file.specs.Tokens.{numbers_in}
-use Rattle.circuit_file.proofs.Stepping.{gate_added}
+use Rattle.circuit_file.proofs.ReaderSteps.{gate_added}
 use Rattle.circuit_file.proofs.gate_line.add_gate.Goals as goal
 
 pub returns : goal.returns

@@ -5,8 +5,8 @@ use Rattle.circuit_model.specs.declared.fault.CircuitFault.TheVariants.{WrongAri
 use Rattle.circuit_model.specs.Netlists.{Netlist}
 use Rattle.circuit_file.specs.CircuitFiles.{gate_in}
 use Rattle.circuit_file.specs.Steps.{IsSaid}
-use Rattle.circuit_file.proofs.Stepping.{sent, form_fails, chosen}
-use Rattle.circuit_file.proofs.Scanning.{wrong_arity}
+use Rattle.circuit_file.proofs.ReaderSteps.{sent, form_fails, chosen}
+use Rattle.circuit_file.proofs.GateScans.{wrong_arity}
 use Rattle.circuit_file.proofs.gate_line.read_gate.Goals as goal
 
 pub returns-in_err-form : goal.returns-in_err-form

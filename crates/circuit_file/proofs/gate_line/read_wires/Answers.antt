@@ -1,6 +1,6 @@
 use Rattle.std.proofs.Common.{◌∙◌, ap, arith, length-set}
 use Rattle.circuit_file.specs.Tokens.{number_in}
-use Rattle.circuit_file.proofs.Scanning.{wires_more}
+use Rattle.circuit_file.proofs.GateScans.{wires_more}
 use Rattle.circuit_file.proofs.gate_line.read_wires.Goals as goal
 
 pub loop-at-preserved : goal.loop-at-preserved

@@ -1,6 +1,6 @@
 use Rattle.std.proofs.Common.{◌+◌, arith, sym, subst}
 use Rattle.circuit_file.specs.Steps.{Says}
-use Rattle.circuit_file.proofs.Scanning.{takes_one, scanned}
+use Rattle.circuit_file.proofs.GateScans.{takes_one, scanned}
 use Rattle.circuit_file.proofs.scan.scan_gate.Goals as goal
 
 pub returns : goal.returns

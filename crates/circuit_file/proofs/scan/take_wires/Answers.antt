@@ -1,5 +1,5 @@
 use Rattle.std.proofs.Common.{[], ◌∷◌, refl, arith}
-use Rattle.circuit_file.proofs.Scanning.{takes_one, takes_two, takes_then, takes_count}
+use Rattle.circuit_file.proofs.GateScans.{takes_one, takes_two, takes_then, takes_count}
 use Rattle.circuit_file.proofs.scan.take_wires.Goals as goal
 
 pub returns-then-count-eq2-clause-taken : goal.returns-then-count-eq2-clause-taken

@@ -1,5 +1,5 @@
 use Rattle.std.proofs.Common.{arith, sym, ◌∙◌}
-use Rattle.circuit_file.proofs.Walking.{drop_next, drop_none}
+use Rattle.circuit_file.proofs.LineTokens.{drop_next, drop_none}
 use Rattle.circuit_file.proofs.tokens.after.Goals as goal
 
 pub returns-in-None : goal.returns-in-None

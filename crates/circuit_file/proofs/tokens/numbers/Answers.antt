@@ -1,5 +1,5 @@
 use Rattle.std.proofs.Common.{◌∙◌}
-use Rattle.circuit_file.proofs.Walking.{numbers_step}
+use Rattle.circuit_file.proofs.LineTokens.{numbers_step}
 use Rattle.circuit_file.proofs.tokens.numbers.Goals as goal
 
 pub loop-at-preserved : goal.loop-at-preserved

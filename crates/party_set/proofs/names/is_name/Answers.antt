@@ -3,7 +3,7 @@ use Rattle.std.specs.Prelude.{slice_index}
 use Rattle.std.specs.List.{list_all}
 use Rattle.std.specs.Char.{is_ascii_alphabetic}
 use Rattle.party_set.specs.Names.{is_name_byte}
-use Rattle.party_set.proofs.Naming.{name_is, not_empty}
+use Rattle.party_set.proofs.NameFaults.{name_is, not_empty}
 use Rattle.party_set.proofs.names.is_name.Goals as goal
 
 pub returns-then-has_name_bytes : goal.returns-then-has_name_bytes

@@ -1,4 +1,4 @@
-use Rattle.party_set.proofs.Naming.{no_fault_tells, no_fault_from}
+use Rattle.party_set.proofs.NameFaults.{no_fault_tells, no_fault_from}
 use Rattle.party_set.proofs.names.names_have_no_fault.Goals as goal
 
 pub returns-clause-names : goal.returns-clause-names

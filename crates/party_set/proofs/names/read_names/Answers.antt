@@ -7,7 +7,7 @@ use Rattle.std.proofs.lemmas.List.{take_more, get_or-map, length-map}
 use Rattle.std.proofs.Math.Seq.{take-length}
 use Rattle.std.proofs.lemmas.Result.{err_from_is_err_and}
 use Rattle.party_set.specs.Names.{is_name, name_at, name_fault, first_of, first_name_fault, AreNames}
-use Rattle.party_set.proofs.Naming.{fault_is, first_more, inserted_last, passes, sound, not_empty}
+use Rattle.party_set.proofs.NameFaults.{fault_is, first_more, inserted_last, passes, sound, not_empty}
 use Rattle.party_set.proofs.names.read_names.Goals as goal
 
 pub returns-in_err-check_name : goal.returns-in_err-check_name

@@ -1,4 +1,4 @@
-use Rattle.walk_laws.proofs.InARow.{both_given}
+use Rattle.walk_laws.proofs.CallsInARow.{both_given}
 use Rattle.walk_laws.proofs.laws.two_calls_give_what_both_are_due.Goals as goal
 
 pub returns : goal.returns

@@ -1,7 +1,7 @@
 use Rattle.std.proofs.Common.{◌≡◌, ◌||◌, not, true, false, refl, lit<}
 use Rattle.std.proofs.lemmas.Bool.{not_from_false, not-true, false_from_ne_true}
 use Rattle.party_set.specs.Parties.{has_party}
-use Rattle.party_set.proofs.Every.{every_at, implies_at}
+use Rattle.party_set.proofs.EveryNumber.{every_at, implies_at}
 use Rattle.maximal_groups.specs.Families.{IsClosed}
 use Rattle.maximal_groups.proofs.tests.FirstHoldsFamily.parties.Goals as goal
 

@@ -1,4 +1,4 @@
-use Rattle.party_set.proofs.Naming.{number_at}
+use Rattle.party_set.proofs.NameFaults.{number_at}
 use Rattle.party_set.proofs.names.Names.number.Goals as goal
 
 pub returns-clause-party : goal.returns-clause-party

@@ -5,7 +5,7 @@ use Rattle.text_tokens.specs.Numbers.{number_of}
 use Rattle.std.proofs.lemmas.Bool.{and_parts}
 use Rattle.circuit_file.specs.Tokens.{is_number, number_in, all_numbers, numbers_in}
 use Rattle.circuit_file.specs.Grammar.{Write}
-use Rattle.circuit_file.proofs.Passing.{some_is}
+use Rattle.circuit_file.proofs.PassedChecks.{some_is}
 
 pub write_all : (ts : List (List ℕ)) → all_numbers ts ≡ true → Write ts (numbers_in ts)
 write_all [] e = tt

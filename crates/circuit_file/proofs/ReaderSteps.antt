@@ -23,7 +23,7 @@ use Rattle.circuit_file.specs.Steps.{Adds, Begins}
 use Rattle.circuit_file.specs.declared.header.Counts.{Counts}
 use Rattle.circuit_model.specs.declared.layout.CircuitLayout.{CircuitLayout}
 use Rattle.circuit_file.specs.declared.gate_line.Form.{Form}
-use Rattle.circuit_file.proofs.Passing.{or_ok, ok_same}
+use Rattle.circuit_file.proofs.PassedChecks.{or_ok, ok_same}
 use Rattle.circuit_file.proofs.HeaderLaws.{AreCounts, AreWidths, counts_grounded, widths_grounded}
 
 -- what `?` hands on is the fault that it met

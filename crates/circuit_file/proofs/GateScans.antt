@@ -22,10 +22,10 @@ use Rattle.circuit_file.specs.Steps.{Takes, IsSaid, Says, Adds, AddsNext}
 use Rattle.circuit_model.specs.declared.layout.CircuitLayout.{CircuitLayout}
 use Rattle.circuit_file.specs.declared.gate_line.Form.{Form}
 use Rattle.circuit_file.specs.declared.gate_line.Said.{Said}
-use Rattle.circuit_file.proofs.Passing.{or_ok}
-use Rattle.circuit_file.proofs.Writing.{write_some, written_long, written_all, written_are}
+use Rattle.circuit_file.proofs.PassedChecks.{or_ok}
+use Rattle.circuit_file.proofs.WrittenNumbers.{write_some, written_long, written_all, written_are}
 use Rattle.circuit_file.proofs.GateLaws.{IsFormed, formed}
-use Rattle.circuit_file.proofs.Stepping.{read_so, fails_so, gate_stops}
+use Rattle.circuit_file.proofs.ReaderSteps.{read_so, fails_so, gate_stops}
 
 -- ---- numbers that are taken one after another
 
