@@ -5,7 +5,7 @@ use Rattle.std.specs.Str.Lossy.{utf8_valid_len, valid_len_up_to}
 use Rattle.std.proofs.Math.Seq.{take-length}
 use Rattle.std.proofs.lemmas.Bool.{le-ltb, ltb-false, eqb-true, not-false}
 use Rattle.std.proofs.lemmas.Str.{utf8_valid_len-IsUtf8, IsUtf8-from_is_utf8}
-use Rattle.list_laws.proofs.Passing.{none_failed}
+use Rattle.list_laws.proofs.FirstFaults.{none_failed}
 use Rattle.gate_lines.specs.Rows.{Row, rows_of}
 use Rattle.circuit_model.specs.Netlists.{Netlist, AllGatesFit, IsCircuit}
 use Rattle.list_laws.specs.Checks.{first_fault, then_fault}

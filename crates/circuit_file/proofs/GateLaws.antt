@@ -7,8 +7,8 @@ use Rattle.std.proofs.lemmas.Bool.{lt-ltb, ltb-false, eqb-true, and_parts, and_f
 use Rattle.std.proofs.lemmas.List.{take_more, take-append-drop, length-take-le, length-map}
 use Rattle.std.proofs.Math.Seq.{take-length}
 use Rattle.text_tokens.specs.Numbers.{number_of}
-use Rattle.list_laws.proofs.Passing.{none_failed}
-use Rattle.list_laws.proofs.Short.{one_long, two_long}
+use Rattle.list_laws.proofs.FirstFaults.{none_failed}
+use Rattle.list_laws.proofs.ShortLists.{one_long, two_long}
 use Rattle.gate_lines.specs.Rows.{Row}
 use Rattle.circuit_model.specs.declared.gate.Gate.{Gate}
 use Rattle.circuit_model.specs.declared.gate.Operation.{Operation}

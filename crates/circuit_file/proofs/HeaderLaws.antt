@@ -4,7 +4,7 @@ use Rattle.std.specs.Prelude.{slice_index_or}
 use Rattle.std.proofs.lemmas.Bool.{le-ltb, ltb-false, or_parts, not-false}
 use Rattle.std.proofs.lemmas.List.{length-map, take_all}
 use Rattle.text_tokens.specs.Numbers.{number_of}
-use Rattle.list_laws.proofs.Passing.{none_failed}
+use Rattle.list_laws.proofs.FirstFaults.{none_failed}
 use Rattle.gate_lines.specs.Rows.{Row}
 use Rattle.circuit_file.specs.Tokens.{token, is_number, number_in, all_numbers, numbers_in}
 use Rattle.circuit_file.specs.Header.{count_checks, counts_of, counts_in, width_tokens, width_checks, widths_in}

@@ -4,8 +4,8 @@ use Rattle.std.specs.Prelude.{slice_index}
 use Rattle.std.specs.List.{list_all}
 use Rattle.std.proofs.Math.ListN.{get_or-eq_default}
 use Rattle.std.proofs.lemmas.Bool.{eqb-true, ltb-true, ltb-false, and_parts, or_parts, not-false}
-use Rattle.list_laws.proofs.Passing.{none_failed}
-use Rattle.list_laws.proofs.Short.{one_long, two_long}
+use Rattle.list_laws.proofs.FirstFaults.{none_failed}
+use Rattle.list_laws.proofs.ShortLists.{one_long, two_long}
 use Rattle.circuit_model.specs.declared.gate.Operation.{Operation}
 use Rattle.circuit_model.specs.declared.gate.Operation.TheVariants.{Add, Sub, Neg, Mul, Xor, And, Inv, Eq, Eqw}
 use Rattle.circuit_model.specs.declared.fault.CircuitFault.{CircuitFault}

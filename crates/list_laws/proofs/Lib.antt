@@ -1,6 +1,6 @@
 pub mod Totals
 pub mod JoinedLists
-pub mod Short
-pub mod Pushing
-pub mod Passing
+pub mod ShortLists
+pub mod PushedLists
+pub mod FirstFaults
 pub mod Tests
