@@ -30,9 +30,29 @@ impl Model for Builder {
 
     ghost Value = { Draft };
 
-    ghost view = { λ b. record { circuit = record { bits = b.ring; gates = b.gates.items; wires = length b.set.items; inputs = b.inputs.items; outputs = b.outputs.items }; announced = b.announced; refused = b.refused } };
+    ghost view = { λ b. record {
+      circuit = record {
+        bits = b.ring;
+        gates = b.gates.items;
+        wires = length b.set.items;
+        inputs = b.inputs.items;
+        outputs = b.outputs.items;
+      };
+      announced = b.announced;
+      refused = b.refused;
+    } };
 
-    ghost invariant = { λ b. IsDraft (record { circuit = record { bits = b.ring; gates = b.gates.items; wires = length b.set.items; inputs = b.inputs.items; outputs = b.outputs.items }; announced = b.announced; refused = b.refused }) b.set.items };
+    ghost invariant = { λ b. IsDraft (record {
+      circuit = record {
+        bits = b.ring;
+        gates = b.gates.items;
+        wires = length b.set.items;
+        inputs = b.inputs.items;
+        outputs = b.outputs.items;
+      };
+      announced = b.announced;
+      refused = b.refused;
+    }) b.set.items };
 }
 
 impl Builder {

@@ -25,9 +25,22 @@ impl Model for Circuit {
 
     ghost Value = { Netlist };
 
-    ghost view = { λ c. record { bits = c.ring; gates = c.gates.items; wires = c.wires; inputs = c.inputs.items; outputs = c.outputs.items } };
+    ghost view = { λ c. record {
+      bits = c.ring;
+      gates = c.gates.items;
+      wires = c.wires;
+      inputs = c.inputs.items;
+      outputs = c.outputs.items;
+    } };
 
-    ghost invariant = { λ c. IsCircuit (record { bits = c.ring; gates = c.gates.items; wires = c.wires; inputs = c.inputs.items; outputs = c.outputs.items }) × (c.input_wires ≡ sum c.inputs.items) × (c.output_wires ≡ sum c.outputs.items) };
+    ghost invariant = { λ c. IsCircuit (record {
+      bits = c.ring;
+      gates = c.gates.items;
+      wires = c.wires;
+      inputs = c.inputs.items;
+      outputs = c.outputs.items;
+    }) × (c.input_wires ≡ sum c.inputs.items)
+        × (c.output_wires ≡ sum c.outputs.items) };
 }
 
 impl Circuit {

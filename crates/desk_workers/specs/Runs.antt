@@ -39,8 +39,7 @@ abbrev pub desk_of : Done → ℕ → ℕ → Option Desk
 desk_of done s p = slice_get done.desks.items (s * done.parties + p)
 
 -- the run is over: each cell has the word of its message, each desk has all outputs that its party reads and has drawn
--- all
--- words of its piece, and the desks moved as often as all programs have instructions
+-- all words of its piece, and the desks moved as often as all programs have instructions
 pub record IsOver (w : World) (done : Done) : Type 0 where
   pub parties : done.parties ≡ w.plan.parties
   pub count : length done.desks.items ≡ w.plan.parties * length w.plan.sessions

@@ -1,5 +1,5 @@
-//! Workers, each of which steps any desk that it finds at home: first those of its share, so that what the desks hold stays
-//! near the processor, and the others where none of these moves.
+//! Workers, each of which steps any desk that it finds at home: first those of its share, so that what the desks hold
+//! stays near the processor, and the others where none of these moves.
 ghost use Rattle.std.specs.Prelude.{◌≡◌, ◌+◌, ◌<◌, ◌≤◌, ◌^◌, length, vec_len};
 ghost use Rattle.message_board.specs.Seats.{IsFreeSeatOf};
 ghost use Rattle.desk_workers.specs.Pools.{IsPool, AllFree, SameSeatCounts};
@@ -147,8 +147,8 @@ fn next_idle(idle: u32, moves: u64) -> u32
     if moves == 0 { idle + 1 } else { 0 }
 }
 
-// Steps desks until all were found at home and at their end, or so many rounds in a row moved none, or the worker has made
-// as many moves as there are instructions.
+// Steps desks until all were found at home and at their end, or so many rounds in a row moved none, or the worker has
+// made as many moves as there are instructions.
 fn work<P: Pace>(
     rack: &Rack<Promised, Desk>,
     plan: &Plan,

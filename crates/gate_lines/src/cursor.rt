@@ -208,7 +208,8 @@ impl<'a> Model for Cursor<'a> {
 
     ghost view = { λ c. place_in c.number (drop c.at c.text.now) };
 
-    ghost invariant = { λ c. IsUtf8 c.text.now × StandsAt c.text.now c.at × (c.number + length (drop c.at c.text.now) < 2 ^ 64) };
+    ghost invariant = { λ c. IsUtf8 c.text.now × StandsAt c.text.now c.at
+        × (c.number + length (drop c.at c.text.now) < 2 ^ 64) };
 }
 
 impl<'a> Cursor<'a> {

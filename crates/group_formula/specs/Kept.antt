@@ -65,7 +65,11 @@ nodes_all (f ∷ fs) = nodes_all fs ++ nodes_pending f
 -- how an open parenthesis is kept
 abbrev pub frame_of : Pending → Frame
 frame_of (plain (level ors ands)) = record { bracket = brackets.Group; or_waits = there ors; and_waits = there ands }
-frame_of (listed n (level ors ands) done) = record { bracket = brackets.List n (number_done done); or_waits = there ors; and_waits = there ands }
+frame_of (listed n (level ors ands) done) = record {
+  bracket = brackets.List n (number_done done);
+  or_waits = there ors;
+  and_waits = there ands;
+}
 
 -- how the open parentheses are kept, the first one first
 abbrev pub frames_of : List Pending → List Frame
@@ -74,9 +78,27 @@ frames_of (f ∷ fs) = frames_of fs ++ (frame_of f ∷ [])
 
 -- how a state is kept
 abbrev pub kept_of : MachineState → Kept
-kept_of (want (level ors ands) fs) = record { mode = modes.Want; or_waits = there ors; and_waits = there ands; frames = frames_of fs; out = nodes_all fs ++ (nodes_ors ors ++ nodes_ands ands) }
-kept_of (want_of n (level ors ands) fs) = record { mode = modes.WantOf n; or_waits = there ors; and_waits = there ands; frames = frames_of fs; out = nodes_all fs ++ (nodes_ors ors ++ nodes_ands ands) }
-kept_of (want_open n (level ors ands) fs) = record { mode = modes.WantOpen n; or_waits = there ors; and_waits = there ands; frames = frames_of fs; out = nodes_all fs ++ (nodes_ors ors ++ nodes_ands ands) }
+kept_of (want (level ors ands) fs) = record {
+  mode = modes.Want;
+  or_waits = there ors;
+  and_waits = there ands;
+  frames = frames_of fs;
+  out = nodes_all fs ++ (nodes_ors ors ++ nodes_ands ands);
+}
+kept_of (want_of n (level ors ands) fs) = record {
+  mode = modes.WantOf n;
+  or_waits = there ors;
+  and_waits = there ands;
+  frames = frames_of fs;
+  out = nodes_all fs ++ (nodes_ors ors ++ nodes_ands ands);
+}
+kept_of (want_open n (level ors ands) fs) = record {
+  mode = modes.WantOpen n;
+  or_waits = there ors;
+  and_waits = there ands;
+  frames = frames_of fs;
+  out = nodes_all fs ++ (nodes_ors ors ++ nodes_ands ands);
+}
 kept_of (have ors t fs) =
     record {
       mode = modes.Have;

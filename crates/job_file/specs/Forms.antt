@@ -12,8 +12,7 @@ use Rattle.circuit_model.specs.declared.layout.CircuitLayout.TheVariants.{Ring}
 use Rattle.job_file.specs.Names.{field_text, layout_of}
 
 -- a session: the file of its circuit and its layout, the party that gives each input value, and for each output value
--- the
--- mask of the parties that read it
+-- the mask of the parties that read it
 pub record SessionForm : Type 0 where
   pub circuit : List ℕ
   pub layout : CircuitLayout

@@ -32,9 +32,15 @@ impl Model for SessionPart {
 
     ghost Value = { Session };
 
-    ghost view = { λ s. record { gates = s.gates.items; wires = s.wires; inputs = s.inputs.items; outputs = s.outputs.items } };
+    ghost view = { λ s. record {
+      gates = s.gates.items;
+      wires = s.wires;
+      inputs = s.inputs.items;
+      outputs = s.outputs.items;
+    } };
 
-    ghost invariant = { λ s. (s.owners.items ≡ owners_of s.inputs.items) × (s.readers.items ≡ readers_of s.outputs.items) × (s.products ≡ products_of s.gates.items) };
+    ghost invariant = { λ s. (s.owners.items ≡ owners_of s.inputs.items)
+        × (s.readers.items ≡ readers_of s.outputs.items) × (s.products ≡ products_of s.gates.items) };
 }
 
 impl SessionPart {

@@ -21,7 +21,8 @@ impl<T> Model for ClosedBoard<T> {
 
     ghost view = { λ c. cells_of c.messages (slots_items c.closed.words) };
 
-    ghost invariant = { λ c. IsFull c.closed.words × IsFull c.closed.slots × (c.messages + c.messages < length (slots_items c.closed.words)) };
+    ghost invariant = { λ c. IsFull c.closed.words × IsFull c.closed.slots
+        × (c.messages + c.messages < length (slots_items c.closed.words)) };
 }
 
 impl<T> ClosedBoard<T> {

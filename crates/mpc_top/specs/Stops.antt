@@ -1,6 +1,5 @@
 -- What a command comes to: it is done, or it stops. The table of causes: the status of each, its text for `err`, and
--- what
--- it says of words, files and `out`.
+-- what it says of words, files and `out`.
 use Rattle.std.specs.Prelude.{◌≡◌, ◌⊎◌, ℕ, IsTrue, List, [], Option, None, IsSome, Result, Ok, OnOk, IfErr}
 use Rattle.outer_io.specs.Count.{Rose}
 use Rattle.outer_io.specs.Files.{FilesReading}

@@ -1,6 +1,5 @@
 //! The outside, as the program sees it: files by name, and sinks for text, each with a count of faults that never
-//! falls,
-//! and what is told of the steps of workers.
+//! falls, and what is told of the steps of workers.
 #![tactic(auto)]
 
 mod blocks;

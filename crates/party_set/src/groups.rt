@@ -21,7 +21,11 @@ impl Model for Groups {
 
     ghost view = { λ g. record { parties = g.parties; groups = map (λ (m : Members). m.mask) g.groups.items } };
 
-    ghost invariant = { λ g. IsAntichain (record { parties = g.parties; groups = map (λ (m : Members). m.mask) g.groups.items }) × All (λ (m : Members). m.parties ≡ g.parties) g.groups.items };
+    ghost invariant = { λ g. IsAntichain (record {
+      parties = g.parties;
+      groups = map (λ (m : Members). m.mask) g.groups.items;
+    })
+        × All (λ (m : Members). m.parties ≡ g.parties) g.groups.items };
 }
 
 impl Groups {

@@ -30,7 +30,8 @@ impl Model for Duty {
 
     ghost view = { λ d. record { parties = d.parties; groups = d.groups.items } };
 
-    ghost invariant = { λ d. IsTable (record { parties = d.parties; groups = d.groups.items }) d.duties.items (map (λ (pairs : Vec (ℕ × ℕ)). pairs.items) d.pairs.items) };
+    ghost invariant = { λ d. IsTable (record { parties = d.parties; groups = d.groups.items }) d.duties.items
+        (map (λ (pairs : Vec (ℕ × ℕ)). pairs.items) d.pairs.items) };
 }
 
 impl Duty {

@@ -1,6 +1,5 @@
 //! Multiplying: each party multiplies the pairs of summands that are its duty, deals the sum of those products anew,
-//! and
-//! adds up what was dealt to it (Maurer 2006).
+//! and adds up what was dealt to it (Maurer 2006).
 #![tactic(auto)]
 
 ghost use Rattle.std.specs.Prelude.{◌≡◌, ℕ, ◌+◌, ◌%◌, ◌^◌, ◌<◌, All, length, slice_index};
