@@ -88,23 +88,26 @@ impl Held {
         })
     }
 
-    /// Whether the worker was called for the desk.
-    fn was_called_for(&self, worker: u32, desk: u32) -> bool {
-        self.calls_for(worker, desk) > 0
+    /// How often the worker was called for the desk.
+    fn count(&self, worker: u32, desk: u32) -> Option<&AtomicU64> {
+        self.calls
+            .get(worker as usize * COUNTED as usize + desk as usize)
     }
 
-    fn calls_for(&self, worker: u32, desk: u32) -> u64 {
-        match self.calls.get((worker * COUNTED + desk) as usize) {
-            Some(count) => count.load(Ordering::SeqCst),
-            None => 0,
+    fn was_called_for(&self, worker: u32, desk: u32) -> bool {
+        match self.count(worker, desk) {
+            Some(count) => count.load(Ordering::SeqCst) > 0,
+            None => false,
         }
     }
 
     /// How often the worker was called.
     fn calls_of(&self, worker: u32) -> u64 {
-        let mut calls = 0;
+        let mut calls = 0u64;
         for desk in 0..COUNTED {
-            calls += self.calls_for(worker, desk);
+            if let Some(count) = self.count(worker, desk) {
+                calls = calls.saturating_add(count.load(Ordering::SeqCst));
+            }
         }
         calls
     }
@@ -136,7 +139,7 @@ impl Held {
 impl Pace for Held {
     fn before(&self, worker: u32, desk: u32) {
         let is_first = self.calls_of(worker) == 0;
-        if let Some(count) = self.calls.get((worker * COUNTED + desk) as usize) {
+        if let Some(count) = self.count(worker, desk) {
             count.fetch_add(1, Ordering::SeqCst);
         }
         if is_first {
