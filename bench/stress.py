@@ -59,7 +59,7 @@ def make(folder, number):
         expected += ''.join(f'out {s} 0 {party} {value}\n' for party in parties)
     files = {
         'circuit.txt': circuit_text(inputs, gates),
-        'job.toml': f'version = 1\nring_bits = {bits}\nparties = {texts(parties)}\nformula = "{len(parties) // 2 + 1} of ({", ".join(parties)})"\n'
+        'job.toml': f'version = 1\nring_bits = {bits}\nparties = {texts(parties)}\nformula = "{(len(parties) + 1) // 2} of ({", ".join(parties)})"\n'
                     + sessions * session,
     }
     for p, party in enumerate(parties):
