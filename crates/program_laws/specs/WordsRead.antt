@@ -1,0 +1,45 @@
+-- The words of a desk's wires that are still to be read.
+use Rattle.std.specs.Prelude.{◌≡◌, ℕ, ◌<◌, ◌≤◌, nat_eq, true, slice_index}
+use Rattle.std.specs.List.{list_any}
+use Rattle.circuit_model.specs.declared.gate.Gate.{Gate}
+use Rattle.circuit_model.specs.Netlists.{read_by}
+use Rattle.job_plan.specs.Plans.{Plan, Session, Slot, holds, output_wire, session}
+use Rattle.job_plan.specs.Plans.Slot.{Input, At_gate, Output}
+use Rattle.party_program.specs.declared.program.Instruction.{Instruction}
+use Rattle.party_program.specs.declared.program.Instruction.TheVariants.{Deal, Post, Take, Linear, Own, Sum, Deliver, End}
+use Rattle.party_program.specs.Programs.{program, at}
+use Rattle.party_program.specs.States.{Given, gate_in_slot, output_in_slot, slot_at, slot_of}
+
+abbrev pub gate_at : Plan → ℕ → ℕ → Gate
+gate_at plan s k = gate_in_slot (session plan s) (slot_at plan s k)
+
+-- the wire whose summands the messages of a slot carry
+abbrev pub Carries : Session → Slot → ℕ → Type 0
+Carries s (Input u) v = v ≡ u
+Carries s (At_gate t) v = ⊥
+Carries s (Output o) v = v ≡ output_wire s o
+
+-- the instruction sets summand i of wire v
+abbrev pub Sets : Plan → ℕ → Instruction → ℕ → ℕ → Type 0
+Sets plan s (Deal k d) v i = slot_at plan s k ≡ Input v
+Sets plan s (Take n j) v i = (slot_of plan s n ≡ Input v) × (i ≡ j)
+Sets plan s (Linear k) v i = v ≡ (gate_at plan s k).output
+Sets plan s (Sum k) v i = v ≡ (gate_at plan s k).output
+Sets plan s _ v i = ⊥
+
+-- the instruction of party p reads summand i of wire v: it posts it, or computes with those that p holds
+abbrev pub Reads : Plan → ℕ → ℕ → Instruction → ℕ → ℕ → Type 0
+Reads plan p s (Post n j) v i = Carries (session plan s) (slot_of plan s n) v × (i ≡ j)
+Reads plan p s (Linear k) v i = (list_any (nat_eq v) (read_by (gate_at plan s k)) ≡ true) × (holds plan p i ≡ true)
+Reads plan p s (Own k) v i = (list_any (nat_eq v) (read_by (gate_at plan s k)) ≡ true) × (holds plan p i ≡ true)
+Reads plan p s (Deliver k) v i =
+    (v ≡ output_wire (session plan s) (output_in_slot (slot_at plan s k))) × (holds plan p i ≡ true)
+Reads plan p s _ v i = ⊥
+
+-- an instruction before position q sets summand i of wire v
+abbrev pub IsSet : Plan → ℕ → ℕ → ℕ → ℕ → ℕ → Type 0
+IsSet plan p s q v i = (r : ℕ) × (r < q) × Sets plan s (at (program plan p s) r) v i
+
+-- an instruction from position q on reads it
+abbrev pub IsToRead : Plan → ℕ → ℕ → ℕ → ℕ → ℕ → Type 0
+IsToRead plan p s q v i = (r : ℕ) × (q ≤ r) × Reads plan p s (at (program plan p s) r) v i
