@@ -10,3 +10,4 @@ pub mod RankSearch
 pub mod MessageSlots
 pub mod TapePlaces
 pub mod CircuitSessions
+pub mod KeptRows
