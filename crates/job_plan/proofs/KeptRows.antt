@@ -45,7 +45,7 @@ kept_from s j k m w before after within set read =
     (some_at k (λ j. sets s j w) j before set)
     (some_at (slots s) (λ m. nat_le k m && reads s m w) m within (and_from (nat_le k m) (reads s m w) (le-leb k m after) read))
 
-one_wire : (u v : ℕ) → (nat_eq v u || false) ≡ true → v ≡ u
+pub one_wire : (u v : ℕ) → (nat_eq v u || false) ≡ true → v ≡ u
 one_wire u v e = elim (or_cases (nat_eq v u) false e) [ inl same ↦ eqb-true v u same | inr not' ↦ absurd (false≢true not') ]
 
 -- a slot sets one wire at most
