@@ -4,7 +4,6 @@ use Rattle.std.specs.Prelude.{slice_index, All, ◌==◌, Bool, true, false, not
 use Rattle.std.proofs.Math.ListN.{get_or-append}
 use Rattle.std.proofs.Math.Seq.{get_or-append_right}
 use Rattle.std.proofs.lemmas.List.{get_or-replicate, length-replicate}
-use Rattle.std.proofs.lemmas.List.Sums.{sum_by-cons}
 use Rattle.std.proofs.lemmas.Bool.{cases_lt, eqb-true}
 use Rattle.party_set.specs.Parties.{Members}
 use Rattle.circuit_model.specs.Netlists.{Netlist, IsCircuit}
@@ -15,24 +14,8 @@ use Rattle.plan_faults.specs.declared.part_fault.PartFault.{PartFault}
 use Rattle.plan_faults.specs.declared.part_fault.PartFault.TheVariants.{OwnersDiffer, ReadersDiffer}
 use Rattle.plan_faults.specs.Counts.{counts_fault}
 use Rattle.job_plan.specs.Parts.{input_values, output_values, session_of, AreOf, AreWithin}
-
-sum_cons : (w : ℕ) (ws : List ℕ) → sum (w ∷ ws) ≡ w + sum ws
-sum_cons w ws = sum_by-cons (λ x. x) w ws
-
--- as many owners as input wires
-pub owners_long : (ws ps : List ℕ) → length ps ≡ length ws → length (owners_of (input_values ws ps)) ≡ sum ws
-owners_long [] ps e = refl
-owners_long (w ∷ ws) [] e = absurd (omega (arith, e))
-owners_long (w ∷ ws) (p ∷ ps) e =
-    let rest : length (owners_of (input_values ws ps)) ≡ sum ws = owners_long ws ps (omega (arith, e)) in
-    omega (arith, length-append (replicate w p) (owners_of (input_values ws ps)), length-replicate {A = ℕ} w p, rest, sum_cons w ws)
-
-pub readers_long : (ws : List ℕ) (gs : List Members) → length gs ≡ length ws → length (readers_of (output_values ws gs)) ≡ sum ws
-readers_long [] gs e = refl
-readers_long (w ∷ ws) [] e = absurd (omega (arith, e))
-readers_long (w ∷ ws) (g ∷ gs) e =
-    let rest : length (readers_of (output_values ws gs)) ≡ sum ws = readers_long ws gs (omega (arith, e)) in
-    omega (arith, length-append (replicate w g.mask) (readers_of (output_values ws gs)), length-replicate {A = ℕ} w g.mask, rest, sum_cons w ws)
+use Rattle.job_plan.proofs.ValueWires.{owners_long, readers_long}
+use Rattle.job_plan.proofs.CircuitOrder.{in_order}
 
 owners_below : (ws ps : List ℕ) (parties v : ℕ) → length ps ≡ length ws → All (λ p. p < parties) ps → v < length (owners_of (input_values ws ps)) → slice_index (owners_of (input_values ws ps)) v < parties
 owners_below [] ps parties v e all l = absurd (omega (arith, l))
@@ -75,6 +58,7 @@ sound_session c owners readers parties v o r all within = record {
   first = λ t l. first_below c t v l;
   second = λ t l. second_below c t v l;
   output = λ t l. output_below c t v l;
+  order = in_order c owners readers v o r;
 }
 
 -- where nothing is wrong, there are as many owners and groups of readers as values

@@ -9,4 +9,7 @@ pub mod PackedKeys
 pub mod RankSearch
 pub mod MessageSlots
 pub mod TapePlaces
+pub mod ValueWires
+pub mod CircuitOrder
 pub mod CircuitSessions
+pub mod KeptRows

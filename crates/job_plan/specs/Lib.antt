@@ -1,4 +1,5 @@
 pub mod Plans
+pub mod KeptWires
 pub mod Messages
 pub mod Packing
 pub mod Numbers

@@ -2,6 +2,7 @@
 use Rattle.std.specs.Prelude.{◌≡◌, ℕ, ◌<◌, ◌≤◌, ◌^◌, List, length, slice_index}
 use Rattle.list_laws.specs.Lists.{total}
 use Rattle.job_plan.specs.Plans.{readers, owners, Plan, Session, Slot, session, gate, words, Q2}
+use Rattle.job_plan.specs.KeptWires.{IsInOrder}
 use Rattle.job_plan.specs.declared.key.Key.{Key}
 use Rattle.job_plan.specs.Messages.{messages}
 use Rattle.job_plan.specs.Plans.Slot.{Input, At_gate, Output}
@@ -9,7 +10,8 @@ use Rattle.job_plan.specs.Firsts.{starts_of, deal_starts_of}
 use Rattle.job_plan.specs.declared.slot_kind.SlotKind.{SlotKind}
 use Rattle.job_plan.specs.declared.slot_kind.SlotKind.TheVariants.{Input as InputKind, Gate as GateKind, Output as OutputKind}
 
--- the wires of each gate are wires, owners and readers are parties, and all is within the limits
+-- the wires of each gate are wires, each is set before it is read, owners and readers are parties, and all is within
+-- the limits
 pub record IsSoundSession (parties : ℕ) (s : Session) : Type 0 where
   pub wires : s.wires ≤ 131072
   pub gates : length s.gates ≤ 65536
@@ -20,6 +22,7 @@ pub record IsSoundSession (parties : ℕ) (s : Session) : Type 0 where
   pub first : (t : ℕ) → t < length s.gates → (gate s t).first < s.wires
   pub second : (t : ℕ) → t < length s.gates → (gate s t).second < s.wires
   pub output : (t : ℕ) → t < length s.gates → (gate s t).output < s.wires
+  pub order : IsInOrder s
 
 -- a sharing in which products can be computed, and all is within the limits but for the messages and the tape words
 pub record IsOutline (plan : Plan) : Type 0 where

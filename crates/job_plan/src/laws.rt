@@ -1,5 +1,6 @@
-//! Laws of the numbering.
+//! Laws of the numbering, and of the rows of wires.
 ghost use Rattle.std.specs.Prelude.{ℕ};
+ghost use Rattle.job_plan.specs.KeptWires.{KeptApart};
 ghost use Rattle.job_plan.specs.Plans.{Plan};
 ghost use Rattle.job_plan.specs.Numbers.{NumbersAreInverse, PlacesDiffer, PlacesByDeals};
 
@@ -12,4 +13,9 @@ pub fn numbers_are_inverse()
 pub fn places_are_apart()
     ensures apart { (plan : Plan) (p : ℕ) → PlacesDiffer plan p }
     ensures by_deals { (plan : Plan) (p : ℕ) → PlacesByDeals plan p }
+{}
+
+/// Two wires that are kept before the same slot have different rows.
+pub fn kept_wires_have_their_own_rows()
+    ensures { KeptApart }
 {}

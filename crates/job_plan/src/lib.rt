@@ -17,7 +17,7 @@ mod values;
 
 pub use inputs::Inputs;
 pub use key::Key;
-pub use laws::{numbers_are_inverse, places_are_apart};
+pub use laws::{kept_wires_have_their_own_rows, numbers_are_inverse, places_are_apart};
 pub use plan::Plan;
 pub use plan_faults::{PartFault, PlanFault};
 pub use session_part::SessionPart;

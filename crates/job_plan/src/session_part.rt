@@ -51,8 +51,8 @@ impl SessionPart {
     ghost use Rattle.job_plan.specs.Tallies.{products, owned, outputs_read};
     ghost use Rattle.job_plan.specs.Sound.{slot_of_kind, Inside, IsSoundSession};
 
-    /// The session of these gates over so many wires, with these values.
-    pub fn of(
+    // The session of these gates over so many wires, with these values.
+    fn of(
         alloc: Global,
         gates: Vec<Gate>,
         wires: u32,
