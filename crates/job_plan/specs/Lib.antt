@@ -1,5 +1,6 @@
 pub mod Plans
 pub mod Messages
+pub mod Patterns
 pub mod Packing
 pub mod Numbers
 pub mod Firsts

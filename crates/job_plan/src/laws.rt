@@ -2,6 +2,7 @@
 ghost use Rattle.std.specs.Prelude.{ℕ};
 ghost use Rattle.job_plan.specs.Plans.{Plan};
 ghost use Rattle.job_plan.specs.Numbers.{NumbersAreInverse, PlacesDiffer, PlacesByDeals};
+ghost use Rattle.job_plan.specs.Patterns.{SlotsFollowPatterns};
 
 /// Messages and their numbers are each other's inverse.
 pub fn numbers_are_inverse()
@@ -12,4 +13,9 @@ pub fn numbers_are_inverse()
 pub fn places_are_apart()
     ensures apart { (plan : Plan) (p : ℕ) → PlacesDiffer plan p }
     ensures by_deals { (plan : Plan) (p : ℕ) → PlacesByDeals plan p }
+{}
+
+/// The messages of a slot are the lines of its pattern, named by the slot.
+pub fn slots_follow_patterns()
+    ensures { (plan : Plan) → SlotsFollowPatterns plan }
 {}

@@ -8,6 +8,7 @@ mod keys;
 mod laws;
 mod lists;
 mod outline;
+mod pattern;
 mod plan;
 mod ranks;
 mod session_part;
@@ -17,7 +18,8 @@ mod values;
 
 pub use inputs::Inputs;
 pub use key::Key;
-pub use laws::{numbers_are_inverse, places_are_apart};
+pub use laws::{numbers_are_inverse, places_are_apart, slots_follow_patterns};
+pub use pattern::{Line, Pattern};
 pub use plan::Plan;
 pub use plan_faults::{PartFault, PlanFault};
 pub use session_part::SessionPart;

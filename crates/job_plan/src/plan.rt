@@ -8,6 +8,7 @@ use crate::key::{Key, PackedKey};
 use crate::keys::Keys;
 use crate::lists::{list_deals, list_messages};
 use crate::outline::Outline;
+use crate::pattern::Pattern;
 use crate::ranks::search;
 use crate::session_part::SessionPart;
 use crate::slot_kind::SlotKind;
@@ -47,6 +48,7 @@ impl Plan {
     ghost use Rattle.secret_sharing.specs.Sharing.{has_pair};
     ghost use Rattle.job_plan.specs.Messages.{messages, slot_messages};
     ghost use Rattle.job_plan.specs.Packing.{names};
+    ghost use Rattle.job_plan.specs.Patterns.{pattern_at, Occurs};
     ghost use Rattle.job_plan.specs.Numbers.{message, number, opens, deals, deals_before, deal_place};
     ghost use Rattle.job_plan.specs.Sound.{IsSound, IsSoundSession};
     ghost use Rattle.job_plan.specs.Firsts.{first};
@@ -205,6 +207,16 @@ impl Plan {
         ensures { result ≡ slots (session self.now s) }
     {
         self.outline.part(s).slots()
+    }
+
+    /// How the messages of slot `k` of session `s` go.
+    pub fn pattern(&self, s: u32, k: u32) -> Pattern
+        requires session { s < length self.now.sessions }
+        requires slot { k < slots (session self.now s) }
+        ensures is { result ≡ pattern_at self.now s k }
+        ensures occurs { Occurs self.now result }
+    {
+        self.outline.pattern(s, k)
     }
 
     /// How many deals party `p` makes in session `s`.
