@@ -30,6 +30,10 @@ none_joined : {A : Type 0} (n : ℕ) (f : ℕ → List A) → ((k : ℕ) → f k
 none_joined zero f h = refl
 none_joined (suc n) f h = ap₂ (λ x y. x ++ y) (none_joined n f h) (h n)
 
+-- summand i of an opening to r
+abbrev pub open_line : Plan → ℕ → ℕ → List Line
+open_line plan r i = only_if (not (holds plan r i)) (record { share = i; sender = least_holder plan i; receiver = r } ∷ [])
+
 module _ (plan : Plan) (s k : ℕ) where
   abbrev at : Line → Key
   at = named s k

@@ -1,6 +1,7 @@
 pub mod Plans
 pub mod Messages
 pub mod Patterns
+pub mod Tables
 pub mod Packing
 pub mod Numbers
 pub mod Firsts
