@@ -3,6 +3,7 @@ pub mod Slots
 pub mod DistinctMessages
 pub mod SlotMessages
 pub mod TallyLaws
+pub mod SlotPatterns
 pub mod GrownLists
 pub mod RisingRanks
 pub mod PackedKeys

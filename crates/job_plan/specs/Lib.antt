@@ -1,6 +1,8 @@
 pub mod Plans
 pub mod KeptWires
 pub mod Messages
+pub mod Patterns
+pub mod Tables
 pub mod Packing
 pub mod Numbers
 pub mod Firsts

@@ -4,7 +4,9 @@ use Rattle.list_laws.specs.Lists.{total}
 use Rattle.job_plan.specs.Plans.{readers, owners, Plan, Session, Slot, session, gate, words, Q2}
 use Rattle.job_plan.specs.KeptWires.{IsInOrder}
 use Rattle.job_plan.specs.declared.key.Key.{Key}
+use Rattle.job_plan.specs.declared.patterns.Patterns.{Patterns}
 use Rattle.job_plan.specs.Messages.{messages}
+use Rattle.job_plan.specs.Tables.{AreLines}
 use Rattle.job_plan.specs.Plans.Slot.{Input, At_gate, Output}
 use Rattle.job_plan.specs.Firsts.{starts_of, deal_starts_of}
 use Rattle.job_plan.specs.declared.slot_kind.SlotKind.{SlotKind}
@@ -51,9 +53,11 @@ pub record IsSound (plan : Plan) : Type 0 where
   pub few_words : (p : ℕ) → p < plan.parties → total (length plan.sessions) (words plan p) ≤ 1048576
   pub sessions : (s : ℕ) → s < length plan.sessions → IsSoundSession plan.parties (session plan s)
 
--- a plan's tables: its messages in order, where those of each slot begin, and each party's deals before each session
-pub record IsLaid (plan : Plan) (list : List Key) (starts deals : List (List ℕ)) : Type 0 where
+-- a plan's tables: its messages in order, the lines of its patterns, where the messages of each slot begin, and each
+-- party's deals before each session
+pub record IsLaid (plan : Plan) (list : List Key) (patterns : Patterns) (starts deals : List (List ℕ)) : Type 0 where
   pub sound : IsSound plan
+  pub lines : AreLines plan patterns
   pub keys : list ≡ messages plan
   pub begin : starts ≡ starts_of plan
   pub dealt : deals ≡ deal_starts_of plan

@@ -3,6 +3,7 @@ ghost use Rattle.std.specs.Prelude.{ℕ};
 ghost use Rattle.job_plan.specs.KeptWires.{KeptApart};
 ghost use Rattle.job_plan.specs.Plans.{Plan};
 ghost use Rattle.job_plan.specs.Numbers.{NumbersAreInverse, PlacesDiffer, PlacesByDeals};
+ghost use Rattle.job_plan.specs.Patterns.{SlotsFollowPatterns};
 
 /// Messages and their numbers are each other's inverse.
 pub fn numbers_are_inverse()
@@ -18,4 +19,9 @@ pub fn places_are_apart()
 /// Two wires that are kept before the same slot have different rows.
 pub fn kept_wires_have_their_own_rows()
     ensures { KeptApart }
+{}
+
+/// The messages of a slot are the lines of its pattern, named by the slot.
+pub fn slots_follow_patterns()
+    ensures { (plan : Plan) → SlotsFollowPatterns plan }
 {}

@@ -6,8 +6,12 @@ mod inputs;
 mod key;
 mod keys;
 mod laws;
+mod lines;
 mod lists;
 mod outline;
+mod pattern;
+mod pattern_lines;
+mod patterns;
 mod plan;
 mod ranks;
 mod session_part;
@@ -17,7 +21,10 @@ mod values;
 
 pub use inputs::Inputs;
 pub use key::Key;
-pub use laws::{kept_wires_have_their_own_rows, numbers_are_inverse, places_are_apart};
+pub use laws::{
+    kept_wires_have_their_own_rows, numbers_are_inverse, places_are_apart, slots_follow_patterns,
+};
+pub use pattern::{Line, Pattern};
 pub use plan::Plan;
 pub use plan_faults::{PartFault, PlanFault};
 pub use session_part::SessionPart;

@@ -1,7 +1,9 @@
 //! What a plan is made of.
 ghost use Rattle.std.specs.Prelude.{◌≡◌};
 
+use crate::pattern::Pattern;
 use crate::session_part::SessionPart;
+use crate::slot_kind::SlotKind;
 use mpc_ring::Ring;
 use product_duty::Duty;
 use share_layout::Layout;
@@ -31,7 +33,8 @@ impl Model for Outline {
 impl Outline {
     ghost use Rattle.std.specs.Prelude.{◌≡◌, ◌<◌, ◌≤◌, All, length};
     ghost use Rattle.secret_sharing.specs.Sharing.{has_pair};
-    ghost use Rattle.job_plan.specs.Plans.{structure, scheme, session, plan_of, holds, least_holder};
+    ghost use Rattle.job_plan.specs.Plans.{structure, scheme, session, slots, plan_of, holds, least_holder};
+    ghost use Rattle.job_plan.specs.Patterns.{pattern_at, Occurs};
     ghost use Rattle.job_plan.specs.Sound.{IsOutline, IsSoundSession};
 
     pub(crate) fn of(ring: Ring, layout: Layout, duty: Duty, parts: Vec<SessionPart>) -> Outline
@@ -126,5 +129,26 @@ impl Outline {
         ensures party { result < self.now.parties }
     {
         self.layout.least_holder(i)
+    }
+
+    /// How the messages of slot `k` of session `s` go.
+    pub(crate) fn pattern(&self, s: u32, k: u32) -> Pattern
+        requires session { s < length self.now.sessions }
+        requires slot { k < slots (session self.now s) }
+        ensures is { result ≡ pattern_at self.now s k }
+        ensures occurs { Occurs self.now result }
+    {
+        let part = self.part(s);
+        match part.slot_kind(k) {
+            SlotKind::Input(v) => Pattern::Dealt(part.wire_owner(v)),
+            SlotKind::Gate(t) => {
+                if part.gate(t).operation.is_product() {
+                    Pattern::Multiplied
+                } else {
+                    Pattern::Silent
+                }
+            }
+            SlotKind::Output(o) => Pattern::Opened(part.wire_readers(o)),
+        }
     }
 }

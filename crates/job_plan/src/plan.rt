@@ -8,6 +8,8 @@ use crate::key::{Key, PackedKey};
 use crate::keys::Keys;
 use crate::lists::{list_deals, list_messages};
 use crate::outline::Outline;
+use crate::pattern::{Line, Pattern};
+use crate::patterns::Patterns;
 use crate::ranks::search;
 use crate::session_part::SessionPart;
 use crate::slot_kind::SlotKind;
@@ -25,6 +27,7 @@ use std::marker::Model;
 pub struct Plan {
     outline: Outline,
     keys: Keys,
+    patterns: Patterns,
     starts: Vec<Starts>,
     deals: Vec<Starts>,
 }
@@ -37,7 +40,7 @@ impl Model for Plan {
 
     ghost view = { λ p. p.outline };
 
-    ghost invariant = { λ p. IsLaid p.outline p.keys p.starts.items p.deals.items };
+    ghost invariant = { λ p. IsLaid p.outline p.keys p.patterns p.starts.items p.deals.items };
 }
 
 impl Plan {
@@ -47,6 +50,7 @@ impl Plan {
     ghost use Rattle.secret_sharing.specs.Sharing.{has_pair};
     ghost use Rattle.job_plan.specs.Messages.{messages, slot_messages};
     ghost use Rattle.job_plan.specs.Packing.{names};
+    ghost use Rattle.job_plan.specs.Patterns.{lines, pattern_at, Occurs};
     ghost use Rattle.job_plan.specs.Numbers.{message, number, opens, deals, deals_before, deal_place};
     ghost use Rattle.job_plan.specs.Sound.{IsSound, IsSoundSession};
     ghost use Rattle.job_plan.specs.Firsts.{first};
@@ -75,10 +79,12 @@ impl Plan {
         }
         check_words(&outline)?;
         let (keys, starts) = list_messages(alloc, &outline, count as u32)?;
+        let patterns = Patterns::make(alloc, &outline)?;
         let deals = list_deals(alloc, &outline)?;
         Ok(Plan {
             outline,
             keys,
+            patterns,
             starts,
             deals,
         })
@@ -205,6 +211,24 @@ impl Plan {
         ensures { result ≡ slots (session self.now s) }
     {
         self.outline.part(s).slots()
+    }
+
+    /// How the messages of slot `k` of session `s` go.
+    pub fn pattern(&self, s: u32, k: u32) -> Pattern
+        requires session { s < length self.now.sessions }
+        requires slot { k < slots (session self.now s) }
+        ensures is { result ≡ pattern_at self.now s k }
+        ensures occurs { Occurs self.now result }
+    {
+        self.outline.pattern(s, k)
+    }
+
+    /// The lines of a pattern that occurs in the plan.
+    pub fn lines(&self, pattern: Pattern) -> &[Line]
+        requires { Occurs self.now pattern }
+        ensures { result.now ≡ lines self.now pattern }
+    {
+        self.patterns.lines(pattern)
     }
 
     /// How many deals party `p` makes in session `s`.

@@ -1,0 +1,73 @@
+-- The patterns of slots: how the messages of a slot go, which depends on its kind alone.
+use Rattle.std.specs.Prelude.{◌≡◌, ℕ, ◌<◌, ◌&&◌, not, nat_eq, if◌then◌else◌, List, [], ◌∷◌, map, length, slice_index}
+use Rattle.list_laws.specs.Lists.{joined, only_if}
+use Rattle.circuit_model.specs.Circuits.{is_product}
+use Rattle.secret_sharing.specs.Sharing.{has_pair}
+use Rattle.party_set.specs.Parties.{has_party}
+use Rattle.job_plan.specs.declared.key.Key.{Key}
+use Rattle.job_plan.specs.declared.pattern.Line.{Line}
+use Rattle.job_plan.specs.declared.pattern.Pattern.{Pattern}
+use Rattle.job_plan.specs.declared.pattern.Pattern.TheVariants.{Silent, Dealt, Multiplied, Opened}
+use Rattle.job_plan.specs.Plans.{Plan, Slot, holds, least_holder, scheme, session, owners, readers, gate, slot, slots}
+use Rattle.job_plan.specs.Plans.Slot.{Input, At_gate, Output}
+use Rattle.job_plan.specs.Messages.{slot_messages}
+
+-- the message of a line, in slot k of session s
+abbrev pub named : ℕ → ℕ → Line → Key
+named s k line = record { session = s; slot = k; share = line.share; sender = line.sender; receiver = line.receiver }
+
+-- ---- the lines of a pattern
+
+-- summand i of a deal of p, to party q
+abbrev pub deal_line : Plan → ℕ → ℕ → ℕ → List Line
+deal_line plan p i q =
+    only_if (not (nat_eq q p) && holds plan q i) (record { share = i; sender = p; receiver = q } ∷ [])
+
+-- a deal of p: each summand to each other party that holds it
+abbrev pub deal_lines : Plan → ℕ → List Line
+deal_lines plan p = joined (length plan.groups) (λ i. joined plan.parties (deal_line plan p i))
+
+-- an opening to r: each summand that r lacks, from its least holder
+abbrev pub open_lines : Plan → ℕ → List Line
+open_lines plan r =
+    joined (length plan.groups) (λ i. only_if (not (holds plan r i))
+    (record { share = i; sender = least_holder plan i; receiver = r } ∷ []))
+
+-- a dealt value is dealt by its party, a product by each party that has a pair, and an output is opened to each reader
+abbrev pub lines : Plan → Pattern → List Line
+lines plan Silent = []
+lines plan (Dealt p) = deal_lines plan p
+lines plan Multiplied = joined plan.parties (λ p. only_if (has_pair (scheme plan) p) (deal_lines plan p))
+lines plan (Opened readers) = joined plan.parties (λ r. only_if (has_party readers r) (open_lines plan r))
+
+-- ---- the pattern of a slot
+
+-- how the messages of this slot of session s go
+abbrev pub pattern : Plan → ℕ → Slot → Pattern
+pattern plan s (Input v) = Dealt (slice_index (owners (session plan s)) v)
+pattern plan s (At_gate t) = if is_product (gate (session plan s) t).operation then Multiplied else Silent
+pattern plan s (Output o) = Opened (slice_index (readers (session plan s)) o)
+
+-- the pattern of slot k of session s
+abbrev pub pattern_at : Plan → ℕ → ℕ → Pattern
+pattern_at plan s k = pattern plan s (slot (session plan s) k)
+
+-- an output wire of the plan is read by this group
+pub record IsReadBy (plan : Plan) (mask : ℕ) : Type 0 where
+  pub at : ℕ  -- the session
+  pub output : ℕ
+  pub session_there : at < length plan.sessions
+  pub output_there : output < length (readers (session plan at))
+  pub is : mask ≡ slice_index (readers (session plan at)) output
+
+-- a pattern that the slots of the plan may have: a deal of a party, a product, or an opening to those who read an output
+abbrev pub Occurs : Plan → Pattern → Type 0
+Occurs plan Silent = Unit {0}
+Occurs plan (Dealt p) = p < plan.parties
+Occurs plan Multiplied = Unit {0}
+Occurs plan (Opened mask) = IsReadBy plan mask
+
+-- the messages of a slot are the lines of its pattern, named by the slot
+abbrev pub SlotsFollowPatterns : Plan → Type 0
+SlotsFollowPatterns plan =
+    (s k : ℕ) (z : Slot) → slot_messages plan s k z ≡ map (named s k) (lines plan (pattern plan s z))

@@ -1,0 +1,42 @@
+//! How the messages of a slot go.
+
+use crate::key::Key;
+
+/// A message as the pattern of its slot has it: a summand, its sender and its receiver. It takes three bytes.
+#[derive(Clone, Copy, Debug, PartialEq, Eq)]
+pub struct Line {
+    pub share: u8,
+    pub sender: u8,
+    pub receiver: u8,
+}
+
+impl Line {
+    ghost use Rattle.std.specs.Prelude.{◌≡◌};
+    ghost use Rattle.job_plan.specs.Patterns.{named};
+
+    /// The message of this line, in slot `slot` of session `session`.
+    pub fn named(self, session: u32, slot: u32) -> Key
+        ensures { result ≡ named session slot self }
+    {
+        Key {
+            session,
+            slot,
+            share: u32::from(self.share),
+            sender: u32::from(self.sender),
+            receiver: u32::from(self.receiver),
+        }
+    }
+}
+
+/// How the messages of a slot go, which depends on its kind alone.
+#[derive(Clone, Copy, Debug, PartialEq, Eq)]
+pub enum Pattern {
+    /// There are none: a linear gate.
+    Silent,
+    /// This party deals a value.
+    Dealt(u32),
+    /// Each party that has a pair deals its part of a product.
+    Multiplied,
+    /// An output is opened to this group of readers, as a mask.
+    Opened(u32),
+}

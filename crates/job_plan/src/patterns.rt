@@ -1,0 +1,119 @@
+//! The patterns of a plan.
+ghost use Rattle.std.specs.Prelude.{◌≡◌, ℕ, ◌<◌, IfOk, OnOk, length, slice_index};
+ghost use Rattle.list_laws.specs.Lists.{listed};
+ghost use Rattle.job_plan.specs.Plans.{session, readers};
+ghost use Rattle.job_plan.specs.Patterns.{deal_lines, IsReadBy};
+ghost use Rattle.job_plan.specs.Tables.{AreOpenings, HasOpening};
+
+use crate::lines::Lines;
+use crate::outline::Outline;
+use crate::pattern::{Line, Pattern};
+use crate::pattern_lines::{dealt_lines, multiplied_lines, opened_lines};
+use indexmap::IndexMap;
+use std::alloc::{AllocError, Global};
+
+/// The lines of each pattern that the slots of a plan may have: of a product, of a deal of each party, and of an
+/// opening to each group that reads an output.
+#[derive(Drop)]
+pub(crate) struct Patterns {
+    product: Lines,
+    deals: Vec<Lines>,
+    openings: IndexMap<u32, Lines>,
+}
+
+impl Patterns {
+    ghost use Rattle.std.specs.Prelude.{◌≡◌, IfOk};
+    ghost use Rattle.job_plan.specs.Plans.{Plan};
+    ghost use Rattle.job_plan.specs.Patterns.{lines, Occurs};
+    ghost use Rattle.job_plan.specs.Tables.{AreLines};
+
+    pub(crate) fn make(alloc: Global, outline: &Outline) -> Result<Patterns, AllocError>
+        ensures { IfOk result (AreLines outline.now) }
+    {
+        let product = multiplied_lines(alloc, outline)?;
+        let deals = deals_of_each(alloc, outline)?;
+        let openings = openings_of_each(alloc, outline)?;
+        Ok(Patterns {
+            product,
+            deals,
+            openings,
+        })
+    }
+
+    /// The lines of a pattern of the plan that these are of.
+    pub(crate) fn lines(&self, pattern: Pattern) -> &[Line]
+        requires { (plan : Plan) × AreLines plan self.now × Occurs plan pattern }
+        ensures { (plan : Plan) → AreLines plan self.now → Occurs plan pattern → result.now ≡ lines plan pattern }
+    {
+        match pattern {
+            Pattern::Silent => &[],
+            Pattern::Dealt(p) => self.deals[p as usize].as_slice(),
+            Pattern::Multiplied => self.product.as_slice(),
+            Pattern::Opened(readers) => self.openings[&readers].as_slice(),
+        }
+    }
+}
+
+// The lines of a deal of each party.
+fn deals_of_each(alloc: Global, outline: &Outline) -> Result<Vec<Lines>, AllocError>
+    ensures { IfOk result (λ made. made.items ≡ listed outline.now.parties (deal_lines outline.now)) }
+{
+    let mut list = Vec::new(alloc);
+    for p in 0..outline.parties() {
+        list.push(dealt_lines(alloc, outline, p)?)?;
+    }
+    Ok(list)
+}
+
+// The lines of an opening to each group that reads an output.
+fn openings_of_each(alloc: Global, outline: &Outline) -> Result<IndexMap<u32, Lines>, AllocError>
+    ensures { IfOk result (λ made. (mask : ℕ) → IsReadBy outline.now mask → HasOpening outline.now made mask) }
+{
+    let mut openings = IndexMap::new(alloc);
+    for s in 0..outline.sessions() {
+        add_openings(alloc, outline, s, &mut openings)?;
+    }
+    Ok(openings)
+}
+
+// Adds the openings of session s.
+fn add_openings(
+    alloc: Global,
+    outline: &Outline,
+    s: u32,
+    openings: &mut IndexMap<u32, Lines>,
+) -> Result<(), AllocError>
+    requires session { s < length outline.now.sessions }
+    requires before { AreOpenings outline.now openings.old }
+    ensures openings { OnOk result (AreOpenings outline.now openings.new) }
+    ensures others { OnOk result ((mask : ℕ) → HasOpening outline.now openings.old mask
+        → HasOpening outline.now openings.new mask) }
+    ensures added { OnOk result ((o : ℕ) → o < length (readers (session outline.now s))
+        → HasOpening outline.now openings.new (slice_index (readers (session outline.now s)) o)) }
+{
+    let part = outline.part(s);
+    for o in 0..part.output_wires() as u32 {
+        add_opening(alloc, outline, part.wire_readers(o), openings)?;
+    }
+    Ok(())
+}
+
+// Adds the opening to these readers, if it isn't there.
+fn add_opening(
+    alloc: Global,
+    outline: &Outline,
+    readers: u32,
+    openings: &mut IndexMap<u32, Lines>,
+) -> Result<(), AllocError>
+    requires before { AreOpenings outline.now openings.old }
+    ensures openings { OnOk result (AreOpenings outline.now openings.new) }
+    ensures others { OnOk result ((mask : ℕ) → HasOpening outline.now openings.old mask
+        → HasOpening outline.now openings.new mask) }
+    ensures added { OnOk result (HasOpening outline.now openings.new readers) }
+{
+    if !openings.contains_key(&readers) {
+        let lines = opened_lines(alloc, outline, readers)?;
+        openings.insert(readers, lines)?;
+    }
+    Ok(())
+}
