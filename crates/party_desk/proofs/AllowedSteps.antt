@@ -14,15 +14,19 @@ use Rattle.party_program.specs.Programs.{program, at}
 use Rattle.party_program.specs.States.{Given, State, slot_at, slot_of, posted, state}
 use Rattle.party_program.specs.Proper.{Proper, IsGivenWord, HasInput, with_got}
 use Rattle.party_program.specs.Suiting.{Suits}
+use Rattle.party_program.specs.Standing.{IsProgram, StandsIn}
 use Rattle.party_program.proofs.StateReads.{state_same}
+use Rattle.program_laws.specs.WordsRead.{Carries, Reads}
+use Rattle.program_laws.proofs.SetWords.{reads_are_set}
+use Rattle.party_desk.specs.declared.memory.Memory.{Memory}
 use Rattle.party_program.proofs.RisingTakes.{takes_rise}
 use Rattle.program_laws.proofs.Lengths.{program_is_short}
 use Rattle.program_laws.proofs.ProperPrograms.{is_proper, can_deal}
 use Rattle.party_desk.specs.declared.desk.Desk.{Desk}
 use Rattle.party_desk.specs.declared.desk.Stepped.{Stepped}
 use Rattle.party_desk.specs.declared.desk.Stepped.TheVariants.{Moved, NotYet, Ended}
-use Rattle.party_desk.specs.Memories.{state_of, Alike, IsMemoryOf, CanDeal, FindsInput}
-use Rattle.party_desk.specs.Desks.{posts_in, takes_in, posts_before, takes_before, Stands, Allowed, Advanced, Effect, Did, IsDesk, instruction_at}
+use Rattle.party_desk.specs.Memories.{state_of, row_of, posted_on_rows, IsMemoryOf, CanDeal, FindsInput}
+use Rattle.party_desk.specs.Desks.{posts_in, takes_in, posts_before, takes_before, Stands, Allowed, Advanced, Effect, Did, IsDesk, Remembers, instruction_at, word_in}
 use Rattle.party_desk.specs.Steps.{word_at, heard, Allows, MayStep, Does, Steps}
 use Rattle.party_desk.proofs.DeskSteps.{kept}
 
@@ -56,10 +60,13 @@ takes_few es zero = omega arith
 takes_few es (suc q) = let a = takes_few es q in let b = one_take (at es q) in omega arith
 
 -- the word that is posted, from the memory
-posted_same : (plan : Plan) (m s : ℕ) (k : Slot) (i : ℕ) (a b : State) → i < m → Alike m a b → posted (session plan s) k i a ≡ posted (session plan s) k i b
-posted_same plan m s (Input v) i a b li h = h.rows v i li
-posted_same plan m s (At_gate t) i a b li h = h.sums i li
-posted_same plan m s (Output o) i a b li h = h.rows (output_wire (session plan s) o) i li
+posted_same : (plan : Plan) (s : ℕ) (k : Slot) (i : ℕ) (row_of : ℕ → ℕ) (a b : State) → ((v : ℕ) → Carries (session plan s) k v → a.rows (row_of v) i ≡ b.rows v i) → a.sums i ≡ b.sums i → posted_on_rows row_of (session plan s) k i a ≡ posted (session plan s) k i b
+posted_same plan s (Input v) i row_of a b rows sums = rows v refl
+posted_same plan s (At_gate t) i row_of a b rows sums = sums
+posted_same plan s (Output o) i row_of a b rows sums = rows (output_wire (session plan s) o) refl
+
+remembers : (l : Given) (got : ℕ → ℕ) (q : ℕ) (d : Memory) (σ τ : State) → σ ≡ τ → Remembers l q d σ → Remembers (with_got l got) q d τ
+remembers l got q d σ τ e h = subst (Remembers (with_got l got) q d) e (record { rows = h.rows; own = h.own; sums = h.sums; deals = h.deals; outputs = h.outputs })
 
 -- a desk goes by other words as well, where those of the takes before are the same
 pub goes_by : (l : Given) (got : ℕ → ℕ) (d : Desk) → IsDesk l d → ((p n i : ℕ) → p < d.position → at (program l.plan l.party l.session) p ≡ Take n i → l.got n ≡ got n) → IsDesk (with_got l got) d
@@ -69,7 +76,8 @@ goes_by l got d h same =
       suits = record { sound = h.suits.sound; party = h.suits.party; session = h.suits.session; inputs = h.suits.inputs; tape = h.suits.tape };
       party = h.party;
       session = h.session;
-      list = h.list;
+      program = h.program;
+      slot = h.slot;
       position = h.position;
       sent = h.sent;
       taken = h.taken;
@@ -77,7 +85,7 @@ goes_by l got d h same =
       inputs = h.inputs;
       piece = h.piece;
       tape = h.tape ∙ ap (λ (σ : State). drop (σ.deals * (length l.plan.groups - 1)) l.tape) e;
-      memory = subst (Alike (length l.plan.groups) (state_of (length l.plan.groups) d.memory)) e h.memory;
+      memory = remembers l got d.position d.memory (state l d.position) (state (with_got l got) d.position) e h.memory;
     }
 
 module _ (l : Given) (d : Desk) (is_desk : IsDesk l d) where
@@ -88,13 +96,10 @@ module _ (l : Given) (d : Desk) (is_desk : IsDesk l d) where
   plan = l.plan
 
   abbrev i : Instruction
-  i = instruction_at d
-
-  pub here : i ≡ at (program l.plan l.party l.session) d.position
-  here = ap (λ z. at z d.position) is_desk.list
+  i = instruction_at l d
 
   pub proper : Proper l.plan l.session i
-  proper = subst (Proper l.plan l.session) (sym here) (is_proper l suits d.position)
+  proper = is_proper l suits d.position
 
   pub proper_own : Proper l.plan d.session i
   proper_own = subst (λ z. Proper l.plan z i) (sym is_desk.session) proper
@@ -104,6 +109,8 @@ module _ (l : Given) (d : Desk) (is_desk : IsDesk l d) where
     sound = suits.sound;
     session = subst (λ z. z < length l.plan.sessions) (sym is_desk.session) suits.session;
     party = subst (λ z. z < l.plan.parties) (sym is_desk.party) suits.party;
+    program = subst (λ z. IsProgram l.plan z d.session d.program) (sym is_desk.party) (subst (λ z. IsProgram l.plan l.party z d.program) (sym is_desk.session) is_desk.program);
+    slot = subst (λ z. StandsIn l.plan z d.session d.slot d.position) (sym is_desk.party) (subst (λ z. StandsIn l.plan l.party z d.slot d.position) (sym is_desk.session) is_desk.slot);
     position = (let a : d.position ≤ length (program l.plan l.party l.session) = is_desk.position in let b : length (program l.plan l.party l.session) < 4294967295 = program_is_short l.plan suits.sound l.party l.session in omega arith);
     sent = (let a : d.sent ≡ posts_before (program l.plan l.party l.session) d.position = is_desk.sent in let b = posts_few (program l.plan l.party l.session) d.position in omega arith);
     taken = (let a : d.taken ≡ takes_before (program l.plan l.party l.session) d.position = is_desk.taken in let b = takes_few (program l.plan l.party l.session) d.position in omega arith);
@@ -119,7 +126,7 @@ module _ (l : Given) (d : Desk) (is_desk : IsDesk l d) where
 
   deals : (k j : ℕ) → i ≡ Deal k j → CanDeal l.plan (slot_at l.plan l.session k) d.memory
   deals k j e =
-      let c = can_deal l suits d.position k j (sym here ∙ e) in
+      let c = can_deal l suits d.position k j e in
       let b : d.memory.deals ≡ (state l d.position).deals = is_desk.memory.deals in record {
         words = (let a : length d.memory.tape ≡ length l.tape - (state l d.position).deals * (length l.plan.groups - 1) = ap length is_desk.tape ∙ length-drop ((state l d.position).deals * (length l.plan.groups - 1)) l.tape in
             let f = c.words in omega arith);
@@ -127,11 +134,15 @@ module _ (l : Given) (d : Desk) (is_desk : IsDesk l d) where
         input = finds (slot_at l.plan l.session k) c.input;
       }
 
-  pub posts_right : (n j : ℕ) → i ≡ Post n j → posted (session l.plan d.session) (slot_of l.plan d.session n) j (state_of (length l.plan.groups) d.memory) ≡ word_at l d.position n j
+  pub posts_right : (n j : ℕ) → i ≡ Post n j → word_in l.plan d n j ≡ word_at l d.position n j
   posts_right n j e =
       let share : j < length l.plan.groups = (subst (Proper l.plan l.session) e proper).share in
-      ap (λ z. posted (session l.plan z) (slot_of l.plan z n) j (state_of (length l.plan.groups) d.memory)) is_desk.session
-      ∙ posted_same l.plan (length l.plan.groups) l.session (slot_of l.plan l.session n) j _ _ share is_desk.memory
+      let order = (suits.sound.sessions l.session suits.session).order in
+      let reads : (v : ℕ) → Carries (session l.plan l.session) (slot_of l.plan l.session n) v → Reads l.plan l.party l.session i v j = λ v c. subst (λ y. Reads l.plan l.party l.session y v j) (sym e) (c, refl) in
+      ap (λ z. posted_on_rows (row_of d.memory) (session l.plan z) (slot_of l.plan z n) j (state_of (length l.plan.groups) d.memory)) is_desk.session
+      ∙ posted_same l.plan l.session (slot_of l.plan l.session n) j (row_of d.memory) (state_of (length l.plan.groups) d.memory) (state l d.position)
+      (λ v c. is_desk.memory.rows v j share (reads_are_set l.plan suits.sound l.session l.party suits.session suits.party order d.position v j share (reads v c)) (d.position, omega arith, reads v c))
+      (is_desk.memory.sums j share)
 
   module _ {C : Type 0} (cells : Meaning C) (c : C) where
     allowed_at : (e : Instruction) → i ≡ e → Allows cells c l d.position e → Allowed cells c l.plan d e
@@ -153,7 +164,7 @@ module _ (l : Given) (d : Desk) (is_desk : IsDesk l d) where
       within : i ≢ End → d.position < length (program l.plan l.party l.session)
       within ne = elim (cases_lt d.position (length (program l.plan l.party l.session))) [
         | inl b ↦ b
-        | inr past ↦ absurd (ne (here ∙ get_or_past (program l.plan l.party l.session) d.position End past))
+        | inr past ↦ absurd (ne (get_or_past (program l.plan l.party l.session) d.position End past))
       ]
 
       -- an instruction that is no take leaves what the desk goes by
@@ -164,7 +175,7 @@ module _ (l : Given) (d : Desk) (is_desk : IsDesk l d) where
       hears w n j is a =
           let more : Given = heard l n w in
           let before : IsDesk (heard l n w) d = goes_by l (set_at l.got n w) d is_desk (λ p m k less e.
-          let rises : m < n = takes_rise l.plan l.session l.party p d.position m k n j less e (sym here ∙ is) in
+          let rises : m < n = takes_rise l.plan l.session l.party p d.position m k n j less e is in
           sym (set_there l.got n m w (λ z. let lower : m < n = rises in absurd (omega arith)))) in
           kept (heard l n w) d e w before proper (within (λ z. let both : Take n j ≡ End = sym is ∙ z in cc)) (subst (IsGivenWord (heard l n w) w) (sym is) (sym (set_here l.got n n w refl))) (subst (λ z. Advanced l.plan w z d e) (sym is) a)
 
@@ -189,11 +200,26 @@ module _ {C : Type 0} (cells : Meaning C) (plan : Plan) (c : C) (l : Given) (d :
   pub may_stand : Stands plan d
   may_stand = subst (λ z. Stands z d) may.same (stands l d may.desk)
 
-  pub may_proper : (j : Instruction) → j ≡ instruction_at d → Proper plan d.session j
-  may_proper j e = subst (λ z. Proper z d.session j) may.same (subst (Proper l.plan d.session) (sym e) (proper_own l d may.desk))
+  -- the program's own instruction at this position
+  own : (j : Instruction) → j ≡ at (program plan d.program.party d.program.session) d.position → j ≡ instruction_at l d
+  own j e = e ∙ (λ z. at (program (sym may.same z) (may.desk.program.of_party z) (may.desk.program.of_session z)) d.position)
 
-  pub may_allow : (j : Instruction) → j ≡ instruction_at d → Allowed cells c plan d j
-  may_allow j e = subst (λ z. Allowed cells c z d j) may.same (subst (Allowed cells c l.plan d) (sym e) (allowed l d may.desk cells c may.allows))
+  pub may_proper : (j : Instruction) → j ≡ at (program plan d.program.party d.program.session) d.position → Proper plan d.session j
+  may_proper j e = subst (λ z. Proper z d.session j) may.same (subst (Proper l.plan d.session) (sym (own j e)) (proper_own l d may.desk))
 
-  pub may_step : (j : Instruction) → j ≡ instruction_at d → (e : Desk) (f : C) (r : Stepped) → Did cells plan d c e f j r → Steps cells l d c e f (instruction_at d) r
-  may_step j is e f r did = steps l d may.desk cells c e f r (subst (λ z. Did cells z d c e f (instruction_at d) r) (sym may.same) (subst (λ z. Did cells plan d c e f z r) is did))
+  pub may_allow : (j : Instruction) → j ≡ at (program plan d.program.party d.program.session) d.position → Allowed cells c plan d j
+  may_allow j e = subst (λ z. Allowed cells c z d j) may.same (subst (Allowed cells c l.plan d) (sym (own j e)) (allowed l d may.desk cells c may.allows))
+
+  pub may_step : (j : Instruction) → j ≡ at (program plan d.program.party d.program.session) d.position → (e : Desk) (f : C) (r : Stepped) → Did cells plan d c e f j r → Steps cells l d c e f (instruction_at l d) r
+  may_step j is e f r did = steps l d may.desk cells c e f r (subst (λ z. Did cells z d c e f (instruction_at l d) r) (sym may.same) (subst (λ z. Did cells plan d c e f z r) (own j is) did))
+
+  -- the desk's program is that of its party in its session, and it stands in its slot
+  pub may_program : IsProgram plan d.program.party d.program.session d.program
+  may_program =
+      let h = may_stand.program in
+      subst (λ z. IsProgram plan z d.program.session d.program) (sym h.of_party) (subst (λ z. IsProgram plan d.party z d.program) (sym h.of_session) h)
+
+  pub may_slot : StandsIn plan d.program.party d.program.session d.slot d.position
+  may_slot =
+      let h = may_stand.program in
+      subst (λ z. StandsIn plan z d.program.session d.slot d.position) (sym h.of_party) (subst (λ z. StandsIn plan d.party z d.slot d.position) (sym h.of_session) may_stand.slot)

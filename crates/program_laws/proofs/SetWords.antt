@@ -2,15 +2,16 @@
 use Rattle.std.proofs.Common.{◌≡◌, ◌⊎◌, ℕ, zero, suc, ◌+◌, ◌*◌, ◌<◌, ◌≤◌, ◌≢◌, Bool, true, false, not, ◌||◌, ◌&&◌, nat_eq, List, [], ◌∷◌, ◌++◌, map, length, refl, sym, ap, ◌∙◌, subst, arith}
 use Rattle.std.specs.Prelude.{slice_index}
 use Rattle.std.specs.List.{AllByRecursion, list_any, filter}
-use Rattle.std.proofs.lemmas.Bool.{cases_eq, cases_lt, cases_Bool, cond-true, cond-false, eq-eqb, eqb-true, ne_eqb, both_ways, not_from_false, false≢true}
+use Rattle.std.proofs.lemmas.Bool.{cases_eq, cases_lt, cases_Bool, cond-true, cond-false, eq-eqb, eqb-true, ne_eqb, both_ways, and_parts, not_from_false, false≢true}
 use Rattle.std.proofs.lemmas.List.{get_or_past}
 use mathlib.Core.Logic.{inl, inr}
 use Rattle.list_laws.specs.Lists.{joined, only_if}
-use Rattle.list_laws.proofs.JoinedLists.{every_joined, every_only_if}
+use Rattle.list_laws.proofs.JoinedLists.{every_append, every_joined, every_only_if}
 use Rattle.circuit_model.specs.Circuits.{is_product}
 use Rattle.circuit_model.specs.Netlists.{read_by}
+use Rattle.secret_sharing.specs.Sharing.{has_pair}
 use Rattle.party_set.specs.Parties.{has_party}
-use Rattle.job_plan.specs.Plans.{readers, owners, Plan, Slot, Session, session, gate, slot, slots, holds, least_holder, deals_in, output_wire, IsPlan}
+use Rattle.job_plan.specs.Plans.{readers, owners, Plan, Slot, Session, session, gate, slot, slots, holds, least_holder, deals_in, output_wire, scheme, IsPlan}
 use Rattle.job_plan.specs.Plans.Slot.{Input, At_gate, Output}
 use Rattle.job_plan.specs.declared.key.Key.{Key}
 use Rattle.job_plan.specs.KeptWires.{IsInOrder, IsRowTable, sets, reads, sets_in, reads_in}
@@ -30,7 +31,7 @@ use Rattle.party_program.specs.Proper.{Proper, IsSlot, IsGate, IsOutput}
 use Rattle.program_laws.specs.WordsRead.{gate_at, Carries, Sets, Reads, IsSet, IsToRead}
 use Rattle.program_laws.proofs.OncePosted.{there, once}
 use Rattle.program_laws.proofs.ProperPrograms.{proper_at}
-use Rattle.program_laws.proofs.Ranks.{rank, is_plan, owned, ranks_rise, each}
+use Rattle.program_laws.proofs.Ranks.{rank, is_plan, owned, ranks_rise, each, at_within}
 use Rattle.program_laws.proofs.SlotTakes.{Has}
 use Rattle.program_laws.proofs.SlotTallies.{Any, deal_any, any_number}
 use Rattle.program_laws.proofs.Standing.{Contains, contains_left, contains_right, contains_joined}
@@ -204,6 +205,53 @@ module _ (plan : Plan) (sound : IsSound plan) (s p : ℕ) (ls : s < length plan.
     | inl b ↦ b
     | inr past ↦ absurd (subst (λ e. Reads plan p s e v i) (get_or_past es q End past) h)
   ]
+
+  -- no instruction sets two wires
+  pub one_wire : (q v w i j : ℕ) → Sets plan s (at es q) v i → Sets plan s (at es q) w j → v ≡ w
+  one_wire q v w i j a b = one_set x (slot x (named plan (at es q))) v w (sets_at q v i a).1 (sets_at q w j b).1
+
+  -- ---- own products stand at products
+
+  abbrev Multiplies : Slot → Type 0
+  Multiplies (Input v) = ⊥
+  Multiplies (At_gate t) = is_product (gate x t).operation ≡ true
+  Multiplies (Output o) = ⊥
+
+  abbrev AtProduct : Instruction → Type 0
+  AtProduct (Own k) = Multiplies (slot_at plan s k)
+  AtProduct _ = Unit {0}
+
+  opens_right : (k : ℕ) (z : Slot) → slot x k ≡ z → AllByRecursion AtProduct (opening plan p s k z)
+  opens_right k (Input v) e = every_only_if AtProduct (nat_eq (slice_index (owners x) v) p) (Deal k (deals_before plan p s k) ∷ []) (λ t. (tt, tt))
+  opens_right k (At_gate t) e = every_only_if AtProduct (deals_in plan x p (At_gate t)) (Own k ∷ Deal k (deals_before plan p s k) ∷ []) (λ b. (subst Multiplies (sym e) (and_parts (is_product (gate x t).operation) (has_pair (scheme plan) p) b).0, (tt, tt)))
+  opens_right k (Output o) e = tt
+
+  closes_right : (k : ℕ) (z : Slot) → AllByRecursion AtProduct (closing plan p s k z)
+  closes_right k (Input v) = tt
+  closes_right k (At_gate t) =
+      every_append AtProduct (only_if (is_product (gate x t).operation) (Sum k ∷ [])) (only_if (not (is_product (gate x t).operation)) (Linear k ∷ []))
+      (every_only_if AtProduct (is_product (gate x t).operation) (Sum k ∷ []) (λ b. (tt, tt))) (every_only_if AtProduct (not (is_product (gate x t).operation)) (Linear k ∷ []) (λ b. (tt, tt)))
+  closes_right k (Output o) = every_only_if AtProduct (has_party (slice_index (readers x) o) p) (Deliver k ∷ []) (λ b. (tt, tt))
+
+  passes_right : (f : ℕ → Instruction) (ns : List ℕ) → ((n : ℕ) → AtProduct (f n)) → AllByRecursion AtProduct (map f ns)
+  passes_right f [] h = tt
+  passes_right f (n ∷ ns) h = (h n, passes_right f ns h)
+
+  all_right : AllByRecursion AtProduct es
+  all_right = every_joined AtProduct (slots x) (slot_program plan p s) (λ k lk.
+      every_append AtProduct _ (closing plan p s k (slot x k))
+      (every_append AtProduct _ (takes plan p s k)
+      (every_append AtProduct (opening plan p s k (slot x k)) (posts plan p s k) (opens_right k (slot x k) refl) (passes_right (post plan) (filter (from plan p) (numbers plan s k)) (λ n. tt)))
+      (passes_right (take_of plan) (filter (to plan p) (numbers plan s k)) (λ n. tt)))
+      (closes_right k (slot x k)))
+
+  pub own_at : (q k : ℕ) → at es q ≡ Own k → (t : ℕ) × (slot_at plan s k ≡ At_gate t) × (is_product (gate x t).operation ≡ true)
+  own_at q k is = of (slot_at plan s k) refl (subst AtProduct is (at_within AtProduct es q (ended q (Own k) is (λ e. cc)) all_right))
+    where
+      of : (z : Slot) → slot_at plan s k ≡ z → Multiplies z → (t : ℕ) × (slot_at plan s k ≡ At_gate t) × (is_product (gate x t).operation ≡ true)
+      of (Input v) e h = absurd h
+      of (At_gate t) e h = (t, e, h)
+      of (Output o) e h = absurd h
 
   -- ---- each summand that a party holds of a wire is set in the wire's slot
 

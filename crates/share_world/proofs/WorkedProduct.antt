@@ -1,10 +1,12 @@
 -- The worked job, by computation.
-use Rattle.std.proofs.Common.{◌≡◌, ℕ, zero, suc, ◌<◌, ◌≤◌, false, List, [], ◌∷◌, length, refl, arith}
+use Rattle.std.proofs.Common.{◌≡◌, ℕ, zero, suc, ◌<◌, ◌≤◌, ◌≢◌, inl, inr, true, false, ◌||◌, List, [], ◌∷◌, length, refl, sym, ap, ap₂, ◌∙◌, arith}
 use Rattle.std.specs.Prelude.{slice_index, slice_index_or, nat_eq, if◌then◌else◌}
-use Rattle.std.specs.List.{AllByRecursion}
+use Rattle.std.specs.List.{AllByRecursion, list_any}
+use Rattle.std.proofs.lemmas.Bool.{cases_Bool, cases_eq, eq-eqb, eqb-true, ne_eqb, both_ways, false≢true}
 use Rattle.list_laws.specs.Lists.{total}
 use Rattle.list_laws.proofs.JoinedLists.{every_at}
 use Rattle.party_set.specs.Parties.{IsQ2, covers}
+use Rattle.job_plan.specs.KeptWires.{sets, reads}
 use Rattle.job_plan.specs.Plans.{session, owners, structure, gate, words}
 use Rattle.job_plan.specs.Sound.{IsSound, IsSoundSession}
 use Rattle.job_plan.specs.InputWords.{AreInputs, given}
@@ -50,8 +52,37 @@ sound_session = record {
   first = first;
   second = second;
   output = output;
+  order = record { once = once; before = before };
 }
   where
+    other : (a b w : ℕ) → a ≢ b → list_any (nat_eq w) (a ∷ []) ≡ true → list_any (nat_eq w) (b ∷ []) ≡ false
+    other a b w ne e = elim (cases_Bool (nat_eq w a)) [
+      | inl is ↦ ap (λ c. c || false) (ne_eqb w b (λ same. ne (sym (eqb-true w a is) ∙ same)))
+      | inr differs ↦ absurd (both_ways (nat_eq w a || false) (ap (λ c. c || false) differs) e)
+    ]
+
+    once : (j k w : ℕ) → j < k → k < 4 → sets multiply_session j w ≡ true → sets multiply_session k w ≡ false
+    once j zero w jk lk e = absurd (omega arith)
+    once zero (suc zero) w jk lk e = other 0 1 w (λ z. cc) e
+    once (suc j) (suc zero) w jk lk e = absurd (omega arith)
+    once zero (suc (suc zero)) w jk lk e = other 0 2 w (λ z. cc) e
+    once (suc zero) (suc (suc zero)) w jk lk e = other 1 2 w (λ z. cc) e
+    once (suc (suc j)) (suc (suc zero)) w jk lk e = absurd (omega arith)
+    once j (suc (suc (suc zero))) w jk lk e = refl
+    once j (suc (suc (suc (suc k)))) w jk lk e = absurd (omega arith)
+
+    before : (k w : ℕ) → k < 4 → reads multiply_session k w ≡ true → (j : ℕ) × (j < k) × (sets multiply_session j w ≡ true)
+    before zero w lk e = absurd (false≢true e)
+    before (suc zero) w lk e = absurd (false≢true e)
+    before (suc (suc zero)) zero lk e = (0, omega arith, refl)
+    before (suc (suc zero)) (suc zero) lk e = (1, omega arith, refl)
+    before (suc (suc zero)) (suc (suc w)) lk e = absurd (both_ways (reads multiply_session 2 (suc (suc w))) (ap₂ (λ a b. a || (b || false)) (ne_eqb (suc (suc w)) 0 (omega arith)) (ne_eqb (suc (suc w)) 1 (omega arith))) e)
+    before (suc (suc (suc zero))) w lk e = elim (cases_eq w 2) [
+      | inl is ↦ (2, omega arith, ap (λ c. c || false) (eq-eqb w 2 is))
+      | inr ne ↦ absurd (both_ways (reads multiply_session 3 w) (ap (λ c. c || false) (ne_eqb w 2 ne)) e)
+    ]
+    before (suc (suc (suc (suc k)))) w lk e = absurd (omega arith)
+
     owned : (v : ℕ) → v < 2 → slice_index (0 ∷ 1 ∷ []) v < 3
     owned zero l = omega arith
     owned (suc zero) l = omega arith
