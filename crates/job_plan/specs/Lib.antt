@@ -3,7 +3,6 @@ pub mod KeptWires
 pub mod Messages
 pub mod Patterns
 pub mod Tables
-pub mod Packing
 pub mod Numbers
 pub mod Firsts
 pub mod Sound
