@@ -37,7 +37,7 @@ distinct_only_if : {A : Type 0} (b : Bool) (xs : List A) → Distinct xs → Dis
 distinct_only_if true xs d = d
 distinct_only_if false xs d = tt
 
-every_one : {A : Type 0} (P : A → Type 0) (b : Bool) (x : A) → P x → AllByRecursion P (only_if b (x ∷ []))
+pub every_one : {A : Type 0} (P : A → Type 0) (b : Bool) (x : A) → P x → AllByRecursion P (only_if b (x ∷ []))
 every_one P true x h = (h, tt)
 every_one P false x h = tt
 

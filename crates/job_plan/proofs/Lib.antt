@@ -4,10 +4,11 @@ pub mod DistinctMessages
 pub mod SlotMessages
 pub mod TallyLaws
 pub mod SlotPatterns
+pub mod SlotStarts
 pub mod GrownLists
 pub mod RisingRanks
-pub mod PackedKeys
 pub mod RankSearch
+pub mod PartSearch
 pub mod MessageSlots
 pub mod TapePlaces
 pub mod CircuitSessions

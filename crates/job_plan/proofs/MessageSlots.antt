@@ -1,21 +1,20 @@
 -- Which slot a message stands in.
-use Rattle.std.proofs.Common.{◌≡◌, ℕ, zero, suc, ◌+◌, ◌-◌, ◌<◌, List, take, drop, length, refl, sym, ap, ◌∙◌, subst, arith, length-append}
-use Rattle.std.specs.Prelude.{slice_index_or}
-use Rattle.std.specs.List.{slice_range}
+use Rattle.std.proofs.Common.{◌≡◌, ℕ, zero, suc, ◌+◌, ◌-◌, ◌<◌, List, length, refl, sym, ap, ◌∙◌, subst, arith, length-append}
+use Rattle.std.specs.Prelude.{slice_index, slice_index_or}
+use Rattle.std.specs.List.{AllByRecursion}
 use Rattle.std.proofs.lemmas.Bool.{cases_lt}
-use Rattle.std.proofs.lemmas.List.{length-take, length-drop, get_or-take, get_or-drop, ext_get_or}
 use Rattle.std.proofs.lemmas.List.Sums.{passes_at_first}
 use mathlib.Core.Logic.{inl, inr}
 use Rattle.list_laws.specs.Lists.{total, joined}
-use Rattle.list_laws.proofs.Totals.{total_more}
-use Rattle.list_laws.proofs.JoinedLists.{length-joined}
-use Rattle.job_plan.specs.Plans.{Plan, session, slot, slots}
+use Rattle.list_laws.proofs.JoinedLists.{length-joined, every_joined, every_only_if}
+use Rattle.job_plan.specs.Plans.{Plan, Slot, session, owners, slot, slots}
+use Rattle.job_plan.specs.Plans.Slot.{Input, At_gate, Output}
 use Rattle.job_plan.specs.declared.key.Key.{Key}
-use Rattle.job_plan.specs.Messages.{slot_messages, session_messages, messages}
+use Rattle.job_plan.specs.Messages.{deal_messages, open_messages, slot_messages, session_messages, messages}
 use Rattle.job_plan.specs.Numbers.{no_key, same_key, number}
 use Rattle.job_plan.specs.Firsts.{count, first}
-use Rattle.job_plan.proofs.SlotMessages.{joined_place, message_at, number_within, first_within}
-use Rattle.job_plan.proofs.DistinctMessages.{number_of_message, every_place, every_slot, same_key-true}
+use Rattle.job_plan.proofs.SlotMessages.{joined_place, message_at, number_within}
+use Rattle.job_plan.proofs.DistinctMessages.{number_of_message, every_one, every_place, every_slot, same_key-true}
 
 -- the part in which place m of joined parts lies
 record IsIn {A : Type 0} (n : ℕ) (f : ℕ → List A) (m : ℕ) : Type 0 where
@@ -63,20 +62,30 @@ module _ (plan : Plan) where
       ∙ joined_place no_key (slots (session plan s)) inner.part (λ k. slot_messages plan s k (slot (session plan s) k)) inner.place inner.there inner.within in
       there_at key s inner.part (record { session_within = outer.there; slot_within = inner.there; place = inner.place; place_within = inner.within; is = sym at ∙ sym same })
 
-  -- the messages of a slot are a stretch of the list
-  pub slot_range : (s k : ℕ) → s < length plan.sessions → k < slots (session plan s) → slice_range (messages plan) (first plan s k) (first plan s (k + 1)) ≡ slot_messages plan s k (slot (session plan s) k)
-  slot_range s k ls lk =
-      let begin : ℕ = first plan s k in
-      let end : ℕ = first plan s (k + 1) in
-      let more = total_more k (count plan s) in
-      let within = first_within plan s (k + 1) ls (omega arith) in
-      let long : length (take (end - begin) (drop begin (messages plan))) ≡ count plan s k = omega (arith, length-take (end - begin) (drop begin (messages plan)), length-drop begin (messages plan)) in
-      ext_get_or no_key _ (slot_messages plan s k (slot (session plan s) k)) long (λ i l.
-      get_or-take (end - begin) (drop begin (messages plan)) i no_key (omega arith)
-      ∙ get_or-drop begin (messages plan) i no_key
-      ∙ message_at plan s k ls lk i (omega arith))
-
   pub number_is : (key : Key) (s k i : ℕ) → s < length plan.sessions → k < slots (session plan s) → i < count plan s k → slice_index_or (slot_messages plan s k (slot (session plan s) k)) i no_key ≡ key
       → number plan key ≡ first plan s k + i
   number_is key s k i ls lk li e =
       ap (number plan) (sym (message_at plan s k ls lk i li ∙ e)) ∙ number_of_message plan (first plan s k + i) (number_within plan s k ls lk i li)
+
+-- ---- summands
+
+module _ (plan : Plan) (s k : ℕ) where
+  abbrev Within : Key → Type 0
+  Within x = x.share < length plan.groups
+
+  deal_shares : (p : ℕ) → AllByRecursion Within (deal_messages plan s k p)
+  deal_shares p = every_joined Within (length plan.groups) _ (λ i li. every_joined Within plan.parties _ (λ q lq. every_one Within _ _ li))
+
+  open_shares : (r : ℕ) → AllByRecursion Within (open_messages plan s k r)
+  open_shares r = every_joined Within (length plan.groups) _ (λ i li. every_one Within _ _ li)
+
+  slot_shares : (z : Slot) → AllByRecursion Within (slot_messages plan s k z)
+  slot_shares (Input v) = deal_shares (slice_index (owners (session plan s)) v)
+  slot_shares (At_gate t) = every_joined Within plan.parties _ (λ p lp. every_only_if Within _ _ (λ e. deal_shares p))
+  slot_shares (Output o) = every_joined Within plan.parties _ (λ r lr. every_only_if Within _ _ (λ e. open_shares r))
+
+  -- the summand of each message of a slot is one of the plan's
+  pub share_within : (i : ℕ) → i < count plan s k → (slice_index_or (slot_messages plan s k (slot (session plan s) k)) i no_key).share < length plan.groups
+  share_within i l =
+      let at = slot (session plan s) k in
+      every_place Within (slot_messages plan s k at) i no_key (slot_shares at) l

@@ -1,6 +1,7 @@
 -- The messages of a slot are those of its pattern.
 use Rattle.std.proofs.Common.{◌≡◌, ℕ, zero, suc, Bool, true, false, not, ◌&&◌, nat_eq, if◌then◌else◌, List, [], ◌∷◌, ◌++◌, length, refl, sym, ap, ap₂, ◌∙◌}
 use Rattle.std.specs.Prelude.{map, slice_index}
+use Rattle.std.proofs.lemmas.List.{map-append}
 use Rattle.list_laws.specs.Lists.{joined, only_if}
 use Rattle.list_laws.proofs.JoinedLists.{joined_eq}
 use Rattle.circuit_model.specs.Circuits.{is_product}
@@ -14,13 +15,9 @@ use Rattle.job_plan.specs.Plans.Slot.{Input, At_gate, Output}
 use Rattle.job_plan.specs.Messages.{deal_messages, open_messages, slot_messages}
 use Rattle.job_plan.specs.Patterns.{named, deal_lines, open_lines, lines, pattern, SlotsFollowPatterns}
 
-map_append : {A B : Type 0} (f : A → B) (xs ys : List A) → map f (xs ++ ys) ≡ map f xs ++ map f ys
-map_append f [] ys = refl
-map_append f (x ∷ xs) ys = ap (λ zs. f x ∷ zs) (map_append f xs ys)
-
 map_joined : {A B : Type 0} (f : A → B) (n : ℕ) (g : ℕ → List A) → map f (joined n g) ≡ joined n (λ k. map f (g k))
 map_joined f zero g = refl
-map_joined f (suc n) g = map_append f (joined n g) (g n) ∙ ap (λ xs. xs ++ map f (g n)) (map_joined f n g)
+map_joined f (suc n) g = map-append f (joined n g) (g n) ∙ ap (λ xs. xs ++ map f (g n)) (map_joined f n g)
 
 map_only_if : {A B : Type 0} (f : A → B) (b : Bool) (xs : List A) → map f (only_if b xs) ≡ only_if b (map f xs)
 map_only_if f true xs = refl

@@ -2,7 +2,6 @@ pub mod Plans
 pub mod Messages
 pub mod Patterns
 pub mod Tables
-pub mod Packing
 pub mod Numbers
 pub mod Firsts
 pub mod Sound

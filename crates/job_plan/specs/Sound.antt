@@ -2,7 +2,6 @@
 use Rattle.std.specs.Prelude.{◌≡◌, ℕ, ◌<◌, ◌≤◌, ◌^◌, List, length, slice_index}
 use Rattle.list_laws.specs.Lists.{total}
 use Rattle.job_plan.specs.Plans.{readers, owners, Plan, Session, Slot, session, gate, words, Q2}
-use Rattle.job_plan.specs.declared.key.Key.{Key}
 use Rattle.job_plan.specs.declared.patterns.Patterns.{Patterns}
 use Rattle.job_plan.specs.Messages.{messages}
 use Rattle.job_plan.specs.Tables.{AreLines}
@@ -50,12 +49,12 @@ pub record IsSound (plan : Plan) : Type 0 where
   pub few_words : (p : ℕ) → p < plan.parties → total (length plan.sessions) (words plan p) ≤ 1048576
   pub sessions : (s : ℕ) → s < length plan.sessions → IsSoundSession plan.parties (session plan s)
 
--- a plan's tables: its messages in order, the lines of its patterns, where the messages of each slot begin, and each
--- party's deals before each session
-pub record IsLaid (plan : Plan) (list : List Key) (patterns : Patterns) (starts deals : List (List ℕ)) : Type 0 where
+-- a plan's tables: how many messages there are, the lines of its patterns, where the messages of each slot begin, and
+-- each party's deals before each session
+pub record IsLaid (plan : Plan) (count : ℕ) (patterns : Patterns) (starts deals : List (List ℕ)) : Type 0 where
   pub sound : IsSound plan
+  pub counted : count ≡ length (messages plan)
   pub lines : AreLines plan patterns
-  pub keys : list ≡ messages plan
   pub begin : starts ≡ starts_of plan
   pub dealt : deals ≡ deal_starts_of plan
 

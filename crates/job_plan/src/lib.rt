@@ -4,7 +4,6 @@
 mod counts;
 mod inputs;
 mod key;
-mod keys;
 mod laws;
 mod lines;
 mod lists;

@@ -4,15 +4,13 @@ ghost use Rattle.job_plan.specs.Messages.{messages};
 ghost use Rattle.job_plan.specs.Limits.{IsPlanWithin, IsPlanRefusal};
 
 use crate::counts::{message_count, word_count};
-use crate::key::{Key, PackedKey};
-use crate::keys::Keys;
-use crate::lists::{list_deals, list_messages};
+use crate::key::Key;
+use crate::lists::{list_deals, list_starts};
 use crate::outline::Outline;
 use crate::pattern::{Line, Pattern};
 use crate::patterns::Patterns;
 use crate::ranks::search;
 use crate::session_part::SessionPart;
-use crate::slot_kind::SlotKind;
 use crate::starts::Starts;
 use mpc_ring::Ring;
 use plan_faults::PlanFault;
@@ -21,12 +19,13 @@ use share_layout::Layout;
 use std::alloc::Global;
 use std::marker::Model;
 
-/// A ring, a structure of parties and the sessions, with tables made once: each look-up costs constant time.
+/// A ring, a structure of parties and the sessions, with the lines of each pattern that occurs and tables of where each
+/// slot and each session begins. A message and its number are found by a binary search, all else in constant time.
 /// Contracts see a plan of the definitions.
 #[derive(Drop)]
 pub struct Plan {
     outline: Outline,
-    keys: Keys,
+    count: u32,
     patterns: Patterns,
     starts: Vec<Starts>,
     deals: Vec<Starts>,
@@ -40,17 +39,16 @@ impl Model for Plan {
 
     ghost view = { λ p. p.outline };
 
-    ghost invariant = { λ p. IsLaid p.outline p.keys p.patterns p.starts.items p.deals.items };
+    ghost invariant = { λ p. IsLaid p.outline p.count p.patterns p.starts.items p.deals.items };
 }
 
 impl Plan {
-    ghost use Rattle.std.specs.Prelude.{◌≡◌, ℕ, ◌<◌, ◌≤◌, All, IfOk, IfErr, OnOk, SomeIff, length};
+    ghost use Rattle.std.specs.Prelude.{◌≡◌, ℕ, ◌+◌, ◌<◌, ◌≤◌, All, IfOk, IfErr, OnOk, SomeIff, map, length};
     ghost use Rattle.list_laws.specs.Lists.{total};
     ghost use Rattle.job_plan.specs.Plans.{plan_of, structure, scheme, session, slot, slots, words, place};
     ghost use Rattle.secret_sharing.specs.Sharing.{has_pair};
     ghost use Rattle.job_plan.specs.Messages.{messages, slot_messages};
-    ghost use Rattle.job_plan.specs.Packing.{names};
-    ghost use Rattle.job_plan.specs.Patterns.{lines, pattern_at, Occurs};
+    ghost use Rattle.job_plan.specs.Patterns.{named, lines, pattern_at, Occurs};
     ghost use Rattle.job_plan.specs.Numbers.{message, number, opens, deals, deals_before, deal_place};
     ghost use Rattle.job_plan.specs.Sound.{IsSound, IsSoundSession};
     ghost use Rattle.job_plan.specs.Firsts.{first};
@@ -78,12 +76,13 @@ impl Plan {
             return Err(PlanFault::TooManyMessages { count });
         }
         check_words(&outline)?;
-        let (keys, starts) = list_messages(alloc, &outline, count as u32)?;
+        let count = count as u32;
         let patterns = Patterns::make(alloc, &outline)?;
+        let starts = list_starts(alloc, &outline, &patterns)?;
         let deals = list_deals(alloc, &outline)?;
         Ok(Plan {
             outline,
-            keys,
+            count,
             patterns,
             starts,
             deals,
@@ -149,7 +148,7 @@ impl Plan {
     pub fn messages(&self) -> u32
         ensures { result ≡ length (messages self.now) }
     {
-        self.keys.len() as u32
+        self.count
     }
 
     /// The message of this number.
@@ -158,7 +157,36 @@ impl Plan {
         ensures is { result ≡ message self.now n }
         ensures few { result.share < 64 }
     {
-        self.keys.at(n)
+        let s = self.session_of(n);
+        let k = self.slot_of(s, n);
+        let line = self.slot_lines(s, k)[(n - self.first(s, k)) as usize];
+        line.named(s, k)
+    }
+
+    // The session of message n: the last that begins there or before it.
+    fn session_of(&self, n: u32) -> u32
+        requires { n < length (messages self.now) }
+        ensures there { result < length self.now.sessions }
+        ensures begin { first self.now result 0 ≤ n }
+        ensures end { n < first self.now result (slots (session self.now result)) }
+    {
+        let mut s = self.sessions() - 1;
+        while n < self.first(s, 0) {
+            s -= 1;
+        }
+        s
+    }
+
+    // The slot of message n, which is of session s.
+    fn slot_of(&self, s: u32, n: u32) -> u32
+        requires session { s < length self.now.sessions }
+        requires begin { first self.now s 0 ≤ n }
+        requires end { n < first self.now s (slots (session self.now s)) }
+        ensures there { result < slots (session self.now s) }
+        ensures begin { first self.now s result ≤ n }
+        ensures end { n < first self.now s (result + 1) }
+    {
+        self.starts[s as usize].part_of(n)
     }
 
     /// The number of the first message of slot `k` of session `s`; at the count of slots, of the first one after.
@@ -178,22 +206,19 @@ impl Plan {
         if key.session >= self.sessions() || key.slot >= self.slots(key.session) {
             return None;
         }
-        let keys = self.slot_keys(key.session, key.slot);
-        let at = search(keys, self.opens(key.session, key.slot), key)?;
+        let lines = self.slot_lines(key.session, key.slot);
+        let at = search(lines, self.opens(key.session, key.slot), key)?;
         Some(self.first(key.session, key.slot) + at as u32)
     }
 
-    // The messages of slot k of session s.
-    fn slot_keys(&self, s: u32, k: u32) -> &[PackedKey]
+    // The messages of slot k of session s, as the lines of its pattern.
+    fn slot_lines(&self, s: u32, k: u32) -> &[Line]
         requires session { s < length self.now.sessions }
         requires slot { k < slots (session self.now s) }
-        requires few { k < 4294967295 }
-        ensures is { names result.now ≡ slot_messages self.now s k (slot (session self.now s) k) }
+        ensures is { map (named s k) result.now ≡ slot_messages self.now s k (slot (session self.now s) k) }
         ensures sound { IsSound self.now }
     {
-        let begin = self.first(s, k);
-        let end = self.first(s, k + 1);
-        self.keys.stretch(begin, end)
+        self.patterns.lines(self.pattern(s, k))
     }
 
     // Whether slot k of session s is one of openings.
@@ -202,7 +227,7 @@ impl Plan {
         requires slot { k < slots (session self.now s) }
         ensures { result ≡ opens (slot (session self.now s) k) }
     {
-        matches!(self.outline.part(s).slot_kind(k), SlotKind::Output(_))
+        matches!(self.pattern(s, k), Pattern::Opened(_))
     }
 
     /// How many slots session `s` has.

@@ -1,5 +1,6 @@
 //! Where each part of a numbered row begins.
-ghost use Rattle.std.specs.Prelude.{◌≡◌, ◌<◌, length, slice_index};
+ghost use Rattle.std.specs.Prelude.{◌≡◌, ◌+◌, ◌-◌, ◌<◌, ◌≤◌, length, slice_index};
+ghost use Rattle.std.specs.List.Sorted.{IsNonDecreasing};
 
 use std::marker::Model;
 
@@ -30,5 +31,20 @@ impl Starts {
         ensures { result ≡ slice_index self.now k }
     {
         self.list[k as usize]
+    }
+
+    /// The part in which place `n` lies: the last that begins there or before it.
+    pub fn part_of(&self, n: u32) -> u32
+        requires some { 0 < length self.now }
+        requires few { length self.now ≤ 4294967295 }
+        requires rising { IsNonDecreasing self.now }
+        requires begin { slice_index self.now 0 ≤ n }
+        requires end { n < slice_index self.now (length self.now - 1) }
+        ensures there { result + 1 < length self.now }
+        ensures begin { slice_index self.now result ≤ n }
+        ensures end { n < slice_index self.now (result + 1) }
+    {
+        let past = self.list.partition_point(|start| *start <= n);
+        (past - 1) as u32
     }
 }

@@ -1,8 +1,9 @@
-use Rattle.std.proofs.Common.{◌<◌, length, ap, sym, subst, ◌∙◌, arith}
+use Rattle.std.proofs.Common.{◌<◌, map, length, ap, sym, subst, ◌∙◌, arith}
 use Rattle.std.specs.Prelude.{slice_index_or, SomeIff}
+use Rattle.std.proofs.lemmas.List.{length-map}
 use Rattle.job_plan.specs.Plans.{session, slot, slots}
 use Rattle.job_plan.specs.Messages.{messages, slot_messages}
-use Rattle.job_plan.specs.Packing.{names}
+use Rattle.job_plan.specs.Patterns.{named}
 use Rattle.job_plan.specs.Numbers.{number, no_key, opens, rank, IsRising}
 use Rattle.job_plan.specs.Firsts.{count}
 use Rattle.job_plan.proofs.SlotMessages.{number_within}
@@ -22,18 +23,19 @@ returns-then-key-sessions c = λ l.
 pub search-requires : goal.search-requires
 search-requires c =
     let plan = c.args.self.now in
-    let sound = c.slot_keys-keys.ensures.sound in
+    let sound = c.slot_lines-lines.ensures.sound in
     let at = slot (session plan c.args.key.session) c.args.key.slot in
     let rising : IsRising (rank (opens at)) (slot_messages plan c.args.key.session c.args.key.slot at) = slot_is_rising plan c.args.key.session c.args.key.slot sound.parties sound.groups at in
-    subst (λ o. IsRising (rank o) (names c.slot_keys-keys.result.now)) (sym c.opens.ensures) (subst (IsRising (rank (opens at))) (sym c.slot_keys-keys.ensures.is) rising)
+    subst (λ o. IsRising (rank o) (map (named c.args.key.session c.args.key.slot) c.slot_lines-lines.result.now)) (sym c.opens.ensures) (subst (IsRising (rank (opens at))) (sym c.slot_lines-lines.ensures.is) rising)
 
 pub returns-in_err-at : goal.returns-in_err-at
 returns-in_err-at c =
     let plan = c.args.self.now in
-    let keys = c.slot_keys-keys.ensures.is in
+    let keys = c.slot_lines-lines.ensures.is in
+    let long = length-map c.slot_lines-lines.result.now (named c.args.key.session c.args.key.slot) in
     subst (λ r. SomeIff r (number plan c.args.key < length (messages plan)) (number plan c.args.key)) (sym c.from_residual.ensures) (λ l.
     let h = is_there plan c.args.key l in
-    c.in_err-at.ensures.absent h.place (let within = h.place_within in omega (arith, ap length keys)) (ap (λ keys. slice_index_or keys h.place no_key) keys ∙ h.is))
+    c.in_err-at.ensures.absent h.place (let within = h.place_within in omega (arith, long, ap length keys)) (ap (λ keys. slice_index_or keys h.place no_key) keys ∙ h.is))
 
 pub overflow_cast-result : goal.overflow_cast-result
 overflow_cast-result c =
@@ -41,8 +43,8 @@ overflow_cast-result c =
     let key = c.args.key in
     let session_within : key.session < length plan.sessions = omega (arith, c.sessions.ensures, c.if-key-sessions.false) in
     let slot_within : key.slot < slots (session plan key.session) = omega (arith, c.slots.ensures, c.if-key-slots.false) in
-    let at : c.in_ok-at.at < count plan key.session key.slot = omega (arith, c.in_ok-at.ensures.within, ap length c.slot_keys-keys.ensures.is) in
-    omega (arith, number_within plan key.session key.slot session_within slot_within c.in_ok-at.at at, c.slot_keys-keys.ensures.sound.few_messages)
+    let at : c.in_ok-at.at < count plan key.session key.slot = omega (arith, c.in_ok-at.ensures.within, ap length c.slot_lines-lines.ensures.is, length-map c.slot_lines-lines.result.now (named key.session key.slot)) in
+    omega (arith, number_within plan key.session key.slot session_within slot_within c.in_ok-at.at at, c.slot_lines-lines.ensures.sound.few_messages)
 
 pub overflow_add-result : goal.overflow_add-result
 overflow_add-result c =
@@ -50,17 +52,17 @@ overflow_add-result c =
     let key = c.args.key in
     let session_within : key.session < length plan.sessions = omega (arith, c.sessions.ensures, c.if-key-sessions.false) in
     let slot_within : key.slot < slots (session plan key.session) = omega (arith, c.slots.ensures, c.if-key-slots.false) in
-    let at : c.in_ok-at.at < count plan key.session key.slot = omega (arith, c.in_ok-at.ensures.within, ap length c.slot_keys-keys.ensures.is) in
-    omega (arith, number_within plan key.session key.slot session_within slot_within c.in_ok-at.at at, c.slot_keys-keys.ensures.sound.few_messages, c.first.ensures.is)
+    let at : c.in_ok-at.at < count plan key.session key.slot = omega (arith, c.in_ok-at.ensures.within, ap length c.slot_lines-lines.ensures.is, length-map c.slot_lines-lines.result.now (named key.session key.slot)) in
+    omega (arith, number_within plan key.session key.slot session_within slot_within c.in_ok-at.at at, c.slot_lines-lines.ensures.sound.few_messages, c.first.ensures.is)
 
 pub returns : goal.returns
 returns c =
     let plan = c.args.self.now in
     let key = c.args.key in
-    let keys = c.slot_keys-keys.ensures.is in
+    let keys = c.slot_lines-lines.ensures.is in
     let session_within : key.session < length plan.sessions = omega (arith, c.sessions.ensures, c.if-key-sessions.false) in
     let slot_within : key.slot < slots (session plan key.session) = omega (arith, c.slots.ensures, c.if-key-slots.false) in
-    let at : c.in_ok-at.at < count plan key.session key.slot = omega (arith, c.in_ok-at.ensures.within, ap length keys) in
+    let at : c.in_ok-at.at < count plan key.session key.slot = omega (arith, c.in_ok-at.ensures.within, ap length keys, length-map c.slot_lines-lines.result.now (named key.session key.slot)) in
     let found = ap (λ keys. slice_index_or keys c.in_ok-at.at no_key) (sym keys) ∙ c.in_ok-at.ensures.found in
     let number = number_is plan key key.session key.slot c.in_ok-at.at session_within slot_within at found in
     let within = number_within plan key.session key.slot session_within slot_within c.in_ok-at.at at in
