@@ -1,0 +1,47 @@
+-- A pattern has few lines.
+use Rattle.std.proofs.Common.{◌≡◌, ℕ, zero, suc, ◌+◌, ◌*◌, ◌≤◌, Bool, true, false, not, nat_eq, ◌&&◌, List, [], ◌∷◌, length, arith}
+use Rattle.std.proofs.lemmas.Nat.{mul-le}
+use Rattle.list_laws.specs.Lists.{total, joined, only_if}
+use Rattle.list_laws.proofs.JoinedLists.{length-joined}
+use Rattle.secret_sharing.specs.Sharing.{has_pair}
+use Rattle.party_set.specs.Parties.{has_party}
+use Rattle.job_plan.specs.declared.pattern.Line.{Line}
+use Rattle.job_plan.specs.declared.pattern.Pattern.{Pattern}
+use Rattle.job_plan.specs.declared.pattern.Pattern.TheVariants.{Silent, Dealt, Multiplied, Opened}
+use Rattle.job_plan.specs.Plans.{Plan, holds, least_holder, scheme}
+use Rattle.job_plan.specs.Patterns.{deal_line, deal_lines, open_lines, lines}
+use Rattle.job_plan.specs.Sound.{IsSound}
+
+only_few : (b : Bool) (xs : List Line) (n : ℕ) → length xs ≤ n → length (only_if b xs) ≤ n
+only_few true xs n l = l
+only_few false xs n l = omega arith
+
+total_few : (n c : ℕ) (f : ℕ → ℕ) → ((i : ℕ) → f i ≤ c) → total n f ≤ n * c
+total_few zero c f h = omega arith
+total_few (suc n) c f h =
+    let before = total_few n c f h in
+    let here = h n in
+    let more : suc n * c ≡ n * c + c = omega arith in
+    omega arith
+
+-- few short parts are joined to a short list
+joined_few : (n most c : ℕ) (f : ℕ → List Line) → n ≤ most → ((i : ℕ) → length (f i) ≤ c) → length (joined n f) ≤ most * c
+joined_few n most c f l h =
+    let long = length-joined n f in
+    let few = total_few n c (λ i. length (f i)) h in
+    let all = mul-le n c most c l (omega arith) in
+    omega arith
+
+module _ (plan : Plan) (sound : IsSound plan) where
+  deal_few : (p : ℕ) → length (deal_lines plan p) ≤ 768
+  deal_few p = joined_few (length plan.groups) 64 12 (λ i. joined plan.parties (deal_line plan p i)) sound.groups (λ i. joined_few plan.parties 12 1 (deal_line plan p i) sound.parties (λ q.
+      only_few (not (nat_eq q p) && holds plan q i) (record { share = i; sender = p; receiver = q } ∷ []) 1 (omega arith)))
+
+  open_few : (r : ℕ) → length (open_lines plan r) ≤ 64
+  open_few r = joined_few (length plan.groups) 64 1 _ sound.groups (λ i. only_few (not (holds plan r i)) (record { share = i; sender = least_holder plan i; receiver = r } ∷ []) 1 (omega arith))
+
+  pub few_lines : (pattern : Pattern) → length (lines plan pattern) ≤ 9216
+  few_lines Silent = omega arith
+  few_lines (Dealt p) = let few = deal_few p in omega arith
+  few_lines Multiplied = joined_few plan.parties 12 768 _ sound.parties (λ p. only_few (has_pair (scheme plan) p) (deal_lines plan p) 768 (deal_few p))
+  few_lines (Opened readers) = let few = joined_few plan.parties 12 64 _ sound.parties (λ r. only_few (has_party readers r) (open_lines plan r) 64 (open_few r)) in omega arith

@@ -1,0 +1,118 @@
+-- The instructions of a slot are the steps of its pattern.
+use Rattle.std.proofs.Common.{◌≡◌, ℕ, suc, ◌+◌, ◌<◌, Bool, true, false, not, ◌&&◌, nat_eq, if◌then◌else◌, List, [], ◌∷◌, ◌++◌, map, length, refl, sym, ap, ap₂, ◌∙◌, subst, arith}
+use Rattle.std.specs.Prelude.{slice_index, slice_index_or}
+use Rattle.std.specs.List.{range_with_len, filter, enumerate_from}
+use Rattle.std.proofs.lemmas.Bool.{cases_Bool, cond-true, cond-false}
+use Rattle.std.proofs.lemmas.List.{map-append, length-map, get_or-map}
+use mathlib.Core.Logic.{inl, inr}
+use Rattle.list_laws.specs.Lists.{only_if}
+use Rattle.circuit_model.specs.Circuits.{is_product}
+use Rattle.secret_sharing.specs.Sharing.{has_pair}
+use Rattle.party_set.specs.Parties.{has_party}
+use Rattle.job_plan.specs.declared.key.Key.{Key}
+use Rattle.job_plan.specs.declared.pattern.Line.{Line}
+use Rattle.job_plan.specs.declared.pattern.Pattern.{Pattern}
+use Rattle.job_plan.specs.declared.pattern.Pattern.TheVariants.{Silent, Multiplied}
+use Rattle.job_plan.specs.Plans.{Plan, Slot, scheme, session, slot, slots, gate, owners, readers}
+use Rattle.job_plan.specs.Plans.Slot.{Input, At_gate, Output}
+use Rattle.job_plan.specs.Numbers.{message, no_key, deals_before}
+use Rattle.job_plan.specs.Firsts.{count, first, numbers}
+use Rattle.job_plan.specs.Patterns.{named, lines, pattern, pattern_at}
+use Rattle.job_plan.proofs.SlotMessages.{message_at}
+use Rattle.job_plan.proofs.SlotPatterns.{slots_follow_patterns}
+use Rattle.party_program.specs.declared.program.Instruction.{Instruction}
+use Rattle.party_program.specs.declared.program.Instruction.TheVariants as instruction
+use Rattle.party_program.specs.declared.step.Step.{Step}
+use Rattle.party_program.specs.declared.step.Step.TheVariants.{Deal, Own, Deliver}
+use Rattle.party_program.specs.Programs as programs
+use Rattle.party_program.specs.PartySteps.{before, after, posts, takes, post_of, take_of, is_from, is_to, steps, placed}
+
+map_map : {A B C : Type 0} (f : B → C) (g : A → B) (xs : List A) → map f (map g xs) ≡ map (λ x. f (g x)) xs
+map_map f g [] = refl
+map_map f g (x ∷ xs) = ap (λ ys. f (g x) ∷ ys) (map_map f g xs)
+
+map_only_if : {A B : Type 0} (f : A → B) (b : Bool) (xs : List A) → map f (only_if b xs) ≡ only_if b (map f xs)
+map_only_if f true xs = refl
+map_only_if f false xs = refl
+
+-- what passes of a range of numbers is what passes of the lines that stand at them
+passing : (f : ℕ → Instruction) (test : ℕ → Bool) (g : ℕ × Line → Instruction) (check : ℕ × Line → Bool) (a j : ℕ) (ls : List Line)
+    → ((i n m : ℕ) (d : Line) → i < length ls → n ≡ a + (j + i) → m ≡ j + i → (test n ≡ check (m, slice_index_or ls i d)) × (f n ≡ g (m, slice_index_or ls i d)))
+    → map f (filter test (range_with_len (a + j) (length ls))) ≡ map g (filter check (enumerate_from j ls))
+passing f test g check a j [] h = refl
+passing f test g check a j (l ∷ ls) h =
+    let here = h 0 (a + j) j l (omega arith) (omega arith) (omega arith) in
+    let next : a + (j + 1) ≡ a + j + 1 = omega arith in
+    let rest : map f (filter test (range_with_len (a + j + 1) (length ls))) ≡ map g (filter check (enumerate_from (j + 1) ls)) =
+    subst (λ z. map f (filter test (range_with_len z (length ls))) ≡ map g (filter check (enumerate_from (j + 1) ls))) next
+    (passing f test g check a (j + 1) ls (λ i n m d b e k. h (suc i) n m d (omega arith) (omega arith) (omega arith))) in
+    elim (cases_Bool (check (j, l))) [
+      | inl e ↦
+          ap (map f) (cond-true (test (a + j)) ((a + j) ∷ filter test (range_with_len (a + j + 1) (length ls))) (filter test (range_with_len (a + j + 1) (length ls))) (here.0 ∙ e))
+          ∙ ap₂ (λ x xs. x ∷ xs) here.1 rest
+          ∙ ap (map g) (sym (cond-true (check (j, l)) ((j, l) ∷ filter check (enumerate_from (j + 1) ls)) (filter check (enumerate_from (j + 1) ls)) e))
+      | inr e ↦
+          ap (map f) (cond-false (test (a + j)) ((a + j) ∷ filter test (range_with_len (a + j + 1) (length ls))) (filter test (range_with_len (a + j + 1) (length ls))) (here.0 ∙ e))
+          ∙ rest
+          ∙ ap (map g) (sym (cond-false (check (j, l)) ((j, l) ∷ filter check (enumerate_from (j + 1) ls)) (filter check (enumerate_from (j + 1) ls)) e))
+    ]
+
+module _ (plan : Plan) (p s k : ℕ) where
+  abbrev place : Step → Instruction
+  place = placed k (first plan s k) (deals_before plan p s k)
+
+  before_product : (b : Bool) → only_if (b && has_pair (scheme plan) p) (instruction.Own k ∷ instruction.Deal k (deals_before plan p s k) ∷ []) ≡ map place (before plan p (if b then Multiplied else Silent))
+  before_product true = sym (map_only_if place (has_pair (scheme plan) p) (Own ∷ Deal ∷ []))
+  before_product false = refl
+
+  opening_is : (z : Slot) → programs.opening plan p s k z ≡ map place (before plan p (pattern plan s z))
+  opening_is (Input v) = sym (map_only_if place (nat_eq (slice_index (owners (session plan s)) v) p) (Deal ∷ []))
+  opening_is (At_gate t) = before_product (is_product (gate (session plan s) t).operation)
+  opening_is (Output o) = refl
+
+  after_gate : (b : Bool) → only_if b (instruction.Sum k ∷ []) ++ only_if (not b) (instruction.Linear k ∷ []) ≡ map place (after p (if b then Multiplied else Silent))
+  after_gate true = refl
+  after_gate false = refl
+
+  closing_is : (z : Slot) → programs.closing plan p s k z ≡ map place (after p (pattern plan s z))
+  closing_is (Input v) = refl
+  closing_is (At_gate t) = after_gate (is_product (gate (session plan s) t).operation)
+  closing_is (Output o) = sym (map_only_if place (has_party (slice_index (readers (session plan s)) o) p) (Deliver ∷ []))
+
+  module _ (ls : s < length plan.sessions) (lk : k < slots (session plan s)) where
+    abbrev its : Pattern
+    its = pattern_at plan s k
+
+    pub length-lines : count plan s k ≡ length (lines plan its)
+    length-lines = ap length (slots_follow_patterns plan s k (slot (session plan s) k)) ∙ length-map (lines plan its) (named s k)
+
+    -- the message of a line
+    line_is : (i n : ℕ) (d : Line) → i < length (lines plan its) → n ≡ first plan s k + i → message plan n ≡ named s k (slice_index_or (lines plan its) i d)
+    line_is i n d l e =
+        ap (message plan) e
+        ∙ message_at plan s k ls lk i (let long = length-lines in omega arith)
+        ∙ ap (λ xs. slice_index_or xs i no_key) (slots_follow_patterns plan s k (slot (session plan s) k))
+        ∙ get_or-map (named s k) (lines plan its) i d no_key l
+
+    numbers_are : (f : ℕ → Instruction) (test : ℕ → Bool) (g : ℕ × Line → Step) (check : ℕ × Line → Bool)
+        → ((n m : ℕ) (x : Line) → n ≡ first plan s k + m → message plan n ≡ named s k x → (test n ≡ check (m, x)) × (f n ≡ place (g (m, x))))
+        → map f (filter test (numbers plan s k)) ≡ map place (map g (filter check (enumerate_from 0 (lines plan its))))
+    numbers_are f test g check h =
+        let none : first plan s k + 0 ≡ first plan s k = omega arith in
+        ap (λ z. map f (filter test (range_with_len (first plan s k) z))) length-lines
+        ∙ ap (λ z. map f (filter test (range_with_len z (length (lines plan its))))) (sym none)
+        ∙ passing f test (λ e. place (g e)) check (first plan s k) 0 (lines plan its) (λ i n m d l e o. h n m (slice_index_or (lines plan its) i d) (omega arith) (line_is i n d l (omega arith)))
+        ∙ sym (map_map place g (filter check (enumerate_from 0 (lines plan its))))
+
+    posts_are : programs.posts plan p s k ≡ map place (posts plan p its)
+    posts_are = numbers_are (programs.post plan) (programs.from plan p) post_of (is_from p) (λ n m x e is. (ap (λ (key : Key). nat_eq key.sender p) is, ap₂ instruction.Post e (ap (λ (key : Key). key.share) is)))
+
+    takes_are : programs.takes plan p s k ≡ map place (takes plan p its)
+    takes_are = numbers_are (programs.take_of plan) (programs.to plan p) take_of (is_to p) (λ n m x e is. (ap (λ (key : Key). nat_eq key.receiver p) is, ap₂ instruction.Take e (ap (λ (key : Key). key.share) is)))
+
+    pub slot_program_follows : programs.slot_program plan p s k ≡ map place (steps plan p its)
+    slot_program_follows =
+        ap₂ (λ x y. x ++ y) (ap₂ (λ x y. x ++ y) (ap₂ (λ x y. x ++ y) (opening_is (slot (session plan s) k)) posts_are) takes_are) (closing_is (slot (session plan s) k))
+        ∙ sym (map-append place (before plan p its ++ posts plan p its ++ takes plan p its) (after p its)
+        ∙ ap (λ x. x ++ map place (after p its)) (map-append place (before plan p its ++ posts plan p its) (takes plan p its)
+        ∙ ap (λ x. x ++ map place (takes plan p its)) (map-append place (before plan p its) (posts plan p its))))

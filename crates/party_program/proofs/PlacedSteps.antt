@@ -1,0 +1,52 @@
+-- The messages that steps name are those of their pattern.
+use Rattle.std.proofs.Common.{ℕ, ◌+◌, ◌<◌, ◌≤◌, Bool, nat_eq, List, [], ◌∷◌, ◌++◌, map, length, sym, subst, arith}
+use Rattle.std.specs.Prelude.{slice_index_or}
+use Rattle.std.specs.List.{AllByRecursion, filter, enumerate_from}
+use Rattle.std.proofs.lemmas.Bool.{cases_Bool, cond-true, cond-false}
+use mathlib.Core.Logic.{inl, inr}
+use Rattle.list_laws.proofs.JoinedLists.{every_append, every_only_if}
+use Rattle.secret_sharing.specs.Sharing.{has_pair}
+use Rattle.party_set.specs.Parties.{has_party}
+use Rattle.job_plan.specs.declared.pattern.Line.{Line}
+use Rattle.job_plan.specs.declared.pattern.Pattern.{Pattern}
+use Rattle.job_plan.specs.declared.pattern.Pattern.TheVariants.{Silent, Dealt, Multiplied, Opened}
+use Rattle.job_plan.specs.Plans.{Plan, scheme}
+use Rattle.job_plan.specs.Patterns.{lines}
+use Rattle.job_plan.proofs.DistinctMessages.{every_place}
+use Rattle.party_program.specs.declared.step.Step.{Step}
+use Rattle.party_program.specs.declared.step.Step.TheVariants.{Deal, Own, Deliver}
+use Rattle.party_program.specs.PartySteps.{before, after, posts, takes, post_of, take_of, is_from, is_to, steps, IsPlaced}
+
+passing_placed : (f : ℕ × Line → Step) (test : ℕ × Line → Bool) (n j : ℕ) (ls : List Line) → ((e : ℕ × Line) → e.0 < n → IsPlaced n (f e)) → j + length ls ≤ n
+    → AllByRecursion (IsPlaced n) (map f (filter test (enumerate_from j ls)))
+passing_placed f test n j [] h b = tt
+passing_placed f test n j (l ∷ ls) h b =
+    let rest = passing_placed f test n (j + 1) ls h (omega arith) in
+    elim (cases_Bool (test (j, l))) [
+      | inl e ↦ subst (λ z. AllByRecursion (IsPlaced n) (map f z)) (sym (cond-true (test (j, l)) ((j, l) ∷ filter test (enumerate_from (j + 1) ls)) (filter test (enumerate_from (j + 1) ls)) e)) (h (j, l) (omega arith), rest)
+      | inr e ↦ subst (λ z. AllByRecursion (IsPlaced n) (map f z)) (sym (cond-false (test (j, l)) ((j, l) ∷ filter test (enumerate_from (j + 1) ls)) (filter test (enumerate_from (j + 1) ls)) e)) rest
+    ]
+
+module _ (plan : Plan) (p n : ℕ) where
+  before_placed : (pattern : Pattern) → AllByRecursion (IsPlaced n) (before plan p pattern)
+  before_placed Silent = tt
+  before_placed (Dealt q) = every_only_if (IsPlaced n) (nat_eq q p) (Deal ∷ []) (λ e. (tt, tt))
+  before_placed Multiplied = every_only_if (IsPlaced n) (has_pair (scheme plan) p) (Own ∷ Deal ∷ []) (λ e. (tt, (tt, tt)))
+  before_placed (Opened readers) = tt
+
+  after_placed : (pattern : Pattern) → AllByRecursion (IsPlaced n) (after p pattern)
+  after_placed Silent = (tt, tt)
+  after_placed (Dealt q) = tt
+  after_placed Multiplied = (tt, tt)
+  after_placed (Opened readers) = every_only_if (IsPlaced n) (has_party readers p) (Deliver ∷ []) (λ e. (tt, tt))
+
+pub steps_placed : (plan : Plan) (p : ℕ) (pattern : Pattern) (i : ℕ) (d : Step) → i < length (steps plan p pattern) → IsPlaced (length (lines plan pattern)) (slice_index_or (steps plan p pattern) i d)
+steps_placed plan p pattern i d l =
+    let n : ℕ = length (lines plan pattern) in
+    every_place (IsPlaced n) (steps plan p pattern) i d
+    (every_append (IsPlaced n) (before plan p pattern ++ posts plan p pattern ++ takes plan p pattern) (after p pattern)
+    (every_append (IsPlaced n) (before plan p pattern ++ posts plan p pattern) (takes plan p pattern)
+    (every_append (IsPlaced n) (before plan p pattern) (posts plan p pattern) (before_placed plan p n pattern) (passing_placed post_of (is_from p) n 0 (lines plan pattern) (λ e b. b) (omega arith)))
+    (passing_placed take_of (is_to p) n 0 (lines plan pattern) (λ e b. b) (omega arith)))
+    (after_placed plan p n pattern))
+    l

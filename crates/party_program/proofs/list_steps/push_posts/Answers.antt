@@ -1,0 +1,20 @@
+use Rattle.std.proofs.Common.{length, [], ◌∷◌, ◌++◌, nat_eq, ap, ap₂, ◌∙◌, arith}
+use Rattle.list_laws.specs.Lists.{only_if}
+use Rattle.job_plan.specs.declared.pattern.Line.{Line}
+use Rattle.party_program.specs.declared.step.Step.TheVariants.{Post}
+use Rattle.party_program.specs.PartySteps.{post_of, is_from}
+use Rattle.party_program.proofs.FewLines.{few_lines}
+use Rattle.party_program.proofs.GrownLists.{passing_step}
+use Rattle.party_program.proofs.list_steps.push_posts.Goals as goal
+
+pub overflow_cast-step : goal.overflow_cast-step
+overflow_cast-step c =
+    let few = few_lines c.args.plan.now c.parties.ensures.sound c.args.pattern in
+    let long = ap (length {A = Line}) c.lines-lines.ensures in
+    omega arith
+
+pub loop-place-preserved : goal.loop-place-preserved
+loop-place-preserved c =
+    let none : Line = record { share = 0; sender = 0; receiver = 0 } in
+    passing_step post_of (is_from c.args.p) c.lines-lines.result.now c.loop-place.place none c.args.list.now c.loop-place.list _ c.loop-place-test.true c.loop-place.invariant
+    (c.in_ok-push_if.ensures ∙ ap₂ (λ n m. c.loop-place.list ++ only_if (nat_eq n c.args.p) (Post c.loop-place.place m ∷ [])) c.from-in-loop-place.ensures c.from.ensures)

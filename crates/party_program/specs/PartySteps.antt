@@ -1,0 +1,70 @@
+-- What a party does in a slot of a pattern, and the instructions that it becomes in a slot.
+use Rattle.std.specs.Prelude.{ℕ, ◌+◌, ◌<◌, Bool, nat_eq, List, [], ◌∷◌, ◌++◌, map, filter}
+use Rattle.std.specs.List.{enumerate_from}
+use Rattle.list_laws.specs.Lists.{only_if}
+use Rattle.secret_sharing.specs.Sharing.{has_pair}
+use Rattle.party_set.specs.Parties.{has_party}
+use Rattle.job_plan.specs.declared.pattern.Line.{Line}
+use Rattle.job_plan.specs.declared.pattern.Pattern.{Pattern}
+use Rattle.job_plan.specs.declared.pattern.Pattern.TheVariants.{Silent, Dealt, Multiplied, Opened}
+use Rattle.job_plan.specs.Plans.{Plan, scheme}
+use Rattle.job_plan.specs.Patterns.{lines}
+use Rattle.party_program.specs.declared.program.Instruction.{Instruction}
+use Rattle.party_program.specs.declared.program.Instruction.TheVariants as instruction
+use Rattle.party_program.specs.declared.step.Step.{Step}
+use Rattle.party_program.specs.declared.step.Step.TheVariants.{Deal, Own, Post, Take, Linear, Sum, Deliver}
+
+-- what p does before its posts
+abbrev pub before : Plan → ℕ → Pattern → List Step
+before plan p Silent = []
+before plan p (Dealt q) = only_if (nat_eq q p) (Deal ∷ [])
+before plan p Multiplied = only_if (has_pair (scheme plan) p) (Own ∷ Deal ∷ [])
+before plan p (Opened readers) = []
+
+-- the post of a line at a place, and its take
+abbrev pub post_of : ℕ × Line → Step
+post_of placed = Post placed.0 placed.1.share
+
+abbrev pub take_of : ℕ × Line → Step
+take_of placed = Take placed.0 placed.1.share
+
+-- whether p is its sender, or its receiver
+abbrev pub is_from : ℕ → ℕ × Line → Bool
+is_from p placed = nat_eq placed.1.sender p
+
+abbrev pub is_to : ℕ → ℕ × Line → Bool
+is_to p placed = nat_eq placed.1.receiver p
+
+-- the posts of p, and its takes
+abbrev pub posts : Plan → ℕ → Pattern → List Step
+posts plan p pattern = map post_of (filter (is_from p) (enumerate_from 0 (lines plan pattern)))
+
+abbrev pub takes : Plan → ℕ → Pattern → List Step
+takes plan p pattern = map take_of (filter (is_to p) (enumerate_from 0 (lines plan pattern)))
+
+-- what p does after its takes
+abbrev pub after : ℕ → Pattern → List Step
+after p Silent = Linear ∷ []
+after p (Dealt q) = []
+after p Multiplied = Sum ∷ []
+after p (Opened readers) = only_if (has_party readers p) (Deliver ∷ [])
+
+-- what p does in a slot of this pattern
+abbrev pub steps : Plan → ℕ → Pattern → List Step
+steps plan p pattern = before plan p pattern ++ posts plan p pattern ++ takes plan p pattern ++ after p pattern
+
+-- the instruction of a step in slot k, whose first message has this number, where p has made so many deals before
+abbrev pub placed : ℕ → ℕ → ℕ → Step → Instruction
+placed k first deals Deal = instruction.Deal k deals
+placed k first deals Own = instruction.Own k
+placed k first deals (Post place share) = instruction.Post (first + place) share
+placed k first deals (Take place share) = instruction.Take (first + place) share
+placed k first deals Linear = instruction.Linear k
+placed k first deals Sum = instruction.Sum k
+placed k first deals Deliver = instruction.Deliver k
+
+-- a message that the step names is one of so many
+abbrev pub IsPlaced : ℕ → Step → Type 0
+IsPlaced count (Post place share) = place < count
+IsPlaced count (Take place share) = place < count
+IsPlaced count _ = Unit {0}

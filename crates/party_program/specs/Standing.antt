@@ -1,0 +1,60 @@
+-- Where the instructions of each slot stand in a program, and the tables that a program keeps in place of them.
+use Rattle.std.specs.Prelude.{◌≡◌, ℕ, ◌+◌, ◌<◌, ◌≤◌, nat_eq, List, length, Some}
+use Rattle.indexmap.specs.IndexMap.{IndexMap, get}
+use Rattle.list_laws.specs.Lists.{total, listed}
+use Rattle.job_plan.specs.declared.pattern.Pattern.TheVariants.{Silent, Dealt, Multiplied, Opened}
+use Rattle.job_plan.specs.Plans.{Plan, session, slots}
+use Rattle.job_plan.specs.Numbers.{deals_before}
+use Rattle.job_plan.specs.Patterns.{pattern_at}
+use Rattle.job_plan.specs.Sound.{IsSound}
+use Rattle.party_program.specs.declared.program.Program.{Program}
+use Rattle.party_program.specs.declared.starts.SlotStart.{SlotStart}
+use Rattle.party_program.specs.declared.step.Step.{Step}
+use Rattle.party_program.specs.declared.step_table.StepTable.{StepTable}
+use Rattle.party_program.specs.PartySteps.{steps}
+use Rattle.party_program.specs.Programs.{slot_program}
+
+-- how many instructions of p stand before those of slot k
+abbrev pub instructions_before : Plan → ℕ → ℕ → ℕ → ℕ
+instructions_before plan p s k = total k (λ j. length (slot_program plan p s j))
+
+-- position q stands among the instructions of slot k, or past all of them, where k is the count of slots
+pub record StandsIn (plan : Plan) (p s k q : ℕ) : Type 0 where
+  pub slot : k ≤ slots (session plan s)
+  pub begun : instructions_before plan p s k ≤ q
+  pub within : k < slots (session plan s) → q < instructions_before plan p s (k + 1)
+
+-- the steps of p in an opening to this group are kept
+abbrev pub HasOpening : {S : Type 0} → Plan → ℕ → IndexMap ℕ (List Step) S → ℕ → Type 0
+HasOpening plan p openings readers = get nat_eq openings readers ≡ Some (steps plan p (Opened readers))
+
+-- whatever is kept for a group is the steps of p in an opening to it
+abbrev pub AreOpenings : {S : Type 0} → Plan → ℕ → IndexMap ℕ (List Step) S → Type 0
+AreOpenings plan p openings =
+    (readers : ℕ) (kept : List Step) → get nat_eq openings readers ≡ Some kept → kept ≡ steps plan p (Opened readers)
+
+-- the steps of p for each pattern of session s
+pub record AreSteps (plan : Plan) (p s : ℕ) (table : StepTable) : Type 0 where
+  pub silent : table.silent ≡ steps plan p Silent
+  pub multiplied : table.multiplied ≡ steps plan p Multiplied
+  pub dealt : table.dealt.items ≡ listed plan.parties (λ q. steps plan p (Dealt q))
+  pub opened : (k readers : ℕ) → k < slots (session plan s) → pattern_at plan s k ≡ Opened readers
+      → HasOpening plan p table.opened readers
+
+-- how many instructions and deals of p stand before slot k
+abbrev pub start_of : Plan → ℕ → ℕ → ℕ → SlotStart
+start_of plan p s k = record { instructions = instructions_before plan p s k; deals = deals_before plan p s k }
+
+-- the start of each slot, and behind the last one
+abbrev pub slot_starts : Plan → ℕ → ℕ → List SlotStart
+slot_starts plan p s = listed (slots (session plan s) + 1) (start_of plan p s)
+
+-- the program of party p in session s of a plan within the limits
+pub record IsProgram (plan : Plan) (p s : ℕ) (program : Program) : Type 0 where
+  pub sound : IsSound plan
+  pub of_party : program.party ≡ p
+  pub of_session : program.session ≡ s
+  pub party_there : p < plan.parties
+  pub session_there : s < length plan.sessions
+  pub table : AreSteps plan p s program.steps
+  pub starts : program.starts.items ≡ slot_starts plan p s

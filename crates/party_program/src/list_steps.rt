@@ -1,0 +1,94 @@
+//! Lists what a party does in a slot of a pattern.
+ghost use Rattle.std.specs.Prelude.{◌≡◌, ◌<◌, ◌++◌, IfOk, OnOk};
+ghost use Rattle.job_plan.specs.Patterns.{Occurs};
+ghost use Rattle.party_program.specs.PartySteps.{before, posts, takes, after, steps};
+
+use crate::step::Step;
+use crate::step_list::StepList;
+use job_plan::{Pattern, Plan};
+use std::alloc::{AllocError, Global};
+
+/// What party `p` does in a slot of this pattern.
+pub(crate) fn list_steps(
+    alloc: Global,
+    plan: &Plan,
+    p: u32,
+    pattern: Pattern,
+) -> Result<StepList, AllocError>
+    requires party { p < plan.now.parties }
+    requires occurs { Occurs plan.now pattern }
+    ensures { IfOk result (λ list. list ≡ steps plan.now p pattern) }
+{
+    let mut list = StepList::new(alloc);
+    push_before(plan, p, pattern, &mut list)?;
+    push_posts(plan, p, pattern, &mut list)?;
+    push_takes(plan, p, pattern, &mut list)?;
+    push_after(plan, p, pattern, &mut list)?;
+    Ok(list)
+}
+
+// What p does before its posts.
+fn push_before(plan: &Plan, p: u32, pattern: Pattern, list: &mut StepList) -> Result<(), AllocError>
+    requires { p < plan.now.parties }
+    ensures { OnOk result (list.new ≡ list.old ++ before plan.now p pattern) }
+{
+    match pattern {
+        Pattern::Silent | Pattern::Opened(_) => Ok(()),
+        Pattern::Dealt(dealer) => list.push_if(dealer == p, Step::Deal),
+        Pattern::Multiplied => {
+            if plan.multiplies(p) {
+                list.push(Step::Own)?;
+                list.push(Step::Deal)?;
+            }
+            Ok(())
+        }
+    }
+}
+
+// The posts of p.
+fn push_posts(plan: &Plan, p: u32, pattern: Pattern, list: &mut StepList) -> Result<(), AllocError>
+    requires { Occurs plan.now pattern }
+    ensures { OnOk result (list.new ≡ list.old ++ posts plan.now p pattern) }
+{
+    let _ = plan.parties();
+    let lines = plan.lines(pattern);
+    for (place, line) in lines.iter().enumerate() {
+        let step = Step::Post {
+            place: place as u32,
+            share: u32::from(line.share),
+        };
+        list.push_if(u32::from(line.sender) == p, step)?;
+    }
+    Ok(())
+}
+
+// The takes of p.
+fn push_takes(plan: &Plan, p: u32, pattern: Pattern, list: &mut StepList) -> Result<(), AllocError>
+    requires { Occurs plan.now pattern }
+    ensures { OnOk result (list.new ≡ list.old ++ takes plan.now p pattern) }
+{
+    let _ = plan.parties();
+    let lines = plan.lines(pattern);
+    for (place, line) in lines.iter().enumerate() {
+        let step = Step::Take {
+            place: place as u32,
+            share: u32::from(line.share),
+        };
+        list.push_if(u32::from(line.receiver) == p, step)?;
+    }
+    Ok(())
+}
+
+// What p does after its takes.
+fn push_after(plan: &Plan, p: u32, pattern: Pattern, list: &mut StepList) -> Result<(), AllocError>
+    requires { p < plan.now.parties }
+    ensures { OnOk result (list.new ≡ list.old ++ after p pattern) }
+{
+    let _ = plan.parties();
+    match pattern {
+        Pattern::Silent => list.push(Step::Linear),
+        Pattern::Dealt(_) => Ok(()),
+        Pattern::Multiplied => list.push(Step::Sum),
+        Pattern::Opened(readers) => list.push_if(readers >> p & 1 == 1, Step::Deliver),
+    }
+}

@@ -1,0 +1,126 @@
+//! The steps of a party for each pattern of a session's slots.
+ghost use Rattle.std.specs.Prelude.{◌≡◌, ℕ, ◌<◌, IfOk, OnOk, length};
+ghost use Rattle.list_laws.specs.Lists.{listed};
+ghost use Rattle.job_plan.specs.declared.pattern.Pattern.TheVariants.{Dealt, Opened};
+ghost use Rattle.job_plan.specs.Plans.{session, slots};
+ghost use Rattle.job_plan.specs.Patterns.{pattern_at};
+ghost use Rattle.party_program.specs.PartySteps.{steps};
+ghost use Rattle.party_program.specs.Standing.{AreOpenings, HasOpening};
+
+use crate::list_steps::list_steps;
+use crate::step::Step;
+use crate::step_list::StepList;
+use indexmap::IndexMap;
+use job_plan::{Pattern, Plan};
+use std::alloc::{AllocError, Global};
+
+/// The steps of a party for each pattern of a session's slots: of a linear gate, of a product, of a value by its
+/// dealer, and of an output by its readers.
+#[derive(Drop)]
+pub(crate) struct StepTable {
+    silent: StepList,
+    multiplied: StepList,
+    dealt: Vec<StepList>,
+    opened: IndexMap<u32, StepList>,
+}
+
+impl StepTable {
+    ghost use Rattle.std.specs.Prelude.{◌≡◌, ℕ, ◌<◌, IfOk, length};
+    ghost use Rattle.job_plan.specs.Plans.{session, slots};
+    ghost use Rattle.job_plan.specs.Patterns.{pattern_at};
+    ghost use Rattle.party_program.specs.PartySteps.{steps};
+    ghost use Rattle.party_program.specs.Standing.{AreSteps};
+
+    /// The steps of party `p` in session `s`.
+    pub(crate) fn make(alloc: Global, plan: &Plan, p: u32, s: u32) -> Result<StepTable, AllocError>
+        requires party { p < plan.now.parties }
+        requires session { s < length plan.now.sessions }
+        ensures { IfOk result (AreSteps plan.now p s) }
+    {
+        let silent = list_steps(alloc, plan, p, Pattern::Silent)?;
+        let multiplied = list_steps(alloc, plan, p, Pattern::Multiplied)?;
+        let dealt = deals_of_each(alloc, plan, p)?;
+        let opened = openings_of_each(alloc, plan, p, s)?;
+        Ok(StepTable {
+            silent,
+            multiplied,
+            dealt,
+            opened,
+        })
+    }
+
+    /// What the party does in slot `k` of session `s`.
+    pub(crate) fn at(&self, plan: &Plan, s: u32, k: u32) -> &[Step]
+        requires are { (p : ℕ) × AreSteps plan.now p s self.now }
+        requires session { s < length plan.now.sessions }
+        requires slot { k < slots (session plan.now s) }
+        ensures { (p : ℕ) → AreSteps plan.now p s self.now → result.now ≡ steps plan.now p (pattern_at plan.now s k) }
+    {
+        match plan.pattern(s, k) {
+            Pattern::Silent => self.silent.as_slice(),
+            Pattern::Dealt(dealer) => self.dealt[dealer as usize].as_slice(),
+            Pattern::Multiplied => self.multiplied.as_slice(),
+            Pattern::Opened(readers) => self.opened[&readers].as_slice(),
+        }
+    }
+}
+
+// What p does in a slot of each dealer.
+fn deals_of_each(alloc: Global, plan: &Plan, p: u32) -> Result<Vec<StepList>, AllocError>
+    requires { p < plan.now.parties }
+    ensures { IfOk result (λ list. list.items ≡ listed plan.now.parties (λ q. steps plan.now p (Dealt q))) }
+{
+    let mut list = Vec::new(alloc);
+    for dealer in 0..plan.parties() {
+        list.push(list_steps(alloc, plan, p, Pattern::Dealt(dealer))?)?;
+    }
+    Ok(list)
+}
+
+// What p does in a slot of each group that reads an output of session s.
+fn openings_of_each(
+    alloc: Global,
+    plan: &Plan,
+    p: u32,
+    s: u32,
+) -> Result<IndexMap<u32, StepList>, AllocError>
+    requires party { p < plan.now.parties }
+    requires session { s < length plan.now.sessions }
+    ensures { IfOk result (λ map. (k readers : ℕ) → k < slots (session plan.now s)
+        → pattern_at plan.now s k ≡ Opened readers → HasOpening plan.now p map readers) }
+{
+    let mut openings = IndexMap::new(alloc);
+    for k in 0..plan.slots(s) {
+        add_opening(alloc, plan, p, s, k, &mut openings)?;
+    }
+    Ok(openings)
+}
+
+// Adds what p does in slot k, if it is an opening to a group that isn't there.
+fn add_opening(
+    alloc: Global,
+    plan: &Plan,
+    p: u32,
+    s: u32,
+    k: u32,
+    openings: &mut IndexMap<u32, StepList>,
+) -> Result<(), AllocError>
+    requires party { p < plan.now.parties }
+    requires session { s < length plan.now.sessions }
+    requires slot { k < slots (session plan.now s) }
+    requires before { AreOpenings plan.now p openings.old }
+    ensures openings { OnOk result (AreOpenings plan.now p openings.new) }
+    ensures others { OnOk result ((readers : ℕ) → HasOpening plan.now p openings.old readers
+        → HasOpening plan.now p openings.new readers) }
+    ensures added { OnOk result ((readers : ℕ) → pattern_at plan.now s k ≡ Opened readers
+        → HasOpening plan.now p openings.new readers) }
+{
+    let pattern = plan.pattern(s, k);
+    if let Pattern::Opened(readers) = pattern {
+        if !openings.contains_key(&readers) {
+            let steps = list_steps(alloc, plan, p, pattern)?;
+            openings.insert(readers, steps)?;
+        }
+    }
+    Ok(())
+}
