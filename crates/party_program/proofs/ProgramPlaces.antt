@@ -1,5 +1,5 @@
 -- What stands where in a program.
-use Rattle.std.proofs.Common.{true, false, nat_le, leb-true, leb-false, ◌^◌, ◌≡◌, ℕ, ◌+◌, ◌-◌, ◌<◌, ◌≤◌, List, length, ap, ◌∙◌, subst, arith}
+use Rattle.std.proofs.Common.{true, false, nat_le, leb-true, leb-false, ◌^◌, ◌≡◌, ℕ, ◌+◌, ◌-◌, ◌<◌, ◌≤◌, List, length, sym, ap, ◌∙◌, subst, arith}
 use Rattle.std.specs.Prelude.{slice_index_or}
 use Rattle.std.specs.List.Sorted.{IsPartitionPoint, IsNonDecreasingBy}
 use Rattle.std.proofs.lemmas.Bool.{cases_eq, cases_lt}
@@ -34,6 +34,11 @@ placed_within n m (Take place share) l h = omega arith
 placed_within n m Linear l h = tt
 placed_within n m Sum l h = tt
 placed_within n m Deliver l h = tt
+
+-- a program is that of the party and the session that it names
+pub is_own : (plan : Plan) (p s : ℕ) (program : Program) → IsProgram plan p s program → IsProgram plan program.party program.session program
+is_own plan p s program is =
+    subst (λ r. IsProgram plan program.party r program) (sym is.of_session) (subst (λ r. IsProgram plan r s program) (sym is.of_party) is)
 
 module _ (plan : Plan) (p s : ℕ) where
   pub length-program : length (program plan p s) ≡ instructions_before plan p s (slots (session plan s))
@@ -92,7 +97,7 @@ module _ (plan : Plan) (p s : ℕ) where
   pub length-starts : (program : Program) → IsProgram plan p s program → length program.starts.items ≡ slots (session plan s) + 1
   length-starts program is = ap length is.starts ∙ length-listed (slots (session plan s) + 1) (start_of plan p s)
 
-  -- how far the starts rise
+  -- what stands before a slot rises with the slot
   pub before_rises : (j k : ℕ) → j ≤ k → instructions_before plan p s j ≤ instructions_before plan p s k
   before_rises j k l = elim (cases_eq j k) [
     | inl e ↦ subst (λ z. instructions_before plan p s j ≤ instructions_before plan p s z) e (omega arith)

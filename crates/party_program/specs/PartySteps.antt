@@ -21,19 +21,19 @@ before plan p (Dealt q) = only_if (nat_eq q p) (Deal ∷ [])
 before plan p Multiplied = only_if (has_pair (scheme plan) p) (Own ∷ Deal ∷ [])
 before plan p (Opened readers) = []
 
--- the post of a line at a place, and its take
+-- the post of a line with its place in the pattern, and the take
 abbrev pub post_of : ℕ × Line → Step
-post_of placed = Post placed.0 placed.1.share
+post_of entry = Post entry.0 entry.1.share
 
 abbrev pub take_of : ℕ × Line → Step
-take_of placed = Take placed.0 placed.1.share
+take_of entry = Take entry.0 entry.1.share
 
--- whether p is its sender, or its receiver
+-- whether p is the sender of the line, or its receiver
 abbrev pub is_from : ℕ → ℕ × Line → Bool
-is_from p placed = nat_eq placed.1.sender p
+is_from p entry = nat_eq entry.1.sender p
 
 abbrev pub is_to : ℕ → ℕ × Line → Bool
-is_to p placed = nat_eq placed.1.receiver p
+is_to p entry = nat_eq entry.1.receiver p
 
 -- the posts of p, and its takes
 abbrev pub posts : Plan → ℕ → Pattern → List Step
