@@ -80,7 +80,7 @@ module _ (w : World) (whole : IsWhole w) (ds : List Desk) (cells : PlainCells) (
   p = k % w.plan.parties
 
   abbrev i : Instruction
-  i = instruction_at d
+  i = instruction_at (given_to w k) d
 
   is_desk : IsDesk (given_to w k) d
   is_desk = by_place (λ j (desk : Desk). IsDesk (given_to w j) desk) ds h.desks k d0 inside
@@ -91,7 +91,7 @@ module _ (w : World) (whole : IsWhole w) (ds : List Desk) (cells : PlainCells) (
       ds (λ m desk is less' e. h.full m q n j desk is less' e) k' d1 l less at'
 
   here : i ≡ at (program_of w k) d.position
-  here = ap (λ z. at z d.position) is_desk.list
+  here = refl
 
   abbrev Did : Desk → PlainCells → Stepped → Type 0
   Did e new r = StepsIn plain_cells w s p d cells e new i r

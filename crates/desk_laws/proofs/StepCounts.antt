@@ -47,32 +47,32 @@ module _ {C : Type 0} (cells : Meaning C) where
   waited d e c f m End x = absurd x
 
   module _ (w : World) (s p : ℕ) (c : C) (d : Desk) (is_desk : IsDesk (given_in w s p) d) (e : Desk) (f : C) where
-    here : instruction_at d ≡ at (program w.plan p s) d.position
-    here = ap (λ z. at z d.position) is_desk.list
+    here : instruction_at (given_in w s p) d ≡ at (program w.plan p s) d.position
+    here = refl
 
     -- a desk that did an instruction was not at its end
-    pub less : DoesIn cells w p c f (instruction_at d) → d.position < length (program w.plan p s)
+    pub less : DoesIn cells w p c f (instruction_at (given_in w s p) d) → d.position < length (program w.plan p s)
     less does = elim (cases_lt d.position (length (program w.plan p s))) [
       | inl b ↦ b
       | inr past ↦ absurd (subst (DoesIn cells w p c f) (here ∙ get_or_past (program w.plan p s) d.position End past) does)
     ]
 
-    pub still : (r : Stepped) → StepsIn cells w s p d c e f (instruction_at d) r → moves_of r ≡ 0 → e ≡ d
+    pub still : (r : Stepped) → StepsIn cells w s p d c e f (instruction_at (given_in w s p) d) r → moves_of r ≡ 0 → e ≡ d
     still Moved x none = absurd (omega arith)
-    still (NotYet m) x none = (waited d e c f m (instruction_at d) x).same
+    still (NotYet m) x none = (waited d e c f m (instruction_at (given_in w s p) d) x).same
     still Ended x none = x.1
 
-    pub counts : (r : Stepped) → StepsIn cells w s p d c e f (instruction_at d) r → moves_of r + left e ≡ left d
+    pub counts : (r : Stepped) → StepsIn cells w s p d c e f (instruction_at (given_in w s p) d) r → moves_of r + left e ≡ left d
     counts Moved x =
         let inside = less x.1 in
-        let before : length d.program ≡ length (program w.plan p s) = ap length is_desk.list in
-        let after : length e.program ≡ length (program w.plan p s) = ap length x.2.list in
+        let before : d.instructions ≡ length (program w.plan p s) = is_desk.instructions in
+        let after : e.instructions ≡ length (program w.plan p s) = x.2.instructions in
         let more : e.position ≡ d.position + 1 = x.0 in
         omega arith
     counts (NotYet m) x = let a = ap left (still (NotYet m) x refl) in omega arith
     counts Ended x = let a = ap left x.1 in omega arith
 
-    pub stays : (r : Stepped) → StepsIn cells w s p d c e f (instruction_at d) r → IsDesk (given_in w s p) e
+    pub stays : (r : Stepped) → StepsIn cells w s p d c e f (instruction_at (given_in w s p) d) r → IsDesk (given_in w s p) e
     stays Moved x = x.2
     stays (NotYet m) x = subst (IsDesk (given_in w s p)) (sym (still (NotYet m) x refl)) is_desk
     stays Ended x = subst (IsDesk (given_in w s p)) (sym x.1) is_desk

@@ -35,24 +35,24 @@ small_of q xs k pos small = elim (cases_lt k (length xs)) [
   | inr past ↦ subst (λ z. z < q) (sym (get_or_past xs k 0 past)) pos
 ]
 
-small_post : (plan : Plan) (s : ℕ) (d : Desk) (z : Slot) (i : ℕ) → IsMemoryOf plan s d.memory → posted (session plan s) z i (state_of (length plan.groups) d.memory) < 2 ^ plan.bits
+small_post : (plan : Plan) (s : ℕ) (d : Desk) (z : Slot) (i : ℕ) → IsMemoryOf plan s d.memory → posted_on_rows (row_of d.memory) (session plan s) z i (state_of (length plan.groups) d.memory) < 2 ^ plan.bits
 small_post plan s d (Input v) i h = small_of (2 ^ plan.bits) d.memory.rows.items _ (pow_pos plan.bits) h.small_rows
 small_post plan s d (At_gate t) i h = small_of (2 ^ plan.bits) d.memory.sums.items _ (pow_pos plan.bits) h.small_sums
 small_post plan s d (Output o) i h = small_of (2 ^ plan.bits) d.memory.rows.items _ (pow_pos plan.bits) h.small_rows
 
 module _ (l : Given) (d : Desk) (is_desk : IsDesk l d) where
-  next_at : (e : Instruction) → instruction_at d ≡ e → NextIs l d.position e
+  next_at : (e : Instruction) → instruction_at l d ≡ e → NextIs l d.position e
   next_at (Post n j) is =
       let there : n < length (messages l.plan) = (subst (Proper l.plan l.session) is (proper l d is_desk)).number in
       let right = posts_right l d is_desk n j is in
-      let small : posted (session l.plan l.session) (slot_of l.plan l.session n) j (state_of (length l.plan.groups) d.memory) < 2 ^ l.plan.bits = small_post l.plan l.session d (slot_of l.plan l.session n) j is_desk.fits in (
+      let small : posted_on_rows (row_of d.memory) (session l.plan l.session) (slot_of l.plan l.session n) j (state_of (length l.plan.groups) d.memory) < 2 ^ l.plan.bits = small_post l.plan l.session d (slot_of l.plan l.session n) j is_desk.fits in (
         there,
-        sym ((once l.plan n there).posted.alone l.party l.session d.position j (sym (here l d is_desk) ∙ is)).0,
-        subst (λ z. z < 2 ^ l.plan.bits) right (subst (λ z. posted (session l.plan z) (slot_of l.plan z n) j (state_of (length l.plan.groups) d.memory) < 2 ^ l.plan.bits) (sym is_desk.session) small),
+        sym ((once l.plan n there).posted.alone l.party l.session d.position j is).0,
+        subst (λ z. z < 2 ^ l.plan.bits) right (subst (λ z. posted_on_rows (row_of d.memory) (session l.plan z) (slot_of l.plan z n) j (state_of (length l.plan.groups) d.memory) < 2 ^ l.plan.bits) (sym is_desk.session) small),
       )
   next_at (Take n j) is =
       let there : n < length (messages l.plan) = (subst (Proper l.plan l.session) is (proper l d is_desk)).number in
-      (there, sym ((once l.plan n there).taken.alone l.party l.session d.position j (sym (here l d is_desk) ∙ is)).0)
+      (there, sym ((once l.plan n there).taken.alone l.party l.session d.position j is).0)
   next_at (Deal k j) is = tt
   next_at (Linear k) is = tt
   next_at (Own k) is = tt
@@ -60,8 +60,8 @@ module _ (l : Given) (d : Desk) (is_desk : IsDesk l d) where
   next_at (Deliver k) is = tt
   next_at End is = tt
 
-pub next_is : (l : Given) (d : Desk) → IsDesk l d → NextIs l d.position (instruction_at d)
-next_is l d h = next_at l d h (instruction_at d) refl
+pub next_is : (l : Given) (d : Desk) → IsDesk l d → NextIs l d.position (instruction_at l d)
+next_is l d h = next_at l d h (instruction_at l d) refl
 
 module _ {C : Type 0} (cells : Meaning C) (plan : Plan) (c : C) (l : Given) (d : Desk) (may : MayStepBy cells plan c l d) where
   own : IsOpenTo cells l.plan l.party c
@@ -78,16 +78,16 @@ module _ {C : Type 0} (cells : Meaning C) (plan : Plan) (c : C) (l : Given) (d :
   allows_at End x = tt
 
   pub may_by : MayStep cells plan c l d
-  may_by = record { same = may.same; desk = may.goes.desk; allows = allows_at (instruction_at d) (next_is l d may.goes.desk) }
+  may_by = record { same = may.same; desk = may.goes.desk; allows = allows_at (instruction_at l d) (next_is l d may.goes.desk) }
 
   -- ---- what a step leaves
 
   module _ (e : Desk) (f : C) (keeps : KeepsCells cells c f) where
     abbrev i : Instruction
-    i = instruction_at d
+    i = instruction_at l d
 
     at_here : i ≡ at (program l.plan l.party l.session) d.position
-    at_here = ap (λ z. at z d.position) may.goes.desk.list
+    at_here = refl
 
     abbrev Still : Type 0
     Still = (got : ℕ → ℕ) × GoesBy cells f (with_got l got) e

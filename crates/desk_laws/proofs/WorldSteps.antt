@@ -30,13 +30,13 @@ module _ {C : Type 0} (cells : Meaning C) (plan : Plan) (w : World) (s p : ℕ) 
   l = given_in w s p
 
   abbrev i : Instruction
-  i = instruction_at d
+  i = instruction_at l d
 
   law : Lawful w
   law = lawful w may.whole
 
   here : i ≡ at (program w.plan p s) d.position
-  here = ap (λ z. at z d.position) may.desk.list
+  here = refl
 
   proper : (e : Instruction) → i ≡ e → Proper w.plan s e
   proper e is = subst (Proper w.plan s) (sym here ∙ is) (law.proper s p d.position may.desk.suits.session may.desk.suits.party)

@@ -40,7 +40,7 @@ moves_of Ended = 0
 
 -- how many instructions are left
 abbrev pub left : Desk → ℕ
-left d = length d.program - d.position
+left d = d.instructions - d.position
 
 abbrev pub left_all : List Desk → ℕ
 left_all [] = 0

@@ -53,7 +53,7 @@ module _ (w : World) (k : ℕ) where
 pub left_small : (w : World) → IsWhole w → (seen : List (ℕ × ℕ)) (k : ℕ) (d : Desk) → StandsIn w seen k d → left d < 2 ^ 32
 left_small w whole seen k d h =
     let short : length (program_of w k) < 4294967295 = (lawful w whole).short (k % w.plan.parties) (k / w.plan.parties) in
-    let same : length d.program ≡ length (program_of w k) = ap length h.desk.list in
+    let same : d.instructions ≡ length (program_of w k) = h.desk.instructions in
     omega arith
 
 -- ---- what a post and a take do to a seat
@@ -112,7 +112,7 @@ module _ {C : Type 0} (cells : Meaning C) (seat_of : C → Sitting Promised) (li
   p = k % w.plan.parties
 
   abbrev Did : Stepped → Type 0
-  Did r = StepsIn cells w s p d c e f (instruction_at d) r
+  Did r = StepsIn cells w s p d c e f (instruction_at (given_to w k) d) r
 
   does_keep : (i : Instruction) → DoesIn cells w p c f i → Kept (seat_of c) (seat_of f)
   does_keep (Deal a b) x = same_seat _ _ (ap seat_of x)
@@ -125,8 +125,8 @@ module _ {C : Type 0} (cells : Meaning C) (seat_of : C → Sitting Promised) (li
   does_keep End x = absurd x
 
   step_keeps : (r : Stepped) → Did r → Kept (seat_of c) (seat_of f)
-  step_keeps Moved x = does_keep (instruction_at d) x.1
-  step_keeps (NotYet m) x = let y = counting.waited cells d e c f m (instruction_at d) x in take_keeps board (seat_of c) (seat_of f) list y.number None (took_is y.number None y.none)
+  step_keeps Moved x = does_keep (instruction_at (given_to w k) d) x.1
+  step_keeps (NotYet m) x = let y = counting.waited cells d e c f m (instruction_at (given_to w k) d) x in take_keeps board (seat_of c) (seat_of f) list y.number None (took_is y.number None y.none)
   step_keeps Ended x = same_seat _ _ (ap seat_of x.2)
 
   pub step_leads : (r : Stepped) → Did r → Leads w k (seat_of c) d (seat_of f) e (moves_of r)
@@ -149,13 +149,13 @@ module _ {C : Type 0} (cells : Meaning C) (seat_of : C → Sitting Promised) (li
   pub step_stuck : (r : Stepped) → Did r → moves_of r ≡ 0 → Stuck (Knows (seat_of c).view.seen) w k d.position
   step_stuck Moved x z = absurd (omega arith)
   step_stuck (NotYet m) x z =
-      let y = counting.waited cells d e c f m (instruction_at d) x in
-      inr (y.number, y.share, ap (λ l. at l d.position) (sym h.desk.list) ∙ y.takes, λ v known. none_known y.number v (took_is y.number None y.none) known)
+      let y = counting.waited cells d e c f m (instruction_at (given_to w k) d) x in
+      inr (y.number, y.share, y.takes, λ v known. none_known y.number v (took_is y.number None y.none) known)
   step_stuck Ended x z = inl x.0
 
   -- what each put, each take and standing still leave holds after a step
   pub step_leaves : (P : Type 0) → ((n v : ℕ) (a : Posted) → cells.put c n v a f → P) → ((n : ℕ) (a : Option ℕ) → cells.took c n a f → P) → (f ≡ c → P) → (r : Stepped) → Did r → P
-  step_leaves P put took same Moved x = does (instruction_at d) x.1
+  step_leaves P put took same Moved x = does (instruction_at (given_to w k) d) x.1
     where
       does : (i : Instruction) → DoesIn cells w p c f i → P
       does (Deal a b) x = same x
@@ -166,7 +166,7 @@ module _ {C : Type 0} (cells : Meaning C) (seat_of : C → Sitting Promised) (li
       does (Sum a) x = same x
       does (Deliver a) x = same x
       does End x = absurd x
-  step_leaves P put took same (NotYet m) x = let y = counting.waited cells d e c f m (instruction_at d) x in took y.number None y.none
+  step_leaves P put took same (NotYet m) x = let y = counting.waited cells d e c f m (instruction_at (given_to w k) d) x in took y.number None y.none
   step_leaves P put took same Ended x = same x.2
 
 -- ---- a step over a seat of a board
@@ -199,7 +199,7 @@ module _ (plan : Plan) (c : SeatAt Promised Desk) (pool : IsPool plan c.board.no
     };
   }
 
-  module _ (f : SeatAt Promised Desk) (e : Desk) (r : Stepped) (did : StepsIn seat_cells here (k / here.plan.parties) (k % here.plan.parties) d c e f (instruction_at d) r) where
+  module _ (f : SeatAt Promised Desk) (e : Desk) (r : Stepped) (did : StepsIn seat_cells here (k / here.plan.parties) (k % here.plan.parties) d c e f (instruction_at (given_to here k) d) r) where
     abbrev L : Type 0
     L = Leads here k c.seat.now d f.seat.now e (moves_of r)
 

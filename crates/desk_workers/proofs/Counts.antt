@@ -49,9 +49,9 @@ by_number f g (x ∷ ds) h =
     omega arith
 
 module _ (w : World) (ds : List Desk) (h : AreDesks w ds) where
-  pub all_instructions : total_over (λ (d : Desk). length d.program) ds ≡ instructions_of w
+  pub all_instructions : total_over (λ (d : Desk). d.instructions) ds ≡ instructions_of w
   all_instructions =
-      by_number (λ d. length d.program) (λ k. length (program_of w k)) ds (by_place (λ k (d : Desk). length d.program ≡ length (program_of w k)) ds (λ k d is. ap length (h.desks k d is).list))
+      by_number (λ d. d.instructions) (λ k. length (program_of w k)) ds (by_place (λ k (d : Desk). d.instructions ≡ length (program_of w k)) ds (λ k d is. (h.desks k d is).instructions))
       ∙ ap (λ n. sums.total n (λ k. length (program_of w k))) h.many
 
   pub all_steps : AllEnded w ds → total_over (λ (d : Desk). d.position) ds ≡ instructions_of w

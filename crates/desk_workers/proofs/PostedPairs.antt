@@ -90,12 +90,12 @@ module _ (w : World) where
   module _ (k : ℕ) (d : Desk) where
     -- who knows the posts knows the pairs, and the other way round
     pub covers : (seen : List (ℕ × ℕ)) → StandsIn w seen k d → Grows (posted_by w d) seen
-    covers seen h n v known = pairs_are (Knows seen) d.position d.program (λ q m i l e. h.posted q m i l (ap (λ z. at z q) (sym h.desk.list) ∙ e)) n v known
+    covers seen h n v known = pairs_are (Knows seen) d.position (program w.plan d.party d.session) (λ q m i l e. h.posted q m i l ((λ z. at (program w.plan (sym h.desk.party z) (sym h.desk.session z)) q) ∙ e)) n v known
 
     pub stands : (seen : List (ℕ × ℕ)) → IsDesk (given_to w k) d → Grows (posted_by w d) seen → StandsIn w seen k d
     stands seen h grows = record {
       desk = h;
-      posted = λ q n i l e. grows n (word w (message w.plan n)) (post_there d.position d.program q n i l (ap (λ z. at z q) h.list ∙ e));
+      posted = λ q n i l e. grows n (word w (message w.plan n)) (post_there d.position (program w.plan d.party d.session) q n i l ((λ z. at (program w.plan (h.party z) (h.session z)) q) ∙ e));
     }
 
   pub stands_more : (xs ys : List (ℕ × ℕ)) (k : ℕ) (d : Desk) → Grows xs ys → StandsIn w xs k d → StandsIn w ys k d
@@ -103,4 +103,4 @@ module _ (w : World) where
 
   -- a desk at its start posted nothing
   pub nothing_posted : (d : Desk) → d.position ≡ 0 → posted_by w d ≡ []
-  nothing_posted d start = ap (λ q. posted_pairs w (take q d.program)) start
+  nothing_posted d start = ap (λ q. posted_pairs w (take q (program w.plan d.party d.session))) start

@@ -5,6 +5,7 @@ use Rattle.job_plan.specs.Numbers.{message}
 use Rattle.share_world.specs.Worlds.{World, word}
 use Rattle.party_program.specs.declared.program.Instruction.{Instruction}
 use Rattle.party_program.specs.declared.program.Instruction.TheVariants.{Post}
+use Rattle.party_program.specs.Programs.{program}
 use Rattle.party_desk.specs.declared.desk.Desk.{Desk}
 use Rattle.desk_laws.specs.Opening.{world_of_pieces}
 use Rattle.desk_workers.specs.declared.promised.Promised.{Promised}
@@ -24,4 +25,4 @@ posted_pairs w (e ∷ es) = posted_pairs w es
 
 -- what the desk posted
 abbrev pub posted_by : World → Desk → List (ℕ × ℕ)
-posted_by w d = posted_pairs w (take d.position d.program)
+posted_by w d = posted_pairs w (take d.position (program w.plan d.party d.session))

@@ -72,7 +72,7 @@ pub fn prepare(
 // How many instructions these desks have.
 fn instructions_in(desks: &[Desk]) -> u64
     requires { length desks.now ≤ 192 }
-    ensures { result ≡ total_over (λ d. length d.program) desks.now }
+    ensures { result ≡ total_over (λ d. d.instructions) desks.now }
 {
     let mut count = 0;
     for i in 0..desks.len() {

@@ -51,7 +51,7 @@ fn step_on(
 
 /// Whether the desk has done all its instructions.
 pub fn has_ended(desk: &Desk) -> bool
-    ensures { result ≡ (desk.now.position == length desk.now.program) }
+    ensures { result ≡ (desk.now.position == desk.now.instructions) }
 {
     desk.position() == desk.instructions()
 }

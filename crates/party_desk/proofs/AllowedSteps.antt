@@ -77,6 +77,7 @@ goes_by l got d h same =
       party = h.party;
       session = h.session;
       program = h.program;
+      instructions = h.instructions;
       slot = h.slot;
       position = h.position;
       sent = h.sent;

@@ -131,6 +131,7 @@ module _ (l : Given) (d e : Desk) (w : ℕ) (h : IsDesk l d) (proper : Proper l.
     party = a.party ∙ h.party;
     session = a.session ∙ h.session;
     program = subst (IsProgram l.plan l.party l.session) (sym a.program) h.program;
+    instructions = a.instructions ∙ h.instructions;
     slot = subst (λ z. StandsIn l.plan z l.session e.slot e.position) h.party (subst (λ z. StandsIn l.plan d.party z e.slot e.position) h.session a.slot);
     position = omega (arith, more, inside);
     sent = a.sent ∙ ap (λ x. x + posts_in i) h.sent ∙ ap (posts_before (program l.plan l.party l.session)) (sym more);

@@ -1,5 +1,5 @@
 -- The words of a desk's wires that are still to be read.
-use Rattle.std.specs.Prelude.{◌≡◌, ℕ, ◌<◌, ◌≤◌, nat_eq, true, slice_index}
+use Rattle.std.specs.Prelude.{◌≡◌, ◌≢◌, ℕ, ◌+◌, ◌<◌, ◌≤◌, nat_eq, true, List, length, slice_index}
 use Rattle.std.specs.List.{list_any}
 use Rattle.circuit_model.specs.declared.gate.Gate.{Gate}
 use Rattle.circuit_model.specs.Netlists.{read_by}
@@ -43,3 +43,14 @@ IsSet plan p s q v i = (r : ℕ) × (r < q) × Sets plan s (at (program plan p s
 -- an instruction from position q on reads it
 abbrev pub IsToRead : Plan → ℕ → ℕ → ℕ → ℕ → ℕ → Type 0
 IsToRead plan p s q v i = (r : ℕ) × (q ≤ r) × Reads plan p s (at (program plan p s) r) v i
+
+-- what an instruction of p reads of a wire, an instruction before it sets
+abbrev pub ReadsWhatIsSet : Plan → ℕ → ℕ → Type 0
+ReadsWhatIsSet plan p s =
+    (q v i : ℕ) → i < length plan.groups → Reads plan p s (at (program plan p s) q) v i → IsSet plan p s q v i
+
+-- while an instruction sets a wire, each other wire that is set and still to be read has another row
+abbrev pub KeepsRowsApart : Plan → ℕ → ℕ → List ℕ → Type 0
+KeepsRowsApart plan p s rows =
+    (q v w i j : ℕ) → Sets plan s (at (program plan p s) q) w j → IsSet plan p s q v i → IsToRead plan p s (q + 1) v i
+    → v ≢ w → slice_index rows v ≢ slice_index rows w

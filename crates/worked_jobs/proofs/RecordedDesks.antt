@@ -35,14 +35,14 @@ recorder = record {
 
 -- how many instructions are left
 abbrev pub left : Desk → ℕ
-left d = length d.program - d.position
+left d = d.instructions - d.position
 
 -- two laws of desks
 abbrev WorldsAreLawful : Type 0
 WorldsAreLawful = (w : World) → IsWhole w → Lawful w
 
 abbrev NextsAreServed : Type 0
-NextsAreServed = (l : Given) (d : Desk) → IsDesk l d → NextIs l d.position (instruction_at d)
+NextsAreServed = (l : Given) (d : Desk) → IsDesk l d → NextIs l d.position (instruction_at l d)
 
 module _ (lawful : WorldsAreLawful) (plan : Plan) (w : World) (s p : ℕ) (d : Desk) (c : List ℕ) (h : HasWords plan w s p d c) where
   long : length c ≡ length (messages w.plan)
@@ -90,13 +90,13 @@ module _ (lawful : WorldsAreLawful) (plan : Plan) (w : World) (s p : ℕ) (d : D
     waits_at m End next waits = waits
 
     abbrev Did : Stepped → Type 0
-    Did r = StepsIn recorder w s p d c e f (instruction_at d) r
+    Did r = StepsIn recorder w s p d c e f (instruction_at (given_in w s p) d) r
 
     never_waits : (m : ℕ) → Did (NotYet m) → ⊥
-    never_waits m did = waits_at m (instruction_at d) (served (given_in w s p) d h.desk) did
+    never_waits m did = waits_at m (instruction_at (given_in w s p) d) (served (given_in w s p) d h.desk) did
 
     stays_after : (r : Stepped) → Did r → HasWords plan w s p e f
-    stays_after Moved did = record { same = h.same; whole = h.whole; desk = did.2; listed = same_words (instruction_at d) did.1 ∙ h.listed }
+    stays_after Moved did = record { same = h.same; whole = h.whole; desk = did.2; listed = same_words (instruction_at (given_in w s p) d) did.1 ∙ h.listed }
     stays_after (NotYet m) did = absurd (never_waits m did)
     stays_after Ended did = record { same = h.same; whole = h.whole; desk = subst (IsDesk (given_in w s p)) (sym did.1) h.desk; listed = did.2 ∙ h.listed }
 
@@ -113,8 +113,8 @@ module _ (lawful : WorldsAreLawful) (plan : Plan) (w : World) (s p : ℕ) (d : D
       pub falls : r ≡ Moved → left e < left d
       falls moved =
           let did : Did Moved = subst Did moved (steps may_step) in
-          let before : length d.program ≡ length (program w.plan p s) = ap length h.desk.list in
-          let after : length e.program ≡ length (program w.plan p s) = ap length did.2.list in
+          let before : d.instructions ≡ length (program w.plan p s) = h.desk.instructions in
+          let after : e.instructions ≡ length (program w.plan p s) = did.2.instructions in
           omega (arith, before, after, did.0, did.2.position)
 
       -- any other step is at the end

@@ -6,7 +6,7 @@ use Rattle.desk_workers.proofs.ready.instructions_in.Goals as goal
 
 pub loop-i-preserved : goal.loop-i-preserved
 loop-i-preserved c =
-    let f : Desk → ℕ = λ d. length d.program in
+    let f : Desk → ℕ = λ d. d.instructions in
     let ds = c.args.desks.now in
     let i : ℕ = c.loop-i.i in
     let d : Desk = c.index-desks-i.result in
@@ -21,7 +21,7 @@ loop-i-preserved c =
 
 pub returns : goal.returns
 returns c =
-    let f : Desk → ℕ = λ d. length d.program in
+    let f : Desk → ℕ = λ d. d.instructions in
     let end : c.loop-i.i ≤ length c.args.desks.now = c.loop-i.auto.i-end in
     let past : length c.args.desks.now ≤ c.loop-i.i = c.loop-i-test.false in
     c.loop-i.invariant.0 ∙ ap (λ l. total_over f l) (take_all c.args.desks.now c.loop-i.i (omega arith))

@@ -4,4 +4,4 @@ use Rattle.party_desk.specs.declared.desk.Desk.{Desk}
 use Rattle.desk_workers.proofs.ready.instructions_in.Given as goal
 
 abbrev pub invariant-loop-i : goal.invariant-loop-i
-invariant-loop-i l = (l.count ≡ total_over (λ (d : Desk). length d.program) (take l.i l.desks)) × (l.count ≤ l.i * 2 ^ 32)
+invariant-loop-i l = (l.count ≡ total_over (λ (d : Desk). d.instructions) (take l.i l.desks)) × (l.count ≤ l.i * 2 ^ 32)
