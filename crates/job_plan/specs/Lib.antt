@@ -5,6 +5,8 @@ pub mod Patterns
 pub mod Tables
 pub mod Numbers
 pub mod Firsts
+pub mod Wirings
+pub mod RowScans
 pub mod Sound
 pub mod Multiply
 pub mod Tallies

@@ -13,10 +13,14 @@ mod pattern_lines;
 mod patterns;
 mod plan;
 mod ranks;
+mod row_scan;
+mod row_table;
 mod session_part;
 mod slot_kind;
 mod starts;
+mod touched;
 mod values;
+mod wiring;
 
 pub use inputs::Inputs;
 pub use key::Key;
@@ -26,6 +30,7 @@ pub use laws::{
 pub use pattern::{Line, Pattern};
 pub use plan::Plan;
 pub use plan_faults::{PartFault, PlanFault};
+pub use row_table::RowTable;
 pub use session_part::SessionPart;
 pub use slot_kind::SlotKind;
 pub use values::{InputValue, OutputValue};

@@ -10,6 +10,7 @@ use crate::outline::Outline;
 use crate::pattern::{Line, Pattern};
 use crate::patterns::Patterns;
 use crate::ranks::search;
+use crate::row_table::RowTable;
 use crate::session_part::SessionPart;
 use crate::starts::Starts;
 use mpc_ring::Ring;
@@ -18,6 +19,7 @@ use product_duty::Duty;
 use share_layout::Layout;
 use std::alloc::Global;
 use std::marker::Model;
+use std::sync::Arc;
 
 /// A ring, a structure of parties and the sessions, with the lines of each pattern that occurs and tables of where each
 /// slot and each session begins. A message and its number are found by a binary search, all else in constant time.
@@ -44,7 +46,10 @@ impl Model for Plan {
 
 impl Plan {
     ghost use Rattle.std.specs.Prelude.{◌≡◌, ℕ, ◌+◌, ◌<◌, ◌≤◌, All, IfOk, IfErr, OnOk, SomeIff, map, length};
+    ghost use Rattle.std.specs.Arc.{arc_value};
     ghost use Rattle.list_laws.specs.Lists.{total};
+    ghost use Rattle.job_plan.specs.KeptWires.{live};
+    ghost use Rattle.job_plan.specs.RowScans.{IsRows};
     ghost use Rattle.job_plan.specs.Plans.{plan_of, structure, scheme, session, slot, slots, words, place};
     ghost use Rattle.secret_sharing.specs.Sharing.{has_pair};
     ghost use Rattle.job_plan.specs.Messages.{messages, slot_messages};
@@ -122,6 +127,22 @@ impl Plan {
         ensures { result.now ≡ session self.now s }
     {
         self.outline.part(s)
+    }
+
+    /// How many wires session `s` keeps at once, where it keeps most.
+    pub fn live(&self, s: u32) -> u32
+        requires { s < length self.now.sessions }
+        ensures { result ≡ live (session self.now s) }
+    {
+        self.rows(s).count() - 1
+    }
+
+    /// The row of each wire of session `s`, in a table of `live + 1` rows.
+    pub fn rows(&self, s: u32) -> &Arc<RowTable, Global>
+        requires { s < length self.now.sessions }
+        ensures { IsRows (session self.now s) (arc_value result.now) }
+    {
+        self.part(s).rows()
     }
 
     pub fn layout(&self) -> &Layout
