@@ -110,8 +110,8 @@ module _ (l : Given) (d e : Desk) (w : ℕ) (h : IsDesk l d) (proper : Proper l.
   alike : Alike m (state_of m e.memory) (after_rows l.party l.session (word_of l σ.deals) (slice_index l.inputs σ.deals))
   alike = subst (Alike m (state_of m e.memory)) reads a.state
 
-  same : SameRead l.plan h.suits.sound l.session l.party h.suits.session h.suits.party (arc_value d.memory.table).rows.items h.fits.table.table (suc q) (after_rows l.party l.session (word_of l σ.deals) (slice_index l.inputs σ.deals)) (next l i σ)
-  same = goes_on l.plan h.suits.sound l.session l.party h.suits.session h.suits.party (arc_value d.memory.table).rows.items h.fits.table.table q (state_of m d.memory) σ (same_read l h.suits q d.memory h.fits.table.table σ h.memory) (word_of l σ.deals) (slice_index l.inputs σ.deals) w l.got (word_right l w i given)
+  same : SameRead l.plan h.suits.sound l.session l.party h.suits.session h.suits.party (arc_value d.memory.table).rows.items h.fits.table.0 (suc q) (after_rows l.party l.session (word_of l σ.deals) (slice_index l.inputs σ.deals)) (next l i σ)
+  same = goes_on l.plan h.suits.sound l.session l.party h.suits.session h.suits.party (arc_value d.memory.table).rows.items h.fits.table.0 q (state_of m d.memory) σ (same_read l h.suits q d.memory h.fits.table.0 σ h.memory) (word_of l σ.deals) (slice_index l.inputs σ.deals) w l.got (word_right l w i given)
 
   rows_stay : row_of e.memory ≡ row_of d.memory
   rows_stay = ap (λ z. slice_index (arc_value z).rows.items) a.table
