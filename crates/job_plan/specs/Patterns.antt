@@ -60,7 +60,7 @@ pub record IsReadBy (plan : Plan) (mask : ℕ) : Type 0 where
   pub output_there : output < length (readers (session plan at))
   pub is : mask ≡ slice_index (readers (session plan at)) output
 
--- a pattern that the slots of the plan may have: a deal of a party, a product, or an opening to those who read an output
+-- a pattern that slots of the plan may have: a deal of a party, a product, or an opening to the readers of an output
 abbrev pub Occurs : Plan → Pattern → Type 0
 Occurs plan Silent = Unit {0}
 Occurs plan (Dealt p) = p < plan.parties
