@@ -5,7 +5,7 @@ use Rattle.std.proofs.lemmas.List.{length-drop}
 use Rattle.std.proofs.lemmas.Bool.{cases_eq, both_ways}
 use mathlib.Core.Logic.{inl, inr}
 use Rattle.circuit_model.proofs.SetAt.{set_here, set_there}
-use Rattle.job_plan.specs.Plans.{Plan, Slot, session, reads, output_wire, words, slots}
+use Rattle.job_plan.specs.Plans.{Plan, Slot, session, reads, output_wire, words, slots, slot}
 use Rattle.job_plan.specs.Plans.Slot.{Input, At_gate, Output}
 use Rattle.job_plan.specs.Numbers.{deals}
 use Rattle.job_plan.proofs.DistinctMessages.{words_by_deals}
@@ -17,7 +17,7 @@ use Rattle.share_world.proofs.SmallWords.{is_plan, is_world, small_words}
 use Rattle.party_program.specs.declared.program.Instruction.{Instruction}
 use Rattle.party_program.specs.declared.program.Instruction.TheVariants.{Deal, Post, Take, Linear, Own, Sum, Deliver, End}
 use Rattle.party_program.specs.Programs.{program, at}
-use Rattle.party_program.specs.States.{Given, State, new_state, state, next, dealt_in, took_in, opened, slot_at, slot_of, output_in_slot}
+use Rattle.party_program.specs.States.{Given, State, new_state, state, next, dealt_in, took_in, opened, slot_of, output_in_slot}
 use Rattle.party_program.proofs.InstructionLists.{state_is, run_all}
 use Rattle.program_laws.specs.Lawful.{given_in}
 use Rattle.program_laws.proofs.LocalPrograms.{met}
@@ -47,10 +47,10 @@ module _ (w : World) (whole : IsWhole w) (s p : ℕ) (ls : s < length w.plan.ses
   Opens o v = (reads w.plan p s o ≡ true) × (v ≡ local_output w (word w) p s o)
 
   opens_next : (q o v : ℕ) (e : Instruction) → at (program w.plan p s) q ≡ e → ((o v : ℕ) → (state l q).outputs o ≡ Some v → Opens o v) → (next l e (state l q)).outputs o ≡ Some v → Opens o v
-  opens_next q o v (Deal k d) is before f = before o v (sym (ap (λ z. z o) (dealt_outputs w.plan _ _ (slot_at w.plan s k) (state l q))) ∙ f)
+  opens_next q o v (Deal k d) is before f = before o v (sym (ap (λ z. z o) (dealt_outputs w.plan _ _ (slot w.plan s k) (state l q))) ∙ f)
   opens_next q o v (Take n i) is before f = before o v (sym (ap (λ z. z o) (took_outputs (2 ^ w.plan.bits) (slot_of w.plan s n) i _ (state l q))) ∙ f)
   opens_next q o v (Deliver k) is before f =
-      let u : ℕ = output_in_slot (slot_at w.plan s k) in
+      let u : ℕ = output_in_slot (slot w.plan s k) in
       let right = (lawful w whole).opens s p q k ls lp is in
       elim (cases_eq o u) [
         | inl e ↦
@@ -120,7 +120,7 @@ module _ (w : World) (s p : ℕ) (d : Desk) (whole : IsWhole w) (h : IsDesk (giv
     spent : past ≡ words w.plan p s
     spent =
         let a = ap (λ q. (state (given_in w s p) q).deals) ended ∙ deals_at_end w whole s p h.suits.session h.suits.party in
-        let b = words_by_deals w.plan p s (slots (session w.plan s)) in
+        let b = words_by_deals w.plan p s (slots w.plan s) in
         ap (λ z. z * (length w.plan.groups - 1)) a ∙ omega (arith, b)
 
     tape_is : d.memory.tape ≡ []

@@ -8,7 +8,7 @@ use mathlib.Core.Logic.{inl, inr}
 use Rattle.list_laws.specs.Lists.{total}
 use Rattle.list_laws.proofs.JoinedLists.{length-joined}
 use Rattle.list_laws.proofs.Totals.{total_eq}
-use Rattle.job_plan.specs.Plans.{Plan, session, slot, slots}
+use Rattle.job_plan.specs.Plans.{Plan, slot, slots}
 use Rattle.job_plan.specs.Messages.{messages, slot_messages}
 use Rattle.job_plan.specs.Numbers.{message}
 use Rattle.job_plan.specs.Firsts.{count, session_count, first}
@@ -112,11 +112,11 @@ module _ (has : ℕ → ℕ → Type 0) (w : World) (whole : IsWhole w) (ds : Li
   pub all_posted : AllEnded w ds → (m : ℕ) → m < length (messages w.plan) → has m (word w (message w.plan m))
   all_posted ended m lm =
       let plan : Plan = w.plan in
-      let lengths : length (messages plan) ≡ total (length plan.sessions) (session_count plan) = length-joined (length plan.sessions) _ ∙ total_eq (length plan.sessions) _ _ (λ r l. length-joined (slots (session plan r)) (λ j. slot_messages plan r j (slot (session plan r) j))) in
+      let lengths : length (messages plan) ≡ total (length plan.sessions) (session_count plan) = length-joined (length plan.sessions) _ ∙ total_eq (length plan.sessions) _ _ (λ r l. length-joined (slots plan r) (λ j. slot_messages plan r j (slot plan r j))) in
       let a = part_of (length plan.sessions) (session_count plan) m (omega arith) in
       let s : ℕ = a.0 in
       let ls : s < length plan.sessions = a.2 in
-      let b = part_of (slots (session plan s)) (count plan s) a.1 a.3 in
+      let b = part_of (slots plan s) (count plan s) a.1 a.3 in
       let k : ℕ = b.0 in
       let j : ℕ = b.1 in
       let is : m ≡ first plan s k + j = (let x = a.4 in let y = b.4 in omega arith) in

@@ -78,8 +78,8 @@ open_distinct plan s k r =
 slot_distinct : (plan : Plan) (s k : ℕ) (z : Slot) → Distinct (slot_messages plan s k z)
 slot_distinct plan s k (Input v) = deal_distinct plan s k (slice_index (owners (session plan s)) v)
 slot_distinct plan s k (At_gate t) =
-    distinct_joined (λ x. x.sender) plan.parties _ (λ p lp. distinct_only_if (deals_in plan (session plan s) p (At_gate t)) _ (deal_distinct plan s k p))
-    (λ p lp. every_only_if (λ x. x.sender ≡ p) (deals_in plan (session plan s) p (At_gate t)) _ (λ e. every_deal (λ x. x.sender ≡ p) plan s k p (λ i q. refl)))
+    distinct_joined (λ x. x.sender) plan.parties _ (λ p lp. distinct_only_if (deals_in plan s p (At_gate t)) _ (deal_distinct plan s k p))
+    (λ p lp. every_only_if (λ x. x.sender ≡ p) (deals_in plan s p (At_gate t)) _ (λ e. every_deal (λ x. x.sender ≡ p) plan s k p (λ i q. refl)))
 slot_distinct plan s k (Output o) =
     distinct_joined (λ x. x.receiver) plan.parties _ (λ r lr. distinct_only_if (has_party (slice_index (readers (session plan s)) o) r) _ (open_distinct plan s k r))
     (λ r lr. every_only_if (λ x. x.receiver ≡ r) (has_party (slice_index (readers (session plan s)) o) r) _ (λ e. every_open (λ x. x.receiver ≡ r) plan s k r (λ i p. refl)))
@@ -92,9 +92,9 @@ every_slot P plan s k (Output o) h = every_joined P plan.parties _ (λ r lr. eve
 messages_distinct : (plan : Plan) → Distinct (messages plan)
 messages_distinct plan =
     distinct_joined (λ x. x.session) (length plan.sessions) _
-    (λ s ls. distinct_joined (λ x. x.slot) (slots (session plan s)) _ (λ k lk. slot_distinct plan s k (slot (session plan s) k))
-    (λ k lk. every_slot (λ x. x.slot ≡ k) plan s k (slot (session plan s) k) (λ i p q. refl)))
-    (λ s ls. every_joined (λ x. x.session ≡ s) (slots (session plan s)) _ (λ k lk. every_slot (λ x. x.session ≡ s) plan s k (slot (session plan s) k) (λ i p q. refl)))
+    (λ s ls. distinct_joined (λ x. x.slot) (slots plan s) _ (λ k lk. slot_distinct plan s k (slot plan s k))
+    (λ k lk. every_slot (λ x. x.slot ≡ k) plan s k (slot plan s k) (λ i p q. refl)))
+    (λ s ls. every_joined (λ x. x.session ≡ s) (slots plan s) _ (λ k lk. every_slot (λ x. x.session ≡ s) plan s k (slot plan s k) (λ i p q. refl)))
 
 pub same_key-true : (a b : Key) → same_key a b ≡ true → a ≡ b
 same_key-true a b e =
@@ -125,17 +125,17 @@ numbers_are_inverse plan = (number_of_message plan, λ key l. sym (same_key-true
 
 pub places_differ : (plan : Plan) (p : ℕ) → PlacesDiffer plan p
 places_differ plan p s k i s' k' i' ls lk li ls' lk' li' e =
-    let count : ℕ → ℕ = λ r. slots (session plan r) in
-    let len : ℕ → ℕ → ℕ = λ r j. words_in plan (session plan r) p (slot (session plan r) j) in
+    let count : ℕ → ℕ = λ r. slots plan r in
+    let len : ℕ → ℕ → ℕ = λ r j. words_in plan r p (slot plan r j) in
     let tells : (f : ℕ → ℕ → ℕ → ℕ) → f s k i ≡ f s' k' i' = λ f.
     sym (laid_at (length plan.sessions) count len f s k i ls lk li) ∙ ap (slice_index (joined (length plan.sessions) (λ r. joined (count r) (λ j. listed (len r j) (f r j))))) e
     ∙ laid_at (length plan.sessions) count len f s' k' i' ls' lk' li' in
     (tells (λ s k i. s), tells (λ s k i. k), tells (λ s k i. i))
 
-pub words_by_deals : (plan : Plan) (p s k : ℕ) → total k (λ j. words_in plan (session plan s) p (slot (session plan s) j)) ≡ (length plan.groups - 1) * deals_before plan p s k
+pub words_by_deals : (plan : Plan) (p s k : ℕ) → total k (λ j. words_in plan s p (slot plan s j)) ≡ (length plan.groups - 1) * deals_before plan p s k
 words_by_deals plan p s k =
-    total_eq k _ _ (λ j l. each (deals_in plan (session plan s) p (slot (session plan s) j)) (length plan.groups - 1))
-    ∙ total_mul_left k (length plan.groups - 1) (λ j. if deals_in plan (session plan s) p (slot (session plan s) j) then 1 else 0)
+    total_eq k _ _ (λ j l. each (deals_in plan s p (slot plan s j)) (length plan.groups - 1))
+    ∙ total_mul_left k (length plan.groups - 1) (λ j. if deals_in plan s p (slot plan s j) then 1 else 0)
   where
     each : (b : Bool) (m : ℕ) → (if b then m else 0) ≡ m * (if b then 1 else 0)
     each true m = omega arith
@@ -143,5 +143,5 @@ words_by_deals plan p s k =
 
 pub places_by_deals : (plan : Plan) (p : ℕ) → PlacesByDeals plan p
 places_by_deals plan p s k =
-    let before = total_eq s _ _ (λ r l. words_by_deals plan p r (slots (session plan r))) ∙ total_mul_left s (length plan.groups - 1) (deals plan p) in
+    let before = total_eq s _ _ (λ r l. words_by_deals plan p r (slots plan r)) ∙ total_mul_left s (length plan.groups - 1) (deals plan p) in
     ap₂ (λ a b. a + b) before (words_by_deals plan p s k) ∙ omega arith

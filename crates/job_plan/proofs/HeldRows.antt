@@ -1,7 +1,7 @@
 -- Rows that are given to wires and taken back.
 use Rattle.std.proofs.Common.{◌≡◌, ◌≢◌, ℕ, zero, suc, ◌+◌, ◌<◌, ◌≤◌, Bool, true, false, cond, not, ◌&&◌, ◌||◌, List, [], ◌∷◌, ◌++◌, length, set, inl, inr, Some, None, refl, sym, ◌∙◌, ap, subst, arith, length-set, get_or-set_same, get_or-set_other, length-append}
 use Rattle.std.specs.Prelude.{nat_eq, nat_lt, slice_index, count_by, Option, if◌then◌else◌}
-use Rattle.std.proofs.lemmas.Bool.{cases_order, cases_eq, cases_Bool, and_from, or_parts, eqb-true, eq-eqb, ne_eqb, lt-ltb, le-ltb, ltb-true, false≢true, both_ways, false_from_ne_true}
+use Rattle.std.proofs.lemmas.Bool.{cases_order, cases_eq, cases_Bool, and_from, eq-eqb, ne_eqb, lt-ltb, le-ltb, ltb-true, both_ways}
 use Rattle.std.proofs.lemmas.List.Sums.{sum_by-append}
 use Rattle.list_laws.specs.Lists.{total}
 use Rattle.list_laws.proofs.Tests.{or_true, or_false}

@@ -1,12 +1,12 @@
 -- Which wires are kept, told by the slots that set and read them; and the rows of wires that are kept together.
-use Rattle.std.proofs.Common.{◌≡◌, ◌≢◌, ℕ, zero, suc, ◌+◌, ◌<◌, ◌≤◌, Bool, true, false, ◌&&◌, ◌||◌, List, [], ◌∷◌, inl, inr, refl, sym, ◌∙◌, ap, subst, arith}
-use Rattle.std.specs.Prelude.{nat_eq, nat_le, slice_index}
+use Rattle.std.proofs.Common.{◌≡◌, ℕ, zero, suc, ◌<◌, ◌≤◌, Bool, true, false, ◌&&◌, ◌||◌, inl, inr, sym, ◌∙◌, subst, arith}
+use Rattle.std.specs.Prelude.{nat_eq, nat_le}
 use Rattle.std.specs.List.{list_any}
 use Rattle.std.proofs.lemmas.Bool.{cases_order, or_cases, or_left, or_right, and_parts, and_from, leb-true, le-leb, eqb-true, false≢true}
 use Rattle.list_laws.specs.Lists.{some_below}
-use Rattle.job_plan.specs.Plans.{Session, Slot, gate, slot, slots}
+use Rattle.job_plan.specs.Plans.{Session, Slot, gate, session_slot, session_slots}
 use Rattle.job_plan.specs.Plans.Slot.{Input, At_gate, Output}
-use Rattle.job_plan.specs.KeptWires.{sets_in, sets, reads, is_kept, IsRowTable, KeptApart}
+use Rattle.job_plan.specs.KeptWires.{sets_in, sets, reads, is_kept, KeptApart}
 
 -- ---- some number below n
 
@@ -30,20 +30,20 @@ some_at (suc n) f i l e =
 -- ---- wires that are kept
 
 pub kept_found : (s : Session) (k w : ℕ) → is_kept s k w ≡ true
-    → ((j : ℕ) × (j < k) × (sets s j w ≡ true)) × ((m : ℕ) × (k ≤ m) × (m < slots s) × (reads s m w ≡ true))
+    → ((j : ℕ) × (j < k) × (sets s j w ≡ true)) × ((m : ℕ) × (k ≤ m) × (m < session_slots s) × (reads s m w ≡ true))
 unfolding is_kept
 kept_found s k w e =
-    let parts = and_parts (some_below k (λ j. sets s j w)) (some_below (slots s) (λ m. nat_le k m && reads s m w)) e in
-    let later = some_found (slots s) (λ m. nat_le k m && reads s m w) parts.1 in
+    let parts = and_parts (some_below k (λ j. sets s j w)) (some_below (session_slots s) (λ m. nat_le k m && reads s m w)) e in
+    let later = some_found (session_slots s) (λ m. nat_le k m && reads s m w) parts.1 in
     let read = and_parts (nat_le k later.0) (reads s later.0 w) later.2 in
     (some_found k (λ j. sets s j w) parts.0, (later.0, leb-true k later.0 read.0, later.1, read.1))
 
-pub kept_from : (s : Session) (j k m w : ℕ) → j < k → k ≤ m → m < slots s → sets s j w ≡ true → reads s m w ≡ true → is_kept s k w ≡ true
+pub kept_from : (s : Session) (j k m w : ℕ) → j < k → k ≤ m → m < session_slots s → sets s j w ≡ true → reads s m w ≡ true → is_kept s k w ≡ true
 unfolding is_kept
 kept_from s j k m w before after within set read =
-    and_from (some_below k (λ j. sets s j w)) (some_below (slots s) (λ m. nat_le k m && reads s m w))
+    and_from (some_below k (λ j. sets s j w)) (some_below (session_slots s) (λ m. nat_le k m && reads s m w))
     (some_at k (λ j. sets s j w) j before set)
-    (some_at (slots s) (λ m. nat_le k m && reads s m w) m within (and_from (nat_le k m) (reads s m w) (le-leb k m after) read))
+    (some_at (session_slots s) (λ m. nat_le k m && reads s m w) m within (and_from (nat_le k m) (reads s m w) (le-leb k m after) read))
 
 pub one_wire : (u v : ℕ) → (nat_eq v u || false) ≡ true → v ≡ u
 one_wire u v e = elim (or_cases (nat_eq v u) false e) [ inl same ↦ eqb-true v u same | inr not' ↦ absurd (false≢true not') ]
@@ -55,7 +55,7 @@ slot_sets_one s (At_gate t) v w a b = one_wire (gate s t).output v a ∙ sym (on
 slot_sets_one s (Output o) v w a b = absurd (false≢true a)
 
 pub sets_one : (s : Session) (k v w : ℕ) → sets s k v ≡ true → sets s k w ≡ true → v ≡ w
-sets_one s k v w = slot_sets_one s (slot s k) v w
+sets_one s k v w = slot_sets_one s (session_slot s k) v w
 
 -- ---- rows
 

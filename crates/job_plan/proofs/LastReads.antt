@@ -1,10 +1,10 @@
 -- The slots that read wires last.
-use Rattle.std.proofs.Common.{◌≡◌, ℕ, zero, suc, ◌+◌, ◌<◌, ◌≤◌, Bool, true, false, cond, ◌||◌, ◌⊎◌, List, [], ◌++◌, length, take, drop, replicate, inl, inr, refl, sym, ◌∙◌, ap, subst, arith, get_or}
+use Rattle.std.proofs.Common.{◌≡◌, ℕ, ◌+◌, true, false, ◌||◌, ◌⊎◌, List, [], ◌++◌, length, take, drop, replicate, inl, inr, sym, ◌∙◌, ap, subst, arith}
 use Rattle.std.specs.Prelude.{slice_index, if◌then◌else◌}
-use Rattle.std.proofs.lemmas.Bool.{cases_lt, cases_eq, cases_Bool, or_cases, or_left, or_right, or_from, cond-true, cond-false, false≢true}
+use Rattle.std.proofs.lemmas.Bool.{cases_lt, cases_eq, cases_Bool, or_left, or_right, or_from, cond-true, cond-false, false≢true}
 use Rattle.std.proofs.lemmas.List.{length-replicate, get_or-replicate, get_or_past, drop_all, take_at}
 use Rattle.job_plan.specs.declared.touched.Touched.{Touched}
-use Rattle.job_plan.specs.Plans.{Session, slots}
+use Rattle.job_plan.specs.Plans.{Session}
 use Rattle.job_plan.specs.KeptWires.{reads}
 use Rattle.job_plan.specs.Wirings.{IsTouched, is_named}
 use Rattle.job_plan.specs.RowScans.{AreLastReads}

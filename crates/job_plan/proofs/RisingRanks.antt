@@ -72,7 +72,7 @@ module _ (plan : Plan) (s k : ℕ) (parties : plan.parties ≤ 12) (shares : len
   slot_rises (At_gate t) = (
     0,
     0 + plan.parties * 768,
-    rise_joined (rank false) 0 768 plan.parties _ (λ p lp. rise_only_if (rank false) (0 + p * 768) (0 + p * 768 + 768) (deals_in plan (session plan s) p (At_gate t)) (deal_messages plan s k p) (omega arith) (let none : p * 768 ≡ 0 + p * 768 = omega arith in subst (λ z. Rise (rank false) z (z + 768) (deal_messages plan s k p)) none (deal_rises p))),
+    rise_joined (rank false) 0 768 plan.parties _ (λ p lp. rise_only_if (rank false) (0 + p * 768) (0 + p * 768 + 768) (deals_in plan s p (At_gate t)) (deal_messages plan s k p) (omega arith) (let none : p * 768 ≡ 0 + p * 768 = omega arith in subst (λ z. Rise (rank false) z (z + 768) (deal_messages plan s k p)) none (deal_rises p))),
   )
   slot_rises (Output o) = (
     0,

@@ -1,18 +1,16 @@
 -- The rows after one slot more.
-use Rattle.std.proofs.Common.{◌≡◌, ◌≢◌, ℕ, zero, suc, ◌+◌, ◌-◌, ◌<◌, ◌≤◌, max, Bool, true, false, not, ◌&&◌, ◌||◌, ◌⊎◌, List, [], ◌∷◌, length, replicate, inl, inr, refl, sym, ◌∙◌, ap, subst, arith}
-use Rattle.std.specs.Prelude.{nat_eq, nat_lt, nat_le, slice_index, count_by, All, Option, if◌then◌else◌}
+use Rattle.std.proofs.Common.{◌≡◌, ◌≢◌, ℕ, zero, suc, ◌+◌, ◌-◌, ◌<◌, ◌≤◌, max, Bool, true, false, not, ◌&&◌, ◌||◌, ◌⊎◌, List, [], length, replicate, inl, inr, refl, sym, ◌∙◌, ap, subst, arith}
+use Rattle.std.specs.Prelude.{nat_eq, nat_lt, nat_le, slice_index, count_by, Option, if◌then◌else◌}
 use Rattle.std.specs.List.{list_any}
 use Rattle.std.proofs.lemmas.Bool.{cases_order, cases_eq, cases_Bool, or_left, or_right, and_parts, and_from, eq-eqb, eqb-true, ne_eqb, lt-ltb, le-ltb, ltb-true, leb-true, le-leb, false≢true, both_ways, false_from_ne_true}
-use Rattle.std.proofs.lemmas.List.{get_or_default, length-replicate, get_or-replicate}
-use Rattle.circuit_model.specs.Netlists.{read_by}
+use Rattle.std.proofs.lemmas.List.{get_or_default, length-replicate}
 use Rattle.circuit_model.proofs.SetWires.{funext}
 use Rattle.list_laws.specs.Lists.{total, some_below}
 use Rattle.list_laws.proofs.Totals.{total_zero}
 use Rattle.job_plan.specs.declared.row_scan.RowScan.{RowScan}
 use Rattle.job_plan.specs.declared.touched.Touched.{Touched}
-use Rattle.job_plan.specs.Plans.{Session, Slot, gate, owners, output_wire, readers, slot, slots}
-use Rattle.job_plan.specs.Plans.Slot.{Input, At_gate, Output}
-use Rattle.job_plan.specs.KeptWires.{sets_in, sets, reads, is_kept, kept, greatest, live, IsInOrder, IsRowTable}
+use Rattle.job_plan.specs.Plans.{Session, gate, session_slots}
+use Rattle.job_plan.specs.KeptWires.{sets_in, sets, reads, is_kept, kept, greatest, live, IsRowTable}
 use Rattle.job_plan.specs.Wirings.{IsWired, IsTouched, is_named}
 use Rattle.job_plan.specs.RowScans.{AreLastReads, AreHeld, Gives, TakesBack, IsScan, ends}
 use Rattle.job_plan.proofs.Slots.{slot_cases}
@@ -22,14 +20,14 @@ use Rattle.job_plan.proofs.LastReads.{zeros_at}
 
 -- ---- the wires of a slot are wires
 
-pub sets_within : (s : Session) (k w : ℕ) → IsWired s → k < slots s → sets s k w ≡ true → w < s.wires
+pub sets_within : (s : Session) (k w : ℕ) → IsWired s → k < session_slots s → sets s k w ≡ true → w < s.wires
 sets_within s k w wired l = slot_cases s (λ k z. list_any (nat_eq w) (sets_in s z) ≡ true → w < s.wires)
     (λ v lv e. omega (arith, one_wire v w e, lv, wired.input_wires))
     (λ t lt e. omega (arith, one_wire (gate s t).output w e, wired.output t lt))
     (λ o lo e. absurd (false≢true e))
     k l
 
-pub reads_within : (s : Session) (k w : ℕ) → IsWired s → k < slots s → reads s k w ≡ true → w < s.wires
+pub reads_within : (s : Session) (k w : ℕ) → IsWired s → k < session_slots s → reads s k w ≡ true → w < s.wires
 reads_within s k w wired l e =
     let set = wired.order.before k w l e in
     sets_within s set.0 w wired (omega (arith, set.1, l)) set.2
@@ -41,16 +39,16 @@ same_bool true b f g = sym (f refl)
 same_bool false true f g = absurd (false≢true (g refl))
 same_bool false false f g = refl
 
-later_reads : (s : Session) (k w : ℕ) (last : List ℕ) → AreLastReads s (slots s) last
-    → some_below (slots s) (λ m. nat_le k m && reads s m w) ≡ nat_lt k (slice_index last w)
-later_reads s k w last reading = same_bool (some_below (slots s) (λ m. nat_le k m && reads s m w)) (nat_lt k (slice_index last w))
-    (λ e. let found = some_found (slots s) (λ m. nat_le k m && reads s m w) e in
+later_reads : (s : Session) (k w : ℕ) (last : List ℕ) → AreLastReads s (session_slots s) last
+    → some_below (session_slots s) (λ m. nat_le k m && reads s m w) ≡ nat_lt k (slice_index last w)
+later_reads s k w last reading = same_bool (some_below (session_slots s) (λ m. nat_le k m && reads s m w)) (nat_lt k (slice_index last w))
+    (λ e. let found = some_found (session_slots s) (λ m. nat_le k m && reads s m w) e in
     let parts = and_parts (nat_le k found.0) (reads s found.0 w) found.2 in
     lt-ltb k (slice_index last w) (omega (arith, after k found.0 parts.0, reading.past found.0 w found.1 parts.1)))
     (λ e. let less = ltb-true k (slice_index last w) e in
     let m = slice_index last w - 1 in
     let read = reading.read m w (omega (arith, less)) in
-    some_at (slots s) (λ m. nat_le k m && reads s m w) m read.0 (and_from (nat_le k m) (reads s m w) (before k m (omega (arith, less))) read.1))
+    some_at (session_slots s) (λ m. nat_le k m && reads s m w) m read.0 (and_from (nat_le k m) (reads s m w) (before k m (omega (arith, less))) read.1))
   where
     after : (k m : ℕ) → nat_le k m ≡ true → k ≤ m
     after k m e = leb-true k m e
@@ -58,7 +56,7 @@ later_reads s k w last reading = same_bool (some_below (slots s) (λ m. nat_le k
     before : (k m : ℕ) → k ≤ m → nat_le k m ≡ true
     before k m l = le-leb k m l
 
-kept_by_last : (s : Session) (k w : ℕ) (last : List ℕ) → AreLastReads s (slots s) last → is_kept s k w ≡ (some_below k (λ j. sets s j w) && nat_lt k (slice_index last w))
+kept_by_last : (s : Session) (k w : ℕ) (last : List ℕ) → AreLastReads s (session_slots s) last → is_kept s k w ≡ (some_below k (λ j. sets s j w) && nat_lt k (slice_index last w))
 unfolding is_kept
 kept_by_last s k w last reading = ap (λ b. some_below k (λ j. sets s j w) && b) (later_reads s k w last reading)
 
@@ -114,7 +112,7 @@ and_no true = refl
 and_no false = refl
 
 -- the last slot that reads the wire is this one, a later one, or an earlier one or none
-kept_next : (s : Session) (k w : ℕ) (t : Touched) (last : List ℕ) → IsWired s → k < slots s → AreLastReads s (slots s) last → IsTouched s k t
+kept_next : (s : Session) (k w : ℕ) (t : Touched) (last : List ℕ) → IsWired s → k < session_slots s → AreLastReads s (session_slots s) last → IsTouched s k t
     → after_slot (is_kept s k w) (is_named t.sets w) (is_named t.first w) (is_named t.second w) (nat_eq (slice_index last w) (k + 1)) (nat_eq (slice_index last w) 0) ≡ is_kept s (k + 1) w
 kept_next s k w t last wired l reading touched =
     let x = slice_index last w in
@@ -169,13 +167,13 @@ abbrev given : Session → ℕ → Touched → ℕ → Bool
 given s k t w = is_kept s k w || is_named t.sets w
 
 -- one that the slot sets was not kept before
-unkept : (s : Session) (k w : ℕ) (t : Touched) → IsWired s → k < slots s → IsTouched s k t → is_named t.sets w ≡ true → is_kept s k w ≡ false
+unkept : (s : Session) (k w : ℕ) (t : Touched) → IsWired s → k < session_slots s → IsTouched s k t → is_named t.sets w ≡ true → is_kept s k w ≡ false
 unkept s k w t wired l touched named = false_from_ne_true (is_kept s k w) (λ kept.
     let set = (kept_found s k w kept).0 in
     both_ways (sets s k w) (wired.order.once set.0 k w set.1 l set.2) (touched.sets w ∙ named))
 
 -- one that an earlier slot sets is not set here
-unnamed_again : (s : Session) (j k w : ℕ) (t : Touched) → IsWired s → k < slots s → IsTouched s k t → j < k → sets s j w ≡ true → is_named t.sets w ≡ false
+unnamed_again : (s : Session) (j k w : ℕ) (t : Touched) → IsWired s → k < session_slots s → IsTouched s k t → j < k → sets s j w ≡ true → is_named t.sets w ≡ false
 unnamed_again s j k w t wired l touched before set = sym (touched.sets w) ∙ wired.order.once j k w before l set
 
 ends_parts : (o : Option ℕ) (at : ℕ) (last : List ℕ) (w : ℕ) → ends o at last w ≡ true → (is_named o w ≡ true) × (slice_index last w ≡ at)
@@ -184,7 +182,7 @@ ends_parts o at last w e =
     (parts.0, eqb-true (slice_index last w) at parts.1)
 
 -- one that is read here for the last time is kept until now
-kept_here : (s : Session) (k w : ℕ) (t : Touched) → IsWired s → k < slots s → IsTouched s k t → (is_named t.first w || is_named t.second w) ≡ true → is_kept s k w ≡ true
+kept_here : (s : Session) (k w : ℕ) (t : Touched) → IsWired s → k < session_slots s → IsTouched s k t → (is_named t.first w || is_named t.second w) ≡ true → is_kept s k w ≡ true
 kept_here s k w t wired l touched named =
     let read : reads s k w ≡ true = touched.reads w ∙ named in
     let set = wired.order.before k w l read in
@@ -215,7 +213,7 @@ few_kept s k = greatest_most k (kept s) s.wires (kept_most s)
 pub few_made : (s : Session) (k : ℕ) (scan : RowScan) → IsWired s → IsScan s k scan → scan.made ≤ 131073
 few_made s k scan wired v = omega (arith, v.made, few_kept s k, wired.wires)
 
-pub stepped : (s : Session) (k : ℕ) (t : Touched) (last : List ℕ) (old a b c d : RowScan) → IsWired s → k < slots s → AreLastReads s (slots s) last → IsTouched s k t → IsScan s k old
+pub stepped : (s : Session) (k : ℕ) (t : Touched) (last : List ℕ) (old a b c d : RowScan) → IsWired s → k < session_slots s → AreLastReads s (session_slots s) last → IsTouched s k t → IsScan s k old
     → Gives t.sets old a → TakesBack t.first (k + 1) last a b → TakesBack t.second (k + 1) last b c → TakesBack t.sets 0 last c d → IsScan s (k + 1) d
 stepped s k t last old a b c d wired l reading touched scan gives first second unread =
     let set = given s k t in
@@ -301,14 +299,14 @@ first_scan s scan rows free made = record {
 pub live_next : (s : Session) (k live held : ℕ) (scan : RowScan) → IsScan s k scan → live ≡ greatest k (kept s) → held ≡ scan.made - length scan.free.items → max held live ≡ greatest (k + 1) (kept s)
 live_next s k live held scan v before now = omega (arith, before, now, kept_all s k scan v, greatest_next k (kept s))
 
-pub table_is : (s : Session) (rows : List ℕ) (scan : RowScan) → IsScan s (slots s) scan → rows ≡ scan.rows.items → IsRowTable s rows
+pub table_is : (s : Session) (rows : List ℕ) (scan : RowScan) → IsScan s (session_slots s) scan → rows ≡ scan.rows.items → IsRowTable s rows
 unfolding live
 table_is s rows scan v e = subst (λ (xs : List ℕ). IsRowTable s xs) (sym e) (record {
   wires = v.wires;
-  below = λ w d l. subst (λ (row : ℕ). row < greatest (slots s) (kept s) + 1) (get_or_default scan.rows.items w 0 d l) (v.below w);
+  below = λ w d l. subst (λ (row : ℕ). row < greatest (session_slots s) (kept s) + 1) (get_or_default scan.rows.items w 0 d l) (v.below w);
   apart = λ j k m x w jk km ml sx rx sw. v.apart j k m x w jk (omega (arith, km, ml)) km ml sx rx sw;
 })
 
-pub live_is : (s : Session) → live s ≡ greatest (slots s) (kept s)
+pub live_is : (s : Session) → live s ≡ greatest (session_slots s) (kept s)
 unfolding live
 live_is s = refl

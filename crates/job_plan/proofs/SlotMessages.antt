@@ -8,7 +8,7 @@ use Rattle.std.proofs.lemmas.List.FromFn.{length-map-range_with_len, get_or-map-
 use Rattle.std.proofs.Math.ListN.{get_or-append}
 use mathlib.Core.Logic.{inl, inr}
 use Rattle.list_laws.specs.Lists.{total, joined}
-use Rattle.job_plan.specs.Plans.{Plan, session, slot, slots}
+use Rattle.job_plan.specs.Plans.{Plan, slot, slots}
 use Rattle.job_plan.specs.declared.key.Key.{Key}
 use Rattle.job_plan.specs.Messages.{slot_messages, messages}
 use Rattle.job_plan.specs.Numbers.{message, no_key}
@@ -27,29 +27,29 @@ joined_place d (suc n) k f i l b = elim (cases_eq k n) [
       get_or-append (joined n f) (f n) d (total k (λ j. length (f j)) + i) (omega (arith, within, b, length-joined n f)) ∙ joined_place d n k f i (omega arith) b
 ]
 
-module _ (plan : Plan) (s k : ℕ) (ls : s < length plan.sessions) (lk : k < slots (session plan s)) where
+module _ (plan : Plan) (s k : ℕ) (ls : s < length plan.sessions) (lk : k < slots plan s) where
   abbrev part : ℕ → List Key
-  part j = slot_messages plan s j (slot (session plan s) j)
+  part j = slot_messages plan s j (slot plan s j)
 
   abbrev whole : ℕ → List Key
-  whole r = joined (slots (session plan r)) (λ j. slot_messages plan r j (slot (session plan r) j))
+  whole r = joined (slots plan r) (λ j. slot_messages plan r j (slot plan r j))
 
   outer : total s (λ r. length (whole r)) ≡ total s (session_count plan)
-  outer = total_eq s _ _ (λ r l. length-joined (slots (session plan r)) (λ j. slot_messages plan r j (slot (session plan r) j)))
+  outer = total_eq s _ _ (λ r l. length-joined (slots plan r) (λ j. slot_messages plan r j (slot plan r j)))
 
   pub message_at : (i : ℕ) → i < count plan s k → message plan (first plan s k + i) ≡ slice_index_or (part k) i no_key
   message_at i li =
-      let here : length (whole s) ≡ session_count plan s = length-joined (slots (session plan s)) part in
-      let within : total k (count plan s) + count plan s k ≤ session_count plan s = total_within (slots (session plan s)) k (count plan s) lk in
+      let here : length (whole s) ≡ session_count plan s = length-joined (slots plan s) part in
+      let within : total k (count plan s) + count plan s k ≤ session_count plan s = total_within (slots plan s) k (count plan s) lk in
       let at : first plan s k + i ≡ total s (λ r. length (whole r)) + (total k (count plan s) + i) = omega (arith, outer) in
       ap (message plan) at
       ∙ joined_place no_key (length plan.sessions) s whole (total k (count plan s) + i) ls (omega (arith, here, within, li))
-      ∙ joined_place no_key (slots (session plan s)) k part i lk li
+      ∙ joined_place no_key (slots plan s) k part i lk li
 
   pub number_within : (i : ℕ) → i < count plan s k → first plan s k + i < length (messages plan)
   number_within i li =
-      let here : length (whole s) ≡ session_count plan s = length-joined (slots (session plan s)) part in
-      let within : total k (count plan s) + count plan s k ≤ session_count plan s = total_within (slots (session plan s)) k (count plan s) lk in
+      let here : length (whole s) ≡ session_count plan s = length-joined (slots plan s) part in
+      let within : total k (count plan s) + count plan s k ≤ session_count plan s = total_within (slots plan s) k (count plan s) lk in
       let all : total s (λ r. length (whole r)) + length (whole s) ≤ total (length plan.sessions) (λ r. length (whole r)) = total_within (length plan.sessions) s (λ r. length (whole r)) ls in
       omega (arith, outer, here, within, all, length-joined (length plan.sessions) whole)
 
@@ -75,14 +75,14 @@ every_filter F G test (n ∷ ns) h g = elim (cases_Bool (test n)) [
 
 pub length-messages : (plan : Plan) → length (messages plan) ≡ total (length plan.sessions) (session_count plan)
 length-messages plan =
-    let whole : ℕ → List Key = λ r. joined (slots (session plan r)) (λ j. slot_messages plan r j (slot (session plan r) j)) in
-    length-joined (length plan.sessions) whole ∙ total_eq (length plan.sessions) _ _ (λ r l. length-joined (slots (session plan r)) (λ j. slot_messages plan r j (slot (session plan r) j)))
+    let whole : ℕ → List Key = λ r. joined (slots plan r) (λ j. slot_messages plan r j (slot plan r j)) in
+    length-joined (length plan.sessions) whole ∙ total_eq (length plan.sessions) _ _ (λ r l. length-joined (slots plan r) (λ j. slot_messages plan r j (slot plan r j)))
 
-pub first_within : (plan : Plan) (s k : ℕ) → s < length plan.sessions → k ≤ slots (session plan s) → first plan s k ≤ length (messages plan)
+pub first_within : (plan : Plan) (s k : ℕ) → s < length plan.sessions → k ≤ slots plan s → first plan s k ≤ length (messages plan)
 first_within plan s k ls lk =
     let all = length-messages plan in
     let a : total s (session_count plan) + session_count plan s ≤ total (length plan.sessions) (session_count plan) = total_within (length plan.sessions) s (session_count plan) ls in
-    let b : total k (count plan s) ≤ session_count plan s = total_upto (slots (session plan s)) k (count plan s) lk in
+    let b : total k (count plan s) ≤ session_count plan s = total_upto (slots plan s) k (count plan s) lk in
     omega arith
   where
     total_upto : (n k : ℕ) (f : ℕ → ℕ) → k ≤ n → total k f ≤ total n f

@@ -9,7 +9,7 @@ use mathlib.Core.Logic.{inl, inr}
 use Rattle.list_laws.specs.Lists.{total}
 use Rattle.list_laws.proofs.Totals.{total_more}
 use Rattle.list_laws.proofs.JoinedLists.{length-listed, listed_at, total_within}
-use Rattle.job_plan.specs.Plans.{Plan, session, slot, slots}
+use Rattle.job_plan.specs.Plans.{Plan, slot, slots}
 use Rattle.job_plan.specs.Messages.{messages}
 use Rattle.job_plan.specs.Patterns.{named, lines, pattern_at}
 use Rattle.job_plan.specs.Firsts.{count, session_count, first, session_starts}
@@ -25,17 +25,17 @@ some_session plan l = elim (cases_eq (length plan.sessions) 0) [
 
 module _ (plan : Plan) (s : ℕ) where
   pub pattern_count : (k : ℕ) → length (lines plan (pattern_at plan s k)) ≡ count plan s k
-  pattern_count k = sym (length-map (lines plan (pattern_at plan s k)) (named s k)) ∙ sym (ap length (slots_follow_patterns plan s k (slot (session plan s) k)))
+  pattern_count k = sym (length-map (lines plan (pattern_at plan s k)) (named s k)) ∙ sym (ap length (slots_follow_patterns plan s k (slot plan s k)))
 
   pub first_next : (k : ℕ) → first plan s (k + 1) ≡ first plan s k + count plan s k
   first_next k = omega (arith, total_more k (count plan s))
 
   -- the next session begins where this one ends
-  pub first_after : first plan (s + 1) 0 ≡ first plan s (slots (session plan s))
+  pub first_after : first plan (s + 1) 0 ≡ first plan s (slots plan s)
   first_after = omega (arith, total_more s (session_count plan))
 
   -- the last session ends where all messages do
-  pub last_end : s + 1 ≡ length plan.sessions → first plan s (slots (session plan s)) ≡ length (messages plan)
+  pub last_end : s + 1 ≡ length plan.sessions → first plan s (slots plan s) ≡ length (messages plan)
   last_end e = sym first_after ∙ omega (arith, length-messages plan, ap (λ n. total n (session_count plan)) e)
 
   firsts_rise : (i j : ℕ) → i ≤ j → first plan s i ≤ first plan s j
@@ -44,11 +44,11 @@ module _ (plan : Plan) (s : ℕ) where
     | inr ne ↦ omega (arith, total_within j i (count plan s) (omega arith))
   ]
 
-  pub start_at : (k : ℕ) → k ≤ slots (session plan s) → slice_index (session_starts plan s) k ≡ first plan s k
-  start_at k le = listed_at (slots (session plan s) + 1) (first plan s) k 0 (omega arith)
+  pub start_at : (k : ℕ) → k ≤ slots plan s → slice_index (session_starts plan s) k ≡ first plan s k
+  start_at k le = listed_at (slots plan s + 1) (first plan s) k 0 (omega arith)
 
-  pub starts_long : length (session_starts plan s) ≡ slots (session plan s) + 1
-  starts_long = length-listed (slots (session plan s) + 1) (first plan s)
+  pub starts_long : length (session_starts plan s) ≡ slots plan s + 1
+  starts_long = length-listed (slots plan s + 1) (first plan s)
 
   pub starts_rise : IsNonDecreasing (session_starts plan s)
   starts_rise = IsNonDecreasingBy-from_default (λ x. x) (session_starts plan s) 0 (λ i j le within.

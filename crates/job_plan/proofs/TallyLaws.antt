@@ -13,7 +13,7 @@ use Rattle.circuit_model.specs.declared.gate.Gate.{Gate}
 use Rattle.circuit_model.specs.Circuits.{is_product}
 use Rattle.secret_sharing.specs.Sharing.{has_pair}
 use Rattle.party_set.specs.Parties.{has_party}
-use Rattle.job_plan.specs.Plans.{Plan, Session, Slot, owners, readers, session, gate, no_gate, slot, slots, scheme, deals_in, holds, least_holder}
+use Rattle.job_plan.specs.Plans.{Plan, Session, Slot, owners, readers, session, gate, no_gate, session_slot, slot, session_slots, slots, scheme, deals_in, holds, least_holder}
 use Rattle.job_plan.specs.declared.key.Key.{Key}
 use Rattle.job_plan.specs.Plans.Slot.{Input, At_gate, Output}
 use Rattle.job_plan.specs.Messages.{messages, slot_messages, deal_message, deal_messages, open_messages}
@@ -56,14 +56,14 @@ total_plus a (suc b) f =
     ap (λ z. total z f) more ∙ omega arith
 
 -- a sum over the slots by their kinds
-pub by_kind : (s : Session) (f : Slot → ℕ) → total (slots s) (λ k. f (slot s k))
+pub by_kind : (s : Session) (f : Slot → ℕ) → total (session_slots s) (λ k. f (session_slot s k))
     ≡ total (length (owners s)) (λ v. f (Input v)) + total (length s.gates) (λ t. f (At_gate t)) + total (length (readers s)) (λ o. f (Output o))
 by_kind s f =
     let inputs = total_eq (length (owners s)) _ _ (λ v l. ap f (slot_input s v l)) in
     let gates = total_eq (length s.gates) _ _ (λ t l. ap f (slot_gate s t l)) in
     let outputs = total_eq (length (readers s)) _ _ (λ o l. ap f (slot_output s o)) in
-    total_plus (length (owners s) + length s.gates) (length (readers s)) (λ k. f (slot s k))
-    ∙ ap (λ z. z + total (length (readers s)) (λ o. f (slot s (length (owners s) + length s.gates + o)))) (total_plus (length (owners s)) (length s.gates) (λ k. f (slot s k)))
+    total_plus (length (owners s) + length s.gates) (length (readers s)) (λ k. f (session_slot s k))
+    ∙ ap (λ z. z + total (length (readers s)) (λ o. f (session_slot s (length (owners s) + length s.gates + o)))) (total_plus (length (owners s)) (length s.gates) (λ k. f (session_slot s k)))
     ∙ ap₂ (λ a b. a + b) (ap₂ (λ a b. a + b) inputs gates) outputs
 
 -- ---- deals
@@ -88,11 +88,11 @@ deals_is plan p s =
     ∙ total_if (length sess.gates) (has_pair (scheme plan) p) (λ t. one (is_product (gate sess t).operation))
     ∙ ap (λ z. if has_pair (scheme plan) p then z else 0) products_are in
     let none = total_zero (length (readers sess)) (λ o. 0) (λ o l. refl) in
-    by_kind sess (λ z. one (deals_in plan sess p z)) ∙ ap₂ (λ a b. a + b) (ap₂ (λ a b. a + b) inputs gates) none ∙ omega arith
+    by_kind sess (λ z. one (deals_in plan s p z)) ∙ ap₂ (λ a b. a + b) (ap₂ (λ a b. a + b) inputs gates) none ∙ omega arith
 
 pub tape_length_is : (plan : Plan) (p : ℕ) → tape_length plan p ≡ (length plan.groups - 1) * total (length plan.sessions) (deals plan p)
 tape_length_is plan p =
-    total_eq (length plan.sessions) _ _ (λ r l. words_by_deals plan p r (slots (session plan r))) ∙ total_mul_left (length plan.sessions) (length plan.groups - 1) (deals plan p)
+    total_eq (length plan.sessions) _ _ (λ r l. words_by_deals plan p r (slots plan r)) ∙ total_mul_left (length plan.sessions) (length plan.groups - 1) (deals plan p)
 
 -- ---- messages
 
@@ -139,7 +139,7 @@ opens_in s r _ = false
 
 -- what party p deals and is opened in a slot
 abbrev share_of : Plan → ℕ → Slot → ℕ → ℕ
-share_of plan s z p = length (deal_messages plan 0 0 p) * one (deals_in plan (session plan s) p z) + length (open_messages plan 0 0 p) * one (opens_in (session plan s) p z)
+share_of plan s z p = length (deal_messages plan 0 0 p) * one (deals_in plan s p z) + length (open_messages plan 0 0 p) * one (opens_in (session plan s) p z)
 
 pick_term : (f : ℕ → ℕ) (d p : ℕ) → (if nat_eq d p then f d else 0) ≡ f p * one (nat_eq d p)
 pick_term f d p = elim (cases_eq d p) [
@@ -147,8 +147,8 @@ pick_term f d p = elim (cases_eq d p) [
   | inr ne ↦ cond-false (nat_eq d p) (f d) 0 (ne_eqb d p ne) ∙ (let here : one (nat_eq d p) ≡ 0 = cond-false _ 1 0 (ne_eqb d p ne) in omega (arith, ap (λ z. f p * z) here))
 ]
 
-slot_by_party : (plan : Plan) (s k : ℕ) → ((v : ℕ) → v < length (owners (session plan s)) → slice_index (owners (session plan s)) v < plan.parties) → k < slots (session plan s)
-    → count plan s k ≡ total plan.parties (share_of plan s (slot (session plan s) k))
+slot_by_party : (plan : Plan) (s k : ℕ) → ((v : ℕ) → v < length (owners (session plan s)) → slice_index (owners (session plan s)) v < plan.parties) → k < slots plan s
+    → count plan s k ≡ total plan.parties (share_of plan s (slot plan s k))
 slot_by_party plan s k h lk = slot_cases (session plan s) (λ k z. length (slot_messages plan s k z) ≡ total plan.parties (share_of plan s z)) input at_gate output k lk
   where
     input : (v : ℕ) → v < length (owners (session plan s)) → length (slot_messages plan s v (Input v)) ≡ total plan.parties (share_of plan s (Input v))
@@ -162,8 +162,8 @@ slot_by_party plan s k h lk = slot_cases (session plan s) (λ k z. length (slot_
     at_gate t lt =
         length-joined plan.parties _
         ∙ total_eq plan.parties _ _ (λ p l.
-        let here = length_only_if (deals_in plan (session plan s) p (At_gate t)) (deal_messages plan s (length (owners (session plan s)) + t) p) in
-        here ∙ ap (λ z. z * one (deals_in plan (session plan s) p (At_gate t))) (deal_length plan s (length (owners (session plan s)) + t) p) ∙ omega arith)
+        let here = length_only_if (deals_in plan s p (At_gate t)) (deal_messages plan s (length (owners (session plan s)) + t) p) in
+        here ∙ ap (λ z. z * one (deals_in plan s p (At_gate t))) (deal_length plan s (length (owners (session plan s)) + t) p) ∙ omega arith)
 
     output : (o : ℕ) → o < length (readers (session plan s)) → length (slot_messages plan s (length (owners (session plan s)) + length (session plan s).gates + o) (Output o)) ≡ total plan.parties (share_of plan s (Output o))
     output o lo =
@@ -172,7 +172,7 @@ slot_by_party plan s k h lk = slot_cases (session plan s) (λ k z. length (slot_
         let here = length_only_if (has_party (slice_index (readers (session plan s)) o) r) (open_messages plan s (length (owners (session plan s)) + length (session plan s).gates + o) r) in
         here ∙ ap (λ z. z * one (has_party (slice_index (readers (session plan s)) o) r)) (open_length plan s (length (owners (session plan s)) + length (session plan s).gates + o) r) ∙ omega arith)
 
-opened_is : (s : Session) (r : ℕ) → total (slots s) (λ k. one (opens_in s r (slot s k))) ≡ outputs_read s r
+opened_is : (s : Session) (r : ℕ) → total (session_slots s) (λ k. one (opens_in s r (session_slot s k))) ≡ outputs_read s r
 opened_is s r =
     let inputs = total_zero (length (owners s)) (λ v. 0) (λ v l. refl) in
     let gates = total_zero (length s.gates) (λ t. 0) (λ t l. refl) in
@@ -183,12 +183,12 @@ session_by_party : (plan : Plan) (s : ℕ) → ((v : ℕ) → v < length (owners
     → session_count plan s ≡ total plan.parties (λ p. length (deal_messages plan 0 0 p) * deals plan p s + length (open_messages plan 0 0 p) * outputs_read (session plan s) p)
 session_by_party plan s h =
     let sess : Session = session plan s in
-    total_eq (slots sess) _ _ (λ k l. slot_by_party plan s k h l)
-    ∙ total_swap (slots sess) plan.parties (λ k p. share_of plan s (slot sess k) p)
+    total_eq (slots plan s) _ _ (λ k l. slot_by_party plan s k h l)
+    ∙ total_swap (slots plan s) plan.parties (λ k p. share_of plan s (slot plan s k) p)
     ∙ total_eq plan.parties _ _ (λ p l.
-    total_add (slots sess) (λ k. length (deal_messages plan 0 0 p) * one (deals_in plan sess p (slot sess k))) (λ k. length (open_messages plan 0 0 p) * one (opens_in sess p (slot sess k)))
-    ∙ ap₂ (λ a b. a + b) (total_mul_left (slots sess) (length (deal_messages plan 0 0 p)) (λ k. one (deals_in plan sess p (slot sess k))))
-    (total_mul_left (slots sess) (length (open_messages plan 0 0 p)) (λ k. one (opens_in sess p (slot sess k))) ∙ ap (λ z. length (open_messages plan 0 0 p) * z) (opened_is sess p)))
+    total_add (slots plan s) (λ k. length (deal_messages plan 0 0 p) * one (deals_in plan s p (slot plan s k))) (λ k. length (open_messages plan 0 0 p) * one (opens_in sess p (slot plan s k)))
+    ∙ ap₂ (λ a b. a + b) (total_mul_left (slots plan s) (length (deal_messages plan 0 0 p)) (λ k. one (deals_in plan s p (slot plan s k))))
+    (total_mul_left (slots plan s) (length (open_messages plan 0 0 p)) (λ k. one (opens_in sess p (slot plan s k))) ∙ ap (λ z. length (open_messages plan 0 0 p) * z) (opened_is sess p)))
 
 pub messages_by_party : (plan : Plan) → ((s v : ℕ) → s < length plan.sessions → v < length (owners (session plan s)) → slice_index (owners (session plan s)) v < plan.parties)
     → length (messages plan) ≡ total plan.parties (party_messages plan)

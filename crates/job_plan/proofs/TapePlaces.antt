@@ -3,7 +3,7 @@ use Rattle.std.proofs.Common.{◌≡◌, ℕ, ◌+◌, ◌-◌, ◌*◌, ◌<◌
 use Rattle.std.proofs.Math.Nat.{mul-le-mul_left}
 use Rattle.list_laws.specs.Lists.{total}
 use Rattle.list_laws.proofs.JoinedLists.{total_within}
-use Rattle.job_plan.specs.Plans.{Plan, session, slot, slots, words, deals_in}
+use Rattle.job_plan.specs.Plans.{Plan, slot, slots, words, deals_in}
 use Rattle.job_plan.specs.Numbers.{deals, deals_before, deal_place}
 use Rattle.job_plan.specs.Sound.{IsSound}
 use Rattle.job_plan.specs.Tallies.{tape_length}
@@ -11,7 +11,7 @@ use Rattle.job_plan.proofs.DistinctMessages.{words_by_deals}
 use Rattle.job_plan.proofs.TallyLaws.{tape_length_is}
 
 pub words_is : (plan : Plan) (p s : ℕ) → words plan p s ≡ (length plan.groups - 1) * deals plan p s
-words_is plan p s = words_by_deals plan p s (slots (session plan s))
+words_is plan p s = words_by_deals plan p s (slots plan s)
 
 pub words_within : (plan : Plan) (p s : ℕ) → s < length plan.sessions → words plan p s ≤ tape_length plan p
 words_within plan p s l = let within = total_within (length plan.sessions) s (words plan p) l in omega arith
@@ -28,7 +28,7 @@ total_bound (suc n) b f h = let before = total_bound n b f (λ i l. h i (omega a
 
 deals_few : (plan : Plan) (p s k : ℕ) → deals_before plan p s k ≤ k
 deals_few plan p s zero = omega arith
-deals_few plan p s (suc k) = let before = deals_few plan p s k in let here = at_most (deals_in plan (session plan s) p (slot (session plan s) k)) in omega arith
+deals_few plan p s (suc k) = let before = deals_few plan p s k in let here = at_most (deals_in plan s p (slot plan s k)) in omega arith
   where
     at_most : (b : Bool) → (if b then 1 else 0) ≤ 1
     at_most true = omega arith
@@ -38,7 +38,7 @@ pub all_deals_few : (plan : Plan) → IsSound plan → (p : ℕ) → total (leng
 all_deals_few plan h p =
     let each = total_bound (length plan.sessions) 327680 (deals plan p) (λ s l.
     let sound = h.sessions s l in
-    let few = deals_few plan p s (slots (session plan s)) in
+    let few = deals_few plan p s (slots plan s) in
     let a = sound.wires in let b = sound.gates in let c = sound.input_wires in let d = sound.output_wires in
     omega arith) in
     let sessions = h.few_sessions in

@@ -2,16 +2,16 @@
 use Rattle.std.specs.Prelude.{ℕ, ◌+◌, List, length}
 use Rattle.std.specs.List.{range_with_len}
 use Rattle.list_laws.specs.Lists.{total, listed}
-use Rattle.job_plan.specs.Plans.{Plan, session, slot, slots}
+use Rattle.job_plan.specs.Plans.{Plan, slot, slots}
 use Rattle.job_plan.specs.Messages.{slot_messages}
 use Rattle.job_plan.specs.Numbers.{deals}
 
 -- how many messages stand in a slot, and in a session
 abbrev pub count : Plan → ℕ → ℕ → ℕ
-count plan s k = length (slot_messages plan s k (slot (session plan s) k))
+count plan s k = length (slot_messages plan s k (slot plan s k))
 
 abbrev pub session_count : Plan → ℕ → ℕ
-session_count plan s = total (slots (session plan s)) (count plan s)
+session_count plan s = total (slots plan s) (count plan s)
 
 -- the number of the first message of slot k of session s
 abbrev pub first : Plan → ℕ → ℕ → ℕ
@@ -23,7 +23,7 @@ numbers plan s k = range_with_len (first plan s k) (count plan s k)
 
 -- where the messages of each slot of session s begin, and at the end where those after them do
 abbrev pub session_starts : Plan → ℕ → List ℕ
-session_starts plan s = listed (slots (session plan s) + 1) (first plan s)
+session_starts plan s = listed (slots plan s + 1) (first plan s)
 
 abbrev pub starts_of : Plan → List (List ℕ)
 starts_of plan = listed (length plan.sessions) (session_starts plan)

@@ -3,7 +3,7 @@ use Rattle.std.specs.Prelude.{◌≡◌, ◌≢◌, ℕ, zero, suc, ◌+◌, ◌
 use Rattle.std.specs.List.{list_any}
 use Rattle.list_laws.specs.Lists.{total, some_below}
 use Rattle.circuit_model.specs.Netlists.{read_by}
-use Rattle.job_plan.specs.Plans.{Session, Slot, gate, output_wire, slot, slots}
+use Rattle.job_plan.specs.Plans.{Session, Slot, gate, output_wire, session_slot, session_slots}
 use Rattle.job_plan.specs.Plans.Slot.{Input, At_gate, Output}
 
 -- the wires that a slot sets
@@ -20,22 +20,22 @@ reads_in s (Output o) = output_wire s o ∷ []
 
 -- slot k sets wire w
 abbrev pub sets : Session → ℕ → ℕ → Bool
-sets s k w = list_any (nat_eq w) (sets_in s (slot s k))
+sets s k w = list_any (nat_eq w) (sets_in s (session_slot s k))
 
 -- slot k reads wire w
 abbrev pub reads : Session → ℕ → ℕ → Bool
-reads s k w = list_any (nat_eq w) (reads_in s (slot s k))
+reads s k w = list_any (nat_eq w) (reads_in s (session_slot s k))
 
 -- each wire is set once, and read only after that
 pub record IsInOrder (s : Session) : Type 0 where
-  pub once : (j k w : ℕ) → j < k → k < slots s → sets s j w ≡ true → sets s k w ≡ false
-  pub before : (k w : ℕ) → k < slots s → reads s k w ≡ true → (j : ℕ) × (j < k) × (sets s j w ≡ true)
+  pub once : (j k w : ℕ) → j < k → k < session_slots s → sets s j w ≡ true → sets s k w ≡ false
+  pub before : (k w : ℕ) → k < session_slots s → reads s k w ≡ true → (j : ℕ) × (j < k) × (sets s j w ≡ true)
 
 -- ---- wires that are kept
 
 -- wire w is kept before slot k: an earlier slot sets it, and slot k or a later one reads it
 unfoldable pub is_kept : Session → ℕ → ℕ → Bool
-is_kept s k w = some_below k (λ j. sets s j w) && some_below (slots s) (λ m. nat_le k m && reads s m w)
+is_kept s k w = some_below k (λ j. sets s j w) && some_below (session_slots s) (λ m. nat_le k m && reads s m w)
 
 -- how many wires are kept before slot k
 unfoldable pub kept : Session → ℕ → ℕ
@@ -48,7 +48,7 @@ greatest (suc n) f = max (greatest n f) (f n)
 
 -- how many wires are kept where most are
 unfoldable pub live : Session → ℕ
-live s = greatest (slots s) (kept s)
+live s = greatest (session_slots s) (kept s)
 
 -- ---- rows
 
@@ -56,7 +56,7 @@ live s = greatest (slots s) (kept s)
 pub record IsRowTable (s : Session) (rows : List ℕ) : Type 0 where
   pub wires : length rows ≡ s.wires
   pub below : All (λ row. row < live s + 1) rows
-  pub apart : (j k m v w : ℕ) → j < k → k ≤ m → m < slots s → sets s j v ≡ true → reads s m v ≡ true
+  pub apart : (j k m v w : ℕ) → j < k → k ≤ m → m < session_slots s → sets s j v ≡ true → reads s m v ≡ true
       → sets s k w ≡ true → slice_index rows v ≢ slice_index rows w
 
 -- two wires that are kept before the same slot have different rows

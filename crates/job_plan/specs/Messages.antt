@@ -26,13 +26,13 @@ open_messages plan s k r =
 abbrev pub slot_messages : Plan → ℕ → ℕ → Slot → List Key
 slot_messages plan s k (Input v) = deal_messages plan s k (slice_index (owners (session plan s)) v)
 slot_messages plan s k (At_gate t) =
-    joined plan.parties (λ p. only_if (deals_in plan (session plan s) p (At_gate t)) (deal_messages plan s k p))
+    joined plan.parties (λ p. only_if (deals_in plan s p (At_gate t)) (deal_messages plan s k p))
 slot_messages plan s k (Output o) =
     joined plan.parties (λ r. only_if (has_party (slice_index (readers (session plan s)) o) r)
     (open_messages plan s k r))
 
 abbrev pub session_messages : Plan → ℕ → List Key
-session_messages plan s = joined (slots (session plan s)) (λ k. slot_messages plan s k (slot (session plan s) k))
+session_messages plan s = joined (slots plan s) (λ k. slot_messages plan s k (slot plan s k))
 
 abbrev pub messages : Plan → List Key
 messages plan = joined (length plan.sessions) (session_messages plan)

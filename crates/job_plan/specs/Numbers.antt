@@ -2,7 +2,7 @@
 use Rattle.std.specs.Prelude.{◌≡◌, ℕ, ◌+◌, ◌-◌, ◌*◌, ◌<◌, Bool, true, false, ◌&&◌, nat_eq, List, length, slice_index_or, if◌then◌else◌}
 use Rattle.std.specs.List.{position_or_len}
 use Rattle.list_laws.specs.Lists.{total}
-use Rattle.job_plan.specs.Plans.{Plan, Slot, session, slot, slots, words_in, place, deals_in}
+use Rattle.job_plan.specs.Plans.{Plan, Slot, slot, slots, words_in, place, deals_in}
 use Rattle.job_plan.specs.declared.key.Key.{Key}
 use Rattle.job_plan.specs.Plans.Slot.{Output}
 use Rattle.job_plan.specs.Messages.{messages}
@@ -44,18 +44,18 @@ NumbersAreInverse plan =
 -- different words of a party have different places
 abbrev pub PlacesDiffer : Plan → ℕ → Type 0
 PlacesDiffer plan p =
-    (s k i s' k' i' : ℕ) → s < length plan.sessions → k < slots (session plan s)
-    → i < words_in plan (session plan s) p (slot (session plan s) k)
-    → s' < length plan.sessions → k' < slots (session plan s')
-    → i' < words_in plan (session plan s') p (slot (session plan s') k')
+    (s k i s' k' i' : ℕ) → s < length plan.sessions → k < slots plan s
+    → i < words_in plan s p (slot plan s k)
+    → s' < length plan.sessions → k' < slots plan s'
+    → i' < words_in plan s' p (slot plan s' k')
     → place plan p s k + i ≡ place plan p s' k' + i' → (s ≡ s') × (k ≡ k') × (i ≡ i')
 
 -- how many deals of p stand before slot k of session s, and in session s
 abbrev pub deals_before : Plan → ℕ → ℕ → ℕ → ℕ
-deals_before plan p s k = total k (λ j. if deals_in plan (session plan s) p (slot (session plan s) j) then 1 else 0)
+deals_before plan p s k = total k (λ j. if deals_in plan s p (slot plan s j) then 1 else 0)
 
 abbrev pub deals : Plan → ℕ → ℕ → ℕ
-deals plan p s = deals_before plan p s (slots (session plan s))
+deals plan p s = deals_before plan p s (slots plan s)
 
 -- the place on p's tape of the first word of deal d of session s
 abbrev pub deal_place : Plan → ℕ → ℕ → ℕ → ℕ

@@ -50,7 +50,7 @@ pattern plan s (Output o) = Opened (slice_index (readers (session plan s)) o)
 
 -- the pattern of slot k of session s
 abbrev pub pattern_at : Plan → ℕ → ℕ → Pattern
-pattern_at plan s k = pattern plan s (slot (session plan s) k)
+pattern_at plan s k = pattern plan s (slot plan s k)
 
 -- an output wire of the plan is read by this group
 pub record IsReadBy (plan : Plan) (mask : ℕ) : Type 0 where

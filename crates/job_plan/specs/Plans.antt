@@ -105,31 +105,41 @@ pub data Slot : Type 0 where
   At_gate : (gate : ℕ) → Slot
   Output : (output : ℕ) → Slot
 
-abbrev pub slot : Session → ℕ → Slot
-slot s k =
+-- slot k of a session
+abbrev pub session_slot : Session → ℕ → Slot
+session_slot s k =
     if nat_lt k (length (owners s)) then Input k
     else if nat_lt k (length (owners s) + length s.gates) then At_gate (k - length (owners s))
     else Output (k - length (owners s) - length s.gates)
 
-abbrev pub slots : Session → ℕ
-slots s = length (owners s) + length s.gates + length (readers s)
+-- how many slots a session has
+abbrev pub session_slots : Session → ℕ
+session_slots s = length (owners s) + length s.gates + length (readers s)
 
--- the party deals in this slot: an input of its own, or its part of a product
-abbrev pub deals_in : Plan → Session → ℕ → Slot → Bool
-deals_in plan s p (Input v) = nat_eq (slice_index (owners s) v) p
-deals_in plan s p (At_gate t) = is_product (gate s t).operation && has_pair (scheme plan) p
+-- slot k of session s of a plan
+abbrev pub slot : Plan → ℕ → ℕ → Slot
+slot plan s k = session_slot (session plan s) k
+
+-- how many slots session s of a plan has
+abbrev pub slots : Plan → ℕ → ℕ
+slots plan s = session_slots (session plan s)
+
+-- party p deals in this slot of session s: an input of its own, or its part of a product
+abbrev pub deals_in : Plan → ℕ → ℕ → Slot → Bool
+deals_in plan s p (Input v) = nat_eq (slice_index (owners (session plan s)) v) p
+deals_in plan s p (At_gate t) = is_product (gate (session plan s) t).operation && has_pair (scheme plan) p
 deals_in plan s p (Output o) = false
 
 -- ---- tape words
 
--- how many tape words p draws in this slot
-abbrev pub words_in : Plan → Session → ℕ → Slot → ℕ
+-- how many tape words p draws in this slot of session s
+abbrev pub words_in : Plan → ℕ → ℕ → Slot → ℕ
 words_in plan s p k = if deals_in plan s p k then length plan.groups - 1 else 0
 
 -- how many p draws in session s
 abbrev pub words : Plan → ℕ → ℕ → ℕ
-words plan p s = total (slots (session plan s)) (λ k. words_in plan (session plan s) p (slot (session plan s) k))
+words plan p s = total (slots plan s) (λ k. words_in plan s p (slot plan s k))
 
 -- the place on p's tape of the first word that it draws in slot k of session s
 abbrev pub place : Plan → ℕ → ℕ → ℕ → ℕ
-place plan p s k = total s (words plan p) + total k (λ j. words_in plan (session plan s) p (slot (session plan s) j))
+place plan p s k = total s (words plan p) + total k (λ j. words_in plan s p (slot plan s j))

@@ -3,7 +3,7 @@ use Rattle.std.specs.Prelude.{◌≡◌, ◌≢◌, ℕ, ◌+◌, ◌<◌, ◌�
 use Rattle.list_laws.specs.Lists.{total}
 use Rattle.job_plan.specs.declared.row_scan.RowScan.{RowScan}
 use Rattle.job_plan.specs.declared.row_table.RowTable.{RowTable}
-use Rattle.job_plan.specs.Plans.{Session, slots}
+use Rattle.job_plan.specs.Plans.{Session, session_slots}
 use Rattle.job_plan.specs.KeptWires.{IsRowTable, greatest, is_kept, kept, live, reads, sets}
 use Rattle.job_plan.specs.Wirings.{is_named}
 
@@ -50,5 +50,5 @@ pub record IsScan (s : Session) (k : ℕ) (scan : RowScan) : Type 0 where
   pub held : AreHeld (is_kept s k) scan
   pub made : scan.made ≤ greatest k (kept s) + 1
   pub below : (w : ℕ) → slice_index scan.rows.items w < greatest k (kept s) + 1
-  pub apart : (i j m v w : ℕ) → i < j → j < k → j ≤ m → m < slots s → sets s i v ≡ true → reads s m v ≡ true
+  pub apart : (i j m v w : ℕ) → i < j → j < k → j ≤ m → m < session_slots s → sets s i v ≡ true → reads s m v ≡ true
       → sets s j w ≡ true → slice_index scan.rows.items v ≢ slice_index scan.rows.items w

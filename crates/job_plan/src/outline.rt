@@ -134,7 +134,7 @@ impl Outline {
     /// How the messages of slot `k` of session `s` go.
     pub(crate) fn pattern(&self, s: u32, k: u32) -> Pattern
         requires session { s < length self.now.sessions }
-        requires slot { k < slots (session self.now s) }
+        requires slot { k < slots self.now s }
         ensures is { result ≡ pattern_at self.now s k }
         ensures occurs { Occurs self.now result }
     {

@@ -189,7 +189,7 @@ impl Plan {
         requires { n < length (messages self.now) }
         ensures there { result < length self.now.sessions }
         ensures begin { first self.now result 0 ≤ n }
-        ensures end { n < first self.now result (slots (session self.now result)) }
+        ensures end { n < first self.now result (slots self.now result) }
     {
         let mut s = self.sessions() - 1;
         while n < self.first(s, 0) {
@@ -202,8 +202,8 @@ impl Plan {
     fn slot_of(&self, s: u32, n: u32) -> u32
         requires session { s < length self.now.sessions }
         requires begin { first self.now s 0 ≤ n }
-        requires end { n < first self.now s (slots (session self.now s)) }
-        ensures there { result < slots (session self.now s) }
+        requires end { n < first self.now s (slots self.now s) }
+        ensures there { result < slots self.now s }
         ensures begin { first self.now s result ≤ n }
         ensures end { n < first self.now s (result + 1) }
     {
@@ -213,7 +213,7 @@ impl Plan {
     /// The number of the first message of slot `k` of session `s`; at the count of slots, of the first one after.
     pub fn first(&self, s: u32, k: u32) -> u32
         requires session { s < length self.now.sessions }
-        requires slot { k ≤ slots (session self.now s) }
+        requires slot { k ≤ slots self.now s }
         ensures is { result ≡ first self.now s k }
         ensures within { result ≤ length (messages self.now) }
     {
@@ -235,8 +235,8 @@ impl Plan {
     // The messages of slot k of session s, as the lines of its pattern.
     fn slot_lines(&self, s: u32, k: u32) -> &[Line]
         requires session { s < length self.now.sessions }
-        requires slot { k < slots (session self.now s) }
-        ensures is { map (named s k) result.now ≡ slot_messages self.now s k (slot (session self.now s) k) }
+        requires slot { k < slots self.now s }
+        ensures is { map (named s k) result.now ≡ slot_messages self.now s k (slot self.now s k) }
         ensures sound { IsSound self.now }
     {
         self.patterns.lines(self.pattern(s, k))
@@ -245,8 +245,8 @@ impl Plan {
     // Whether slot k of session s is one of openings.
     fn opens(&self, s: u32, k: u32) -> bool
         requires session { s < length self.now.sessions }
-        requires slot { k < slots (session self.now s) }
-        ensures { result ≡ opens (slot (session self.now s) k) }
+        requires slot { k < slots self.now s }
+        ensures { result ≡ opens (slot self.now s k) }
     {
         matches!(self.pattern(s, k), Pattern::Opened(_))
     }
@@ -254,7 +254,7 @@ impl Plan {
     /// How many slots session `s` has.
     pub fn slots(&self, s: u32) -> u32
         requires { s < length self.now.sessions }
-        ensures { result ≡ slots (session self.now s) }
+        ensures { result ≡ slots self.now s }
     {
         self.outline.part(s).slots()
     }
@@ -262,7 +262,7 @@ impl Plan {
     /// How the messages of slot `k` of session `s` go.
     pub fn pattern(&self, s: u32, k: u32) -> Pattern
         requires session { s < length self.now.sessions }
-        requires slot { k < slots (session self.now s) }
+        requires slot { k < slots self.now s }
         ensures is { result ≡ pattern_at self.now s k }
         ensures occurs { Occurs self.now result }
     {

@@ -1,6 +1,6 @@
 //! Rows for the wires of a session, given out and taken back slot by slot.
 ghost use Rattle.std.specs.Prelude.{◌≡◌, ℕ, ◌+◌, ◌<◌, true, IfOk, OnOk, if◌then◌else◌, length, slice_index};
-ghost use Rattle.job_plan.specs.Plans.{slots};
+ghost use Rattle.job_plan.specs.Plans.{session_slots};
 ghost use Rattle.job_plan.specs.RowScans.{AreLastReads};
 ghost use Rattle.job_plan.specs.Wirings.{IsWiring, is_named, session_in};
 
@@ -17,7 +17,7 @@ pub(crate) struct RowScan {
 
 impl RowScan {
     ghost use Rattle.std.specs.Prelude.{◌≡◌, ℕ, ◌+◌, ◌-◌, ◌<◌, ◌≤◌, true, IfOk, OnOk, IsOk, length, replicate, []};
-    ghost use Rattle.job_plan.specs.Plans.{slots};
+    ghost use Rattle.job_plan.specs.Plans.{session_slots};
     ghost use Rattle.job_plan.specs.RowScans.{AreLastReads, Gives, TakesBack, IsScan};
     ghost use Rattle.job_plan.specs.Wirings.{IsWiring, is_named, session_in};
 
@@ -45,8 +45,8 @@ impl RowScan {
     /// Slot `k`: the wire that it sets gets a row, and those that nothing reads after it give theirs back.
     pub(crate) fn step(&mut self, k: u32, wiring: &Wiring, last: &[u32]) -> Result<(), AllocError>
         requires wiring { IsWiring wiring.now }
-        requires slot { k < slots (session_in wiring.now) }
-        requires last { AreLastReads (session_in wiring.now) (slots (session_in wiring.now)) last.now }
+        requires slot { k < session_slots (session_in wiring.now) }
+        requires last { AreLastReads (session_in wiring.now) (session_slots (session_in wiring.now)) last.now }
         requires scan { IsScan (session_in wiring.now) k self.old }
         ensures { OnOk result (IsScan (session_in wiring.now) (k + 1) self.new) }
     {
@@ -101,7 +101,7 @@ impl RowScan {
 /// For each wire the number of the slot behind the last that reads it, and 0 for one that nothing reads.
 pub(crate) fn last_reads(alloc: Global, wiring: &Wiring) -> Result<Vec<u32>, AllocError>
     requires { IsWiring wiring.now }
-    ensures { IfOk result (λ last. AreLastReads (session_in wiring.now) (slots (session_in wiring.now)) last.items) }
+    ensures { IfOk result (λ last. AreLastReads (session_in wiring.now) (session_slots (session_in wiring.now)) last.items) }
 {
     let mut last = vec![in alloc; 0; wiring.wires as usize]?;
     for k in 0..wiring.slots() {

@@ -39,7 +39,7 @@ impl SessionPart {
     ghost use Rattle.circuit_model.specs.Netlists.{IsCircuit};
     ghost use Rattle.std.specs.Arc.{arc_value};
     ghost use Rattle.job_plan.specs.Parts.{Makes, AreOf};
-    ghost use Rattle.job_plan.specs.Plans.{gate, slot, slots, owners, readers};
+    ghost use Rattle.job_plan.specs.Plans.{gate, session_slot, session_slots, owners, readers};
     ghost use Rattle.job_plan.specs.Tallies.{products, owned, outputs_read};
     ghost use Rattle.job_plan.specs.RowScans.{IsRows};
     ghost use Rattle.job_plan.specs.Sound.{slot_of_kind, Inside, IsSoundSession};
@@ -191,7 +191,7 @@ impl SessionPart {
     /// How many slots there are: one for each input wire, gate and output wire.
     pub fn slots(&self) -> u32
         requires { (parties : ℕ) × IsSoundSession parties self.now }
-        ensures { result ≡ slots self.now }
+        ensures { result ≡ session_slots self.now }
     {
         self.wiring.slots()
     }
@@ -199,8 +199,8 @@ impl SessionPart {
     /// What slot `k` is of.
     pub fn slot_kind(&self, k: u32) -> SlotKind
         requires sound { (parties : ℕ) × IsSoundSession parties self.now }
-        requires within { k < slots self.now }
-        ensures is { slot_of_kind result ≡ slot self.now k }
+        requires within { k < session_slots self.now }
+        ensures is { slot_of_kind result ≡ session_slot self.now k }
         ensures inside { Inside self.now (slot_of_kind result) }
     {
         self.wiring.slot_kind(k)

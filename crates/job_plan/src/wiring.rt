@@ -26,7 +26,7 @@ pub(crate) struct Wiring {
 impl Wiring {
     ghost use Rattle.std.specs.Prelude.{◌≡◌, ◌<◌, IfOk, length};
     ghost use Rattle.job_plan.specs.Parts.{AreWithin};
-    ghost use Rattle.job_plan.specs.Plans.{slot, slots};
+    ghost use Rattle.job_plan.specs.Plans.{session_slot, session_slots};
     ghost use Rattle.job_plan.specs.Sound.{slot_of_kind, Inside};
     ghost use Rattle.job_plan.specs.Wirings.{IsWired, IsWiring, IsTouched, session_in};
 
@@ -61,7 +61,7 @@ impl Wiring {
     /// How many slots there are.
     pub(crate) fn slots(&self) -> u32
         requires { IsWiring self.now }
-        ensures { result ≡ slots (session_in self.now) }
+        ensures { result ≡ session_slots (session_in self.now) }
     {
         (self.owners.len() + self.gates.len() + self.readers.len()) as u32
     }
@@ -69,8 +69,8 @@ impl Wiring {
     /// What slot `k` is of.
     pub(crate) fn slot_kind(&self, k: u32) -> SlotKind
         requires wiring { IsWiring self.now }
-        requires within { k < slots (session_in self.now) }
-        ensures is { slot_of_kind result ≡ slot (session_in self.now) k }
+        requires within { k < session_slots (session_in self.now) }
+        ensures is { slot_of_kind result ≡ session_slot (session_in self.now) k }
         ensures inside { Inside (session_in self.now) (slot_of_kind result) }
     {
         let inputs = self.owners.len() as u32;
@@ -87,7 +87,7 @@ impl Wiring {
     /// The wires of slot `k`.
     pub(crate) fn touched(&self, k: u32) -> Touched
         requires wiring { IsWiring self.now }
-        requires within { k < slots (session_in self.now) }
+        requires within { k < session_slots (session_in self.now) }
         ensures { IsTouched (session_in self.now) k result }
     {
         match self.slot_kind(k) {

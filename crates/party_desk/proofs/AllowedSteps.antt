@@ -5,13 +5,13 @@ use Rattle.std.proofs.lemmas.Bool.{cases_lt}
 use mathlib.Core.Logic.{inl, inr}
 use Rattle.circuit_model.specs.Circuits.{set_at}
 use Rattle.circuit_model.proofs.SetAt.{set_here, set_there}
-use Rattle.job_plan.specs.Plans.{Plan, Slot, session, output_wire}
+use Rattle.job_plan.specs.Plans.{Plan, Slot, session, output_wire, slot}
 use Rattle.job_plan.specs.Plans.Slot.{Input, At_gate, Output}
 use Rattle.message_board.specs.declared.cells.Cells.{Ghosts as Meaning}
 use Rattle.party_program.specs.declared.program.Instruction.{Instruction}
 use Rattle.party_program.specs.declared.program.Instruction.TheVariants.{Deal, Post, Take, Linear, Own, Sum, Deliver, End}
 use Rattle.party_program.specs.Programs.{program, at}
-use Rattle.party_program.specs.States.{Given, State, slot_at, slot_of, posted, state}
+use Rattle.party_program.specs.States.{Given, State, slot_of, posted, state}
 use Rattle.party_program.specs.Proper.{Proper, IsGivenWord, HasInput, with_got}
 use Rattle.party_program.specs.Suiting.{Suits}
 use Rattle.party_program.specs.Standing.{IsProgram, StandsIn}
@@ -125,14 +125,14 @@ module _ (l : Given) (d : Desk) (is_desk : IsDesk l d) where
   finds (At_gate t) f = tt
   finds (Output o) f = f
 
-  deals : (k j : ℕ) → i ≡ Deal k j → CanDeal l.plan (slot_at l.plan l.session k) d.memory
+  deals : (k j : ℕ) → i ≡ Deal k j → CanDeal l.plan (slot l.plan l.session k) d.memory
   deals k j e =
       let c = can_deal l suits d.position k j e in
       let b : d.memory.deals ≡ (state l d.position).deals = is_desk.memory.deals in record {
         words = (let a : length d.memory.tape ≡ length l.tape - (state l d.position).deals * (length l.plan.groups - 1) = ap length is_desk.tape ∙ length-drop ((state l d.position).deals * (length l.plan.groups - 1)) l.tape in
             let f = c.words in omega arith);
         count = (let f = c.count in omega arith);
-        input = finds (slot_at l.plan l.session k) c.input;
+        input = finds (slot l.plan l.session k) c.input;
       }
 
   pub posts_right : (n j : ℕ) → i ≡ Post n j → word_in l.plan d n j ≡ word_at l d.position n j
@@ -147,7 +147,7 @@ module _ (l : Given) (d : Desk) (is_desk : IsDesk l d) where
 
   module _ {C : Type 0} (cells : Meaning C) (c : C) where
     allowed_at : (e : Instruction) → i ≡ e → Allows cells c l d.position e → Allowed cells c l.plan d e
-    allowed_at (Deal k j) e a = subst (λ z. CanDeal l.plan (slot_at l.plan z k) d.memory) (sym is_desk.session) (deals k j e)
+    allowed_at (Deal k j) e a = subst (λ z. CanDeal l.plan (slot l.plan z k) d.memory) (sym is_desk.session) (deals k j e)
     allowed_at (Post n j) e a = subst (cells.may_post c n) (sym (posts_right n j e)) a
     allowed_at (Take n j) e a = a
     allowed_at (Linear k) e a = tt

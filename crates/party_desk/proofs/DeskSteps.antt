@@ -7,7 +7,7 @@ use mathlib.Core.Logic.{inl, inr}
 use Rattle.circuit_model.specs.Circuits.{set_at}
 use Rattle.circuit_model.specs.declared.gate.Gate.{Gate}
 use Rattle.secret_sharing.specs.Sharing.{Scheme, dealt, own_product, local}
-use Rattle.job_plan.specs.Plans.{Plan, Slot, holds, scheme, session}
+use Rattle.job_plan.specs.Plans.{Plan, Slot, holds, scheme, session, slot}
 use Rattle.job_plan.specs.Plans.Slot.{Input, At_gate, Output}
 use Rattle.job_plan.specs.KeptWires.{IsRowTable}
 use Rattle.std.specs.Arc.{arc_value}
@@ -19,7 +19,7 @@ use Rattle.party_program.specs.Programs.{program, at}
 use Rattle.party_desk.specs.Rows.{row, SameRow, SameRows}
 use Rattle.party_program.specs.Standing.{IsProgram, StandsIn}
 use Rattle.party_program.specs.Suiting.{Suits}
-use Rattle.party_program.specs.States.{Given, State, slot_at, slot_of, state, next, word_of, dealt_in, took_in}
+use Rattle.party_program.specs.States.{Given, State, slot_of, state, next, word_of, dealt_in, took_in}
 use Rattle.party_desk.specs.declared.memory.Memory.{Memory}
 use Rattle.party_desk.specs.Memories.{state_of, row_of, Alike, IsMemoryOf}
 use Rattle.party_desk.specs.Desks.{Advanced, IsDesk, Remembers, after_on_rows, instruction_at, posts_in, takes_in, posts_before, takes_before}
@@ -55,7 +55,7 @@ took_deals q (At_gate t) i w σ = refl
 took_deals q (Output o) i w σ = refl
 
 pub draws : (l : Given) (e : Instruction) (σ : State) → Proper l.plan l.session e → (next l e σ).deals * (length l.plan.groups - 1) ≡ σ.deals * (length l.plan.groups - 1) + drawn_by l.plan e
-draws l (Deal k d) σ h = deals_in l (slot_at l.plan l.session k) _ _ (length l.plan.groups - 1) σ h.kind
+draws l (Deal k d) σ h = deals_in l (slot l.plan l.session k) _ _ (length l.plan.groups - 1) σ h.kind
 draws l (Post n i) σ h = omega arith
 draws l (Take n i) σ h = ap (λ z. z * (length l.plan.groups - 1)) (took_deals (2 ^ l.plan.bits) (slot_of l.plan l.session n) i (l.got n) σ) ∙ omega arith
 draws l (Linear k) σ h = omega arith

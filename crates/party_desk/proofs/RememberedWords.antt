@@ -15,7 +15,7 @@ use Rattle.circuit_model.specs.declared.gate.Operation.{Operation}
 use Rattle.circuit_model.specs.declared.gate.Operation.TheVariants.{Add, Sub, Neg, Mul, Xor, And, Inv, Eq, Eqw}
 use Rattle.mpc_ring.specs.Differences.{difference}
 use Rattle.secret_sharing.specs.Sharing.{Scheme, IsScheme, dealt, own_product, local}
-use Rattle.job_plan.specs.Plans.{IsPlan, Plan, Session, Slot, gate, holds, output_wire, scheme, session}
+use Rattle.job_plan.specs.Plans.{IsPlan, Plan, Session, Slot, gate, holds, output_wire, scheme, session, slot}
 use Rattle.job_plan.specs.Plans.Slot.{Input, At_gate, Output}
 use Rattle.job_plan.specs.KeptWires.{IsInOrder, IsRowTable}
 use Rattle.job_plan.specs.Sound.{IsSound}
@@ -24,7 +24,7 @@ use Rattle.party_program.specs.declared.program.Instruction.{Instruction}
 use Rattle.party_program.specs.declared.program.Instruction.TheVariants.{Deal, Post, Take, Linear, Own, Sum, Deliver, End}
 use Rattle.party_program.specs.Programs.{program, at}
 use Rattle.party_program.specs.Proper.{Proper, IsGate, IsOutput}
-use Rattle.party_program.specs.States.{State, slot_at, slot_of, gate_in_slot, output_in_slot, after, dealt_in, took_in, opened}
+use Rattle.party_program.specs.States.{State, slot_of, gate_in_slot, output_in_slot, after, dealt_in, took_in, opened}
 use Rattle.program_laws.specs.WordsRead.{gate_at, Sets, Reads, IsSet, IsToRead}
 use Rattle.program_laws.proofs.ProperPrograms.{proper_at}
 use Rattle.program_laws.proofs.SetWords.{named, sets_at, one_wire, own_at, reads_are_set, own_row, read_is_held}
@@ -184,7 +184,7 @@ module _ (plan : Plan) (sound : IsSound plan) (s p : ℕ) (ls : s < length plan.
     proper e is = subst (Proper plan s) is (proper_at plan sound s p ls lp q)
 
     module _ (words : ℕ → ℕ) (input w : ℕ) (got : ℕ → ℕ) where
-      deals_same : (k d : ℕ) (z : Slot) → at es q ≡ Deal k d → slot_at plan s k ≡ z → SameRead (suc q) (dealt_in plan words input (slot_on_rows row_of z) τ) (dealt_in plan words input z σ)
+      deals_same : (k d : ℕ) (z : Slot) → at es q ≡ Deal k d → slot plan s k ≡ z → SameRead (suc q) (dealt_in plan words input (slot_on_rows row_of z) τ) (dealt_in plan words input z σ)
       deals_same k d (Input u) is e = record {
         rows = writes u (dealt (scheme plan) input words) (dealt (scheme plan) input words) (λ i. subst (λ z. Sets plan s z u i) (sym is) e) (λ i li later. refl);
         own = h.own;
@@ -230,13 +230,13 @@ module _ (plan : Plan) (sound : IsSound plan) (s p : ℕ) (ls : s < length plan.
         outputs = h.outputs;
       }
 
-      linear_same : (k : ℕ) (z : Slot) → at es q ≡ Linear k → slot_at plan s k ≡ z → IsGate z → SameRead (suc q) (after_on_rows row_of plan p s words input w (Linear k) τ) (after plan p s words input got (Linear k) σ)
+      linear_same : (k : ℕ) (z : Slot) → at es q ≡ Linear k → slot plan s k ≡ z → IsGate z → SameRead (suc q) (after_on_rows row_of plan p s words input w (Linear k) τ) (after plan p s words input got (Linear k) σ)
       linear_same k (Input u) is e gate' = absurd gate'
       linear_same k (Output o) is e gate' = absurd gate'
       linear_same k (At_gate t) is e gate' =
           let g : Gate = gate_at plan s k in
           let now : (i : ℕ) → Sets plan s (at es q) g.output i = λ i. subst (λ y. Sets plan s y g.output i) (sym is) refl in
-          let here : slot_at plan s (named plan (at es q)) ≡ At_gate t = ap (λ y. slot_at plan s (named plan y)) is ∙ e in
+          let here : slot plan s (named plan (at es q)) ≡ At_gate t = ap (λ y. slot plan s (named plan y)) is ∙ e in
           let held : (i : ℕ) → IsToRead plan p s (suc q) g.output i → holds plan p i ≡ true = λ i later. read_is_held plan sound s p ls lp order q t g.output i here (sets_at plan sound s p ls lp q g.output i (now i)).1 later in
           let reads_at : (v i : ℕ) → list_any (nat_eq v) (read_by g) ≡ true → holds plan p i ≡ true → Reads plan p s (at es q) v i = λ v i a b. subst (λ y. Reads plan p s y v i) (sym is) (a, b) in
           record {
@@ -277,7 +277,7 @@ module _ (plan : Plan) (sound : IsSound plan) (s p : ℕ) (ls : s < length plan.
 
       deliver_same : (k : ℕ) → at es q ≡ Deliver k → SameRead (suc q) (after_on_rows row_of plan p s words input w (Deliver k) τ) (after plan p s words input got (Deliver k) σ)
       deliver_same k is =
-          let o : ℕ = output_in_slot (slot_at plan s k) in
+          let o : ℕ = output_in_slot (slot plan s k) in
           let v : ℕ = output_wire x o in
           let opened_same : opened plan p (τ.rows (row_of v)) τ.sums ≡ opened plan p (σ.rows v) σ.sums = opened_of_held plan p _ _ _ _ (λ i li has. known v i li (subst (λ y. Reads plan p s y v i) (sym is) (refl, has))) h.sums in
           record {
@@ -292,10 +292,10 @@ module _ (plan : Plan) (sound : IsSound plan) (s p : ℕ) (ls : s < length plan.
           }
 
       after_same : (e : Instruction) → at es q ≡ e → IsWordOf got w e → SameRead (suc q) (after_on_rows row_of plan p s words input w e τ) (after plan p s words input got e σ)
-      after_same (Deal k d) is right = deals_same k d (slot_at plan s k) is refl
+      after_same (Deal k d) is right = deals_same k d (slot plan s k) is refl
       after_same (Post n j) is right = record { rows = stays (λ v i z. subst (λ y. Sets plan s y v i) is z); own = h.own; sums = h.sums; deals = h.deals; outputs = h.outputs }
       after_same (Take n j) is right = subst (λ z. SameRead (suc q) (took_in (2 ^ plan.bits) (slot_on_rows row_of (slot_of plan s n)) j w τ) (took_in (2 ^ plan.bits) (slot_of plan s n) j z σ)) right (takes_same n j (slot_of plan s n) is refl)
-      after_same (Linear k) is right = linear_same k (slot_at plan s k) is refl (proper (Linear k) is).kind
+      after_same (Linear k) is right = linear_same k (slot plan s k) is refl (proper (Linear k) is).kind
       after_same (Own k) is right = own_same k is
       after_same (Sum k) is right = sum_same k is
       after_same (Deliver k) is right = deliver_same k is

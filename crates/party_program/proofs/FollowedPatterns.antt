@@ -79,19 +79,19 @@ module _ (plan : Plan) (p s k : ℕ) where
   closing_is (At_gate t) = after_gate (is_product (gate (session plan s) t).operation)
   closing_is (Output o) = sym (map_only_if place (has_party (slice_index (readers (session plan s)) o) p) (Deliver ∷ []))
 
-  module _ (ls : s < length plan.sessions) (lk : k < slots (session plan s)) where
+  module _ (ls : s < length plan.sessions) (lk : k < slots plan s) where
     abbrev its : Pattern
     its = pattern_at plan s k
 
     pub length-lines : count plan s k ≡ length (lines plan its)
-    length-lines = ap length (slots_follow_patterns plan s k (slot (session plan s) k)) ∙ length-map (lines plan its) (named s k)
+    length-lines = ap length (slots_follow_patterns plan s k (slot plan s k)) ∙ length-map (lines plan its) (named s k)
 
     -- the message of a line
     line_is : (i n : ℕ) (d : Line) → i < length (lines plan its) → n ≡ first plan s k + i → message plan n ≡ named s k (slice_index_or (lines plan its) i d)
     line_is i n d l e =
         ap (message plan) e
         ∙ message_at plan s k ls lk i (let long = length-lines in omega arith)
-        ∙ ap (λ xs. slice_index_or xs i no_key) (slots_follow_patterns plan s k (slot (session plan s) k))
+        ∙ ap (λ xs. slice_index_or xs i no_key) (slots_follow_patterns plan s k (slot plan s k))
         ∙ get_or-map (named s k) (lines plan its) i d no_key l
 
     numbers_are : (f : ℕ → Instruction) (test : ℕ → Bool) (g : ℕ × Line → Step) (check : ℕ × Line → Bool)
@@ -112,7 +112,7 @@ module _ (plan : Plan) (p s k : ℕ) where
 
     pub slot_program_follows : programs.slot_program plan p s k ≡ map place (steps plan p its)
     slot_program_follows =
-        ap₂ (λ x y. x ++ y) (ap₂ (λ x y. x ++ y) (ap₂ (λ x y. x ++ y) (opening_is (slot (session plan s) k)) posts_are) takes_are) (closing_is (slot (session plan s) k))
+        ap₂ (λ x y. x ++ y) (ap₂ (λ x y. x ++ y) (ap₂ (λ x y. x ++ y) (opening_is (slot plan s k)) posts_are) takes_are) (closing_is (slot plan s k))
         ∙ sym (map-append place (before plan p its ++ posts plan p its ++ takes plan p its) (after p its)
         ∙ ap (λ x. x ++ map place (after p its)) (map-append place (before plan p its ++ posts plan p its) (takes plan p its)
         ∙ ap (λ x. x ++ map place (takes plan p its)) (map-append place (before plan p its) (posts plan p its))))

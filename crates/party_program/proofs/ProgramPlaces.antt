@@ -7,7 +7,7 @@ use Rattle.std.proofs.lemmas.List.{length-map, get_or-map, get_or_past}
 use mathlib.Core.Logic.{inl, inr}
 use Rattle.list_laws.proofs.Totals.{total_more}
 use Rattle.list_laws.proofs.JoinedLists.{length-joined, length-listed, listed_at, total_within}
-use Rattle.job_plan.specs.Plans.{Plan, session, slots}
+use Rattle.job_plan.specs.Plans.{Plan, slots}
 use Rattle.job_plan.specs.Numbers.{deals_before}
 use Rattle.job_plan.specs.Firsts.{first}
 use Rattle.job_plan.specs.Patterns.{pattern_at}
@@ -41,20 +41,20 @@ is_own plan p s program is =
     subst (λ r. IsProgram plan program.party r program) (sym is.of_session) (subst (λ r. IsProgram plan r s program) (sym is.of_party) is)
 
 module _ (plan : Plan) (p s : ℕ) where
-  pub length-program : length (program plan p s) ≡ instructions_before plan p s (slots (session plan s))
-  length-program = length-joined (slots (session plan s)) (slot_program plan p s)
+  pub length-program : length (program plan p s) ≡ instructions_before plan p s (slots plan s)
+  length-program = length-joined (slots plan s) (slot_program plan p s)
 
   pub before_more : (k : ℕ) → instructions_before plan p s (k + 1) ≡ instructions_before plan p s k + length (slot_program plan p s k)
   before_more k = total_more k (λ j. length (slot_program plan p s j))
 
   -- past all instructions is the end
-  pub past_end : (q : ℕ) → StandsIn plan p s (slots (session plan s)) q → at (program plan p s) q ≡ End
+  pub past_end : (q : ℕ) → StandsIn plan p s (slots plan s) q → at (program plan p s) q ≡ End
   past_end q stands = get_or_past (program plan p s) q End (let begun = stands.begun in let long = length-program in omega arith)
 
   abbrev steps_at : ℕ → List Step
   steps_at k = steps plan p (pattern_at plan s k)
 
-  module _ (k : ℕ) (ls : s < length plan.sessions) (lk : k < slots (session plan s)) where
+  module _ (k : ℕ) (ls : s < length plan.sessions) (lk : k < slots plan s) where
     pub length-slot : length (slot_program plan p s k) ≡ length (steps_at k)
     length-slot = ap length (slot_program_follows plan p s k ls lk) ∙ length-map (steps_at k) (placed k (first plan s k) (deals_before plan p s k))
 
@@ -78,7 +78,7 @@ module _ (plan : Plan) (p s : ℕ) where
         let long = length-slot in
         let place : Step → Instruction = placed k (first plan s k) (deals_before plan p s k) in
         ap (at (program plan p s)) here
-        ∙ joined_place End (slots (session plan s)) k (slot_program plan p s) i lk (omega arith)
+        ∙ joined_place End (slots plan s) k (slot_program plan p s) i lk (omega arith)
         ∙ ap (λ xs. slice_index_or xs i End) (slot_program_follows plan p s k ls lk)
         ∙ get_or-map place (steps_at k) i d End short
 
@@ -91,11 +91,11 @@ module _ (plan : Plan) (p s : ℕ) where
         placed_within _ _ (slice_index_or (steps_at k) i d) (omega arith) (steps_placed plan p (pattern_at plan s k) i d l)
 
   -- what the table of starts has
-  pub start_at : (program : Program) (k : ℕ) (d : SlotStart) → IsProgram plan p s program → k ≤ slots (session plan s) → slice_index_or program.starts.items k d ≡ start_of plan p s k
-  start_at program k d is l = ap (λ xs. slice_index_or xs k d) is.starts ∙ listed_at (slots (session plan s) + 1) (start_of plan p s) k d (omega arith)
+  pub start_at : (program : Program) (k : ℕ) (d : SlotStart) → IsProgram plan p s program → k ≤ slots plan s → slice_index_or program.starts.items k d ≡ start_of plan p s k
+  start_at program k d is l = ap (λ xs. slice_index_or xs k d) is.starts ∙ listed_at (slots plan s + 1) (start_of plan p s) k d (omega arith)
 
-  pub length-starts : (program : Program) → IsProgram plan p s program → length program.starts.items ≡ slots (session plan s) + 1
-  length-starts program is = ap length is.starts ∙ length-listed (slots (session plan s) + 1) (start_of plan p s)
+  pub length-starts : (program : Program) → IsProgram plan p s program → length program.starts.items ≡ slots plan s + 1
+  length-starts program is = ap length is.starts ∙ length-listed (slots plan s + 1) (start_of plan p s)
 
   -- what stands before a slot rises with the slot
   pub before_rises : (j k : ℕ) → j ≤ k → instructions_before plan p s j ≤ instructions_before plan p s k

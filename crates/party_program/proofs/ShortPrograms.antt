@@ -35,7 +35,7 @@ passing_short f test a (suc n) =
 module _ (plan : Plan) (p s : ℕ) where
   opening_short : (k : ℕ) (z : Slot) → length (opening plan p s k z) ≤ 2
   opening_short k (Input v) = let short = only_short (nat_eq (slice_index (owners (session plan s)) v) p) (Deal k (deals_before plan p s k) ∷ []) in omega arith
-  opening_short k (At_gate t) = only_short (deals_in plan (session plan s) p (At_gate t)) (Own k ∷ Deal k (deals_before plan p s k) ∷ [])
+  opening_short k (At_gate t) = only_short (deals_in plan s p (At_gate t)) (Own k ∷ Deal k (deals_before plan p s k) ∷ [])
   opening_short k (Output o) = omega arith
 
   closing_short : (k : ℕ) (z : Slot) → length (closing plan p s k z) ≤ 2
@@ -50,7 +50,7 @@ module _ (plan : Plan) (p s : ℕ) where
 
   slot_short : (k : ℕ) → length (slot_program plan p s k) ≤ 2 * count plan s k + 4
   slot_short k =
-      let z : Slot = slot (session plan s) k in
+      let z : Slot = slot plan s k in
       let a = length-append (opening plan p s k z) (posts plan p s k) in
       let b = length-append (opening plan p s k z ++ posts plan p s k) (takes plan p s k) in
       let c = length-append (opening plan p s k z ++ posts plan p s k ++ takes plan p s k) (closing plan p s k z) in
@@ -65,7 +65,7 @@ module _ (plan : Plan) (p s : ℕ) where
   program_short (suc n) = let here = slot_short n in let before = program_short n in omega arith
 
   -- the instructions of a plan within the limits fit into four bytes
-  pub few_instructions : (k : ℕ) → IsSound plan → s < length plan.sessions → k ≤ slots (session plan s) → instructions_before plan p s k < 4294967295
+  pub few_instructions : (k : ℕ) → IsSound plan → s < length plan.sessions → k ≤ slots plan s → instructions_before plan p s k < 4294967295
   few_instructions k sound ls lk =
       let short = program_short k in
       let few = first_within plan s k ls lk in

@@ -3,7 +3,7 @@ use Rattle.std.specs.Prelude.{◌≡◌, ℕ, ◌+◌, ◌<◌, ◌≤◌, nat_e
 use Rattle.indexmap.specs.IndexMap.{IndexMap, get}
 use Rattle.list_laws.specs.Lists.{total, listed}
 use Rattle.job_plan.specs.declared.pattern.Pattern.TheVariants.{Silent, Dealt, Multiplied, Opened}
-use Rattle.job_plan.specs.Plans.{Plan, session, slots}
+use Rattle.job_plan.specs.Plans.{Plan, slots}
 use Rattle.job_plan.specs.Numbers.{deals_before}
 use Rattle.job_plan.specs.Patterns.{pattern_at}
 use Rattle.job_plan.specs.Sound.{IsSound}
@@ -20,9 +20,9 @@ instructions_before plan p s k = total k (λ j. length (slot_program plan p s j)
 
 -- position q stands among the instructions of slot k, or past all of them, where k is the count of slots
 pub record StandsIn (plan : Plan) (p s k q : ℕ) : Type 0 where
-  pub slot : k ≤ slots (session plan s)
+  pub slot : k ≤ slots plan s
   pub begun : instructions_before plan p s k ≤ q
-  pub within : k < slots (session plan s) → q < instructions_before plan p s (k + 1)
+  pub within : k < slots plan s → q < instructions_before plan p s (k + 1)
 
 -- the steps of p in an opening to this group are kept
 abbrev pub HasOpening : {S : Type 0} → Plan → ℕ → IndexMap ℕ (List Step) S → ℕ → Type 0
@@ -38,7 +38,7 @@ pub record AreSteps (plan : Plan) (p s : ℕ) (table : StepTable) : Type 0 where
   pub silent : table.silent ≡ steps plan p Silent
   pub multiplied : table.multiplied ≡ steps plan p Multiplied
   pub dealt : table.dealt.items ≡ listed plan.parties (λ q. steps plan p (Dealt q))
-  pub opened : (k readers : ℕ) → k < slots (session plan s) → pattern_at plan s k ≡ Opened readers
+  pub opened : (k readers : ℕ) → k < slots plan s → pattern_at plan s k ≡ Opened readers
       → HasOpening plan p table.opened readers
 
 -- how many instructions and deals of p stand before slot k
@@ -47,7 +47,7 @@ start_of plan p s k = record { instructions = instructions_before plan p s k; de
 
 -- the start of each slot, and behind the last one
 abbrev pub slot_starts : Plan → ℕ → ℕ → List SlotStart
-slot_starts plan p s = listed (slots (session plan s) + 1) (start_of plan p s)
+slot_starts plan p s = listed (slots plan s + 1) (start_of plan p s)
 
 -- the program of party p in session s of a plan within the limits
 pub record IsProgram (plan : Plan) (p s : ℕ) (program : Program) : Type 0 where

@@ -1,6 +1,6 @@
 //! Where the instructions of each slot begin.
 ghost use Rattle.std.specs.Prelude.{◌≡◌, ℕ, ◌<◌, IfOk, length};
-ghost use Rattle.job_plan.specs.Plans.{session, slot, slots, deals_in};
+ghost use Rattle.job_plan.specs.Plans.{slot, slots, deals_in};
 ghost use Rattle.party_program.specs.Standing.{AreSteps, slot_starts};
 
 use crate::step_table::StepTable;
@@ -47,8 +47,8 @@ pub(crate) fn list_starts(
 fn deals_in(plan: &Plan, p: u32, s: u32, k: u32) -> bool
     requires party { p < plan.now.parties }
     requires session { s < length plan.now.sessions }
-    requires slot { k < slots (session plan.now s) }
-    ensures { result ≡ deals_in plan.now (session plan.now s) p (slot (session plan.now s) k) }
+    requires slot { k < slots plan.now s }
+    ensures { result ≡ deals_in plan.now s p (slot plan.now s k) }
 {
     let _ = plan.parties();
     let part = plan.part(s);

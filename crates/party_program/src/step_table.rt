@@ -2,7 +2,7 @@
 ghost use Rattle.std.specs.Prelude.{◌≡◌, ℕ, ◌<◌, IfOk, OnOk, length};
 ghost use Rattle.list_laws.specs.Lists.{listed};
 ghost use Rattle.job_plan.specs.declared.pattern.Pattern.TheVariants.{Dealt, Opened};
-ghost use Rattle.job_plan.specs.Plans.{session, slots};
+ghost use Rattle.job_plan.specs.Plans.{slots};
 ghost use Rattle.job_plan.specs.Patterns.{pattern_at};
 ghost use Rattle.party_program.specs.PartySteps.{steps};
 ghost use Rattle.party_program.specs.Standing.{AreOpenings, HasOpening};
@@ -26,7 +26,7 @@ pub(crate) struct StepTable {
 
 impl StepTable {
     ghost use Rattle.std.specs.Prelude.{◌≡◌, ℕ, ◌<◌, IfOk, length};
-    ghost use Rattle.job_plan.specs.Plans.{session, slots};
+    ghost use Rattle.job_plan.specs.Plans.{slots};
     ghost use Rattle.job_plan.specs.Patterns.{pattern_at};
     ghost use Rattle.party_program.specs.PartySteps.{steps};
     ghost use Rattle.party_program.specs.Standing.{AreSteps};
@@ -53,7 +53,7 @@ impl StepTable {
     pub(crate) fn at(&self, plan: &Plan, s: u32, k: u32) -> &[Step]
         requires are { (p : ℕ) × AreSteps plan.now p s self.now }
         requires session { s < length plan.now.sessions }
-        requires slot { k < slots (session plan.now s) }
+        requires slot { k < slots plan.now s }
         ensures { (p : ℕ) → AreSteps plan.now p s self.now → result.now ≡ steps plan.now p (pattern_at plan.now s k) }
     {
         match plan.pattern(s, k) {
@@ -86,7 +86,7 @@ fn openings_of_each(
 ) -> Result<IndexMap<u32, StepList>, AllocError>
     requires party { p < plan.now.parties }
     requires session { s < length plan.now.sessions }
-    ensures { IfOk result (λ map. (k readers : ℕ) → k < slots (session plan.now s)
+    ensures { IfOk result (λ map. (k readers : ℕ) → k < slots plan.now s
         → pattern_at plan.now s k ≡ Opened readers → HasOpening plan.now p map readers) }
 {
     let mut openings = IndexMap::new(alloc);
@@ -107,7 +107,7 @@ fn add_opening(
 ) -> Result<(), AllocError>
     requires party { p < plan.now.parties }
     requires session { s < length plan.now.sessions }
-    requires slot { k < slots (session plan.now s) }
+    requires slot { k < slots plan.now s }
     requires before { AreOpenings plan.now p openings.old }
     ensures openings { OnOk result (AreOpenings plan.now p openings.new) }
     ensures others { OnOk result ((readers : ℕ) → HasOpening plan.now p openings.old readers

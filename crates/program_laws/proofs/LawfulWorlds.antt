@@ -6,7 +6,7 @@ use Rattle.std.proofs.lemmas.List.{length-drop, length-take-le, get_or_past}
 use mathlib.Core.Logic.{inl, inr}
 use Rattle.list_laws.specs.Lists.{total}
 use Rattle.list_laws.proofs.JoinedLists.{total_within}
-use Rattle.job_plan.specs.Plans.{session, words, place}
+use Rattle.job_plan.specs.Plans.{session, words, place, slot}
 use Rattle.job_plan.specs.Numbers.{message}
 use Rattle.share_world.specs.Worlds.{World, word}
 use Rattle.share_world.specs.Locals.{local_word}
@@ -16,7 +16,7 @@ use Rattle.share_world.proofs.SmallWords.{is_plan, small_words, small_word}
 use Rattle.party_program.specs.declared.program.Instruction.{Instruction}
 use Rattle.party_program.specs.declared.program.Instruction.TheVariants.{Post, Deliver, End}
 use Rattle.party_program.specs.Programs.{program, at}
-use Rattle.party_program.specs.States.{Given, new_state, state, slot_at, slot_of, posted, output_in_slot}
+use Rattle.party_program.specs.States.{Given, new_state, state, slot_of, posted, output_in_slot}
 use Rattle.party_program.specs.Suiting.{Suits}
 use Rattle.party_program.proofs.InstructionLists.{along_at, state_is}
 use Rattle.program_laws.specs.Meets.{OpensRight, Goes}
@@ -56,7 +56,7 @@ module _ (w : World) (whole : IsWhole w) (s p : ℕ) (ls : s < length w.plan.ses
       let g = goes q (Post n i) e (λ f. cc) in
       g.1.1 ∙ ap (λ z. local_word w (word w) z (message w.plan n)) (sym g.1.0) ∙ sent_are_words w (is_plan w whole) n g.0.number
 
-  opens_right : (q k : ℕ) → at (program w.plan p s) q ≡ Deliver k → OpensRight w (word w) s p (output_in_slot (slot_at w.plan s k)) (state l q)
+  opens_right : (q k : ℕ) → at (program w.plan p s) q ≡ Deliver k → OpensRight w (word w) s p (output_in_slot (slot w.plan s k)) (state l q)
   opens_right q k e = (goes q (Deliver k) e (λ f. cc)).1
 
 pub lawful : (w : World) → IsWhole w → Lawful w

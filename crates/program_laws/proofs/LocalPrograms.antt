@@ -72,15 +72,15 @@ module _ (w : World) (h' : IsPlan w.plan) (got : Key → ℕ) (s p : ℕ) (ls : 
   positive = pow_pos plan.bits
 
   -- the tape words of a deal
-  words_are : (k : ℕ) → k < slots x → deals_in plan x p (slot x k) ≡ true → (j : ℕ) → j < m - 1 → word_of l (deals_before plan p s k) j ≡ tape_word w s k p j
+  words_are : (k : ℕ) → k < slots w.plan s → deals_in plan s p (slot w.plan s k) ≡ true → (j : ℕ) → j < m - 1 → word_of l (deals_before plan p s k) j ≡ tape_word w s k p j
   words_are k lk yes' j lj =
-      let c : ℕ → ℕ = λ k. if deals_in plan x p (slot x k) then 1 else 0 in
-      let one : c k ≡ 1 = cond-true (deals_in plan x p (slot x k)) 1 0 yes' in
-      let within : total k c + c k ≤ total (slots x) c = total_within (slots x) k c lk in
+      let c : ℕ → ℕ = λ k. if deals_in plan s p (slot w.plan s k) then 1 else 0 in
+      let one : c k ≡ 1 = cond-true (deals_in plan s p (slot w.plan s k)) 1 0 yes' in
+      let within : total k c + c k ≤ total (slots w.plan s) c = total_within (slots w.plan s) k c lk in
       let at0 : place plan p s 0 ≡ (m - 1) * (total s (deals plan p) + 0) = places_by_deals plan p s 0 in
       let atk : place plan p s k ≡ (m - 1) * (total s (deals plan p) + deals_before plan p s k) = places_by_deals plan p s k in
-      let all : place plan p s (slots x) ≡ (m - 1) * (total s (deals plan p) + deals plan p s) = places_by_deals plan p s (slots x) in
-      let whole : place plan p s (slots x) ≡ place plan p s 0 + words plan p s = omega arith in
+      let all : place plan p s (slots w.plan s) ≡ (m - 1) * (total s (deals plan p) + deals plan p s) = places_by_deals plan p s (slots w.plan s) in
+      let whole : place plan p s (slots w.plan s) ≡ place plan p s 0 + words plan p s = omega arith in
       let more : (m - 1) * (deals_before plan p s k + 1) ≤ (m - 1) * deals plan p s = mul-le-mul_left (m - 1) (omega arith) in
       let inside : deals_before plan p s k * (m - 1) + j < words plan p s = omega arith in
       let at : place plan p s 0 + (deals_before plan p s k * (m - 1) + j) ≡ place plan p s k + j = omega arith in
@@ -88,11 +88,11 @@ module _ (w : World) (h' : IsPlan w.plan) (got : Key → ℕ) (s p : ℕ) (ls : 
       ∙ get_or-drop (place plan p s 0) (slice_index_or w.tapes p []) (deals_before plan p s k * (m - 1) + j) 0
       ∙ ap (slice_index (slice_index_or w.tapes p [])) at
 
-  deal_more : (k : ℕ) → deals_in plan x p (slot x k) ≡ true → deals_before plan p s (suc k) ≡ deals_before plan p s k + 1
-  deal_more k e = ap (λ z. deals_before plan p s k + z) (cond-true (deals_in plan x p (slot x k)) 1 0 e)
+  deal_more : (k : ℕ) → deals_in plan s p (slot w.plan s k) ≡ true → deals_before plan p s (suc k) ≡ deals_before plan p s k + 1
+  deal_more k e = ap (λ z. deals_before plan p s k + z) (cond-true (deals_in plan s p (slot w.plan s k)) 1 0 e)
 
-  deal_none : (k : ℕ) → deals_in plan x p (slot x k) ≡ false → deals_before plan p s (suc k) ≡ deals_before plan p s k
-  deal_none k e = ap (λ z. deals_before plan p s k + z) (cond-false (deals_in plan x p (slot x k)) 1 0 e) ∙ omega arith
+  deal_none : (k : ℕ) → deals_in plan s p (slot w.plan s k) ≡ false → deals_before plan p s (suc k) ≡ deals_before plan p s k
+  deal_none k e = ap (λ z. deals_before plan p s k + z) (cond-false (deals_in plan s p (slot w.plan s k)) 1 0 e) ∙ omega arith
 
   -- ---- input slots
 
@@ -123,7 +123,7 @@ module _ (w : World) (h' : IsPlan w.plan) (got : Key → ℕ) (s p : ℕ) (ls : 
   input_numbers v lv = each_number plan s v ls (omega arith) (FromOwner v) (subst (λ z. AllByRecursion (FromOwner v) (slot_messages plan s v z)) (sym (slot_input x v lv)) (from_owner v))
 
   -- a message of a slot is proper
-  message_is : (k n : ℕ) (y : Key) → k < slots x → n < length (messages plan) → (message plan n).slot ≡ k → (message plan n).share < m → IsMessage plan s n (message plan n).share
+  message_is : (k n : ℕ) (y : Key) → k < slots w.plan s → n < length (messages plan) → (message plan n).slot ≡ k → (message plan n).share < m → IsMessage plan s n (message plan n).share
   message_is k n y lk ln e li = record { number = ln; share = li; slot = omega (arith, lk, e) }
 
   -- rows after an input slot
@@ -138,7 +138,7 @@ module _ (w : World) (h' : IsPlan w.plan) (got : Key → ℕ) (s p : ℕ) (ls : 
   ]
 
   inputs_before : (v : ℕ) → v ≤ length (owners x) → deals_before plan p s v ≡ total v (λ u. if nat_eq (owner u) p then 1 else 0)
-  inputs_before v lv = total_eq v _ _ (λ u lu. ap (λ z. if deals_in plan x p z then 1 else 0) (slot_input x u (omega (arith, lu, lv))))
+  inputs_before v lv = total_eq v _ _ (λ u lu. ap (λ z. if deals_in plan s p z then 1 else 0) (slot_input x u (omega (arith, lu, lv))))
 
   start_input : (v i : ℕ) → v < length (owners x) → owner v ≡ p → run.start v i ≡ dealt (scheme plan) (input_of w s v) (tape_word w s v p) i
   start_input v i lv e = cond-true (nat_lt v (length (owners x))) _ 0 (lt-ltb v (length (owners x)) lv) ∙ cond-true (nat_eq (owner v) p) _ _ (eq-eqb (owner v) p e)
@@ -172,18 +172,18 @@ module _ (w : World) (h' : IsPlan w.plan) (got : Key → ℕ) (s p : ℕ) (ls : 
 
   input_slot : (v : ℕ) → v < length (owners x) → (σ : State) → InInputs v σ → Leaves good l (slot_program plan p s v) (InInputs (suc v)) σ
   input_slot v lv σ h =
-      let at : slot x v ≡ Input v = slot_input x v lv in
-      let lk : v < slots x = omega arith in
+      let at : slot w.plan s v ≡ Input v = slot_input x v lv in
+      let lk : v < slots w.plan s = omega arith in
       let d : ℕ = deals_before plan p s v in
       let ns : List ℕ = filter (to plan p) (numbers plan s v) in
       let proper : AllByRecursion (λ n. IsMessage plan s n (message plan n).share) ns = every_filter _ _ (to plan p) (numbers plan s v) (input_numbers v lv) (λ n f e. message_is v n no lk f.0 (ap (λ z. z.slot) f.1.0) f.1.1) in
-      let slot_is : (n : ℕ) → In v (FromOwner v) n → slot_of plan s n ≡ Input v = λ n f. ap (λ z. slot x z.slot) f.1.0 ∙ at in
+      let slot_is : (n : ℕ) → In v (FromOwner v) n → slot_of plan s n ≡ Input v = λ n f. ap (λ z. slot w.plan s z.slot) f.1.0 ∙ at in
       subst (λ z. Leaves good l (opening plan p s v z ++ posts plan p s v ++ takes plan p s v ++ closing plan p s v z) (InInputs (suc v)) σ) (sym at)
       (elim (cases_eq (owner v) p) [
         | inl e ↦
             let σ1 : State = dealt_in plan (word_of l σ.deals) (slice_index l.inputs σ.deals) (Input v) σ in
             let is : next l (Deal v d) σ ≡ σ1 = ap (λ z. dealt_in plan (word_of l σ.deals) (slice_index l.inputs σ.deals) z σ) at in
-            let deals' : deals_in plan x p (slot x v) ≡ true = ap (deals_in plan x p) at ∙ eq-eqb (owner v) p e in
+            let deals' : deals_in plan s p (slot w.plan s v) ≡ true = ap (deals_in plan s p) at ∙ eq-eqb (owner v) p e in
             let new : ℕ → ℕ = dealt (scheme plan) (slice_index l.inputs σ.deals) (word_of l σ.deals) in
             let dealt' : (i : ℕ) → σ1.rows v i ≡ run.start v i = λ i. ap (λ f. f i) (set_here σ.rows v v new refl) ∙ ap (λ z. dealt (scheme plan) (slice_index l.inputs z) (word_of l z) i) h.deals
             ∙ dealt_eq (scheme plan) (slice_index l.inputs d) (word_of l d) (tape_word w s v p) i (λ j lj. words_are v lk deals' j lj) ∙ sym (start_own v i lv e) in
@@ -211,7 +211,7 @@ module _ (w : World) (h' : IsPlan w.plan) (got : Key → ℕ) (s p : ℕ) (ls : 
             let g : ℕ → ℕ = λ i. got (key v i (owner v) p) in
             let row : RowOf l v ns g σ (after_all l (takes plan p s v) σ) = takes_row l v ns g σ (every_filter _ _ (to plan p) (numbers plan s v) (input_numbers v lv) (λ n f e. (slot_is n f, ap got (f.1.0 ∙ ap (λ r. key v (message plan n).share (owner v) r) (eqb-true _ _ e))))) in
             let has : (i : ℕ) → i < m → holds plan p i ≡ true → Has plan i ns = λ i li held. any_number plan p i (numbers plan s v) (subst (Any p i) (sym (keys_are plan s v ls lk)) (subst (λ z. Any p i (slot_messages plan s v z)) (sym at) (deal_any plan s v (owner v) p i lp li (λ z. ne (sym z)) held))) in
-            let no_deal : deals_in plan x p (slot x v) ≡ false = ap (deals_in plan x p) at ∙ ne_eqb (owner v) p ne in
+            let no_deal : deals_in plan s p (slot w.plan s v) ≡ false = ap (deals_in plan s p) at ∙ ne_eqb (owner v) p ne in
             subst (λ ys. Leaves good l (ys ++ posts plan p s v ++ takes plan p s v ++ []) (InInputs (suc v)) σ) (sym (cond-false (nat_eq (owner v) p) (Deal v d ∷ []) [] (ne_eqb (owner v) p ne)))
             (exchanged v (InInputs (suc v)) σ
             (every_filter _ _ (from plan p) (numbers plan s v) (input_numbers v lv) (λ n f e. absurd (ne (sym (ap (λ z. z.sender) f.1.0) ∙ eqb-true _ _ e))))
@@ -238,10 +238,10 @@ module _ (w : World) (h' : IsPlan w.plan) (got : Key → ℕ) (s p : ℕ) (ls : 
   slot_k t = length (owners x) + t
 
   abbrev FromDealer : ℕ → Key → Type 0
-  FromDealer t y = (y ≡ key (slot_k t) y.share y.sender y.receiver) × (y.share < m) × (y.receiver ≢ y.sender) × (deals_in plan x y.sender (At_gate t) ≡ true)
+  FromDealer t y = (y ≡ key (slot_k t) y.share y.sender y.receiver) × (y.share < m) × (y.receiver ≢ y.sender) × (deals_in plan s y.sender (At_gate t) ≡ true)
 
   from_dealer : (t : ℕ) → AllByRecursion (FromDealer t) (slot_messages plan s (slot_k t) (At_gate t))
-  from_dealer t = every_joined (FromDealer t) plan.parties _ (λ d ld. every_only_if (FromDealer t) (deals_in plan x d (At_gate t)) _ (λ deals'.
+  from_dealer t = every_joined (FromDealer t) plan.parties _ (λ d ld. every_only_if (FromDealer t) (deals_in plan s d (At_gate t)) _ (λ deals'.
       every_joined (FromDealer t) m _ (λ i li. every_joined (FromDealer t) plan.parties _ (λ r lr. every_only_if (FromDealer t) (not (nat_eq r d) && holds plan r i) (key (slot_k t) i d r ∷ []) (λ e. ((refl, li, other_of r d (holds plan r i) e, deals'), tt))))))
 
   gate_numbers : (t : ℕ) → t < length x.gates → AllByRecursion (In (slot_k t) (FromDealer t)) (numbers plan s (slot_k t))
@@ -262,21 +262,21 @@ module _ (w : World) (h' : IsPlan w.plan) (got : Key → ℕ) (s p : ℕ) (ls : 
   linear_slot t lt linear σ h =
       let k : ℕ = slot_k t in
       let g : Gate = gate x t in
-      let at : slot x k ≡ At_gate t = slot_gate x t lt in
-      let lk : k < slots x = omega arith in
-      let no_deals : (d : ℕ) → deals_in plan x d (At_gate t) ≡ false = λ d. ap (λ z. z && has_pair (scheme plan) d) linear in
-      let none : (test : ℕ → Bool) → AllByRecursion (λ n. ⊥) (filter test (numbers plan s k)) = λ test. every_filter _ _ test (numbers plan s k) (gate_numbers t lt) (λ n f e. both_ways (deals_in plan x (message plan n).sender (At_gate t)) (no_deals (message plan n).sender) f.1.3) in
-      let any : (F : ℕ → Type 0) (test : ℕ → Bool) → AllByRecursion F (filter test (numbers plan s k)) = λ F test. every_filter _ _ test (numbers plan s k) (gate_numbers t lt) (λ n f e. absurd (both_ways (deals_in plan x (message plan n).sender (At_gate t)) (no_deals (message plan n).sender) f.1.3)) in
+      let at : slot w.plan s k ≡ At_gate t = slot_gate x t lt in
+      let lk : k < slots w.plan s = omega arith in
+      let no_deals : (d : ℕ) → deals_in plan s d (At_gate t) ≡ false = λ d. ap (λ z. z && has_pair (scheme plan) d) linear in
+      let none : (test : ℕ → Bool) → AllByRecursion (λ n. ⊥) (filter test (numbers plan s k)) = λ test. every_filter _ _ test (numbers plan s k) (gate_numbers t lt) (λ n f e. both_ways (deals_in plan s (message plan n).sender (At_gate t)) (no_deals (message plan n).sender) f.1.3) in
+      let any : (F : ℕ → Type 0) (test : ℕ → Bool) → AllByRecursion F (filter test (numbers plan s k)) = λ F test. every_filter _ _ test (numbers plan s k) (gate_numbers t lt) (λ n f e. absurd (both_ways (deals_in plan s (message plan n).sender (At_gate t)) (no_deals (message plan n).sender) f.1.3)) in
       let τ : State = computed (2 ^ plan.bits) g σ in
       let is : next l (Linear k) σ ≡ τ = ap (λ z. computed (2 ^ plan.bits) (gate_in_slot x z) σ) at in
       let after' : InGates (suc t) τ = record {
         rows = rows_set σ.rows (summands run t) g.output _ (gate_summands run t (summands run t g.first) (summands run t g.second)) h.rows
             (λ i li held. ap₂ (local (2 ^ plan.bits) g.operation g.constant i) (h.rows g.first i li held) (h.rows g.second i li held) ∙ sym (cond-false (is_product g.operation) _ _ linear));
         sums = h.sums;
-        deals = h.deals ∙ sym (deal_none k (ap (deals_in plan x p) at ∙ no_deals p)) ∙ (let same : suc k ≡ length (owners x) + suc t = omega arith in ap (deals_before plan p s) same);
+        deals = h.deals ∙ sym (deal_none k (ap (deals_in plan s p) at ∙ no_deals p)) ∙ (let same : suc k ≡ length (owners x) + suc t = omega arith in ap (deals_before plan p s) same);
       } in
       subst (λ z. Leaves good l (opening plan p s k z ++ posts plan p s k ++ takes plan p s k ++ closing plan p s k z) (InGates (suc t)) σ) (sym at)
-      (subst (λ ys. Leaves good l (ys ++ posts plan p s k ++ takes plan p s k ++ closing plan p s k (At_gate t)) (InGates (suc t)) σ) (sym (cond-false (deals_in plan x p (At_gate t)) (Own k ∷ Deal k (deals_before plan p s k) ∷ []) [] (no_deals p)))
+      (subst (λ ys. Leaves good l (ys ++ posts plan p s k ++ takes plan p s k ++ closing plan p s k (At_gate t)) (InGates (suc t)) σ) (sym (cond-false (deals_in plan s p (At_gate t)) (Own k ∷ Deal k (deals_before plan p s k) ∷ []) [] (no_deals p)))
       (subst (λ b. Leaves good l ([] ++ posts plan p s k ++ takes plan p s k ++ (only_if b (Sum k ∷ []) ++ only_if (not b) (Linear k ∷ []))) (InGates (suc t)) σ) (sym linear)
       (exchanged k (λ τ. τ ≡ σ) σ (any _ (from plan p)) (any _ (to plan p)) (none_taken (filter (to plan p) (numbers plan s k)) σ (none (to plan p))) [] (InGates (suc t)) σ (tt, refl) (Linear k ∷ [])
       (λ ρ e. subst (Leaves good l (Linear k ∷ []) (InGates (suc t))) (sym e) (((record { slot = lk; kind = subst IsGate (sym at) tt }, tt), tt), subst (InGates (suc t)) (sym is) after')))))
@@ -288,10 +288,10 @@ module _ (w : World) (h' : IsPlan w.plan) (got : Key → ℕ) (s p : ℕ) (ls : 
     abbrev g : Gate
     g = gate x t
 
-    at : slot x k ≡ At_gate t
+    at : slot w.plan s k ≡ At_gate t
     at = slot_gate x t lt
 
-    lk : k < slots x
+    lk : k < slots w.plan s
     lk = omega (arith, lt)
 
     abbrev mine : ℕ → ℕ
@@ -303,7 +303,7 @@ module _ (w : World) (h' : IsPlan w.plan) (got : Key → ℕ) (s p : ℕ) (ls : 
     abbrev ns : List ℕ
     ns = filter (to plan p) (numbers plan s k)
 
-    deals_is : (d : ℕ) → deals_in plan x d (At_gate t) ≡ has_pair (scheme plan) d
+    deals_is : (d : ℕ) → deals_in plan s d (At_gate t) ≡ has_pair (scheme plan) d
     deals_is d = ap (λ b. b && has_pair (scheme plan) d) prod
 
     others : ℕ → ℕ → ℕ
@@ -315,8 +315,8 @@ module _ (w : World) (h' : IsPlan w.plan) (got : Key → ℕ) (s p : ℕ) (ls : 
         tally_is l got p i (numbers plan s k) (λ n. refl)
         ∙ ap (key_tally got p i) (keys_are plan s k ls lk)
         ∙ ap (λ z. key_tally got p i (slot_messages plan s k z)) at
-        ∙ key_tally-joined got p i plan.parties (λ d. only_if (deals_in plan x d (At_gate t)) (deal_messages plan s k d))
-        ∙ total_eq plan.parties _ _ (λ d ld. key_tally-only_if got p i (deals_in plan x d (At_gate t)) (deal_messages plan s k d)
+        ∙ key_tally-joined got p i plan.parties (λ d. only_if (deals_in plan s d (At_gate t)) (deal_messages plan s k d))
+        ∙ total_eq plan.parties _ _ (λ d ld. key_tally-only_if got p i (deals_in plan s d (At_gate t)) (deal_messages plan s k d)
         ∙ ap₂ (λ b z. if b then z else 0) (deals_is d) (deal_tally plan got s k p i lp li held d))
 
     sums : (i : ℕ) → i < m → holds plan p i ≡ true → (begun i + tally l i ns) % 2 ^ plan.bits ≡ run.product t (summands run t g.first) (summands run t g.second) i
@@ -339,7 +339,7 @@ module _ (w : World) (h' : IsPlan w.plan) (got : Key → ℕ) (s p : ℕ) (ls : 
     product_rest : (σ2 : State) → σ2.rows ≡ σ.rows → ((i : ℕ) → i < m → σ2.sums i ≡ begun i % 2 ^ plan.bits) → (has_pair (scheme plan) p ≡ true → (i : ℕ) → σ2.sums i ≡ mine i) → σ2.deals ≡ deals_before plan p s (suc k)
         → Leaves good l (opening plan p s k (At_gate t)) (λ τ. τ ≡ σ2) σ → Leaves good l (slot_program plan p s k) (InGates (suc t)) σ
     product_rest σ2 rows begin mine' deals' opens =
-        let slot_is : (n : ℕ) → In k (FromDealer t) n → slot_of plan s n ≡ At_gate t = λ n f. ap (λ z. slot x z.slot) f.1.0 ∙ at in
+        let slot_is : (n : ℕ) → In k (FromDealer t) n → slot_of plan s n ≡ At_gate t = λ n f. ap (λ z. slot w.plan s z.slot) f.1.0 ∙ at in
         let τ : State = after_all l (takes plan p s k) σ2 in
         let took : SumsOf m (2 ^ plan.bits) σ2 τ (λ i. begun i + tally l i ns) = takes_sums l m (At_gate t) ns σ2 begun tt (every_filter _ _ (to plan p) (numbers plan s k) (gate_numbers t lt) (λ n f e. slot_is n f)) begin in
         let done : State = summed g τ in
@@ -358,7 +358,7 @@ module _ (w : World) (h' : IsPlan w.plan) (got : Key → ℕ) (s p : ℕ) (ls : 
           message_is k n no lk f.0 (ap (λ z. z.slot) f.1.0) f.1.1,
           (let sender : (message plan n).sender ≡ p = eqb-true _ _ e in (
             sender,
-            ap (λ z. posted x z (message plan n).share σ2) (slot_is n f) ∙ mine' (sym (deals_is p) ∙ ap (λ z. deals_in plan x z (At_gate t)) (sym sender) ∙ f.1.3) (message plan n).share
+            ap (λ z. posted x z (message plan n).share σ2) (slot_is n f) ∙ mine' (sym (deals_is p) ∙ ap (λ z. deals_in plan s z (At_gate t)) (sym sender) ∙ f.1.3) (message plan n).share
                 ∙ sym (ap (local_word w got p) f.1.0 ∙ ap (local_word_in w got p (key k (message plan n).share (message plan n).sender (message plan n).receiver)) at),
           )),
         )))
@@ -377,7 +377,7 @@ module _ (w : World) (h' : IsPlan w.plan) (got : Key → ℕ) (s p : ℕ) (ls : 
         let d : ℕ = deals_before plan p s k in
         elim (cases_Bool (has_pair (scheme plan) p)) [
           | inl has ↦
-              let deals' : deals_in plan x p (slot x k) ≡ true = ap (deals_in plan x p) at ∙ deals_is p ∙ has in
+              let deals' : deals_in plan s p (slot w.plan s k) ≡ true = ap (deals_in plan s p) at ∙ deals_is p ∙ has in
               let σ1 : State = multiplied plan p g σ in
               let is1 : next l (Own k) σ ≡ σ1 = ap (λ z. multiplied plan p (gate_in_slot x z) σ) at in
               let σ2 : State = dealt_in plan (word_of l σ.deals) (slice_index l.inputs σ.deals) (At_gate t) σ1 in
@@ -388,14 +388,14 @@ module _ (w : World) (h' : IsPlan w.plan) (got : Key → ℕ) (s p : ℕ) (ls : 
               (λ i li. same i ∙ sym (ap (λ z. z % 2 ^ plan.bits) (begun_is i) ∙ mod-eq_of_lt (dealt_small (scheme plan) (own_value run t p) (tape_word w s k p) i positive (small k))))
               (λ yes' i. same i)
               (ap (λ z. z + 1) h.deals ∙ sym (deal_more k deals'))
-              (subst (λ ys. Leaves good l ys (λ τ. τ ≡ σ2) σ) (sym (cond-true (deals_in plan x p (At_gate t)) (Own k ∷ Deal k d ∷ []) [] (deals_is p ∙ has)))
+              (subst (λ ys. Leaves good l ys (λ τ. τ ≡ σ2) σ) (sym (cond-true (deals_in plan s p (At_gate t)) (Own k ∷ Deal k d ∷ []) [] (deals_is p ∙ has)))
               (((record { slot = lk; kind = subst IsGate (sym at) tt }, tt), ((record { slot = lk; kind = subst Deals (sym at) tt }, (ap (λ τ. τ.deals) is1 ∙ h.deals, lk, deals')), tt)), is2))
           | inr no' ↦
               product_rest σ refl
               (λ i li. h.sums i li ∙ sym (ap (λ z. z % 2 ^ plan.bits) (cond-false (has_pair (scheme plan) p) (mine i) 0 no') ∙ mod-eq_of_lt positive))
               (λ yes' i. absurd (both_ways (has_pair (scheme plan) p) no' yes'))
-              (h.deals ∙ sym (deal_none k (ap (deals_in plan x p) at ∙ deals_is p ∙ no')))
-              (subst (λ ys. Leaves good l ys (λ τ. τ ≡ σ) σ) (sym (cond-false (deals_in plan x p (At_gate t)) (Own k ∷ Deal k d ∷ []) [] (deals_is p ∙ no'))) (tt, refl))
+              (h.deals ∙ sym (deal_none k (ap (deals_in plan s p) at ∙ deals_is p ∙ no')))
+              (subst (λ ys. Leaves good l ys (λ τ. τ ≡ σ) σ) (sym (cond-false (deals_in plan s p (At_gate t)) (Own k ∷ Deal k d ∷ []) [] (deals_is p ∙ no'))) (tt, refl))
         ]
 
   -- ---- output slots
@@ -416,10 +416,10 @@ module _ (w : World) (h' : IsPlan w.plan) (got : Key → ℕ) (s p : ℕ) (ls : 
     abbrev ko : ℕ
     ko = out_k o
 
-    ato : slot x ko ≡ Output o
+    ato : slot w.plan s ko ≡ Output o
     ato = slot_output x o
 
-    lko : ko < slots x
+    lko : ko < slots w.plan s
     lko = omega (arith, lo)
 
     abbrev mask : ℕ
@@ -471,7 +471,7 @@ module _ (w : World) (h' : IsPlan w.plan) (got : Key → ℕ) (s p : ℕ) (ls : 
           message_is ko n no lko f.0 (ap (λ z. z.slot) f.1.0) f.1.1,
           (
             eqb-true _ _ e,
-            ap (λ z. posted x z i σ) (ap (λ z. slot x z.slot) f.1.0 ∙ ato)
+            ap (λ z. posted x z i σ) (ap (λ z. slot w.plan s z.slot) f.1.0 ∙ ato)
                 ∙ h.rows (output_wire x o) i f.1.1 (subst (λ z. holds plan z i ≡ true) sender (least_holds plan h' i f.1.1))
                 ∙ sym (ap (local_word w got p) f.1.0 ∙ ap (local_word_in w got p (key ko i (least_holder plan i) (message plan n).receiver)) ato),
           ),
@@ -487,14 +487,14 @@ module _ (w : World) (h' : IsPlan w.plan) (got : Key → ℕ) (s p : ℕ) (ls : 
     τo = after_all l (takes plan p s ko) σ
 
     next_deals : deals_before plan p s (out_k o) ≡ deals_before plan p s (out_k (suc o))
-    next_deals = sym (deal_none ko (ap (deals_in plan x p) ato)) ∙ (let same : suc ko ≡ out_k (suc o) = omega arith in ap (deals_before plan p s) same)
+    next_deals = sym (deal_none ko (ap (deals_in plan s p) ato)) ∙ (let same : suc ko ≡ out_k (suc o) = omega arith in ap (deals_before plan p s) same)
 
     output_slot : Leaves good l (slot_program plan p s ko) (InOutputs (suc o)) σ
     output_slot =
         subst (λ z. Leaves good l (opening plan p s ko z ++ posts plan p s ko ++ takes plan p s ko ++ closing plan p s ko z) (InOutputs (suc o)) σ) (sym ato)
         (elim (cases_Bool (has_party mask p)) [
           | inl reads ↦
-              let took : SumsOf m (2 ^ plan.bits) σ τo (λ i. 0 + tally l i nso) = takes_sums l m (Output o) nso σ (λ i. 0) tt (every_filter _ _ (to plan p) (numbers plan s ko) out_numbers (λ n f e. ap (λ z. slot x z.slot) f.1.0 ∙ ato)) (λ i li. h.sums i li ∙ sym (mod-eq_of_lt positive)) in
+              let took : SumsOf m (2 ^ plan.bits) σ τo (λ i. 0 + tally l i nso) = takes_sums l m (Output o) nso σ (λ i. 0) tt (every_filter _ _ (to plan p) (numbers plan s ko) out_numbers (λ n f e. ap (λ z. slot w.plan s z.slot) f.1.0 ∙ ato)) (λ i li. h.sums i li ∙ sym (mod-eq_of_lt positive)) in
               let done : State = delivered plan p (output_wire x o) o τo in
               let is : next l (Deliver ko) τo ≡ done = ap (λ z. delivered plan p (output_wire x (output_in_slot z)) (output_in_slot z) τo) ato in
               let sum : opened plan p (τo.rows (output_wire x o)) τo.sums ≡ local_output w got p s o = mods_of_same (total_same (2 ^ plan.bits) m _ _ (λ i li. elim (cases_Bool (holds plan p i)) [

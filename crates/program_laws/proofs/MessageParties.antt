@@ -44,11 +44,11 @@ module _ (plan : Plan) (h : IsPlan plan) (s k : ℕ) where
 
   of_slot : (z : Slot) → ((v : ℕ) → z ≡ Input v → slice_index (owners (session plan s)) v < plan.parties) → AllByRecursion Between (slot_messages plan s k z)
   of_slot (Input v) owned = of_deal (slice_index (owners (session plan s)) v) (owned v refl)
-  of_slot (At_gate t) owned = every_joined Between plan.parties _ (λ p lp. every_only_if Between (deals_in plan (session plan s) p (At_gate t)) _ (λ e. of_deal p lp))
+  of_slot (At_gate t) owned = every_joined Between plan.parties _ (λ p lp. every_only_if Between (deals_in plan s p (At_gate t)) _ (λ e. of_deal p lp))
   of_slot (Output o) owned = every_joined Between plan.parties _ (λ r lr. every_only_if Between (has_party (slice_index (readers (session plan s)) o) r) _ (λ e. of_opening r lr))
 
 -- an input slot is of an input wire
-input_there : (plan : Plan) (s k v : ℕ) → OwnersAreParties plan → s < length plan.sessions → k < slots (session plan s) → slot (session plan s) k ≡ Input v → slice_index (owners (session plan s)) v < plan.parties
+input_there : (plan : Plan) (s k v : ℕ) → OwnersAreParties plan → s < length plan.sessions → k < slots plan s → slot plan s k ≡ Input v → slice_index (owners (session plan s)) v < plan.parties
 input_there plan s k v owned ls lk = slot_cases (session plan s) (λ k z. z ≡ Input v → slice_index (owners (session plan s)) v < plan.parties)
     (λ u lu e. let same : u ≡ v = cc in subst (λ z. slice_index (owners (session plan s)) z < plan.parties) same (owned s u ls lu))
     (λ t lt e. absurd (cc)) (λ o lo e. absurd (cc)) k lk
@@ -58,5 +58,5 @@ between plan n h owned l =
     let s : ℕ = (message plan n).session in
     let k : ℕ = (message plan n).slot in
     let here = there plan n l in
-    let all = of_slot plan h s k (slot (session plan s) k) (λ v e. input_there plan s k v owned here.session_within here.slot_within e) in
-    subst (IsBetweenParties plan) here.is (every_place (IsBetweenParties plan) (slot_messages plan s k (slot (session plan s) k)) here.place no_key all here.place_within)
+    let all = of_slot plan h s k (slot plan s k) (λ v e. input_there plan s k v owned here.session_within here.slot_within e) in
+    subst (IsBetweenParties plan) here.is (every_place (IsBetweenParties plan) (slot_messages plan s k (slot plan s k)) here.place no_key all here.place_within)

@@ -125,7 +125,7 @@ does false plan p n = to plan p n
 module _ (b : Bool) (plan : Plan) (p s : ℕ) where
   opening_silent : (k : ℕ) (z : Slot) → AllByRecursion (λ x. named b x ≡ None) (opening plan p s k z)
   opening_silent k (Input v) = every_only_if _ _ (Deal k (deals_before plan p s k) ∷ []) (λ e. (refl, tt))
-  opening_silent k (At_gate t) = every_only_if _ (deals_in plan (session plan s) p (At_gate t)) (Own k ∷ Deal k (deals_before plan p s k) ∷ []) (λ e. (refl, (refl, tt)))
+  opening_silent k (At_gate t) = every_only_if _ (deals_in plan s p (At_gate t)) (Own k ∷ Deal k (deals_before plan p s k) ∷ []) (λ e. (refl, (refl, tt)))
   opening_silent k (Output o) = tt
 
   closing_silent : (k : ℕ) (z : Slot) → AllByRecursion (λ x. named b x ≡ None) (closing plan p s k z)
@@ -143,20 +143,20 @@ module _ (plan : Plan) (p s : ℕ) where
       let lo : ℕ = first plan s k in
       let hi : ℕ = first plan s k + count plan s k in
       let rises = rises_append true (from plan p) in
-      rises lo hi hi _ (closing plan p s k (slot (session plan s) k))
+      rises lo hi hi _ (closing plan p s k (slot plan s k))
       (rises lo hi hi _ (takes plan p s k)
-      (rises lo lo hi _ (posts plan p s k) (silent true (from plan p) lo _ (opening_silent true plan p s k (slot (session plan s) k))) (kept true (from plan p) (post plan) (λ n. refl) lo (count plan s k)))
+      (rises lo lo hi _ (posts plan p s k) (silent true (from plan p) lo _ (opening_silent true plan p s k (slot plan s k))) (kept true (from plan p) (post plan) (λ n. refl) lo (count plan s k)))
       (silent true (from plan p) hi _ (all_silent true (take_of plan) (filter (to plan p) (numbers plan s k)) (λ n. refl))))
-      (silent true (from plan p) hi _ (closing_silent true plan p s k (slot (session plan s) k)))
+      (silent true (from plan p) hi _ (closing_silent true plan p s k (slot plan s k)))
   slot_rises false k =
       let lo : ℕ = first plan s k in
       let hi : ℕ = first plan s k + count plan s k in
       let rises = rises_append false (to plan p) in
-      rises lo hi hi _ (closing plan p s k (slot (session plan s) k))
+      rises lo hi hi _ (closing plan p s k (slot plan s k))
       (rises lo lo hi _ (takes plan p s k)
-      (rises lo lo lo _ (posts plan p s k) (silent false (to plan p) lo _ (opening_silent false plan p s k (slot (session plan s) k))) (silent false (to plan p) lo _ (all_silent false (post plan) (filter (from plan p) (numbers plan s k)) (λ n. refl))))
+      (rises lo lo lo _ (posts plan p s k) (silent false (to plan p) lo _ (opening_silent false plan p s k (slot plan s k))) (silent false (to plan p) lo _ (all_silent false (post plan) (filter (from plan p) (numbers plan s k)) (λ n. refl))))
       (kept false (to plan p) (take_of plan) (λ n. refl) lo (count plan s k)))
-      (silent false (to plan p) hi _ (closing_silent false plan p s k (slot (session plan s) k)))
+      (silent false (to plan p) hi _ (closing_silent false plan p s k (slot plan s k)))
 
   slots_rise : (b : Bool) (n : ℕ) → Rises b (does b plan p) (total s (session_count plan)) (first plan s n) (joined n (slot_program plan p s))
   slots_rise b zero = omega arith
@@ -167,7 +167,7 @@ module _ (plan : Plan) (p s : ℕ) where
 
   -- from the messages of the sessions before to those of the sessions after
   program_rises : (b : Bool) → Rises b (does b plan p) (total s (session_count plan)) (total (suc s) (session_count plan)) (program plan p s)
-  program_rises b = slots_rise b (slots (session plan s))
+  program_rises b = slots_rise b (slots plan s)
 
 -- a number stands in one session
 one_part : (f : ℕ → ℕ) (s t n : ℕ) → total s f ≤ n → n < total (suc s) f → total t f ≤ n → n < total (suc t) f → t ≡ s
@@ -203,7 +203,7 @@ module _ (plan : Plan) (n : ℕ) (l : n < length (messages plan)) where
       let k : ℕ = key.slot in
       let part : ℕ → List Instruction = slot_program plan p s in
       let q : ℕ = length (joined k part) + here.0 in
-      let stands : at (program plan p s) q ≡ kind key.share = ap (λ z. at (program plan p s) (z + here.0)) (length-joined k part) ∙ joined_place End (slots (session plan s)) k part here.0 there.slot_within here.1 ∙ here.2 in
+      let stands : at (program plan p s) q ≡ kind key.share = ap (λ z. at (program plan p s) (z + here.0)) (length-joined k part) ∙ joined_place End (slots plan s) k part here.0 there.slot_within here.1 ∙ here.2 in
       let place : named b (at (program plan p s) q) ≡ Some n = ap (named b) stands ∙ names key.share in
       let mine = bounds b (does b plan p) _ _ (program plan p s) q n (program_rises plan p s b) place in
       record {
@@ -229,10 +229,10 @@ module _ (plan : Plan) (n : ℕ) (l : n < length (messages plan)) where
         session_there = there.session_within;
         slot_there = there.slot_within;
         posted = stands_once true (Post n) p (λ i. refl) (λ x e. sym (eqb-true p x e))
-            (contains_left _ (closing plan p s k (slot (session plan s) k)) (post plan n)
+            (contains_left _ (closing plan p s k (slot plan s k)) (post plan n)
             (contains_left _ (takes plan p s k) (post plan n)
-            (contains_right (opening plan p s k (slot (session plan s) k)) (posts plan p s k) (post plan n) (kept_here (post plan) (from plan p) (eq-eqb p p refl)))));
+            (contains_right (opening plan p s k (slot plan s k)) (posts plan p s k) (post plan n) (kept_here (post plan) (from plan p) (eq-eqb p p refl)))));
         taken = stands_once false (Take n) r (λ i. refl) (λ x e. sym (eqb-true r x e))
-            (contains_left _ (closing plan r s k (slot (session plan s) k)) (take_of plan n)
+            (contains_left _ (closing plan r s k (slot plan s k)) (take_of plan n)
             (contains_right _ (takes plan r s k) (take_of plan n) (kept_here (take_of plan) (to plan r) (eq-eqb r r refl))));
       }

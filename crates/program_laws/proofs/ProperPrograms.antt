@@ -20,7 +20,7 @@ use Rattle.share_world.specs.Worlds.{World}
 use Rattle.party_program.specs.declared.program.Instruction.{Instruction}
 use Rattle.party_program.specs.declared.program.Instruction.TheVariants.{Deal, Post, Take, Linear, Own, Sum, Deliver, End}
 use Rattle.party_program.specs.Programs.{program, at}
-use Rattle.party_program.specs.States.{Given, State, new_state, state, after, dealt_in, took_in, slot_at, slot_of}
+use Rattle.party_program.specs.States.{Given, State, new_state, state, after, dealt_in, took_in, slot_of}
 use Rattle.party_program.specs.Proper.{Proper, CanDealIn, HasInput}
 use Rattle.party_program.specs.Suiting.{Suits, inputs_of}
 use Rattle.party_program.proofs.InstructionLists.{along_at, state_is}
@@ -40,7 +40,7 @@ took_same q (At_gate t) i x y σ τ e = e
 took_same q (Output o) i x y σ τ e = e
 
 after_same : (plan : Plan) (p s : ℕ) (f g : ℕ → ℕ) (x y : ℕ) (got had : ℕ → ℕ) (e : Instruction) (σ τ : State) → σ.deals ≡ τ.deals → (after plan p s f x got e σ).deals ≡ (after plan p s g y had e τ).deals
-after_same plan p s f g x y got had (Deal k d) σ τ h = dealt_same plan f g x y (slot_at plan s k) σ τ h
+after_same plan p s f g x y got had (Deal k d) σ τ h = dealt_same plan f g x y (slot plan s k) σ τ h
 after_same plan p s f g x y got had (Post n i) σ τ h = h
 after_same plan p s f g x y got had (Take n i) σ τ h = took_same (2 ^ plan.bits) (slot_of plan s n) i (got n) (had n) σ τ h
 after_same plan p s f g x y got had (Linear k) σ τ h = h
@@ -96,11 +96,11 @@ module _ (plan : Plan) (h : IsSound plan) (s p : ℕ) (ls : s < length plan.sess
       at_most false = omega arith
 
   module _ (inputs tape : List ℕ) (got : ℕ → ℕ) (many : length inputs ≡ inputs_of plan p s) (long : length tape ≡ words plan p s) where
-    has_input : (k : ℕ) → k < slots (session plan s) → deals_in plan (session plan s) p (slot (session plan s) k) ≡ true → HasInput (given plan p s inputs tape got) (slot (session plan s) k) (deals_before plan p s k)
-    has_input = slot_cases (session plan s) (λ k z. deals_in plan (session plan s) p z ≡ true → HasInput (given plan p s inputs tape got) z (deals_before plan p s k))
+    has_input : (k : ℕ) → k < slots plan s → deals_in plan s p (slot plan s k) ≡ true → HasInput (given plan p s inputs tape got) (slot plan s k) (deals_before plan p s k)
+    has_input = slot_cases (session plan s) (λ k z. deals_in plan s p z ≡ true → HasInput (given plan p s inputs tape got) z (deals_before plan p s k))
         (λ v lv yes'.
         let c : ℕ → ℕ = λ v. if nat_eq (slice_index (owners (session plan s)) v) p then 1 else 0 in
-        let before : deals_before plan p s v ≡ total v c = total_eq v _ _ (λ u lu. ap (λ z. if deals_in plan (session plan s) p z then 1 else 0) (slot_input (session plan s) u (omega (arith, lu, lv)))) in
+        let before : deals_before plan p s v ≡ total v c = total_eq v _ _ (λ u lu. ap (λ z. if deals_in plan s p z then 1 else 0) (slot_input (session plan s) u (omega (arith, lu, lv)))) in
         let one : c v ≡ 1 = cond-true (nat_eq (slice_index (owners (session plan s)) v) p) 1 0 yes' in
         let within : total v c + c v ≤ total (length (owners (session plan s))) c = total_within (length (owners (session plan s))) v c lv in
         omega arith)
@@ -117,24 +117,24 @@ module _ (plan : Plan) (h : IsSound plan) (s p : ℕ) (ls : s < length plan.sess
         let m : ℕ = length plan.groups in
         let done : ℕ = (state (given plan p s inputs tape got) q).deals in
         let here : done ≡ deals_before plan p s k = deals_same plan p s inputs (local_given bare none s p).inputs tape (local_given bare none s p).tape got (local_given bare none s p).got q ∙ g.1.0 in
-        let lk : k < slots (session plan s) = g.1.1 in
-        let c : ℕ → ℕ = λ k. if deals_in plan (session plan s) p (slot (session plan s) k) then 1 else 0 in
-        let one : c k ≡ 1 = cond-true (deals_in plan (session plan s) p (slot (session plan s) k)) 1 0 g.1.2 in
-        let within : total k c + c k ≤ total (slots (session plan s)) c = total_within (slots (session plan s)) k c lk in
+        let lk : k < slots plan s = g.1.1 in
+        let c : ℕ → ℕ = λ k. if deals_in plan s p (slot plan s k) then 1 else 0 in
+        let one : c k ≡ 1 = cond-true (deals_in plan s p (slot plan s k)) 1 0 g.1.2 in
+        let within : total k c + c k ≤ total (slots plan s) c = total_within (slots plan s) k c lk in
         let at0 : place plan p s 0 ≡ (m - 1) * (total s (deals plan p) + 0) = places_by_deals plan p s 0 in
-        let all : place plan p s (slots (session plan s)) ≡ (m - 1) * (total s (deals plan p) + deals plan p s) = places_by_deals plan p s (slots (session plan s)) in
-        let piece : place plan p s (slots (session plan s)) ≡ place plan p s 0 + words plan p s = omega arith in
+        let all : place plan p s (slots plan s) ≡ (m - 1) * (total s (deals plan p) + deals plan p s) = places_by_deals plan p s (slots plan s) in
+        let piece : place plan p s (slots plan s) ≡ place plan p s 0 + words plan p s = omega arith in
         let more : (m - 1) * (deals_before plan p s k + 1) ≤ (m - 1) * deals plan p s = mul-le-mul_left (m - 1) (omega arith) in
-        let few : deals_before plan p s k ≤ k = count_below k (λ k. deals_in plan (session plan s) p (slot (session plan s) k)) in
+        let few : deals_before plan p s k ≤ k = count_below k (λ k. deals_in plan s p (slot plan s k)) in
         let sound = h.sessions s ls in
         record {
           words = enough _ _ _ here long more piece at0 all;
           count = (let a = sound.wires in let b = sound.gates in let c = sound.input_wires in let d = sound.output_wires in omega arith);
-          input = subst (HasInput (given plan p s inputs tape got) (slot (session plan s) k)) (sym here) (has_input k lk g.1.2);
+          input = subst (HasInput (given plan p s inputs tape got) (slot plan s k)) (sym here) (has_input k lk g.1.2);
         }
       where
-        enough : (a b t : ℕ) → a ≡ b → t ≡ words plan p s → (length plan.groups - 1) * (b + 1) ≤ (length plan.groups - 1) * deals plan p s → place plan p s (slots (session plan s)) ≡ place plan p s 0 + words plan p s
-            → place plan p s 0 ≡ (length plan.groups - 1) * (total s (deals plan p) + 0) → place plan p s (slots (session plan s)) ≡ (length plan.groups - 1) * (total s (deals plan p) + deals plan p s)
+        enough : (a b t : ℕ) → a ≡ b → t ≡ words plan p s → (length plan.groups - 1) * (b + 1) ≤ (length plan.groups - 1) * deals plan p s → place plan p s (slots plan s) ≡ place plan p s 0 + words plan p s
+            → place plan p s 0 ≡ (length plan.groups - 1) * (total s (deals plan p) + 0) → place plan p s (slots plan s) ≡ (length plan.groups - 1) * (total s (deals plan p) + deals plan p s)
             → a * (length plan.groups - 1) + (length plan.groups - 1) ≤ t
         enough a b t e f g h i j = let x : a * (length plan.groups - 1) ≡ b * (length plan.groups - 1) = ap (λ z. z * (length plan.groups - 1)) e in omega arith
 

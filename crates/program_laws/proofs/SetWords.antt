@@ -26,7 +26,7 @@ use Rattle.job_plan.proofs.SlotMessages.{keys_are, every_filter}
 use Rattle.party_program.specs.declared.program.Instruction.{Instruction}
 use Rattle.party_program.specs.declared.program.Instruction.TheVariants.{Deal, Post, Take, Linear, Own, Sum, Deliver, End}
 use Rattle.party_program.specs.Programs.{program, at, from, to, post, take_of, opening, closing, posts, takes, slot_program}
-use Rattle.party_program.specs.States.{gate_in_slot, output_in_slot, slot_at, slot_of}
+use Rattle.party_program.specs.States.{gate_in_slot, output_in_slot, slot_of}
 use Rattle.party_program.specs.Proper.{Proper, IsSlot, IsGate, IsOutput}
 use Rattle.program_laws.specs.WordsRead.{gate_at, Carries, Sets, Reads, IsSet, IsToRead}
 use Rattle.program_laws.proofs.OncePosted.{there, once}
@@ -106,9 +106,9 @@ module _ (plan : Plan) (sound : IsSound plan) (s p : ℕ) (ls : s < length plan.
       let by = (once plan n it.number).posted in
       let same = by.alone p s q i is in
       let here : IsThere plan (message plan n) (message plan n).session (message plan n).slot = there plan n it.number in
-      let all = every_place (λ y. Sends plan (message plan n).session y.sender (slot (session plan (message plan n).session) (message plan n).slot) y.share) _ here.place no_key (sent plan (is_plan plan sound s ls) (message plan n).session (message plan n).slot (slot (session plan (message plan n).session) (message plan n).slot)) here.place_within in
-      let of_key : Sends plan (message plan n).session (message plan n).sender (slot (session plan (message plan n).session) (message plan n).slot) (message plan n).share = subst (λ y. Sends plan (message plan n).session y.sender (slot (session plan (message plan n).session) (message plan n).slot) y.share) here.is all in
-      let own : Sends plan s p (slot_of plan s n) (message plan n).share = subst (λ z. Sends plan z p (slot (session plan z) (message plan n).slot) (message plan n).share) (sym same.1) (subst (λ z. Sends plan (message plan n).session z (slot (session plan (message plan n).session) (message plan n).slot) (message plan n).share) (sym same.0) of_key) in
+      let all = every_place (λ y. Sends plan (message plan n).session y.sender (slot plan (message plan n).session (message plan n).slot) y.share) _ here.place no_key (sent plan (is_plan plan sound s ls) (message plan n).session (message plan n).slot (slot plan (message plan n).session (message plan n).slot)) here.place_within in
+      let of_key : Sends plan (message plan n).session (message plan n).sender (slot plan (message plan n).session (message plan n).slot) (message plan n).share = subst (λ y. Sends plan (message plan n).session y.sender (slot plan (message plan n).session (message plan n).slot) y.share) here.is all in
+      let own : Sends plan s p (slot_of plan s n) (message plan n).share = subst (λ z. Sends plan z p (slot plan z (message plan n).slot) (message plan n).share) (sym same.1) (subst (λ z. Sends plan (message plan n).session z (slot plan (message plan n).session (message plan n).slot) (message plan n).share) (sym same.0) of_key) in
       let share : Post n i ≡ Post n (message plan n).share = sym is ∙ (λ z. at (program plan (same.0 z) (same.1 z)) (same.2 z)) ∙ by.stands in
       let right : (message plan n).share ≡ i = cc in
       subst (λ z. Sends plan s p (slot_of plan s n) z) right own
@@ -148,20 +148,20 @@ module _ (plan : Plan) (sound : IsSound plan) (s p : ℕ) (ls : s < length plan.
   gate_sets (At_gate t) v h e = is_one (gate x t).output v e
   gate_sets (Output o) v h e = absurd h
 
-  input_sets : (k v : ℕ) → slot x k ≡ Input v → sets x k v ≡ true
+  input_sets : (k v : ℕ) → slot plan s k ≡ Input v → sets x k v ≡ true
   input_sets k v e = subst (λ z. list_any (nat_eq v) (sets_in x z) ≡ true) (sym e) (is_one v v refl)
 
-  sets_of : (e : Instruction) (v i : ℕ) → Proper plan s e → Sets plan s e v i → (named plan e < slots x) × (sets x (named plan e) v ≡ true)
+  sets_of : (e : Instruction) (v i : ℕ) → Proper plan s e → Sets plan s e v i → (named plan e < slots plan s) × (sets x (named plan e) v ≡ true)
   sets_of (Deal k d) v i h e = (h.slot, input_sets k v e)
   sets_of (Own k) v i h e = absurd e
   sets_of (Post n j) v i h e = absurd e
   sets_of (Take n j) v i h e = (h.slot, input_sets (message plan n).slot v e.0)
-  sets_of (Linear k) v i h e = (h.slot, gate_sets (slot_at plan s k) v h.kind e)
-  sets_of (Sum k) v i h e = (h.slot, gate_sets (slot_at plan s k) v h.kind e)
+  sets_of (Linear k) v i h e = (h.slot, gate_sets (slot plan s k) v h.kind e)
+  sets_of (Sum k) v i h e = (h.slot, gate_sets (slot plan s k) v h.kind e)
   sets_of (Deliver k) v i h e = absurd e
   sets_of End v i h e = absurd e
 
-  pub sets_at : (q v i : ℕ) → Sets plan s (at es q) v i → (named plan (at es q) < slots x) × (sets x (named plan (at es q)) v ≡ true)
+  pub sets_at : (q v i : ℕ) → Sets plan s (at es q) v i → (named plan (at es q) < slots plan s) × (sets x (named plan (at es q)) v ≡ true)
   sets_at q v i h = sets_of (at es q) v i (proper q (at es q) refl) h
 
   -- ---- the wire that an instruction reads: one that its slot reads, or else the input that it posts
@@ -169,7 +169,7 @@ module _ (plan : Plan) (sound : IsSound plan) (s p : ℕ) (ls : s < length plan.
   abbrev Reading : Instruction → ℕ → ℕ → Type 0
   Reading e v i =
       ((reads x (named plan e) v ≡ true) × (holds plan p i ≡ true))
-      ⊎ ((slot x (named plan e) ≡ Input v) × (rank plan e ≡ 4 * named plan e + 1) × (slice_index (owners x) v ≡ p))
+      ⊎ ((slot plan s (named plan e) ≡ Input v) × (rank plan e ≡ 4 * named plan e + 1) × (slice_index (owners x) v ≡ p))
 
   post_reads : (n i j v : ℕ) (z : Slot) → slot_of plan s n ≡ z → Carries x z v → i ≡ j → Sends plan s p z j → Reading (Post n j) v i
   post_reads n i j v (Input u) e c same h = inr (e ∙ ap Input (sym c), refl, ap (slice_index (owners x)) c ∙ h)
@@ -187,17 +187,17 @@ module _ (plan : Plan) (sound : IsSound plan) (s p : ℕ) (ls : s < length plan.
   output_reads (At_gate t) v h e = absurd h
   output_reads (Output o) v h e = is_one (output_wire x o) v e
 
-  reads_of : (q : ℕ) (e : Instruction) → at es q ≡ e → (v i : ℕ) → Reads plan p s e v i → (named plan e < slots x) × Reading e v i
+  reads_of : (q : ℕ) (e : Instruction) → at es q ≡ e → (v i : ℕ) → Reads plan p s e v i → (named plan e < slots plan s) × Reading e v i
   reads_of q (Deal k d) is v i h = absurd h
-  reads_of q (Own k) is v i h = let it = proper q (Own k) is in (it.slot, inl (gate_reads (slot_at plan s k) v it.kind h.0, h.1))
+  reads_of q (Own k) is v i h = let it = proper q (Own k) is in (it.slot, inl (gate_reads (slot plan s k) v it.kind h.0, h.1))
   reads_of q (Post n j) is v i h = let it = proper q (Post n j) is in (it.slot, post_reads n i j v (slot_of plan s n) refl h.0 h.1 (sends_own q n j is))
   reads_of q (Take n j) is v i h = absurd h
-  reads_of q (Linear k) is v i h = let it = proper q (Linear k) is in (it.slot, inl (gate_reads (slot_at plan s k) v it.kind h.0, h.1))
+  reads_of q (Linear k) is v i h = let it = proper q (Linear k) is in (it.slot, inl (gate_reads (slot plan s k) v it.kind h.0, h.1))
   reads_of q (Sum k) is v i h = absurd h
-  reads_of q (Deliver k) is v i h = let it = proper q (Deliver k) is in (it.slot, inl (output_reads (slot_at plan s k) v it.kind h.0, h.1))
+  reads_of q (Deliver k) is v i h = let it = proper q (Deliver k) is in (it.slot, inl (output_reads (slot plan s k) v it.kind h.0, h.1))
   reads_of q End is v i h = absurd h
 
-  reads_at : (q v i : ℕ) → Reads plan p s (at es q) v i → (named plan (at es q) < slots x) × Reading (at es q) v i
+  reads_at : (q v i : ℕ) → Reads plan p s (at es q) v i → (named plan (at es q) < slots plan s) × Reading (at es q) v i
   reads_at q v i h = reads_of q (at es q) refl v i h
 
   reads_inside : (q v i : ℕ) → Reads plan p s (at es q) v i → q < length es
@@ -208,7 +208,7 @@ module _ (plan : Plan) (sound : IsSound plan) (s p : ℕ) (ls : s < length plan.
 
   -- no instruction sets two wires
   pub one_wire : (q v w i j : ℕ) → Sets plan s (at es q) v i → Sets plan s (at es q) w j → v ≡ w
-  one_wire q v w i j a b = one_set x (slot x (named plan (at es q))) v w (sets_at q v i a).1 (sets_at q w j b).1
+  one_wire q v w i j a b = one_set x (slot plan s (named plan (at es q))) v w (sets_at q v i a).1 (sets_at q w j b).1
 
   -- ---- own products stand at products
 
@@ -218,12 +218,12 @@ module _ (plan : Plan) (sound : IsSound plan) (s p : ℕ) (ls : s < length plan.
   Multiplies (Output o) = ⊥
 
   abbrev AtProduct : Instruction → Type 0
-  AtProduct (Own k) = Multiplies (slot_at plan s k)
+  AtProduct (Own k) = Multiplies (slot plan s k)
   AtProduct _ = Unit {0}
 
-  opens_right : (k : ℕ) (z : Slot) → slot x k ≡ z → AllByRecursion AtProduct (opening plan p s k z)
+  opens_right : (k : ℕ) (z : Slot) → slot plan s k ≡ z → AllByRecursion AtProduct (opening plan p s k z)
   opens_right k (Input v) e = every_only_if AtProduct (nat_eq (slice_index (owners x) v) p) (Deal k (deals_before plan p s k) ∷ []) (λ t. (tt, tt))
-  opens_right k (At_gate t) e = every_only_if AtProduct (deals_in plan x p (At_gate t)) (Own k ∷ Deal k (deals_before plan p s k) ∷ []) (λ b. (subst Multiplies (sym e) (and_parts (is_product (gate x t).operation) (has_pair (scheme plan) p) b).0, (tt, tt)))
+  opens_right k (At_gate t) e = every_only_if AtProduct (deals_in plan s p (At_gate t)) (Own k ∷ Deal k (deals_before plan p s k) ∷ []) (λ b. (subst Multiplies (sym e) (and_parts (is_product (gate x t).operation) (has_pair (scheme plan) p) b).0, (tt, tt)))
   opens_right k (Output o) e = tt
 
   closes_right : (k : ℕ) (z : Slot) → AllByRecursion AtProduct (closing plan p s k z)
@@ -238,17 +238,17 @@ module _ (plan : Plan) (sound : IsSound plan) (s p : ℕ) (ls : s < length plan.
   passes_right f (n ∷ ns) h = (h n, passes_right f ns h)
 
   all_right : AllByRecursion AtProduct es
-  all_right = every_joined AtProduct (slots x) (slot_program plan p s) (λ k lk.
-      every_append AtProduct _ (closing plan p s k (slot x k))
+  all_right = every_joined AtProduct (slots plan s) (slot_program plan p s) (λ k lk.
+      every_append AtProduct _ (closing plan p s k (slot plan s k))
       (every_append AtProduct _ (takes plan p s k)
-      (every_append AtProduct (opening plan p s k (slot x k)) (posts plan p s k) (opens_right k (slot x k) refl) (passes_right (post plan) (filter (from plan p) (numbers plan s k)) (λ n. tt)))
+      (every_append AtProduct (opening plan p s k (slot plan s k)) (posts plan p s k) (opens_right k (slot plan s k) refl) (passes_right (post plan) (filter (from plan p) (numbers plan s k)) (λ n. tt)))
       (passes_right (take_of plan) (filter (to plan p) (numbers plan s k)) (λ n. tt)))
-      (closes_right k (slot x k)))
+      (closes_right k (slot plan s k)))
 
-  pub own_at : (q k : ℕ) → at es q ≡ Own k → (t : ℕ) × (slot_at plan s k ≡ At_gate t) × (is_product (gate x t).operation ≡ true)
-  own_at q k is = of (slot_at plan s k) refl (subst AtProduct is (at_within AtProduct es q (ended q (Own k) is (λ e. cc)) all_right))
+  pub own_at : (q k : ℕ) → at es q ≡ Own k → (t : ℕ) × (slot plan s k ≡ At_gate t) × (is_product (gate x t).operation ≡ true)
+  own_at q k is = of (slot plan s k) refl (subst AtProduct is (at_within AtProduct es q (ended q (Own k) is (λ e. cc)) all_right))
     where
-      of : (z : Slot) → slot_at plan s k ≡ z → Multiplies z → (t : ℕ) × (slot_at plan s k ≡ At_gate t) × (is_product (gate x t).operation ≡ true)
+      of : (z : Slot) → slot plan s k ≡ z → Multiplies z → (t : ℕ) × (slot plan s k ≡ At_gate t) × (is_product (gate x t).operation ≡ true)
       of (Input v) e h = absurd h
       of (At_gate t) e h = (t, e, h)
       of (Output o) e h = absurd h
@@ -258,20 +258,20 @@ module _ (plan : Plan) (sound : IsSound plan) (s p : ℕ) (ls : s < length plan.
   abbrev Setter : ℕ → ℕ → ℕ → Type 0
   Setter j v i = (e : Instruction) × Contains es e × Sets plan s e v i × (named plan e ≡ j)
 
-  opened : (j : ℕ) (e : Instruction) → j < slots x → Contains (opening plan p s j (slot x j)) e → Contains es e
-  opened j e lj h = contains_joined (slots x) j (slot_program plan p s) e lj (contains_left _ (closing plan p s j (slot x j)) e (contains_left _ (takes plan p s j) e (contains_left (opening plan p s j (slot x j)) (posts plan p s j) e h)))
+  opened : (j : ℕ) (e : Instruction) → j < slots plan s → Contains (opening plan p s j (slot plan s j)) e → Contains es e
+  opened j e lj h = contains_joined (slots plan s) j (slot_program plan p s) e lj (contains_left _ (closing plan p s j (slot plan s j)) e (contains_left _ (takes plan p s j) e (contains_left (opening plan p s j (slot plan s j)) (posts plan p s j) e h)))
 
-  took : (j : ℕ) (e : Instruction) → j < slots x → Contains (takes plan p s j) e → Contains es e
-  took j e lj h = contains_joined (slots x) j (slot_program plan p s) e lj (contains_left _ (closing plan p s j (slot x j)) e (contains_right _ (takes plan p s j) e h))
+  took : (j : ℕ) (e : Instruction) → j < slots plan s → Contains (takes plan p s j) e → Contains es e
+  took j e lj h = contains_joined (slots plan s) j (slot_program plan p s) e lj (contains_left _ (closing plan p s j (slot plan s j)) e (contains_right _ (takes plan p s j) e h))
 
-  closed : (j : ℕ) (e : Instruction) → j < slots x → Contains (closing plan p s j (slot x j)) e → Contains es e
-  closed j e lj h = contains_joined (slots x) j (slot_program plan p s) e lj (contains_right _ (closing plan p s j (slot x j)) e h)
+  closed : (j : ℕ) (e : Instruction) → j < slots plan s → Contains (closing plan p s j (slot plan s j)) e → Contains es e
+  closed j e lj h = contains_joined (slots plan s) j (slot_program plan p s) e lj (contains_right _ (closing plan p s j (slot plan s j)) e h)
 
   only : (b : Bool) (e : Instruction) → b ≡ true → Contains (only_if b (e ∷ [])) e
   only b e is = subst (λ l. Contains l e) (sym (cond-true b (e ∷ []) [] is)) (0, omega arith, refl)
 
   -- the owner of an input deals it
-  pub dealt_in_slot : (j v : ℕ) → j < slots x → slot x j ≡ Input v → slice_index (owners x) v ≡ p → Contains es (Deal j (deals_before plan p s j))
+  pub dealt_in_slot : (j v : ℕ) → j < slots plan s → slot plan s j ≡ Input v → slice_index (owners x) v ≡ p → Contains es (Deal j (deals_before plan p s j))
   dealt_in_slot j v lj e own =
       let d : Instruction = Deal j (deals_before plan p s j) in
       opened j d lj (subst (λ z. Contains (opening plan p s j z) d) (sym e) (only (nat_eq (slice_index (owners x) v) p) d (eq-eqb (slice_index (owners x) v) p own)))
@@ -283,7 +283,7 @@ module _ (plan : Plan) (sound : IsSound plan) (s p : ℕ) (ls : s < length plan.
       let rest = has_take i j ns all.1 more in
       (rest.0, contains_right (take_of plan n ∷ []) (map (take_of plan) ns) (take_of plan rest.0) rest.1, rest.2, rest.3)
 
-  set_input : (j u v i : ℕ) → j < slots x → slot x j ≡ Input u → v ≡ u → i < m → holds plan p i ≡ true → Setter j v i
+  set_input : (j u v i : ℕ) → j < slots plan s → slot plan s j ≡ Input u → v ≡ u → i < m → holds plan p i ≡ true → Setter j v i
   set_input j u v i lj e same li has =
       let o : ℕ = slice_index (owners x) u in
       elim (cases_eq o p) [
@@ -294,10 +294,10 @@ module _ (plan : Plan) (sound : IsSound plan) (s p : ℕ) (ls : s < length plan.
             let found = any_number plan p i (numbers plan s j) all in
             let of_slot = every_filter _ (λ n. (message plan n).slot ≡ j) (to plan p) (numbers plan s j) (each plan (is_plan plan sound s ls) s p ls (owned plan sound s ls) j lj) (λ n f t. f.1.0) in
             let one = has_take i j (filter (to plan p) (numbers plan s j)) of_slot found in
-            (take_of plan one.0, took j (take_of plan one.0) lj one.1, (ap (slot x) one.3 ∙ e ∙ ap Input (sym same), sym one.2), one.3)
+            (take_of plan one.0, took j (take_of plan one.0) lj one.1, (ap (slot plan s) one.3 ∙ e ∙ ap Input (sym same), sym one.2), one.3)
       ]
 
-  set_gate : (j t v i : ℕ) → j < slots x → slot x j ≡ At_gate t → v ≡ (gate x t).output → Setter j v i
+  set_gate : (j t v i : ℕ) → j < slots plan s → slot plan s j ≡ At_gate t → v ≡ (gate x t).output → Setter j v i
   set_gate j t v i lj e same =
       let b : Bool = is_product (gate x t).operation in
       let out : v ≡ (gate_at plan s j).output = same ∙ ap (λ z. (gate_in_slot x z).output) (sym e) in
@@ -306,7 +306,7 @@ module _ (plan : Plan) (sound : IsSound plan) (s p : ℕ) (ls : s < length plan.
         | inr no' ↦ (Linear j, closed j (Linear j) lj (subst (λ z. Contains (closing plan p s j z) (Linear j)) (sym e) (contains_right (only_if b (Sum j ∷ [])) (only_if (not b) (Linear j ∷ [])) (Linear j) (only (not b) (Linear j) (not_from_false b no')))), out, refl)
       ]
 
-  set_by : (j v i : ℕ) (z : Slot) → slot x j ≡ z → list_any (nat_eq v) (sets_in x z) ≡ true → j < slots x → i < m → holds plan p i ≡ true → Setter j v i
+  set_by : (j v i : ℕ) (z : Slot) → slot plan s j ≡ z → list_any (nat_eq v) (sets_in x z) ≡ true → j < slots plan s → i < m → holds plan p i ≡ true → Setter j v i
   set_by j v i (Input u) e h lj li has = set_input j u v i lj e (of_one u v h) li has
   set_by j v i (At_gate t) e h lj li has = set_gate j t v i lj e (of_one (gate x t).output v h)
   set_by j v i (Output o) e h lj li has = absurd (false≢true h)
@@ -322,7 +322,7 @@ module _ (plan : Plan) (sound : IsSound plan) (s p : ℕ) (ls : s < length plan.
         elim it.1 [
           | inl here ↦
               let before = order.before k v it.0 here.0 in
-              let by = set_by before.0 v i (slot x before.0) refl before.2 (let less = before.1 in let inside = it.0 in omega arith) li here.1 in
+              let by = set_by before.0 v i (slot plan s before.0) refl before.2 (let less = before.1 in let inside = it.0 in omega arith) li here.1 in
               let r : ℕ = by.1.0 in
               let stands : at es r ≡ by.0 = by.1.2 in
               let of_slot : named plan (at es r) ≡ before.0 = ap (named plan) stands ∙ by.3 in
@@ -349,7 +349,7 @@ module _ (plan : Plan) (sound : IsSound plan) (s p : ℕ) (ls : s < length plan.
         let after : suc q ≤ later.0 = later.1 in
         let n_k : n ≤ k = named_rises set'.0 q (let l = set'.1 in omega arith) (omega arith) in
         let k_o : k ≤ o = named_rises q later.0 (omega arith) inside in
-        let apart : n ≢ k = (λ z. ne (one_set x (slot x k) v w (subst (λ y. sets x y v ≡ true) z sets_v.1) sets_w.1)) in
+        let apart : n ≢ k = (λ z. ne (one_set x (slot plan s k) v w (subst (λ y. sets x y v ≡ true) z sets_v.1) sets_w.1)) in
         let reading = reads_at later.0 v i later.2 in
         elim reading.1 [
           | inl here ↦ table.apart n k o v w (omega arith) k_o reading.0 sets_v.1 here.0 sets_w.1
@@ -357,7 +357,7 @@ module _ (plan : Plan) (sound : IsSound plan) (s p : ℕ) (ls : s < length plan.
         ]
 
     -- what is still to be read of a wire that a gate sets is held
-    pub read_is_held : (q t w i : ℕ) → slot x (named plan (at es q)) ≡ At_gate t → sets x (named plan (at es q)) w ≡ true → IsToRead plan p s (suc q) w i → holds plan p i ≡ true
+    pub read_is_held : (q t w i : ℕ) → slot plan s (named plan (at es q)) ≡ At_gate t → sets x (named plan (at es q)) w ≡ true → IsToRead plan p s (suc q) w i → holds plan p i ≡ true
     read_is_held q t w i e now later =
         let k : ℕ = named plan (at es q) in
         let o : ℕ = named plan (at es later.0) in
@@ -367,7 +367,7 @@ module _ (plan : Plan) (sound : IsSound plan) (s p : ℕ) (ls : s < length plan.
         elim reading.1 [
           | inl here ↦ here.1
           | inr here ↦ absurd (elim (cases_eq k o) [
-            | inl same ↦ let both : At_gate t ≡ Input w = sym e ∙ ap (slot x) same ∙ here.0 in cc
+            | inl same ↦ let both : At_gate t ≡ Input w = sym e ∙ ap (slot plan s) same ∙ here.0 in cc
             | inr ne ↦ both_ways (sets x o w) (order.once k o w (omega arith) reading.0 now) (input_sets o w here.0)
           ])
         ]

@@ -3,15 +3,15 @@ use Rattle.std.specs.Prelude.{◌≡◌, ◌≢◌, ℕ, ◌+◌, ◌<◌, ◌�
 use Rattle.std.specs.List.{list_any}
 use Rattle.circuit_model.specs.declared.gate.Gate.{Gate}
 use Rattle.circuit_model.specs.Netlists.{read_by}
-use Rattle.job_plan.specs.Plans.{Plan, Session, Slot, holds, output_wire, session}
+use Rattle.job_plan.specs.Plans.{Plan, Session, Slot, holds, output_wire, session, slot}
 use Rattle.job_plan.specs.Plans.Slot.{Input, At_gate, Output}
 use Rattle.party_program.specs.declared.program.Instruction.{Instruction}
 use Rattle.party_program.specs.declared.program.Instruction.TheVariants.{Deal, Post, Take, Linear, Own, Sum, Deliver, End}
 use Rattle.party_program.specs.Programs.{program, at}
-use Rattle.party_program.specs.States.{Given, gate_in_slot, output_in_slot, slot_at, slot_of}
+use Rattle.party_program.specs.States.{Given, gate_in_slot, output_in_slot, slot_of}
 
 abbrev pub gate_at : Plan → ℕ → ℕ → Gate
-gate_at plan s k = gate_in_slot (session plan s) (slot_at plan s k)
+gate_at plan s k = gate_in_slot (session plan s) (slot plan s k)
 
 -- the wire whose summands the messages of a slot carry
 abbrev pub Carries : Session → Slot → ℕ → Type 0
@@ -21,7 +21,7 @@ Carries s (Output o) v = v ≡ output_wire s o
 
 -- the instruction sets summand i of wire v
 abbrev pub Sets : Plan → ℕ → Instruction → ℕ → ℕ → Type 0
-Sets plan s (Deal k d) v i = slot_at plan s k ≡ Input v
+Sets plan s (Deal k d) v i = slot plan s k ≡ Input v
 Sets plan s (Take n j) v i = (slot_of plan s n ≡ Input v) × (i ≡ j)
 Sets plan s (Linear k) v i = v ≡ (gate_at plan s k).output
 Sets plan s (Sum k) v i = v ≡ (gate_at plan s k).output
@@ -33,7 +33,7 @@ Reads plan p s (Post n j) v i = Carries (session plan s) (slot_of plan s n) v ×
 Reads plan p s (Linear k) v i = (list_any (nat_eq v) (read_by (gate_at plan s k)) ≡ true) × (holds plan p i ≡ true)
 Reads plan p s (Own k) v i = (list_any (nat_eq v) (read_by (gate_at plan s k)) ≡ true) × (holds plan p i ≡ true)
 Reads plan p s (Deliver k) v i =
-    (v ≡ output_wire (session plan s) (output_in_slot (slot_at plan s k))) × (holds plan p i ≡ true)
+    (v ≡ output_wire (session plan s) (output_in_slot (slot plan s k))) × (holds plan p i ≡ true)
 Reads plan p s _ v i = ⊥
 
 -- an instruction before position q sets summand i of wire v

@@ -27,8 +27,8 @@ module _ (w : World) (h : IsPlan w.plan) (got : ℕ → Key → ℕ) (sent : All
   local_at : ℕ → ℕ → Run
   local_at s p = local_run w (got p) p s
 
-  in_slot : (s k : ℕ) → s < length w.plan.sessions → k < slots (session w.plan s) → AllByRecursion (Sent w got) (slot_messages w.plan s k (slot (session w.plan s) k))
-  in_slot s k ls lk = at_joined (Sent w got) (slots (session w.plan s)) _ k lk (at_joined (Sent w got) (length w.plan.sessions) _ s ls sent)
+  in_slot : (s k : ℕ) → s < length w.plan.sessions → k < slots w.plan s → AllByRecursion (Sent w got) (slot_messages w.plan s k (slot w.plan s k))
+  in_slot s k ls lk = at_joined (Sent w got) (slots w.plan s) _ k lk (at_joined (Sent w got) (length w.plan.sessions) _ s ls sent)
 
   in_deal : (s k p i q : ℕ) → AllByRecursion (Sent w got) (deal_messages w.plan s k p) → i < length w.plan.groups → q < w.plan.parties → q ≢ p → holds w.plan q i ≡ true → Sent w got (key_of s k i p q)
   in_deal s k p i q all li lq ne has =
@@ -39,17 +39,17 @@ module _ (w : World) (h : IsPlan w.plan) (got : ℕ → Key → ℕ) (sent : All
       → got q (key_of s v i (slice_index (owners (session w.plan s)) v) q) ≡ dealt (scheme w.plan) (input_of w s v) (tape_word w s v (slice_index (owners (session w.plan s)) v)) i
   input_sent s v i q ls lv li lq ne has =
       let owner = slice_index (owners (session w.plan s)) v in
-      let at : slot (session w.plan s) v ≡ Input v = slot_input (session w.plan s) v lv in
+      let at : slot w.plan s v ≡ Input v = slot_input (session w.plan s) v lv in
       in_deal s v owner i q (subst (λ z. AllByRecursion (Sent w got) (slot_messages w.plan s v z)) at (in_slot s v ls (omega arith))) li lq ne has
       ∙ ap (local_word_in w (got owner) owner (key_of s v i owner q)) at
 
-  gate_sent : (s t i p q : ℕ) → s < length w.plan.sessions → t < length (session w.plan s).gates → i < length w.plan.groups → p < w.plan.parties → q < w.plan.parties → q ≢ p → holds w.plan q i ≡ true → deals_in w.plan (session w.plan s) p (At_gate t) ≡ true
+  gate_sent : (s t i p q : ℕ) → s < length w.plan.sessions → t < length (session w.plan s).gates → i < length w.plan.groups → p < w.plan.parties → q < w.plan.parties → q ≢ p → holds w.plan q i ≡ true → deals_in w.plan s p (At_gate t) ≡ true
       → got q (key_of s (length (owners (session w.plan s)) + t) i p q) ≡ dealt (scheme w.plan) (own_value (local_run w (got p) p s) t p) (tape_word w s (length (owners (session w.plan s)) + t) p) i
   gate_sent s t i p q ls lt li lp lq ne has deals =
       let k = length (owners (session w.plan s)) + t in
-      let at : slot (session w.plan s) k ≡ At_gate t = slot_gate (session w.plan s) t lt in
+      let at : slot w.plan s k ≡ At_gate t = slot_gate (session w.plan s) t lt in
       in_deal s k p i q
-      (at_only_if (Sent w got) (deals_in w.plan (session w.plan s) p (At_gate t)) (deal_messages w.plan s k p) deals
+      (at_only_if (Sent w got) (deals_in w.plan s p (At_gate t)) (deal_messages w.plan s k p) deals
       (at_joined (Sent w got) w.plan.parties _ p lp (subst (λ z. AllByRecursion (Sent w got) (slot_messages w.plan s k z)) at (in_slot s k ls (omega (arith, lt)))))) li lq ne has
       ∙ ap (local_word_in w (got p) p (key_of s k i p q)) at
 

@@ -41,7 +41,7 @@ module _ (w : World) (h : IsPlan w.plan) (got : ℕ → Key → ℕ) (held : All
   input_sent : (s v : ℕ) → v < length (owners (session w.plan s)) → AllByRecursion Sends (slot_messages w.plan s v (Input v))
   input_sent s v lv =
       let owner : ℕ = slice_index (owners (session w.plan s)) v in
-      let at : slot (session w.plan s) v ≡ Input v = slot_input (session w.plan s) v lv in
+      let at : slot w.plan s v ≡ Input v = slot_input (session w.plan s) v lv in
       every_joined Sends (length w.plan.groups) _ (λ i li. every_joined Sends w.plan.parties _ (λ r lr. every_only_if Sends (not (nat_eq r owner) && holds w.plan r i) (key_of s v i owner r ∷ []) (λ e.
       (ap (local_word_in w (got owner) owner (key_of s v i owner r)) at ∙ sym (ap (word_in w (key_of s v i owner r)) at), tt))))
 
@@ -49,8 +49,8 @@ module _ (w : World) (h : IsPlan w.plan) (got : ℕ → Key → ℕ) (held : All
   gate_sent s t ls lt =
       let k : ℕ = length (owners (session w.plan s)) + t in
       let g = gate (session w.plan s) t in
-      let at : slot (session w.plan s) k ≡ At_gate t = slot_gate (session w.plan s) t lt in
-      every_joined Sends w.plan.parties _ (λ p lp. every_only_if Sends (deals_in w.plan (session w.plan s) p (At_gate t)) _ (λ deals.
+      let at : slot w.plan s k ≡ At_gate t = slot_gate (session w.plan s) t lt in
+      every_joined Sends w.plan.parties _ (λ p lp. every_only_if Sends (deals_in w.plan s p (At_gate t)) _ (λ deals.
       every_joined Sends (length w.plan.groups) _ (λ i li. every_joined Sends w.plan.parties _ (λ r lr. every_only_if Sends (not (nat_eq r p) && holds w.plan r i) (key_of s k i p r ∷ []) (λ e. (
         ap (local_word_in w (got p) p (key_of s k i p r)) at
             ∙ ap (λ z. dealt (scheme w.plan) z (tape_word w s k p) i) (holder_own w.plan h p _ _ _ _ (λ i li has. held s t p g.first i ls lp li has) (λ i li has. held s t p g.second i ls lp li has))
@@ -62,7 +62,7 @@ module _ (w : World) (h : IsPlan w.plan) (got : ℕ → Key → ℕ) (held : All
   output_sent s o ls =
       let x : Session = session w.plan s in
       let k : ℕ = length (owners x) + length x.gates + o in
-      let at : slot x k ≡ Output o = slot_output x o in
+      let at : slot w.plan s k ≡ Output o = slot_output x o in
       every_joined Sends w.plan.parties _ (λ r lr. every_only_if Sends (has_party (slice_index (readers x) o) r) _ (λ reads.
       every_joined Sends (length w.plan.groups) _ (λ i li.
       let p : ℕ = least_holder w.plan i in
@@ -74,7 +74,7 @@ module _ (w : World) (h : IsPlan w.plan) (got : ℕ → Key → ℕ) (held : All
       )))))
 
   pub all_sent : AllByRecursion (SendsWord w got) (messages w.plan)
-  all_sent = every_joined Sends (length w.plan.sessions) _ (λ s ls. every_joined Sends (slots (session w.plan s)) _ (λ k lk.
+  all_sent = every_joined Sends (length w.plan.sessions) _ (λ s ls. every_joined Sends (slots w.plan s) _ (λ k lk.
       slot_cases (session w.plan s) (λ k z. AllByRecursion Sends (slot_messages w.plan s k z)) (λ v lv. input_sent s v lv) (λ t lt. gate_sent s t ls lt) (λ o lo. output_sent s o ls) k lk))
 
 -- ---- with the words of the equations

@@ -43,4 +43,4 @@ module _ (w : World) (whole : IsWhole w) where
   small_in k (Output o) = small_run k.session _ _ k.share
 
   pub small_word : (k : Key) → word w k < 2 ^ w.plan.bits
-  small_word k = small_in k (slot (session w.plan k.session) k.slot)
+  small_word k = small_in k (slot w.plan k.session k.slot)

@@ -127,8 +127,8 @@ gate_deal w s c sh dl h t p i lt product =
     (own_same (scheme w.plan) p _ _ _ _ (λ i j li lj e. same_refl _ _ _ (ap₂ (λ a b. a * b) (before g.first i (c.first t lt reads.0) li) (before g.second j (c.second t lt reads.1) lj))))
 
 deals_are : (w : World) (s : ℕ) → GatesInOrder (session w.plan s) → (sh : ℕ → ℕ → ℕ) (dl : ℕ → ℕ → ℕ → ℕ) → SummandsSolve w s sh dl
-    → (p i k : ℕ) → k < slots (session w.plan s) → deals_in w.plan (session w.plan s) p (slot (session w.plan s) k) ≡ true → dl p k i ≡ deal_of w s p k (slot (session w.plan s) k) i
-deals_are w s c sh dl h p i = slot_cases (session w.plan s) (λ k z. deals_in w.plan (session w.plan s) p z ≡ true → dl p k i ≡ deal_of w s p k z i)
+    → (p i k : ℕ) → k < slots w.plan s → deals_in w.plan s p (slot w.plan s k) ≡ true → dl p k i ≡ deal_of w s p k (slot w.plan s k) i
+deals_are w s c sh dl h p i = slot_cases (session w.plan s) (λ k z. deals_in w.plan s p z ≡ true → dl p k i ≡ deal_of w s p k z i)
     (λ v lv owns. subst (λ z. dl z v i ≡ deal_of w s z v (Input v) i) (eqb-true _ _ owns) (h.input_deals v i lv))
     (λ t lt deals. gate_deal w s c sh dl h t p i lt (and_parts (is_product (gate (session w.plan s) t).operation) _ deals).0)
     (λ o lo none. absurd (both_ways false refl none))
@@ -188,7 +188,7 @@ is_solution w s c = record {
         ∙ ap (λ f. f i) (cond-true (nat_eq g.output g.output) _ (summands (run_of w s) t g.output) (eq-eqb g.output g.output refl))
 
     deal_is : (t p i : ℕ) → t < length (session w.plan s).gates
-        → deal_of w s p (length (owners (session w.plan s)) + t) (slot (session w.plan s) (length (owners (session w.plan s)) + t)) i ≡ deal_of w s p (length (owners (session w.plan s)) + t) (At_gate t) i
+        → deal_of w s p (length (owners (session w.plan s)) + t) (slot w.plan s (length (owners (session w.plan s)) + t)) i ≡ deal_of w s p (length (owners (session w.plan s)) + t) (At_gate t) i
     deal_is t p i l = ap (λ z. deal_of w s p (length (owners (session w.plan s)) + t) z i) (slot_gate (session w.plan s) t l)
 
     -- the own product is of summands that stay to the end

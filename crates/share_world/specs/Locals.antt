@@ -53,7 +53,7 @@ local_word_in w got p key kind =
     dealt (scheme w.plan) (local_value w got p key.session kind) (tape_word w key.session key.slot p) key.share
 
 abbrev pub local_word : World → (Key → ℕ) → ℕ → Key → ℕ
-local_word w got p key = local_word_in w got p key (slot (session w.plan key.session) key.slot)
+local_word w got p key = local_word_in w got p key (slot w.plan key.session key.slot)
 
 -- output wire o of session s as p opens it: the sum of the summands that it holds and got
 abbrev pub local_output : World → (Key → ℕ) → ℕ → ℕ → ℕ → ℕ

@@ -57,9 +57,9 @@ pub record SummandsSolve (w : World) (s : ℕ) (summand : ℕ → ℕ → ℕ) (
 pub record AreSummands (w : World) (s : ℕ) (summand : ℕ → ℕ → ℕ) (deal : ℕ → ℕ → ℕ → ℕ) : Type 0 where
   pub wires : (v i : ℕ) → i < length w.plan.groups
       → summand v i ≡ summands (run_of w s) (length (session w.plan s).gates) v i
-  pub deals : (p k i : ℕ) → k < slots (session w.plan s)
-      → deals_in w.plan (session w.plan s) p (slot (session w.plan s) k) ≡ true
-      → deal p k i ≡ deal_of w s p k (slot (session w.plan s) k) i
+  pub deals : (p k i : ℕ) → k < slots w.plan s
+      → deals_in w.plan s p (slot w.plan s k) ≡ true
+      → deal p k i ≡ deal_of w s p k (slot w.plan s k) i
 
 -- the world's summands are the only solution
 abbrev pub OnlySolution : World → ℕ → Type 0
@@ -72,4 +72,4 @@ abbrev pub IsSolution : World → ℕ → Type 0
 IsSolution w s =
     GatesInOrder (session w.plan s)
     → SummandsSolve w s (summands (run_of w s) (length (session w.plan s).gates))
-    (λ p k. deal_of w s p k (slot (session w.plan s) k))
+    (λ p k. deal_of w s p k (slot w.plan s k))

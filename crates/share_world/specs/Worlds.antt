@@ -76,7 +76,7 @@ word_in w key kind = deal_of w key.session key.sender key.slot kind key.share
 
 -- the word of a message
 abbrev pub word : World → Key → ℕ
-word w key = word_in w key (slot (session w.plan key.session) key.slot)
+word w key = word_in w key (slot w.plan key.session key.slot)
 
 -- a member of the group of this mask sends or receives the message
 abbrev pub touches : ℕ → Key → Bool

@@ -1,5 +1,5 @@
 use Rattle.std.proofs.Common.{◌≡◌, ◌+◌, length, ap, ◌∙◌, arith}
-use Rattle.job_plan.specs.Plans.{slots}
+use Rattle.job_plan.specs.Plans.{session_slots}
 use Rattle.job_plan.specs.Patterns.{lines}
 use Rattle.job_plan.specs.Firsts.{first, count}
 use Rattle.job_plan.proofs.SlotMessages.{first_within}
@@ -13,7 +13,7 @@ overflow_cast-next c =
     let s = c.args.s in
     let k = c.loop-k.k in
     let long : length c.lines.result.now ≡ count plan s k = ap length (c.lines.ensures plan c.requires.lines c.pattern.ensures.occurs ∙ ap (lines plan) c.pattern.ensures.is) ∙ pattern_count plan s k in
-    let within = first_within plan s (k + 1) c.requires.session (omega (arith, c.slots-slots.ensures, ap slots c.part.ensures.is)) in
+    let within = first_within plan s (k + 1) c.requires.session (omega (arith, c.slots-slots.ensures, ap session_slots c.part.ensures.is)) in
     omega (arith, first_next plan s k)
 
 pub overflow_add-next : goal.overflow_add-next
@@ -22,7 +22,7 @@ overflow_add-next c =
     let s = c.args.s in
     let k = c.loop-k.k in
     let long : length c.lines.result.now ≡ count plan s k = ap length (c.lines.ensures plan c.requires.lines c.pattern.ensures.occurs ∙ ap (lines plan) c.pattern.ensures.is) ∙ pattern_count plan s k in
-    let within = first_within plan s (k + 1) c.requires.session (omega (arith, c.slots-slots.ensures, ap slots c.part.ensures.is)) in
+    let within = first_within plan s (k + 1) c.requires.session (omega (arith, c.slots-slots.ensures, ap session_slots c.part.ensures.is)) in
     omega (arith, first_next plan s k, c.loop-k.invariant.next)
 
 pub loop-k-preserved : goal.loop-k-preserved

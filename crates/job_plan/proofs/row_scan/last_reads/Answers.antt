@@ -1,6 +1,5 @@
-use Rattle.std.proofs.Common.{◌≡◌, ℕ, ◌+◌, ◌<◌, ◌++◌, List, length, take, drop, sym, ap, subst, arith, ◌∙◌}
+use Rattle.std.proofs.Common.{◌≡◌, ℕ, ◌+◌, ◌++◌, List, length, take, drop, sym, ap, subst, arith, ◌∙◌}
 use Rattle.std.specs.Prelude.{slice_index, if◌then◌else◌}
-use Rattle.job_plan.specs.Plans.{slots}
 use Rattle.job_plan.specs.RowScans.{AreLastReads}
 use Rattle.job_plan.specs.Wirings.{session_in, is_named}
 use Rattle.job_plan.proofs.LastReads.{reads_noted, slice_back}

@@ -1,6 +1,5 @@
-use Rattle.std.proofs.Common.{◌≡◌, ℕ, ◌+◌, ◌<◌, ◌≤◌, List, length, sym, ap, subst, arith, ◌∙◌, refl}
-use Rattle.job_plan.specs.declared.row_scan.RowScan.{RowScan}
-use Rattle.job_plan.specs.Plans.{slots}
+use Rattle.std.proofs.Common.{◌≡◌, ℕ, ◌+◌, ◌<◌, sym, ap, subst, arith, ◌∙◌, refl}
+use Rattle.job_plan.specs.Plans.{session_slots}
 use Rattle.job_plan.specs.KeptWires.{greatest, kept}
 use Rattle.job_plan.specs.RowScans.{IsScan}
 use Rattle.job_plan.specs.Wirings.{session_in}
@@ -27,7 +26,7 @@ overflow_add-result c =
 pub returns : goal.returns
 returns c =
     let s = session_in c.args.wiring.now in
-    let all : c.loop-k.k ≡ slots s = omega (arith, c.loop-k.auto.k-end, c.loop-k-test.false, c.slots-k-end.ensures) in (
+    let all : c.loop-k.k ≡ session_slots s = omega (arith, c.loop-k.auto.k-end, c.loop-k-test.false, c.slots-k-end.ensures) in (
       table_is s c.into_rows.result.items c.loop-k.scan (subst (λ (k : ℕ). IsScan s k c.loop-k.scan) all c.loop-k.invariant.scan) (ap (λ v. v.items) c.into_rows.ensures),
       ap (λ n. n + 1) (c.loop-k.invariant.live ∙ ap (λ (k : ℕ). greatest k (kept s)) all ∙ sym (live_is s)),
     )

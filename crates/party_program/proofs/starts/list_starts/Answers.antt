@@ -1,7 +1,7 @@
 use Rattle.std.proofs.Common.{◌≡◌, Bool, true, false, refl, ◌+◌, ◌<◌, ◌≤◌, if◌then◌else◌, length, ap, ap₂, ◌∙◌, arith}
 use Rattle.std.specs.Int.{from_bool}
 use Rattle.list_laws.proofs.Totals.{total_more}
-use Rattle.job_plan.specs.Plans.{session, slot, slots, deals_in}
+use Rattle.job_plan.specs.Plans.{slot, slots, deals_in}
 use Rattle.job_plan.proofs.GrownLists.{listed_push}
 use Rattle.party_program.specs.declared.step.Step.{Step}
 use Rattle.party_program.specs.Standing.{start_of}
@@ -21,7 +21,7 @@ pub overflow_cast-start : goal.overflow_cast-start
 overflow_cast-start c =
     let plan = c.args.plan.now in
     let k = c.loop-k.k in
-    let lk : k < slots (session plan c.args.s) = omega (arith, c.slots-slots.ensures) in
+    let lk : k < slots plan c.args.s = omega (arith, c.slots-slots.ensures) in
     let steps = ap (length {A = Step}) (c.at.ensures c.args.p c.requires.steps) in
     let long = length-slot plan c.args.p c.args.s k c.requires.session lk in
     let more = before_more plan c.args.p c.args.s k in
@@ -32,7 +32,7 @@ pub overflow_add-start : goal.overflow_add-start
 overflow_add-start c =
     let plan = c.args.plan.now in
     let k = c.loop-k.k in
-    let lk : k < slots (session plan c.args.s) = omega (arith, c.slots-slots.ensures) in
+    let lk : k < slots plan c.args.s = omega (arith, c.slots-slots.ensures) in
     let steps = ap (length {A = Step}) (c.at.ensures c.args.p c.requires.steps) in
     let long = length-slot plan c.args.p c.args.s k c.requires.session lk in
     let more = before_more plan c.args.p c.args.s k in
@@ -46,14 +46,14 @@ loop-k-preserved c =
     let p = c.args.p in
     let s = c.args.s in
     let k = c.loop-k.k in
-    let lk : k < slots (session plan s) = omega (arith, c.slots-slots.ensures) in
+    let lk : k < slots plan s = omega (arith, c.slots-slots.ensures) in
     let all = ap (length {A = Step}) (c.at.ensures p c.requires.steps) in
     let long = length-slot plan p s k c.requires.session lk in
     let more = before_more plan p s k in
     let before = c.loop-k.invariant in
-    let next = total_more k (λ j. if deals_in plan (session plan s) p (slot (session plan s) j) then 1 else 0) in
-    let added : c.from.result ≡ (if deals_in plan (session plan s) p (slot (session plan s) k) then 1 else 0) = c.from.ensures ∙ as_number c.deals_in.result ∙ ap (λ b. if b then 1 else 0) c.deals_in.ensures in
-    let one = one_most (deals_in plan (session plan s) p (slot (session plan s) k)) in
+    let next = total_more k (λ j. if deals_in plan s p (slot plan s j) then 1 else 0) in
+    let added : c.from.result ≡ (if deals_in plan s p (slot plan s k) then 1 else 0) = c.from.ensures ∙ as_number c.deals_in.result ∙ ap (λ b. if b then 1 else 0) c.deals_in.ensures in
+    let one = one_most (deals_in plan s p (slot plan s k)) in
     record {
       starts = c.in_ok-push.ensures.items ∙ listed_push k (start_of plan p s) c.loop-k.list.items c.loop-k.start before.starts (ap₂ (λ n d. record { instructions = n; deals = d }) before.instructions before.deals);
       instructions = omega arith;

@@ -1,7 +1,7 @@
 use Rattle.std.proofs.Common.{◌≡◌, ◌+◌, length, ap, ◌∙◌, arith}
 use Rattle.std.specs.Prelude.{slice_index}
 use Rattle.list_laws.proofs.JoinedLists.{length-listed, listed_at}
-use Rattle.job_plan.specs.Plans.{session, slots}
+use Rattle.job_plan.specs.Plans.{slots}
 use Rattle.job_plan.specs.Firsts.{first, session_starts, starts_of}
 use Rattle.job_plan.proofs.SlotMessages.{first_within}
 use Rattle.job_plan.proofs.GrownLists.{row_is}
@@ -18,13 +18,13 @@ at-requires c =
     let plan = c.args.self.now in
     let begin : c.self.inside.starts.items ≡ starts_of plan = c.self.invariant.begin ∙ ap starts_of c.self.view_is in
     let row = row_is c.self.inside.starts.items (length plan.sessions) (session_starts plan) c.args.s c.index.result.now begin c.requires.session c.index.ensures in
-    omega (arith, ap length row, length-listed (slots (session plan c.args.s) + 1) (first plan c.args.s))
+    omega (arith, ap length row, length-listed (slots plan c.args.s + 1) (first plan c.args.s))
 
 pub returns : goal.returns
 returns c =
     let plan = c.args.self.now in
     let begin : c.self.inside.starts.items ≡ starts_of plan = c.self.invariant.begin ∙ ap starts_of c.self.view_is in
     let row = row_is c.self.inside.starts.items (length plan.sessions) (session_starts plan) c.args.s c.index.result.now begin c.requires.session c.index.ensures in
-    let is : c.at.result ≡ first plan c.args.s c.args.k = c.at.ensures ∙ ap (λ xs. slice_index xs c.args.k) row ∙ listed_at (slots (session plan c.args.s) + 1) (first plan c.args.s) c.args.k 0 (omega arith) in
+    let is : c.at.result ≡ first plan c.args.s c.args.k = c.at.ensures ∙ ap (λ xs. slice_index xs c.args.k) row ∙ listed_at (slots plan c.args.s + 1) (first plan c.args.s) c.args.k 0 (omega arith) in
     let within = first_within plan c.args.s c.args.k c.requires.session c.requires.slot in
     record { is = is; within = omega arith }

@@ -1,7 +1,7 @@
 use Rattle.std.proofs.Common.{◌≡◌, ◌+◌, ◌-◌, ◌<◌, length, sym, ap, ◌∙◌, arith}
 use Rattle.std.specs.Prelude.{slice_index_or}
 use Rattle.std.proofs.lemmas.List.{length-map}
-use Rattle.job_plan.specs.Plans.{session, slot}
+use Rattle.job_plan.specs.Plans.{slot}
 use Rattle.job_plan.specs.Messages.{slot_messages}
 use Rattle.job_plan.specs.Numbers.{message, no_key}
 use Rattle.job_plan.specs.Patterns.{named}
@@ -21,7 +21,7 @@ returns c =
     let i = c.args.n - c.first.result in
     let here : i < count plan s k = omega (arith, first_next plan s k, c.first.ensures.is, c.slot_of-k.ensures.end, c.slot_of-k.ensures.begin) in
     let within : i < length lines = omega (arith, ap length c.slot_lines.ensures.is, length-map lines (named s k)) in
-    let at : c.named.result ≡ slice_index_or (slot_messages plan s k (slot (session plan s) k)) i no_key =
+    let at : c.named.result ≡ slice_index_or (slot_messages plan s k (slot plan s k)) i no_key =
     c.named.ensures ∙ sym (named_at s k lines i within) ∙ ap (λ keys. slice_index_or keys i no_key) c.slot_lines.ensures.is in
     let same : first plan s k + i ≡ c.args.n = omega (arith, c.first.ensures.is, c.slot_of-k.ensures.begin) in
     record {

@@ -1,7 +1,7 @@
 use Rattle.std.proofs.Common.{◌<◌, map, length, ap, sym, subst, ◌∙◌, arith}
 use Rattle.std.specs.Prelude.{slice_index_or, SomeIff}
 use Rattle.std.proofs.lemmas.List.{length-map}
-use Rattle.job_plan.specs.Plans.{session, slot, slots}
+use Rattle.job_plan.specs.Plans.{slot, slots}
 use Rattle.job_plan.specs.Messages.{messages, slot_messages}
 use Rattle.job_plan.specs.Patterns.{named}
 use Rattle.job_plan.specs.Numbers.{number, no_key, opens, rank, IsRising}
@@ -24,7 +24,7 @@ pub search-requires : goal.search-requires
 search-requires c =
     let plan = c.args.self.now in
     let sound = c.slot_lines-lines.ensures.sound in
-    let at = slot (session plan c.args.key.session) c.args.key.slot in
+    let at = slot plan c.args.key.session c.args.key.slot in
     let rising : IsRising (rank (opens at)) (slot_messages plan c.args.key.session c.args.key.slot at) = slot_is_rising plan c.args.key.session c.args.key.slot sound.parties sound.groups at in
     subst (λ o. IsRising (rank o) (map (named c.args.key.session c.args.key.slot) c.slot_lines-lines.result.now)) (sym c.opens.ensures) (subst (IsRising (rank (opens at))) (sym c.slot_lines-lines.ensures.is) rising)
 
@@ -42,7 +42,7 @@ overflow_cast-result c =
     let plan = c.args.self.now in
     let key = c.args.key in
     let session_within : key.session < length plan.sessions = omega (arith, c.sessions.ensures, c.if-key-sessions.false) in
-    let slot_within : key.slot < slots (session plan key.session) = omega (arith, c.slots.ensures, c.if-key-slots.false) in
+    let slot_within : key.slot < slots plan key.session = omega (arith, c.slots.ensures, c.if-key-slots.false) in
     let at : c.in_ok-at.at < count plan key.session key.slot = omega (arith, c.in_ok-at.ensures.within, ap length c.slot_lines-lines.ensures.is, length-map c.slot_lines-lines.result.now (named key.session key.slot)) in
     omega (arith, number_within plan key.session key.slot session_within slot_within c.in_ok-at.at at, c.slot_lines-lines.ensures.sound.few_messages)
 
@@ -51,7 +51,7 @@ overflow_add-result c =
     let plan = c.args.self.now in
     let key = c.args.key in
     let session_within : key.session < length plan.sessions = omega (arith, c.sessions.ensures, c.if-key-sessions.false) in
-    let slot_within : key.slot < slots (session plan key.session) = omega (arith, c.slots.ensures, c.if-key-slots.false) in
+    let slot_within : key.slot < slots plan key.session = omega (arith, c.slots.ensures, c.if-key-slots.false) in
     let at : c.in_ok-at.at < count plan key.session key.slot = omega (arith, c.in_ok-at.ensures.within, ap length c.slot_lines-lines.ensures.is, length-map c.slot_lines-lines.result.now (named key.session key.slot)) in
     omega (arith, number_within plan key.session key.slot session_within slot_within c.in_ok-at.at at, c.slot_lines-lines.ensures.sound.few_messages, c.first.ensures.is)
 
@@ -61,7 +61,7 @@ returns c =
     let key = c.args.key in
     let keys = c.slot_lines-lines.ensures.is in
     let session_within : key.session < length plan.sessions = omega (arith, c.sessions.ensures, c.if-key-sessions.false) in
-    let slot_within : key.slot < slots (session plan key.session) = omega (arith, c.slots.ensures, c.if-key-slots.false) in
+    let slot_within : key.slot < slots plan key.session = omega (arith, c.slots.ensures, c.if-key-slots.false) in
     let at : c.in_ok-at.at < count plan key.session key.slot = omega (arith, c.in_ok-at.ensures.within, ap length keys, length-map c.slot_lines-lines.result.now (named key.session key.slot)) in
     let found = ap (λ keys. slice_index_or keys c.in_ok-at.at no_key) (sym keys) ∙ c.in_ok-at.ensures.found in
     let number = number_is plan key key.session key.slot c.in_ok-at.at session_within slot_within at found in

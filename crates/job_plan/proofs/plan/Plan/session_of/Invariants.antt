@@ -1,5 +1,5 @@
 use Rattle.std.proofs.Common.{◌<◌, length}
-use Rattle.job_plan.specs.Plans.{session, slots}
+use Rattle.job_plan.specs.Plans.{slots}
 use Rattle.job_plan.specs.Firsts.{first}
 use Rattle.job_plan.proofs.plan.Plan.session_of.Given as goal
 
@@ -7,7 +7,7 @@ use Rattle.job_plan.proofs.plan.Plan.session_of.Given as goal
 abbrev pub invariant-loop-s : goal.invariant-loop-s
 invariant-loop-s l = record {
   there : l.s < length l.self.sessions;
-  end : l.n < first l.self l.s (slots (session l.self l.s));
+  end : l.n < first l.self l.s (slots l.self l.s);
 }
 
 abbrev pub decreases-loop-s : goal.decreases-loop-s

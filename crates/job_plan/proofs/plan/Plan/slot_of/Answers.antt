@@ -19,7 +19,7 @@ pub part_of-requires : goal.part_of-requires
 part_of-requires c =
     let plan = c.args.self.now in
     let s = c.args.s in
-    let count = slots (session plan s) in
+    let count = slots plan s in
     let begin : c.self.inside.starts.items ≡ starts_of plan = c.self.invariant.begin ∙ ap starts_of c.self.view_is in
     let row = row_is c.self.inside.starts.items (length plan.sessions) (session_starts plan) s c.index.result.now begin c.requires.session c.index.ensures in
     let long = ap length row ∙ starts_long plan s in
@@ -40,7 +40,7 @@ returns c =
     let k = c.part_of.result in
     let begin : c.self.inside.starts.items ≡ starts_of plan = c.self.invariant.begin ∙ ap starts_of c.self.view_is in
     let row = row_is c.self.inside.starts.items (length plan.sessions) (session_starts plan) s c.index.result.now begin c.requires.session c.index.ensures in
-    let there : k < slots (session plan s) = omega (arith, ap length row, starts_long plan s, c.part_of.ensures.there) in
+    let there : k < slots plan s = omega (arith, ap length row, starts_long plan s, c.part_of.ensures.there) in
     record {
       there = there;
       begin = omega (arith, ap (λ xs. slice_index xs k) row, start_at plan s k (omega arith), c.part_of.ensures.begin);

@@ -1,7 +1,5 @@
-use Rattle.std.proofs.Common.{◌≡◌, ℕ, ◌+◌, ◌<◌, arith}
+use Rattle.std.proofs.Common.{arith}
 use Rattle.std.specs.Prelude.{Result, Ok, Err, OnOk}
-use Rattle.job_plan.specs.Plans.{slots}
-use Rattle.job_plan.specs.RowScans.{IsScan, TakesBack}
 use Rattle.job_plan.specs.Wirings.{session_in}
 use Rattle.job_plan.proofs.ScannedSlots.{stepped, few_made}
 use Rattle.job_plan.proofs.row_scan.RowScan.step.Goals as goal

@@ -1,7 +1,7 @@
 use Rattle.std.proofs.Common.{rules, ◌≡◌, ◌<◌, ◌-◌, ◌^◌, length, sym, ap, ◌∙◌, subst, arith}
 use Rattle.std.specs.Prelude.{slice_index_or}
 use Rattle.std.specs.Vec.{vec_len}
-use Rattle.job_plan.specs.Plans.{session, slots}
+use Rattle.job_plan.specs.Plans.{slots}
 use Rattle.job_plan.specs.Firsts.{first}
 use Rattle.job_plan.specs.Patterns.{pattern_at}
 use Rattle.party_program.specs.declared.step.Step.{Step}
@@ -18,7 +18,7 @@ returns-then-slot-len c =
     let program = c.args.self.now in
     let long = length-starts plan program.party program.session program c.requires.is in
     let same : vec_len program.starts ≡ length program.starts.items = search rules in
-    let last : c.args.slot ≡ slots (session plan program.session) = omega (arith, c.len.ensures) in
+    let last : c.args.slot ≡ slots plan program.session = omega (arith, c.len.ensures) in
     sym (past_end plan program.party program.session c.args.position (subst (λ k. StandsIn plan program.party program.session k c.args.position) last c.requires.stands))
 
 pub index-start-requires : goal.index-start-requires
@@ -48,7 +48,7 @@ bounds-steps-position c =
     let program = c.args.self.now in
     let long = length-starts plan program.party program.session program c.requires.is in
     let same : vec_len program.starts ≡ length program.starts.items = search rules in
-    let lk : c.args.slot < slots (session plan program.session) = omega (arith, c.requires.stands.slot, c.len.ensures) in
+    let lk : c.args.slot < slots plan program.session = omega (arith, c.requires.stands.slot, c.len.ensures) in
     let here = ap (λ (x : SlotStart). x.instructions) (c.index-start.ensures ∙ start_at plan program.party program.session program c.args.slot c.index-start.result.now c.requires.is c.requires.stands.slot) in
     let all = ap (length {A = Step}) (c.at-steps.ensures program.party c.requires.is.table) in
     let within = step_within plan program.party program.session c.args.slot c.requires.is.session_there lk c.args.position c.requires.stands in
@@ -70,7 +70,7 @@ placed-requires-clause-place c =
     let k = c.args.slot in
     let long = length-starts plan p s program c.requires.is in
     let same : vec_len program.starts ≡ length program.starts.items = search rules in
-    let lk : k < slots (session plan s) = omega (arith, c.requires.stands.slot, c.len.ensures) in
+    let lk : k < slots plan s = omega (arith, c.requires.stands.slot, c.len.ensures) in
     let here = ap (λ (x : SlotStart). x.instructions) (c.index-start.ensures ∙ start_at plan p s program k c.index-start.result.now c.requires.is c.requires.stands.slot) in
     let within = step_within plan p s k c.requires.is.session_there lk c.args.position c.requires.stands in
     let fits = step_fits plan p s k c.requires.is.session_there lk (c.args.position - instructions_before plan p s k) Deal c.requires.is.sound within in
@@ -87,7 +87,7 @@ returns c =
     let q = c.args.position in
     let long = length-starts plan p s program c.requires.is in
     let same : vec_len program.starts ≡ length program.starts.items = search rules in
-    let lk : k < slots (session plan s) = omega (arith, c.requires.stands.slot, c.len.ensures) in
+    let lk : k < slots plan s = omega (arith, c.requires.stands.slot, c.len.ensures) in
     let start = c.index-start.ensures ∙ start_at plan p s program k c.index-start.result.now c.requires.is c.requires.stands.slot in
     c.placed.ensures
     ∙ ap (λ xs. placed k (first plan s k) c.index-start.result.now.deals (slice_index_or xs (q - c.index-start.result.now.instructions) Deal)) (c.at-steps.ensures p c.requires.is.table)
