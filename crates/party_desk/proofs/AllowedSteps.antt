@@ -76,7 +76,7 @@ goes_by l got d h same =
       suits = record { sound = h.suits.sound; party = h.suits.party; session = h.suits.session; inputs = h.suits.inputs; tape = h.suits.tape };
       party = h.party;
       session = h.session;
-      program = h.program;
+      own_program = h.own_program;
       instructions = h.instructions;
       slot = h.slot;
       position = h.position;
@@ -110,7 +110,7 @@ module _ (l : Given) (d : Desk) (is_desk : IsDesk l d) where
     sound = suits.sound;
     session = subst (λ z. z < length l.plan.sessions) (sym is_desk.session) suits.session;
     party = subst (λ z. z < l.plan.parties) (sym is_desk.party) suits.party;
-    program = subst (λ z. IsProgram l.plan z d.session d.program) (sym is_desk.party) (subst (λ z. IsProgram l.plan l.party z d.program) (sym is_desk.session) is_desk.program);
+    own_program = subst (λ z. IsProgram l.plan z d.session d.program) (sym is_desk.party) (subst (λ z. IsProgram l.plan l.party z d.program) (sym is_desk.session) is_desk.own_program);
     slot = subst (λ z. StandsIn l.plan z d.session d.slot d.position) (sym is_desk.party) (subst (λ z. StandsIn l.plan l.party z d.slot d.position) (sym is_desk.session) is_desk.slot);
     position = (let a : d.position ≤ length (program l.plan l.party l.session) = is_desk.position in let b : length (program l.plan l.party l.session) < 4294967295 = program_is_short l.plan suits.sound l.party l.session in omega arith);
     sent = (let a : d.sent ≡ posts_before (program l.plan l.party l.session) d.position = is_desk.sent in let b = posts_few (program l.plan l.party l.session) d.position in omega arith);
@@ -203,7 +203,7 @@ module _ {C : Type 0} (cells : Meaning C) (plan : Plan) (c : C) (l : Given) (d :
 
   -- the program's own instruction at this position
   own : (j : Instruction) → j ≡ at (program plan d.program.party d.program.session) d.position → j ≡ instruction_at l d
-  own j e = e ∙ (λ z. at (program (sym may.same z) (may.desk.program.of_party z) (may.desk.program.of_session z)) d.position)
+  own j e = e ∙ (λ z. at (program (sym may.same z) (may.desk.own_program.of_party z) (may.desk.own_program.of_session z)) d.position)
 
   pub may_proper : (j : Instruction) → j ≡ at (program plan d.program.party d.program.session) d.position → Proper plan d.session j
   may_proper j e = subst (λ z. Proper z d.session j) may.same (subst (Proper l.plan d.session) (sym (own j e)) (proper_own l d may.desk))
@@ -217,10 +217,10 @@ module _ {C : Type 0} (cells : Meaning C) (plan : Plan) (c : C) (l : Given) (d :
   -- the desk's program is that of its party in its session, and it stands in its slot
   pub may_program : IsProgram plan d.program.party d.program.session d.program
   may_program =
-      let h = may_stand.program in
+      let h = may_stand.own_program in
       subst (λ z. IsProgram plan z d.program.session d.program) (sym h.of_party) (subst (λ z. IsProgram plan d.party z d.program) (sym h.of_session) h)
 
   pub may_slot : StandsIn plan d.program.party d.program.session d.slot d.position
   may_slot =
-      let h = may_stand.program in
+      let h = may_stand.own_program in
       subst (λ z. StandsIn plan z d.program.session d.slot d.position) (sym h.of_party) (subst (λ z. StandsIn plan d.party z d.slot d.position) (sym h.of_session) may_stand.slot)

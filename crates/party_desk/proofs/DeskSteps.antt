@@ -11,6 +11,7 @@ use Rattle.job_plan.specs.Plans.{Plan, Slot, holds, scheme, session, slot}
 use Rattle.job_plan.specs.Plans.Slot.{Input, At_gate, Output}
 use Rattle.job_plan.specs.KeptWires.{IsRowTable}
 use Rattle.std.specs.Arc.{arc_value}
+use Rattle.job_plan.specs.declared.row_table.RowTable.{RowTable}
 use Rattle.list_laws.proofs.Totals.{total_eq}
 use Rattle.party_program.specs.declared.program.Instruction.{Instruction}
 use Rattle.party_program.specs.declared.program.Instruction.TheVariants.{Deal, Post, Take, Linear, Own, Sum, Deliver, End}
@@ -114,7 +115,7 @@ module _ (l : Given) (d e : Desk) (w : ℕ) (h : IsDesk l d) (proper : Proper l.
   same = goes_on l.plan h.suits.sound l.session l.party h.suits.session h.suits.party (arc_value d.memory.table).rows.items h.fits.table.0 q (state_of m d.memory) σ (same_read l h.suits q d.memory h.fits.table.0 σ h.memory) (word_of l σ.deals) (slice_index l.inputs σ.deals) w l.got (word_right l w i given)
 
   rows_stay : row_of e.memory ≡ row_of d.memory
-  rows_stay = ap (λ z. slice_index (arc_value z).rows.items) a.table
+  rows_stay = ap (λ z. slice_index (arc_value {X = RowTable} z).rows.items) a.table
 
   remembers : Remembers l (suc q) e.memory (next l i σ)
   remembers = record {
@@ -130,7 +131,7 @@ module _ (l : Given) (d e : Desk) (w : ℕ) (h : IsDesk l d) (proper : Proper l.
     suits = h.suits;
     party = a.party ∙ h.party;
     session = a.session ∙ h.session;
-    program = subst (IsProgram l.plan l.party l.session) (sym a.program) h.program;
+    own_program = subst (IsProgram l.plan l.party l.session) (sym a.program) h.own_program;
     instructions = a.instructions ∙ h.instructions;
     slot = subst (λ z. StandsIn l.plan z l.session e.slot e.position) h.party (subst (λ z. StandsIn l.plan d.party z e.slot e.position) h.session a.slot);
     position = omega (arith, more, inside);
