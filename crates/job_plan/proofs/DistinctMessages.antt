@@ -5,9 +5,8 @@ use Rattle.std.specs.List.{AllByRecursion}
 use Rattle.std.proofs.lemmas.Bool.{and_parts, and_from, eq-eqb, eqb-true, false_from_ne_true}
 use Rattle.std.proofs.lemmas.List.Sums.{position_or_len_is, passes_at_first}
 use Rattle.list_laws.specs.Lists.{total, joined, listed, only_if}
-use Rattle.job_plan.specs.Plans.{readers, owners, Plan, Slot, session, slot, slots, words_in, deals_in}
+use Rattle.job_plan.specs.Plans.{owners, Plan, Slot, session, slot, slots, words_in, deals_in, opens_to}
 use Rattle.job_plan.specs.declared.key.Key.{Key}
-use Rattle.party_set.specs.Parties.{has_party}
 use Rattle.job_plan.specs.Messages.{messages, slot_messages, deal_messages, open_messages}
 use Rattle.job_plan.specs.Plans.Slot.{Input, At_gate, Output}
 use Rattle.job_plan.specs.Numbers.{same_key, no_key, message, number, NumbersAreInverse, PlacesDiffer, deals_before, deals, PlacesByDeals}
@@ -81,8 +80,8 @@ slot_distinct plan s k (At_gate t) =
     distinct_joined (λ x. x.sender) plan.parties _ (λ p lp. distinct_only_if (deals_in plan s p (At_gate t)) _ (deal_distinct plan s k p))
     (λ p lp. every_only_if (λ x. x.sender ≡ p) (deals_in plan s p (At_gate t)) _ (λ e. every_deal (λ x. x.sender ≡ p) plan s k p (λ i q. refl)))
 slot_distinct plan s k (Output o) =
-    distinct_joined (λ x. x.receiver) plan.parties _ (λ r lr. distinct_only_if (has_party (slice_index (readers (session plan s)) o) r) _ (open_distinct plan s k r))
-    (λ r lr. every_only_if (λ x. x.receiver ≡ r) (has_party (slice_index (readers (session plan s)) o) r) _ (λ e. every_open (λ x. x.receiver ≡ r) plan s k r (λ i p. refl)))
+    distinct_joined (λ x. x.receiver) plan.parties _ (λ r lr. distinct_only_if (opens_to plan s r (Output o)) _ (open_distinct plan s k r))
+    (λ r lr. every_only_if (λ x. x.receiver ≡ r) (opens_to plan s r (Output o)) _ (λ e. every_open (λ x. x.receiver ≡ r) plan s k r (λ i p. refl)))
 
 pub every_slot : (P : Key → Type 0) (plan : Plan) (s k : ℕ) (z : Slot) → ((i p q : ℕ) → P (record { session = s; slot = k; share = i; sender = p; receiver = q })) → AllByRecursion P (slot_messages plan s k z)
 every_slot P plan s k (Input v) h = every_deal P plan s k (slice_index (owners (session plan s)) v) (λ i q. h i _ q)

@@ -2,8 +2,7 @@
 use Rattle.std.proofs.Common.{◌≡◌, ℕ, zero, suc, ◌+◌, ◌*◌, ◌<◌, ◌≤◌, Bool, true, false, not, ◌&&◌, nat_eq, List, [], ◌∷◌, ◌++◌, length, subst, arith}
 use Rattle.std.specs.Prelude.{slice_index, slice_index_or}
 use Rattle.list_laws.specs.Lists.{joined, only_if}
-use Rattle.party_set.specs.Parties.{has_party}
-use Rattle.job_plan.specs.Plans.{Plan, Slot, session, owners, readers, holds, deals_in}
+use Rattle.job_plan.specs.Plans.{Plan, Slot, session, owners, holds, deals_in, opens_to}
 use Rattle.job_plan.specs.Plans.Slot.{Input, At_gate, Output}
 use Rattle.job_plan.specs.Messages.{slot_messages, deal_message, deal_messages, open_messages}
 use Rattle.job_plan.specs.Numbers.{no_key, opens, rank, IsRising}
@@ -77,7 +76,7 @@ module _ (plan : Plan) (s k : ℕ) (parties : plan.parties ≤ 12) (shares : len
   slot_rises (Output o) = (
     0,
     0 + plan.parties * 768,
-    rise_joined (rank true) 0 768 plan.parties _ (λ r lr. rise_only_if (rank true) (0 + r * 768) (0 + r * 768 + 768) (has_party (slice_index (readers (session plan s)) o) r) (open_messages plan s k r) (omega arith) (let none : r * 768 ≡ 0 + r * 768 = omega arith in subst (λ z. Rise (rank true) z (z + 768) (open_messages plan s k r)) none (open_rises r lr))),
+    rise_joined (rank true) 0 768 plan.parties _ (λ r lr. rise_only_if (rank true) (0 + r * 768) (0 + r * 768 + 768) (opens_to plan s r (Output o)) (open_messages plan s k r) (omega arith) (let none : r * 768 ≡ 0 + r * 768 = omega arith in subst (λ z. Rise (rank true) z (z + 768) (open_messages plan s k r)) none (open_rises r lr))),
   )
 
   pub slot_is_rising : (z : Slot) → IsRising (rank (opens z)) (slot_messages plan s k z)

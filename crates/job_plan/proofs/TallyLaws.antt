@@ -13,7 +13,7 @@ use Rattle.circuit_model.specs.declared.gate.Gate.{Gate}
 use Rattle.circuit_model.specs.Circuits.{is_product}
 use Rattle.secret_sharing.specs.Sharing.{has_pair}
 use Rattle.party_set.specs.Parties.{has_party}
-use Rattle.job_plan.specs.Plans.{Plan, Session, Slot, owners, readers, session, gate, no_gate, session_slot, slot, session_slots, slots, scheme, deals_in, holds, least_holder}
+use Rattle.job_plan.specs.Plans.{Plan, Session, Slot, owners, readers, session, gate, no_gate, session_slot, slot, session_slots, slots, scheme, deals_in, holds, least_holder, opens_to}
 use Rattle.job_plan.specs.declared.key.Key.{Key}
 use Rattle.job_plan.specs.Plans.Slot.{Input, At_gate, Output}
 use Rattle.job_plan.specs.Messages.{messages, slot_messages, deal_message, deal_messages, open_messages}
@@ -132,14 +132,9 @@ open_length plan s k r =
     ∙ total_eq (length plan.groups) _ _ (λ i l. length_only_if (not (holds plan r i)) (_ ∷ []) ∙ sym (length_only_if (not (holds plan r i)) (_ ∷ [])))
     ∙ sym (length-joined (length plan.groups) (open_message plan 0 0 r))
 
--- r is opened something in this slot
-abbrev opens_in : Session → ℕ → Slot → Bool
-opens_in s r (Output o) = has_party (slice_index (readers s) o) r
-opens_in s r _ = false
-
 -- what party p deals and is opened in a slot
 abbrev share_of : Plan → ℕ → Slot → ℕ → ℕ
-share_of plan s z p = length (deal_messages plan 0 0 p) * one (deals_in plan s p z) + length (open_messages plan 0 0 p) * one (opens_in (session plan s) p z)
+share_of plan s z p = length (deal_messages plan 0 0 p) * one (deals_in plan s p z) + length (open_messages plan 0 0 p) * one (opens_to plan s p z)
 
 pick_term : (f : ℕ → ℕ) (d p : ℕ) → (if nat_eq d p then f d else 0) ≡ f p * one (nat_eq d p)
 pick_term f d p = elim (cases_eq d p) [
@@ -169,15 +164,16 @@ slot_by_party plan s k h lk = slot_cases (session plan s) (λ k z. length (slot_
     output o lo =
         length-joined plan.parties _
         ∙ total_eq plan.parties _ _ (λ r l.
-        let here = length_only_if (has_party (slice_index (readers (session plan s)) o) r) (open_messages plan s (length (owners (session plan s)) + length (session plan s).gates + o) r) in
-        here ∙ ap (λ z. z * one (has_party (slice_index (readers (session plan s)) o) r)) (open_length plan s (length (owners (session plan s)) + length (session plan s).gates + o) r) ∙ omega arith)
+        let here = length_only_if (opens_to plan s r (Output o)) (open_messages plan s (length (owners (session plan s)) + length (session plan s).gates + o) r) in
+        here ∙ ap (λ z. z * one (opens_to plan s r (Output o))) (open_length plan s (length (owners (session plan s)) + length (session plan s).gates + o) r) ∙ omega arith)
 
-opened_is : (s : Session) (r : ℕ) → total (session_slots s) (λ k. one (opens_in s r (session_slot s k))) ≡ outputs_read s r
-opened_is s r =
-    let inputs = total_zero (length (owners s)) (λ v. 0) (λ v l. refl) in
-    let gates = total_zero (length s.gates) (λ t. 0) (λ t l. refl) in
-    let outputs = total_count (λ mask. has_party mask r) (readers s) 0 in
-    by_kind s (λ z. one (opens_in s r z)) ∙ ap₂ (λ a b. a + b) (ap₂ (λ a b. a + b) inputs gates) outputs ∙ omega arith
+opened_is : (plan : Plan) (s r : ℕ) → total (slots plan s) (λ k. one (opens_to plan s r (slot plan s k))) ≡ outputs_read (session plan s) r
+opened_is plan s r =
+    let sess : Session = session plan s in
+    let inputs = total_zero (length (owners sess)) (λ v. 0) (λ v l. refl) in
+    let gates = total_zero (length sess.gates) (λ t. 0) (λ t l. refl) in
+    let outputs = total_count (λ mask. has_party mask r) (readers sess) 0 in
+    by_kind sess (λ z. one (opens_to plan s r z)) ∙ ap₂ (λ a b. a + b) (ap₂ (λ a b. a + b) inputs gates) outputs ∙ omega arith
 
 session_by_party : (plan : Plan) (s : ℕ) → ((v : ℕ) → v < length (owners (session plan s)) → slice_index (owners (session plan s)) v < plan.parties)
     → session_count plan s ≡ total plan.parties (λ p. length (deal_messages plan 0 0 p) * deals plan p s + length (open_messages plan 0 0 p) * outputs_read (session plan s) p)
@@ -186,9 +182,9 @@ session_by_party plan s h =
     total_eq (slots plan s) _ _ (λ k l. slot_by_party plan s k h l)
     ∙ total_swap (slots plan s) plan.parties (λ k p. share_of plan s (slot plan s k) p)
     ∙ total_eq plan.parties _ _ (λ p l.
-    total_add (slots plan s) (λ k. length (deal_messages plan 0 0 p) * one (deals_in plan s p (slot plan s k))) (λ k. length (open_messages plan 0 0 p) * one (opens_in sess p (slot plan s k)))
+    total_add (slots plan s) (λ k. length (deal_messages plan 0 0 p) * one (deals_in plan s p (slot plan s k))) (λ k. length (open_messages plan 0 0 p) * one (opens_to plan s p (slot plan s k)))
     ∙ ap₂ (λ a b. a + b) (total_mul_left (slots plan s) (length (deal_messages plan 0 0 p)) (λ k. one (deals_in plan s p (slot plan s k))))
-    (total_mul_left (slots plan s) (length (open_messages plan 0 0 p)) (λ k. one (opens_in sess p (slot plan s k))) ∙ ap (λ z. length (open_messages plan 0 0 p) * z) (opened_is sess p)))
+    (total_mul_left (slots plan s) (length (open_messages plan 0 0 p)) (λ k. one (opens_to plan s p (slot plan s k))) ∙ ap (λ z. length (open_messages plan 0 0 p) * z) (opened_is plan s p)))
 
 pub messages_by_party : (plan : Plan) → ((s v : ℕ) → s < length plan.sessions → v < length (owners (session plan s)) → slice_index (owners (session plan s)) v < plan.parties)
     → length (messages plan) ≡ total plan.parties (party_messages plan)

@@ -1,9 +1,8 @@
 -- The messages of a plan, in the order of their numbers: session by session and slot by slot.
 use Rattle.std.specs.Prelude.{ℕ, ◌&&◌, not, nat_eq, List, [], ◌∷◌, length, slice_index}
 use Rattle.list_laws.specs.Lists.{joined, only_if}
-use Rattle.party_set.specs.Parties.{has_party}
 use Rattle.job_plan.specs.declared.key.Key.{Key}
-use Rattle.job_plan.specs.Plans.{Plan, Slot, holds, least_holder, deals_in, session, owners, readers, slot, slots}
+use Rattle.job_plan.specs.Plans.{Plan, Slot, holds, least_holder, deals_in, session, owners, slot, slots, opens_to}
 use Rattle.job_plan.specs.Plans.Slot.{Input, At_gate, Output}
 
 -- summand i of a deal of p, to party q: a message where q is another party that holds it
@@ -28,8 +27,7 @@ slot_messages plan s k (Input v) = deal_messages plan s k (slice_index (owners (
 slot_messages plan s k (At_gate t) =
     joined plan.parties (λ p. only_if (deals_in plan s p (At_gate t)) (deal_messages plan s k p))
 slot_messages plan s k (Output o) =
-    joined plan.parties (λ r. only_if (has_party (slice_index (readers (session plan s)) o) r)
-    (open_messages plan s k r))
+    joined plan.parties (λ r. only_if (opens_to plan s r (Output o)) (open_messages plan s k r))
 
 abbrev pub session_messages : Plan → ℕ → List Key
 session_messages plan s = joined (slots plan s) (λ k. slot_messages plan s k (slot plan s k))

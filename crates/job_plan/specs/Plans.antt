@@ -88,10 +88,6 @@ no_session = record { gates = []; wires = 0; inputs = []; outputs = [] }
 abbrev pub session : Plan → ℕ → Session
 session plan s = slice_index_or plan.sessions s no_session
 
--- party p reads output wire o of session s
-abbrev pub reads : Plan → ℕ → ℕ → ℕ → Bool
-reads plan p s o = has_party (slice_index (readers (session plan s)) o) p
-
 abbrev pub no_gate : Gate
 no_gate = record { operation = Add; first = 0; second = 0; output = 0; constant = 0 }
 
@@ -124,15 +120,31 @@ slot plan s k = session_slot (session plan s) k
 abbrev pub slots : Plan → ℕ → ℕ
 slots plan s = session_slots (session plan s)
 
--- party p deals in this slot of session s: an input of its own, or its part of a product
+-- ---- what is done in a slot of session s
+
+-- party p gives input wire v
+abbrev pub gives : Plan → ℕ → ℕ → ℕ → Bool
+gives plan s p v = nat_eq (slice_index (owners (session plan s)) v) p
+
+-- party p deals: an input of its own, or its part of a product
 abbrev pub deals_in : Plan → ℕ → ℕ → Slot → Bool
-deals_in plan s p (Input v) = nat_eq (slice_index (owners (session plan s)) v) p
+deals_in plan s p (Input v) = gives plan s p v
 deals_in plan s p (At_gate t) = is_product (gate (session plan s) t).operation && has_pair (scheme plan) p
 deals_in plan s p (Output o) = false
 
+-- something is opened to party r: an output that it reads
+abbrev pub opens_to : Plan → ℕ → ℕ → Slot → Bool
+opens_to plan s r (Input v) = false
+opens_to plan s r (At_gate t) = false
+opens_to plan s r (Output o) = has_party (slice_index (readers (session plan s)) o) r
+
+-- party p reads output wire o of session s
+abbrev pub reads : Plan → ℕ → ℕ → ℕ → Bool
+reads plan p s o = opens_to plan s p (Output o)
+
 -- ---- tape words
 
--- how many tape words p draws in this slot of session s
+-- how many tape words p draws in this slot
 abbrev pub words_in : Plan → ℕ → ℕ → Slot → ℕ
 words_in plan s p k = if deals_in plan s p k then length plan.groups - 1 else 0
 

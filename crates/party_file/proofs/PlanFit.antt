@@ -13,7 +13,7 @@ use Rattle.list_laws.proofs.JoinedLists.{length-listed, listed_at}
 use Rattle.tape_words.specs.Cuts.{cut}
 use Rattle.tape_words.specs.Seeds.{seed_word}
 use Rattle.toml_fields.specs.Fields.{has_field, text_at, texts_at}
-use Rattle.job_plan.specs.Plans.{Plan, session, owners, words}
+use Rattle.job_plan.specs.Plans.{Plan, session, owners, words, gives}
 use Rattle.job_plan.specs.Tallies.{owned}
 use Rattle.job_plan.proofs.TallyLaws.{total_count}
 use Rattle.list_laws.specs.Checks.{◌answers◌, first_fault}
@@ -63,7 +63,7 @@ module _ (plan : Plan) (p : ℕ) (texts : List (List ℕ)) (counted : length tex
   unfolding input_checks
   input_sound s l = session_sound plan.bits (owned (session plan s) p) s (slice_index_or texts s []) (joined-passed (length plan.sessions) s (checks_of plan p texts) l passed)
 
-  input_count : (s : ℕ) → s < length plan.sessions → length (slice_index_or (map numbers_in texts) s []) ≡ total (length (owners (session plan s))) (λ v. if nat_eq (slice_index (owners (session plan s)) v) p then 1 else 0)
+  input_count : (s : ℕ) → s < length plan.sessions → length (slice_index_or (map numbers_in texts) s []) ≡ total (length (owners (session plan s))) (λ v. if gives plan s p v then 1 else 0)
   input_count s l = ap length (input_at s l) ∙ (input_sound s l).0 ∙ sym (total_count (λ owner. nat_eq owner p) (owners (session plan s)) 0)
 
   input_ring : (s : ℕ) → InRing plan.bits (slice_index_or (map numbers_in texts) s [])

@@ -1,7 +1,7 @@
 -- What a party's file gives, and that it fits the plan.
-use Rattle.std.specs.Prelude.{◌≡◌, ℕ, ◌<◌, ◌^◌, nat_eq, if◌then◌else◌, [], length, slice_index, slice_index_or, All}
+use Rattle.std.specs.Prelude.{◌≡◌, ℕ, ◌<◌, ◌^◌, if◌then◌else◌, [], length, slice_index, slice_index_or, All}
 use Rattle.list_laws.specs.Lists.{total}
-use Rattle.job_plan.specs.Plans.{Plan, session, owners, words}
+use Rattle.job_plan.specs.Plans.{Plan, session, owners, words, gives}
 use Rattle.job_plan.specs.InputWords.{session_words}
 use Rattle.party_file.specs.Table.{PartyForm}
 use Rattle.party_file.specs.declared.data.PartyData.{PartyData}
@@ -16,7 +16,7 @@ pub record FitsPlan (plan : Plan) (p : ℕ) (form : PartyForm) : Type 0 where
   pub counts : (s : ℕ) → s < length plan.sessions
       → length (slice_index_or form.inputs s [])
       ≡ total (length (owners (session plan s)))
-      (λ v. if nat_eq (slice_index (owners (session plan s)) v) p then 1 else 0)
+      (λ v. if gives plan s p v then 1 else 0)
   pub below : (s k : ℕ) → slice_index (slice_index_or form.inputs s []) k < 2 ^ plan.bits
   pub tapes : length form.tapes ≡ length plan.sessions
   pub lengths : (s : ℕ) → s < length plan.sessions → length (slice_index_or form.tapes s []) ≡ words plan p s

@@ -1,6 +1,6 @@
 -- The instructions of a slot are the steps of its pattern.
 use Rattle.std.proofs.Common.{◌≡◌, ℕ, suc, ◌+◌, ◌<◌, Bool, true, false, not, ◌&&◌, nat_eq, if◌then◌else◌, List, [], ◌∷◌, ◌++◌, map, length, refl, sym, ap, ap₂, ◌∙◌, subst, arith}
-use Rattle.std.specs.Prelude.{slice_index, slice_index_or}
+use Rattle.std.specs.Prelude.{slice_index_or}
 use Rattle.std.specs.List.{range_with_len, filter, enumerate_from}
 use Rattle.std.proofs.lemmas.Bool.{cases_Bool, cond-true, cond-false}
 use Rattle.std.proofs.lemmas.List.{map-append, length-map, get_or-map}
@@ -8,12 +8,11 @@ use mathlib.Core.Logic.{inl, inr}
 use Rattle.list_laws.specs.Lists.{only_if}
 use Rattle.circuit_model.specs.Circuits.{is_product}
 use Rattle.secret_sharing.specs.Sharing.{has_pair}
-use Rattle.party_set.specs.Parties.{has_party}
 use Rattle.job_plan.specs.declared.key.Key.{Key}
 use Rattle.job_plan.specs.declared.pattern.Line.{Line}
 use Rattle.job_plan.specs.declared.pattern.Pattern.{Pattern}
 use Rattle.job_plan.specs.declared.pattern.Pattern.TheVariants.{Silent, Multiplied}
-use Rattle.job_plan.specs.Plans.{Plan, Slot, scheme, session, slot, slots, gate, owners, readers}
+use Rattle.job_plan.specs.Plans.{Plan, Slot, scheme, session, slot, slots, gate, gives, opens_to}
 use Rattle.job_plan.specs.Plans.Slot.{Input, At_gate, Output}
 use Rattle.job_plan.specs.Numbers.{message, no_key, deals_before}
 use Rattle.job_plan.specs.Firsts.{count, first, numbers}
@@ -66,7 +65,7 @@ module _ (plan : Plan) (p s k : ℕ) where
   before_product false = refl
 
   opening_is : (z : Slot) → programs.opening plan p s k z ≡ map place (before plan p (pattern plan s z))
-  opening_is (Input v) = sym (map_only_if place (nat_eq (slice_index (owners (session plan s)) v) p) (Deal ∷ []))
+  opening_is (Input v) = sym (map_only_if place (gives plan s p v) (Deal ∷ []))
   opening_is (At_gate t) = before_product (is_product (gate (session plan s) t).operation)
   opening_is (Output o) = refl
 
@@ -77,7 +76,7 @@ module _ (plan : Plan) (p s k : ℕ) where
   closing_is : (z : Slot) → programs.closing plan p s k z ≡ map place (after p (pattern plan s z))
   closing_is (Input v) = refl
   closing_is (At_gate t) = after_gate (is_product (gate (session plan s) t).operation)
-  closing_is (Output o) = sym (map_only_if place (has_party (slice_index (readers (session plan s)) o) p) (Deliver ∷ []))
+  closing_is (Output o) = sym (map_only_if place (opens_to plan s p (Output o)) (Deliver ∷ []))
 
   module _ (ls : s < length plan.sessions) (lk : k < slots plan s) where
     abbrev its : Pattern

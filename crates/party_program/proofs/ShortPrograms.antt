@@ -1,13 +1,11 @@
 -- The count of a program's instructions is small.
-use Rattle.std.proofs.Common.{ℕ, zero, suc, ◌+◌, ◌*◌, ◌<◌, ◌≤◌, Bool, true, false, not, nat_eq, List, [], ◌∷◌, ◌++◌, map, length, sym, subst, arith, length-append}
-use Rattle.std.specs.Prelude.{slice_index}
+use Rattle.std.proofs.Common.{ℕ, zero, suc, ◌+◌, ◌*◌, ◌<◌, ◌≤◌, Bool, true, false, not, List, [], ◌∷◌, ◌++◌, map, length, sym, subst, arith, length-append}
 use Rattle.std.specs.List.{range_with_len, filter}
 use Rattle.std.proofs.lemmas.Bool.{cases_Bool, cond-true, cond-false}
 use mathlib.Core.Logic.{inl, inr}
 use Rattle.list_laws.specs.Lists.{total, only_if}
 use Rattle.circuit_model.specs.Circuits.{is_product}
-use Rattle.party_set.specs.Parties.{has_party}
-use Rattle.job_plan.specs.Plans.{Plan, Slot, session, slot, slots, gate, owners, readers, deals_in}
+use Rattle.job_plan.specs.Plans.{Plan, Slot, session, slot, slots, gate, deals_in, gives, opens_to}
 use Rattle.job_plan.specs.Plans.Slot.{Input, At_gate, Output}
 use Rattle.job_plan.specs.Numbers.{deals_before}
 use Rattle.job_plan.specs.Firsts.{count, first}
@@ -34,7 +32,7 @@ passing_short f test a (suc n) =
 
 module _ (plan : Plan) (p s : ℕ) where
   opening_short : (k : ℕ) (z : Slot) → length (opening plan p s k z) ≤ 2
-  opening_short k (Input v) = let short = only_short (nat_eq (slice_index (owners (session plan s)) v) p) (Deal k (deals_before plan p s k) ∷ []) in omega arith
+  opening_short k (Input v) = let short = only_short (gives plan s p v) (Deal k (deals_before plan p s k) ∷ []) in omega arith
   opening_short k (At_gate t) = only_short (deals_in plan s p (At_gate t)) (Own k ∷ Deal k (deals_before plan p s k) ∷ [])
   opening_short k (Output o) = omega arith
 
@@ -46,7 +44,7 @@ module _ (plan : Plan) (p s : ℕ) where
       let linear = only_short (not product) (Linear k ∷ []) in
       let both = length-append (only_if product (Sum k ∷ [])) (only_if (not product) (Linear k ∷ [])) in
       omega arith
-  closing_short k (Output o) = let short = only_short (has_party (slice_index (readers (session plan s)) o) p) (Deliver k ∷ []) in omega arith
+  closing_short k (Output o) = let short = only_short (opens_to plan s p (Output o)) (Deliver k ∷ []) in omega arith
 
   slot_short : (k : ℕ) → length (slot_program plan p s k) ≤ 2 * count plan s k + 4
   slot_short k =

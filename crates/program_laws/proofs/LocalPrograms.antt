@@ -12,7 +12,7 @@ use Rattle.circuit_model.specs.Circuits.{is_product, set_at}
 use Rattle.circuit_model.specs.declared.gate.Gate.{Gate}
 use Rattle.secret_sharing.proofs.SummandSums.{dealt_eq, dealt_small}
 use Rattle.secret_sharing.specs.Sharing.{Run, dealt, own_product, own_value, has_pair, local, gate_summands, summands}
-use Rattle.job_plan.specs.Plans.{readers, owners, Plan, Session, scheme, session, gate, slot, slots, holds, least_holder, deals_in, words, place, IsPlan, output_wire}
+use Rattle.job_plan.specs.Plans.{readers, owners, Plan, Session, scheme, session, gate, slot, slots, holds, least_holder, deals_in, words, place, IsPlan, output_wire, opens_to}
 use Rattle.job_plan.specs.declared.key.Key.{Key}
 use Rattle.party_set.specs.Parties.{has_party}
 use Rattle.job_plan.specs.Messages.{messages, slot_messages, deal_messages, open_messages}
@@ -410,7 +410,7 @@ module _ (w : World) (h' : IsPlan w.plan) (got : Key → ℕ) (s p : ℕ) (ls : 
     pub rows : (u i : ℕ) → i < m → holds plan p i ≡ true → σ.rows u i ≡ last u i
     pub sums : (i : ℕ) → i < m → σ.sums i ≡ 0
     pub deals : σ.deals ≡ deals_before plan p s (out_k o)
-    pub outputs : (u : ℕ) → u < o → has_party (slice_index (readers x) u) p ≡ true → σ.outputs u ≡ Some (local_output w got p s u)
+    pub outputs : (u : ℕ) → u < o → opens_to w.plan s p (Output u) ≡ true → σ.outputs u ≡ Some (local_output w got p s u)
 
   module _ (o : ℕ) (lo : o < length (readers x)) (σ : State) (h : InOutputs o σ) where
     abbrev ko : ℕ
@@ -521,7 +521,7 @@ module _ (w : World) (h' : IsPlan w.plan) (got : Key → ℕ) (s p : ℕ) (ls : 
                 sums = h.sums;
                 deals = h.deals ∙ next_deals;
                 outputs = λ u lu r. elim (cases_eq u o) [
-                  | inl e ↦ absurd (both_ways (has_party mask p) not' (subst (λ z. has_party (slice_index (readers x) z) p ≡ true) e r))
+                  | inl e ↦ absurd (both_ways (has_party mask p) not' (subst (λ z. opens_to w.plan s p (Output z) ≡ true) e r))
                   | inr ne ↦ h.outputs u (omega arith) r
                 ];
               } in

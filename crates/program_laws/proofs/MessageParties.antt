@@ -5,8 +5,7 @@ use Rattle.std.specs.List.{AllByRecursion}
 use Rattle.std.proofs.lemmas.Bool.{and_parts, both_ways, eq-eqb, not-true}
 use Rattle.list_laws.specs.Lists.{joined}
 use Rattle.list_laws.proofs.JoinedLists.{every_joined, every_only_if}
-use Rattle.party_set.specs.Parties.{has_party}
-use Rattle.job_plan.specs.Plans.{Plan, Slot, session, slot, slots, owners, readers, holds, deals_in, IsPlan}
+use Rattle.job_plan.specs.Plans.{Plan, Slot, session, slot, slots, owners, holds, deals_in, IsPlan, opens_to}
 use Rattle.job_plan.specs.Plans.Slot.{Input, At_gate, Output}
 use Rattle.job_plan.specs.declared.key.Key.{Key}
 use Rattle.job_plan.specs.Messages.{messages, slot_messages, deal_message, deal_messages, open_messages}
@@ -45,7 +44,7 @@ module _ (plan : Plan) (h : IsPlan plan) (s k : ℕ) where
   of_slot : (z : Slot) → ((v : ℕ) → z ≡ Input v → slice_index (owners (session plan s)) v < plan.parties) → AllByRecursion Between (slot_messages plan s k z)
   of_slot (Input v) owned = of_deal (slice_index (owners (session plan s)) v) (owned v refl)
   of_slot (At_gate t) owned = every_joined Between plan.parties _ (λ p lp. every_only_if Between (deals_in plan s p (At_gate t)) _ (λ e. of_deal p lp))
-  of_slot (Output o) owned = every_joined Between plan.parties _ (λ r lr. every_only_if Between (has_party (slice_index (readers (session plan s)) o) r) _ (λ e. of_opening r lr))
+  of_slot (Output o) owned = every_joined Between plan.parties _ (λ r lr. every_only_if Between (opens_to plan s r (Output o)) _ (λ e. of_opening r lr))
 
 -- an input slot is of an input wire
 input_there : (plan : Plan) (s k v : ℕ) → OwnersAreParties plan → s < length plan.sessions → k < slots plan s → slot plan s k ≡ Input v → slice_index (owners (session plan s)) v < plan.parties

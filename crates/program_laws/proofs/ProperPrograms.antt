@@ -1,6 +1,5 @@
 -- What a program does with what suits its plan, whatever words it gets.
-use Rattle.std.proofs.Common.{◌≡◌, ℕ, zero, suc, ◌+◌, ◌-◌, ◌*◌, ◌<◌, ◌≤◌, ◌^◌, Bool, true, false, nat_eq, if◌then◌else◌, List, [], length, refl, sym, ap, ◌∙◌, subst, arith}
-use Rattle.std.specs.Prelude.{slice_index}
+use Rattle.std.proofs.Common.{◌≡◌, ℕ, zero, suc, ◌+◌, ◌-◌, ◌*◌, ◌<◌, ◌≤◌, ◌^◌, Bool, true, false, if◌then◌else◌, List, [], length, refl, sym, ap, ◌∙◌, subst, arith}
 use Rattle.std.proofs.lemmas.Bool.{cases_lt, cond-true}
 use Rattle.std.proofs.lemmas.List.{get_or_past}
 use Rattle.std.proofs.lemmas.Nat.{pow_pos}
@@ -9,7 +8,7 @@ use mathlib.Core.Logic.{inl, inr}
 use Rattle.list_laws.specs.Lists.{total}
 use Rattle.list_laws.proofs.Totals.{total_eq}
 use Rattle.list_laws.proofs.JoinedLists.{total_within}
-use Rattle.job_plan.specs.Plans.{Plan, Slot, owners, session, slot, slots, deals_in, words, place, IsPlan}
+use Rattle.job_plan.specs.Plans.{Plan, Slot, owners, session, slot, slots, deals_in, words, place, IsPlan, gives}
 use Rattle.job_plan.specs.Plans.Slot.{Input, At_gate, Output}
 use Rattle.job_plan.specs.Sound.{IsSound}
 use Rattle.job_plan.specs.declared.key.Key.{Key}
@@ -99,9 +98,9 @@ module _ (plan : Plan) (h : IsSound plan) (s p : ℕ) (ls : s < length plan.sess
     has_input : (k : ℕ) → k < slots plan s → deals_in plan s p (slot plan s k) ≡ true → HasInput (given plan p s inputs tape got) (slot plan s k) (deals_before plan p s k)
     has_input = slot_cases (session plan s) (λ k z. deals_in plan s p z ≡ true → HasInput (given plan p s inputs tape got) z (deals_before plan p s k))
         (λ v lv yes'.
-        let c : ℕ → ℕ = λ v. if nat_eq (slice_index (owners (session plan s)) v) p then 1 else 0 in
+        let c : ℕ → ℕ = λ v. if gives plan s p v then 1 else 0 in
         let before : deals_before plan p s v ≡ total v c = total_eq v _ _ (λ u lu. ap (λ z. if deals_in plan s p z then 1 else 0) (slot_input (session plan s) u (omega (arith, lu, lv)))) in
-        let one : c v ≡ 1 = cond-true (nat_eq (slice_index (owners (session plan s)) v) p) 1 0 yes' in
+        let one : c v ≡ 1 = cond-true (gives plan s p v) 1 0 yes' in
         let within : total v c + c v ≤ total (length (owners (session plan s))) c = total_within (length (owners (session plan s))) v c lv in
         omega arith)
         (λ t lt yes'. tt)

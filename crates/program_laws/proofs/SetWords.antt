@@ -1,8 +1,8 @@
 -- What an instruction reads was set before, and what is still to be read stands in a row of its own.
-use Rattle.std.proofs.Common.{◌≡◌, ◌⊎◌, ℕ, zero, suc, ◌+◌, ◌*◌, ◌<◌, ◌≤◌, ◌≢◌, Bool, true, false, not, ◌||◌, ◌&&◌, nat_eq, List, [], ◌∷◌, ◌++◌, map, length, refl, sym, ap, ◌∙◌, subst, arith}
+use Rattle.std.proofs.Common.{◌≡◌, ◌⊎◌, ℕ, suc, ◌+◌, ◌*◌, ◌<◌, ◌≤◌, ◌≢◌, Bool, true, false, not, ◌||◌, ◌&&◌, nat_eq, List, [], ◌∷◌, map, length, refl, sym, ap, ◌∙◌, subst, arith}
 use Rattle.std.specs.Prelude.{slice_index}
 use Rattle.std.specs.List.{AllByRecursion, list_any, filter}
-use Rattle.std.proofs.lemmas.Bool.{cases_eq, cases_lt, cases_Bool, cond-true, cond-false, eq-eqb, eqb-true, ne_eqb, both_ways, and_parts, not_from_false, false≢true}
+use Rattle.std.proofs.lemmas.Bool.{cases_eq, cases_lt, cases_Bool, cond-true, eq-eqb, eqb-true, both_ways, and_parts, not_from_false, false≢true}
 use Rattle.std.proofs.lemmas.List.{get_or_past}
 use mathlib.Core.Logic.{inl, inr}
 use Rattle.list_laws.specs.Lists.{joined, only_if}
@@ -10,14 +10,13 @@ use Rattle.list_laws.proofs.JoinedLists.{every_append, every_joined, every_only_
 use Rattle.circuit_model.specs.Circuits.{is_product}
 use Rattle.circuit_model.specs.Netlists.{read_by}
 use Rattle.secret_sharing.specs.Sharing.{has_pair}
-use Rattle.party_set.specs.Parties.{has_party}
-use Rattle.job_plan.specs.Plans.{readers, owners, Plan, Slot, Session, session, gate, slot, slots, holds, least_holder, deals_in, output_wire, scheme, IsPlan}
+use Rattle.job_plan.specs.Plans.{owners, Plan, Slot, Session, session, gate, slot, slots, holds, least_holder, deals_in, output_wire, scheme, IsPlan, gives, opens_to}
 use Rattle.job_plan.specs.Plans.Slot.{Input, At_gate, Output}
 use Rattle.job_plan.specs.declared.key.Key.{Key}
 use Rattle.job_plan.specs.KeptWires.{IsInOrder, IsRowTable, sets, reads, sets_in, reads_in}
-use Rattle.job_plan.specs.Messages.{messages, slot_messages, deal_message, deal_messages, open_messages}
+use Rattle.job_plan.specs.Messages.{slot_messages, deal_message, open_messages}
 use Rattle.job_plan.specs.Numbers.{message, no_key, deals_before}
-use Rattle.job_plan.specs.Firsts.{count, first, numbers}
+use Rattle.job_plan.specs.Firsts.{numbers}
 use Rattle.job_plan.specs.Sound.{IsSound}
 use Rattle.job_plan.proofs.DistinctMessages.{every_place}
 use Rattle.job_plan.proofs.MessageSlots.{IsThere}
@@ -27,7 +26,7 @@ use Rattle.party_program.specs.declared.program.Instruction.{Instruction}
 use Rattle.party_program.specs.declared.program.Instruction.TheVariants.{Deal, Post, Take, Linear, Own, Sum, Deliver, End}
 use Rattle.party_program.specs.Programs.{program, at, from, to, post, take_of, opening, closing, posts, takes, slot_program}
 use Rattle.party_program.specs.States.{gate_in_slot, output_in_slot, slot_of}
-use Rattle.party_program.specs.Proper.{Proper, IsSlot, IsGate, IsOutput}
+use Rattle.party_program.specs.Proper.{Proper, IsGate, IsOutput}
 use Rattle.program_laws.specs.WordsRead.{gate_at, Carries, Sets, Reads, IsSet, IsToRead}
 use Rattle.program_laws.proofs.OncePosted.{there, once}
 use Rattle.program_laws.proofs.ProperPrograms.{proper_at}
@@ -81,7 +80,7 @@ sent plan h s k (At_gate t) = every_any _
     every_any (x ∷ xs) = (tt, every_any xs)
 sent plan h s k (Output o) =
     let P : Key → Type 0 = λ y. holds plan y.sender y.share ≡ true in
-    every_joined P plan.parties _ (λ r lr. every_only_if P (has_party (slice_index (readers (session plan s)) o) r) (open_messages plan s k r) (λ e. every_joined P (length plan.groups) (λ i. only_if (not (holds plan r i)) (record { session = s; slot = k; share = i; sender = least_holder plan i; receiver = r } ∷ [])) (λ i li. every_only_if P (not (holds plan r i)) (record { session = s; slot = k; share = i; sender = least_holder plan i; receiver = r } ∷ []) (λ f. (least_holds plan h i li, tt)))))
+    every_joined P plan.parties _ (λ r lr. every_only_if P (opens_to plan s r (Output o)) (open_messages plan s k r) (λ e. every_joined P (length plan.groups) (λ i. only_if (not (holds plan r i)) (record { session = s; slot = k; share = i; sender = least_holder plan i; receiver = r } ∷ [])) (λ i li. every_only_if P (not (holds plan r i)) (record { session = s; slot = k; share = i; sender = least_holder plan i; receiver = r } ∷ []) (λ f. (least_holds plan h i li, tt)))))
 
 module _ (plan : Plan) (sound : IsSound plan) (s p : ℕ) (ls : s < length plan.sessions) (lp : p < plan.parties) where
   abbrev x : Session
@@ -222,7 +221,7 @@ module _ (plan : Plan) (sound : IsSound plan) (s p : ℕ) (ls : s < length plan.
   AtProduct _ = Unit {0}
 
   opens_right : (k : ℕ) (z : Slot) → slot plan s k ≡ z → AllByRecursion AtProduct (opening plan p s k z)
-  opens_right k (Input v) e = every_only_if AtProduct (nat_eq (slice_index (owners x) v) p) (Deal k (deals_before plan p s k) ∷ []) (λ t. (tt, tt))
+  opens_right k (Input v) e = every_only_if AtProduct (gives plan s p v) (Deal k (deals_before plan p s k) ∷ []) (λ t. (tt, tt))
   opens_right k (At_gate t) e = every_only_if AtProduct (deals_in plan s p (At_gate t)) (Own k ∷ Deal k (deals_before plan p s k) ∷ []) (λ b. (subst Multiplies (sym e) (and_parts (is_product (gate x t).operation) (has_pair (scheme plan) p) b).0, (tt, tt)))
   opens_right k (Output o) e = tt
 
@@ -231,7 +230,7 @@ module _ (plan : Plan) (sound : IsSound plan) (s p : ℕ) (ls : s < length plan.
   closes_right k (At_gate t) =
       every_append AtProduct (only_if (is_product (gate x t).operation) (Sum k ∷ [])) (only_if (not (is_product (gate x t).operation)) (Linear k ∷ []))
       (every_only_if AtProduct (is_product (gate x t).operation) (Sum k ∷ []) (λ b. (tt, tt))) (every_only_if AtProduct (not (is_product (gate x t).operation)) (Linear k ∷ []) (λ b. (tt, tt)))
-  closes_right k (Output o) = every_only_if AtProduct (has_party (slice_index (readers x) o) p) (Deliver k ∷ []) (λ b. (tt, tt))
+  closes_right k (Output o) = every_only_if AtProduct (opens_to plan s p (Output o)) (Deliver k ∷ []) (λ b. (tt, tt))
 
   passes_right : (f : ℕ → Instruction) (ns : List ℕ) → ((n : ℕ) → AtProduct (f n)) → AllByRecursion AtProduct (map f ns)
   passes_right f [] h = tt
@@ -274,7 +273,7 @@ module _ (plan : Plan) (sound : IsSound plan) (s p : ℕ) (ls : s < length plan.
   pub dealt_in_slot : (j v : ℕ) → j < slots plan s → slot plan s j ≡ Input v → slice_index (owners x) v ≡ p → Contains es (Deal j (deals_before plan p s j))
   dealt_in_slot j v lj e own =
       let d : Instruction = Deal j (deals_before plan p s j) in
-      opened j d lj (subst (λ z. Contains (opening plan p s j z) d) (sym e) (only (nat_eq (slice_index (owners x) v) p) d (eq-eqb (slice_index (owners x) v) p own)))
+      opened j d lj (subst (λ z. Contains (opening plan p s j z) d) (sym e) (only (gives plan s p v) d (eq-eqb (slice_index (owners x) v) p own)))
 
   has_take : (i j : ℕ) (ns : List ℕ) → AllByRecursion (λ n. (message plan n).slot ≡ j) ns → Has plan i ns → (n : ℕ) × Contains (map (take_of plan) ns) (take_of plan n) × ((message plan n).share ≡ i) × ((message plan n).slot ≡ j)
   has_take i j [] all h = absurd h

@@ -6,9 +6,9 @@ use Rattle.circuit_model.specs.Netlists.{read_by}
 use Rattle.job_plan.specs.Plans.{Plan, Session, Slot, holds, output_wire, session, slot}
 use Rattle.job_plan.specs.Plans.Slot.{Input, At_gate, Output}
 use Rattle.party_program.specs.declared.program.Instruction.{Instruction}
-use Rattle.party_program.specs.declared.program.Instruction.TheVariants.{Deal, Post, Take, Linear, Own, Sum, Deliver, End}
+use Rattle.party_program.specs.declared.program.Instruction.TheVariants.{Deal, Post, Take, Linear, Own, Sum, Deliver}
 use Rattle.party_program.specs.Programs.{program, at}
-use Rattle.party_program.specs.States.{Given, gate_in_slot, output_in_slot, slot_of}
+use Rattle.party_program.specs.States.{gate_in_slot, output_in_slot, slot_of}
 
 abbrev pub gate_at : Plan → ℕ → ℕ → Gate
 gate_at plan s k = gate_in_slot (session plan s) (slot plan s k)

@@ -5,7 +5,7 @@ use Rattle.std.proofs.lemmas.Bool.{cases_eq, cases_lt, cases_Bool, cond-true, co
 use mathlib.Core.Logic.{inl, inr}
 use Rattle.circuit_model.specs.Circuits.{is_product}
 use Rattle.secret_sharing.specs.Sharing.{dealt, own_product, own_value, summands}
-use Rattle.job_plan.specs.Plans.{owners, Plan, scheme, session, gate, holds, IsPlan}
+use Rattle.job_plan.specs.Plans.{owners, Plan, scheme, session, gate, holds, IsPlan, gives}
 use Rattle.job_plan.specs.declared.key.Key.{Key}
 use Rattle.share_world.specs.Worlds.{World, run_of, word, word_in, first_summands, input_of, tape_word}
 use Rattle.share_world.specs.Locals.{local_run, ReadsBefore}
@@ -81,7 +81,7 @@ reads_before w p s n got later le same v i li =
   where
     first : (v i : ℕ) → (local_run w got p s).start v i ≡ (local_run w later p s).start v i
     first v i = elim (cases_lt v (length (owners (session w.plan s)))) [
-      | inl l ↦ ap (λ y. if nat_lt v (length (owners (session w.plan s))) then (if nat_eq (slice_index (owners (session w.plan s)) v) p then dealt (scheme w.plan) (input_of w s v) (tape_word w s v p) i else y) else 0)
+      | inl l ↦ ap (λ y. if nat_lt v (length (owners (session w.plan s))) then (if gives w.plan s p v then dealt (scheme w.plan) (input_of w s v) (tape_word w s v p) i else y) else 0)
           (same (record { session = s; slot = v; share = i; sender = slice_index (owners (session w.plan s)) v; receiver = p }) refl (omega (arith, l)))
       | inr past ↦ cond-false (nat_lt v (length (owners (session w.plan s)))) _ 0 (le-ltb _ _ past) ∙ sym (cond-false (nat_lt v (length (owners (session w.plan s)))) _ 0 (le-ltb _ _ past))
     ]

@@ -6,12 +6,11 @@ use Rattle.std.proofs.lemmas.Bool.{cases_Bool, cond-true, cond-false}
 use mathlib.Core.Logic.{inl, inr}
 use Rattle.list_laws.proofs.JoinedLists.{every_joined, every_only_if}
 use Rattle.list_laws.proofs.Totals.{total_eq}
-use Rattle.party_set.specs.Parties.{has_party}
 use Rattle.secret_sharing.specs.Sharing.{dealt, summands}
 use Rattle.job_plan.specs.declared.key.Key.{Key}
 use Rattle.job_plan.specs.Messages.{messages, slot_messages}
 use Rattle.job_plan.specs.Numbers.{no_key}
-use Rattle.job_plan.specs.Plans.{owners, readers, output_wire, Session, scheme, session, gate, holds, least_holder, slot, slots, deals_in, IsPlan}
+use Rattle.job_plan.specs.Plans.{owners, output_wire, Session, scheme, session, gate, holds, least_holder, slot, slots, deals_in, IsPlan, opens_to}
 use Rattle.job_plan.specs.Plans.Slot.{Input, At_gate, Output}
 use Rattle.job_plan.proofs.DistinctMessages.{every_place}
 use Rattle.job_plan.proofs.PlanSchemes.{least_holds, least_within}
@@ -63,7 +62,7 @@ module _ (w : World) (h : IsPlan w.plan) (got : ℕ → Key → ℕ) (held : All
       let x : Session = session w.plan s in
       let k : ℕ = length (owners x) + length x.gates + o in
       let at : slot w.plan s k ≡ Output o = slot_output x o in
-      every_joined Sends w.plan.parties _ (λ r lr. every_only_if Sends (has_party (slice_index (readers x) o) r) _ (λ reads.
+      every_joined Sends w.plan.parties _ (λ r lr. every_only_if Sends (opens_to w.plan s r (Output o)) _ (λ reads.
       every_joined Sends (length w.plan.groups) _ (λ i li.
       let p : ℕ = least_holder w.plan i in
       every_only_if Sends (not (holds w.plan r i)) (key_of s k i p r ∷ []) (λ lacks. (

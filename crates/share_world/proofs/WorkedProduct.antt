@@ -7,7 +7,7 @@ use Rattle.list_laws.specs.Lists.{total}
 use Rattle.list_laws.proofs.JoinedLists.{every_at}
 use Rattle.party_set.specs.Parties.{IsQ2, covers}
 use Rattle.job_plan.specs.KeptWires.{sets, reads}
-use Rattle.job_plan.specs.Plans.{session, owners, structure, gate, words}
+use Rattle.job_plan.specs.Plans.{session, owners, structure, gate, words, gives}
 use Rattle.job_plan.specs.Sound.{IsSound, IsSoundSession}
 use Rattle.job_plan.specs.InputWords.{AreInputs, given}
 use Rattle.job_plan.specs.Tallies.{tape_length}
@@ -143,7 +143,7 @@ are_inputs = record { parties = refl; sessions = sessions; counts = counts; belo
     sessions (suc (suc zero)) l = refl
     sessions (suc (suc (suc p))) l = absurd (omega arith)
 
-    counts : (p s : ℕ) → p < 3 → s < 1 → length (given multiply_world.inputs p s) ≡ total (length (owners (session (multiply_plan 8) s))) (λ v. if nat_eq (slice_index (owners (session (multiply_plan 8) s)) v) p then 1 else 0)
+    counts : (p s : ℕ) → p < 3 → s < 1 → length (given multiply_world.inputs p s) ≡ total (length (owners (session (multiply_plan 8) s))) (λ v. if gives (multiply_plan 8) s p v then 1 else 0)
     counts zero zero lp ls = refl
     counts (suc zero) zero lp ls = refl
     counts (suc (suc zero)) zero lp ls = refl

@@ -4,7 +4,7 @@ use Rattle.std.specs.Prelude.{◌≡◌, ℕ, ◌<◌, ◌≤◌, ◌+◌, ◌%�
 use Rattle.list_laws.specs.Lists.{total}
 use Rattle.secret_sharing.specs.Sharing.{Run, dealt, product_summand, own_value, summands}
 use Rattle.job_plan.specs.declared.key.Key.{Key}
-use Rattle.job_plan.specs.Plans.{owners, holds, least_holder, scheme, session, gate, Slot, slot}
+use Rattle.job_plan.specs.Plans.{owners, holds, least_holder, scheme, session, gate, Slot, slot, gives}
 use Rattle.job_plan.specs.Messages.{messages}
 use Rattle.job_plan.specs.Plans.Slot.{Input, At_gate, Output}
 use Rattle.share_world.specs.Worlds.{World, input_of, tape_word, word}
@@ -17,8 +17,7 @@ local_run w got p s = record {
   gates = gate (session w.plan s);
   start = λ v i.
       if nat_lt v (length (owners (session w.plan s))) then
-      (if nat_eq (slice_index (owners (session w.plan s)) v) p
-      then dealt (scheme w.plan) (input_of w s v) (tape_word w s v p) i
+      (if gives w.plan s p v then dealt (scheme w.plan) (input_of w s v) (tape_word w s v p) i
       else got (record {
         session = s;
         slot = v;

@@ -1,4 +1,4 @@
-use Rattle.std.proofs.Common.{ℕ, suc, ◌+◌, ◌≡◌, subst, arith}
+use Rattle.std.proofs.Common.{suc, ◌+◌, ◌≡◌, subst, arith}
 use Rattle.program_laws.specs.WordsRead.{IsToRead}
 use Rattle.program_laws.proofs.SetWords.{reads_are_set, own_row}
 use Rattle.program_laws.proofs.what_is_read_was_set_before.Goals as goal
