@@ -10,6 +10,7 @@ use Rattle.circuit_model.specs.Netlists.{Netlist, IsCircuit}
 use Rattle.circuit_model.proofs.GateWires.{first_below, second_below, output_below}
 use Rattle.job_plan.specs.Plans.{owners_of, readers_of}
 use Rattle.job_plan.specs.Sound.{IsSoundSession}
+use Rattle.job_plan.specs.Wirings.{IsWired}
 use Rattle.plan_faults.specs.declared.part_fault.PartFault.{PartFault}
 use Rattle.plan_faults.specs.declared.part_fault.PartFault.TheVariants.{OwnersDiffer, ReadersDiffer}
 use Rattle.plan_faults.specs.Counts.{counts_fault}
@@ -46,20 +47,34 @@ readers_below (w ∷ ws) (g ∷ gs) parties o e all within l =
           (readers_below ws gs parties (o - w) (omega (arith, e)) (λ k d h. all (suc k) d (omega (arith, h))) (λ k d h. within (suc k) d (omega (arith, h))) (omega (arith, past, l, long, length-append (replicate w g.mask) more))))
     ]
 
-pub sound_session : (c : Netlist) (owners : List ℕ) (readers : List Members) (parties : ℕ) → IsCircuit c → length owners ≡ length c.inputs → length readers ≡ length c.outputs
-    → AreOf parties owners readers → AreWithin (output_values c.outputs readers) → IsSoundSession parties (session_of c owners readers)
-sound_session c owners readers parties v o r all within = record {
+pub wired_session : (c : Netlist) (owners : List ℕ) (readers : List Members) → IsCircuit c → length owners ≡ length c.inputs → length readers ≡ length c.outputs → IsWired (session_of c owners readers)
+wired_session c owners readers v o r = record {
   wires = v.within.wires;
   gates = v.within.gates;
   input_wires = omega (arith, owners_long c.inputs owners o, v.within.input_wires);
   output_wires = omega (arith, readers_long c.outputs readers r, v.within.output_wires);
-  owned = λ w l. owners_below c.inputs owners parties w o all.owned l;
-  read = λ w l. readers_below c.outputs readers parties w r all.read within l;
   first = λ t l. first_below c t v l;
   second = λ t l. second_below c t v l;
   output = λ t l. output_below c t v l;
   order = in_order c owners readers v o r;
 }
+
+pub sound_session : (c : Netlist) (owners : List ℕ) (readers : List Members) (parties : ℕ) → IsCircuit c → length owners ≡ length c.inputs → length readers ≡ length c.outputs
+    → AreOf parties owners readers → AreWithin (output_values c.outputs readers) → IsSoundSession parties (session_of c owners readers)
+sound_session c owners readers parties v o r all within =
+    let wired = wired_session c owners readers v o r in
+    record {
+      wires = wired.wires;
+      gates = wired.gates;
+      input_wires = wired.input_wires;
+      output_wires = wired.output_wires;
+      owned = λ w l. owners_below c.inputs owners parties w o all.owned l;
+      read = λ w l. readers_below c.outputs readers parties w r all.read within l;
+      first = wired.first;
+      second = wired.second;
+      output = wired.output;
+      order = wired.order;
+    }
 
 -- where nothing is wrong, there are as many owners and groups of readers as values
 pub counts_agree : (inputs owners outputs readers : ℕ) → counts_fault inputs owners outputs readers ≡ None → (owners ≡ inputs) × (readers ≡ outputs)

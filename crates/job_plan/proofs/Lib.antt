@@ -13,3 +13,6 @@ pub mod ValueWires
 pub mod CircuitOrder
 pub mod CircuitSessions
 pub mod KeptRows
+pub mod HeldRows
+pub mod ScannedSlots
+pub mod LastReads

@@ -4,6 +4,8 @@ pub mod Messages
 pub mod Packing
 pub mod Numbers
 pub mod Firsts
+pub mod Wirings
+pub mod RowScans
 pub mod Sound
 pub mod Multiply
 pub mod Tallies

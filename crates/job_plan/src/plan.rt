@@ -9,6 +9,7 @@ use crate::keys::Keys;
 use crate::lists::{list_deals, list_messages};
 use crate::outline::Outline;
 use crate::ranks::search;
+use crate::row_table::RowTable;
 use crate::session_part::SessionPart;
 use crate::slot_kind::SlotKind;
 use crate::starts::Starts;
@@ -18,6 +19,7 @@ use product_duty::Duty;
 use share_layout::Layout;
 use std::alloc::Global;
 use std::marker::Model;
+use std::sync::Arc;
 
 /// A ring, a structure of parties and the sessions, with tables made once: each look-up costs constant time.
 /// Contracts see a plan of the definitions.
@@ -42,7 +44,10 @@ impl Model for Plan {
 
 impl Plan {
     ghost use Rattle.std.specs.Prelude.{◌≡◌, ℕ, ◌<◌, ◌≤◌, All, IfOk, IfErr, OnOk, SomeIff, length};
+    ghost use Rattle.std.specs.Arc.{arc_value};
     ghost use Rattle.list_laws.specs.Lists.{total};
+    ghost use Rattle.job_plan.specs.KeptWires.{live};
+    ghost use Rattle.job_plan.specs.RowScans.{IsRows};
     ghost use Rattle.job_plan.specs.Plans.{plan_of, structure, scheme, session, slot, slots, words, place};
     ghost use Rattle.secret_sharing.specs.Sharing.{has_pair};
     ghost use Rattle.job_plan.specs.Messages.{messages, slot_messages};
@@ -117,6 +122,22 @@ impl Plan {
         ensures { result.now ≡ session self.now s }
     {
         self.outline.part(s)
+    }
+
+    /// How many wires session `s` keeps at once, where it keeps most.
+    pub fn live(&self, s: u32) -> u32
+        requires { s < length self.now.sessions }
+        ensures { result ≡ live (session self.now s) }
+    {
+        self.rows(s).count() - 1
+    }
+
+    /// The row of each wire of session `s`, in a table of `live + 1` rows.
+    pub fn rows(&self, s: u32) -> &Arc<RowTable, Global>
+        requires { s < length self.now.sessions }
+        ensures { IsRows (session self.now s) (arc_value result.now) }
+    {
+        self.part(s).rows()
     }
 
     pub fn layout(&self) -> &Layout

@@ -1,81 +1,48 @@
 //! A session of a plan.
-ghost use Rattle.std.specs.Prelude.{◌≡◌, ◌<◌, ◌^◌, ◌++◌, OnOk, IfOk, length, replicate, sum};
-ghost use Rattle.job_plan.specs.Parts.{input_values, output_values, AreWithin};
-ghost use Rattle.job_plan.specs.Plans.{owners_of, readers_of};
-ghost use Rattle.job_plan.specs.Tallies.{products_of};
+ghost use Rattle.std.specs.Prelude.{◌≡◌, ◌<◌, ◌^◌, IfOk, length, sum};
+ghost use Rattle.job_plan.specs.Parts.{input_values, output_values};
 
+use crate::row_table::{RowTable, share_rows};
 use crate::slot_kind::SlotKind;
 use crate::values::{InputValue, OutputValue};
+use crate::wiring::Wiring;
 use circuit_model::{Circuit, Gate};
 use party_set::Group;
 use plan_faults::{PartFault, check_counts};
 use std::alloc::{AllocError, Global};
 use std::marker::Model;
+use std::sync::Arc;
 
 /// A circuit with the owners of its input values and the readers of its output values. Contracts see a session of
 /// the definitions.
 #[derive(Drop)]
 pub struct SessionPart {
-    gates: Vec<Gate>,
-    wires: u32,
-    inputs: Vec<InputValue>,
-    outputs: Vec<OutputValue>,
-    owners: Vec<u32>,
-    readers: Vec<u32>,
-    products: usize,
+    wiring: Wiring,
+    rows: Arc<RowTable, Global>,
 }
 
 impl Model for SessionPart {
-    ghost use Rattle.std.specs.Prelude.{◌≡◌};
-    ghost use Rattle.job_plan.specs.Plans.{Session, owners_of, readers_of};
-    ghost use Rattle.job_plan.specs.Tallies.{products_of};
+    ghost use Rattle.std.specs.Arc.{arc_value};
+    ghost use Rattle.job_plan.specs.Plans.{Session};
+    ghost use Rattle.job_plan.specs.RowScans.{IsRows};
+    ghost use Rattle.job_plan.specs.Wirings.{IsWiring, session_in};
 
     ghost Value = { Session };
 
-    ghost view = { λ s. record {
-      gates = s.gates.items;
-      wires = s.wires;
-      inputs = s.inputs.items;
-      outputs = s.outputs.items;
-    } };
+    ghost view = { λ s. session_in s.wiring };
 
-    ghost invariant = { λ s. (s.owners.items ≡ owners_of s.inputs.items)
-        × (s.readers.items ≡ readers_of s.outputs.items) × (s.products ≡ products_of s.gates.items) };
+    ghost invariant = { λ s. IsWiring s.wiring × IsRows (session_in s.wiring) (arc_value s.rows) };
 }
 
 impl SessionPart {
     ghost use Rattle.std.specs.Prelude.{◌≡◌, ℕ, ◌<◌, IfOk, IsSomeAnd, length, slice_get, slice_index};
     ghost use Rattle.circuit_model.specs.Netlists.{IsCircuit};
-    ghost use Rattle.job_plan.specs.Parts.{Makes, AreOf, AreWithin};
+    ghost use Rattle.std.specs.Arc.{arc_value};
+    ghost use Rattle.job_plan.specs.Parts.{Makes, AreOf};
     ghost use Rattle.job_plan.specs.Plans.{gate, slot, slots, owners, readers};
     ghost use Rattle.job_plan.specs.Tallies.{products, owned, outputs_read};
+    ghost use Rattle.job_plan.specs.RowScans.{IsRows};
     ghost use Rattle.job_plan.specs.Sound.{slot_of_kind, Inside, IsSoundSession};
-
-    // The session of these gates over so many wires, with these values.
-    fn of(
-        alloc: Global,
-        gates: Vec<Gate>,
-        wires: u32,
-        inputs: Vec<InputValue>,
-        outputs: Vec<OutputValue>,
-    ) -> Result<SessionPart, AllocError>
-        ensures made { IfOk result (λ part. part
-            ≡ record { gates = gates.items; wires = wires; inputs = inputs.items; outputs = outputs.items }) }
-        ensures within { IfOk result (λ part. AreWithin part.outputs) }
-    {
-        let owners = owners_by_wire(alloc, &inputs)?;
-        let readers = readers_by_wire(alloc, &outputs)?;
-        let products = count_products(&gates);
-        Ok(SessionPart {
-            gates,
-            wires,
-            inputs,
-            outputs,
-            owners,
-            readers,
-            products,
-        })
-    }
 
     /// The session of a circuit, an owner for each of its input values, and a group of readers for each of its output
     /// values. It is refused where there are other than as many.
@@ -99,49 +66,50 @@ impl SessionPart {
         )?;
         let inputs = input_values(alloc, circuit.input_widths(), &owners)?;
         let outputs = output_values(alloc, circuit.output_widths(), &readers)?;
-        let part = SessionPart::of(alloc, circuit.into_gates(), wires, inputs, outputs)?;
-        Ok(part)
+        let wiring = Wiring::of(alloc, circuit.into_gates(), wires, inputs, outputs)?;
+        let rows = share_rows(alloc, &wiring)?;
+        Ok(SessionPart { wiring, rows })
     }
 
     pub fn gate(&self, t: u32) -> Gate
         requires { t < length self.now.gates }
         ensures { result ≡ gate self.now t }
     {
-        self.gates[t as usize]
+        self.wiring.gates[t as usize]
     }
 
     /// How many gates there are.
     pub fn gates(&self) -> usize
         ensures { result ≡ length self.now.gates }
     {
-        self.gates.len()
+        self.wiring.gates.len()
     }
 
     /// How many gates multiply.
     pub fn products(&self) -> usize
         ensures { result ≡ products self.now }
     {
-        self.products
+        self.wiring.products
     }
 
     pub fn wires(&self) -> u32
         ensures { result ≡ self.now.wires }
     {
-        self.wires
+        self.wiring.wires
     }
 
     /// How many input wires there are.
     pub fn input_wires(&self) -> usize
         ensures { result ≡ length (owners self.now) }
     {
-        self.owners.len()
+        self.wiring.owners.len()
     }
 
     /// How many output wires there are.
     pub fn output_wires(&self) -> usize
         ensures { result ≡ length (readers self.now) }
     {
-        self.readers.len()
+        self.wiring.readers.len()
     }
 
     /// The party that gives input wire `v`.
@@ -149,7 +117,7 @@ impl SessionPart {
         requires { v < length (owners self.now) }
         ensures { result ≡ slice_index (owners self.now) v }
     {
-        self.owners[v as usize]
+        self.wiring.owners[v as usize]
     }
 
     /// The parties that read output wire `o`, counted from the first output wire, as a mask.
@@ -157,14 +125,18 @@ impl SessionPart {
         requires { o < length (readers self.now) }
         ensures { result ≡ slice_index (readers self.now) o }
     {
-        self.readers[o as usize]
+        self.wiring.readers[o as usize]
     }
 
     /// How many input wires party `p` gives.
     pub fn owned(&self, p: u32) -> usize
         ensures { result ≡ owned self.now p }
     {
-        self.owners.iter().filter(|owner| **owner == p).count()
+        self.wiring
+            .owners
+            .iter()
+            .filter(|owner| **owner == p)
+            .count()
     }
 
     /// How many output wires party `r` reads.
@@ -172,7 +144,8 @@ impl SessionPart {
         requires { r < 12 }
         ensures { result ≡ outputs_read self.now r }
     {
-        self.readers
+        self.wiring
+            .readers
             .iter()
             .filter(|readers| **readers >> r & 1 == 1)
             .count()
@@ -183,7 +156,7 @@ impl SessionPart {
         requires { value < length self.now.inputs }
         ensures { IsSomeAnd (slice_get self.now.inputs value) (λ found. result ≡ found.owner) }
     {
-        self.inputs[value as usize].owner
+        self.wiring.inputs[value as usize].owner
     }
 
     /// The parties that read output value `value`.
@@ -191,21 +164,28 @@ impl SessionPart {
         requires { value < length self.now.outputs }
         ensures { IsSomeAnd (slice_get self.now.outputs value) (λ found. result ≡ found.readers) }
     {
-        self.outputs[value as usize].readers
+        self.wiring.outputs[value as usize].readers
     }
 
     /// The input values, in order.
     pub fn inputs(&self) -> &[InputValue]
         ensures { result.now ≡ self.now.inputs }
     {
-        &self.inputs
+        &self.wiring.inputs
     }
 
     /// The output values, in order.
     pub fn outputs(&self) -> &[OutputValue]
         ensures { result.now ≡ self.now.outputs }
     {
-        &self.outputs
+        &self.wiring.outputs
+    }
+
+    /// The row of each wire in a table with a row more than wires are kept at once.
+    pub fn rows(&self) -> &Arc<RowTable, Global>
+        ensures { IsRows self.now (arc_value result.now) }
+    {
+        &self.rows
     }
 
     /// How many slots there are: one for each input wire, gate and output wire.
@@ -213,7 +193,7 @@ impl SessionPart {
         requires { (parties : ℕ) × IsSoundSession parties self.now }
         ensures { result ≡ slots self.now }
     {
-        (self.owners.len() + self.gates.len() + self.readers.len()) as u32
+        self.wiring.slots()
     }
 
     /// What slot `k` is of.
@@ -223,15 +203,7 @@ impl SessionPart {
         ensures is { slot_of_kind result ≡ slot self.now k }
         ensures inside { Inside self.now (slot_of_kind result) }
     {
-        let inputs = self.owners.len() as u32;
-        let gates = self.gates.len() as u32;
-        if k < inputs {
-            SlotKind::Input(k)
-        } else if k < inputs + gates {
-            SlotKind::Gate(k - inputs)
-        } else {
-            SlotKind::Output(k - inputs - gates)
-        }
+        self.wiring.slot_kind(k)
     }
 }
 
@@ -273,44 +245,6 @@ fn output_values(
         })?;
     }
     Ok(list)
-}
-
-// The owner of each input wire.
-fn owners_by_wire(alloc: Global, inputs: &[InputValue]) -> Result<Vec<u32>, AllocError>
-    ensures { IfOk result (λ list. list.items ≡ owners_of inputs.now) }
-{
-    let mut list = Vec::new(alloc);
-    for value in inputs {
-        push_copies(value.width, value.owner, &mut list)?;
-    }
-    Ok(list)
-}
-
-// The readers of each output wire, as a mask.
-fn readers_by_wire(alloc: Global, outputs: &[OutputValue]) -> Result<Vec<u32>, AllocError>
-    ensures masks { IfOk result (λ list. list.items ≡ readers_of outputs.now) }
-    ensures within { IfOk result (λ list. AreWithin outputs.now) }
-{
-    let mut list = Vec::new(alloc);
-    for value in outputs {
-        push_copies(value.width, value.readers.mask(), &mut list)?;
-    }
-    Ok(list)
-}
-
-fn push_copies(count: u32, item: u32, list: &mut Vec<u32>) -> Result<(), AllocError>
-    ensures { OnOk result (list.new.items ≡ list.old.items ++ replicate count item) }
-{
-    list.resize(list.len() + count as usize, item)
-}
-
-fn count_products(gates: &[Gate]) -> usize
-    ensures { result ≡ products_of gates.now }
-{
-    gates
-        .iter()
-        .filter(|gate| gate.operation.is_product())
-        .count()
 }
 
 #[cfg(test)]

@@ -1,6 +1,6 @@
 use Rattle.std.proofs.Common.{◌≡◌, ◌++◌, drop}
 use Rattle.job_plan.specs.Plans.{owners_of}
-use Rattle.job_plan.proofs.session_part.owners_by_wire.Given as goal
+use Rattle.job_plan.proofs.wiring.owners_by_wire.Given as goal
 
 -- what is listed and what is left are the whole
 abbrev pub invariant-loop-value : goal.invariant-loop-value

@@ -1,7 +1,7 @@
 use Rattle.std.proofs.Common.{◌≡◌, ℕ, ◌++◌, ◌<◌, ◌^◌, drop, get_or}
 use Rattle.job_plan.specs.declared.values.OutputValue.{OutputValue}
 use Rattle.job_plan.specs.Plans.{readers_of}
-use Rattle.job_plan.proofs.session_part.readers_by_wire.Given as goal
+use Rattle.job_plan.proofs.wiring.readers_by_wire.Given as goal
 
 -- what is listed and what is left are the whole, and the groups so far have no member that is no party
 abbrev pub invariant-loop-value : goal.invariant-loop-value

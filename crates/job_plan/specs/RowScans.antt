@@ -1,0 +1,54 @@
+-- Rows that are given out and taken back, slot by slot.
+use Rattle.std.specs.Prelude.{◌≡◌, ◌≢◌, ℕ, ◌+◌, ◌<◌, ◌≤◌, nat_eq, nat_lt, Bool, true, false, not, ◌&&◌, ◌||◌, if◌then◌else◌, List, [], length, slice_index, count_by, Option, ◌⊎◌}
+use Rattle.list_laws.specs.Lists.{total}
+use Rattle.job_plan.specs.declared.row_scan.RowScan.{RowScan}
+use Rattle.job_plan.specs.declared.row_table.RowTable.{RowTable}
+use Rattle.job_plan.specs.Plans.{Session, slots}
+use Rattle.job_plan.specs.KeptWires.{IsRowTable, greatest, is_kept, kept, live, reads, sets}
+use Rattle.job_plan.specs.Wirings.{is_named}
+
+-- the table of rows of a session
+abbrev pub IsRows : Session → RowTable → Type 0
+IsRows s table = IsRowTable s table.rows.items × (table.count ≡ live s + 1)
+
+-- for each wire the number of the slot behind the last before slot n that reads it, and 0 where there is none
+pub record AreLastReads (s : Session) (n : ℕ) (last : List ℕ) : Type 0 where
+  pub wires : length last ≡ s.wires
+  pub read : (m w : ℕ) → slice_index last w ≡ m + 1 → (m < n) × (reads s m w ≡ true)
+  pub past : (m w : ℕ) → m < n → reads s m w ≡ true → m < slice_index last w
+
+-- the wire is this one, and the number beside it in the list is this
+abbrev pub ends : Option ℕ → ℕ → List ℕ → ℕ → Bool
+ends wire at last w = is_named wire w && nat_eq (slice_index last w) at
+
+-- each row that was made is either free or that of one wire that holds it
+pub record AreHeld (holds : ℕ → Bool) (scan : RowScan) : Type 0 where
+  pub once : (row : ℕ) → total (length scan.rows.items)
+      (λ w. if holds w && nat_eq row (slice_index scan.rows.items w) then 1 else 0)
+      + count_by (nat_eq row) scan.free.items ≡ (if nat_lt row scan.made then 1 else 0)
+  pub all : total (length scan.rows.items) (λ w. if holds w then 1 else 0) + length scan.free.items ≡ scan.made
+
+-- the wire, if there is one, has got a free row, or a new one where none was free
+pub record Gives (wire : Option ℕ) (old new : RowScan) : Type 0 where
+  pub wires : length new.rows.items ≡ length old.rows.items
+  pub others : (w : ℕ) → is_named wire w ≡ false
+      → slice_index new.rows.items w ≡ slice_index old.rows.items w
+  pub made : (new.made ≡ old.made) ⊎ ((new.made ≡ old.made + 1) × (old.free.items ≡ []))
+  pub held : (holds : ℕ → Bool) → AreHeld holds old → ((w : ℕ) → is_named wire w ≡ true → holds w ≡ false)
+      → AreHeld (λ w. holds w || is_named wire w) new
+
+-- the row of the wire is free again, if there is one and it ends here
+pub record TakesBack (wire : Option ℕ) (at : ℕ) (last : List ℕ) (old new : RowScan) : Type 0 where
+  pub rows : new.rows.items ≡ old.rows.items
+  pub made : new.made ≡ old.made
+  pub held : (holds : ℕ → Bool) → AreHeld holds old → ((w : ℕ) → ends wire at last w ≡ true → holds w ≡ true)
+      → AreHeld (λ w. holds w && not (ends wire at last w)) new
+
+-- before slot k the wires that are kept hold rows, and all wires that were set have theirs
+pub record IsScan (s : Session) (k : ℕ) (scan : RowScan) : Type 0 where
+  pub wires : length scan.rows.items ≡ s.wires
+  pub held : AreHeld (is_kept s k) scan
+  pub made : scan.made ≤ greatest k (kept s) + 1
+  pub below : (w : ℕ) → slice_index scan.rows.items w < greatest k (kept s) + 1
+  pub apart : (i j m v w : ℕ) → i < j → j < k → j ≤ m → m < slots s → sets s i v ≡ true → reads s m v ≡ true
+      → sets s j w ≡ true → slice_index scan.rows.items v ≢ slice_index scan.rows.items w

@@ -1,0 +1,39 @@
+-- The wires of a session as the program has them, and what each slot does with them.
+use Rattle.std.specs.Prelude.{◌≡◌, ℕ, ◌<◌, ◌≤◌, nat_eq, Bool, true, false, ◌||◌, length, Option, Some, None}
+use Rattle.job_plan.specs.declared.touched.Touched.{Touched}
+use Rattle.job_plan.specs.declared.wiring.Wiring.{Wiring}
+use Rattle.job_plan.specs.KeptWires.{IsInOrder, sets, reads}
+use Rattle.job_plan.specs.Plans.{Session, gate, owners, owners_of, readers, readers_of}
+use Rattle.job_plan.specs.Tallies.{products_of}
+
+-- the wires of each gate are wires, each is set once and read only after that, and all is within the limits
+pub record IsWired (s : Session) : Type 0 where
+  pub wires : s.wires ≤ 131072
+  pub gates : length s.gates ≤ 65536
+  pub input_wires : length (owners s) ≤ s.wires
+  pub output_wires : length (readers s) ≤ s.wires
+  pub first : (t : ℕ) → t < length s.gates → (gate s t).first < s.wires
+  pub second : (t : ℕ) → t < length s.gates → (gate s t).second < s.wires
+  pub output : (t : ℕ) → t < length s.gates → (gate s t).output < s.wires
+  pub order : IsInOrder s
+
+abbrev pub session_in : Wiring → Session
+session_in w = record { gates = w.gates.items; wires = w.wires; inputs = w.inputs.items; outputs = w.outputs.items }
+
+-- the session is wired, and the tables by wire are its own
+pub record IsWiring (w : Wiring) : Type 0 where
+  pub owned : w.owners.items ≡ owners_of w.inputs.items
+  pub read : w.readers.items ≡ readers_of w.outputs.items
+  pub products : w.products ≡ products_of w.gates.items
+  pub wired : IsWired (session_in w)
+
+-- the wire is this one
+abbrev pub is_named : Option ℕ → ℕ → Bool
+is_named None w = false
+is_named (Some v) w = nat_eq w v
+
+-- these are the wires that slot k sets and reads, of which each stands once
+pub record IsTouched (s : Session) (k : ℕ) (touched : Touched) : Type 0 where
+  pub sets : (w : ℕ) → sets s k w ≡ is_named touched.sets w
+  pub reads : (w : ℕ) → reads s k w ≡ (is_named touched.first w || is_named touched.second w)
+  pub apart : (w : ℕ) → is_named touched.first w ≡ true → is_named touched.second w ≡ false
