@@ -22,10 +22,10 @@ use Rattle.program_laws.proofs.OncePosted.{once}
 use Rattle.party_desk.specs.declared.desk.Desk.{Desk}
 use Rattle.party_desk.specs.declared.desk.Stepped.{Stepped}
 use Rattle.party_desk.specs.declared.desk.Stepped.TheVariants.{Moved, NotYet, Ended}
-use Rattle.party_desk.specs.Memories.{state_of, IsMemoryOf}
+use Rattle.party_desk.specs.Memories.{state_of, IsMemoryOf, posted_on_rows, row_of}
 use Rattle.party_desk.specs.Desks.{IsDesk, Waits, instruction_at}
 use Rattle.party_desk.specs.Steps.{word_at, heard, Allows, MayStep, Does, Steps, KeepsCells}
-use Rattle.party_desk.proofs.AllowedSteps.{here, proper, posts_right}
+use Rattle.party_desk.proofs.AllowedSteps.{proper, posts_right}
 use Rattle.desk_laws.specs.Words.{NextIs, IsOpenTo, GoesBy, MayStepBy}
 
 -- a word of a list of small words, or 0

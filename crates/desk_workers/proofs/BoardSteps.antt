@@ -18,7 +18,7 @@ use Rattle.party_desk.specs.declared.desk.Desk.{Desk}
 use Rattle.party_desk.specs.declared.desk.Stepped.{Stepped}
 use Rattle.party_desk.specs.declared.desk.Stepped.TheVariants.{Moved, NotYet, Ended}
 use Rattle.party_desk.specs.Desks.{instruction_at}
-use Rattle.program_laws.specs.Lawful.{program_of}
+use Rattle.program_laws.specs.Lawful.{given_to, program_of}
 use Rattle.program_laws.proofs.LawfulWorlds.{lawful}
 use Rattle.message_board.specs.declared.seat_at.SeatAt.{SeatAt}
 use Rattle.desk_laws.specs.InWorld.{DoesIn, StepsIn, MayStepIn}

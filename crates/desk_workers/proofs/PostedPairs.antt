@@ -8,7 +8,7 @@ use Rattle.job_plan.specs.Numbers.{message, no_key}
 use Rattle.share_world.specs.Worlds.{World, word}
 use Rattle.party_program.specs.declared.program.Instruction.{Instruction}
 use Rattle.party_program.specs.declared.program.Instruction.TheVariants.{Deal, Post, Take, Linear, Own, Sum, Deliver, End}
-use Rattle.party_program.specs.Programs.{at}
+use Rattle.party_program.specs.Programs.{at, program}
 use Rattle.party_desk.specs.declared.desk.Desk.{Desk}
 use Rattle.party_desk.specs.Desks.{IsDesk}
 use Rattle.program_laws.specs.Lawful.{given_to}
