@@ -1,10 +1,12 @@
 -- What each slot of a session is of.
-use Rattle.std.proofs.Common.{◌≡◌, ℕ, ◌+◌, ◌-◌, ◌<◌, true, nat_lt, length, sym, ap, ◌∙◌, subst, arith}
+use Rattle.std.proofs.Common.{◌≡◌, ℕ, ◌+◌, ◌-◌, ◌<◌, true, nat_lt, ◌++◌, length, sym, ap, ap₂, ◌∙◌, subst, arith}
 use Rattle.std.proofs.lemmas.Bool.{cases_lt, cond-true, cond-false, both_ways, lt-ltb, le-ltb}
 use Rattle.std.proofs.lemmas.List.{get_or_past}
 use mathlib.Core.Logic.{inl, inr}
+use Rattle.list_laws.specs.Lists.{listed}
+use Rattle.list_laws.proofs.JoinedLists.{listed-add, listed_eq}
 use Rattle.circuit_model.specs.Circuits.{is_product}
-use Rattle.job_plan.specs.Plans.{Session, Slot, owners, readers, gate, no_gate, session_slot, session_slots}
+use Rattle.job_plan.specs.Plans.{Plan, Session, Slot, SlotsAreListed, owners, readers, session, gate, no_gate, session_slot, session_slots, slot}
 use Rattle.job_plan.specs.Plans.Slot.{Input, At_gate, Output}
 
 pub slot_input : (s : Session) (v : ℕ) → v < length (owners s) → session_slot s v ≡ Input v
@@ -44,3 +46,16 @@ slot_cases s P input at_gate output k lk =
             subst (λ z. P z (session_slot s z)) here (subst (λ z. P (inputs + gates + (k - inputs - gates)) z) (sym (slot_output s (k - inputs - gates))) (output (k - inputs - gates) (omega arith)))
       ]
     ]
+
+-- ---- the slots one after another
+
+pub slots_are_listed : (plan : Plan) (s : ℕ) → SlotsAreListed plan s
+slots_are_listed plan s =
+    let x : Session = session plan s in
+    let inputs = length (owners x) in
+    let gates = length x.gates in
+    let outputs = length (readers x) in
+    listed-add (inputs + gates) outputs (slot plan s)
+    ∙ ap₂ (λ a b. a ++ b) (listed-add inputs gates (slot plan s)) (listed_eq outputs _ (λ o. Output o) (λ o l. slot_output x o))
+    ∙ ap (λ a. a ++ listed outputs (λ o. Output o))
+    (ap₂ (λ a b. a ++ b) (listed_eq inputs _ (λ v. Input v) (λ v l. slot_input x v l)) (listed_eq gates _ (λ t. At_gate t) (λ t l. slot_gate x t l)))

@@ -1,6 +1,6 @@
 -- Plans: parties, maximal groups and sessions; the slots of a session, and what a party deals in them.
-use Rattle.std.specs.Prelude.{ℕ, ◌+◌, ◌-◌, ◌<◌, Bool, false, ◌&&◌, nat_eq, nat_lt, if◌then◌else◌, List, [], ◌∷◌, ◌++◌, replicate, length, slice_index, slice_index_or}
-use Rattle.list_laws.specs.Lists.{total}
+use Rattle.std.specs.Prelude.{◌≡◌, ℕ, ◌+◌, ◌-◌, ◌<◌, Bool, false, ◌&&◌, nat_eq, nat_lt, if◌then◌else◌, List, [], ◌∷◌, ◌++◌, replicate, length, slice_index, slice_index_or}
+use Rattle.list_laws.specs.Lists.{total, listed}
 use Rattle.circuit_model.specs.declared.gate.Gate.{Gate}
 use Rattle.circuit_model.specs.Circuits.{is_product}
 use Rattle.circuit_model.specs.declared.gate.Operation.TheVariants.{Add}
@@ -119,6 +119,17 @@ slot plan s k = session_slot (session plan s) k
 -- how many slots session s of a plan has
 abbrev pub slots : Plan → ℕ → ℕ
 slots plan s = session_slots (session plan s)
+
+-- the slots of session s by their kinds, in their order
+abbrev pub slot_list : Plan → ℕ → List Slot
+slot_list plan s =
+    listed (length (owners (session plan s))) (λ v. Input v)
+    ++ listed (length (session plan s).gates) (λ t. At_gate t)
+    ++ listed (length (readers (session plan s))) (λ o. Output o)
+
+-- the slots of session s, one after another, are its list
+abbrev pub SlotsAreListed : Plan → ℕ → Type 0
+SlotsAreListed plan s = listed (slots plan s) (slot plan s) ≡ slot_list plan s
 
 -- ---- what is done in a slot of session s
 

@@ -1,9 +1,14 @@
-//! Laws of the numbering, and of the rows of wires.
+//! Laws of slots and of the numbering, and of the rows of wires.
 ghost use Rattle.std.specs.Prelude.{ℕ};
 ghost use Rattle.job_plan.specs.KeptWires.{KeptApart};
-ghost use Rattle.job_plan.specs.Plans.{Plan};
+ghost use Rattle.job_plan.specs.Plans.{Plan, SlotsAreListed};
 ghost use Rattle.job_plan.specs.Numbers.{NumbersAreInverse, PlacesDiffer, PlacesByDeals};
 ghost use Rattle.job_plan.specs.Patterns.{SlotsFollowPatterns};
+
+/// The slots of a session, one after another, are its input wires, its gates and its output wires.
+pub fn slots_are_listed()
+    ensures { (plan : Plan) (s : ℕ) → SlotsAreListed plan s }
+{}
 
 /// Messages and their numbers are each other's inverse.
 pub fn numbers_are_inverse()

@@ -25,7 +25,8 @@ mod wiring;
 pub use inputs::Inputs;
 pub use key::Key;
 pub use laws::{
-    kept_wires_have_their_own_rows, numbers_are_inverse, places_are_apart, slots_follow_patterns,
+    kept_wires_have_their_own_rows, numbers_are_inverse, places_are_apart, slots_are_listed,
+    slots_follow_patterns,
 };
 pub use pattern::{Line, Pattern};
 pub use plan::Plan;
