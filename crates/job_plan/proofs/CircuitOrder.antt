@@ -8,9 +8,8 @@ use Rattle.std.proofs.lemmas.Bool.{cases_lt, or_cases, or_left, or_right, and_pa
 use Rattle.party_set.specs.Parties.{Members}
 use Rattle.circuit_model.specs.declared.gate.Gate.{Gate}
 use Rattle.circuit_model.specs.Netlists.{Netlist, IsCircuit, read_by, is_set}
-use Rattle.job_plan.specs.Plans.{Session, Slot, owners, readers, gate, no_gate, output_wire, slot, slots}
-use Rattle.job_plan.specs.Plans.Slot.{Input, At_gate, Output}
-use Rattle.job_plan.specs.KeptWires.{sets_in, reads_in, sets, reads, IsInOrder}
+use Rattle.job_plan.specs.Plans.{Session, owners, readers, gate, no_gate, output_wire}
+use Rattle.job_plan.specs.KeptWires.{sets_in, reads_in, sets, IsInOrder}
 use Rattle.job_plan.specs.Parts.{session_of}
 use Rattle.job_plan.proofs.Slots.{slot_input, slot_gate, slot_cases}
 use Rattle.job_plan.proofs.KeptRows.{one_wire}

@@ -1,5 +1,5 @@
 -- Sessions of circuits.
-use Rattle.std.proofs.Common.{◌≡◌, ℕ, suc, ◌+◌, ◌-◌, ◌<◌, ◌^◌, List, [], ◌∷◌, ◌++◌, inl, inr, length, replicate, refl, sym, ◌∙◌, ap, subst, arith, cond, sum, length-append}
+use Rattle.std.proofs.Common.{◌≡◌, ℕ, suc, ◌-◌, ◌<◌, ◌^◌, List, [], ◌∷◌, ◌++◌, inl, inr, length, replicate, refl, sym, ◌∙◌, ap, subst, arith, cond, length-append}
 use Rattle.std.specs.Prelude.{slice_index, All, ◌==◌, Bool, true, false, not, Option, Some, None}
 use Rattle.std.proofs.Math.ListN.{get_or-append}
 use Rattle.std.proofs.Math.Seq.{get_or-append_right}

@@ -1,12 +1,12 @@
 -- Which wires are kept, told by the slots that set and read them; and the rows of wires that are kept together.
-use Rattle.std.proofs.Common.{◌≡◌, ◌≢◌, ℕ, zero, suc, ◌+◌, ◌<◌, ◌≤◌, Bool, true, false, ◌&&◌, ◌||◌, List, [], ◌∷◌, inl, inr, refl, sym, ◌∙◌, ap, subst, arith}
-use Rattle.std.specs.Prelude.{nat_eq, nat_le, slice_index}
+use Rattle.std.proofs.Common.{◌≡◌, ℕ, zero, suc, ◌<◌, ◌≤◌, Bool, true, false, ◌&&◌, ◌||◌, inl, inr, sym, ◌∙◌, subst, arith}
+use Rattle.std.specs.Prelude.{nat_eq, nat_le}
 use Rattle.std.specs.List.{list_any}
 use Rattle.std.proofs.lemmas.Bool.{cases_order, or_cases, or_left, or_right, and_parts, and_from, leb-true, le-leb, eqb-true, false≢true}
 use Rattle.list_laws.specs.Lists.{some_below}
 use Rattle.job_plan.specs.Plans.{Session, Slot, gate, slot, slots}
 use Rattle.job_plan.specs.Plans.Slot.{Input, At_gate, Output}
-use Rattle.job_plan.specs.KeptWires.{sets_in, sets, reads, is_kept, IsRowTable, KeptApart}
+use Rattle.job_plan.specs.KeptWires.{sets_in, sets, reads, is_kept, KeptApart}
 
 -- ---- some number below n
 

@@ -53,15 +53,19 @@ fn make_rows(alloc: Global, wiring: &Wiring) -> Result<RowTable, AllocError>
 {
     let last = last_reads(alloc, wiring)?;
     let mut scan = RowScan::start(alloc, wiring.wires as usize)?;
-    let mut live = 0;
-    for k in 0..wiring.slots() {
-        live = scan.held().max(live);
-        scan.step(k, wiring, &last)?;
+    let inputs = wiring.owners.len() as u32;
+    let gates = wiring.gates.len() as u32;
+    for v in 0..inputs {
+        scan.step(v, wiring.touched(v), wiring, &last)?;
     }
-    Ok(RowTable {
-        rows: scan.into_rows(),
-        count: live + 1,
-    })
+    for t in 0..gates {
+        scan.step(inputs + t, wiring.gate_touched(t), wiring, &last)?;
+    }
+    for k in inputs + gates..wiring.slots() {
+        scan.step(k, wiring.touched(k), wiring, &last)?;
+    }
+    let (rows, count) = scan.into_rows();
+    Ok(RowTable { rows, count })
 }
 
 #[cfg(test)]

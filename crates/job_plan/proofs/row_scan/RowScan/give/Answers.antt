@@ -1,4 +1,4 @@
-use Rattle.std.proofs.Common.{◌≡◌, ℕ, ◌+◌, ◌<◌, [], length, refl, arith, ◌∙◌}
+use Rattle.std.proofs.Common.{refl, arith}
 use Rattle.std.proofs.lemmas.Grind.{common_steps}
 use Rattle.job_plan.proofs.HeldRows.{named_some, gives_free_to, gives_new_to}
 use Rattle.job_plan.proofs.row_scan.RowScan.give.Goals as goal
