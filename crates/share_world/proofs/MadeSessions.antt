@@ -14,7 +14,7 @@ use Rattle.circuit_model.specs.Circuits.{values}
 use Rattle.circuit_model.specs.Netlists.{Netlist, IsCircuit, arity, reads, no_gate, is_set, input_wires, gate as gate_of}
 use Rattle.job_plan.specs.Plans.{Session, session, gate, owners}
 use Rattle.job_plan.specs.Parts.{session_of}
-use Rattle.job_plan.proofs.CircuitSessions.{owners_long}
+use Rattle.job_plan.proofs.ValueWires.{owners_long}
 use Rattle.share_world.specs.Worlds.{World, input_of}
 use Rattle.share_world.specs.Solutions.{GatesInOrder, SetBefore, reads_first, reads_second}
 use Rattle.share_world.specs.Made.{MadeHasValues}

@@ -1,11 +1,13 @@
 -- The worked job, by computation.
-use Rattle.std.proofs.Common.{◌≡◌, ℕ, zero, suc, ◌<◌, ◌≤◌, false, List, [], ◌∷◌, length, refl, arith}
+use Rattle.std.proofs.Common.{◌≡◌, ◌≢◌, ℕ, zero, suc, ◌<◌, ◌≤◌, true, false, ◌||◌, List, [], ◌∷◌, length, inl, inr, refl, sym, ◌∙◌, ap, arith}
 use Rattle.std.specs.Prelude.{slice_index, slice_index_or, nat_eq, if◌then◌else◌}
 use Rattle.std.specs.List.{AllByRecursion}
+use Rattle.std.proofs.lemmas.Bool.{or_cases, or_left, ne_eqb, eqb-true, false≢true}
 use Rattle.list_laws.specs.Lists.{total}
 use Rattle.list_laws.proofs.JoinedLists.{every_at}
 use Rattle.party_set.specs.Parties.{IsQ2, covers}
 use Rattle.job_plan.specs.Plans.{session, owners, structure, gate, words}
+use Rattle.job_plan.specs.KeptWires.{sets, reads}
 use Rattle.job_plan.specs.Sound.{IsSound, IsSoundSession}
 use Rattle.job_plan.specs.InputWords.{AreInputs, given}
 use Rattle.job_plan.specs.Tallies.{tape_length}
@@ -50,6 +52,7 @@ sound_session = record {
   first = first;
   second = second;
   output = output;
+  order = record { once = once; before = before };
 }
   where
     owned : (v : ℕ) → v < 2 → slice_index (0 ∷ 1 ∷ []) v < 3
@@ -72,6 +75,34 @@ sound_session = record {
     output : (t : ℕ) → t < 1 → (gate multiply_session t).output < 3
     output zero l = omega arith
     output (suc t) l = absurd (omega arith)
+
+    other : (a b w : ℕ) → (nat_eq w b || false) ≡ true → a ≢ b → (nat_eq w a || false) ≡ false
+    other a b w e ne = elim (or_cases (nat_eq w b) false e) [
+      | inl same ↦ ap (λ t. t || false) (ne_eqb w a (λ also. ne (sym also ∙ eqb-true w b same)))
+      | inr none ↦ absurd (false≢true none)
+    ]
+
+    -- slots 0 and 1 set the wires of the inputs, and slot 2 that of the product
+    once : (j k w : ℕ) → j < k → k < 4 → sets multiply_session j w ≡ true → sets multiply_session k w ≡ false
+    once zero zero w jk l e = absurd (omega (arith, jk))
+    once zero (suc zero) w jk l e = other 1 0 w e (omega arith)
+    once zero (suc (suc zero)) w jk l e = other 2 0 w e (omega arith)
+    once (suc zero) (suc (suc zero)) w jk l e = other 2 1 w e (omega arith)
+    once j (suc (suc (suc zero))) w jk l e = refl
+    once j (suc (suc (suc (suc k)))) w jk l e = absurd (omega (arith, l))
+    once (suc j) (suc zero) w jk l e = absurd (omega (arith, jk))
+    once (suc j) zero w jk l e = absurd (omega (arith, jk))
+    once (suc (suc j)) (suc (suc zero)) w jk l e = absurd (omega (arith, jk))
+
+    before : (k w : ℕ) → k < 4 → reads multiply_session k w ≡ true → (j : ℕ) × (j < k) × (sets multiply_session j w ≡ true)
+    before zero w l e = absurd (false≢true e)
+    before (suc zero) w l e = absurd (false≢true e)
+    before (suc (suc zero)) w l e = elim (or_cases (nat_eq w 0) (nat_eq w 1 || false) e) [
+      | inl first ↦ (0, omega arith, or_left (nat_eq w 0) false first)
+      | inr second ↦ (1, omega arith, second)
+    ]
+    before (suc (suc (suc zero))) w l e = (2, omega arith, e)
+    before (suc (suc (suc (suc k)))) w l e = absurd (omega (arith, l))
 
 sound : IsSound (multiply_plan 8)
 sound = record {
