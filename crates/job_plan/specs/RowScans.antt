@@ -2,14 +2,9 @@
 use Rattle.std.specs.Prelude.{◌≡◌, ◌≢◌, ℕ, ◌+◌, ◌<◌, ◌≤◌, nat_eq, nat_lt, Bool, true, false, not, ◌&&◌, ◌||◌, if◌then◌else◌, List, [], length, slice_index, count_by, Option, ◌⊎◌}
 use Rattle.list_laws.specs.Lists.{total}
 use Rattle.job_plan.specs.declared.row_scan.RowScan.{RowScan}
-use Rattle.job_plan.specs.declared.row_table.RowTable.{RowTable}
 use Rattle.job_plan.specs.Plans.{Session, slots}
-use Rattle.job_plan.specs.KeptWires.{IsRowTable, greatest, is_kept, kept, live, reads, sets}
+use Rattle.job_plan.specs.KeptWires.{greatest, is_kept, kept, reads, sets}
 use Rattle.job_plan.specs.Wirings.{is_named}
-
--- the table of rows of a session
-abbrev pub IsRows : Session → RowTable → Type 0
-IsRows s table = IsRowTable s table.rows.items × (table.count ≡ live s + 1)
 
 -- for each wire the number of the slot behind the last before slot n that reads it, and 0 where there is none
 pub record AreLastReads (s : Session) (n : ℕ) (last : List ℕ) : Type 0 where

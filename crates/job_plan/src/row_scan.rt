@@ -36,6 +36,7 @@ impl RowScan {
     }
 
     /// Slot `k`: the wire that it sets gets a row, and those that nothing reads after it give theirs back.
+    #[inline(always)]
     pub(crate) fn step(
         &mut self,
         k: u32,

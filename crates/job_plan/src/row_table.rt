@@ -1,7 +1,7 @@
 //! The rows of a session's wires.
 ghost use Rattle.std.specs.Prelude.{IfOk};
 ghost use Rattle.std.specs.Arc.{arc_value};
-ghost use Rattle.job_plan.specs.RowScans.{IsRows};
+ghost use Rattle.job_plan.specs.KeptWires.{IsRows};
 ghost use Rattle.job_plan.specs.Wirings.{IsWiring, session_in};
 
 use crate::row_scan::{RowScan, last_reads};
@@ -77,8 +77,8 @@ mod tests {
     use std::alloc::Global;
     use std::test::Fail;
 
-    // Products over so many wires: each reads two wires and sets a third. The first wires are given, and the last one is
-    // opened.
+    // Products over so many wires: each reads two wires and sets a third. The first wires are given, and the last one
+    // is opened.
     fn products(
         alloc: Global,
         wires: u64,

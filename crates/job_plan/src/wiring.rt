@@ -38,7 +38,12 @@ impl Wiring {
         inputs: Vec<InputValue>,
         outputs: Vec<OutputValue>,
     ) -> Result<Wiring, AllocError>
-        requires { IsWired (record { gates = gates.items; wires = wires; inputs = inputs.items; outputs = outputs.items }) }
+        requires { IsWired (record {
+          gates = gates.items;
+          wires = wires;
+          inputs = inputs.items;
+          outputs = outputs.items;
+        }) }
         ensures made { IfOk result (λ wiring. session_in wiring
             ≡ record { gates = gates.items; wires = wires; inputs = inputs.items; outputs = outputs.items }) }
         ensures tables { IfOk result IsWiring }
