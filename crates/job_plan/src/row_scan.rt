@@ -66,7 +66,7 @@ impl RowScan {
         (self.rows, self.made)
     }
 
-    // Gives the wire, if there is one, a row that no kept wire has. There is one free row at least before that.
+    // Gives the wire, if there is one, a row that no kept wire has. A row is made where none is free.
     fn give(&mut self, wire: Option<u32>) -> Result<(), AllocError>
         requires within { (w : ℕ) → is_named wire w ≡ true → w < length self.old.rows.items }
         requires few { self.old.made < 4294967295 }
