@@ -119,15 +119,39 @@ held_same holds gone scan none held = record {
 
 -- ---- giving and taking back
 
-pub gives_none : (scan : RowScan) → Gives None scan scan
-gives_none scan = record {
+-- no wire, and a free row
+pub gives_spare : (scan : RowScan) → 0 < length scan.free.items → Gives None scan scan
+gives_spare scan some = record {
   wires = refl;
   others = λ w e. refl;
-  made = inl refl;
+  made = inl (some, refl);
   held = λ holds held free. record {
     once = λ row. ap (λ n. n + count_by (nat_eq row) scan.free.items)
         (total_eq (length scan.rows.items) _ _ (λ w l. ap (λ b. one_if (b && nat_eq row (slice_index scan.rows.items w))) (or_false (holds w)))) ∙ held.once row;
     all = ap (λ n. n + length scan.free.items) (total_eq (length scan.rows.items) _ _ (λ w l. ap one_if (or_false (holds w)))) ∙ held.all;
+  };
+}
+
+-- no wire, and a free row that is new
+pub gives_new_spare : (old new : RowScan) → new.rows.items ≡ old.rows.items → old.free.items ≡ [] → new.free.items ≡ old.free.items ++ old.made ∷ [] → new.made ≡ old.made + 1 → Gives None old new
+gives_new_spare old new rows none one made = record {
+  wires = ap length rows;
+  others = λ w e. ap (λ xs. slice_index xs w) rows;
+  made = inr (none, made);
+  held = λ holds held free. record {
+    once = λ row.
+        let same : total (length new.rows.items) (holds_row (λ w. holds w || false) new.rows.items row) ≡ total (length old.rows.items) (holds_row holds old.rows.items row) =
+        ap (λ xs. total (length xs) (holds_row (λ w. holds w || false) xs row)) rows
+        ∙ total_eq (length old.rows.items) _ _ (λ w l. ap (λ b. one_if (b && nat_eq row (slice_index old.rows.items w))) (or_false (holds w))) in
+        let empty : count_by (nat_eq row) old.free.items ≡ 0 = ap (count_by (nat_eq row)) none in
+        let more : count_by (nat_eq row) new.free.items ≡ count_by (nat_eq row) old.free.items + one_if (nat_eq row old.made) = ap (count_by (nat_eq row)) one ∙ count_more row old.made old.free.items in
+        let within : one_if (nat_lt row new.made) ≡ one_if (nat_lt row (old.made + 1)) = ap (λ n. one_if (nat_lt row n)) made in
+        omega (arith, same, empty, more, within, below_next row old.made, held.once row);
+    all =
+        let same : total (length new.rows.items) (holds_some (λ w. holds w || false)) ≡ total (length old.rows.items) (holds_some holds) =
+        ap (λ xs. total (length xs) (holds_some (λ w. holds w || false))) rows ∙ total_eq (length old.rows.items) _ _ (λ w l. ap one_if (or_false (holds w))) in
+        let more : length new.free.items ≡ length old.free.items + 1 = ap length one ∙ length-append old.free.items (old.made ∷ []) in
+        omega (arith, same, more, made, held.all);
   };
 }
 
@@ -140,7 +164,7 @@ pub gives_free : (wire r : ℕ) (old new : RowScan) → wire < length old.rows.i
 gives_free wire r old new l rows free made = record {
   wires = ap length rows ∙ length-set old.rows.items wire r;
   others = λ w e. ap (λ xs. slice_index xs w) rows ∙ other_row old.rows.items wire r w e;
-  made = inl made;
+  made = inl (omega (arith, ap length free, length-append new.free.items (r ∷ [])), made);
   held = λ holds held unheld. record {
     once = λ row.
         let given = row_given holds old.rows.items wire r row l (unheld wire (eq-eqb wire wire refl)) in
@@ -164,7 +188,7 @@ pub gives_new : (wire : ℕ) (old new : RowScan) → wire < length old.rows.item
 gives_new wire old new l rows none still made = record {
   wires = ap length rows ∙ length-set old.rows.items wire old.made;
   others = λ w e. ap (λ xs. slice_index xs w) rows ∙ other_row old.rows.items wire old.made w e;
-  made = inr (made, none);
+  made = inr (none, made);
   held = λ holds held unheld. record {
     once = λ row.
         let given = row_given holds old.rows.items wire old.made row l (unheld wire (eq-eqb wire wire refl)) in
@@ -273,6 +297,9 @@ held_apart holds scan v w held lv lw here there ne same =
     ]
 
 -- ---- the same, of a wire that may be none
+
+pub gives_no_wire : (o : Option ℕ) (old new : RowScan) → o ≡ None → Gives None old new → Gives o old new
+gives_no_wire o old new e h = subst (λ (z : Option ℕ). Gives z old new) (sym e) h
 
 pub named_some : (o : Option ℕ) (wire : ℕ) → o ≡ Some wire → is_named o wire ≡ true
 named_some o wire e = subst (λ (z : Option ℕ). is_named z wire ≡ true) (sym e) (eq-eqb wire wire refl)

@@ -1,5 +1,5 @@
 -- The rows after one slot more.
-use Rattle.std.proofs.Common.{◌≡◌, ◌≢◌, ℕ, zero, suc, ◌+◌, ◌-◌, ◌<◌, ◌≤◌, max, Bool, true, false, not, ◌&&◌, ◌||◌, ◌⊎◌, List, [], length, replicate, inl, inr, refl, sym, ◌∙◌, ap, subst, arith}
+use Rattle.std.proofs.Common.{◌≡◌, ◌≢◌, ℕ, zero, suc, ◌+◌, ◌-◌, ◌<◌, ◌≤◌, max, Bool, true, false, not, ◌&&◌, ◌||◌, ◌⊎◌, List, [], ◌∷◌, length, replicate, inl, inr, refl, sym, ◌∙◌, ap, subst, arith}
 use Rattle.std.specs.Prelude.{nat_eq, nat_lt, nat_le, slice_index, count_by, Option, if◌then◌else◌}
 use Rattle.std.specs.List.{list_any}
 use Rattle.std.proofs.lemmas.Bool.{cases_order, cases_eq, cases_Bool, or_left, or_right, and_parts, and_from, eq-eqb, eqb-true, ne_eqb, lt-ltb, le-ltb, ltb-true, leb-true, le-leb, false≢true, both_ways, false_from_ne_true}
@@ -128,7 +128,7 @@ kept_next s k w t last wired l reading touched =
     elim (cases_order x (k + 1)) [
       | inl here ↦
           ap (λ e. after_slot (is_kept s k w) set first second e (nat_eq x 0)) (eq-eqb x (k + 1) here)
-          ∙ after_ended (is_kept s k w) set first second (nat_eq x 0) (sym (touched.reads w) ∙ (reading.read k w here).1)
+          ∙ after_ended (is_kept s k w) set first second (nat_eq x 0) (touched.reads w (reading.read k w here).1)
           ∙ sym (next ∙ ap (λ b. (earlier || set) && b) (le-ltb (k + 1) x (omega (arith, here))) ∙ and_no (earlier || set))
       | inr (inl past) ↦
           ap (λ h. after_slot h set first second (nat_eq x (k + 1)) (nat_eq x 0)) (now ∙ ap (λ b. earlier && b) (le-ltb k x (omega (arith, past))) ∙ and_no earlier)
@@ -182,9 +182,9 @@ ends_parts o at last w e =
     (parts.0, eqb-true (slice_index last w) at parts.1)
 
 -- one that is read here for the last time is kept until now
-kept_here : (s : Session) (k w : ℕ) (t : Touched) → IsWired s → k < session_slots s → IsTouched s k t → (is_named t.first w || is_named t.second w) ≡ true → is_kept s k w ≡ true
-kept_here s k w t wired l touched named =
-    let read : reads s k w ≡ true = touched.reads w ∙ named in
+kept_here : (s : Session) (k w : ℕ) (last : List ℕ) → IsWired s → k < session_slots s → AreLastReads s (session_slots s) last → slice_index last w ≡ k + 1 → is_kept s k w ≡ true
+kept_here s k w last wired l reading here =
+    let read : reads s k w ≡ true = (reading.read k w here).1 in
     let set = wired.order.before k w l read in
     kept_from s set.0 k k w set.1 (omega arith) l set.2 read
 
@@ -222,11 +222,11 @@ stepped s k t last old a b c d wired l reading touched scan gives first second u
     let after_all = λ (w : ℕ). after_second w && not (ends t.sets 0 last w) in
     let held_a : AreHeld set a = gives.held (is_kept s k) scan.held (λ w e. unkept s k w t wired l touched e) in
     let held_b : AreHeld after_first b = first.held set held_a (λ w e.
-    or_left (is_kept s k w) (is_named t.sets w) (kept_here s k w t wired l touched (or_left (is_named t.first w) (is_named t.second w) (ends_parts t.first (k + 1) last w e).0))) in
+    or_left (is_kept s k w) (is_named t.sets w) (kept_here s k w last wired l reading (ends_parts t.first (k + 1) last w e).1)) in
     let held_c : AreHeld after_second c = second.held after_first held_b (λ w e.
     let named = (ends_parts t.second (k + 1) last w e).0 in
     without (set w) (ends t.first (k + 1) last w)
-    (or_left (is_kept s k w) (is_named t.sets w) (kept_here s k w t wired l touched (or_right (is_named t.first w) (is_named t.second w) named)))
+    (or_left (is_kept s k w) (is_named t.sets w) (kept_here s k w last wired l reading (ends_parts t.second (k + 1) last w e).1))
     (false_from_ne_true (ends t.first (k + 1) last w) (λ also. both_ways (is_named t.second w) (touched.apart w (ends_parts t.first (k + 1) last w also).0) named))) in
     let held_d : AreHeld after_all d = unread.held after_second held_c (λ w e.
     let parts = ends_parts t.sets 0 last w e in
@@ -237,7 +237,7 @@ stepped s k t last old a b c d wired l reading touched scan gives first second u
     let rows : d.rows.items ≡ a.rows.items = unread.rows ∙ second.rows ∙ first.rows in
     let row : (w : ℕ) → slice_index d.rows.items w ≡ slice_index a.rows.items w = λ w. ap (λ xs. slice_index xs w) rows in
     let long : length a.rows.items ≡ s.wires = gives.wires ∙ scan.wires in
-    let made : a.made ≤ greatest (k + 1) (kept s) + 1 = made_within gives.made in
+    let made : a.made ≡ greatest (k + 1) (kept s) + 1 = made_within gives.made in
     record {
       wires = ap length rows ∙ long;
       held = subst (λ (holds : ℕ → Bool). AreHeld holds d) (funext after_all (is_kept s (k + 1)) (λ w. kept_next s k w t last wired l reading touched)) held_d;
@@ -264,9 +264,9 @@ stepped s k t last old a b c d wired l reading touched scan gives first second u
       ];
     }
   where
-    made_within : (a.made ≡ old.made) ⊎ ((a.made ≡ old.made + 1) × (old.free.items ≡ [])) → a.made ≤ greatest (k + 1) (kept s) + 1
-    made_within (inl same) = omega (arith, same, scan.made, greatest_next k (kept s))
-    made_within (inr more) = omega (arith, more.0, ap length more.1, kept_all s k old scan, greatest_next k (kept s))
+    made_within : ((0 < length old.free.items) × (a.made ≡ old.made)) ⊎ ((old.free.items ≡ []) × (a.made ≡ old.made + 1)) → a.made ≡ greatest (k + 1) (kept s) + 1
+    made_within (inl same) = omega (arith, same.0, same.1, scan.made, kept_all s k old scan, greatest_next k (kept s))
+    made_within (inr more) = omega (arith, more.1, ap length more.0, scan.made, kept_all s k old scan, greatest_next k (kept s))
 
 -- ---- the first slot, and the last
 
@@ -277,27 +277,30 @@ none_kept : (s : Session) (w : ℕ) → is_kept s 0 w ≡ false
 unfolding is_kept
 none_kept s w = refl
 
-pub first_scan : (s : Session) (scan : RowScan) → scan.rows.items ≡ replicate s.wires 0 → scan.free.items ≡ [] → scan.made ≡ 0 → IsScan s 0 scan
+below_one : (row : ℕ) → bit (nat_eq row 0) ≡ bit (nat_lt row 1)
+below_one row = elim (cases_eq row 0) [
+  | inl first ↦ ap bit (eq-eqb row 0 first) ∙ sym (ap bit (lt-ltb row 1 (omega (arith, first))))
+  | inr other ↦ ap bit (ne_eqb row 0 other) ∙ sym (ap bit (le-ltb row 1 (omega (arith, other))))
+]
+
+pub first_scan : (s : Session) (scan : RowScan) → scan.rows.items ≡ replicate s.wires 0 → scan.free.items ≡ 0 ∷ [] → scan.made ≡ 1 → IsScan s 0 scan
 first_scan s scan rows free made = record {
   wires = ap length rows ∙ length-replicate s.wires 0;
   held = record {
     once = λ row.
         let none = total_zero (length scan.rows.items) (λ w. bit (is_kept s 0 w && nat_eq row (slice_index scan.rows.items w)))
         (λ w l. ap (λ b. bit (b && nat_eq row (slice_index scan.rows.items w))) (none_kept s w)) in
-        let empty : count_by (nat_eq row) scan.free.items ≡ 0 = ap (count_by (nat_eq row)) free in
-        let below : bit (nat_lt row scan.made) ≡ 0 = ap bit (le-ltb row scan.made (omega (arith, made))) in
-        omega (arith, none, empty, below);
+        let one : count_by (nat_eq row) scan.free.items ≡ 0 + bit (nat_eq row 0) = ap (count_by (nat_eq row)) free in
+        let below : bit (nat_lt row scan.made) ≡ bit (nat_lt row 1) = ap (λ n. bit (nat_lt row n)) made in
+        omega (arith, none, one, below, below_one row);
     all =
         let none = total_zero (length scan.rows.items) (λ w. bit (is_kept s 0 w)) (λ w l. ap bit (none_kept s w)) in
         omega (arith, none, ap length free, made);
   };
-  made = omega (arith, made);
+  made = made;
   below = λ w. omega (arith, ap (λ xs. slice_index xs w) rows, zeros_at s.wires w);
   apart = λ i j m v w ij jk. absurd (omega (arith, jk));
 }
-
-pub live_next : (s : Session) (k live held : ℕ) (scan : RowScan) → IsScan s k scan → live ≡ greatest k (kept s) → held ≡ scan.made - length scan.free.items → max held live ≡ greatest (k + 1) (kept s)
-live_next s k live held scan v before now = omega (arith, before, now, kept_all s k scan v, greatest_next k (kept s))
 
 pub table_is : (s : Session) (rows : List ℕ) (scan : RowScan) → IsScan s (session_slots s) scan → rows ≡ scan.rows.items → IsRowTable s rows
 unfolding live

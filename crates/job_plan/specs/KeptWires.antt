@@ -3,6 +3,7 @@ use Rattle.std.specs.Prelude.{◌≡◌, ◌≢◌, ℕ, zero, suc, ◌+◌, ◌
 use Rattle.std.specs.List.{list_any}
 use Rattle.list_laws.specs.Lists.{total, some_below}
 use Rattle.circuit_model.specs.Netlists.{read_by}
+use Rattle.job_plan.specs.declared.row_table.RowTable.{RowTable}
 use Rattle.job_plan.specs.Plans.{Session, Slot, gate, output_wire, session_slot, session_slots}
 use Rattle.job_plan.specs.Plans.Slot.{Input, At_gate, Output}
 
@@ -58,6 +59,10 @@ pub record IsRowTable (s : Session) (rows : List ℕ) : Type 0 where
   pub below : All (λ row. row < live s + 1) rows
   pub apart : (j k m v w : ℕ) → j < k → k ≤ m → m < session_slots s → sets s j v ≡ true → reads s m v ≡ true
       → sets s k w ≡ true → slice_index rows v ≢ slice_index rows w
+
+-- the table has these rows, and one more of them than wires are kept at most
+abbrev pub IsRows : Session → RowTable → Type 0
+IsRows s table = IsRowTable s table.rows.items × (table.count ≡ live s + 1)
 
 -- two wires that are kept before the same slot have different rows
 abbrev pub KeptApart : Type 0

@@ -2,14 +2,9 @@
 use Rattle.std.specs.Prelude.{◌≡◌, ◌≢◌, ℕ, ◌+◌, ◌<◌, ◌≤◌, nat_eq, nat_lt, Bool, true, false, not, ◌&&◌, ◌||◌, if◌then◌else◌, List, [], length, slice_index, count_by, Option, ◌⊎◌}
 use Rattle.list_laws.specs.Lists.{total}
 use Rattle.job_plan.specs.declared.row_scan.RowScan.{RowScan}
-use Rattle.job_plan.specs.declared.row_table.RowTable.{RowTable}
 use Rattle.job_plan.specs.Plans.{Session, session_slots}
-use Rattle.job_plan.specs.KeptWires.{IsRowTable, greatest, is_kept, kept, live, reads, sets}
+use Rattle.job_plan.specs.KeptWires.{greatest, is_kept, kept, reads, sets}
 use Rattle.job_plan.specs.Wirings.{is_named}
-
--- the table of rows of a session
-abbrev pub IsRows : Session → RowTable → Type 0
-IsRows s table = IsRowTable s table.rows.items × (table.count ≡ live s + 1)
 
 -- for each wire the number of the slot behind the last before slot n that reads it, and 0 where there is none
 pub record AreLastReads (s : Session) (n : ℕ) (last : List ℕ) : Type 0 where
@@ -28,12 +23,13 @@ pub record AreHeld (holds : ℕ → Bool) (scan : RowScan) : Type 0 where
       + count_by (nat_eq row) scan.free.items ≡ (if nat_lt row scan.made then 1 else 0)
   pub all : total (length scan.rows.items) (λ w. if holds w then 1 else 0) + length scan.free.items ≡ scan.made
 
--- the wire, if there is one, has got a free row, or a new one where none was free
+-- the wire, if there is one, has got a free row; a new one was made where none was free
 pub record Gives (wire : Option ℕ) (old new : RowScan) : Type 0 where
   pub wires : length new.rows.items ≡ length old.rows.items
   pub others : (w : ℕ) → is_named wire w ≡ false
       → slice_index new.rows.items w ≡ slice_index old.rows.items w
-  pub made : (new.made ≡ old.made) ⊎ ((new.made ≡ old.made + 1) × (old.free.items ≡ []))
+  pub made : ((0 < length old.free.items) × (new.made ≡ old.made))
+      ⊎ ((old.free.items ≡ []) × (new.made ≡ old.made + 1))
   pub held : (holds : ℕ → Bool) → AreHeld holds old → ((w : ℕ) → is_named wire w ≡ true → holds w ≡ false)
       → AreHeld (λ w. holds w || is_named wire w) new
 
@@ -44,11 +40,11 @@ pub record TakesBack (wire : Option ℕ) (at : ℕ) (last : List ℕ) (old new :
   pub held : (holds : ℕ → Bool) → AreHeld holds old → ((w : ℕ) → ends wire at last w ≡ true → holds w ≡ true)
       → AreHeld (λ w. holds w && not (ends wire at last w)) new
 
--- before slot k the wires that are kept hold rows, and all wires that were set have theirs
+-- before slot k the wires that are kept hold rows, of one more than are kept at most so far; all that were set have one
 pub record IsScan (s : Session) (k : ℕ) (scan : RowScan) : Type 0 where
   pub wires : length scan.rows.items ≡ s.wires
   pub held : AreHeld (is_kept s k) scan
-  pub made : scan.made ≤ greatest k (kept s) + 1
+  pub made : scan.made ≡ greatest k (kept s) + 1
   pub below : (w : ℕ) → slice_index scan.rows.items w < greatest k (kept s) + 1
   pub apart : (i j m v w : ℕ) → i < j → j < k → j ≤ m → m < session_slots s → sets s i v ≡ true → reads s m v ≡ true
       → sets s j w ≡ true → slice_index scan.rows.items v ≢ slice_index scan.rows.items w

@@ -32,8 +32,9 @@ abbrev pub is_named : Option ℕ → ℕ → Bool
 is_named None w = false
 is_named (Some v) w = nat_eq w v
 
--- these are the wires that slot k sets and reads, of which each stands once
+-- the wire that slot k sets, and two different ones among which are those that it reads
 pub record IsTouched (s : Session) (k : ℕ) (touched : Touched) : Type 0 where
   pub sets : (w : ℕ) → sets s k w ≡ is_named touched.sets w
-  pub reads : (w : ℕ) → reads s k w ≡ (is_named touched.first w || is_named touched.second w)
+  pub reads : (w : ℕ) → reads s k w ≡ true → (is_named touched.first w || is_named touched.second w) ≡ true
   pub apart : (w : ℕ) → is_named touched.first w ≡ true → is_named touched.second w ≡ false
+  pub within : (w : ℕ) → (is_named touched.first w || is_named touched.second w) ≡ true → w < s.wires

@@ -48,8 +48,7 @@ impl Plan {
     ghost use Rattle.std.specs.Prelude.{◌≡◌, ℕ, ◌+◌, ◌<◌, ◌≤◌, All, IfOk, IfErr, OnOk, SomeIff, map, length};
     ghost use Rattle.std.specs.Arc.{arc_value};
     ghost use Rattle.list_laws.specs.Lists.{total};
-    ghost use Rattle.job_plan.specs.KeptWires.{live};
-    ghost use Rattle.job_plan.specs.RowScans.{IsRows};
+    ghost use Rattle.job_plan.specs.KeptWires.{IsRows, live};
     ghost use Rattle.job_plan.specs.Plans.{plan_of, structure, scheme, session, slot, slots, words, place};
     ghost use Rattle.secret_sharing.specs.Sharing.{has_pair};
     ghost use Rattle.job_plan.specs.Messages.{messages, slot_messages};

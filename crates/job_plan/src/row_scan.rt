@@ -1,9 +1,10 @@
 //! Rows for the wires of a session, given out and taken back slot by slot.
-ghost use Rattle.std.specs.Prelude.{◌≡◌, ℕ, ◌+◌, ◌<◌, true, IfOk, OnOk, if◌then◌else◌, length, slice_index};
+ghost use Rattle.std.specs.Prelude.{◌≡◌, ℕ, ◌<◌, true, IfOk, if◌then◌else◌, length, replicate, slice_index};
 ghost use Rattle.job_plan.specs.Plans.{session_slots};
 ghost use Rattle.job_plan.specs.RowScans.{AreLastReads};
 ghost use Rattle.job_plan.specs.Wirings.{IsWiring, is_named, session_in};
 
+use crate::touched::{Touched, read_wires};
 use crate::wiring::Wiring;
 use std::alloc::{AllocError, Global};
 
@@ -16,62 +17,63 @@ pub(crate) struct RowScan {
 }
 
 impl RowScan {
-    ghost use Rattle.std.specs.Prelude.{◌≡◌, ℕ, ◌+◌, ◌-◌, ◌<◌, ◌≤◌, true, IfOk, OnOk, IsOk, length, replicate, []};
+    ghost use Rattle.std.specs.Prelude.{◌≡◌, ℕ, ◌+◌, ◌<◌, true, IfOk, OnOk, length, replicate, [], ◌∷◌};
     ghost use Rattle.job_plan.specs.Plans.{session_slots};
     ghost use Rattle.job_plan.specs.RowScans.{AreLastReads, Gives, TakesBack, IsScan};
-    ghost use Rattle.job_plan.specs.Wirings.{IsWiring, is_named, session_in};
+    ghost use Rattle.job_plan.specs.Wirings.{IsTouched, IsWiring, is_named, session_in};
 
-    /// No row yet, for so many wires.
+    /// One free row, for so many wires.
     pub(crate) fn start(alloc: Global, wires: usize) -> Result<RowScan, AllocError>
         ensures rows { IfOk result (λ scan. scan.rows.items ≡ replicate wires 0) }
-        ensures free { IfOk result (λ scan. scan.free.items ≡ []) }
-        ensures made { IfOk result (λ scan. scan.made ≡ 0) }
+        ensures free { IfOk result (λ scan. scan.free.items ≡ 0 ∷ []) }
+        ensures made { IfOk result (λ scan. scan.made ≡ 1) }
     {
         Ok(RowScan {
             rows: vec![in alloc; 0; wires]?,
-            free: Vec::new(alloc),
-            made: 0,
+            free: vec![in alloc; 0]?,
+            made: 1,
         })
     }
 
-    /// How many wires hold a row.
-    pub(crate) fn held(&self) -> u32
-        requires { length self.now.free.items ≤ self.now.made }
-        ensures { result ≡ self.now.made - length self.now.free.items }
-    {
-        self.made - self.free.len() as u32
-    }
-
     /// Slot `k`: the wire that it sets gets a row, and those that nothing reads after it give theirs back.
-    pub(crate) fn step(&mut self, k: u32, wiring: &Wiring, last: &[u32]) -> Result<(), AllocError>
+    #[inline(always)]
+    pub(crate) fn step(
+        &mut self,
+        k: u32,
+        touched: Touched,
+        wiring: &Wiring,
+        last: &[u32],
+    ) -> Result<(), AllocError>
         requires wiring { IsWiring wiring.now }
         requires slot { k < session_slots (session_in wiring.now) }
         requires last { AreLastReads (session_in wiring.now) (session_slots (session_in wiring.now)) last.now }
+        requires touched { IsTouched (session_in wiring.now) k touched }
         requires scan { IsScan (session_in wiring.now) k self.old }
         ensures { OnOk result (IsScan (session_in wiring.now) (k + 1) self.new) }
     {
-        let touched = wiring.touched(k);
-        self.give(touched.sets);
+        let _ = wiring;
+        self.give(touched.sets)?;
         self.take_back(touched.first, k + 1, last)?;
         self.take_back(touched.second, k + 1, last)?;
         self.take_back(touched.sets, 0, last)
     }
 
-    /// The rows of all wires.
-    pub(crate) fn into_rows(self) -> Vec<u32>
-        ensures { result ≡ self.rows }
+    /// The rows of all wires, and how many were made.
+    pub(crate) fn into_rows(self) -> (Vec<u32>, u32)
+        ensures rows { result.0 ≡ self.rows }
+        ensures made { result.1 ≡ self.made }
     {
-        self.rows
+        (self.rows, self.made)
     }
 
-    // Gives the wire, if there is one, a row that no kept wire has.
-    fn give(&mut self, wire: Option<u32>)
+    // Gives the wire, if there is one, a row that no kept wire has. A row is made where none is free.
+    fn give(&mut self, wire: Option<u32>) -> Result<(), AllocError>
         requires within { (w : ℕ) → is_named wire w ≡ true → w < length self.old.rows.items }
         requires few { self.old.made < 4294967295 }
-        ensures { Gives wire self.old self.new }
+        ensures { OnOk result (Gives wire self.old self.new) }
     {
         let Some(wire) = wire else {
-            return;
+            return self.spare();
         };
         match self.free.pop() {
             Some(row) => self.rows[wire as usize] = row,
@@ -80,6 +82,19 @@ impl RowScan {
                 self.made += 1;
             }
         }
+        Ok(())
+    }
+
+    // Makes a free row where there is none.
+    fn spare(&mut self) -> Result<(), AllocError>
+        requires { self.old.made < 4294967295 }
+        ensures { OnOk result (Gives None self.old self.new) }
+    {
+        if self.free.is_empty() {
+            self.free.push(self.made)?;
+            self.made += 1;
+        }
+        Ok(())
     }
 
     // Takes the row of the wire back, if there is one and `last` has this number for it.
@@ -101,16 +116,28 @@ impl RowScan {
 /// For each wire the number of the slot behind the last that reads it, and 0 for one that nothing reads.
 pub(crate) fn last_reads(alloc: Global, wiring: &Wiring) -> Result<Vec<u32>, AllocError>
     requires { IsWiring wiring.now }
-    ensures { IfOk result (λ last. AreLastReads (session_in wiring.now) (session_slots (session_in wiring.now))
-        last.items) }
+    ensures { IfOk result (λ last. AreLastReads (session_in wiring.now) (session_slots (session_in wiring.now)) last.items) }
 {
     let mut last = vec![in alloc; 0; wiring.wires as usize]?;
-    for k in 0..wiring.slots() {
-        let touched = wiring.touched(k);
-        note(touched.first, k + 1, &mut last);
-        note(touched.second, k + 1, &mut last);
-    }
+    note_reads(wiring, &mut last);
     Ok(last)
+}
+
+fn note_reads(wiring: &Wiring, last: &mut [u32])
+    requires wiring { IsWiring wiring.now }
+    requires none { last.old ≡ replicate wiring.now.wires 0 }
+    ensures { AreLastReads (session_in wiring.now) (session_slots (session_in wiring.now)) last.new }
+{
+    let inputs = wiring.owners.len() as u32;
+    let gates = wiring.gates.len() as u32;
+    for t in 0..gates {
+        let (first, second) = read_wires(wiring.gates[t as usize]);
+        note(first, inputs + t + 1, last);
+        note(second, inputs + t + 1, last);
+    }
+    for o in 0..wiring.readers.len() as u32 {
+        last[wiring.output_wire(o) as usize] = inputs + gates + o + 1;
+    }
 }
 
 // Writes the number beside the wire, if there is one.

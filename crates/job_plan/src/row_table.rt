@@ -1,7 +1,7 @@
 //! The rows of a session's wires.
 ghost use Rattle.std.specs.Prelude.{IfOk};
 ghost use Rattle.std.specs.Arc.{arc_value};
-ghost use Rattle.job_plan.specs.RowScans.{IsRows};
+ghost use Rattle.job_plan.specs.KeptWires.{IsRows};
 ghost use Rattle.job_plan.specs.Wirings.{IsWiring, session_in};
 
 use crate::row_scan::{RowScan, last_reads};
@@ -53,15 +53,19 @@ fn make_rows(alloc: Global, wiring: &Wiring) -> Result<RowTable, AllocError>
 {
     let last = last_reads(alloc, wiring)?;
     let mut scan = RowScan::start(alloc, wiring.wires as usize)?;
-    let mut live = 0;
-    for k in 0..wiring.slots() {
-        live = scan.held().max(live);
-        scan.step(k, wiring, &last)?;
+    let inputs = wiring.owners.len() as u32;
+    let gates = wiring.gates.len() as u32;
+    for v in 0..inputs {
+        scan.step(v, wiring.touched(v), wiring, &last)?;
     }
-    Ok(RowTable {
-        rows: scan.into_rows(),
-        count: live + 1,
-    })
+    for t in 0..gates {
+        scan.step(inputs + t, wiring.gate_touched(t), wiring, &last)?;
+    }
+    for k in inputs + gates..wiring.slots() {
+        scan.step(k, wiring.touched(k), wiring, &last)?;
+    }
+    let (rows, count) = scan.into_rows();
+    Ok(RowTable { rows, count })
 }
 
 #[cfg(test)]
@@ -73,8 +77,8 @@ mod tests {
     use std::alloc::Global;
     use std::test::Fail;
 
-    // Products over so many wires: each reads two wires and sets a third. The first wires are given, and the last one is
-    // opened.
+    // Products over so many wires: each reads two wires and sets a third. The first wires are given, and the last one
+    // is opened.
     fn products(
         alloc: Global,
         wires: u64,

@@ -24,7 +24,7 @@ pub struct SessionPart {
 impl Model for SessionPart {
     ghost use Rattle.std.specs.Arc.{arc_value};
     ghost use Rattle.job_plan.specs.Plans.{Session};
-    ghost use Rattle.job_plan.specs.RowScans.{IsRows};
+    ghost use Rattle.job_plan.specs.KeptWires.{IsRows};
     ghost use Rattle.job_plan.specs.Wirings.{IsWiring, session_in};
 
     ghost Value = { Session };
@@ -41,7 +41,7 @@ impl SessionPart {
     ghost use Rattle.job_plan.specs.Parts.{Makes, AreOf};
     ghost use Rattle.job_plan.specs.Plans.{gate, session_slot, session_slots, owners, readers};
     ghost use Rattle.job_plan.specs.Tallies.{products, owned, outputs_read};
-    ghost use Rattle.job_plan.specs.RowScans.{IsRows};
+    ghost use Rattle.job_plan.specs.KeptWires.{IsRows};
     ghost use Rattle.job_plan.specs.Sound.{slot_of_kind, Inside, IsSoundSession};
 
     /// The session of a circuit, an owner for each of its input values, and a group of readers for each of its output

@@ -24,9 +24,9 @@ pub(crate) struct Wiring {
 }
 
 impl Wiring {
-    ghost use Rattle.std.specs.Prelude.{◌≡◌, ◌<◌, IfOk, length};
+    ghost use Rattle.std.specs.Prelude.{◌≡◌, ◌+◌, ◌<◌, IfOk, length};
     ghost use Rattle.job_plan.specs.Parts.{AreWithin};
-    ghost use Rattle.job_plan.specs.Plans.{session_slot, session_slots};
+    ghost use Rattle.job_plan.specs.Plans.{output_wire, session_slot, session_slots};
     ghost use Rattle.job_plan.specs.Sound.{slot_of_kind, Inside};
     ghost use Rattle.job_plan.specs.Wirings.{IsWired, IsWiring, IsTouched, session_in};
 
@@ -38,7 +38,12 @@ impl Wiring {
         inputs: Vec<InputValue>,
         outputs: Vec<OutputValue>,
     ) -> Result<Wiring, AllocError>
-        requires { IsWired (record { gates = gates.items; wires = wires; inputs = inputs.items; outputs = outputs.items }) }
+        requires { IsWired (record {
+          gates = gates.items;
+          wires = wires;
+          inputs = inputs.items;
+          outputs = outputs.items;
+        }) }
         ensures made { IfOk result (λ wiring. session_in wiring
             ≡ record { gates = gates.items; wires = wires; inputs = inputs.items; outputs = outputs.items }) }
         ensures tables { IfOk result IsWiring }
@@ -84,6 +89,24 @@ impl Wiring {
         }
     }
 
+    /// The wire of output wire `o`, counted from the first output wire.
+    pub(crate) fn output_wire(&self, o: u32) -> u32
+        requires wiring { IsWiring self.now }
+        requires within { o < length self.now.readers.items }
+        ensures { result ≡ output_wire (session_in self.now) o }
+    {
+        self.wires - self.readers.len() as u32 + o
+    }
+
+    /// The wires of gate `t`, which stands in the slot of its number behind those of the input wires.
+    pub(crate) fn gate_touched(&self, t: u32) -> Touched
+        requires wiring { IsWiring self.now }
+        requires within { t < length self.now.gates.items }
+        ensures { IsTouched (session_in self.now) (length self.now.owners.items + t) result }
+    {
+        touched_by(self.gates[t as usize])
+    }
+
     /// The wires of slot `k`.
     pub(crate) fn touched(&self, k: u32) -> Touched
         requires wiring { IsWiring self.now }
@@ -99,7 +122,7 @@ impl Wiring {
             SlotKind::Gate(t) => touched_by(self.gates[t as usize]),
             SlotKind::Output(o) => Touched {
                 sets: None,
-                first: Some(self.wires - self.readers.len() as u32 + o),
+                first: Some(self.output_wire(o)),
                 second: None,
             },
         }

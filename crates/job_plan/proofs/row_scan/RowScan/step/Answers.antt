@@ -14,6 +14,6 @@ give-requires-clause-few c = omega (arith, few_made (session_in c.args.wiring.no
 pub returns : goal.returns
 returns c =
     on_ok _ _ c.take_back-3.result
-    (stepped (session_in c.args.wiring.now) c.args.k c.touched-touched.result c.args.last.now c.args.self.now c.give.new.self c.take_back.new.self c.take_back-2.new.self c.take_back-3.new.self
-    c.requires.wiring.wired c.requires.slot c.requires.last c.touched-touched.ensures c.requires.scan c.give.ensures c.in_ok-take_back.ensures c.in_ok-take_back-2.ensures)
+    (stepped (session_in c.args.wiring.now) c.args.k c.args.touched c.args.last.now c.args.self.now c.give.new.self c.take_back.new.self c.take_back-2.new.self c.take_back-3.new.self
+    c.requires.wiring.wired c.requires.slot c.requires.last c.requires.touched c.requires.scan c.in_ok-give.ensures c.in_ok-take_back.ensures c.in_ok-take_back-2.ensures)
     c.take_back-3.ensures
