@@ -1,9 +1,11 @@
 #!/usr/bin/env python3
-"""Makes jobs of several sizes, each in a folder of its own: make_jobs.py FOLDER
+"""Makes jobs of several sizes, each in a folder of its own: make_jobs.py FOLDER [limits]
 
 Ring circuits of 4,096 to 65,536 gates, a quarter of them products, a circuit of bits with as many gates of each kind as a
-circuit of AES-128 has, and one of products alone that eight sessions compute. Each folder gets the job, its circuit, three party files with seeds, and 'expected', the text that
-'mpc run' must write, computed from the plain circuit. The same call always makes the same files.
+circuit of AES-128 has, and one of products alone that eight sessions compute. With 'limits', in their place, jobs as large as the
+program takes: the most products, the deepest circuit (each gate squares what the one before it set) and the widest (all wires are
+inputs or outputs). Each folder gets the job, its circuit, three party files with seeds, and 'expected', the text that 'mpc run' must
+write, computed from the plain circuit. The same call always makes the same files.
 
 A list of the folders, with a line 'NAME GATES PRODUCTS MESSAGES' for each, goes to standard output.
 """
@@ -28,6 +30,7 @@ DEAL_MESSAGES = 4
 PRODUCT_MESSAGES = 3 * DEAL_MESSAGES
 MOST_MESSAGES = 1048576
 MOST_GATES = 65536
+MOST_VALUES = 1024
 MOST_WIRES = 131072
 MOST_BYTES = 16777216
 
@@ -68,15 +71,25 @@ def evaluate(inputs, gates, modulus):
     return values
 
 
-def write(folder, name, layout, bits, widths, outputs, operations, numbers, sessions=1):
-    """Writes one job: the inputs are given by a, b, .. in turn, the last wires are one output value, which all read. All sessions have
-    the same circuit, and inputs of their own."""
+def square_the_last(operation, wire, numbers):
+    """The wire before this one, twice."""
+    return [wire - 1, wire - 1]
+
+
+def negate_an_input(operation, wire, numbers):
+    """Of so many input wires and as many gates, each gate has an input wire of its own."""
+    return [wire - MOST_GATES]
+
+
+def write(folder, name, layout, bits, widths, outputs, operations, numbers, sessions=1, choose=operands):
+    """Writes one job: the inputs are given by a, b, .. in turn, the last wires are the output values of these widths, which all read.
+    All sessions have the same circuit, and inputs of their own."""
     path = os.path.join(folder, name)
     os.makedirs(path)
     wires = sum(widths)
     gates = []
     for operation in operations:
-        gates.append((operation, operands(operation, wires, numbers)))
+        gates.append((operation, choose(operation, wires, numbers)))
         wires += 1
     owners = [PARTIES[i % len(PARTIES)] for i in range(len(widths))]
     inputs = {party: [] for party in PARTIES}
@@ -90,23 +103,27 @@ def write(folder, name, layout, bits, widths, outputs, operations, numbers, sess
             values += words
         for party in PARTIES:
             inputs[party].append(' '.join(map(str, given[party])))
-        words = evaluate(values, gates, 2**bits)[wires - outputs:]
-        expected += ''.join(' '.join([f'out {session} 0', party, *map(str, words)]) + '\n' for party in PARTIES)
+        words = evaluate(values, gates, 2**bits)[wires - sum(outputs):]
+        for output, width in enumerate(outputs):
+            first = sum(outputs[:output])
+            value = ' '.join(map(str, words[first:first + width]))
+            expected += ''.join(f'out {session} {output} {party} {value}\n' for party in PARTIES)
 
     products = sessions * sum(operation in ('MUL', 'AND') for operation in operations)
-    messages = sessions * (sum(widths) * DEAL_MESSAGES + outputs * len(PARTIES)) + products * PRODUCT_MESSAGES
+    messages = sessions * (sum(widths) * DEAL_MESSAGES + sum(outputs) * len(PARTIES)) + products * PRODUCT_MESSAGES
     if messages > MOST_MESSAGES or len(gates) > MOST_GATES or wires > MOST_WIRES:
         sys.exit(f'make_jobs.py: {name} is past the limits of the program')
 
-    lines = [f'{len(gates)} {wires}', ' '.join(map(str, [len(widths), *widths])), f'1 {outputs}']
+    lines = [f'{len(gates)} {wires}', ' '.join(map(str, [len(widths), *widths])), ' '.join(map(str, [len(outputs), *outputs]))]
     for i, (operation, from_wires) in enumerate(gates):
         lines.append(' '.join(map(str, [len(from_wires), 1, *from_wires, sum(widths) + i, operation])))
     circuit = '\n'.join(lines) + '\n'
     if len(circuit) > MOST_BYTES:
         sys.exit(f'make_jobs.py: the circuit of {name} is longer than the program takes')
     texts = lambda items: '[' + ', '.join(f'"{item}"' for item in items) + ']'
+    readers = '[' + ', '.join([texts(PARTIES)] * len(outputs)) + ']'
     session = (f'[[session]]\ncircuit = "circuit.txt"\nlayout = "{layout}"\nowners = {texts(owners)}\n'
-               f'readers = [{texts(PARTIES)}]\n')
+               f'readers = {readers}\n')
     files = {
         'circuit.txt': circuit,
         'job.toml': f'version = 1\nring_bits = {bits}\nparties = {texts(PARTIES)}\nformula = "2 of (a, b, c)"\n' + sessions * session,
@@ -121,22 +138,36 @@ def write(folder, name, layout, bits, widths, outputs, operations, numbers, sess
     print(name, sessions * len(gates), products, messages)
 
 
-def main(words):
-    if len(words) != 2 or words[1].startswith('-'):
-        sys.exit('usage: make_jobs.py FOLDER')
-    folder = words[1]
+def write_bench(folder):
     for size in RING_SIZES:
         operations = [['MUL', 'ADD', 'SUB', 'NEG'][i % 4] for i in range(size)]
-        write(folder, f'ring_{size}', 'ring', 32, [1] * INPUT_WIRES, 1, operations, Numbers(size))
+        write(folder, f'ring_{size}', 'ring', 32, [1] * INPUT_WIRES, [1], operations, Numbers(size))
     # The kinds of gates in a random order.
     numbers = Numbers(128)
     operations = [operation for operation, count in BITS.items() for _ in range(count)]
     for i in range(len(operations) - 1, 0, -1):
         j = numbers.below(i + 1)
         operations[i], operations[j] = operations[j], operations[i]
-    write(folder, 'bits_aes', 'bristol', 1, BIT_INPUTS, BIT_OUTPUTS, operations, numbers)
+    write(folder, 'bits_aes', 'bristol', 1, BIT_INPUTS, [BIT_OUTPUTS], operations, numbers)
     operations = ['MUL'] * SESSION_PRODUCTS
-    write(folder, 'eight_sessions', 'ring', 32, [1] * INPUT_WIRES, 1, operations, Numbers(8), sessions=8)
+    write(folder, 'eight_sessions', 'ring', 32, [1] * INPUT_WIRES, [1], operations, Numbers(8), sessions=8)
+
+
+def write_limits(folder):
+    products = ['MUL'] * MOST_GATES
+    write(folder, 'most_products', 'ring', 32, [1] * INPUT_WIRES, [1], products, Numbers(1))
+    write(folder, 'deepest', 'ring', 32, [1], [1], products, Numbers(2), choose=square_the_last)
+    values = [MOST_GATES // MOST_VALUES] * MOST_VALUES
+    write(folder, 'widest', 'ring', 32, values, values, ['NEG'] * MOST_GATES, Numbers(3), choose=negate_an_input)
+
+
+def main(words):
+    if len(words) not in (2, 3) or words[1].startswith('-') or words[2:] not in ([], ['limits']):
+        sys.exit('usage: make_jobs.py FOLDER [limits]')
+    if words[2:]:
+        write_limits(words[1])
+    else:
+        write_bench(words[1])
 
 
 if __name__ == '__main__':
