@@ -60,7 +60,7 @@ pub record IsRowTable (s : Session) (rows : List ℕ) : Type 0 where
   pub apart : (j k m v w : ℕ) → j < k → k ≤ m → m < session_slots s → sets s j v ≡ true → reads s m v ≡ true
       → sets s k w ≡ true → slice_index rows v ≢ slice_index rows w
 
--- the table has these rows, and one more of them than wires are kept at most
+-- the table gives each wire its row, and has a row more than wires are kept at most
 abbrev pub IsRows : Session → RowTable → Type 0
 IsRows s table = IsRowTable s table.rows.items × (table.count ≡ live s + 1)
 

@@ -33,7 +33,7 @@ open_lines plan r =
     joined (length plan.groups) (λ i. only_if (not (holds plan r i))
     (record { share = i; sender = least_holder plan i; receiver = r } ∷ []))
 
--- a dealt value is dealt by its party, a product by each party that has a pair, and an output is opened to each reader
+-- the lines of a pattern, in order: of a product each party that has a pair deals, an output is opened to each reader
 abbrev pub lines : Plan → Pattern → List Line
 lines plan Silent = []
 lines plan (Dealt p) = deal_lines plan p

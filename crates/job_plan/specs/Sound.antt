@@ -61,6 +61,7 @@ pub record IsLaid (plan : Plan) (count : ℕ) (patterns : Patterns) (starts deal
   pub begin : starts ≡ starts_of plan
   pub dealt : deals ≡ deal_starts_of plan
 
+-- the slot of the definitions
 abbrev pub slot_of_kind : SlotKind → Slot
 slot_of_kind (InputKind v) = Input v
 slot_of_kind (GateKind t) = At_gate t

@@ -17,6 +17,7 @@ pub record IsWired (s : Session) : Type 0 where
   pub output : (t : ℕ) → t < length s.gates → (gate s t).output < s.wires
   pub order : IsInOrder s
 
+-- the session that the program has
 abbrev pub session_in : Wiring → Session
 session_in w = record { gates = w.gates.items; wires = w.wires; inputs = w.inputs.items; outputs = w.outputs.items }
 

@@ -116,7 +116,8 @@ impl RowScan {
 /// For each wire the number of the slot behind the last that reads it, and 0 for one that nothing reads.
 pub(crate) fn last_reads(alloc: Global, wiring: &Wiring) -> Result<Vec<u32>, AllocError>
     requires { IsWiring wiring.now }
-    ensures { IfOk result (λ last. AreLastReads (session_in wiring.now) (session_slots (session_in wiring.now)) last.items) }
+    ensures { IfOk result (λ last.
+        AreLastReads (session_in wiring.now) (session_slots (session_in wiring.now)) last.items) }
 {
     let mut last = vec![in alloc; 0; wiring.wires as usize]?;
     note_reads(wiring, &mut last);

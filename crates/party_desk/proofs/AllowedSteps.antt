@@ -14,7 +14,7 @@ use Rattle.party_program.specs.Programs.{program, at}
 use Rattle.party_program.specs.States.{Given, State, slot_of, posted, state}
 use Rattle.party_program.specs.Proper.{Proper, IsGivenWord, HasInput, with_got}
 use Rattle.party_program.specs.Suiting.{Suits}
-use Rattle.party_program.specs.Standing.{IsProgram, StandsIn}
+use Rattle.party_program.specs.Standing.{IsPatternIn, IsProgram, StandsIn}
 use Rattle.party_program.proofs.StateReads.{state_same}
 use Rattle.program_laws.specs.WordsRead.{Carries, Reads}
 use Rattle.program_laws.proofs.SetWords.{reads_are_set}
@@ -26,9 +26,10 @@ use Rattle.party_desk.specs.declared.desk.Desk.{Desk}
 use Rattle.party_desk.specs.declared.desk.Stepped.{Stepped}
 use Rattle.party_desk.specs.declared.desk.Stepped.TheVariants.{Moved, NotYet, Ended}
 use Rattle.party_desk.specs.Memories.{state_of, row_of, posted_on_rows, IsMemoryOf, CanDeal, FindsInput}
-use Rattle.party_desk.specs.Desks.{posts_in, takes_in, posts_before, takes_before, Stands, Allowed, Advanced, Effect, Did, IsDesk, Remembers, instruction_at, word_in}
+use Rattle.party_desk.specs.Desks.{posts_in, takes_in, posts_before, takes_before, Stands, Allowed, Advanced, Effect, Did, IsDesk, NamesSlot, Remembers, instruction_at, word_in}
 use Rattle.party_desk.specs.Steps.{word_at, heard, Allows, MayStep, Does, Steps}
 use Rattle.party_desk.proofs.DeskSteps.{kept}
+use Rattle.party_desk.proofs.NamedSlots.{names_slot}
 
 -- at most one message for each instruction
 one_post : (e : Instruction) → posts_in e ≤ 1
@@ -79,6 +80,7 @@ goes_by l got d h same =
       own_program = h.own_program;
       instructions = h.instructions;
       slot = h.slot;
+      pattern = h.pattern;
       position = h.position;
       sent = h.sent;
       taken = h.taken;
@@ -112,11 +114,18 @@ module _ (l : Given) (d : Desk) (is_desk : IsDesk l d) where
     party = subst (λ z. z < l.plan.parties) (sym is_desk.party) suits.party;
     own_program = subst (λ z. IsProgram l.plan z d.session d.program) (sym is_desk.party) (subst (λ z. IsProgram l.plan l.party z d.program) (sym is_desk.session) is_desk.own_program);
     slot = subst (λ z. StandsIn l.plan z d.session d.slot d.position) (sym is_desk.party) (subst (λ z. StandsIn l.plan l.party z d.slot d.position) (sym is_desk.session) is_desk.slot);
+    pattern = subst (λ z. IsPatternIn l.plan z d.slot d.pattern) (sym is_desk.session) is_desk.pattern;
     position = (let a : d.position ≤ length (program l.plan l.party l.session) = is_desk.position in let b : length (program l.plan l.party l.session) < 4294967295 = program_is_short l.plan suits.sound l.party l.session in omega arith);
     sent = (let a : d.sent ≡ posts_before (program l.plan l.party l.session) d.position = is_desk.sent in let b = posts_few (program l.plan l.party l.session) d.position in omega arith);
     taken = (let a : d.taken ≡ takes_before (program l.plan l.party l.session) d.position = is_desk.taken in let b = takes_few (program l.plan l.party l.session) d.position in omega arith);
     fits = subst (λ z. IsMemoryOf l.plan z d.memory) (sym is_desk.session) is_desk.fits;
   }
+
+  names : (j : Instruction) → i ≡ j → NamesSlot l.plan j d.slot
+  names j e = names_slot l.plan suits.sound l.session l.party suits.session suits.party d.slot d.position is_desk.slot j e
+
+  pub names_own : NamesSlot l.plan i d.slot
+  names_own = names i refl
 
   -- ---- the memory allows what the cells allow
 
@@ -224,3 +233,9 @@ module _ {C : Type 0} (cells : Meaning C) (plan : Plan) (c : C) (l : Given) (d :
   may_slot =
       let h = may_stand.own_program in
       subst (λ z. StandsIn plan z d.program.session d.slot d.position) (sym h.of_party) (subst (λ z. StandsIn plan d.party z d.slot d.position) (sym h.of_session) may_stand.slot)
+
+  pub may_pattern : IsPatternIn plan d.program.session d.slot d.pattern
+  may_pattern = subst (λ z. IsPatternIn plan z d.slot d.pattern) (sym may_stand.own_program.of_session) may_stand.pattern
+
+  pub may_here : (j : Instruction) → j ≡ at (program plan d.program.party d.program.session) d.position → NamesSlot plan j d.slot
+  may_here j e = subst (λ z. NamesSlot z j d.slot) may.same (subst (λ z. NamesSlot l.plan z d.slot) (sym (own j e)) (names_own l d may.desk))

@@ -18,7 +18,7 @@ use Rattle.party_program.specs.declared.program.Instruction.TheVariants.{Deal, P
 use Rattle.party_desk.specs.declared.desk.Desk.{Desk}
 use Rattle.party_program.specs.Programs.{program, at}
 use Rattle.party_desk.specs.Rows.{row, SameRow, SameRows}
-use Rattle.party_program.specs.Standing.{IsProgram, StandsIn}
+use Rattle.party_program.specs.Standing.{IsPatternIn, IsProgram, StandsIn}
 use Rattle.party_program.specs.Suiting.{Suits}
 use Rattle.party_program.specs.States.{Given, State, slot_of, state, next, word_of, dealt_in, took_in}
 use Rattle.party_desk.specs.declared.memory.Memory.{Memory}
@@ -134,6 +134,7 @@ module _ (l : Given) (d e : Desk) (w : ℕ) (h : IsDesk l d) (proper : Proper l.
     own_program = subst (IsProgram l.plan l.party l.session) (sym a.program) h.own_program;
     instructions = a.instructions ∙ h.instructions;
     slot = subst (λ z. StandsIn l.plan z l.session e.slot e.position) h.party (subst (λ z. StandsIn l.plan d.party z e.slot e.position) h.session a.slot);
+    pattern = subst (λ z. IsPatternIn l.plan z e.slot e.pattern) h.session a.pattern;
     position = omega (arith, more, inside);
     sent = a.sent ∙ ap (λ x. x + posts_in i) h.sent ∙ ap (posts_before (program l.plan l.party l.session)) (sym more);
     taken = a.taken ∙ ap (λ x. x + takes_in i) h.taken ∙ ap (takes_before (program l.plan l.party l.session)) (sym more);

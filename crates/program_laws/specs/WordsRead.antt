@@ -10,6 +10,7 @@ use Rattle.party_program.specs.declared.program.Instruction.TheVariants.{Deal, P
 use Rattle.party_program.specs.Programs.{program, at}
 use Rattle.party_program.specs.States.{gate_in_slot, output_in_slot, slot_of}
 
+-- the gate of slot k
 abbrev pub gate_at : Plan → ℕ → ℕ → Gate
 gate_at plan s k = gate_in_slot (session plan s) (slot plan s k)
 
