@@ -24,6 +24,7 @@ pub(crate) struct Patterns {
 impl Patterns {
     ghost use Rattle.std.specs.Prelude.{◌≡◌, IfOk};
     ghost use Rattle.job_plan.specs.Plans.{Plan};
+    ghost use Rattle.job_plan.specs.declared.pattern.Pattern.TheVariants.{Opened};
     ghost use Rattle.job_plan.specs.Patterns.{lines, Occurs};
     ghost use Rattle.job_plan.specs.Tables.{AreLines};
 
@@ -49,8 +50,18 @@ impl Patterns {
             Pattern::Silent => &[],
             Pattern::Dealt(p) => self.deals[p as usize].as_slice(),
             Pattern::Multiplied => self.product.as_slice(),
-            Pattern::Opened(readers) => self.openings[&readers].as_slice(),
+            Pattern::Opened(readers) => self.opening(readers),
         }
+    }
+
+    // The lines of an opening to these readers, in a function of its own since the others are found without a search.
+    #[inline(never)]
+    fn opening(&self, readers: u32) -> &[Line]
+        requires { (plan : Plan) × AreLines plan self.now × Occurs plan (Opened readers) }
+        ensures { (plan : Plan) → AreLines plan self.now → Occurs plan (Opened readers)
+            → result.now ≡ lines plan (Opened readers) }
+    {
+        self.openings[&readers].as_slice()
     }
 }
 
