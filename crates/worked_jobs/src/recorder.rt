@@ -150,10 +150,13 @@ fn a_reader_over_a_recorder(rt: HostRuntime) -> Result<(), Fail> {
     let mut cells = Recorder::new(alloc, &MESSAGES)?;
     multiply_job();
     worlds_are_lawful();
+    assert_eq!(rt; plan.live(0), 2);
+    assert_eq!(rt; desk.rows(), 3);
     finish_desk(&plan, &mut desk, &mut cells);
     assert_eq!(rt; step_in_world(&mut desk, &plan, &mut cells), Stepped::Ended);
     assert_eq!(rt; cells.calls.as_slice(), CALLS.as_slice());
     assert_eq!(rt; desk.delivered(0), Some(35));
+    assert_eq!(rt; desk.rows(), 3);
     assert_eq!(rt; desk.drawn(), 2);
     assert_eq!(rt; desk.sent(), 4);
     assert_eq!(rt; desk.taken(), 9);
