@@ -1,5 +1,5 @@
 -- What a party does in a slot of a pattern, and the instructions that it becomes in a slot.
-use Rattle.std.specs.Prelude.{ℕ, ◌+◌, ◌<◌, Bool, nat_eq, List, [], ◌∷◌, ◌++◌, map, filter}
+use Rattle.std.specs.Prelude.{ℕ, ◌+◌, ◌<◌, Bool, false, nat_eq, List, [], ◌∷◌, ◌++◌, map, filter}
 use Rattle.std.specs.List.{enumerate_from}
 use Rattle.list_laws.specs.Lists.{only_if}
 use Rattle.secret_sharing.specs.Sharing.{has_pair}
@@ -20,6 +20,13 @@ before plan p Silent = []
 before plan p (Dealt q) = only_if (nat_eq q p) (Deal ∷ [])
 before plan p Multiplied = only_if (has_pair (scheme plan) p) (Own ∷ Deal ∷ [])
 before plan p (Opened readers) = []
+
+-- p deals in a slot of this pattern
+abbrev pub deals : Plan → ℕ → Pattern → Bool
+deals plan p Silent = false
+deals plan p (Dealt q) = nat_eq q p
+deals plan p Multiplied = has_pair (scheme plan) p
+deals plan p (Opened readers) = false
 
 -- the post of a line with its place in the pattern, and the take
 abbrev pub post_of : ℕ × Line → Step

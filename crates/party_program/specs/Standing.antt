@@ -2,10 +2,11 @@
 use Rattle.std.specs.Prelude.{◌≡◌, ℕ, ◌+◌, ◌<◌, ◌≤◌, nat_eq, List, length, Some}
 use Rattle.indexmap.specs.IndexMap.{IndexMap, get}
 use Rattle.list_laws.specs.Lists.{total, listed}
+use Rattle.job_plan.specs.declared.pattern.Pattern.{Pattern}
 use Rattle.job_plan.specs.declared.pattern.Pattern.TheVariants.{Silent, Dealt, Multiplied, Opened}
 use Rattle.job_plan.specs.Plans.{Plan, slots}
 use Rattle.job_plan.specs.Numbers.{deals_before}
-use Rattle.job_plan.specs.Patterns.{pattern_at}
+use Rattle.job_plan.specs.Patterns.{pattern_at, Occurs}
 use Rattle.job_plan.specs.Sound.{IsSound}
 use Rattle.party_program.specs.declared.program.Program.{Program}
 use Rattle.party_program.specs.declared.starts.SlotStart.{SlotStart}
@@ -23,6 +24,17 @@ pub record StandsIn (plan : Plan) (p s k q : ℕ) : Type 0 where
   pub slot : k ≤ slots plan s
   pub begun : instructions_before plan p s k ≤ q
   pub within : k < slots plan s → q < instructions_before plan p s (k + 1)
+
+-- the pattern of slot k, where there is such a slot
+abbrev pub IsPatternIn : Plan → ℕ → ℕ → Pattern → Type 0
+IsPatternIn plan s k pattern = k < slots plan s → pattern ≡ pattern_at plan s k
+
+-- a pattern of the plan that a slot of session s has
+pub record OccursIn (plan : Plan) (s : ℕ) (pattern : Pattern) : Type 0 where
+  pub slot : ℕ
+  pub slot_there : slot < slots plan s
+  pub is : pattern ≡ pattern_at plan s slot
+  pub occurs : Occurs plan pattern
 
 -- the steps of p in an opening to this group are kept
 abbrev pub HasOpening : {S : Type 0} → Plan → ℕ → IndexMap ℕ (List Step) S → ℕ → Type 0

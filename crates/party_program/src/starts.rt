@@ -1,10 +1,13 @@
 //! Where the instructions of each slot begin.
 ghost use Rattle.std.specs.Prelude.{◌≡◌, ℕ, ◌<◌, IfOk, length};
-ghost use Rattle.job_plan.specs.Plans.{slot, slots, deals_in};
+ghost use Rattle.secret_sharing.specs.Sharing.{has_pair};
+ghost use Rattle.job_plan.specs.Plans as plans;
+ghost use Rattle.job_plan.specs.Plans.{scheme};
+ghost use Rattle.party_program.specs.PartySteps.{deals};
 ghost use Rattle.party_program.specs.Standing.{AreSteps, slot_starts};
 
 use crate::step_table::StepTable;
-use job_plan::{Plan, SlotKind};
+use job_plan::{Pattern, Plan};
 use std::alloc::{AllocError, Global};
 
 /// How many instructions and deals of a party stand before a slot.
@@ -34,27 +37,24 @@ pub(crate) fn list_starts(
         instructions: 0,
         deals: 0,
     };
+    let multiplies = plan.multiplies(p);
     for k in 0..slots {
         list.push(start)?;
-        start.instructions += steps.at(plan, s, k).len() as u32;
-        start.deals += u32::from(deals_in(plan, p, s, k));
+        let pattern = plan.pattern(s, k);
+        start.instructions += steps.of(pattern).len() as u32;
+        start.deals += u32::from(deals_in(pattern, p, multiplies));
     }
     list.push(start)?;
     Ok(list)
 }
 
-// Whether party p deals in slot k of session s.
-fn deals_in(plan: &Plan, p: u32, s: u32, k: u32) -> bool
-    requires party { p < plan.now.parties }
-    requires session { s < length plan.now.sessions }
-    requires slot { k < slots plan.now s }
-    ensures { result ≡ deals_in plan.now s p (slot plan.now s k) }
+// Whether party p deals in a slot of this pattern.
+fn deals_in(pattern: Pattern, p: u32, multiplies: bool) -> bool
+    ensures { (plan : plans.Plan) → multiplies ≡ has_pair (scheme plan) p → result ≡ deals plan p pattern }
 {
-    let _ = plan.parties();
-    let part = plan.part(s);
-    match part.slot_kind(k) {
-        SlotKind::Input(v) => part.wire_owner(v) == p,
-        SlotKind::Gate(t) => part.gate(t).operation.is_product() && plan.multiplies(p),
-        SlotKind::Output(_) => false,
+    match pattern {
+        Pattern::Silent | Pattern::Opened(_) => false,
+        Pattern::Dealt(dealer) => dealer == p,
+        Pattern::Multiplied => multiplies,
     }
 }

@@ -26,10 +26,9 @@ pub(crate) struct StepTable {
 
 impl StepTable {
     ghost use Rattle.std.specs.Prelude.{◌≡◌, ℕ, ◌<◌, IfOk, length};
-    ghost use Rattle.job_plan.specs.Plans.{slots};
-    ghost use Rattle.job_plan.specs.Patterns.{pattern_at};
+    ghost use Rattle.job_plan.specs.Plans as plans;
     ghost use Rattle.party_program.specs.PartySteps.{steps};
-    ghost use Rattle.party_program.specs.Standing.{AreSteps};
+    ghost use Rattle.party_program.specs.Standing.{AreSteps, OccursIn};
 
     /// The steps of party `p` in session `s`.
     pub(crate) fn make(alloc: Global, plan: &Plan, p: u32, s: u32) -> Result<StepTable, AllocError>
@@ -49,14 +48,13 @@ impl StepTable {
         })
     }
 
-    /// What the party does in slot `k` of session `s`.
-    pub(crate) fn at(&self, plan: &Plan, s: u32, k: u32) -> &[Step]
-        requires are { (p : ℕ) × AreSteps plan.now p s self.now }
-        requires session { s < length plan.now.sessions }
-        requires slot { k < slots plan.now s }
-        ensures { (p : ℕ) → AreSteps plan.now p s self.now → result.now ≡ steps plan.now p (pattern_at plan.now s k) }
+    /// What the party does in a slot of this pattern.
+    pub(crate) fn of(&self, pattern: Pattern) -> &[Step]
+        requires { (plan : plans.Plan) × (p s : ℕ) × AreSteps plan p s self.now × OccursIn plan s pattern }
+        ensures { (plan : plans.Plan) (p s : ℕ) → AreSteps plan p s self.now → OccursIn plan s pattern
+            → result.now ≡ steps plan p pattern }
     {
-        match plan.pattern(s, k) {
+        match pattern {
             Pattern::Silent => self.silent.as_slice(),
             Pattern::Dealt(dealer) => self.dealt[dealer as usize].as_slice(),
             Pattern::Multiplied => self.multiplied.as_slice(),

@@ -4,7 +4,9 @@ use Rattle.list_laws.proofs.Totals.{total_more}
 use Rattle.job_plan.specs.Plans.{slot, slots, deals_in}
 use Rattle.job_plan.proofs.GrownLists.{listed_push}
 use Rattle.party_program.specs.declared.step.Step.{Step}
+use Rattle.party_program.specs.PartySteps.{deals}
 use Rattle.party_program.specs.Standing.{start_of}
+use Rattle.party_program.proofs.OccurringPatterns.{steps_found, deals_by_pattern}
 use Rattle.party_program.proofs.ProgramPlaces.{before_more, length-slot}
 use Rattle.party_program.proofs.ShortPrograms.{few_instructions}
 use Rattle.party_program.proofs.starts.list_starts.Goals as goal
@@ -22,7 +24,8 @@ overflow_cast-start c =
     let plan = c.args.plan.now in
     let k = c.loop-k.k in
     let lk : k < slots plan c.args.s = omega (arith, c.slots-slots.ensures) in
-    let steps = ap (length {A = Step}) (c.at.ensures c.args.p c.requires.steps) in
+    let its = c.pattern-pattern in
+    let all = ap (length {A = Step}) (steps_found plan c.args.s c.args.p k its.result c.args.steps.now c.of.result.now c.requires.steps c.parties.ensures.sound c.requires.session lk its.ensures.is c.of.ensures) in
     let long = length-slot plan c.args.p c.args.s k c.requires.session lk in
     let more = before_more plan c.args.p c.args.s k in
     let few = few_instructions plan c.args.p c.args.s (k + 1) c.parties.ensures.sound c.requires.session (omega arith) in
@@ -33,7 +36,8 @@ overflow_add-start c =
     let plan = c.args.plan.now in
     let k = c.loop-k.k in
     let lk : k < slots plan c.args.s = omega (arith, c.slots-slots.ensures) in
-    let steps = ap (length {A = Step}) (c.at.ensures c.args.p c.requires.steps) in
+    let its = c.pattern-pattern in
+    let all = ap (length {A = Step}) (steps_found plan c.args.s c.args.p k its.result c.args.steps.now c.of.result.now c.requires.steps c.parties.ensures.sound c.requires.session lk its.ensures.is c.of.ensures) in
     let long = length-slot plan c.args.p c.args.s k c.requires.session lk in
     let more = before_more plan c.args.p c.args.s k in
     let few = few_instructions plan c.args.p c.args.s (k + 1) c.parties.ensures.sound c.requires.session (omega arith) in
@@ -47,12 +51,16 @@ loop-k-preserved c =
     let s = c.args.s in
     let k = c.loop-k.k in
     let lk : k < slots plan s = omega (arith, c.slots-slots.ensures) in
-    let all = ap (length {A = Step}) (c.at.ensures p c.requires.steps) in
+    let its = c.pattern-pattern in
+    let all = ap (length {A = Step}) (steps_found plan c.args.s c.args.p k its.result c.args.steps.now c.of.result.now c.requires.steps c.parties.ensures.sound c.requires.session lk its.ensures.is c.of.ensures) in
     let long = length-slot plan p s k c.requires.session lk in
     let more = before_more plan p s k in
     let before = c.loop-k.invariant in
     let next = total_more k (λ j. if deals_in plan s p (slot plan s j) then 1 else 0) in
-    let added : c.from.result ≡ (if deals_in plan s p (slot plan s k) then 1 else 0) = c.from.ensures ∙ as_number c.deals_in.result ∙ ap (λ b. if b then 1 else 0) c.deals_in.ensures in
+    let added : c.from.result ≡ (if deals_in plan s p (slot plan s k) then 1 else 0) =
+    c.from.ensures
+    ∙ as_number c.deals_in.result
+    ∙ ap (λ b. if b then 1 else 0) (c.deals_in.ensures plan c.multiplies-multiplies.ensures ∙ ap (deals plan p) c.pattern-pattern.ensures.is ∙ deals_by_pattern plan s p (slot plan s k)) in
     let one = one_most (deals_in plan s p (slot plan s k)) in
     record {
       starts = c.in_ok-push.ensures.items ∙ listed_push k (start_of plan p s) c.loop-k.list.items c.loop-k.start before.starts (ap₂ (λ n d. record { instructions = n; deals = d }) before.instructions before.deals);

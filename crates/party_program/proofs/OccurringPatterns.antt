@@ -1,0 +1,58 @@
+-- The patterns of a session's slots.
+use Rattle.std.proofs.Common.{◌≡◌, ℕ, ◌+◌, ◌<◌, ◌≤◌, Bool, true, false, ◌&&◌, if◌then◌else◌, List, length, refl, sym, ap, ◌∙◌, subst, arith}
+use Rattle.circuit_model.specs.Circuits.{is_product}
+use Rattle.secret_sharing.specs.Sharing.{has_pair}
+use Rattle.job_plan.specs.declared.pattern.Pattern.{Pattern}
+use Rattle.job_plan.specs.declared.pattern.Pattern.TheVariants.{Silent, Multiplied, Opened}
+use Rattle.job_plan.specs.Plans.{Plan, Slot, scheme, session, gate, owners, slots, deals_in}
+use Rattle.job_plan.specs.Plans.Slot.{Input, At_gate, Output}
+use Rattle.job_plan.specs.Patterns.{pattern, pattern_at, Occurs}
+use Rattle.job_plan.specs.Sound.{IsSound}
+use Rattle.job_plan.proofs.Slots.{slot_cases}
+use Rattle.party_program.specs.declared.step.Step.{Step}
+use Rattle.party_program.specs.declared.step_table.StepTable.{StepTable}
+use Rattle.party_program.specs.PartySteps.{deals, steps}
+use Rattle.party_program.specs.Standing.{AreSteps, OccursIn}
+
+module _ (plan : Plan) (s : ℕ) where
+  gate_occurs : (b : Bool) → Occurs plan (if b then Multiplied else Silent)
+  gate_occurs true = tt
+  gate_occurs false = tt
+
+  -- the pattern of a slot is one of the plan
+  pattern_occurs : (k : ℕ) → IsSound plan → s < length plan.sessions → k < slots plan s → Occurs plan (pattern_at plan s k)
+  pattern_occurs k sound ls = slot_cases (session plan s) (λ k z. Occurs plan (pattern plan s z))
+      (sound.sessions s ls).owned
+      (λ t l. gate_occurs (is_product (gate (session plan s) t).operation))
+      (λ o l. record { at = s; output = o; session_there = ls; output_there = l; is = refl })
+      k
+
+  pub occurs_in : (k : ℕ) (its : Pattern) → IsSound plan → s < length plan.sessions → k < slots plan s → its ≡ pattern_at plan s k → OccursIn plan s its
+  occurs_in k its sound ls lk e = record { slot = k; slot_there = lk; is = e; occurs = subst (Occurs plan) (sym e) (pattern_occurs k sound ls lk) }
+
+  -- what a table has for the pattern of a slot
+  pub steps_found : (p k : ℕ) (its : Pattern) (table : StepTable) (found : List Step) → AreSteps plan p s table → IsSound plan → s < length plan.sessions → k < slots plan s → its ≡ pattern_at plan s k
+      → ((plan : Plan) (p s : ℕ) → AreSteps plan p s table → OccursIn plan s its → found ≡ steps plan p its) → found ≡ steps plan p (pattern_at plan s k)
+  steps_found p k its table found are sound ls lk e of = of plan p s are (occurs_in k its sound ls lk e) ∙ ap (steps plan p) e
+
+  no_opening : (b : Bool) (readers : ℕ) → (if b then Multiplied else Silent) ≡ Opened readers → ⊥
+  no_opening true readers e = absurd (cc)
+  no_opening false readers e = absurd (cc)
+
+  -- the slots of openings come after those of inputs and gates
+  pub openings_last : (k readers : ℕ) → k < slots plan s → pattern_at plan s k ≡ Opened readers → length (owners (session plan s)) + length (session plan s).gates ≤ k
+  openings_last k readers = slot_cases (session plan s) (λ k z. pattern plan s z ≡ Opened readers → length (owners (session plan s)) + length (session plan s).gates ≤ k)
+      (λ v l e. absurd (cc))
+      (λ t l e. absurd (no_opening (is_product (gate (session plan s) t).operation) readers e))
+      (λ o l e. omega arith)
+      k
+
+  -- whether a party deals in a slot, its pattern tells
+  pub deals_by_pattern : (p : ℕ) (z : Slot) → deals plan p (pattern plan s z) ≡ deals_in plan s p z
+  deals_by_pattern p (Input v) = refl
+  deals_by_pattern p (At_gate t) = of_gate (is_product (gate (session plan s) t).operation)
+    where
+      of_gate : (b : Bool) → deals plan p (if b then Multiplied else Silent) ≡ (b && has_pair (scheme plan) p)
+      of_gate true = refl
+      of_gate false = refl
+  deals_by_pattern p (Output o) = refl
