@@ -54,7 +54,7 @@ fn deals_in(pattern: Pattern, p: u32, multiplies: bool) -> bool
 {
     match pattern {
         Pattern::Silent | Pattern::Opened(_) => false,
-        Pattern::Dealt(dealer) => dealer != p,
+        Pattern::Dealt(dealer) => dealer == p,
         Pattern::Multiplied => multiplies,
     }
 }
