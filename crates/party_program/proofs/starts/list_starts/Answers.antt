@@ -57,17 +57,10 @@ loop-k-preserved c =
     let more = before_more plan p s k in
     let before = c.loop-k.invariant in
     let next = total_more k (λ j. if deals_in plan s p (slot plan s j) then 1 else 0) in
-<<<<<<< HEAD
-    let added : c.from.result ≡ (if deals_in plan s p (slot plan s k) then 1 else 0) = 
-        c.from.ensures
-        ∙ as_number c.deals_in.result
-        ∙ ap (λ b. if b then 1 else 0) (c.deals_in.ensures plan c.multiplies-multiplies.ensures ∙ ap (deals plan p) c.pattern-pattern.ensures.is ∙ deals_by_pattern plan s p (slot plan s k)) in
-=======
     let added : c.from.result ≡ (if deals_in plan s p (slot plan s k) then 1 else 0) =
     c.from.ensures
     ∙ as_number c.deals_in.result
     ∙ ap (λ b. if b then 1 else 0) (c.deals_in.ensures plan c.multiplies-multiplies.ensures ∙ ap (deals plan p) c.pattern-pattern.ensures.is ∙ deals_by_pattern plan s p (slot plan s k)) in
->>>>>>> aa1b85a2f0284b3ea6cdb21d05bf077767c33db0
     let one = one_most (deals_in plan s p (slot plan s k)) in
     record {
       starts = c.in_ok-push.ensures.items ∙ listed_push k (start_of plan p s) c.loop-k.list.items c.loop-k.start before.starts (ap₂ (λ n d. record { instructions = n; deals = d }) before.instructions before.deals);
