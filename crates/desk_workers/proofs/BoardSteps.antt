@@ -1,6 +1,8 @@
 -- Steps of a desk on a board, one after another.
 use Rattle.std.proofs.Common.{◌≡◌, ℕ, ◌+◌, ◌/◌, ◌%◌, ◌<◌, List, ◌∷◌, length, Option, Some, None, refl, sym, ap, ◌∙◌, subst, inl, inr, arith}
 use Rattle.std.specs.Prelude.{slice_get, ◌^◌}
+use Rattle.std.specs.declared.alloc.Global.{Global}
+use Rattle.std.specs.declared.boxed.Box.{Box}
 use Rattle.job_plan.specs.Plans.{Plan}
 use Rattle.job_plan.specs.Numbers.{message}
 use Rattle.share_world.specs.Laws.{IsWhole}
@@ -13,7 +15,6 @@ use Rattle.message_board.specs.Rule.{posts}
 use Rattle.message_board.specs.Seats.{BoardModel, Sitting, IsPostAnswer, IsSeatOf, HasPosted, HasTaken, AllBelow}
 use Rattle.party_program.specs.declared.program.Instruction.{Instruction}
 use Rattle.party_program.specs.declared.program.Instruction.TheVariants.{Deal, Post, Take, Linear, Own, Sum, Deliver, End}
-use Rattle.party_program.specs.Programs.{at}
 use Rattle.party_desk.specs.declared.desk.Desk.{Desk}
 use Rattle.party_desk.specs.declared.desk.Stepped.{Stepped}
 use Rattle.party_desk.specs.declared.desk.Stepped.TheVariants.{Moved, NotYet, Ended}
@@ -172,7 +173,7 @@ module _ {C : Type 0} (cells : Meaning C) (seat_of : C → Sitting Promised) (li
 -- ---- a step over a seat of a board
 
 -- what a board with a seat means as cells
-abbrev seat_cells : Meaning (SeatAt Promised Desk)
+abbrev seat_cells : Meaning (SeatAt Promised (Box Desk Global))
 seat_cells = record {
   may_post = λ c n v. IsSeatOf c.board.now c.seat.now × (slice_get (words_of (world_in c.board.now.about.world)) n ≡ Some v);
   may_take = λ c n. IsSeatOf c.board.now c.seat.now × (n < length (words_of (world_in c.board.now.about.world)));
@@ -182,7 +183,7 @@ seat_cells = record {
   below = λ c k. AllBelow k (words_of (world_in c.board.now.about.world));
 }
 
-module _ (plan : Plan) (c : SeatAt Promised Desk) (pool : IsPool plan c.board.now) (seat : IsSeatOf c.board.now c.seat.now) (k : ℕ) (d : Desk) (h : StandsIn (world_in c.board.now.about.world) c.seat.now.view.seen k d) where
+module _ (plan : Plan) (c : SeatAt Promised (Box Desk Global)) (pool : IsPool plan c.board.now) (seat : IsSeatOf c.board.now c.seat.now) (k : ℕ) (d : Desk) (h : StandsIn (world_in c.board.now.about.world) c.seat.now.view.seen k d) where
   abbrev here : World
   here = world_in c.board.now.about.world
 
@@ -199,7 +200,7 @@ module _ (plan : Plan) (c : SeatAt Promised Desk) (pool : IsPool plan c.board.no
     };
   }
 
-  module _ (f : SeatAt Promised Desk) (e : Desk) (r : Stepped) (did : StepsIn seat_cells here (k / here.plan.parties) (k % here.plan.parties) d c e f (instruction_at (given_to here k) d) r) where
+  module _ (f : SeatAt Promised (Box Desk Global)) (e : Desk) (r : Stepped) (did : StepsIn seat_cells here (k / here.plan.parties) (k % here.plan.parties) d c e f (instruction_at (given_to here k) d) r) where
     abbrev L : Type 0
     L = Leads here k c.seat.now d f.seat.now e (moves_of r)
 

@@ -1,3 +1,4 @@
+mod Boxes
 pub mod Counts
 pub mod RunEnds
 pub mod BoardSteps

@@ -7,7 +7,7 @@ use party_desk::Desk;
 pub struct Done {
     pub(crate) parties: u32,
     pub(crate) desks: Vec<Desk>,
-    pub(crate) cells: ClosedBoard<Desk>,
+    pub(crate) cells: ClosedBoard<Box<Desk>>,
     pub(crate) steps: u64,
 }
 

@@ -26,11 +26,11 @@ struct Visit {
 
 // Steps the desk of a slot as long as it moves, if it is at home.
 fn look_in<P: Pace>(
-    rack: &Rack<Promised, Desk>,
+    rack: &Rack<Promised, Box<Desk>>,
     plan: &Plan,
     pace: &P,
     turn: Turn,
-    seat: &mut BoardSeat<Promised, Desk>,
+    seat: &mut BoardSeat<Promised, Box<Desk>>,
 ) -> Visit
     requires pool { IsPool plan.now rack.now }
     requires seat { IsFreeSeatOf rack.now seat.old }
@@ -85,12 +85,12 @@ fn slot_at(first: u64, others: u32, slots: u32) -> u32
 
 // Visits each of these slots once, in rising order and round.
 fn pass<P: Pace>(
-    rack: &Rack<Promised, Desk>,
+    rack: &Rack<Promised, Box<Desk>>,
     plan: &Plan,
     pace: &P,
     worker: u32,
     visited: Slots,
-    seat: &mut BoardSeat<Promised, Desk>,
+    seat: &mut BoardSeat<Promised, Box<Desk>>,
 ) -> Visit
     requires pool { IsPool plan.now rack.now }
     requires first { visited.first < 2 ^ 48 }
@@ -113,12 +113,12 @@ fn pass<P: Pace>(
 
 // Visits the slots of the worker's share, and where no desk of them moved, all slots.
 fn round<P: Pace>(
-    rack: &Rack<Promised, Desk>,
+    rack: &Rack<Promised, Box<Desk>>,
     plan: &Plan,
     pace: &P,
     worker: u32,
     share: Slots,
-    seat: &mut BoardSeat<Promised, Desk>,
+    seat: &mut BoardSeat<Promised, Box<Desk>>,
 ) -> Visit
     requires pool { IsPool plan.now rack.now }
     requires first { share.first < 2 ^ 48 }
@@ -150,13 +150,13 @@ fn next_idle(idle: u32, moves: u64) -> u32
 // Steps desks until all were found at home and at their end, or so many rounds in a row moved none, or the worker has
 // made as many moves as there are instructions.
 fn work<P: Pace>(
-    rack: &Rack<Promised, Desk>,
+    rack: &Rack<Promised, Box<Desk>>,
     plan: &Plan,
     pace: &P,
     worker: u32,
     workers: usize,
     instructions: u64,
-    seat: &mut BoardSeat<Promised, Desk>,
+    seat: &mut BoardSeat<Promised, Box<Desk>>,
 )
     requires pool { IsPool plan.now rack.now }
     requires worker { worker < 2 ^ 16 }
@@ -182,9 +182,9 @@ fn fan_out<P: Pace, R: Threads + Sync>(
     rt: &R,
     plan: &Plan,
     pace: &P,
-    rack: &Rack<Promised, Desk>,
+    rack: &Rack<Promised, Box<Desk>>,
     instructions: u64,
-    seats: &mut [BoardSeat<Promised, Desk>],
+    seats: &mut [BoardSeat<Promised, Box<Desk>>],
 )
     requires pool { IsPool plan.now rack.now }
     requires some { 0 < length seats.old }
@@ -195,7 +195,7 @@ fn fan_out<P: Pace, R: Threads + Sync>(
     ensures seats { SameSeatCounts seats.old seats.new }
 {
     let count = seats.len();
-    let job = move |i: usize, seat: &mut BoardSeat<Promised, Desk>|
+    let job = move |i: usize, seat: &mut BoardSeat<Promised, Box<Desk>>|
         requires { IsPool plan.now rack.now × IsFreeSeatOf rack.now seat.old × (instructions < 2 ^ 40) }
         ensures { IsFreeSeatOf rack.entry.now seat.new × (seat.new.view.seats ≡ seat.old.view.seats) }
     {
@@ -217,9 +217,9 @@ pub fn work_all<P: Pace, R: Threads + Sync>(
     rt: &R,
     plan: &Plan,
     pace: &P,
-    rack: &Rack<Promised, Desk>,
+    rack: &Rack<Promised, Box<Desk>>,
     instructions: u64,
-    seats: &mut Vec<BoardSeat<Promised, Desk>>,
+    seats: &mut Vec<BoardSeat<Promised, Box<Desk>>>,
 )
     requires pool { IsPool plan.now rack.now }
     requires some { 0 < vec_len seats.old }

@@ -37,13 +37,13 @@ impl Promise for Promised {
     ghost list = { λ promised. words_of (world_in promised) };
 }
 
-// A desk is good for the slot of its number, where its program leaves it in the world.
-impl SlotItem<Promised> for Desk {
+// A desk in a box is good for the slot of its number, where its program leaves it in the world.
+impl SlotItem<Promised> for Box<Desk> {
     ghost use Rattle.program_laws.specs.Lawful.{given_to};
     ghost use Rattle.party_desk.specs.Desks.{IsDesk};
     ghost use Rattle.desk_workers.specs.Promises.{world_in, posted_by};
 
-    ghost good = { λ promised desk number. IsDesk (given_to (world_in promised) number) desk };
+    ghost good = { λ promised desk number. IsDesk (given_to (world_in promised) number) desk.value };
 
-    ghost posted = { λ promised desk. posted_by (world_in promised) desk };
+    ghost posted = { λ promised desk. posted_by (world_in promised) desk.value };
 }

@@ -1,5 +1,5 @@
 //! A run of workers, from its memory to its end.
-ghost use Rattle.std.specs.Prelude.{◌≡◌, ◌<◌, ◌≤◌, IfOk, length, vec_len};
+ghost use Rattle.std.specs.Prelude.{◌≡◌, ◌<◌, ◌≤◌, IfOk, length, map, vec_len};
 ghost use Rattle.message_board.specs.Pairs.{total_over};
 ghost use Rattle.job_plan.specs.InputWords.{AreInputs};
 ghost use Rattle.share_world.specs.Laws.{IsWhole};
@@ -24,11 +24,11 @@ use tape_words::Tape;
 #[derive(Drop)]
 pub struct Ready {
     parties: u32,
-    rack: Rack<Promised, Desk>,
-    seats: Vec<BoardSeat<Promised, Desk>>,
+    rack: Rack<Promised, Box<Desk>>,
+    seats: Vec<BoardSeat<Promised, Box<Desk>>>,
     instructions: u64,
     desks: Vec<Desk>,
-    last: Vec<BoardSeat<Promised, Desk>>,
+    last: Vec<BoardSeat<Promised, Box<Desk>>>,
 }
 
 /// Makes ready the world of these inputs and pieces of tape for so many workers. The pieces stand in the order of the
@@ -49,8 +49,9 @@ pub fn prepare(
 {
     let parties = plan.parties();
     let promised = Promised::of(plan, inputs, &pieces);
-    let items = open_desks(alloc, plan, inputs, pieces)?;
-    let instructions = instructions_in(items.as_slice());
+    let opened = open_desks(alloc, plan, inputs, pieces)?;
+    let instructions = instructions_in(opened.as_slice());
+    let items = in_boxes(alloc, opened)?;
     let desks = Vec::with_capacity(alloc, items.len())?;
     let last = Vec::with_capacity(alloc, 1)?;
     match Rack::make(alloc, promised, plan.messages(), workers, items) {
@@ -67,6 +68,17 @@ pub fn prepare(
         }
         Err(_) => Err(AllocError),
     }
+}
+
+// Each desk in a box of its own, so that a slot passes on its address and not its bytes.
+fn in_boxes(alloc: Global, desks: Vec<Desk>) -> Result<Vec<Box<Desk>>, AllocError>
+    ensures { IfOk result (λ boxes. map (λ desk. desk.value) boxes.items ≡ desks.items) }
+{
+    let mut boxes = Vec::new(alloc);
+    for desk in desks {
+        boxes.push(Box::new(alloc, desk)?)?;
+    }
+    Ok(boxes)
 }
 
 // How many instructions these desks have.

@@ -16,9 +16,9 @@ use party_desk::Desk;
 
 /// One seat that knows what all knew.
 pub fn fold_all(
-    board: &Board<Promised, Desk>,
-    mut seats: Vec<BoardSeat<Promised, Desk>>,
-) -> BoardSeat<Promised, Desk>
+    board: &Board<Promised, Box<Desk>>,
+    mut seats: Vec<BoardSeat<Promised, Box<Desk>>>,
+) -> BoardSeat<Promised, Box<Desk>>
     requires some { 0 < vec_len seats }
     requires seats { AreSeatsOf board.now seats.items }
     ensures seat { IsFreeSeatOf board.now result }
@@ -36,8 +36,8 @@ pub fn fold_all(
 
 /// All desks, taken by the seat that stands for all.
 pub fn take_all(
-    rack: &Rack<Promised, Desk>,
-    seat: &mut BoardSeat<Promised, Desk>,
+    rack: &Rack<Promised, Box<Desk>>,
+    seat: &mut BoardSeat<Promised, Box<Desk>>,
     mut desks: Vec<Desk>,
 ) -> Vec<Desk>
     requires seat { IsFreeSeatOf rack.now seat.old }
@@ -51,16 +51,16 @@ pub fn take_all(
         let Some(desk) = rack.take(seat, slot) else {
             unreachable!()
         };
-        desks.push_reserved(desk);
+        desks.push_reserved(Box::into_inner(desk));
     }
     desks
 }
 
 // Steps the desks in turn, each as far as it goes, and answers how often they moved.
 fn round(
-    board: &Board<Promised, Desk>,
+    board: &Board<Promised, Box<Desk>>,
     plan: &Plan,
-    seat: &mut BoardSeat<Promised, Desk>,
+    seat: &mut BoardSeat<Promised, Box<Desk>>,
     desks: &mut [Desk],
 ) -> u64
     requires pool { IsPool plan.now board.now }
@@ -87,9 +87,9 @@ fn round(
 
 // Steps all desks to their end, round after round.
 fn finish(
-    board: &Board<Promised, Desk>,
+    board: &Board<Promised, Box<Desk>>,
     plan: &Plan,
-    seat: &mut BoardSeat<Promised, Desk>,
+    seat: &mut BoardSeat<Promised, Box<Desk>>,
     desks: &mut [Desk],
 )
     requires pool { IsPool plan.now board.now }
@@ -109,9 +109,9 @@ fn finish(
 
 /// Steps all desks of a list to their end.
 pub fn finish_all(
-    board: &Board<Promised, Desk>,
+    board: &Board<Promised, Box<Desk>>,
     plan: &Plan,
-    seat: &mut BoardSeat<Promised, Desk>,
+    seat: &mut BoardSeat<Promised, Box<Desk>>,
     desks: &mut Vec<Desk>,
 )
     requires pool { IsPool plan.now board.now }

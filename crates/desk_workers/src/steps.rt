@@ -19,7 +19,7 @@ pub struct Turn {
 }
 
 // Steps the desk once.
-fn step_at(cells: &mut SeatAt<Promised, Desk>, plan: &Plan, desk: &mut Desk) -> Stepped
+fn step_at(cells: &mut SeatAt<Promised, Box<Desk>>, plan: &Plan, desk: &mut Desk) -> Stepped
     requires pool { IsPool plan.now cells.old.board.now }
     requires seat { IsSeatOf cells.old.board.now cells.old.seat.now }
     requires desk { IsDeskOf cells.old.board.now cells.old.seat.now desk.old }
@@ -33,9 +33,9 @@ fn step_at(cells: &mut SeatAt<Promised, Desk>, plan: &Plan, desk: &mut Desk) -> 
 }
 
 fn step_on(
-    board: &Board<Promised, Desk>,
+    board: &Board<Promised, Box<Desk>>,
     plan: &Plan,
-    seat: &mut BoardSeat<Promised, Desk>,
+    seat: &mut BoardSeat<Promised, Box<Desk>>,
     desk: &mut Desk,
 ) -> Stepped
     requires pool { IsPool plan.now board.now }
@@ -58,11 +58,11 @@ pub fn has_ended(desk: &Desk) -> bool
 
 // Steps the desk once, if it is not at its end, and answers whether it moved.
 fn goes_on<P: Pace>(
-    board: &Board<Promised, Desk>,
+    board: &Board<Promised, Box<Desk>>,
     plan: &Plan,
     pace: &P,
     turn: Turn,
-    seat: &mut BoardSeat<Promised, Desk>,
+    seat: &mut BoardSeat<Promised, Box<Desk>>,
     desk: &mut Desk,
 ) -> bool
     requires pool { IsPool plan.now board.now }
@@ -87,11 +87,11 @@ fn is_move(stepped: Stepped) -> bool
 
 /// Steps the desk as long as it moves, and answers how often it did.
 pub fn walk<P: Pace>(
-    board: &Board<Promised, Desk>,
+    board: &Board<Promised, Box<Desk>>,
     plan: &Plan,
     pace: &P,
     turn: Turn,
-    seat: &mut BoardSeat<Promised, Desk>,
+    seat: &mut BoardSeat<Promised, Box<Desk>>,
     desk: &mut Desk,
 ) -> u64
     requires pool { IsPool plan.now board.now }

@@ -1,4 +1,4 @@
-use Rattle.std.proofs.Common.{◌≡◌, ◌≤◌, ◌*◌, ◌^◌, length, take}
+use Rattle.std.proofs.Common.{◌≡◌, ◌≤◌, ◌*◌, ◌^◌, take}
 use Rattle.message_board.specs.Pairs.{total_over}
 use Rattle.party_desk.specs.declared.desk.Desk.{Desk}
 use Rattle.desk_workers.proofs.ready.instructions_in.Given as goal
