@@ -1,10 +1,10 @@
 -- The patterns of a session's slots.
-use Rattle.std.proofs.Common.{◌≡◌, ℕ, ◌+◌, ◌<◌, ◌≤◌, Bool, true, false, ◌&&◌, if◌then◌else◌, List, length, refl, sym, ap, ◌∙◌, subst, arith}
+use Rattle.std.proofs.Common.{◌≡◌, ℕ, ◌<◌, Bool, true, false, ◌&&◌, if◌then◌else◌, List, length, refl, sym, ap, ◌∙◌, subst}
 use Rattle.circuit_model.specs.Circuits.{is_product}
 use Rattle.secret_sharing.specs.Sharing.{has_pair}
 use Rattle.job_plan.specs.declared.pattern.Pattern.{Pattern}
-use Rattle.job_plan.specs.declared.pattern.Pattern.TheVariants.{Silent, Multiplied, Opened}
-use Rattle.job_plan.specs.Plans.{Plan, Slot, scheme, session, gate, owners, slots, deals_in}
+use Rattle.job_plan.specs.declared.pattern.Pattern.TheVariants.{Silent, Multiplied}
+use Rattle.job_plan.specs.Plans.{Plan, Slot, scheme, session, gate, slots, deals_in}
 use Rattle.job_plan.specs.Plans.Slot.{Input, At_gate, Output}
 use Rattle.job_plan.specs.Patterns.{pattern, pattern_at, Occurs}
 use Rattle.job_plan.specs.Sound.{IsSound}
@@ -34,18 +34,6 @@ module _ (plan : Plan) (s : ℕ) where
   pub steps_found : (p k : ℕ) (its : Pattern) (table : StepTable) (found : List Step) → AreSteps plan p s table → IsSound plan → s < length plan.sessions → k < slots plan s → its ≡ pattern_at plan s k
       → ((plan : Plan) (p s : ℕ) → AreSteps plan p s table → OccursIn plan s its → found ≡ steps plan p its) → found ≡ steps plan p (pattern_at plan s k)
   steps_found p k its table found are sound ls lk e of = of plan p s are (occurs_in k its sound ls lk e) ∙ ap (steps plan p) e
-
-  no_opening : (b : Bool) (readers : ℕ) → (if b then Multiplied else Silent) ≡ Opened readers → ⊥
-  no_opening true readers e = absurd (cc)
-  no_opening false readers e = absurd (cc)
-
-  -- the slots of openings come after those of inputs and gates
-  pub openings_last : (k readers : ℕ) → k < slots plan s → pattern_at plan s k ≡ Opened readers → length (owners (session plan s)) + length (session plan s).gates ≤ k
-  openings_last k readers = slot_cases (session plan s) (λ k z. pattern plan s z ≡ Opened readers → length (owners (session plan s)) + length (session plan s).gates ≤ k)
-      (λ v l e. absurd (cc))
-      (λ t l e. absurd (no_opening (is_product (gate (session plan s) t).operation) readers e))
-      (λ o l e. omega arith)
-      k
 
   -- whether a party deals in a slot, its pattern tells
   pub deals_by_pattern : (p : ℕ) (z : Slot) → deals plan p (pattern plan s z) ≡ deals_in plan s p z

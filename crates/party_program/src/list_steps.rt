@@ -54,8 +54,8 @@ fn push_posts(plan: &Plan, p: u32, pattern: Pattern, list: &mut StepList) -> Res
     let lines = plan.lines(pattern);
     for (place, line) in lines.iter().enumerate() {
         let step = Step::Post {
-            place: place as u32,
-            share: u32::from(line.share),
+            place: place as u16,
+            share: line.share,
         };
         list.push_if(u32::from(line.sender) == p, step)?;
     }
@@ -71,8 +71,8 @@ fn push_takes(plan: &Plan, p: u32, pattern: Pattern, list: &mut StepList) -> Res
     let lines = plan.lines(pattern);
     for (place, line) in lines.iter().enumerate() {
         let step = Step::Take {
-            place: place as u32,
-            share: u32::from(line.share),
+            place: place as u16,
+            share: line.share,
         };
         list.push_if(u32::from(line.receiver) == p, step)?;
     }

@@ -1,7 +1,7 @@
 //! What a party does in a slot, apart from where the slot stands.
 
 /// A step of a party in a slot. It depends on the slot's pattern alone, so it names a message by its place among the
-/// lines of the pattern.
+/// lines of the pattern. It takes four bytes.
 #[derive(Clone, Copy, Debug, PartialEq, Eq)]
 pub enum Step {
     /// Deals the slot's input, or the party's own product.
@@ -9,9 +9,9 @@ pub enum Step {
     /// Forms the own product.
     Own,
     /// Posts the word of a message.
-    Post { place: u32, share: u32 },
+    Post { place: u16, share: u8 },
     /// Takes the word of a message.
-    Take { place: u32, share: u32 },
+    Take { place: u16, share: u8 },
     /// Computes a gate that needs no message.
     Linear,
     /// Moves the sums of a product to its wire.

@@ -87,8 +87,11 @@ fn openings_of_each(
     ensures { IfOk result (λ map. (k readers : ℕ) → k < slots plan.now s
         → pattern_at plan.now s k ≡ Opened readers → HasOpening plan.now p map readers) }
 {
+    let _ = plan.parties();
+    let part = plan.part(s);
+    let outputs = part.input_wires() + part.gates();
     let mut openings = IndexMap::new(alloc);
-    for k in 0..plan.slots(s) {
+    for k in outputs as u32..plan.slots(s) {
         add_opening(alloc, plan, p, s, k, &mut openings)?;
     }
     Ok(openings)

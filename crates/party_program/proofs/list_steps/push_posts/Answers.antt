@@ -1,4 +1,5 @@
-use Rattle.std.proofs.Common.{length, [], ◌∷◌, ◌++◌, nat_eq, ap, ap₂, ◌∙◌, arith}
+use Rattle.std.proofs.Common.{length, [], ◌∷◌, ◌++◌, nat_eq, ap, ◌∙◌, arith}
+use Rattle.std.specs.Prelude.{slice_index_or}
 use Rattle.list_laws.specs.Lists.{only_if}
 use Rattle.job_plan.specs.declared.pattern.Line.{Line}
 use Rattle.party_program.specs.declared.step.Step.TheVariants.{Post}
@@ -16,5 +17,6 @@ overflow_cast-step c =
 pub loop-place-preserved : goal.loop-place-preserved
 loop-place-preserved c =
     let none : Line = record { share = 0; sender = 0; receiver = 0 } in
+    let line = slice_index_or c.lines-lines.result.now c.loop-place.place none in
     passing_step post_of (is_from c.args.p) c.lines-lines.result.now c.loop-place.place none c.args.list.now c.loop-place.list _ c.loop-place-test.true c.loop-place.invariant
-    (c.in_ok-push_if.ensures ∙ ap₂ (λ n m. c.loop-place.list ++ only_if (nat_eq n c.args.p) (Post c.loop-place.place m ∷ [])) c.from-in-loop-place.ensures c.from.ensures)
+    (c.in_ok-push_if.ensures ∙ ap (λ n. c.loop-place.list ++ only_if (nat_eq n c.args.p) (Post c.loop-place.place line.share ∷ [])) c.from.ensures)
