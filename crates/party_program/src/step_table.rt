@@ -58,8 +58,19 @@ impl StepTable {
             Pattern::Silent => self.silent.as_slice(),
             Pattern::Dealt(dealer) => self.dealt[dealer as usize].as_slice(),
             Pattern::Multiplied => self.multiplied.as_slice(),
-            Pattern::Opened(readers) => self.opened[&readers].as_slice(),
+            Pattern::Opened(readers) => self.opening(readers),
         }
+    }
+
+    // What the party does in an opening to these readers, in a function of its own since the others are found without a
+    // search.
+    #[inline(never)]
+    fn opening(&self, readers: u32) -> &[Step]
+        requires { (plan : plans.Plan) × (p s : ℕ) × AreSteps plan p s self.now × OccursIn plan s (Opened readers) }
+        ensures { (plan : plans.Plan) (p s : ℕ) → AreSteps plan p s self.now → OccursIn plan s (Opened readers)
+            → result.now ≡ steps plan p (Opened readers) }
+    {
+        self.opened[&readers].as_slice()
     }
 }
 

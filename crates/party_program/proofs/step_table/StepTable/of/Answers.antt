@@ -5,6 +5,7 @@ use Rattle.list_laws.proofs.JoinedLists.{length-listed, listed_at}
 use Rattle.job_plan.specs.declared.pattern.Pattern.TheVariants.{Dealt}
 use Rattle.job_plan.specs.Patterns.{Occurs}
 use Rattle.party_program.specs.PartySteps.{steps}
+use Rattle.party_program.specs.Standing.{OccursIn}
 use Rattle.party_program.proofs.step_table.StepTable.of.Goals as goal
 
 pub index-requires : goal.index-requires
@@ -25,3 +26,7 @@ returns-in-Dealt c = λ plan p s are occurs.
     ∙ ap (λ xs. slice_index_or xs c.in-Dealt.dealer found) are.dealt
     ∙ listed_at plan.parties (λ q. steps plan p (Dealt q)) c.in-Dealt.dealer found there
     ∙ ap (steps plan p) (sym c.in-Dealt.is)
+
+pub returns-in-Opened : goal.returns-in-Opened
+returns-in-Opened c = λ plan p s are occurs.
+    c.opening.ensures plan p s are (subst (OccursIn plan s) c.in-Opened.is occurs) ∙ ap (steps plan p) (sym c.in-Opened.is)
