@@ -25,6 +25,7 @@ header_checks gates wires inputs outputs lines =
     ∷ (nat_lt wires (sum outputs) answers HeaderWidths (slice_index lines 2))
     ∷ []
 
+-- a draft before its first gate
 abbrev pub no_gates_yet : ℕ → ℕ → ℕ → List ℕ → List ℕ → Draft
 no_gates_yet bits gates wires inputs outputs =
     record {
@@ -50,6 +51,7 @@ gate_checks bits wires set line o inputs outputs =
     ∷ (set (slice_index outputs 0) answers SetTwice line)
     ∷ []
 
+-- the gate of an operation, with what it takes and the wire that it sets
 abbrev pub gate_of : Operation → List ℕ → List ℕ → Gate
 gate_of o inputs outputs =
     record {
@@ -65,6 +67,7 @@ unfoldable pub next_gate : Netlist → ℕ → Operation → List ℕ → List �
 next_gate c line o inputs outputs =
     or_fault (first_fault (gate_checks c.bits c.wires (sets c) line o inputs outputs)) (gate_of o inputs outputs)
 
+-- the circuit with one gate more
 abbrev pub add_gate : Netlist → Gate → Netlist
 add_gate c g = record c { gates = c.gates ++ (g ∷ []) }
 
@@ -78,6 +81,7 @@ abbrev pub after_gate : Draft → ℕ → Operation → List ℕ → List ℕ �
 after_gate d line o inputs outputs =
     if is_some d.refused then d else take_gate d (next_gate d.circuit line o inputs outputs)
 
+-- what a builder answers
 abbrev pub answer_of : Draft → Result (Unit {0}) CircuitFault
 answer_of d = or_fault d.refused tt
 

@@ -5,6 +5,7 @@ use Rattle.circuit_model.specs.declared.gate.Operation.{Operation}
 use Rattle.circuit_model.specs.declared.gate.Operation.TheVariants.{Add, Sub, Neg, Mul, Xor, And, Inv, Eq, Eqw}
 use Rattle.circuit_model.specs.declared.gate.Gate.{Gate}
 
+-- the operation multiplies
 abbrev pub is_product : Operation → Bool
 is_product Mul = true
 is_product And = true

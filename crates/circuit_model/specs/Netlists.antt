@@ -14,15 +14,19 @@ pub record Netlist : Type 0 where
   pub inputs : List ℕ
   pub outputs : List ℕ
 
+-- what stands for a gate that isn't there
 abbrev pub no_gate : Gate
 no_gate = record { operation = Add; first = 0; second = 0; output = 0; constant = 0 }
 
+-- gate t
 abbrev pub gate : Netlist → ℕ → Gate
 gate c t = slice_index_or c.gates t no_gate
 
+-- how many input wires there are
 abbrev pub input_wires : Netlist → ℕ
 input_wires c = sum c.inputs
 
+-- how many output wires there are
 abbrev pub output_wires : Netlist → ℕ
 output_wires c = sum c.outputs
 
@@ -38,6 +42,7 @@ arity Inv = 1
 arity Eq = 1
 arity Eqw = 1
 
+-- the operation takes a constant
 abbrev pub is_constant : Operation → Bool
 is_constant Eq = true
 is_constant _ = false
@@ -46,6 +51,7 @@ is_constant _ = false
 abbrev pub reads : Operation → List ℕ → List ℕ
 reads o taken = if is_constant o then [] else taken
 
+-- the wires that a gate reads
 abbrev pub read_by : Gate → List ℕ
 read_by g = reads g.operation (take (arity g.operation) (g.first ∷ g.second ∷ []))
 
@@ -72,9 +78,11 @@ pub record GateFits (c : Netlist) (before : List Gate) (g : Gate) : Type 0 where
   pub read : list_all (is_set (input_wires c) before) (read_by g) ≡ true
   pub fresh : is_set (input_wires c) before g.output ≡ false
 
+-- each gate fits after those before it
 abbrev pub AllGatesFit : Netlist → Type 0
 AllGatesFit c = (t : ℕ) → t < length c.gates → GateFits c (take t c.gates) (gate c t)
 
+-- the circuit is within the limits
 pub record IsWithin (c : Netlist) : Type 0 where
   pub some_bits : 0 < c.bits
   pub bits : c.bits ≤ 32

@@ -5,8 +5,9 @@ use Rattle.std.proofs.lemmas.List.{length-drop}
 use Rattle.std.proofs.lemmas.Bool.{cases_eq, both_ways}
 use mathlib.Core.Logic.{inl, inr}
 use Rattle.circuit_model.proofs.SetAt.{set_here, set_there}
-use Rattle.job_plan.specs.Plans.{Plan, Slot, session, reads, output_wire, words, slots, slot}
-use Rattle.job_plan.specs.Plans.Slot.{Input, At_gate, Output}
+use Rattle.job_session.specs.Sessions.{Slot, output_wire}
+use Rattle.job_plan.specs.Plans.{Plan, session, reads, words, slots, slot}
+use Rattle.job_session.specs.Sessions.Slot.{Input, At_gate, Output}
 use Rattle.job_plan.specs.Numbers.{deals}
 use Rattle.job_plan.proofs.DistinctMessages.{words_by_deals}
 use Rattle.share_world.specs.Worlds.{World, word}

@@ -26,9 +26,11 @@ Stuck has w k position =
     (position ≡ length (program_of w k))
     ⊎ ((n : ℕ) × (i : ℕ) × (at (program_of w k) position ≡ Take n i) × ((v : ℕ) → ¬ has n v))
 
+-- each desk is
 abbrev pub AllStuck : (ℕ → ℕ → Type 0) → World → List Desk → Type 0
 AllStuck has w ds = (k : ℕ) (d : Desk) → slice_get ds k ≡ Some d → Stuck has w k d.position
 
+-- each desk is at its end
 abbrev pub AllEnded : World → List Desk → Type 0
 AllEnded w ds = (k : ℕ) (d : Desk) → slice_get ds k ≡ Some d → d.position ≡ length (program_of w k)
 
@@ -42,6 +44,7 @@ moves_of Ended = 0
 abbrev pub left : Desk → ℕ
 left d = d.instructions - d.position
 
+-- in all
 abbrev pub left_all : List Desk → ℕ
 left_all [] = 0
 left_all (d ∷ ds) = left d + left_all ds

@@ -39,11 +39,13 @@ pub record Leads (w : World) (k : ℕ) (seat : Sitting Promised) (d : Desk) (sea
 abbrev pub IsDeskOf : BoardModel Promised → Sitting Promised → Desk → Type 0
 IsDeskOf board seat d = (k : ℕ) × StandsIn (world_in board.about.world) seat.view.seen k d
 
+-- so many steps led from one to the other, of whichever desk of the world it is
 abbrev pub LeadsOn : BoardModel Promised → Sitting Promised → Desk → Sitting Promised → Desk → ℕ → Type 0
 LeadsOn board seat d seat' d' moves =
     (k : ℕ) → StandsIn (world_in board.about.world) seat.view.seen k d
     → Leads (world_in board.about.world) k seat d seat' d' moves
 
+-- the desk could not move
 abbrev pub IsStuck : BoardModel Promised → Sitting Promised → Desk → Type 0
 IsStuck board seat d =
     (k : ℕ) → StandsIn (world_in board.about.world) seat.view.seen k d
@@ -63,5 +65,6 @@ SameSeatCounts seats seats' =
     (i : ℕ) (seat seat' : Sitting Promised) → slice_get seats i ≡ Some seat → slice_get seats' i ≡ Some seat'
     → seat'.view.seats ≡ seat.view.seats
 
+-- how many seats a seat stands for
 abbrev pub seats_in : Sitting Promised → ℕ
 seats_in seat = seat.view.seats

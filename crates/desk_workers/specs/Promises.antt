@@ -10,6 +10,7 @@ use Rattle.party_desk.specs.declared.desk.Desk.{Desk}
 use Rattle.desk_laws.specs.Opening.{world_of_pieces}
 use Rattle.desk_workers.specs.declared.promised.Promised.{Promised}
 
+-- the world that a board is about
 abbrev pub world_in : Promised → World
 world_in promised = world_of_pieces promised.plan.value promised.inputs.value promised.pieces.value.items
 

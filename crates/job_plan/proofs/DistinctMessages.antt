@@ -5,10 +5,11 @@ use Rattle.std.specs.List.{AllByRecursion}
 use Rattle.std.proofs.lemmas.Bool.{and_parts, and_from, eq-eqb, eqb-true, false_from_ne_true}
 use Rattle.std.proofs.lemmas.List.Sums.{position_or_len_is, passes_at_first}
 use Rattle.list_laws.specs.Lists.{total, joined, listed, only_if}
-use Rattle.job_plan.specs.Plans.{owners, Plan, Slot, session, slot, slots, words_in, deals_in, opens_to}
+use Rattle.job_session.specs.Sessions.{owners, Slot}
+use Rattle.job_plan.specs.Plans.{Plan, session, slot, slots, words_in, deals_in, opens_to}
 use Rattle.job_plan.specs.declared.key.Key.{Key}
 use Rattle.job_plan.specs.Messages.{messages, slot_messages, deal_messages, open_messages}
-use Rattle.job_plan.specs.Plans.Slot.{Input, At_gate, Output}
+use Rattle.job_session.specs.Sessions.Slot.{Input, At_gate, Output}
 use Rattle.job_plan.specs.Numbers.{same_key, no_key, message, number, NumbersAreInverse, PlacesDiffer, deals_before, deals, PlacesByDeals}
 use Rattle.list_laws.proofs.Totals.{total_eq, total_mul_left}
 use Rattle.list_laws.proofs.JoinedLists.{every_append, every_joined, every_only_if, every_weaker, laid_at}

@@ -11,10 +11,3 @@ pub mod RankSearch
 pub mod PartSearch
 pub mod MessageSlots
 pub mod TapePlaces
-pub mod ValueWires
-pub mod CircuitOrder
-pub mod CircuitSessions
-pub mod KeptRows
-pub mod HeldRows
-pub mod ScannedSlots
-pub mod LastReads

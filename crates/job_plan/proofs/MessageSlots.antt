@@ -7,8 +7,9 @@ use Rattle.std.proofs.lemmas.List.Sums.{passes_at_first}
 use mathlib.Core.Logic.{inl, inr}
 use Rattle.list_laws.specs.Lists.{total, joined}
 use Rattle.list_laws.proofs.JoinedLists.{length-joined, every_joined, every_only_if}
-use Rattle.job_plan.specs.Plans.{Plan, Slot, session, owners, slot, slots}
-use Rattle.job_plan.specs.Plans.Slot.{Input, At_gate, Output}
+use Rattle.job_session.specs.Sessions.{Slot, owners}
+use Rattle.job_plan.specs.Plans.{Plan, session, slot, slots}
+use Rattle.job_session.specs.Sessions.Slot.{Input, At_gate, Output}
 use Rattle.job_plan.specs.declared.key.Key.{Key}
 use Rattle.job_plan.specs.Messages.{deal_messages, open_messages, slot_messages, session_messages, messages}
 use Rattle.job_plan.specs.Numbers.{no_key, same_key, number}

@@ -2,8 +2,9 @@
 use Rattle.std.proofs.Common.{◌≡◌, ℕ, zero, suc, ◌+◌, ◌*◌, ◌<◌, ◌≤◌, Bool, true, false, not, ◌&&◌, nat_eq, List, [], ◌∷◌, ◌++◌, length, subst, arith}
 use Rattle.std.specs.Prelude.{slice_index, slice_index_or}
 use Rattle.list_laws.specs.Lists.{joined, only_if}
-use Rattle.job_plan.specs.Plans.{Plan, Slot, session, owners, holds, deals_in, opens_to}
-use Rattle.job_plan.specs.Plans.Slot.{Input, At_gate, Output}
+use Rattle.job_session.specs.Sessions.{Slot, owners}
+use Rattle.job_plan.specs.Plans.{Plan, session, holds, deals_in, opens_to}
+use Rattle.job_session.specs.Sessions.Slot.{Input, At_gate, Output}
 use Rattle.job_plan.specs.Messages.{slot_messages, deal_message, deal_messages, open_messages}
 use Rattle.job_plan.specs.Numbers.{no_key, opens, rank, IsRising}
 use Rattle.job_plan.proofs.TallyLaws.{open_message}

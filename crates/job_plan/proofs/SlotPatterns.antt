@@ -10,8 +10,9 @@ use Rattle.party_set.specs.Parties.{has_party}
 use Rattle.job_plan.specs.declared.key.Key.{Key}
 use Rattle.job_plan.specs.declared.pattern.Line.{Line}
 use Rattle.job_plan.specs.declared.pattern.Pattern.TheVariants.{Silent, Multiplied}
-use Rattle.job_plan.specs.Plans.{Plan, Slot, holds, least_holder, scheme, session, owners, readers, gate}
-use Rattle.job_plan.specs.Plans.Slot.{Input, At_gate, Output}
+use Rattle.job_session.specs.Sessions.{Slot, owners, readers, gate}
+use Rattle.job_plan.specs.Plans.{Plan, holds, least_holder, scheme, session}
+use Rattle.job_session.specs.Sessions.Slot.{Input, At_gate, Output}
 use Rattle.job_plan.specs.Messages.{deal_messages, open_messages, slot_messages}
 use Rattle.job_plan.specs.Patterns.{named, deal_lines, open_lines, lines, pattern, SlotsFollowPatterns}
 

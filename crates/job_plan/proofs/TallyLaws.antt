@@ -13,14 +13,16 @@ use Rattle.circuit_model.specs.declared.gate.Gate.{Gate}
 use Rattle.circuit_model.specs.Circuits.{is_product}
 use Rattle.secret_sharing.specs.Sharing.{has_pair}
 use Rattle.party_set.specs.Parties.{has_party}
-use Rattle.job_plan.specs.Plans.{Plan, Session, Slot, owners, readers, session, gate, no_gate, session_slot, slot, session_slots, slots, scheme, deals_in, holds, least_holder, opens_to}
+use Rattle.job_session.specs.Sessions.{Session, Slot, owners, readers, gate, no_gate, session_slot, session_slots}
+use Rattle.job_plan.specs.Plans.{Plan, session, slot, slots, scheme, deals_in, holds, least_holder, opens_to}
 use Rattle.job_plan.specs.declared.key.Key.{Key}
-use Rattle.job_plan.specs.Plans.Slot.{Input, At_gate, Output}
+use Rattle.job_session.specs.Sessions.Slot.{Input, At_gate, Output}
 use Rattle.job_plan.specs.Messages.{messages, slot_messages, deal_message, deal_messages, open_messages}
 use Rattle.job_plan.specs.Numbers.{deals}
 use Rattle.job_plan.specs.Firsts.{count, session_count}
-use Rattle.job_plan.specs.Tallies.{products, owned, outputs_read, party_messages, tape_length}
-use Rattle.job_plan.proofs.Slots.{slot_input, slot_gate, slot_output, slot_cases}
+use Rattle.job_session.specs.Counts.{products, owned, outputs_read}
+use Rattle.job_plan.specs.Tallies.{party_messages, tape_length}
+use Rattle.job_session.proofs.SessionSlots.{slot_input, slot_gate, slot_output, slot_cases}
 use Rattle.job_plan.proofs.SlotMessages.{length-messages}
 use Rattle.job_plan.proofs.DistinctMessages.{words_by_deals}
 

@@ -39,7 +39,7 @@ all_deals_few plan h p =
     let each = total_bound (length plan.sessions) 327680 (deals plan p) (λ s l.
     let sound = h.sessions s l in
     let few = deals_few plan p s (slots plan s) in
-    let a = sound.wires in let b = sound.gates in let c = sound.input_wires in let d = sound.output_wires in
+    let a = sound.wired.wires in let b = sound.wired.gates in let c = sound.wired.input_wires in let d = sound.wired.output_wires in
     omega arith) in
     let sessions = h.few_sessions in
     omega arith

@@ -10,6 +10,7 @@ use Rattle.job_plan.specs.Numbers.{deals}
 abbrev pub count : Plan → ℕ → ℕ → ℕ
 count plan s k = length (slot_messages plan s k (slot plan s k))
 
+-- how many messages stand in session s
 abbrev pub session_count : Plan → ℕ → ℕ
 session_count plan s = total (slots plan s) (count plan s)
 
@@ -25,6 +26,7 @@ numbers plan s k = range_with_len (first plan s k) (count plan s k)
 abbrev pub session_starts : Plan → ℕ → List ℕ
 session_starts plan s = listed (slots plan s + 1) (first plan s)
 
+-- so for each session
 abbrev pub starts_of : Plan → List (List ℕ)
 starts_of plan = listed (length plan.sessions) (session_starts plan)
 
@@ -32,5 +34,6 @@ starts_of plan = listed (length plan.sessions) (session_starts plan)
 abbrev pub deal_starts : Plan → ℕ → List ℕ
 deal_starts plan p = listed (length plan.sessions + 1) (λ s. total s (deals plan p))
 
+-- so for each party
 abbrev pub deal_starts_of : Plan → List (List ℕ)
 deal_starts_of plan = listed plan.parties (deal_starts plan)

@@ -2,7 +2,8 @@
 use Rattle.std.specs.Prelude.{◌≡◌, ℕ, ◌<◌, ◌^◌, if◌then◌else◌, List, [], map, length, slice_index, slice_index_or}
 use Rattle.std.specs.Global.{Vec}
 use Rattle.list_laws.specs.Lists.{total}
-use Rattle.job_plan.specs.Plans.{Plan, session, owners, gives}
+use Rattle.job_session.specs.Sessions.{owners}
+use Rattle.job_plan.specs.Plans.{Plan, session, gives}
 
 -- what party p gives in session s, where inputs stand by party, session and position
 abbrev pub given : List (List (List ℕ)) → ℕ → ℕ → List ℕ
@@ -21,5 +22,6 @@ pub record AreInputs (plan : Plan) (inputs : List (List (List ℕ))) : Type 0 wh
 abbrev pub session_words : List (Vec ℕ) → List (List ℕ)
 session_words sessions = map (λ (words : Vec ℕ). words.items) sessions
 
+-- the words of all parties' vectors
 abbrev pub input_words : List (Vec (Vec ℕ)) → List (List (List ℕ))
 input_words inputs = map (λ (sessions : Vec (Vec ℕ)). session_words sessions.items) inputs

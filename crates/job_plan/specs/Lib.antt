@@ -1,15 +1,11 @@
 pub mod Plans
-pub mod KeptWires
 pub mod Messages
 pub mod Patterns
 pub mod Tables
 pub mod Numbers
 pub mod Firsts
-pub mod Wirings
-pub mod RowScans
 pub mod Sound
 pub mod Multiply
 pub mod Tallies
 pub mod Limits
 pub mod InputWords
-pub mod Parts

@@ -2,8 +2,9 @@
 use Rattle.std.specs.Prelude.{ℕ, ◌&&◌, not, nat_eq, List, [], ◌∷◌, length, slice_index}
 use Rattle.list_laws.specs.Lists.{joined, only_if}
 use Rattle.job_plan.specs.declared.key.Key.{Key}
-use Rattle.job_plan.specs.Plans.{Plan, Slot, holds, least_holder, deals_in, session, owners, slot, slots, opens_to}
-use Rattle.job_plan.specs.Plans.Slot.{Input, At_gate, Output}
+use Rattle.job_session.specs.Sessions.{Slot, owners}
+use Rattle.job_plan.specs.Plans.{Plan, holds, least_holder, deals_in, session, slot, slots, opens_to}
+use Rattle.job_session.specs.Sessions.Slot.{Input, At_gate, Output}
 
 -- summand i of a deal of p, to party q: a message where q is another party that holds it
 abbrev pub deal_message : Plan → ℕ → ℕ → ℕ → ℕ → ℕ → List Key
@@ -29,8 +30,10 @@ slot_messages plan s k (At_gate t) =
 slot_messages plan s k (Output o) =
     joined plan.parties (λ r. only_if (opens_to plan s r (Output o)) (open_messages plan s k r))
 
+-- the messages of session s, slot by slot
 abbrev pub session_messages : Plan → ℕ → List Key
 session_messages plan s = joined (slots plan s) (λ k. slot_messages plan s k (slot plan s k))
 
+-- all messages of the plan, session by session
 abbrev pub messages : Plan → List Key
 messages plan = joined (length plan.sessions) (session_messages plan)

@@ -3,11 +3,14 @@
 use Rattle.std.specs.Prelude.{ℕ, [], ◌∷◌}
 use Rattle.circuit_model.specs.declared.gate.Operation.TheVariants.{Mul}
 use Rattle.party_set.specs.Parties.{Structure}
-use Rattle.job_plan.specs.Plans.{Plan, Session, plan_of}
+use Rattle.job_session.specs.Sessions.{Session}
+use Rattle.job_plan.specs.Plans.{Plan, plan_of}
 
+-- any two of a, b and c are qualified
 abbrev pub three_parties : Structure
 three_parties = record { parties = 3; groups = 1 ∷ 2 ∷ 4 ∷ [] }
 
+-- one product, of an input of a and one of b, which c reads
 abbrev pub multiply_session : Session
 multiply_session = record {
   gates = record { operation = Mul; first = 0; second = 1; output = 2; constant = 0 } ∷ [];
@@ -16,5 +19,6 @@ multiply_session = record {
   outputs = record { width = 1; readers = record { parties = 3; mask = 4 } } ∷ [];
 }
 
+-- in the ring of so many bits
 abbrev pub multiply_plan : ℕ → Plan
 multiply_plan bits = plan_of bits three_parties (multiply_session ∷ [])

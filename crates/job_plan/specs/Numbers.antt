@@ -2,19 +2,23 @@
 use Rattle.std.specs.Prelude.{◌≡◌, ℕ, ◌+◌, ◌-◌, ◌*◌, ◌<◌, Bool, true, false, ◌&&◌, nat_eq, List, length, slice_index_or, if◌then◌else◌}
 use Rattle.std.specs.List.{position_or_len}
 use Rattle.list_laws.specs.Lists.{total}
-use Rattle.job_plan.specs.Plans.{Plan, Slot, slot, slots, words_in, place, deals_in}
+use Rattle.job_session.specs.Sessions.{Slot}
+use Rattle.job_plan.specs.Plans.{Plan, slot, slots, words_in, place, deals_in}
 use Rattle.job_plan.specs.declared.key.Key.{Key}
-use Rattle.job_plan.specs.Plans.Slot.{Output}
+use Rattle.job_session.specs.Sessions.Slot.{Output}
 use Rattle.job_plan.specs.Messages.{messages}
 
+-- two keys name the same message
 abbrev pub same_key : Key → Key → Bool
 same_key a b =
     nat_eq a.session b.session && (nat_eq a.slot b.slot &&
     (nat_eq a.share b.share && (nat_eq a.sender b.sender && nat_eq a.receiver b.receiver)))
 
+-- what stands for a message that isn't there
 abbrev pub no_key : Key
 no_key = record { session = 0; slot = 0; share = 0; sender = 0; receiver = 0 }
 
+-- message n of the plan
 abbrev pub message : Plan → ℕ → Key
 message plan n = slice_index_or (messages plan) n no_key
 
@@ -31,6 +35,7 @@ opens _ = false
 abbrev pub rank : Bool → Key → ℕ
 rank by_receiver key = ((if by_receiver then key.receiver else key.sender) * 64 + key.share) * 12 + key.receiver
 
+-- f rises along the keys
 abbrev pub IsRising : (Key → ℕ) → List Key → Type 0
 IsRising f keys =
     (i j : ℕ) → i < j → j < length keys → f (slice_index_or keys i no_key) < f (slice_index_or keys j no_key)
@@ -54,6 +59,7 @@ PlacesDiffer plan p =
 abbrev pub deals_before : Plan → ℕ → ℕ → ℕ → ℕ
 deals_before plan p s k = total k (λ j. if deals_in plan s p (slot plan s j) then 1 else 0)
 
+-- how many deals of p stand in session s
 abbrev pub deals : Plan → ℕ → ℕ → ℕ
 deals plan p s = deals_before plan p s (slots plan s)
 

@@ -8,8 +8,9 @@ use Rattle.job_plan.specs.declared.key.Key.{Key}
 use Rattle.job_plan.specs.declared.pattern.Line.{Line}
 use Rattle.job_plan.specs.declared.pattern.Pattern.{Pattern}
 use Rattle.job_plan.specs.declared.pattern.Pattern.TheVariants.{Silent, Dealt, Multiplied, Opened}
-use Rattle.job_plan.specs.Plans.{Plan, Slot, holds, least_holder, scheme, session, owners, readers, gate, slot}
-use Rattle.job_plan.specs.Plans.Slot.{Input, At_gate, Output}
+use Rattle.job_session.specs.Sessions.{Slot, owners, readers, gate}
+use Rattle.job_plan.specs.Plans.{Plan, holds, least_holder, scheme, session, slot}
+use Rattle.job_session.specs.Sessions.Slot.{Input, At_gate, Output}
 use Rattle.job_plan.specs.Messages.{slot_messages}
 
 -- the message of a line, in slot k of session s

@@ -1,23 +1,15 @@
--- Plans: parties, maximal groups and sessions; the slots of a session, and what a party deals in them.
-use Rattle.std.specs.Prelude.{◌≡◌, ℕ, ◌+◌, ◌-◌, ◌<◌, Bool, false, ◌&&◌, nat_eq, nat_lt, if◌then◌else◌, List, [], ◌∷◌, ◌++◌, replicate, length, slice_index, slice_index_or}
+-- Plans: parties, maximal groups and sessions; and what a party deals in the slots of a session.
+use Rattle.std.specs.Prelude.{◌≡◌, ℕ, ◌+◌, ◌-◌, ◌<◌, Bool, false, ◌&&◌, nat_eq, if◌then◌else◌, List, ◌++◌, length, slice_index, slice_index_or}
 use Rattle.list_laws.specs.Lists.{total, listed}
-use Rattle.circuit_model.specs.declared.gate.Gate.{Gate}
 use Rattle.circuit_model.specs.Circuits.{is_product}
-use Rattle.circuit_model.specs.declared.gate.Operation.TheVariants.{Add}
 use Rattle.secret_sharing.specs.Sharing.{Scheme, has_pair}
 use Rattle.party_set.specs.Parties.{Structure, IsQ2, has_party}
-use Rattle.job_plan.specs.declared.values.InputValue.{InputValue}
-use Rattle.job_plan.specs.declared.values.OutputValue.{OutputValue}
+use Rattle.job_session.specs.Sessions.{Session, Slot, owners, readers, gate, no_session, session_slot, session_slots}
+use Rattle.job_session.specs.Sessions.Slot.{Input, At_gate, Output}
 use Rattle.share_layout.specs.Layouts as layout
 use Rattle.product_duty.specs.Duties as duties
 
--- a circuit, with those who give its inputs and those who read its outputs
-pub record Session : Type 0 where
-  pub gates : List Gate
-  pub wires : ℕ
-  pub inputs : List InputValue
-  pub outputs : List OutputValue
-
+-- a ring, parties with the groups that are tolerated, and sessions
 pub record Plan : Type 0 where
   pub bits : ℕ
   pub parties : ℕ
@@ -26,10 +18,12 @@ pub record Plan : Type 0 where
 
 -- ---- parties and summands
 
+-- the plan of these parts
 abbrev pub plan_of : ℕ → Structure → List Session → Plan
 plan_of bits structure sessions =
     record { bits = bits; parties = structure.parties; groups = structure.groups; sessions = sessions }
 
+-- the parties and the maximal tolerated groups
 abbrev pub structure : Plan → Structure
 structure plan = record { parties = plan.parties; groups = plan.groups }
 
@@ -41,6 +35,7 @@ holds plan = layout.holds (structure plan)
 abbrev pub least_party : Plan → (ℕ → Bool) → ℕ
 least_party plan = layout.least_party (structure plan)
 
+-- the least party that holds summand i
 abbrev pub least_holder : Plan → ℕ → ℕ
 least_holder plan = layout.least_holder (structure plan)
 
@@ -48,6 +43,7 @@ least_holder plan = layout.least_holder (structure plan)
 abbrev pub duty : Plan → ℕ → ℕ → ℕ
 duty plan = duties.duty (structure plan)
 
+-- the sharing of the plan
 abbrev pub scheme : Plan → Scheme
 scheme plan = duties.scheme_of plan.bits (structure plan)
 
@@ -55,62 +51,17 @@ scheme plan = duties.scheme_of plan.bits (structure plan)
 abbrev pub Q2 : Plan → Type 0
 Q2 plan = IsQ2 (structure plan)
 
+-- values can be shared, and products computed
 pub record IsPlan (plan : Plan) : Type 0 where
   pub bits : 0 < plan.bits
   pub groups : 0 < length plan.groups
   pub q2 : Q2 plan
 
--- ---- wires
+-- ---- sessions and their slots
 
--- the owner of each input wire
-abbrev pub owners_of : List InputValue → List ℕ
-owners_of [] = []
-owners_of (v ∷ vs) = replicate v.width v.owner ++ owners_of vs
-
-abbrev pub owners : Session → List ℕ
-owners s = owners_of s.inputs
-
--- the readers of each output wire, as a mask
-abbrev pub readers_of : List OutputValue → List ℕ
-readers_of [] = []
-readers_of (v ∷ vs) = replicate v.width v.readers.mask ++ readers_of vs
-
-abbrev pub readers : Session → List ℕ
-readers s = readers_of s.outputs
-
--- the last wires are the output wires
-abbrev pub output_wire : Session → ℕ → ℕ
-output_wire s o = s.wires - length (readers s) + o
-
-abbrev pub no_session : Session
-no_session = record { gates = []; wires = 0; inputs = []; outputs = [] }
-
+-- session s of a plan
 abbrev pub session : Plan → ℕ → Session
 session plan s = slice_index_or plan.sessions s no_session
-
-abbrev pub no_gate : Gate
-no_gate = record { operation = Add; first = 0; second = 0; output = 0; constant = 0 }
-
-abbrev pub gate : Session → ℕ → Gate
-gate s t = slice_index_or s.gates t no_gate
-
--- ---- slots: an input wire, a gate or an output wire
-
-pub data Slot : Type 0 where
-  Input : (wire : ℕ) → Slot
-  At_gate : (gate : ℕ) → Slot
-  Output : (output : ℕ) → Slot
-
--- slot k of a session
-abbrev pub session_slot : Session → ℕ → Slot
-session_slot s k =
-    if nat_lt k (length (owners s)) then Input k
-    else if nat_lt k (length (owners s) + length s.gates) then At_gate (k - length (owners s))
-    else Output (k - length (owners s) - length s.gates)
-
--- how many slots a session has
-abbrev pub session_slots : Session → ℕ
-session_slots s = length (owners s) + length s.gates + length (readers s)
 
 -- slot k of session s of a plan
 abbrev pub slot : Plan → ℕ → ℕ → Slot

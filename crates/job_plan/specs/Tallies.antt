@@ -1,27 +1,10 @@
--- How often things stand in a session.
-use Rattle.std.specs.Prelude.{ℕ, ◌+◌, ◌*◌, List, length, nat_eq, count_by}
+-- How many messages and tape words a party has in all sessions.
+use Rattle.std.specs.Prelude.{ℕ, ◌+◌, ◌*◌, length}
 use Rattle.list_laws.specs.Lists.{total}
-use Rattle.circuit_model.specs.declared.gate.Gate.{Gate}
-use Rattle.circuit_model.specs.Circuits.{is_product}
-use Rattle.party_set.specs.Parties.{has_party}
-use Rattle.job_plan.specs.Plans.{Plan, Session, session, owners, readers, words}
+use Rattle.job_session.specs.Counts.{outputs_read}
+use Rattle.job_plan.specs.Plans.{Plan, session, words}
 use Rattle.job_plan.specs.Messages.{deal_messages, open_messages}
 use Rattle.job_plan.specs.Numbers.{deals}
-
--- how many gates multiply
-abbrev pub products_of : List Gate → ℕ
-products_of gates = count_by (λ (g : Gate). is_product g.operation) gates
-
-abbrev pub products : Session → ℕ
-products s = products_of s.gates
-
--- how many input wires p gives
-abbrev pub owned : Session → ℕ → ℕ
-owned s p = count_by (λ owner. nat_eq owner p) (owners s)
-
--- how many output wires r reads
-abbrev pub outputs_read : Session → ℕ → ℕ
-outputs_read s r = count_by (λ mask. has_party mask r) (readers s)
 
 -- how many messages p deals, and how many are opened to it, in all sessions
 abbrev pub party_messages : Plan → ℕ → ℕ

@@ -4,7 +4,8 @@ ghost use Rattle.list_laws.specs.Lists.{total, joined};
 ghost use Rattle.job_plan.specs.Plans.{holds, session};
 ghost use Rattle.job_plan.specs.Messages.{deal_message, deal_messages, open_messages, messages};
 ghost use Rattle.job_plan.specs.Numbers.{deals};
-ghost use Rattle.job_plan.specs.Tallies.{party_messages, outputs_read, tape_length};
+ghost use Rattle.job_session.specs.Counts.{outputs_read};
+ghost use Rattle.job_plan.specs.Tallies.{party_messages, tape_length};
 
 use crate::outline::Outline;
 

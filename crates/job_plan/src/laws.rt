@@ -1,6 +1,5 @@
-//! Laws of slots and of the numbering, and of the rows of wires.
+//! Laws of slots and of the numbering.
 ghost use Rattle.std.specs.Prelude.{ℕ};
-ghost use Rattle.job_plan.specs.KeptWires.{KeptApart};
 ghost use Rattle.job_plan.specs.Plans.{Plan, SlotsAreListed};
 ghost use Rattle.job_plan.specs.Numbers.{NumbersAreInverse, PlacesDiffer, PlacesByDeals};
 ghost use Rattle.job_plan.specs.Patterns.{SlotsFollowPatterns};
@@ -19,11 +18,6 @@ pub fn numbers_are_inverse()
 pub fn places_are_apart()
     ensures apart { (plan : Plan) (p : ℕ) → PlacesDiffer plan p }
     ensures by_deals { (plan : Plan) (p : ℕ) → PlacesByDeals plan p }
-{}
-
-/// Two wires that are kept before the same slot have different rows.
-pub fn kept_wires_have_their_own_rows()
-    ensures { KeptApart }
 {}
 
 /// The messages of a slot are the lines of its pattern, named by the slot.

@@ -2,8 +2,7 @@
 ghost use Rattle.std.specs.Prelude.{◌≡◌};
 
 use crate::pattern::Pattern;
-use crate::session_part::SessionPart;
-use crate::slot_kind::SlotKind;
+use job_session::{SessionPart, SlotKind};
 use mpc_ring::Ring;
 use product_duty::Duty;
 use share_layout::Layout;
@@ -35,7 +34,8 @@ impl Outline {
     ghost use Rattle.secret_sharing.specs.Sharing.{has_pair};
     ghost use Rattle.job_plan.specs.Plans.{structure, scheme, session, slots, plan_of, holds, least_holder};
     ghost use Rattle.job_plan.specs.Patterns.{pattern_at, Occurs};
-    ghost use Rattle.job_plan.specs.Sound.{IsOutline, IsSoundSession};
+    ghost use Rattle.job_session.specs.SoundSessions.{IsSoundSession};
+    ghost use Rattle.job_plan.specs.Sound.{IsOutline};
 
     pub(crate) fn of(ring: Ring, layout: Layout, duty: Duty, parts: Vec<SessionPart>) -> Outline
         requires structure { duty ≡ layout }

@@ -10,9 +10,8 @@ use crate::outline::Outline;
 use crate::pattern::{Line, Pattern};
 use crate::patterns::Patterns;
 use crate::ranks::search;
-use crate::row_table::RowTable;
-use crate::session_part::SessionPart;
 use crate::starts::Starts;
+use job_session::{RowTable, SessionPart};
 use mpc_ring::Ring;
 use plan_faults::PlanFault;
 use product_duty::Duty;
@@ -48,13 +47,14 @@ impl Plan {
     ghost use Rattle.std.specs.Prelude.{◌≡◌, ℕ, ◌+◌, ◌<◌, ◌≤◌, All, IfOk, IfErr, OnOk, SomeIff, map, length};
     ghost use Rattle.std.specs.Arc.{arc_value};
     ghost use Rattle.list_laws.specs.Lists.{total};
-    ghost use Rattle.job_plan.specs.KeptWires.{IsRows, live};
+    ghost use Rattle.job_session.specs.KeptWires.{IsRows, live};
     ghost use Rattle.job_plan.specs.Plans.{plan_of, structure, scheme, session, slot, slots, words, place};
     ghost use Rattle.secret_sharing.specs.Sharing.{has_pair};
     ghost use Rattle.job_plan.specs.Messages.{messages, slot_messages};
     ghost use Rattle.job_plan.specs.Patterns.{named, lines, pattern_at, Occurs};
     ghost use Rattle.job_plan.specs.Numbers.{message, number, opens, deals, deals_before, deal_place};
-    ghost use Rattle.job_plan.specs.Sound.{IsSound, IsSoundSession};
+    ghost use Rattle.job_session.specs.SoundSessions.{IsSoundSession};
+    ghost use Rattle.job_plan.specs.Sound.{IsSound};
     ghost use Rattle.job_plan.specs.Firsts.{first};
     ghost use Rattle.job_plan.specs.Limits.{IsPlanWithin, IsPlanRefusal};
 

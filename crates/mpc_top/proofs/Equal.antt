@@ -5,7 +5,7 @@ use Rattle.outer_io.specs.Files.{FilesReading}
 use Rattle.party_set.specs.Parties.{Members}
 use Rattle.plan_faults.specs.declared.part_fault.PartFault.{PartFault}
 use Rattle.circuit_model.specs.Netlists.{Netlist}
-use Rattle.job_plan.specs.Plans.{Session}
+use Rattle.job_session.specs.Sessions.{Session}
 use Rattle.mpc_top.specs.declared.stop.Stop.{Stop}
 use Rattle.mpc_top.specs.Verdict.{Verdict, Ends}
 use Rattle.mpc_top.specs.JobOf.{file_at, groups_in, part_of}

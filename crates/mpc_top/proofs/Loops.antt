@@ -4,7 +4,8 @@ use Rattle.std.specs.Prelude.{IsErrAnd}
 use Rattle.job_run.specs.Parties.{AllFit}
 use Rattle.std.specs.declared.alloc.Global.{Global}
 use Rattle.outer_io.specs.Files.{FilesReading}
-use Rattle.job_plan.specs.Plans.{Plan, Session}
+use Rattle.job_session.specs.Sessions.{Session}
+use Rattle.job_plan.specs.Plans.{Plan}
 use Rattle.job_file.specs.Forms.{JobForm, SessionForm}
 use Rattle.job_file.specs.Jobs.{session_view}
 use Rattle.job_file.specs.declared.job.JobSession.{JobSession}

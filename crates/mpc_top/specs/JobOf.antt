@@ -10,9 +10,10 @@ use Rattle.maximal_groups.specs.Families.{maximal_structure, is_tolerated_by}
 use Rattle.q2_test.specs.Covering.{IsFirstCovering}
 use Rattle.circuit_model.specs.Netlists.{Netlist}
 use Rattle.circuit_file.specs.CircuitFiles.{circuit_in}
-use Rattle.job_plan.specs.Plans.{Plan, Session, plan_of}
+use Rattle.job_session.specs.Sessions.{Session}
+use Rattle.job_plan.specs.Plans.{Plan, plan_of}
 use Rattle.job_plan.specs.Limits.{IsPlanWithin, IsPlanRefusal}
-use Rattle.job_plan.specs.Parts.{part_fault, session_of}
+use Rattle.job_session.specs.Parts.{part_fault, session_of}
 use Rattle.plan_faults.specs.declared.part_fault.PartFault.{PartFault}
 use Rattle.plan_faults.specs.declared.plan_fault.PlanFault.{PlanFault}
 use Rattle.plan_faults.specs.declared.plan_fault.PlanFault.TheVariants as plan_fault

@@ -2,7 +2,7 @@
 ghost use Rattle.std.specs.Prelude.{◌≡◌, ◌≤◌, All, IfOk, length};
 ghost use Rattle.party_set.specs.Parties.{IsQ2};
 ghost use Rattle.job_plan.specs.Plans.{plan_of, structure};
-ghost use Rattle.job_plan.specs.Sound.{IsSoundSession};
+ghost use Rattle.job_session.specs.SoundSessions.{IsSoundSession};
 ghost use Rattle.job_file.specs.Jobs.{job_view};
 ghost use Rattle.mpc_top.specs.JobOf.{PlanOf, PlanAt};
 ghost use Rattle.mpc_top.specs.Seen.{planned_view};

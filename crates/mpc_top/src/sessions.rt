@@ -2,7 +2,7 @@
 ghost use Rattle.std.specs.Prelude.{◌≡◌, ◌<◌, ◌≤◌, [], All, IfOk, length};
 ghost use Rattle.circuit_model.specs.Checks.{Gives};
 ghost use Rattle.circuit_file.specs.CircuitFiles.{circuit_in};
-ghost use Rattle.job_plan.specs.Sound.{IsSoundSession};
+ghost use Rattle.job_session.specs.SoundSessions.{IsSoundSession};
 ghost use Rattle.job_file.specs.Jobs.{job_view, session_view, IsJob, IsSession};
 ghost use Rattle.refusal_text.specs.Lines.{circuit_line, session_line};
 ghost use Rattle.mpc_top.specs.Verdict.{Ends, verdict_of};

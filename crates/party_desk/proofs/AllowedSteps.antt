@@ -5,8 +5,9 @@ use Rattle.std.proofs.lemmas.Bool.{cases_lt}
 use mathlib.Core.Logic.{inl, inr}
 use Rattle.circuit_model.specs.Circuits.{set_at}
 use Rattle.circuit_model.proofs.SetAt.{set_here, set_there}
-use Rattle.job_plan.specs.Plans.{Plan, Slot, session, output_wire, slot}
-use Rattle.job_plan.specs.Plans.Slot.{Input, At_gate, Output}
+use Rattle.job_session.specs.Sessions.{Slot, output_wire}
+use Rattle.job_plan.specs.Plans.{Plan, session, slot}
+use Rattle.job_session.specs.Sessions.Slot.{Input, At_gate, Output}
 use Rattle.message_board.specs.declared.cells.Cells.{Ghosts as Meaning}
 use Rattle.party_program.specs.declared.program.Instruction.{Instruction}
 use Rattle.party_program.specs.declared.program.Instruction.TheVariants.{Deal, Post, Take, Linear, Own, Sum, Deliver, End}
@@ -147,7 +148,7 @@ module _ (l : Given) (d : Desk) (is_desk : IsDesk l d) where
   pub posts_right : (n j : ℕ) → i ≡ Post n j → word_in l.plan d n j ≡ word_at l d.position n j
   posts_right n j e =
       let share : j < length l.plan.groups = (subst (Proper l.plan l.session) e proper).share in
-      let order = (suits.sound.sessions l.session suits.session).order in
+      let order = (suits.sound.sessions l.session suits.session).wired.order in
       let reads : (v : ℕ) → Carries (session l.plan l.session) (slot_of l.plan l.session n) v → Reads l.plan l.party l.session i v j = λ v c. subst (λ y. Reads l.plan l.party l.session y v j) (sym e) (c, refl) in
       ap (λ z. posted_on_rows (row_of d.memory) (session l.plan z) (slot_of l.plan z n) j (state_of (length l.plan.groups) d.memory)) is_desk.session
       ∙ posted_same l.plan l.session (slot_of l.plan l.session n) j (row_of d.memory) (state_of (length l.plan.groups) d.memory) (state l d.position)

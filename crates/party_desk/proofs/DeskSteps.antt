@@ -7,11 +7,12 @@ use mathlib.Core.Logic.{inl, inr}
 use Rattle.circuit_model.specs.Circuits.{set_at}
 use Rattle.circuit_model.specs.declared.gate.Gate.{Gate}
 use Rattle.secret_sharing.specs.Sharing.{Scheme, dealt, own_product, local}
-use Rattle.job_plan.specs.Plans.{Plan, Slot, holds, scheme, session, slot}
-use Rattle.job_plan.specs.Plans.Slot.{Input, At_gate, Output}
-use Rattle.job_plan.specs.KeptWires.{IsRowTable}
+use Rattle.job_session.specs.Sessions.{Slot}
+use Rattle.job_plan.specs.Plans.{Plan, holds, scheme, session, slot}
+use Rattle.job_session.specs.Sessions.Slot.{Input, At_gate, Output}
+use Rattle.job_session.specs.KeptWires.{IsRowTable}
 use Rattle.std.specs.Arc.{arc_value}
-use Rattle.job_plan.specs.declared.row_table.RowTable.{RowTable}
+use Rattle.job_session.specs.declared.row_table.RowTable.{RowTable}
 use Rattle.list_laws.proofs.Totals.{total_eq}
 use Rattle.party_program.specs.declared.program.Instruction.{Instruction}
 use Rattle.party_program.specs.declared.program.Instruction.TheVariants.{Deal, Post, Take, Linear, Own, Sum, Deliver, End}

@@ -15,9 +15,10 @@ use Rattle.circuit_model.specs.declared.gate.Operation.{Operation}
 use Rattle.circuit_model.specs.declared.gate.Operation.TheVariants.{Add, Sub, Neg, Mul, Xor, And, Inv, Eq, Eqw}
 use Rattle.mpc_ring.specs.Differences.{difference}
 use Rattle.secret_sharing.specs.Sharing.{Scheme, IsScheme, dealt, own_product, local}
-use Rattle.job_plan.specs.Plans.{IsPlan, Plan, Session, Slot, gate, holds, output_wire, scheme, session, slot}
-use Rattle.job_plan.specs.Plans.Slot.{Input, At_gate, Output}
-use Rattle.job_plan.specs.KeptWires.{IsInOrder, IsRowTable}
+use Rattle.job_session.specs.Sessions.{Session, Slot, gate, output_wire}
+use Rattle.job_plan.specs.Plans.{IsPlan, Plan, holds, scheme, session, slot}
+use Rattle.job_session.specs.Sessions.Slot.{Input, At_gate, Output}
+use Rattle.job_session.specs.KeptWires.{IsInOrder, IsRowTable}
 use Rattle.job_plan.specs.Sound.{IsSound}
 use Rattle.job_plan.proofs.PlanSchemes.{scheme_is}
 use Rattle.party_program.specs.declared.program.Instruction.{Instruction}
@@ -115,7 +116,7 @@ module _ (plan : Plan) (sound : IsSound plan) (s p : ℕ) (ls : s < length plan.
   row_of = slice_index list
 
   order : IsInOrder x
-  order = (sound.sessions s ls).order
+  order = (sound.sessions s ls).wired.order
 
   is_plan : IsPlan plan
   is_plan = record { bits = sound.some_bits; groups = sound.some_groups; q2 = sound.q2 }

@@ -1,7 +1,8 @@
 -- What a party's file gives, and that it fits the plan.
 use Rattle.std.specs.Prelude.{◌≡◌, ℕ, ◌<◌, ◌^◌, if◌then◌else◌, [], length, slice_index, slice_index_or, All}
 use Rattle.list_laws.specs.Lists.{total}
-use Rattle.job_plan.specs.Plans.{Plan, session, owners, words, gives}
+use Rattle.job_session.specs.Sessions.{owners}
+use Rattle.job_plan.specs.Plans.{Plan, session, words, gives}
 use Rattle.job_plan.specs.InputWords.{session_words}
 use Rattle.party_file.specs.Table.{PartyForm}
 use Rattle.party_file.specs.declared.data.PartyData.{PartyData}

@@ -12,8 +12,9 @@ use Rattle.job_plan.specs.declared.key.Key.{Key}
 use Rattle.job_plan.specs.declared.pattern.Line.{Line}
 use Rattle.job_plan.specs.declared.pattern.Pattern.{Pattern}
 use Rattle.job_plan.specs.declared.pattern.Pattern.TheVariants.{Silent, Multiplied}
-use Rattle.job_plan.specs.Plans.{Plan, Slot, scheme, session, slot, slots, gate, gives, opens_to}
-use Rattle.job_plan.specs.Plans.Slot.{Input, At_gate, Output}
+use Rattle.job_session.specs.Sessions.{Slot, gate}
+use Rattle.job_plan.specs.Plans.{Plan, scheme, session, slot, slots, gives, opens_to}
+use Rattle.job_session.specs.Sessions.Slot.{Input, At_gate, Output}
 use Rattle.job_plan.specs.Numbers.{message, no_key, deals_before}
 use Rattle.job_plan.specs.Firsts.{count, first, numbers}
 use Rattle.job_plan.specs.Patterns.{named, lines, pattern, pattern_at}

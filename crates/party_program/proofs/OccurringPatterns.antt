@@ -4,11 +4,12 @@ use Rattle.circuit_model.specs.Circuits.{is_product}
 use Rattle.secret_sharing.specs.Sharing.{has_pair}
 use Rattle.job_plan.specs.declared.pattern.Pattern.{Pattern}
 use Rattle.job_plan.specs.declared.pattern.Pattern.TheVariants.{Silent, Multiplied}
-use Rattle.job_plan.specs.Plans.{Plan, Slot, scheme, session, gate, slots, deals_in}
-use Rattle.job_plan.specs.Plans.Slot.{Input, At_gate, Output}
+use Rattle.job_session.specs.Sessions.{Slot, gate}
+use Rattle.job_plan.specs.Plans.{Plan, scheme, session, slots, deals_in}
+use Rattle.job_session.specs.Sessions.Slot.{Input, At_gate, Output}
 use Rattle.job_plan.specs.Patterns.{pattern, pattern_at, Occurs}
 use Rattle.job_plan.specs.Sound.{IsSound}
-use Rattle.job_plan.proofs.Slots.{slot_cases}
+use Rattle.job_session.proofs.SessionSlots.{slot_cases}
 use Rattle.party_program.specs.declared.step.Step.{Step}
 use Rattle.party_program.specs.declared.step_table.StepTable.{StepTable}
 use Rattle.party_program.specs.PartySteps.{deals, steps}

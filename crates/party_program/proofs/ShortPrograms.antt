@@ -5,8 +5,9 @@ use Rattle.std.proofs.lemmas.Bool.{cases_Bool, cond-true, cond-false}
 use mathlib.Core.Logic.{inl, inr}
 use Rattle.list_laws.specs.Lists.{total, only_if}
 use Rattle.circuit_model.specs.Circuits.{is_product}
-use Rattle.job_plan.specs.Plans.{Plan, Slot, session, slot, slots, gate, deals_in, gives, opens_to}
-use Rattle.job_plan.specs.Plans.Slot.{Input, At_gate, Output}
+use Rattle.job_session.specs.Sessions.{Slot, gate}
+use Rattle.job_plan.specs.Plans.{Plan, session, slot, slots, deals_in, gives, opens_to}
+use Rattle.job_session.specs.Sessions.Slot.{Input, At_gate, Output}
 use Rattle.job_plan.specs.Numbers.{deals_before}
 use Rattle.job_plan.specs.Firsts.{count, first}
 use Rattle.job_plan.specs.Sound.{IsSound}
@@ -68,8 +69,8 @@ module _ (plan : Plan) (p s : ℕ) where
       let short = program_short k in
       let few = first_within plan s k ls lk in
       let messages = sound.few_messages in
-      let gates = (sound.sessions s ls).gates in
-      let wires = (sound.sessions s ls).wires in
-      let inputs = (sound.sessions s ls).input_wires in
-      let outputs = (sound.sessions s ls).output_wires in
+      let gates = (sound.sessions s ls).wired.gates in
+      let wires = (sound.sessions s ls).wired.wires in
+      let inputs = (sound.sessions s ls).wired.input_wires in
+      let outputs = (sound.sessions s ls).wired.output_wires in
       omega arith

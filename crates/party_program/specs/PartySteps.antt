@@ -32,6 +32,7 @@ deals plan p (Opened readers) = false
 abbrev pub post_of : ℕ × Line → Step
 post_of entry = Post entry.0 entry.1.share
 
+-- the take of a line
 abbrev pub take_of : ℕ × Line → Step
 take_of entry = Take entry.0 entry.1.share
 
@@ -39,6 +40,7 @@ take_of entry = Take entry.0 entry.1.share
 abbrev pub is_from : ℕ → ℕ × Line → Bool
 is_from p entry = nat_eq entry.1.sender p
 
+-- p is its receiver
 abbrev pub is_to : ℕ → ℕ × Line → Bool
 is_to p entry = nat_eq entry.1.receiver p
 
@@ -46,6 +48,7 @@ is_to p entry = nat_eq entry.1.receiver p
 abbrev pub posts : Plan → ℕ → Pattern → List Step
 posts plan p pattern = map post_of (filter (is_from p) (enumerate_from 0 (lines plan pattern)))
 
+-- the takes of p
 abbrev pub takes : Plan → ℕ → Pattern → List Step
 takes plan p pattern = map take_of (filter (is_to p) (enumerate_from 0 (lines plan pattern)))
 

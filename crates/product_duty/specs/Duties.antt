@@ -37,6 +37,7 @@ pub record IsDuty (s : Structure) (i j : ℕ) : Type 0 where
   pub lists : (p : ℕ) → times (pairs_of s p) i j ≡ (if nat_eq (duty s i j) p then 1 else 0)
   pub once : total s.parties (λ p. times (pairs_of s p) i j) ≡ 1
 
+-- the law, of every pair
 abbrev pub EachIsDuty : Structure → Type 0
 EachIsDuty s = (i j : ℕ) → i < length s.groups → j < length s.groups → IsDuty s i j
 

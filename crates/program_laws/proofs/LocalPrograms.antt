@@ -12,11 +12,12 @@ use Rattle.circuit_model.specs.Circuits.{is_product, set_at}
 use Rattle.circuit_model.specs.declared.gate.Gate.{Gate}
 use Rattle.secret_sharing.proofs.SummandSums.{dealt_eq, dealt_small}
 use Rattle.secret_sharing.specs.Sharing.{Run, dealt, own_product, own_value, has_pair, local, gate_summands, summands}
-use Rattle.job_plan.specs.Plans.{readers, owners, Plan, Session, scheme, session, gate, slot, slots, holds, least_holder, deals_in, words, place, IsPlan, output_wire, opens_to}
+use Rattle.job_session.specs.Sessions.{readers, owners, Session, gate, output_wire}
+use Rattle.job_plan.specs.Plans.{Plan, scheme, session, slot, slots, holds, least_holder, deals_in, words, place, IsPlan, opens_to}
 use Rattle.job_plan.specs.declared.key.Key.{Key}
 use Rattle.party_set.specs.Parties.{has_party}
 use Rattle.job_plan.specs.Messages.{messages, slot_messages, deal_messages, open_messages}
-use Rattle.job_plan.specs.Plans.Slot.{Input, At_gate, Output}
+use Rattle.job_session.specs.Sessions.Slot.{Input, At_gate, Output}
 use Rattle.share_world.specs.Worlds.{World, input_of, tape_word}
 use Rattle.share_world.specs.Locals.{local_run, local_word, local_word_in, local_output}
 use Rattle.job_plan.specs.Numbers.{message, deals_before, deals}
@@ -24,7 +25,7 @@ use Rattle.mpc_ring.proofs.Remainders.{same_refl, same_mod, same_trans, mods_of_
 use Rattle.list_laws.proofs.Totals.{total_eq, total_one, total_zero}
 use Rattle.mpc_ring.proofs.Totals.{total_same}
 use Rattle.list_laws.proofs.JoinedLists.{every_joined, every_only_if, total_within}
-use Rattle.job_plan.proofs.Slots.{slot_input, slot_gate, slot_output}
+use Rattle.job_session.proofs.SessionSlots.{slot_input, slot_gate, slot_output}
 use Rattle.share_world.proofs.LocalWords.{holder_own}
 use Rattle.job_plan.proofs.PlanSchemes.{least_holds}
 use Rattle.job_plan.proofs.DistinctMessages.{places_by_deals}

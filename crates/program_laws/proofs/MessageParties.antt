@@ -5,13 +5,14 @@ use Rattle.std.specs.List.{AllByRecursion}
 use Rattle.std.proofs.lemmas.Bool.{and_parts, both_ways, eq-eqb, not-true}
 use Rattle.list_laws.specs.Lists.{joined}
 use Rattle.list_laws.proofs.JoinedLists.{every_joined, every_only_if}
-use Rattle.job_plan.specs.Plans.{Plan, Slot, session, slot, slots, owners, holds, deals_in, IsPlan, opens_to}
-use Rattle.job_plan.specs.Plans.Slot.{Input, At_gate, Output}
+use Rattle.job_session.specs.Sessions.{Slot, owners}
+use Rattle.job_plan.specs.Plans.{Plan, session, slot, slots, holds, deals_in, IsPlan, opens_to}
+use Rattle.job_session.specs.Sessions.Slot.{Input, At_gate, Output}
 use Rattle.job_plan.specs.declared.key.Key.{Key}
 use Rattle.job_plan.specs.Messages.{messages, slot_messages, deal_message, deal_messages, open_messages}
 use Rattle.job_plan.specs.Numbers.{message, no_key}
 use Rattle.job_plan.proofs.PlanSchemes.{least_within, least_holds}
-use Rattle.job_plan.proofs.Slots.{slot_cases}
+use Rattle.job_session.proofs.SessionSlots.{slot_cases}
 use Rattle.job_plan.proofs.DistinctMessages.{every_place}
 use Rattle.program_laws.specs.Once.{OwnersAreParties, IsBetweenParties}
 use Rattle.program_laws.proofs.OncePosted.{there}

@@ -8,8 +8,9 @@ use Rattle.list_laws.specs.Lists.{total, joined, only_if}
 use Rattle.list_laws.proofs.JoinedLists.{length-joined, total_within, every_only_if, every_append}
 use Rattle.circuit_model.specs.Circuits.{is_product}
 use Rattle.party_set.specs.Parties.{has_party}
-use Rattle.job_plan.specs.Plans.{Plan, Slot, session, gate, slot, slots, deals_in}
-use Rattle.job_plan.specs.Plans.Slot.{Input, At_gate, Output}
+use Rattle.job_session.specs.Sessions.{Slot, gate}
+use Rattle.job_plan.specs.Plans.{Plan, session, slot, slots, deals_in}
+use Rattle.job_session.specs.Sessions.Slot.{Input, At_gate, Output}
 use Rattle.job_plan.specs.declared.key.Key.{Key}
 use Rattle.job_plan.specs.Messages.{messages}
 use Rattle.job_plan.specs.Numbers.{message, deals_before}

@@ -8,12 +8,13 @@ use mathlib.Core.Logic.{inl, inr}
 use Rattle.list_laws.specs.Lists.{total}
 use Rattle.list_laws.proofs.Totals.{total_eq}
 use Rattle.list_laws.proofs.JoinedLists.{total_within}
-use Rattle.job_plan.specs.Plans.{Plan, Slot, owners, session, slot, slots, deals_in, words, place, IsPlan, gives}
-use Rattle.job_plan.specs.Plans.Slot.{Input, At_gate, Output}
+use Rattle.job_session.specs.Sessions.{Slot, owners}
+use Rattle.job_plan.specs.Plans.{Plan, session, slot, slots, deals_in, words, place, IsPlan, gives}
+use Rattle.job_session.specs.Sessions.Slot.{Input, At_gate, Output}
 use Rattle.job_plan.specs.Sound.{IsSound}
 use Rattle.job_plan.specs.declared.key.Key.{Key}
 use Rattle.job_plan.specs.Numbers.{deals_before, deals}
-use Rattle.job_plan.proofs.Slots.{slot_input, slot_cases}
+use Rattle.job_session.proofs.SessionSlots.{slot_input, slot_cases}
 use Rattle.job_plan.proofs.DistinctMessages.{places_by_deals}
 use Rattle.share_world.specs.Worlds.{World}
 use Rattle.party_program.specs.declared.program.Instruction.{Instruction}
@@ -128,7 +129,7 @@ module _ (plan : Plan) (h : IsSound plan) (s p : ℕ) (ls : s < length plan.sess
         let sound = h.sessions s ls in
         record {
           words = enough _ _ _ here long more piece at0 all;
-          count = (let a = sound.wires in let b = sound.gates in let c = sound.input_wires in let d = sound.output_wires in omega arith);
+          count = (let a = sound.wired.wires in let b = sound.wired.gates in let c = sound.wired.input_wires in let d = sound.wired.output_wires in omega arith);
           input = subst (HasInput (given plan p s inputs tape got) (slot plan s k)) (sym here) (has_input k lk g.1.2);
         }
       where

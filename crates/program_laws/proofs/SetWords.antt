@@ -10,10 +10,11 @@ use Rattle.list_laws.proofs.JoinedLists.{every_append, every_joined, every_only_
 use Rattle.circuit_model.specs.Circuits.{is_product}
 use Rattle.circuit_model.specs.Netlists.{read_by}
 use Rattle.secret_sharing.specs.Sharing.{has_pair}
-use Rattle.job_plan.specs.Plans.{owners, Plan, Slot, Session, session, gate, slot, slots, holds, least_holder, deals_in, output_wire, scheme, IsPlan, gives, opens_to}
-use Rattle.job_plan.specs.Plans.Slot.{Input, At_gate, Output}
+use Rattle.job_session.specs.Sessions.{owners, Slot, Session, gate, output_wire}
+use Rattle.job_plan.specs.Plans.{Plan, session, slot, slots, holds, least_holder, deals_in, scheme, IsPlan, gives, opens_to}
+use Rattle.job_session.specs.Sessions.Slot.{Input, At_gate, Output}
 use Rattle.job_plan.specs.declared.key.Key.{Key}
-use Rattle.job_plan.specs.KeptWires.{IsInOrder, IsRowTable, sets, reads, sets_in, reads_in}
+use Rattle.job_session.specs.KeptWires.{IsInOrder, IsRowTable, sets, reads, sets_in, reads_in}
 use Rattle.job_plan.specs.Messages.{slot_messages, deal_message, open_messages}
 use Rattle.job_plan.specs.Numbers.{message, no_key, deals_before}
 use Rattle.job_plan.specs.Firsts.{numbers}

@@ -3,8 +3,9 @@ use Rattle.std.specs.Prelude.{◌≡◌, ◌≢◌, ℕ, ◌+◌, ◌<◌, ◌�
 use Rattle.std.specs.List.{list_any}
 use Rattle.circuit_model.specs.declared.gate.Gate.{Gate}
 use Rattle.circuit_model.specs.Netlists.{read_by}
-use Rattle.job_plan.specs.Plans.{Plan, Session, Slot, holds, output_wire, session, slot}
-use Rattle.job_plan.specs.Plans.Slot.{Input, At_gate, Output}
+use Rattle.job_session.specs.Sessions.{Session, Slot, output_wire}
+use Rattle.job_plan.specs.Plans.{Plan, holds, session, slot}
+use Rattle.job_session.specs.Sessions.Slot.{Input, At_gate, Output}
 use Rattle.party_program.specs.declared.program.Instruction.{Instruction}
 use Rattle.party_program.specs.declared.program.Instruction.TheVariants.{Deal, Post, Take, Linear, Own, Sum, Deliver}
 use Rattle.party_program.specs.Programs.{program, at}

@@ -24,6 +24,7 @@ abbrev pub own_product : Scheme → ℕ → (ℕ → ℕ) → (ℕ → ℕ) → 
 own_product s p x y =
     total s.shares (λ i. total s.shares (λ j. if nat_eq (s.duty i j) p then x i * y j else 0)) % s.modulus
 
+-- some pair of summands is party p's duty
 abbrev pub has_pair : Scheme → ℕ → Bool
 has_pair s p = some_below s.shares (λ i. some_below s.shares (λ j. nat_eq (s.duty i j) p))
 
@@ -66,6 +67,7 @@ own_value r t p = own_product r.scheme p (summands r t (r.gates t).first) (summa
 
 -- ---- the law
 
+-- there are summands, and each pair of them is the duty of a party that holds both
 pub record IsScheme (s : Scheme) : Type 0 where
   pub modulus : 1 < s.modulus
   pub shares : 0 < s.shares
@@ -77,6 +79,7 @@ pub record IsScheme (s : Scheme) : Type 0 where
 abbrev pub AddUp : Scheme → (ℕ → ℕ → ℕ) → (ℕ → ℕ) → Type 0
 AddUp s x value = (v : ℕ) → total s.shares (x v) % s.modulus ≡ value v
 
+-- the summands of a product add up to it
 pub record IsRun (r : Run) : Type 0 where
   pub scheme : IsScheme r.scheme
   pub products : (t : ℕ) (x y : ℕ → ℕ) → total r.scheme.shares (r.product t x y) % r.scheme.modulus

@@ -5,15 +5,16 @@ use Rattle.std.specs.List.{AllByRecursion}
 use Rattle.std.proofs.lemmas.Bool.{cases_eq, cases_lt, cond-true, cond-false, and_from, not_from_false, eq-eqb, ne_eqb, lt-ltb, le-ltb}
 use mathlib.Core.Logic.{inl, inr}
 use Rattle.secret_sharing.specs.Sharing.{Run, dealt, own_product, own_value, summands}
-use Rattle.job_plan.specs.Plans.{owners, scheme, session, gate, holds, slot, slots, deals_in, IsPlan}
+use Rattle.job_session.specs.Sessions.{owners, gate}
+use Rattle.job_plan.specs.Plans.{scheme, session, holds, slot, slots, deals_in, IsPlan}
 use Rattle.job_plan.specs.declared.key.Key.{Key}
 use Rattle.job_plan.specs.Messages.{messages, slot_messages, deal_messages}
-use Rattle.job_plan.specs.Plans.Slot.{Input, At_gate}
+use Rattle.job_session.specs.Sessions.Slot.{Input, At_gate}
 use Rattle.share_world.specs.Worlds.{World, run_of, word, first_summands, input_of, tape_word}
 use Rattle.share_world.specs.Locals.{local_run, local_word, local_word_in, LocalsJoin}
 use Rattle.secret_sharing.proofs.Agreement.{gate_agrees, product_agrees}
 use Rattle.list_laws.proofs.JoinedLists.{every_both, at_joined, at_only_if}
-use Rattle.job_plan.proofs.Slots.{slot_input, slot_gate, product_within}
+use Rattle.job_session.proofs.SessionSlots.{slot_input, slot_gate, product_within}
 use Rattle.share_world.proofs.LocalWords.{holder_own, seen}
 use Rattle.share_world.proofs.SentWords.{SendsWord, all_sent}
 

@@ -5,7 +5,8 @@ use Rattle.std.proofs.lemmas.Bool.{cases_eq, cases_lt, cases_Bool, cond-true, co
 use mathlib.Core.Logic.{inl, inr}
 use Rattle.circuit_model.specs.Circuits.{is_product}
 use Rattle.secret_sharing.specs.Sharing.{dealt, own_product, own_value, summands}
-use Rattle.job_plan.specs.Plans.{owners, Plan, scheme, session, gate, holds, IsPlan, gives}
+use Rattle.job_session.specs.Sessions.{owners, gate}
+use Rattle.job_plan.specs.Plans.{Plan, scheme, session, holds, IsPlan, gives}
 use Rattle.job_plan.specs.declared.key.Key.{Key}
 use Rattle.share_world.specs.Worlds.{World, run_of, word, word_in, first_summands, input_of, tape_word}
 use Rattle.share_world.specs.Locals.{local_run, ReadsBefore}
@@ -13,7 +14,7 @@ use Rattle.share_world.specs.Laws.{HeldAreDealt}
 use Rattle.mpc_ring.proofs.Remainders.{same_refl}
 use Rattle.secret_sharing.proofs.Agreement.{own_same, runs_agree, gates_agree, product_agrees}
 use Rattle.job_plan.proofs.PlanSchemes.{duty_is}
-use Rattle.job_plan.proofs.Slots.{slot_input, slot_gate, product_within}
+use Rattle.job_session.proofs.SessionSlots.{slot_input, slot_gate, product_within}
 
 -- a party's own product is of summands that it holds
 pub holder_own : (plan : Plan) → IsPlan plan → (p : ℕ) (x y x' y' : ℕ → ℕ) → ((i : ℕ) → i < length plan.groups → holds plan p i ≡ true → x i ≡ x' i) → ((i : ℕ) → i < length plan.groups → holds plan p i ≡ true → y i ≡ y' i) → own_product (scheme plan) p x y ≡ own_product (scheme plan) p x' y'

@@ -12,9 +12,10 @@ use Rattle.circuit_model.specs.declared.gate.Operation.{Operation}
 use Rattle.circuit_model.specs.declared.gate.Operation.TheVariants.{Add, Sub, Neg, Mul, Xor, And, Inv, Eq, Eqw}
 use Rattle.circuit_model.specs.Circuits.{values}
 use Rattle.circuit_model.specs.Netlists.{Netlist, IsCircuit, arity, reads, no_gate, is_set, input_wires, gate as gate_of}
-use Rattle.job_plan.specs.Plans.{Session, session, gate, owners}
-use Rattle.job_plan.specs.Parts.{session_of}
-use Rattle.job_plan.proofs.ValueWires.{owners_long}
+use Rattle.job_session.specs.Sessions.{Session, gate, owners}
+use Rattle.job_plan.specs.Plans.{session}
+use Rattle.job_session.specs.Parts.{session_of}
+use Rattle.job_session.proofs.ValueWires.{owners_long}
 use Rattle.share_world.specs.Worlds.{World, input_of}
 use Rattle.share_world.specs.Solutions.{GatesInOrder, SetBefore, reads_first, reads_second}
 use Rattle.share_world.specs.Made.{MadeHasValues}

@@ -10,11 +10,12 @@ use Rattle.secret_sharing.specs.Sharing.{dealt, summands}
 use Rattle.job_plan.specs.declared.key.Key.{Key}
 use Rattle.job_plan.specs.Messages.{messages, slot_messages}
 use Rattle.job_plan.specs.Numbers.{no_key}
-use Rattle.job_plan.specs.Plans.{owners, output_wire, Session, scheme, session, gate, holds, least_holder, slot, slots, deals_in, IsPlan, opens_to}
-use Rattle.job_plan.specs.Plans.Slot.{Input, At_gate, Output}
+use Rattle.job_session.specs.Sessions.{owners, output_wire, Session, gate}
+use Rattle.job_plan.specs.Plans.{scheme, session, holds, least_holder, slot, slots, deals_in, IsPlan, opens_to}
+use Rattle.job_session.specs.Sessions.Slot.{Input, At_gate, Output}
 use Rattle.job_plan.proofs.DistinctMessages.{every_place}
 use Rattle.job_plan.proofs.PlanSchemes.{least_holds, least_within}
-use Rattle.job_plan.proofs.Slots.{slot_input, slot_gate, slot_output, slot_cases}
+use Rattle.job_session.proofs.SessionSlots.{slot_input, slot_gate, slot_output, slot_cases}
 use Rattle.share_world.specs.Worlds.{World, run_of, word, word_in, tape_word}
 use Rattle.share_world.specs.Locals.{local_run, local_word, local_word_in}
 use Rattle.share_world.specs.Laws.{IsWorld, SentAreWords, OpenedArePlain}

@@ -7,8 +7,9 @@ use Rattle.std.proofs.Math.Nat.{mod-lt}
 use Rattle.secret_sharing.specs.Sharing.{summands}
 use Rattle.secret_sharing.proofs.SummandSums.{dealt_small, summands_below}
 use Rattle.job_plan.specs.declared.key.Key.{Key}
-use Rattle.job_plan.specs.Plans.{Slot, owners, scheme, session, slot, place, IsPlan}
-use Rattle.job_plan.specs.Plans.Slot.{Input, At_gate, Output}
+use Rattle.job_session.specs.Sessions.{Slot, owners}
+use Rattle.job_plan.specs.Plans.{scheme, session, slot, place, IsPlan}
+use Rattle.job_session.specs.Sessions.Slot.{Input, At_gate, Output}
 use Rattle.share_world.specs.Worlds.{World, run_of, input_of, tape_word, first_summands, dealt_value, deal_of, word_in, word}
 use Rattle.share_world.specs.Laws.{IsWorld, IsWhole}
 

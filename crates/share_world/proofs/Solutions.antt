@@ -7,11 +7,12 @@ use Rattle.circuit_model.specs.declared.gate.Operation.{Operation}
 use Rattle.circuit_model.specs.Circuits.{is_product}
 use Rattle.circuit_model.specs.declared.gate.Operation.TheVariants.{Add, Sub, Neg, Mul, Xor, And, Inv, Eq, Eqw}
 use Rattle.secret_sharing.specs.Sharing.{dealt, local, own_product, own_value, has_pair, gate_summands, summands}
-use Rattle.job_plan.specs.Plans.{owners, Session, scheme, session, gate, slot, slots, deals_in}
-use Rattle.job_plan.specs.Plans.Slot.{Input, At_gate}
+use Rattle.job_session.specs.Sessions.{owners, Session, gate}
+use Rattle.job_plan.specs.Plans.{scheme, session, slot, slots, deals_in}
+use Rattle.job_session.specs.Sessions.Slot.{Input, At_gate}
 use Rattle.share_world.specs.Worlds.{World, run_of, tape_word, deal_of}
 use Rattle.share_world.specs.Solutions.{reads_first, reads_second, SetBefore, GatesInOrder, SummandsSolve, OnlySolution, IsSolution}
-use Rattle.job_plan.proofs.Slots.{slot_input, slot_gate, slot_cases}
+use Rattle.job_session.proofs.SessionSlots.{slot_input, slot_gate, slot_cases}
 use Rattle.mpc_ring.proofs.Remainders.{same_refl}
 use Rattle.list_laws.proofs.Totals.{total_eq}
 use Rattle.secret_sharing.proofs.Agreement.{own_same}

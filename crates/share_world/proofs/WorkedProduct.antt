@@ -6,9 +6,11 @@ use Rattle.std.proofs.lemmas.Bool.{cases_Bool, cases_eq, eq-eqb, eqb-true, ne_eq
 use Rattle.list_laws.specs.Lists.{total}
 use Rattle.list_laws.proofs.JoinedLists.{every_at}
 use Rattle.party_set.specs.Parties.{IsQ2, covers}
-use Rattle.job_plan.specs.KeptWires.{sets, reads}
-use Rattle.job_plan.specs.Plans.{session, owners, structure, gate, words, gives}
-use Rattle.job_plan.specs.Sound.{IsSound, IsSoundSession}
+use Rattle.job_session.specs.KeptWires.{sets, reads}
+use Rattle.job_session.specs.Sessions.{owners, gate}
+use Rattle.job_plan.specs.Plans.{session, structure, words, gives}
+use Rattle.job_session.specs.SoundSessions.{IsSoundSession}
+use Rattle.job_plan.specs.Sound.{IsSound}
 use Rattle.job_plan.specs.InputWords.{AreInputs, given}
 use Rattle.job_plan.specs.Tallies.{tape_length}
 use Rattle.job_plan.specs.Multiply.{multiply_plan, multiply_session}
@@ -43,16 +45,18 @@ no_cover = record { no_cover = λ i j li lj. each i j li lj }
 
 sound_session : IsSoundSession 3 multiply_session
 sound_session = record {
-  wires = omega arith;
-  gates = omega arith;
-  input_wires = omega arith;
-  output_wires = omega arith;
+  wired = record {
+    wires = omega arith;
+    gates = omega arith;
+    input_wires = omega arith;
+    output_wires = omega arith;
+    first = first;
+    second = second;
+    output = output;
+    order = record { once = once; before = before };
+  };
   owned = owned;
   read = read;
-  first = first;
-  second = second;
-  output = output;
-  order = record { once = once; before = before };
 }
   where
     other : (a b w : ℕ) → a ≢ b → list_any (nat_eq w) (a ∷ []) ≡ true → list_any (nat_eq w) (b ∷ []) ≡ false

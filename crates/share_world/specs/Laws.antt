@@ -2,7 +2,8 @@
 use Rattle.std.specs.Prelude.{◌≡◌, ℕ, ◌%◌, ◌^◌, ◌<◌, true, List, [], length, slice_index, slice_index_or}
 use Rattle.list_laws.specs.Lists.{total}
 use Rattle.secret_sharing.specs.Sharing.{summands}
-use Rattle.job_plan.specs.Plans.{Plan, IsPlan, holds, output_wire, session}
+use Rattle.job_session.specs.Sessions.{output_wire}
+use Rattle.job_plan.specs.Plans.{Plan, IsPlan, holds, session}
 use Rattle.job_plan.specs.Sound.{IsSound}
 use Rattle.job_plan.specs.Messages.{messages}
 use Rattle.job_plan.specs.Numbers.{message}

@@ -4,11 +4,12 @@ use Rattle.std.specs.Prelude.{◌≡◌, ℕ, ◌<◌, ◌≤◌, ◌+◌, ◌%�
 use Rattle.list_laws.specs.Lists.{total}
 use Rattle.secret_sharing.specs.Sharing.{Run, dealt, product_summand, own_value, summands}
 use Rattle.job_plan.specs.declared.key.Key.{Key}
-use Rattle.job_plan.specs.Plans.{owners, holds, least_holder, scheme, session, gate, Slot, slot, gives}
+use Rattle.job_session.specs.Sessions.{owners, gate, Slot}
+use Rattle.job_plan.specs.Plans.{holds, least_holder, scheme, session, slot, gives}
 use Rattle.job_plan.specs.Messages.{messages}
-use Rattle.job_plan.specs.Plans.Slot.{Input, At_gate, Output}
+use Rattle.job_session.specs.Sessions.Slot.{Input, At_gate, Output}
 use Rattle.share_world.specs.Worlds.{World, input_of, tape_word, word}
-use Rattle.job_plan.specs.Plans.{output_wire}
+use Rattle.job_session.specs.Sessions.{output_wire}
 
 -- the gates of session s as party p runs them: of w it reads its own inputs and tape alone
 abbrev pub local_run : World → (Key → ℕ) → ℕ → ℕ → Run
@@ -51,6 +52,7 @@ local_word_in w got p key (Output o) =
 local_word_in w got p key kind =
     dealt (scheme w.plan) (local_value w got p key.session kind) (tape_word w key.session key.slot p) key.share
 
+-- the word of a message, as party p has it
 abbrev pub local_word : World → (Key → ℕ) → ℕ → Key → ℕ
 local_word w got p key = local_word_in w got p key (slot w.plan key.session key.slot)
 

@@ -3,7 +3,7 @@ use Rattle.std.specs.Prelude.{◌≡◌, ℕ, List, length}
 use Rattle.party_set.specs.Parties.{Members}
 use Rattle.circuit_model.specs.Netlists.{Netlist, IsCircuit, plain as value}
 use Rattle.job_plan.specs.Plans.{session}
-use Rattle.job_plan.specs.Parts.{session_of}
+use Rattle.job_session.specs.Parts.{session_of}
 use Rattle.share_world.specs.Worlds.{World, input_of, plain}
 use Rattle.share_world.specs.Solutions.{GatesInOrder}
 

@@ -5,6 +5,7 @@ use Rattle.job_plan.specs.Multiply.{multiply_plan}
 use Rattle.share_world.specs.Worlds.{World, word, plain}
 use Rattle.share_world.specs.Laws.{IsWhole}
 
+-- a gives 5, b gives 7, and each party has a tape
 abbrev pub multiply_world : World
 multiply_world = record {
   plan = multiply_plan 8;
@@ -18,8 +19,10 @@ MultiplyWords =
     map (word multiply_world) (messages (multiply_plan 8))
     ≡ 10 ∷ 10 ∷ 20 ∷ 231 ∷ 30 ∷ 40 ∷ 40 ∷ 193 ∷ 1 ∷ 1 ∷ 2 ∷ 112 ∷ 3 ∷ 4 ∷ 4 ∷ 193 ∷ 5 ∷ 6 ∷ 221 ∷ 221 ∷ 14 ∷ []
 
+-- the product is 35
 abbrev pub MultiplyPlain : Type 0
 MultiplyPlain = plain multiply_world 0 2 ≡ 35
 
+-- the world is whole
 abbrev pub MultiplyWhole : Type 0
 MultiplyWhole = IsWhole multiply_world

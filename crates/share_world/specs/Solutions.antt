@@ -5,13 +5,16 @@ use Rattle.circuit_model.specs.declared.gate.Operation.{Operation}
 use Rattle.circuit_model.specs.Circuits.{is_product}
 use Rattle.circuit_model.specs.declared.gate.Operation.TheVariants.{Neg, Inv, Eq, Eqw}
 use Rattle.secret_sharing.specs.Sharing.{dealt, local, own_product, has_pair, summands}
-use Rattle.job_plan.specs.Plans.{owners, Session, scheme, session, gate, slot, slots, deals_in}
+use Rattle.job_session.specs.Sessions.{owners, Session, gate}
+use Rattle.job_plan.specs.Plans.{scheme, session, slot, slots, deals_in}
 use Rattle.share_world.specs.Worlds.{World, run_of, input_of, tape_word, deal_of}
 
+-- the operation reads the first wire of its gate
 abbrev pub reads_first : Operation → Bool
 reads_first Eq = false
 reads_first _ = true
 
+-- it reads the second
 abbrev pub reads_second : Operation → Bool
 reads_second Neg = false
 reads_second Inv = false

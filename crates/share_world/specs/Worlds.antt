@@ -3,12 +3,14 @@ use Rattle.std.specs.Prelude.{ℕ, ◌+◌, ◌^◌, Bool, ◌||◌, nat_eq, nat
 use Rattle.list_laws.specs.Lists.{total}
 use Rattle.circuit_model.specs.Circuits.{values}
 use Rattle.secret_sharing.specs.Sharing.{Run, dealt, product_summand, own_value, summands}
-use Rattle.job_plan.specs.Plans.{owners, output_wire, Plan, Slot, scheme, session, gate, slot, place}
+use Rattle.job_session.specs.Sessions.{owners, output_wire, Slot, gate}
+use Rattle.job_plan.specs.Plans.{Plan, scheme, session, slot, place}
 use Rattle.job_plan.specs.declared.key.Key.{Key}
 use Rattle.job_plan.specs.Messages.{messages}
 use Rattle.party_set.specs.Parties.{has_party}
-use Rattle.job_plan.specs.Plans.Slot.{Input, At_gate, Output}
+use Rattle.job_session.specs.Sessions.Slot.{Input, At_gate, Output}
 
+-- a plan, with the inputs and the tapes of all parties
 pub record World : Type 0 where
   pub plan : Plan
   pub inputs : List (List (List ℕ))  -- by party, session, position
@@ -26,9 +28,11 @@ input_of w s v =
 abbrev pub tape_word : World → ℕ → ℕ → ℕ → ℕ → ℕ
 tape_word w s k p i = slice_index (slice_index_or w.tapes p []) (place w.plan p s k + i)
 
+-- the values of the input wires, and 0 for any other wire
 abbrev pub first_values : World → ℕ → ℕ → ℕ
 first_values w s v = if nat_lt v (length (owners (session w.plan s))) then input_of w s v else 0
 
+-- the summands of the input wires, as their owners deal them
 abbrev pub first_summands : World → ℕ → ℕ → ℕ → ℕ
 first_summands w s v i =
     if nat_lt v (length (owners (session w.plan s)))
@@ -50,6 +54,7 @@ run_of w s = record {
 abbrev pub value_before : World → ℕ → ℕ → ℕ → ℕ
 value_before w s t v = values (2 ^ w.plan.bits) (gate (session w.plan s)) (first_values w s) t v
 
+-- the value of wire v in the clear
 abbrev pub plain : World → ℕ → ℕ → ℕ
 plain w s v = value_before w s (length (session w.plan s).gates) v
 

@@ -1,7 +1,8 @@
 -- The whole walk ends once.
 use Rattle.std.proofs.Common.{ℕ, List, [], ◌∷◌, ◌++◌, length, Option, None, Some}
 use Rattle.party_set.specs.Parties.{Structure}
-use Rattle.job_plan.specs.Plans.{Plan, Session}
+use Rattle.job_session.specs.Sessions.{Session}
+use Rattle.job_plan.specs.Plans.{Plan}
 use Rattle.job_file.specs.Forms.{JobForm, SessionForm}
 use Rattle.party_file.specs.Table.{PartyForm}
 use Rattle.command_words.specs.Commands.{CommandForm, run, check}

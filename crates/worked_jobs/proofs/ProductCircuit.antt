@@ -7,7 +7,7 @@ use Rattle.circuit_model.specs.declared.fault.CircuitFault.TheVariants.{Memory}
 use Rattle.circuit_model.specs.Building.{Draft, start_of, header_checks, no_gates_yet, after_gate, next_gate, gate_checks, answer_of, Becomes, circuit_of}
 use Rattle.circuit_model.specs.Netlists.{Netlist}
 use Rattle.job_plan.specs.Multiply.{multiply_session}
-use Rattle.job_plan.specs.Parts.{session_of}
+use Rattle.job_session.specs.Parts.{session_of}
 
 abbrev pub empty_draft : ℕ → Draft
 empty_draft bits = no_gates_yet bits 1 3 (1 ∷ 1 ∷ []) (1 ∷ [])

@@ -1,7 +1,7 @@
 use Rattle.std.proofs.Common.{◌≡◌, ◌*◌, ◌≤◌}
 use Rattle.list_laws.specs.Lists.{total}
 use Rattle.job_plan.specs.Plans.{session}
-use Rattle.job_plan.specs.Tallies.{outputs_read}
+use Rattle.job_session.specs.Counts.{outputs_read}
 use Rattle.job_plan.proofs.counts.all_reads.Given as goal
 
 abbrev pub invariant-loop-s : goal.invariant-loop-s

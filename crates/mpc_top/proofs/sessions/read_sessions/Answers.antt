@@ -1,6 +1,6 @@
 use Rattle.std.proofs.Common.{◌+◌, ◌∷◌, [], length, length-append, sym, ap, subst, ◌∙◌, arith}
 use Rattle.std.proofs.lemmas.List.Elements.{All-get_or, All-push, All-same}
-use Rattle.job_plan.specs.Sound.{IsSoundSession}
+use Rattle.job_session.specs.SoundSessions.{IsSoundSession}
 use Rattle.job_file.specs.Jobs.{job_view, IsSession}
 use Rattle.mpc_top.proofs.Steps.{reads_memory}
 use Rattle.mpc_top.proofs.Loops.{session_next, session_stops, sessions_end, parts_same}

@@ -1,8 +1,8 @@
 use Rattle.std.proofs.Common.{◌≡◌, All, [], length, drop, map, Result, Vec}
 use Rattle.std.specs.declared.alloc.Global.{Global}
 use Rattle.outer_io.specs.Files.{FilesReading}
-use Rattle.job_plan.specs.Plans.{Session}
-use Rattle.job_plan.specs.Sound.{IsSoundSession}
+use Rattle.job_session.specs.Sessions.{Session}
+use Rattle.job_session.specs.SoundSessions.{IsSoundSession}
 use Rattle.job_file.specs.Jobs.{job_view, session_view}
 use Rattle.mpc_top.specs.declared.stop.Stop.{Stop}
 use Rattle.mpc_top.specs.JobOf.{SessionsAfter}

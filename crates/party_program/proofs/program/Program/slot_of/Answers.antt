@@ -12,10 +12,10 @@ overflow_cast-result c =
     let long = length-starts c.args.plan.now program.party program.session program c.requires in
     let same = ap (length {A = SlotStart}) c.deref.ensures.value in
     let bound = c.partition_point-begun.ensures.bound in
-    let gates = sound.gates in
-    let wires = sound.wires in
-    let inputs = sound.input_wires in
-    let outputs = sound.output_wires in
+    let gates = sound.wired.gates in
+    let wires = sound.wired.wires in
+    let inputs = sound.wired.input_wires in
+    let outputs = sound.wired.output_wires in
     omega arith
 
 pub overflow_sub-result : goal.overflow_sub-result

@@ -1,0 +1,71 @@
+-- Which wires are kept at which slots, and a row for each wire: those that are kept together have rows of their own.
+use Rattle.std.specs.Prelude.{◌≡◌, ◌≢◌, ℕ, zero, suc, ◌+◌, ◌<◌, ◌≤◌, max, nat_eq, nat_le, Bool, true, false, ◌&&◌, if◌then◌else◌, List, [], ◌∷◌, length, slice_index, All}
+use Rattle.std.specs.List.{list_any}
+use Rattle.list_laws.specs.Lists.{total, some_below}
+use Rattle.circuit_model.specs.Netlists.{read_by}
+use Rattle.job_session.specs.declared.row_table.RowTable.{RowTable}
+use Rattle.job_session.specs.Sessions.{Session, Slot, gate, output_wire, session_slot, session_slots}
+use Rattle.job_session.specs.Sessions.Slot.{Input, At_gate, Output}
+
+-- the wires that a slot sets
+abbrev pub sets_in : Session → Slot → List ℕ
+sets_in s (Input v) = v ∷ []
+sets_in s (At_gate t) = (gate s t).output ∷ []
+sets_in s (Output o) = []
+
+-- the wires that a slot reads
+abbrev pub reads_in : Session → Slot → List ℕ
+reads_in s (Input v) = []
+reads_in s (At_gate t) = read_by (gate s t)
+reads_in s (Output o) = output_wire s o ∷ []
+
+-- slot k sets wire w
+abbrev pub sets : Session → ℕ → ℕ → Bool
+sets s k w = list_any (nat_eq w) (sets_in s (session_slot s k))
+
+-- slot k reads wire w
+abbrev pub reads : Session → ℕ → ℕ → Bool
+reads s k w = list_any (nat_eq w) (reads_in s (session_slot s k))
+
+-- each wire is set once, and read only after that
+pub record IsInOrder (s : Session) : Type 0 where
+  pub once : (j k w : ℕ) → j < k → k < session_slots s → sets s j w ≡ true → sets s k w ≡ false
+  pub before : (k w : ℕ) → k < session_slots s → reads s k w ≡ true → (j : ℕ) × (j < k) × (sets s j w ≡ true)
+
+-- ---- wires that are kept
+
+-- wire w is kept before slot k: an earlier slot sets it, and slot k or a later one reads it
+unfoldable pub is_kept : Session → ℕ → ℕ → Bool
+is_kept s k w = some_below k (λ j. sets s j w) && some_below (session_slots s) (λ m. nat_le k m && reads s m w)
+
+-- how many wires are kept before slot k
+unfoldable pub kept : Session → ℕ → ℕ
+kept s k = total s.wires (λ w. if is_kept s k w then 1 else 0)
+
+-- the greatest of f 0 to f (n - 1), and 0 where there is none
+abbrev pub greatest : ℕ → (ℕ → ℕ) → ℕ
+greatest zero f = 0
+greatest (suc n) f = max (greatest n f) (f n)
+
+-- how many wires are kept where most are
+unfoldable pub live : Session → ℕ
+live s = greatest (session_slots s) (kept s)
+
+-- ---- rows
+
+-- a row for each wire: one that slot k sets has another than each that an earlier slot sets and k or a later one reads
+pub record IsRowTable (s : Session) (rows : List ℕ) : Type 0 where
+  pub wires : length rows ≡ s.wires
+  pub below : All (λ row. row < live s + 1) rows
+  pub apart : (j k m v w : ℕ) → j < k → k ≤ m → m < session_slots s → sets s j v ≡ true → reads s m v ≡ true
+      → sets s k w ≡ true → slice_index rows v ≢ slice_index rows w
+
+-- the table gives each wire its row, and has a row more than wires are kept at most
+abbrev pub IsRows : Session → RowTable → Type 0
+IsRows s table = IsRowTable s table.rows.items × (table.count ≡ live s + 1)
+
+-- two wires that are kept before the same slot have different rows
+abbrev pub KeptApart : Type 0
+KeptApart =
+    (s : Session) (rows : List ℕ) (k v w : ℕ) → IsRowTable s rows → is_kept s k v ≡ true → is_kept s k w ≡ true
+    → v ≢ w → slice_index rows v ≢ slice_index rows w
