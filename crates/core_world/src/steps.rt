@@ -12,8 +12,8 @@ use job_plan::Plan;
 use message_board::PlainCells;
 use party_desk::{Desk, Stepped};
 
-/// Steps desk `k`.
-pub(crate) fn step_at(plan: &Plan, desks: &mut [Desk], cells: &mut PlainCells, k: usize) -> Stepped
+// Steps desk `k`.
+fn step_at(plan: &Plan, desks: &mut [Desk], cells: &mut PlainCells, k: usize) -> Stepped
     requires within { k < length desks.old }
     requires state { (w : World) × (w.plan ≡ plan.now) × IsWhole w × IsState w desks.old cells.old }
     ensures state { (w : World) → w.plan ≡ plan.now → IsWhole w → IsState w desks.old cells.old
@@ -73,8 +73,8 @@ fn round(plan: &Plan, desks: &mut [Desk], cells: &mut PlainCells) -> bool
     moved
 }
 
-/// Steps all desks to their end, round after round.
-pub(crate) fn finish_all(plan: &Plan, desks: &mut [Desk], cells: &mut PlainCells)
+// Steps all desks to their end, round after round.
+fn finish_all(plan: &Plan, desks: &mut [Desk], cells: &mut PlainCells)
     requires state { (w : World) × (w.plan ≡ plan.now) × IsWhole w × IsState w desks.old cells.old }
     ensures state { (w : World) → w.plan ≡ plan.now → IsWhole w → IsState w desks.old cells.old
         → IsState w desks.new cells.new }
@@ -85,4 +85,31 @@ pub(crate) fn finish_all(plan: &Plan, desks: &mut [Desk], cells: &mut PlainCells
     while moved {
         moved = round(plan, desks, cells);
     }
+}
+
+/// Steps desk `k` of a list.
+pub fn step_one(plan: &Plan, desks: &mut Vec<Desk>, cells: &mut PlainCells, k: usize) -> Stepped
+    requires within { k < length desks.old.items }
+    requires state { (w : World) × (w.plan ≡ plan.now) × IsWhole w × IsState w desks.old.items cells.old }
+    ensures state { (w : World) → w.plan ≡ plan.now → IsWhole w → IsState w desks.old.items cells.old
+        → IsState w desks.new.items cells.new }
+    ensures stands { (w : World) → w.plan ≡ plan.now → IsWhole w → IsState w desks.old.items cells.old
+        → standing desks.new.items cells.new ≡ step w k (standing desks.old.items cells.old) }
+    ensures tells { (w : World) → w.plan ≡ plan.now → IsWhole w → IsState w desks.old.items cells.old
+        → Some result ≡ tells w k (standing desks.old.items cells.old) }
+{
+    step_at(plan, desks.as_mut_slice(), cells, k)
+}
+
+/// Steps all desks of a list to their end.
+pub fn finish_list(plan: &Plan, desks: &mut Vec<Desk>, cells: &mut PlainCells)
+    requires state { (w : World) × (w.plan ≡ plan.now) × IsWhole w × IsState w desks.old.items cells.old }
+    ensures state { (w : World) → w.plan ≡ plan.now → IsWhole w → IsState w desks.old.items cells.old
+        → IsState w desks.new.items cells.new }
+    ensures ended { (w : World) → w.plan ≡ plan.now → IsWhole w → IsState w desks.old.items cells.old
+        → AllEnded w desks.new.items }
+    ensures full { (w : World) → w.plan ≡ plan.now → IsWhole w → IsState w desks.old.items cells.old
+        → AllFull w cells.new }
+{
+    finish_all(plan, desks.as_mut_slice(), cells);
 }
