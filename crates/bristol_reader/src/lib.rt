@@ -15,6 +15,3 @@ pub fn read(alloc: Global, bytes: &[u8], ring: Ring) -> Result<Circuit, CircuitF
 {
     circuit_file::read(alloc, bytes, CircuitLayout::Bristol, ring)
 }
-
-#[cfg(test)]
-mod tests;

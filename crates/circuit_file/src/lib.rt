@@ -11,6 +11,3 @@ mod tokens;
 
 pub use file::read;
 pub use laws::each_file_has_one_answer;
-
-#[cfg(test)]
-mod tests;

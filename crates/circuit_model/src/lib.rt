@@ -16,6 +16,3 @@ pub use fault::CircuitFault;
 pub use gate::{Gate, Operation};
 pub use laws::equations_have_one_solution;
 pub use layout::CircuitLayout;
-
-#[cfg(test)]
-mod tests;

@@ -4,6 +4,3 @@
 mod command;
 
 pub use command::{Command, Refused, read_command};
-
-#[cfg(test)]
-mod tests;

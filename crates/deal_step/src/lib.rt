@@ -41,31 +41,3 @@ fn next_word(ring: Ring, tape: &mut Tape) -> u64
 {
     tape.draw().unwrap().spend()
 }
-
-#[cfg(test)]
-mod tests {
-    use super::*;
-    use std::test::Fail;
-
-    #[test]
-    fn two_words_and_a_difference(rt: HostRuntime) -> Result<(), Fail> {
-        let ring = Ring::new(8).ok_or("no ring")?;
-        let mut tape = Tape::from_words(ring, vec![in rt.alloc(); 10, 20, 1]?)?;
-        let mut summands = [0; 3];
-        deal(ring, 5, &mut tape, &mut summands);
-        assert_eq!(rt; summands, [10, 20, 231]);
-        assert_eq!(rt; tape.left(), 1);
-        Ok(())
-    }
-
-    #[test]
-    fn one_summand_is_the_value(rt: HostRuntime) -> Result<(), Fail> {
-        let ring = Ring::new(8).ok_or("no ring")?;
-        let mut tape = Tape::from_words(ring, vec![in rt.alloc(); 10]?)?;
-        let mut summands = [0; 1];
-        deal(ring, 6, &mut tape, &mut summands);
-        assert_eq!(rt; summands, [6]);
-        assert_eq!(rt; tape.left(), 1);
-        Ok(())
-    }
-}

@@ -8,6 +8,3 @@ mod lines;
 
 pub use cursor::Cursor;
 pub use lines::{Line, Lines};
-
-#[cfg(test)]
-mod tests;

@@ -21,6 +21,3 @@ mod values;
 pub use fault::FormulaFault;
 pub use formula::{Formula, all_parties_are_qualified};
 pub use read::{each_text_has_one_answer, read_formula};
-
-#[cfg(test)]
-mod tests;

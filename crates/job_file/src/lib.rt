@@ -17,6 +17,3 @@ pub use document::read_job;
 pub use fault::JobFault;
 pub use field::Field;
 pub use job::{Adversary, Job, JobSession};
-
-#[cfg(test)]
-mod tests;

@@ -8,6 +8,3 @@ mod listed;
 pub use family::Family;
 pub use find::{GroupsFault, all_parties_alone, find_groups, maximal_groups_tell};
 pub use listed::{Listed, lists_may_differ, maximal_groups_as_a_list};
-
-#[cfg(test)]
-mod tests;

@@ -8,8 +8,6 @@ mod plain;
 mod room;
 mod seat_at;
 mod steps;
-#[cfg(test)]
-mod tests;
 
 pub use board::{Board, BoardSeat};
 pub use cells::{Cells, Posted};

@@ -14,18 +14,3 @@ pub fn open_sum(ring: Ring, words: &[u64]) -> u64
 {
     ring.sum(words)
 }
-
-#[cfg(test)]
-mod tests {
-    use super::*;
-    use std::test::Fail;
-
-    #[test]
-    fn summands_of_a_product(rt: HostRuntime) -> Result<(), Fail> {
-        let ring = Ring::new(8).ok_or("no ring")?;
-        assert_eq!(rt; open_sum(ring, &[9, 12, 14]), 35);
-        assert_eq!(rt; open_sum(ring, &[10, 20, 231]), 5);
-        assert_eq!(rt; open_sum(ring, &[]), 0);
-        Ok(())
-    }
-}

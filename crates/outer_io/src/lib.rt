@@ -21,6 +21,3 @@ pub use sink::{Failed, Sink, write_pieces};
 pub use std_files::StdFiles;
 pub use std_sink::StdSink;
 pub use vec_sink::VecSink;
-
-#[cfg(test)]
-mod tests;

@@ -8,6 +8,3 @@ mod words;
 
 pub use fault::WordsFault;
 pub use words::read_words;
-
-#[cfg(test)]
-mod tests;

@@ -6,6 +6,3 @@ mod plan_fault;
 
 pub use part_fault::{PartFault, check_counts};
 pub use plan_fault::PlanFault;
-
-#[cfg(test)]
-mod tests;

@@ -3,8 +3,6 @@
 
 mod duty;
 mod pairs;
-#[cfg(test)]
-mod tests;
 
 pub use duty::{Duty, each_pair_has_one_duty, structure_gives_a_scheme};
 pub use pairs::Pairs;

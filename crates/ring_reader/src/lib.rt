@@ -16,6 +16,3 @@ pub fn read(alloc: Global, bytes: &[u8], ring: Ring) -> Result<Circuit, CircuitF
 {
     circuit_file::read(alloc, bytes, CircuitLayout::Ring, ring)
 }
-
-#[cfg(test)]
-mod tests;

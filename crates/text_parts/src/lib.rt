@@ -8,6 +8,3 @@ mod refusal;
 pub use gathered::{gather_group, gather_number, gather_word};
 pub use parts::{push_group, push_number, push_text};
 pub use refusal::{push_head, push_number_key, push_signed_key, push_text_key};
-
-#[cfg(test)]
-mod tests;

@@ -8,6 +8,3 @@ mod tokens;
 
 pub use numbers::{is_digits, number};
 pub use tokens::{Tokens, is_blank};
-
-#[cfg(test)]
-mod tests;

@@ -12,6 +12,3 @@ pub use fields::{fields_at, has_field, integer_at, is_misfit, items_at, text_at,
 pub use keys::least_unknown;
 pub use kind::Kind;
 pub use values::{fields_of, integer_of, items_of, text_of, texts_of};
-
-#[cfg(test)]
-mod tests;

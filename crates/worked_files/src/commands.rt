@@ -1,0 +1,92 @@
+//! Words of commands.
+use command_words::{Command, read_command};
+use std::alloc::{AllocError, Global};
+use std::test::Fail;
+
+fn words_of(alloc: Global, texts: &[&str]) -> Result<Vec<String>, AllocError> {
+    let mut words = Vec::new(alloc);
+    for text in texts {
+        words.push(String::from_str(alloc, text)?)?;
+    }
+    Ok(words)
+}
+
+fn is_refused(alloc: Global, texts: &[&str]) -> Result<bool, AllocError> {
+    let words = words_of(alloc, texts)?;
+    Ok(read_command(&words).is_err())
+}
+
+#[test]
+fn run_and_check_take_a_folder(rt: HostRuntime) -> Result<(), Fail> {
+    let words = words_of(rt.alloc(), &["mpc", "run", "jobs/first"])?;
+    match read_command(&words) {
+        Ok(Command::Run { dir, workers }) => {
+            assert_eq!(rt; dir, "jobs/first");
+            assert_eq!(rt; workers, 1);
+        }
+        _ => return Err(Fail::from("another command")),
+    }
+    let words = words_of(rt.alloc(), &["", "check", "a b"])?;
+    match read_command(&words) {
+        Ok(Command::Check { dir }) => assert_eq!(rt; dir, "a b"),
+        _ => return Err(Fail::from("another command")),
+    }
+    Ok(())
+}
+
+fn workers_of(alloc: Global, count: &str) -> Result<u32, AllocError> {
+    let words = words_of(alloc, &["mpc", "run", "d", "--workers", count])?;
+    match read_command(&words) {
+        Ok(Command::Run { workers, .. }) => Ok(workers),
+        _ => Ok(0),
+    }
+}
+
+#[test]
+fn one_to_sixteen_workers_are_taken(rt: HostRuntime) -> Result<(), Fail> {
+    let alloc = rt.alloc();
+    assert_eq!(rt; workers_of(alloc, "1")?, 1);
+    assert_eq!(rt; workers_of(alloc, "16")?, 16);
+    assert_eq!(rt; workers_of(alloc, "05")?, 5);
+    assert_eq!(rt; workers_of(alloc, "0000000000000000000000000000002")?, 2);
+    for count in [
+        "0",
+        "00",
+        "17",
+        "",
+        "-1",
+        "+2",
+        "2 ",
+        "x",
+        "18446744073709551617",
+    ] {
+        assert_eq!(rt; workers_of(alloc, count)?, 0, "{count}");
+    }
+    Ok(())
+}
+
+#[test]
+fn other_words_are_refused(rt: HostRuntime) -> Result<(), Fail> {
+    let alloc = rt.alloc();
+    assert!(rt; is_refused(alloc, &[])?);
+    assert!(rt; is_refused(alloc, &["mpc"])?);
+    assert!(rt; is_refused(alloc, &["mpc", "run"])?);
+    assert!(rt; is_refused(alloc, &["mpc", "run", ""])?);
+    assert!(rt; is_refused(alloc, &["mpc", "run", "-x"])?);
+    assert!(rt; is_refused(alloc, &["mpc", "Run", "x"])?);
+    assert!(rt; is_refused(alloc, &["mpc", "--help", "x"])?);
+    assert!(rt; is_refused(alloc, &["mpc", "sample", "5"])?);
+    assert!(rt; is_refused(alloc, &["run", "x"])?);
+    assert!(rt; is_refused(alloc, &["mpc", "run", "x", "y"])?);
+    assert!(rt; is_refused(alloc, &["mpc", "run", "x", "--workers"])?);
+    assert!(rt; is_refused(alloc, &["mpc", "run", "x", "--worker", "2"])?);
+    assert!(rt; is_refused(alloc, &["mpc", "run", "--workers", "2", "x"])?);
+    assert!(rt;
+        is_refused(
+            alloc,
+            &["mpc", "run", "x", "--workers", "2", "--workers", "2"]
+        )?
+    );
+    assert!(rt; is_refused(alloc, &["mpc", "check", "x", "--workers", "2"])?);
+    Ok(())
+}
