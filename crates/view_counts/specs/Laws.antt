@@ -77,7 +77,8 @@ TapesAreChoices w group =
 abbrev pub ChoicesAreMany : Plan → ℕ → List (List ℕ) → Type 0
 ChoicesAreMany plan group own =
     length (choices plan group own)
-    ≡ (2 ^ plan.bits) ^ total plan.parties (λ p. if has_party group p then 0 else tape_length plan p)
+    ≡ (2 ^ plan.bits)
+    ^ total plan.parties (λ p. if has_party group p then 0 else tape_length plan p)
 
 -- no two choices are the same
 abbrev pub ChoicesDiffer : World → ℕ → Type 0
