@@ -168,13 +168,16 @@ module _ (w : World) (other : List (List (List ℕ))) (group : ℕ) (h : CanMove
         (λ stranger. own_moved w other second.tapes group s t p first_is second_is lg others),
       )
 
+  -- what party p deals of a value at gate t
+  abbrev deals : World → ℕ → ℕ → ℕ → ℕ → ℕ → ℕ
+  deals u s t p v = dealt (scheme w.plan) v (tape_word u s (length (owners (session w.plan s)) + t) p)
+
   pub others_stay : (s t v i : ℕ) → s < length w.plan.sessions → i < m → i ≢ g → summands (run_of second s) t v i ≡ summands (run_of w s) t v i
   others_stay s t v i ls li ne =
-      let k : ℕ → ℕ = λ t. length (owners (session w.plan s)) + t in
       runs_agree (run_of w s) (first_summands second s) (run_of second s).product (λ i. i ≢ g)
       (λ v i li ne. starts_alike s v i ls li ne)
       (λ t others product i li ne.
-      product_agrees (scheme w.plan) (λ p v. dealt (scheme w.plan) v (tape_word w s (k t) p)) (λ p v. dealt (scheme w.plan) v (tape_word second s (k t) p)) _ _ _ _ i
+      product_agrees (scheme w.plan) (deals w s t) (deals second s t) _ _ _ _ i
       (λ p lp pair. gate_alike_from s t p i others ls lp product pair li (inl ne)))
       t v i li ne
 

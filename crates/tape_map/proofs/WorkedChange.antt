@@ -14,7 +14,10 @@ use Rattle.share_world.specs.Multiply.{multiply_world}
 use Rattle.share_world.specs.Worlds.{input_of, plain}
 use Rattle.share_world.proofs.WorkedProduct.{whole_is}
 use Rattle.tape_map.specs.TapeMaps.{with_inputs}
-use Rattle.tape_map.specs.Multiply.{given_by, CanHideFromA, HiddenFromA, SecondPlain, CanHideFromC, HiddenFromC, SeenByBoth}
+use Rattle.tape_map.specs.Multiply.{given_by, HiddenFromNobody, CanHideFromA, HiddenFromA, SecondPlain, CanHideFromC, HiddenFromC, SeenByBoth}
+
+pub hidden_from_nobody : HiddenFromNobody
+hidden_from_nobody = refl
 
 pub hidden_from_a : HiddenFromA
 hidden_from_a = refl

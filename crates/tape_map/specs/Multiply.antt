@@ -1,13 +1,18 @@
 -- The change of tapes in the worked job of one product.
 use Rattle.std.specs.Prelude.{◌≡◌, ◌≢◌, List, ℕ, [], ◌∷◌}
+use Rattle.job_plan.specs.Multiply.{multiply_plan}
 use Rattle.share_world.specs.Worlds.{plain, view}
 use Rattle.share_world.specs.Multiply.{multiply_world}
-use Rattle.tape_map.specs.TapeMaps.{with_inputs, with_tapes, changed_tapes, second_world}
+use Rattle.tape_map.specs.TapeMaps.{hidden, with_inputs, with_tapes, changed_tapes, second_world}
 use Rattle.tape_map.specs.Laws.{CanHide}
 
 -- the inputs of a and b; c gives none
 abbrev pub given_by : ℕ → ℕ → List (List (List ℕ))
 given_by a b = ((a ∷ []) ∷ []) ∷ ((b ∷ []) ∷ []) ∷ ([] ∷ []) ∷ []
+
+-- nobody is part of each group: the first one's summand is hidden
+abbrev pub HiddenFromNobody : Type 0
+HiddenFromNobody = hidden (multiply_plan 8) 0 ≡ 0
 
 -- from a, who gives 5 and reads nothing, it can be hidden that b gives 9 in place of 7
 abbrev pub CanHideFromA : Type 0

@@ -14,7 +14,7 @@ ghost use Rattle.tape_map.specs.Laws.{IsFirstLacked, MembersStay, OthersStay, Wo
 ghost use Rattle.tape_map.specs.Laws.{SummandsMove, ValuesMove, InputsChange, SecondIsWhole};
 ghost use Rattle.tape_map.specs.Laws.{AgreesBack, DeltaIsPlain};
 ghost use Rattle.tape_map.specs.Multiply.{CanHideFromA, HiddenFromA, SecondPlain, CanHideFromC};
-ghost use Rattle.tape_map.specs.Multiply.{HiddenFromC, SeenByBoth};
+ghost use Rattle.tape_map.specs.Multiply.{HiddenFromNobody, HiddenFromC, SeenByBoth};
 
 /// In the second world a tolerated group sees what it saw: each message that a member sends or
 /// receives has the word that it had, and each output that a member reads is what it was.
@@ -89,6 +89,7 @@ pub fn delta_is_plain()
 /// The worked job of one product: other inputs can be hidden from a and from c, by these tapes, and
 /// not from both together, whatever the tapes.
 pub fn multiply_job()
+    ensures hidden_from_nobody { HiddenFromNobody }
     ensures can_hide_from_a { CanHideFromA }
     ensures hidden_from_a { HiddenFromA }
     ensures second_plain { SecondPlain }

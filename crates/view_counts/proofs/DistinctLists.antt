@@ -76,7 +76,8 @@ distinct_append (x ∷ xs) ys h k apart = (
   distinct_append xs ys h.1 k (λ z left. apart z (contains_there x xs z left)),
 )
 
-pub distinct_map : {A B : Type 0} (f : A → B) (xs : List A) → Distinct xs → ((a b : A) → Contains xs a → Contains xs b → f a ≡ f b → a ≡ b) → Distinct (map f xs)
+pub distinct_map : {A B : Type 0} (f : A → B) (xs : List A) → Distinct xs
+    → ((a b : A) → Contains xs a → Contains xs b → f a ≡ f b → a ≡ b) → Distinct (map f xs)
 distinct_map f [] h one = tt
 distinct_map f (x ∷ xs) h one = (
   (λ twice.
@@ -110,7 +111,8 @@ permutes {A} (x ∷ xs) ys h inside short =
     ]) (omega arith) in
     IsPermutation-trans (x ∷ xs) (x ∷ left) ys (IsPermutation-cons x xs left rest) (IsPermutation-sym ys (x ∷ left) out)
 
-sum_by_map : {A B : Type 0} (f : B → ℕ) (g : A → ℕ) (h : A → B) (xs : List A) → ((z : A) → Contains xs z → f (h z) ≡ g z) → sum_by f (map h xs) ≡ sum_by g xs
+sum_by_map : {A B : Type 0} (f : B → ℕ) (g : A → ℕ) (h : A → B) (xs : List A) → ((z : A) → Contains xs z → f (h z) ≡ g z)
+    → sum_by f (map h xs) ≡ sum_by g xs
 sum_by_map f g h [] same = refl
 sum_by_map f g h (x ∷ xs) same =
     sum_by-cons f (h x) (map h xs)

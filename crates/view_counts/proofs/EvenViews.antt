@@ -54,7 +54,8 @@ module _ (w : World) (other : List (List (List ℕ))) (group : ℕ) (h : CanMove
 
 pub is_private : (w : World) (other : List (List (List ℕ))) (group : ℕ) → CanHide w other group → IsPrivate w other group
 is_private w other group h =
-    counts_stay w other group (can_move w other group h) (λ tapes. view (with_tapes w tapes) group) (λ tapes. view (with_tapes (with_inputs w other) tapes) group)
+    counts_stay w other group (can_move w other group h)
+    (λ tapes. view (with_tapes w tapes) group) (λ tapes. view (with_tapes (with_inputs w other) tapes) group)
     (λ tapes choice. same_view (with_tapes w tapes) other group (record {
       whole = record { sound = h.whole.sound; inputs = h.whole.inputs; tapes = choice.are };
       others = h.others;

@@ -1,8 +1,12 @@
 -- All lists that take one item of each of some lists: which they are, and that each comes once.
-use Rattle.std.proofs.Common.{◌≡◌, ℕ, zero, suc, ◌<◌, List, [], ◌∷◌, length, refl, sym, ap, ◌∙◌, subst, arith}
+use Rattle.std.proofs.Common.{◌≡◌, ℕ, zero, suc, ◌*◌, ◌^◌, ◌<◌, List, [], ◌∷◌, ◌++◌, length, refl, sym, ap, ap₂, ◌∙◌, subst, arith}
 use Rattle.std.specs.Prelude.{slice_index_or, map}
 use Rattle.std.specs.List.{AllByRecursion, AllZip, Contains, flat_map}
+use Rattle.std.proofs.lemmas.List.{length-append, length-map}
+use Rattle.std.proofs.lemmas.Nat.{pow-add}
+use Rattle.std.proofs.Math.Nat.{pow-zero}
 use mathlib.Core.Logic.{inl, inr}
+use Rattle.list_laws.specs.Lists.{total, listed}
 use Rattle.view_counts.specs.Counts.{picks}
 use Rattle.view_counts.proofs.DistinctLists.{Distinct, contains_here, contains_none, contains_cases, contains_map, map_contains, contains_flat, flat_contains, distinct_one, distinct_append, distinct_map}
 
@@ -63,3 +67,32 @@ distinct_flat {A} ps (x ∷ xs) h k =
 pub distinct_picks : {A : Type 0} (xss : List (List A)) → AllByRecursion Distinct xss → Distinct (picks xss)
 distinct_picks [] h = distinct_one []
 distinct_picks (xs ∷ rest) h = distinct_flat (picks rest) xs (distinct_picks rest h.1) h.0
+
+-- ---- how many there are
+
+-- each item of the first list stands before each pick of the rest
+flat_long : {A : Type 0} (ps : List (List A)) (xs : List A) → length (flat_map (λ x. map (λ ys. x ∷ ys) ps) xs) ≡ length xs * length ps
+flat_long ps [] = omega arith
+flat_long {A} ps (x ∷ xs) =
+    let f : A → List (List A) = λ x. map (λ ys. x ∷ ys) ps in
+    let here : length (f x) ≡ length ps = length-map ps (λ (ys : List A). x ∷ ys) in
+    length-append (f x) (flat_map f xs) ∙ omega (arith, here, flat_long ps xs)
+
+pub picks_long : {A : Type 0} (xs : List A) (rest : List (List A)) → length (picks (xs ∷ rest)) ≡ length xs * length (picks rest)
+picks_long xs rest = flat_long (picks rest) xs
+
+picks_append : {A : Type 0} (xss : List (List A)) (ys : List A) → length (picks (xss ++ ys ∷ [])) ≡ length (picks xss) * length ys
+picks_append [] ys = picks_long ys [] ∙ omega arith
+picks_append (xs ∷ rest) ys =
+    let more = picks_append rest ys in
+    picks_long xs (rest ++ ys ∷ [])
+    ∙ ap (λ z. length xs * z) more
+    ∙ omega arith
+    ∙ ap (λ z. z * length ys) (sym (picks_long xs rest))
+
+-- of n lists, where list i has q to the power e i items
+pub powers_long : {A : Type 0} (q : ℕ) (e : ℕ → ℕ) (f : ℕ → List A) → ((i : ℕ) → length (f i) ≡ q ^ e i) → (n : ℕ)
+    → length (picks (listed n f)) ≡ q ^ total n e
+powers_long q e f each zero = sym (pow-zero q)
+powers_long q e f each (suc n) =
+    picks_append (listed n f) (f n) ∙ ap₂ (λ a b. a * b) (powers_long q e f each n) (each n) ∙ sym (pow-add q (total n e) (e n))

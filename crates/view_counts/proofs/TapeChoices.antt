@@ -1,22 +1,24 @@
 -- The choices are all tapes of the plan that leave the members' own, each once.
-use Rattle.std.proofs.Common.{◌≡◌, ℕ, zero, suc, ◌^◌, ◌<◌, true, List, [], ◌∷◌, length, refl, sym, ap, ◌∙◌, subst, arith}
+use Rattle.std.proofs.Common.{◌≡◌, ℕ, zero, suc, ◌*◌, ◌^◌, ◌<◌, true, if◌then◌else◌, List, [], ◌∷◌, length, refl, sym, ap, ap₂, ◌∙◌, subst, arith}
 use Rattle.std.specs.Prelude.{slice_index, slice_index_or, replicate}
 use Rattle.std.specs.List.{AllByRecursion, AllZip, Contains}
 use Rattle.std.proofs.lemmas.Bool.{cases_lt, cases_Bool, cond-true, cond-false, both_ways}
 use Rattle.std.proofs.lemmas.Nat.{pow_pos}
+use Rattle.std.proofs.Math.Nat.{pow-zero, pow-suc}
 use Rattle.std.proofs.lemmas.List.{get_or_past}
 use mathlib.Core.Logic.{inl, inr}
 use Rattle.list_laws.specs.Lists.{listed}
 use Rattle.list_laws.proofs.JoinedLists.{length-listed, listed_at, every_listed}
 use Rattle.party_set.specs.Parties.{has_party}
+use Rattle.job_plan.specs.Plans.{Plan}
 use Rattle.job_plan.specs.Tallies.{tape_length}
 use Rattle.share_world.specs.Worlds.{World}
 use Rattle.share_world.specs.Laws.{IsWhole}
 use Rattle.tape_map.specs.TapeMaps.{tape_of}
 use Rattle.view_counts.specs.Counts.{all_words, tapes_for, choices}
-use Rattle.view_counts.specs.Laws.{ChoicesAreTapes, TapesAreChoices, ChoicesDiffer}
+use Rattle.view_counts.specs.Laws.{ChoicesAreTapes, TapesAreChoices, ChoicesDiffer, ChoicesAreMany}
 use Rattle.view_counts.proofs.DistinctLists.{Distinct, contains_here, contains_none, contains_cases, distinct_one, distinct_append, pairs_differ}
-use Rattle.view_counts.proofs.PickedLists.{zip_length, zip_at, zip_from, contains_picks, picks_contain, distinct_picks}
+use Rattle.view_counts.proofs.PickedLists.{zip_length, zip_at, zip_from, contains_picks, picks_contain, distinct_picks, picks_long, powers_long}
 
 -- ---- the numbers below n, and lists of them
 
@@ -167,3 +169,31 @@ module _ (w : World) (group : ℕ) where
 
   pub choices_differ : ChoicesDiffer w group
   choices_differ = pairs_differ (choices w.plan group w.tapes) distinct_choices
+
+-- ---- how many there are
+
+words_long : (q n : ℕ) → length (all_words q n) ≡ q ^ n
+words_long q zero = sym (pow-zero q)
+words_long q (suc n) =
+    picks_long (numbers q) (parts q n)
+    ∙ ap₂ (λ a b. a * b) (length-listed q (λ i. i)) (words_long q n)
+    ∙ omega (arith, pow-suc q n)
+
+pub choices_are_many : (plan : Plan) (group : ℕ) (own : List (List ℕ)) → ChoicesAreMany plan group own
+choices_are_many plan group own = powers_long (2 ^ plan.bits) free (tapes_for plan group own) each plan.parties
+  where
+    free : ℕ → ℕ
+    free p = if has_party group p then 0 else tape_length plan p
+
+    own_long : (p : ℕ) → length (slice_index_or own p [] ∷ []) ≡ (2 ^ plan.bits) ^ 0
+    own_long p = sym (pow-zero (2 ^ plan.bits))
+
+    each : (p : ℕ) → length (tapes_for plan group own p) ≡ (2 ^ plan.bits) ^ free p
+    each p = elim (cases_Bool (has_party group p)) [
+      | inl yes' ↦ ap (λ (z : List (List ℕ)). length z) (cond-true (has_party group p) (slice_index_or own p [] ∷ []) _ yes')
+          ∙ own_long p
+          ∙ sym (ap (λ e. (2 ^ plan.bits) ^ e) (cond-true (has_party group p) 0 (tape_length plan p) yes'))
+      | inr no' ↦ ap (λ (z : List (List ℕ)). length z) (cond-false (has_party group p) (slice_index_or own p [] ∷ []) _ no')
+          ∙ words_long (2 ^ plan.bits) (tape_length plan p)
+          ∙ sym (ap (λ e. (2 ^ plan.bits) ^ e) (cond-false (has_party group p) 0 (tape_length plan p) no'))
+    ]

@@ -1,12 +1,14 @@
 -- The laws of counting.
-use Rattle.std.specs.Prelude.{◌≡◌, ◌≢◌, ℕ, ◌<◌, Bool, true, List, [], slice_index_or}
+use Rattle.std.specs.Prelude.{◌≡◌, ◌≢◌, ℕ, ◌^◌, ◌<◌, Bool, true, if◌then◌else◌, List, [], length, slice_index_or}
 use Rattle.std.specs.Bool.{Decides}
 use Rattle.std.specs.List.{AllPairs, Contains}
+use Rattle.list_laws.specs.Lists.{total}
 use Rattle.party_set.specs.Parties.{has_party}
 use Rattle.maximal_groups.specs.Families.{LiesWithin}
 use Rattle.job_plan.specs.declared.key.Key.{Key}
 use Rattle.job_plan.specs.InputWords.{AreInputs}
-use Rattle.job_plan.specs.Plans.{structure}
+use Rattle.job_plan.specs.Plans.{Plan, structure}
+use Rattle.job_plan.specs.Tallies.{tape_length}
 use Rattle.share_world.specs.Worlds.{World}
 use Rattle.share_world.specs.Laws.{IsWhole, AreTapes}
 use Rattle.tape_map.specs.TapeMaps.{with_inputs, with_tapes, tape_of}
@@ -70,6 +72,13 @@ ChoicesAreTapes w group =
 abbrev pub TapesAreChoices : World → ℕ → Type 0
 TapesAreChoices w group =
     (tapes : List (List ℕ)) → IsChoice w group tapes → Contains (choices w.plan group w.tapes) tapes
+
+-- there are as many as there are ways to fill all words that the others draw
+abbrev pub ChoicesAreMany : Plan → ℕ → List (List ℕ) → Type 0
+ChoicesAreMany plan group own =
+    length (choices plan group own)
+    ≡ (2 ^ plan.bits)
+    ^ total plan.parties (λ p. if has_party group p then 0 else tape_length plan p)
 
 -- no two choices are the same
 abbrev pub ChoicesDiffer : World → ℕ → Type 0

@@ -4,13 +4,14 @@
 
 ghost use Rattle.std.specs.Prelude.{ℕ, List};
 ghost use Rattle.maximal_groups.specs.Families.{LiesWithin};
-ghost use Rattle.job_plan.specs.Plans.{structure};
+ghost use Rattle.job_plan.specs.Plans.{Plan, structure};
 ghost use Rattle.share_world.specs.Worlds.{World};
 ghost use Rattle.share_world.specs.Laws.{IsWhole};
 ghost use Rattle.tape_map.specs.Laws.{CanHide};
 ghost use Rattle.view_counts.specs.Laws.{IsPrivate, ViewsAreEven, TestIsEqual};
 ghost use Rattle.view_counts.specs.Laws.{IsSimulated, CanCompare, KnownDecides};
 ghost use Rattle.view_counts.specs.Laws.{ChoicesAreTapes, TapesAreChoices, ChoicesDiffer};
+ghost use Rattle.view_counts.specs.Laws.{ChoicesAreMany};
 ghost use Rattle.view_counts.specs.Multiply.{ChoicesForA, WaysForA, WaysForC, WaysForBoth};
 ghost use Rattle.view_counts.specs.Multiply.{KnownToA, KnownToC};
 
@@ -35,11 +36,13 @@ pub fn views_are_even()
     ensures equal { TestIsEqual }
 {}
 
-/// The choices are just the tapes of the plan that leave the members' own, each of them once.
+/// The choices are just the tapes of the plan that leave the members' own, each of them once. There
+/// are as many as there are ways to fill all words that the others draw.
 pub fn choices_are_all()
     ensures within { (w : World) (group : ℕ) → IsWhole w → ChoicesAreTapes w group }
     ensures found { (w : World) (group : ℕ) → TapesAreChoices w group }
     ensures differ { (w : World) (group : ℕ) → ChoicesDiffer w group }
+    ensures many { (plan : Plan) (group : ℕ) (own : List (List ℕ)) → ChoicesAreMany plan group own }
 {}
 
 /// The worked job of one product, in the ring of one bit, by computation.

@@ -1,5 +1,8 @@
-use Rattle.tape_map.proofs.WorkedChange.{can_hide_from_a, hidden_from_a, second_plain, can_hide_from_c, hidden_from_c, seen_by_both}
+use Rattle.tape_map.proofs.WorkedChange.{hidden_from_nobody, can_hide_from_a, hidden_from_a, second_plain, can_hide_from_c, hidden_from_c, seen_by_both}
 use Rattle.tape_map.proofs.multiply_job.Goals as goal
+
+pub returns-clause-hidden_from_nobody : goal.returns-clause-hidden_from_nobody
+returns-clause-hidden_from_nobody c = hidden_from_nobody
 
 pub returns-clause-can_hide_from_a : goal.returns-clause-can_hide_from_a
 returns-clause-can_hide_from_a c = can_hide_from_a

@@ -1,4 +1,4 @@
-use Rattle.view_counts.proofs.TapeChoices.{choices_are_tapes, tapes_are_choices, choices_differ}
+use Rattle.view_counts.proofs.TapeChoices.{choices_are_tapes, tapes_are_choices, choices_differ, choices_are_many}
 use Rattle.view_counts.proofs.choices_are_all.Goals as goal
 
 pub returns-clause-within : goal.returns-clause-within
@@ -9,3 +9,6 @@ returns-clause-found c = tapes_are_choices
 
 pub returns-clause-differ : goal.returns-clause-differ
 returns-clause-differ c = choices_differ
+
+pub returns-clause-many : goal.returns-clause-many
+returns-clause-many c = choices_are_many
