@@ -119,6 +119,7 @@ impl Circuit {
         self.output_wires
     }
 
+    /// Gate i, counted from 0 in the order of the file.
     pub fn gate(&self, i: u32) -> Gate
         requires { i < length self.now.gates }
         ensures { result ≡ gate self.now i }

@@ -28,6 +28,7 @@ impl<'a> Model for Line<'a> {
 }
 
 impl<'a> Line<'a> {
+    /// The number of the line in its text, counted from 1; blank lines count.
     pub fn number(&self) -> u64
         ensures { result ≡ self.now.number }
     {

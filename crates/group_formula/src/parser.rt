@@ -62,6 +62,7 @@ impl Model for Parser {
 }
 
 impl Parser {
+    /// A parser that has seen no token.
     pub fn new(alloc: Global) -> Parser
         ensures { result ≡ kept_of start }
     {

@@ -22,6 +22,7 @@ pub fn check(failed: bool, fault: JobFault) -> Result<(), JobFault>
     if failed { Err(fault) } else { Ok(()) }
 }
 
+/// Whether the table has the field.
 pub fn is_there(table: &Table, field: Field) -> bool
     ensures { result ≡ is_there field (table_view table.now) }
 {

@@ -68,6 +68,7 @@ impl JobFault {
         }
     }
 
+    /// The session at fault, counted from 0, where the fault is of one.
     pub fn session(&self) -> Option<u32>
         ensures { result ≡ session_key self.now }
     {
@@ -150,6 +151,7 @@ impl JobFault {
         }
     }
 
+    /// The ring bits that were asked for, where they are at fault.
     pub fn bits(&self) -> Option<i64>
         ensures { result ≡ bits_key self.now }
     {
@@ -159,6 +161,7 @@ impl JobFault {
         }
     }
 
+    /// The port, where it is at fault.
     pub fn port(&self) -> Option<i64>
         ensures { result ≡ port_key self.now }
     {

@@ -24,6 +24,7 @@ use toml_fields::{integer_at, items_at, text_of, texts_at};
 /// How many tolerated groups a file may list.
 const MOST_TOLERATED: usize = 4096;
 
+/// Checks the version: missing, no integer, or neither 1 nor 2.
 #[tactic(auto, unfolding(crate::specs::Faults::version_fault))]
 pub fn check_version(table: &Table) -> Result<(), JobFault>
     ensures { TellsFault result (version_fault (table_view table.now)) }
@@ -33,6 +34,7 @@ pub fn check_version(table: &Table) -> Result<(), JobFault>
     check(found < 1 || found > 2, JobFault::Version { found })
 }
 
+/// Checks that the fields of the version are there and of their kinds, and no others.
 #[tactic(auto, unfolding(crate::specs::Faults::fields_fault))]
 pub fn check_fields(table: &Table, node: bool) -> Result<(), JobFault>
     ensures { TellsFault result (fields_fault node (table_view table.now)) }
@@ -45,6 +47,7 @@ pub fn check_fields(table: &Table, node: bool) -> Result<(), JobFault>
     check_required(table, None, Field::Session)
 }
 
+/// Checks the number of ring bits.
 #[tactic(auto, unfolding(crate::specs::Faults::ring_fault))]
 pub fn check_ring(table: &Table) -> Result<(), JobFault>
     ensures { TellsFault result (ring_fault (table_view table.now)) }
@@ -159,6 +162,7 @@ fn bad_host(hosts: &[Value]) -> Option<usize>
     hosts.iter().position(|host| !is_host(text_of(host)))
 }
 
+/// Checks the port, where one is told.
 #[tactic(auto, unfolding(crate::specs::Faults::port_fault))]
 pub fn check_port(table: &Table) -> Result<(), JobFault>
     ensures { TellsFault result (port_fault (table_view table.now)) }

@@ -93,6 +93,7 @@ impl Plan {
         })
     }
 
+    /// The ring of all values.
     pub fn ring(&self) -> Ring
         ensures is { result ≡ self.now.bits }
         ensures sound { IsSound self.now }
@@ -100,6 +101,7 @@ impl Plan {
         self.outline.ring()
     }
 
+    /// How many parties there are, 1 to 12.
     pub fn parties(&self) -> u32
         ensures is { result ≡ self.now.parties }
         ensures sound { IsSound self.now }
@@ -115,12 +117,14 @@ impl Plan {
         self.outline.shares()
     }
 
+    /// How many sessions there are, at most 16.
     pub fn sessions(&self) -> u32
         ensures { result ≡ length self.now.sessions }
     {
         self.outline.sessions()
     }
 
+    /// Session s.
     pub fn part(&self, s: u32) -> &SessionPart
         requires { s < length self.now.sessions }
         ensures { result.now ≡ session self.now s }
@@ -144,12 +148,14 @@ impl Plan {
         self.part(s).rows()
     }
 
+    /// Who holds which summand.
     pub fn layout(&self) -> &Layout
         ensures { result.now ≡ structure self.now }
     {
         self.outline.layout()
     }
 
+    /// Who multiplies which pair of summands.
     pub fn duty(&self) -> &Duty
         ensures { result.now ≡ structure self.now }
     {

@@ -20,12 +20,14 @@ impl Model for Starts {
 }
 
 impl Starts {
+    /// These starts.
     pub fn of(list: Vec<u32>) -> Starts
         ensures { result ≡ list.items }
     {
         Starts { list }
     }
 
+    /// Where part k begins.
     pub fn at(&self, k: u32) -> u32
         requires { k < length self.now }
         ensures { result ≡ slice_index self.now k }

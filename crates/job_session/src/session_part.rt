@@ -71,6 +71,7 @@ impl SessionPart {
         Ok(SessionPart { wiring, rows })
     }
 
+    /// Gate t, counted from 0 in the order of the circuit.
     pub fn gate(&self, t: u32) -> Gate
         requires { t < length self.now.gates }
         ensures { result ≡ gate self.now t }
@@ -92,6 +93,7 @@ impl SessionPart {
         self.wiring.products
     }
 
+    /// How many wires there are.
     pub fn wires(&self) -> u32
         ensures { result ≡ self.now.wires }
     {

@@ -27,12 +27,14 @@ impl Model for NameText {
 }
 
 impl NameText {
+    /// This text.
     pub fn of(text: String) -> NameText
         ensures { result ≡ string_bytes text }
     {
         NameText { text }
     }
 
+    /// The text.
     pub fn as_str(&self) -> &str
         ensures { result.now ≡ self.now }
     {

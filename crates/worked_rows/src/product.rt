@@ -1,14 +1,19 @@
 //! The files of the product of two words, of which the other jobs are changes.
 
+/// The job of one product.
 pub const JOB: &str =
     "version = 1\nring_bits = 8\nparties = [\"a\", \"b\", \"c\"]\nformula = \"2 of (a, b, c)\"\n[[session]]\ncircuit = \"mul.txt\"\nlayout = \"ring\"\nowners = [\"a\", \"b\"]\nreaders = [[\"c\"]]\n";
 
+/// Its circuit.
 pub const CIRCUIT: &str = "1 3\n2 1 1\n1 1\n2 1 0 1 2 MUL\n";
 
+/// The file of a, who gives 5.
 pub const PARTY_A: &str = "version = 1\ninputs = [\"5\"]\ntape = \"10 20 1 2\"\n";
 
+/// The file of b, who gives 7.
 pub const PARTY_B: &str = "version = 1\ninputs = [\"7\"]\ntape = \"30 40 3 4\"\n";
 
+/// The file of c, who reads the product.
 pub const PARTY_C: &str = "version = 1\ninputs = [\"\"]\ntape = \"5 6\"\n";
 
 /// The files by name.

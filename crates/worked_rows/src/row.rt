@@ -6,8 +6,10 @@ use std::alloc::{AllocError, Global};
 use std::collections::BTreeMap;
 use std::test::Fail;
 
+/// Words that run the job of folder d.
 pub const RUN: [&str; 3] = ["mpc", "run", "d"];
 
+/// Words that check it.
 pub const CHECK: [&str; 3] = ["mpc", "check", "d"];
 
 /// A change of the files of the product.
