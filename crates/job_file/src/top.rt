@@ -34,7 +34,7 @@ pub fn check_version(table: &Table) -> Result<(), JobFault>
     check(found < 1 || found > 2, JobFault::Version { found })
 }
 
-/// Checks that the fields of the version are there and of their kinds, and no others.
+/// Checks that each field that the version or a node needs is there, and of its kind.
 #[tactic(auto, unfolding(crate::specs::Faults::fields_fault))]
 pub fn check_fields(table: &Table, node: bool) -> Result<(), JobFault>
     ensures { TellsFault result (fields_fault node (table_view table.now)) }
@@ -47,7 +47,7 @@ pub fn check_fields(table: &Table, node: bool) -> Result<(), JobFault>
     check_required(table, None, Field::Session)
 }
 
-/// Checks the number of ring bits.
+/// Checks the number of ring bits, 1 to 32.
 #[tactic(auto, unfolding(crate::specs::Faults::ring_fault))]
 pub fn check_ring(table: &Table) -> Result<(), JobFault>
     ensures { TellsFault result (ring_fault (table_view table.now)) }
@@ -162,7 +162,7 @@ fn bad_host(hosts: &[Value]) -> Option<usize>
     hosts.iter().position(|host| !is_host(text_of(host)))
 }
 
-/// Checks the port, where one is told.
+/// Checks the port, where one is told: 1 to 65392.
 #[tactic(auto, unfolding(crate::specs::Faults::port_fault))]
 pub fn check_port(table: &Table) -> Result<(), JobFault>
     ensures { TellsFault result (port_fault (table_view table.now)) }
