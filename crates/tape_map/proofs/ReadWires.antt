@@ -48,7 +48,7 @@ at_end w sound s t v ls lt read =
     let count = length x.gates in
     let rest : t + (count - t) ≡ count = omega (arith, lt) in
     sym (subst (λ z. value_before w s z v ≡ value_before w s t v) rest
-    (settled w s t v (not_set x (sound.sessions s ls).order t v lt read) (count - t) (omega (arith, lt))))
+    (settled w s t v (not_set x (sound.sessions s ls).wired.order t v lt read) (count - t) (omega (arith, lt))))
 
 pub delta_is_plain : (w : World) (other : List (List (List ℕ))) → IsSound w.plan → DeltaIsPlain w other
 delta_is_plain w other sound s t v ls lt read =
