@@ -42,7 +42,7 @@ impl SessionPart {
     ghost use Rattle.job_session.specs.Sessions.{gate, session_slot, session_slots, owners, readers};
     ghost use Rattle.job_session.specs.Counts.{products, owned, outputs_read};
     ghost use Rattle.job_session.specs.KeptWires.{IsRows};
-    ghost use Rattle.job_session.specs.SoundSessions.{slot_of_kind, Inside, IsSoundSession, IsWired};
+    ghost use Rattle.job_session.specs.SoundSessions.{slot_of_kind, Inside, IsSoundSession};
 
     /// The session of a circuit, an owner for each of its input values, and a group of readers for each of its output
     /// values. It is refused where there are other than as many.
@@ -192,7 +192,7 @@ impl SessionPart {
 
     /// How many slots there are: one for each input wire, gate and output wire.
     pub fn slots(&self) -> u32
-        requires { IsWired self.now }
+        requires { (parties : ℕ) × IsSoundSession parties self.now }
         ensures { result ≡ session_slots self.now }
     {
         self.wiring.slots()
@@ -200,7 +200,7 @@ impl SessionPart {
 
     /// What slot `k` is of.
     pub fn slot_kind(&self, k: u32) -> SlotKind
-        requires wired { IsWired self.now }
+        requires sound { (parties : ℕ) × IsSoundSession parties self.now }
         requires within { k < session_slots self.now }
         ensures is { slot_of_kind result ≡ session_slot self.now k }
         ensures inside { Inside self.now (slot_of_kind result) }
