@@ -1,0 +1,85 @@
+-- The change of tapes that hides other inputs from a group: it makes a second world, in which the
+-- group sees what it saw.
+use Rattle.std.specs.Prelude.{ℕ, ◌+◌, ◌%◌, ◌^◌, nat_eq, if◌then◌else◌, List, [], length, slice_index_or}
+use Rattle.std.specs.List.{position_or_len}
+use Rattle.list_laws.specs.Lists.{joined, listed}
+use Rattle.mpc_ring.specs.Differences.{difference}
+use Rattle.secret_sharing.specs.Sharing.{own_product, summands}
+use Rattle.party_set.specs.Parties.{has_party, within}
+use Rattle.job_plan.specs.Plans.{Plan, Slot, scheme, session, gate, slot, slots, words_in}
+use Rattle.job_plan.specs.Plans.Slot.{Input, At_gate, Output}
+use Rattle.share_world.specs.Worlds.{World, input_of, tape_word, value_before, dealt_value, run_of}
+
+-- ---- the worlds of one plan
+
+-- this world, but with other inputs
+abbrev pub with_inputs : World → List (List (List ℕ)) → World
+with_inputs w other = record { plan = w.plan; inputs = other; tapes = w.tapes }
+
+-- this world, but with other tapes
+abbrev pub with_tapes : World → List (List ℕ) → World
+with_tapes w tapes = record { plan = w.plan; inputs = w.inputs; tapes = tapes }
+
+-- the tape of party p
+abbrev pub tape_of : World → ℕ → List ℕ
+tape_of w p = slice_index_or w.tapes p []
+
+-- by how much the value of wire v of session s before gate t grows with the other inputs
+abbrev pub delta : World → List (List (List ℕ)) → ℕ → ℕ → ℕ → ℕ
+delta w other s t v =
+    difference (2 ^ w.plan.bits) (value_before (with_inputs w other) s t v) (value_before w s t v)
+
+-- ---- what is to change
+
+-- the first maximal group that has all parties of this one: no member holds its summand
+abbrev pub hidden : Plan → ℕ → ℕ
+hidden plan group = position_or_len (within plan.parties group) plan.groups
+
+-- the numbers x, but with d more at place g, modulo q
+abbrev pub raised : ℕ → ℕ → ℕ → (ℕ → ℕ) → ℕ → ℕ
+raised q g d x i = if nat_eq i g then (x i + d) % q else x i
+
+-- the summands of wire v before gate t, where the hidden one grows as the value does
+abbrev pub moved_summands : World → List (List (List ℕ)) → ℕ → ℕ → ℕ → ℕ → ℕ → ℕ
+moved_summands w other group s t v =
+    raised (2 ^ w.plan.bits) (hidden w.plan group) (delta w other s t v) (summands (run_of w s) t v)
+
+-- what party p is to deal in a slot: its other input, or its own product of the moved summands
+abbrev pub moved_value : World → List (List (List ℕ)) → ℕ → ℕ → ℕ → Slot → ℕ
+moved_value w other group s p (Input v) = input_of (with_inputs w other) s v
+moved_value w other group s p (At_gate t) =
+    let moved = moved_summands w other group s t in
+    let wires = gate (session w.plan s) t in
+    own_product (scheme w.plan) p (moved wires.first) (moved wires.second)
+moved_value w other group s p (Output o) = 0
+
+-- ---- the change
+
+-- the words that party p draws in slot k of session s: a member's stay, and of any other party's
+-- the hidden one grows as the value that it deals there
+abbrev pub moved_words : World → List (List (List ℕ)) → ℕ → ℕ → ℕ → ℕ → ℕ → ℕ
+moved_words w other group s k p =
+    let q = 2 ^ w.plan.bits in
+    let kind = slot w.plan s k in
+    if has_party group p then tape_word w s k p
+    else raised q (hidden w.plan group)
+    (difference q (moved_value w other group s p kind) (dealt_value w s p kind)) (tape_word w s k p)
+
+-- party p's piece of tape for session s, changed, slot by slot
+abbrev pub piece_map : World → List (List (List ℕ)) → ℕ → ℕ → ℕ → List ℕ
+piece_map w other group p s =
+    joined (slots w.plan s) (λ k.
+    listed (words_in w.plan s p (slot w.plan s k)) (moved_words w other group s k p))
+
+-- party p's tape, changed, session by session
+abbrev pub tape_map : World → List (List (List ℕ)) → ℕ → ℕ → List ℕ
+tape_map w other group p = joined (length w.plan.sessions) (piece_map w other group p)
+
+-- the tapes of all parties, changed
+abbrev pub changed_tapes : World → List (List (List ℕ)) → ℕ → List (List ℕ)
+changed_tapes w other group = listed w.plan.parties (tape_map w other group)
+
+-- the world of the other inputs and the changed tapes
+abbrev pub second_world : World → List (List (List ℕ)) → ℕ → World
+second_world w other group =
+    record { plan = w.plan; inputs = other; tapes = changed_tapes w other group }
