@@ -1,24 +1,32 @@
 //! Commands, and the words that ask for them.
-ghost use Rattle.std.specs.Prelude.{◌≡◌, map, Some, None, IfOk, OnErr, string_bytes};
-ghost use Rattle.command_words.specs.Commands.{is_folder, worker_count, workers_of, command_of, form_of, HasWorkers};
+ghost use Rattle.std.specs.Prelude.{◌≡◌, map, Some, None, IfOk, IfSome, OnErr, [], ◌∷◌, option_map, string_bytes};
+ghost use Rattle.command_words.specs.Commands.{is_plain, worker_count, is_workers, is_view, run_by, run_seen, run_by_seen, run_of, command_of, form_of, HasWorkers};
 
 use text_tokens::number;
 
 /// What a command line asks for. The texts are those of its words.
 #[derive(Clone, Copy, Debug, PartialEq, Eq)]
 pub enum Command<'w> {
-    /// `run DIR [--workers W]`: runs the job of the folder by so many workers, 1 to 16.
-    Run { dir: &'w str, workers: u32 },
+    /// `run DIR [--workers W] [--view GROUP]`: runs the job of the folder by so many workers, 1 to 16, and tells what
+    /// the group sees, where one is given.
+    Run {
+        dir: &'w str,
+        workers: u32,
+        view: Option<&'w str>,
+    },
     /// `check DIR`: tells the structure of the job of the folder.
-    Check { dir: &'w str },
+    Check {
+        dir: &'w str,
+    },
 }
 
 /// The words ask for nothing that there is.
 #[derive(Clone, Copy, Debug, PartialEq, Eq)]
 pub struct Refused;
 
-fn is_folder(word: &str) -> bool
-    ensures { result ≡ is_folder word.now }
+/// Whether a word isn't empty and doesn't begin with `-`.
+fn is_plain(word: &str) -> bool
+    ensures { result ≡ is_plain word.now }
 {
     match word.as_bytes().first() {
         Some(first) => *first != b'-',
@@ -36,15 +44,137 @@ fn worker_count(word: &str) -> Option<u32>
     }
 }
 
-/// The number of workers that the words after the folder ask for.
-fn workers_of(options: &[String]) -> Option<u32>
-    ensures { result ≡ workers_of (map string_bytes options.now) }
+fn is_workers(word: &str) -> bool
+    ensures { result ≡ is_workers word.now }
 {
-    if options.is_empty() {
-        return Some(1);
+    word == "--workers"
+}
+
+fn is_view(word: &str) -> bool
+    ensures { result ≡ is_view word.now }
+{
+    word == "--view"
+}
+
+/// A run by as many workers as one word tells.
+fn run_by<'w>(dir: &'w str, count: &str) -> Option<Command<'w>>
+    ensures form { option_map form_of result ≡ run_by dir.now count.now }
+    ensures workers { IfSome result HasWorkers }
+{
+    let workers = worker_count(count)?;
+    Some(Command::Run {
+        dir,
+        workers,
+        view: None,
+    })
+}
+
+/// A run by one worker, and the view of a group.
+fn run_seen<'w>(dir: &'w str, group: &'w str) -> Option<Command<'w>>
+    ensures form { option_map form_of result ≡ run_seen dir.now group.now }
+    ensures workers { IfSome result HasWorkers }
+{
+    if !is_plain(group) {
+        return None;
     }
-    if options.len() == 2 && options[0].as_str() == "--workers" {
-        worker_count(options[1].as_str())
+    Some(Command::Run {
+        dir,
+        workers: 1,
+        view: Some(group),
+    })
+}
+
+/// A run by as many workers as one word tells, and the view of a group.
+fn run_by_seen<'w>(dir: &'w str, count: &str, group: &'w str) -> Option<Command<'w>>
+    ensures form { option_map form_of result ≡ run_by_seen dir.now count.now group.now }
+    ensures workers { IfSome result HasWorkers }
+{
+    if !is_plain(group) {
+        return None;
+    }
+    let workers = worker_count(count)?;
+    Some(Command::Run {
+        dir,
+        workers,
+        view: Some(group),
+    })
+}
+
+/// A run with one option.
+fn run_with<'w>(dir: &'w str, option: &str, word: &'w str) -> Option<Command<'w>>
+    ensures form { option_map form_of result ≡ run_of dir.now (option.now ∷ word.now ∷ []) }
+    ensures workers { IfSome result HasWorkers }
+{
+    if is_workers(option) {
+        run_by(dir, word)
+    } else if is_view(option) {
+        run_seen(dir, word)
+    } else {
+        None
+    }
+}
+
+/// A run with two options.
+fn run_with_both<'w>(
+    dir: &'w str,
+    option: &str,
+    word: &'w str,
+    other: &str,
+    last: &'w str,
+) -> Option<Command<'w>>
+    ensures form { option_map form_of result
+        ≡ run_of dir.now (option.now ∷ word.now ∷ other.now ∷ last.now ∷ []) }
+    ensures workers { IfSome result HasWorkers }
+{
+    if is_workers(option) && is_view(other) {
+        run_by_seen(dir, word, last)
+    } else if is_view(option) && is_workers(other) {
+        run_by_seen(dir, last, word)
+    } else {
+        None
+    }
+}
+
+/// A run of a folder, after which these words stand.
+fn run_of<'w>(dir: &'w str, options: &'w [String]) -> Option<Command<'w>>
+    ensures form { option_map form_of result ≡ run_of dir.now (map string_bytes options.now) }
+    ensures workers { IfSome result HasWorkers }
+{
+    match options.len() {
+        0 => Some(Command::Run {
+            dir,
+            workers: 1,
+            view: None,
+        }),
+        2 => run_with(dir, options[0].as_str(), options[1].as_str()),
+        4 => run_with_both(
+            dir,
+            options[0].as_str(),
+            options[1].as_str(),
+            options[2].as_str(),
+            options[3].as_str(),
+        ),
+        _ => None,
+    }
+}
+
+fn command_of(words: &[String]) -> Option<Command<'_>>
+    ensures form { option_map form_of result ≡ command_of (map string_bytes words.now) }
+    ensures workers { IfSome result HasWorkers }
+{
+    if words.len() < 3 {
+        return None;
+    }
+    let dir = words[2].as_str();
+    if !is_plain(dir) {
+        return None;
+    }
+    let verb = words[1].as_str();
+    let options = &words[3..];
+    if verb == "run" {
+        run_of(dir, options)
+    } else if verb == "check" && options.is_empty() {
+        Some(Command::Check { dir })
     } else {
         None
     }
@@ -54,30 +184,16 @@ fn workers_of(options: &[String]) -> Option<u32>
 ///
 /// # Errors
 ///
-/// `Refused` where the words, after the first, are none of the forms `run DIR`, `run DIR --workers W` and `check DIR`,
-/// where DIR isn't empty and doesn't begin with `-`, and W is one or more digits with a value from 1 to 16.
+/// `Refused` where the words, after the first, are none of the forms `run DIR [--workers W] [--view GROUP]` and
+/// `check DIR`. The two options stand in either order, each at most once. DIR and GROUP aren't empty and don't begin
+/// with `-`, and W is one or more digits with a value from 1 to 16.
 pub fn read_command(words: &[String]) -> Result<Command<'_>, Refused>
     ensures taken { IfOk result (λ command. command_of (map string_bytes words.now) ≡ Some (form_of command)) }
     ensures workers { IfOk result HasWorkers }
     ensures refused { OnErr result (command_of (map string_bytes words.now) ≡ None) }
 {
-    if words.len() < 3 {
-        return Err(Refused);
-    }
-    let dir = words[2].as_str();
-    if !is_folder(dir) {
-        return Err(Refused);
-    }
-    let verb = words[1].as_str();
-    let options = &words[3..];
-    if verb == "run" {
-        match workers_of(options) {
-            Some(workers) => Ok(Command::Run { dir, workers }),
-            None => Err(Refused),
-        }
-    } else if verb == "check" && options.is_empty() {
-        Ok(Command::Check { dir })
-    } else {
-        Err(Refused)
+    match command_of(words) {
+        Some(command) => Ok(command),
+        None => Err(Refused),
     }
 }

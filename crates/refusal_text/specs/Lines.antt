@@ -5,6 +5,8 @@ use Rattle.std.specs.Fmt.{signed_decimal}
 use Rattle.list_laws.specs.Lists.{listed}
 use Rattle.group_formula.specs.declared.fault.FormulaFault.{FormulaFault}
 use Rattle.group_formula.specs.declared.fault.FormulaFault.TheVariants as formula
+use Rattle.group_text.specs.declared.fault.GroupFault.{GroupFault}
+use Rattle.group_text.specs.declared.fault.GroupFault.TheVariants as group
 use Rattle.circuit_model.specs.declared.fault.CircuitFault.{CircuitFault}
 use Rattle.circuit_model.specs.FaultTexts as circuit
 use Rattle.plan_faults.specs.declared.plan_fault.PlanFault.{PlanFault}
@@ -49,6 +51,10 @@ formula_line (formula.BadCount at) = number_line (codes "formula") 3 (codes "Bad
 formula_line (formula.TooDeep at) = number_line (codes "formula") 4 (codes "TooDeep") (codes "at") at
 formula_line (formula.TooManyNodes at) = number_line (codes "formula") 5 (codes "TooManyNodes") (codes "at") at
 formula_line formula.Memory = []
+
+-- a text that names no group
+unfoldable pub group_line : GroupFault → List ℕ
+group_line (group.BadGroup at) = number_line (codes "group") 1 (codes "BadGroup") (codes "at") at
 
 -- more maximal tolerated groups than 64
 unfoldable pub groups_line : ℕ → List ℕ

@@ -16,4 +16,4 @@ pub use line::too_long_line;
 pub use party::party_line;
 pub use plan::plan_line;
 pub use session::session_line;
-pub use structure::{covering_line, formula_line, groups_line};
+pub use structure::{covering_line, formula_line, group_line, groups_line};

@@ -1,9 +1,10 @@
 //! Lines of formulas and of groups.
 ghost use Rattle.std.specs.Prelude.{◌≡◌, IfOk, length};
-ghost use Rattle.refusal_text.specs.Lines.{formula_line, groups_line, covering_line};
+ghost use Rattle.refusal_text.specs.Lines.{formula_line, group_line, groups_line, covering_line};
 
 use crate::line::number_line;
 use group_formula::FormulaFault;
+use group_text::GroupFault;
 use party_set::{Group, Names};
 use std::alloc::{AllocError, Global};
 use text_parts::{push_group, push_head, push_text, push_text_key};
@@ -34,6 +35,16 @@ pub fn formula_line(alloc: Global, fault: FormulaFault) -> Result<Vec<u8>, Alloc
             at,
         ),
         FormulaFault::Memory => Ok(Vec::new(alloc)),
+    }
+}
+
+/// The line of a text that names no group.
+#[tactic(auto, unfolding(crate::specs::Lines::group_line))]
+pub fn group_line(alloc: Global, fault: GroupFault) -> Result<Vec<u8>, AllocError>
+    ensures { IfOk result (λ line. line.items ≡ group_line fault) }
+{
+    match fault {
+        GroupFault::BadGroup { at } => number_line(alloc, "group", 1, "BadGroup", "at", at),
     }
 }
 

@@ -20,9 +20,10 @@ fn is_refused(alloc: Global, texts: &[&str]) -> Result<bool, AllocError> {
 fn run_and_check_take_a_folder(rt: HostRuntime) -> Result<(), Fail> {
     let words = words_of(rt.alloc(), &["mpc", "run", "jobs/first"])?;
     match read_command(&words) {
-        Ok(Command::Run { dir, workers }) => {
+        Ok(Command::Run { dir, workers, view }) => {
             assert_eq!(rt; dir, "jobs/first");
             assert_eq!(rt; workers, 1);
+            assert_eq!(rt; view, None);
         }
         _ => return Err(Fail::from("another command")),
     }
@@ -65,6 +66,36 @@ fn one_to_sixteen_workers_are_taken(rt: HostRuntime) -> Result<(), Fail> {
     Ok(())
 }
 
+/// That these words ask for a run by so many workers, and for a view.
+fn expect_view(rt: &HostRuntime, texts: &[&str], wanted: u32, group: &str) -> Result<(), Fail> {
+    let words = words_of(rt.alloc(), texts)?;
+    match read_command(&words) {
+        Ok(Command::Run { workers, view, .. }) => {
+            assert_eq!(rt; workers, wanted);
+            assert_eq!(rt; view, Some(group));
+        }
+        _ => return Err(Fail::from("another command")),
+    }
+    Ok(())
+}
+
+#[test]
+fn options_stand_in_either_order(rt: HostRuntime) -> Result<(), Fail> {
+    expect_view(&rt, &["mpc", "run", "d", "--view", "a+b"], 1, "a+b")?;
+    expect_view(
+        &rt,
+        &["mpc", "run", "d", "--workers", "3", "--view", "0"],
+        3,
+        "0",
+    )?;
+    expect_view(
+        &rt,
+        &["mpc", "run", "d", "--view", "c", "--workers", "16"],
+        16,
+        "c",
+    )
+}
+
 #[test]
 fn other_words_are_refused(rt: HostRuntime) -> Result<(), Fail> {
     let alloc = rt.alloc();
@@ -88,5 +119,17 @@ fn other_words_are_refused(rt: HostRuntime) -> Result<(), Fail> {
         )?
     );
     assert!(rt; is_refused(alloc, &["mpc", "check", "x", "--workers", "2"])?);
+    assert!(rt; is_refused(alloc, &["mpc", "check", "x", "--view", "a"])?);
+    assert!(rt; is_refused(alloc, &["mpc", "run", "x", "--view"])?);
+    assert!(rt; is_refused(alloc, &["mpc", "run", "x", "--view", ""])?);
+    assert!(rt; is_refused(alloc, &["mpc", "run", "x", "--view", "-a"])?);
+    assert!(rt; is_refused(alloc, &["mpc", "run", "x", "--view=a"])?);
+    assert!(rt; is_refused(alloc, &["mpc", "run", "x", "--view", "a", "--view", "b"])?);
+    assert!(rt;
+        is_refused(
+            alloc,
+            &["mpc", "run", "x", "--view", "a", "--workers", "17"]
+        )?
+    );
     Ok(())
 }

@@ -1,0 +1,2 @@
+mod NamedGroups
+mod SplitTexts

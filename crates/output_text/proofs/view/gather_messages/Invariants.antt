@@ -1,0 +1,12 @@
+use Rattle.std.proofs.Common.{◌≡◌}
+use Rattle.list_laws.specs.Lists.{joined}
+use Rattle.outer_io.specs.Gathering.{Adds}
+use Rattle.share_world.specs.Worlds.{World}
+use Rattle.desk_workers.specs.Runs.{IsOver}
+use Rattle.output_text.specs.Seen.{session_seen}
+use Rattle.output_text.proofs.view.gather_messages.Given as goal
+
+abbrev pub invariant-loop-s : goal.invariant-loop-s
+invariant-loop-s g l =
+    (w : World) → w.plan ≡ l.plan → IsOver w l.done
+    → Adds (joined l.s (session_seen l.names w l.group.mask)) (g.G.Gather.gathered l.fn.out) (g.G.Gather.gathered l.out)

@@ -1,0 +1,42 @@
+-- The text of what a group sees of a run, and of a run after which it is told.
+use Rattle.std.specs.Prelude.{ℕ, List, [], ◌∷◌, ◌++◌, slice_index_or, Option, None, Some, codes, decimal}
+use Rattle.std.specs.List.{flat_map}
+use Rattle.party_set.specs.Parties.{Members}
+use Rattle.job_plan.specs.declared.key.Key.{Key}
+use Rattle.share_world.specs.Worlds.{World, view}
+use Rattle.text_parts.specs.Parts.{group_text}
+use Rattle.output_text.specs.OutText.{out_text}
+
+abbrev pub name_of : List (List ℕ) → ℕ → List ℕ
+name_of names p = slice_index_or names p []
+
+-- the session, the slot and the summand of a message
+abbrev pub key_place : Key → List ℕ
+key_place key = decimal key.session ++ (codes " " ++ (decimal key.slot ++ (codes " " ++ decimal key.share)))
+
+-- its sender and its receiver, each after a space
+abbrev pub key_parties : List (List ℕ) → Key → List ℕ
+key_parties names key =
+    codes " " ++ (name_of names key.sender ++ (codes " " ++ name_of names key.receiver))
+
+-- the line of a message and its word: `SESSION SLOT SHARE SENDER RECEIVER WORD`
+abbrev pub message_line : List (List ℕ) → Key → ℕ → List ℕ
+message_line names key word =
+    key_place key ++ (key_parties names key ++ ((codes " " ++ decimal word) ++ codes "\n"))
+
+-- the lines of messages, in order
+abbrev pub message_lines : List (List ℕ) → List (Key × ℕ) → List ℕ
+message_lines names seen = flat_map (λ message. message_line names message.0 message.1) seen
+
+-- the group of a view
+abbrev pub view_head : List (List ℕ) → ℕ → List ℕ
+view_head names group = codes "view " ++ (group_text names group ++ codes "\n")
+
+-- what the group of this mask sees: the messages of its members, with their words
+unfoldable pub view_text : List (List ℕ) → ℕ → List (Key × ℕ) → List ℕ
+view_text names group seen = view_head names group ++ message_lines names seen
+
+-- the outputs of a run, and then what a group sees, if one is given
+unfoldable pub run_text : List (List ℕ) → World → Option Members → List ℕ
+run_text names w None = out_text names w
+run_text names w (Some group) = out_text names w ++ view_text names group.mask (view w group.mask)

@@ -1,0 +1,164 @@
+//! The text of what a group sees of a run.
+ghost use Rattle.std.specs.Prelude.{◌≡◌, ◌<◌, ◌∷◌, ◌++◌, [], length, codes};
+ghost use Rattle.outer_io.specs.Gathering.{Adds};
+ghost use Rattle.job_plan.specs.Messages.{messages};
+ghost use Rattle.job_plan.specs.Plans.{slots};
+ghost use Rattle.job_plan.specs.Sound.{IsSound};
+ghost use Rattle.share_world.specs.Worlds.{touches, view, word};
+ghost use Rattle.desk_workers.specs.Runs.{IsRunOver, OfItsWorld};
+ghost use Rattle.output_text.specs.ViewText.{view_text, view_head, key_place, key_parties, message_lines};
+ghost use Rattle.output_text.specs.Seen.{seen_lines, slot_seen, session_seen, IsMessage};
+
+use desk_workers::Done;
+use job_plan::{Key, Plan};
+use outer_io::Gather;
+use party_set::{Group, Names};
+use text_parts::{gather_group, gather_number, gather_word};
+
+/// Adds what a group sees of a run that is over: `view GROUP`, and then for each message that a member sends or
+/// receives, in order, `SESSION SLOT SHARE SENDER RECEIVER WORD`, with the word that its cell holds. It goes through
+/// each message once.
+pub(crate) fn gather_view<G: Gather>(
+    out: &mut G,
+    names: &Names,
+    plan: &Plan,
+    done: &Done,
+    group: Group,
+)
+    requires names { length names.now ≡ plan.now.parties }
+    requires group { group.parties ≡ length names.now }
+    requires over { IsRunOver plan.now done.now }
+    ensures { OfItsWorld plan.now done.now (λ w. Adds
+        (view_text names.now group.mask (view w group.mask)) (G.gathered out.old) (G.gathered out.new)) }
+{
+    gather_view_head(out, names, group);
+    gather_messages(out, names, plan, done, group);
+}
+
+#[tactic(auto, using(outer_io::proofs::GatheredTexts::adds_then))]
+fn gather_view_head<G: Gather>(out: &mut G, names: &Names, group: Group)
+    requires { group.parties ≡ length names.now }
+    ensures { Adds (view_head names.now group.mask) (G.gathered out.old) (G.gathered out.new) }
+{
+    out.push(b"view ");
+    gather_group(out, group, names);
+    out.push(b"\n");
+}
+
+fn gather_messages<G: Gather>(out: &mut G, names: &Names, plan: &Plan, done: &Done, group: Group)
+    requires names { length names.now ≡ plan.now.parties }
+    requires group { group.parties ≡ length names.now }
+    requires over { IsRunOver plan.now done.now }
+    ensures { OfItsWorld plan.now done.now (λ w. Adds
+        (seen_lines names.now w group.mask (messages w.plan)) (G.gathered out.old) (G.gathered out.new)) }
+{
+    let _ = plan.parties();
+    for s in 0..plan.sessions() {
+        gather_session(out, names, plan, done, group, s);
+    }
+}
+
+fn gather_session<G: Gather>(
+    out: &mut G,
+    names: &Names,
+    plan: &Plan,
+    done: &Done,
+    group: Group,
+    s: u32,
+)
+    requires names { length names.now ≡ plan.now.parties }
+    requires group { group.parties ≡ length names.now }
+    requires sound { IsSound plan.now }
+    requires over { IsRunOver plan.now done.now }
+    requires session { s < length plan.now.sessions }
+    ensures { OfItsWorld plan.now done.now (λ w. Adds
+        (session_seen names.now w group.mask s) (G.gathered out.old) (G.gathered out.new)) }
+{
+    for k in 0..plan.slots(s) {
+        gather_slot(out, names, plan, done, group, s, k);
+    }
+}
+
+// The messages of slot k of session s: the lines of its pattern, under the numbers from its first one on.
+fn gather_slot<G: Gather>(
+    out: &mut G,
+    names: &Names,
+    plan: &Plan,
+    done: &Done,
+    group: Group,
+    s: u32,
+    k: u32,
+)
+    requires names { length names.now ≡ plan.now.parties }
+    requires group { group.parties ≡ length names.now }
+    requires sound { IsSound plan.now }
+    requires over { IsRunOver plan.now done.now }
+    requires session { s < length plan.now.sessions }
+    requires slot { k < slots plan.now s }
+    ensures { OfItsWorld plan.now done.now (λ w. Adds
+        (slot_seen names.now w group.mask s k) (G.gathered out.old) (G.gathered out.new)) }
+{
+    let first = plan.first(s, k);
+    let lines = plan.lines(plan.pattern(s, k));
+    for i in 0..lines.len() {
+        let key = lines[i].named(s, k);
+        gather_message(out, names, plan, done, group, first + i as u32, key);
+    }
+}
+
+// The line of message n, where a member of the group sends or receives it.
+fn gather_message<G: Gather>(
+    out: &mut G,
+    names: &Names,
+    plan: &Plan,
+    done: &Done,
+    group: Group,
+    n: u32,
+    key: Key,
+)
+    requires names { length names.now ≡ plan.now.parties }
+    requires group { group.parties ≡ length names.now }
+    requires over { IsRunOver plan.now done.now }
+    requires message { IsMessage plan.now n key }
+    ensures { OfItsWorld plan.now done.now (λ w. Adds
+        (seen_lines names.now w group.mask (key ∷ [])) (G.gathered out.old) (G.gathered out.new)) }
+{
+    let _ = plan;
+    if !touches(group, key) {
+        return;
+    }
+    gather_place(out, key);
+    gather_parties(out, names, key);
+    gather_word(out, done.cell(n));
+    out.push(b"\n");
+}
+
+// Whether a member of the group sends or receives the message.
+fn touches(group: Group, key: Key) -> bool
+    requires sender { key.sender < group.parties }
+    requires receiver { key.receiver < group.parties }
+    ensures { result ≡ touches group.mask key }
+{
+    group.has(key.sender) || group.has(key.receiver)
+}
+
+fn gather_place<G: Gather>(out: &mut G, key: Key)
+    ensures { Adds (key_place key) (G.gathered out.old) (G.gathered out.new) }
+{
+    gather_number(out, key.session as u64);
+    out.push(b" ");
+    gather_number(out, key.slot as u64);
+    out.push(b" ");
+    gather_number(out, key.share as u64);
+}
+
+fn gather_parties<G: Gather>(out: &mut G, names: &Names, key: Key)
+    requires sender { key.sender < length names.now }
+    requires receiver { key.receiver < length names.now }
+    ensures { Adds (key_parties names.now key) (G.gathered out.old) (G.gathered out.new) }
+{
+    out.push(b" ");
+    out.push(names.name(key.sender).as_bytes());
+    out.push(b" ");
+    out.push(names.name(key.receiver).as_bytes());
+}
