@@ -7,6 +7,3 @@ mod parts;
 
 pub use fault::GroupFault;
 pub use groups::read_group;
-
-#[cfg(test)]
-mod tests;

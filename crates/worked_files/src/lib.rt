@@ -12,6 +12,8 @@ mod counts;
 #[cfg(test)]
 mod fields;
 #[cfg(test)]
+mod groups;
+#[cfg(test)]
 mod job_files;
 #[cfg(test)]
 mod layouts;

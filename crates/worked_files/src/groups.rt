@@ -1,4 +1,5 @@
-use crate::{GroupFault, read_group};
+//! Groups in texts.
+use group_text::{GroupFault, read_group};
 use party_set::{Names, read_names};
 use std::alloc::Global;
 use std::test::Fail;
