@@ -12,7 +12,7 @@ use product_duty::Duty;
 
 /// The sum of the products that are party `p`'s duty, for the summands `x` of one value and `y` of another. Of summands
 /// that `p` doesn't hold nothing is read.
-pub fn own_products(ring: Ring, duty: &Duty, p: u32, x: &[u64], y: &[u64]) -> u64
+pub fn own_products(ring: Ring, duty: &Duty, p: u32, x: &[u32], y: &[u32]) -> u64
     requires party { p < duty.now.parties }
     requires first { length x.now ≡ length duty.now.groups }
     requires second { length y.now ≡ length duty.now.groups }
@@ -23,7 +23,7 @@ pub fn own_products(ring: Ring, duty: &Duty, p: u32, x: &[u64], y: &[u64]) -> u6
 {
     let mut sum = 0;
     for (i, j) in duty.pairs(p) {
-        sum = ring.add(sum, ring.mul(x[i as usize], y[j as usize]));
+        sum = ring.add(sum, ring.mul(x[i as usize] as u64, y[j as usize] as u64));
     }
     sum
 }
@@ -53,7 +53,7 @@ mod tests {
         let alone = |mask| Group::of_mask(mask, 3).ok_or("no group");
         let groups = Groups::of(3, vec![in rt.alloc(); alone(1)?, alone(2)?, alone(4)?]?);
         let duty = Duty::make(rt.alloc(), &groups)?;
-        let (x, y) = ([10, 20, 231], [30, 40, 193]);
+        let (x, y) = ([10u32, 20, 231], [30u32, 40, 193]);
         assert_eq!(rt; own_products(ring, &duty, 0, &x, &y), 115);
         assert_eq!(rt; own_products(ring, &duty, 1, &x, &y), 200);
         assert_eq!(rt; own_products(ring, &duty, 2, &x, &y), 232);
