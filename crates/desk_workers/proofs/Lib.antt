@@ -1,4 +1,5 @@
 mod Boxes
+pub mod HeldDesks
 pub mod Counts
 pub mod RunEnds
 pub mod BoardSteps

@@ -1,3 +1,4 @@
 pub mod Promises
 pub mod Pools
 pub mod Runs
+pub mod Hands

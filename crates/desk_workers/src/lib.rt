@@ -2,6 +2,7 @@
 #![tactic(auto)]
 
 mod done;
+mod hand;
 mod pool;
 mod promised;
 mod ready;

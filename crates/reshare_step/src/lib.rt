@@ -12,7 +12,7 @@ use product_duty::Duty;
 
 /// The sum of the products that are party `p`'s duty, for the summands `x` of one value and `y` of another. Of summands
 /// that `p` doesn't hold nothing is read.
-pub fn own_products(ring: Ring, duty: &Duty, p: u32, x: &[u64], y: &[u64]) -> u64
+pub fn own_products(ring: Ring, duty: &Duty, p: u32, x: &[u32], y: &[u32]) -> u64
     requires party { p < duty.now.parties }
     requires first { length x.now ≡ length duty.now.groups }
     requires second { length y.now ≡ length duty.now.groups }
@@ -23,7 +23,7 @@ pub fn own_products(ring: Ring, duty: &Duty, p: u32, x: &[u64], y: &[u64]) -> u6
 {
     let mut sum = 0;
     for (i, j) in duty.pairs(p) {
-        sum = ring.add(sum, ring.mul(x[i as usize], y[j as usize]));
+        sum = ring.add(sum, ring.mul(x[i as usize] as u64, y[j as usize] as u64));
     }
     sum
 }

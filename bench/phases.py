@@ -1,0 +1,53 @@
+#!/usr/bin/env python3
+"""Tells where the time of a run goes, by so many workers: phases.py PROGRAM [JOB]
+
+Makes the jobs of make_jobs.py, and runs one of them (eight_sessions, where none is named) by 1, 2 and 4 workers in turn, ROUNDS times
+(50, where the environment doesn't say), with phases.c before the C library. Prints for each number of workers the least time of each
+part of a run: what comes before the workers, the workers, and what comes after them, and what part of the time of one worker the
+workers' is. Ends with status 1 where a run doesn't write what the plain circuit gives. It needs Linux with the GNU C library, and a
+C compiler.
+"""
+
+import os
+import subprocess
+import sys
+import tempfile
+
+WORKERS = [1, 2, 4]
+
+
+def run(program, folder, workers, library, told):
+    """One run: the milliseconds before the workers, those of the workers, and those after them."""
+    environment = {**os.environ, 'LD_PRELOAD': library, 'PHASES': told}
+    command = [program, 'run', folder, '--workers', str(workers)]
+    ran = subprocess.run(command, stdin=subprocess.DEVNULL, capture_output=True, env=environment)
+    with open(os.path.join(folder, 'expected'), 'rb') as file:
+        if ran.returncode != 0 or ran.stdout != file.read():
+            sys.exit(f'phases.py: {folder} by {workers} workers did not write what its file "expected" says')
+    with open(told) as file:
+        moments = [int(word) / 1e6 for word in file.read().split()]
+    return [after - before for before, after in zip(moments, moments[1:])]
+
+
+def main(words):
+    if len(words) not in (2, 3):
+        sys.exit('usage: phases.py PROGRAM [JOB]')
+    program, job = os.path.abspath(words[1]), (words[2:] or ['eight_sessions'])[0]
+    here = os.path.dirname(os.path.abspath(__file__))
+    with tempfile.TemporaryDirectory() as folder:
+        library, told = os.path.join(folder, 'phases.so'), os.path.join(folder, 'told')
+        subprocess.run(['cc', '-O2', '-shared', '-fPIC', '-o', library, os.path.join(here, 'phases.c')], check=True)
+        subprocess.run([sys.executable, os.path.join(here, 'make_jobs.py'), folder], check=True, stdout=subprocess.DEVNULL)
+        parts = {workers: [] for workers in WORKERS}
+        for _ in range(int(os.environ.get('ROUNDS', '50'))):
+            for workers, runs in parts.items():
+                runs.append(run(program, os.path.join(folder, job), workers, library, told))
+    print('| Workers | Before, ms | Workers, ms | After, ms | Part of one worker\'s |')
+    print('|---|---|---|---|---|')
+    least = {workers: [min(part) for part in zip(*runs)] for workers, runs in parts.items()}
+    for workers, (before, during, after) in least.items():
+        print(f'| {workers} | {before:.1f} | {during:.1f} | {after:.1f} | {during / least[WORKERS[0]][1]:.2f} |')
+
+
+if __name__ == '__main__':
+    main(sys.argv)
