@@ -7,12 +7,15 @@ ghost use Rattle.circuit_model.specs.Circuits.{set_at};
 ghost use Rattle.secret_sharing.specs.Sharing.{own_product};
 ghost use Rattle.product_duty.specs.Duties.{scheme_of};
 
+mod rows;
+
 use mpc_ring::Ring;
 use product_duty::Duty;
+pub use rows::own_products_of_rows;
 
 /// The sum of the products that are party `p`'s duty, for the summands `x` of one value and `y` of another. Of summands
 /// that `p` doesn't hold nothing is read.
-pub fn own_products(ring: Ring, duty: &Duty, p: u32, x: &[u32], y: &[u32]) -> u64
+pub fn own_products(ring: Ring, duty: &Duty, p: u32, x: &[u64], y: &[u64]) -> u64
     requires party { p < duty.now.parties }
     requires first { length x.now ≡ length duty.now.groups }
     requires second { length y.now ≡ length duty.now.groups }
@@ -23,7 +26,7 @@ pub fn own_products(ring: Ring, duty: &Duty, p: u32, x: &[u32], y: &[u32]) -> u6
 {
     let mut sum = 0;
     for (i, j) in duty.pairs(p) {
-        sum = ring.add(sum, ring.mul(x[i as usize] as u64, y[j as usize] as u64));
+        sum = ring.add(sum, ring.mul(x[i as usize], y[j as usize]));
     }
     sum
 }

@@ -11,7 +11,7 @@ fn products_of_three_parties(rt: HostRuntime) -> Result<(), Fail> {
     let alone = |mask| Group::of_mask(mask, 3).ok_or("no group");
     let groups = Groups::of(3, vec![in rt.alloc(); alone(1)?, alone(2)?, alone(4)?]?);
     let duty = Duty::make(rt.alloc(), &groups)?;
-    let (x, y) = ([10u32, 20, 231], [30u32, 40, 193]);
+    let (x, y) = ([10, 20, 231], [30, 40, 193]);
     assert_eq!(rt; own_products(ring, &duty, 0, &x, &y), 115);
     assert_eq!(rt; own_products(ring, &duty, 1, &x, &y), 200);
     assert_eq!(rt; own_products(ring, &duty, 2, &x, &y), 232);
