@@ -1,0 +1,8 @@
+pub mod ListedRows
+pub mod DealtRows
+pub mod Settled
+pub mod ValueSteps
+pub mod NextPlaces
+pub mod RowSteps
+pub mod MessageSenders
+pub mod TableWords

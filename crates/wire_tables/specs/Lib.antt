@@ -1,0 +1,3 @@
+pub mod WireTables
+pub mod Places
+pub mod Steps

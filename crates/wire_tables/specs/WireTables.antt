@@ -1,0 +1,39 @@
+-- Tables of a session's wires: what is given on them, their values, and their summands.
+use Rattle.std.specs.Prelude.{ℕ, if◌then◌else◌, List, length}
+use Rattle.std.specs.Global.{Vec}
+use Rattle.list_laws.specs.Lists.{listed}
+use Rattle.circuit_model.specs.declared.gate.Gate.{Gate}
+use Rattle.circuit_model.specs.Circuits.{is_product}
+use Rattle.secret_sharing.specs.Sharing.{Scheme, local, product_summand, summands}
+use Rattle.job_session.specs.Sessions.{owners}
+use Rattle.job_plan.specs.Plans.{Plan, session}
+use Rattle.job_plan.specs.InputWords.{session_words}
+use Rattle.share_world.specs.Worlds.{World, input_of, plain, run_of}
+
+-- the world of a plan, the inputs of all parties, and a tape for each party
+abbrev pub world_of : Plan → List (List (List ℕ)) → List (Vec ℕ) → World
+world_of plan inputs tapes =
+    record { plan = plan; inputs = inputs; tapes = session_words tapes }
+
+-- the word on each input wire of session s
+abbrev pub input_list : World → ℕ → List ℕ
+input_list w s = listed (length (owners (session w.plan s))) (input_of w s)
+
+-- the value of each wire, in the clear
+abbrev pub value_list : World → ℕ → List ℕ
+value_list w s = listed (session w.plan s).wires (plain w s)
+
+-- the summands of wire v, after all gates
+abbrev pub summand_row : World → ℕ → ℕ → List ℕ
+summand_row w s v =
+    listed (length w.plan.groups) (summands (run_of w s) (length (session w.plan s).gates) v)
+
+-- the summands of each wire
+abbrev pub summand_rows : World → ℕ → List (List ℕ)
+summand_rows w s = listed (session w.plan s).wires (summand_row w s)
+
+-- summand i of what a gate makes of two wires, where party p deals the value v as deal p v
+abbrev pub gate_summand : Scheme → (ℕ → ℕ → ℕ → ℕ) → Gate → (ℕ → ℕ) → (ℕ → ℕ) → ℕ → ℕ
+gate_summand scheme deal gate x y i =
+    if is_product gate.operation then product_summand scheme deal x y i
+    else local scheme.modulus gate.operation gate.constant i (x i) (y i)

@@ -1,0 +1,15 @@
+//! Tables of the wires of a session: what is given on them, their values in the clear, and their
+//! summands as the sharing equations have them. And the word of one message, by definition.
+#![tactic(auto)]
+
+mod deals;
+mod places;
+mod rows;
+mod summands;
+mod values;
+mod word;
+
+pub use deals::deals_in;
+pub use summands::SummandTable;
+pub use values::{input_list, value_list};
+pub use word::word_of;
