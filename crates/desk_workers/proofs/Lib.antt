@@ -1,5 +1,4 @@
 mod Boxes
-pub mod HeldDesks
 pub mod Counts
 pub mod RunEnds
 pub mod BoardSteps

@@ -1,4 +1,3 @@
 pub mod Promises
 pub mod Pools
 pub mod Runs
-pub mod Hands

@@ -2,7 +2,6 @@
 #![tactic(auto)]
 
 mod done;
-mod hand;
 mod pool;
 mod promised;
 mod ready;

@@ -1,11 +1,9 @@
-//! Workers. Each holds the desks of its share and steps them in turn, so that what they hold stays near its processor
-//! and nothing that workers share is touched between two steps. Where none of these moves, it steps any desk that it
-//! finds at home.
+//! Workers, each of which steps any desk that it finds at home: first those of its share, so that what the desks hold
+//! stays near the processor, and the others where none of these moves.
 ghost use Rattle.std.specs.Prelude.{◌≡◌, ◌+◌, ◌<◌, ◌≤◌, ◌^◌, length, vec_len};
 ghost use Rattle.message_board.specs.Seats.{IsFreeSeatOf};
 ghost use Rattle.desk_workers.specs.Pools.{IsPool, AllFree, SameSeatCounts};
 
-use crate::hand::{are_over, put_hand, step_hand, take_hand};
 use crate::promised::Promised;
 use crate::steps::{Turn, has_ended, walk};
 use desk_rack::Rack;
@@ -18,9 +16,6 @@ use std::thread::Threads;
 
 /// So many rounds in a row without a move end a worker.
 const MOST_IDLE: u32 = 64;
-
-/// So many times a worker steps the desks that it holds in turn, before it puts them back, so that others find them.
-const MOST_TURNS: u32 = 4096;
 
 // What a worker saw: how often desks moved, and whether all that it came to were at home and at their end.
 #[derive(Drop)]
@@ -60,52 +55,55 @@ fn look_in<P: Pace>(
 // Slots that a worker goes round: so many from this one on.
 #[derive(Clone, Copy)]
 struct Slots {
-    first: u32,
+    first: u64,
     count: u32,
 }
 
-// The slots that a worker goes round first, where each of so many workers but the last ones has a share as large.
-fn share_of(worker: u32, workers: usize, slots: u32) -> Slots
+// The slots that a worker goes round first, where each of so many workers has a share as large.
+fn share_of(worker: u64, workers: usize, slots: u32) -> Slots
     requires { worker < 2 ^ 16 }
-    ensures { result.first + result.count ≤ slots }
+    ensures first { result.first < 2 ^ 48 }
+    ensures count { result.count ≤ slots }
 {
     let workers = u64::from(slots).min(workers as u64).max(1);
     let count = (u64::from(slots) + workers - 1) / workers;
     let count = count.min(u64::from(slots)) as u32;
-    let first = (u64::from(worker) * u64::from(count)).min(u64::from(slots)) as u32;
     Slots {
-        first,
-        count: count.min(slots - first),
+        first: worker * u64::from(count),
+        count,
     }
 }
 
 // The slot that comes so many others after this one, round all slots.
-fn slot_at(first: u32, others: u32, slots: u32) -> u32
-    requires { 0 < slots }
+fn slot_at(first: u64, others: u32, slots: u32) -> u32
+    requires first { first < 2 ^ 48 }
+    requires some { 0 < slots }
     ensures { result < slots }
 {
-    ((u64::from(first) + u64::from(others)) % u64::from(slots)) as u32
+    ((first + u64::from(others)) % u64::from(slots)) as u32
 }
 
-// Visits each slot once, in rising order and round from the first of a share.
+// Visits each of these slots once, in rising order and round.
 fn pass<P: Pace>(
     rack: &Rack<Promised, Box<Desk>>,
     plan: &Plan,
     pace: &P,
     worker: u32,
-    share: Slots,
+    visited: Slots,
     seat: &mut BoardSeat<Promised, Box<Desk>>,
 ) -> Visit
     requires pool { IsPool plan.now rack.now }
+    requires first { visited.first < 2 ^ 48 }
+    requires count { visited.count ≤ rack.now.id.slots }
     requires seat { IsFreeSeatOf rack.now seat.old }
     ensures seat { IsFreeSeatOf rack.now seat.new }
     ensures seats { seat.new.view.seats ≡ seat.old.view.seats }
-    ensures moves { result.moves < 2 ^ 56 }
+    ensures moves { result.moves < 2 ^ 40 }
 {
     let mut moves = 0;
     let mut over = true;
-    for others in 0..rack.slots() {
-        let desk = slot_at(share.first, others, rack.slots());
+    for others in 0..visited.count {
+        let desk = slot_at(visited.first, others, rack.slots());
         let seen = look_in(rack, plan, pace, Turn { worker, desk }, seat);
         moves += seen.moves;
         over = over && seen.over;
@@ -113,45 +111,7 @@ fn pass<P: Pace>(
     Visit { moves, over }
 }
 
-// Holds the desks of a share that are at home, steps them in turn as long as any moves, and puts them back.
-fn hold<P: Pace>(
-    rack: &Rack<Promised, Box<Desk>>,
-    plan: &Plan,
-    pace: &P,
-    worker: u32,
-    share: Slots,
-    seat: &mut BoardSeat<Promised, Box<Desk>>,
-) -> Visit
-    requires pool { IsPool plan.now rack.now }
-    requires share { share.first + share.count ≤ rack.now.id.slots }
-    requires seat { IsFreeSeatOf rack.now seat.old }
-    ensures seat { IsFreeSeatOf rack.now seat.new }
-    ensures seats { seat.new.view.seats ≡ seat.old.view.seats }
-    ensures moves { result.moves < 2 ^ 56 }
-{
-    let mut hand = take_hand(rack, share.first, share.count, seat);
-    let over = are_over(hand.as_slice());
-    let mut moves = 0;
-    let mut moved = 1;
-    let mut turns = 0;
-    while moved > 0 && turns < MOST_TURNS {
-        moved = step_hand(
-            rack.board(),
-            plan,
-            pace,
-            worker,
-            share.first,
-            seat,
-            &mut hand,
-        );
-        moves += moved;
-        turns += 1;
-    }
-    put_hand(rack, share.first, seat, hand);
-    Visit { moves, over }
-}
-
-// Holds the desks of the worker's share, and where none of them moved, visits all slots.
+// Visits the slots of the worker's share, and where no desk of them moved, all slots.
 fn round<P: Pace>(
     rack: &Rack<Promised, Box<Desk>>,
     plan: &Plan,
@@ -161,17 +121,22 @@ fn round<P: Pace>(
     seat: &mut BoardSeat<Promised, Box<Desk>>,
 ) -> Visit
     requires pool { IsPool plan.now rack.now }
-    requires share { share.first + share.count ≤ rack.now.id.slots }
+    requires first { share.first < 2 ^ 48 }
+    requires count { share.count ≤ rack.now.id.slots }
     requires seat { IsFreeSeatOf rack.now seat.old }
     ensures seat { IsFreeSeatOf rack.now seat.new }
     ensures seats { seat.new.view.seats ≡ seat.old.view.seats }
-    ensures moves { result.moves < 2 ^ 56 }
+    ensures moves { result.moves < 2 ^ 40 }
 {
-    let own = hold(rack, plan, pace, worker, share, seat);
+    let own = pass(rack, plan, pace, worker, share, seat);
     if own.moves > 0 {
         return own;
     }
-    pass(rack, plan, pace, worker, share, seat)
+    let all = Slots {
+        first: share.first,
+        count: rack.slots(),
+    };
+    pass(rack, plan, pace, worker, all, seat)
 }
 
 fn next_idle(idle: u32, moves: u64) -> u32
@@ -200,7 +165,7 @@ fn work<P: Pace>(
     ensures seat { IsFreeSeatOf rack.now seat.new }
     ensures seats { seat.new.view.seats ≡ seat.old.view.seats }
 {
-    let share = share_of(worker, workers, rack.slots());
+    let share = share_of(u64::from(worker), workers, rack.slots());
     let mut idle = 0;
     let mut made = 0;
     let mut over = false;
