@@ -59,7 +59,7 @@ module _ (w : World) (whole : IsWhole w) (key : Key) (st : Stands w.plan key) wh
   x = session w.plan key.session
 
   ordered : GatesInOrder x
-  ordered = in_order x (whole.sound.sessions key.session st.in_session).order
+  ordered = in_order x (whole.sound.sessions key.session st.in_session).wired.order
 
   abbrev ends : ℕ → ℕ → ℕ
   ends = summands (run_of w key.session) (length x.gates)

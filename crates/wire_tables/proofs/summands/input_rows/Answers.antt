@@ -105,6 +105,6 @@ returns-clause-rows c =
     let w : World = world_of c.args.plan.now c.args.inputs.now c.args.tapes.now in
     let same : length (owners c.part-part.result.now) ≡ length (owners x) = ap (λ y. length (owners y)) c.part-part.ensures in
     let wires : c.part-part.result.now.wires ≡ x.wires = ap (λ (y : Session). y.wires) c.part-part.ensures in
-    let inputs = (c.requires.whole.sound.sessions c.args.s c.requires.session).input_wires in
+    let inputs = (c.requires.whole.sound.sessions c.args.s c.requires.session).wired.input_wires in
     let ended : c.loop-wire._wire ≡ x.wires = omega (arith, c.input_wires-wire.ensures, c.wires-wire-end.ensures, c.loop-wire-test.false, c.loop-wire.auto._wire-end) in
     rows_first w c.args.s c.loop-wire.rows.items (c.loop-wire.invariant.rows ∙ ap (λ n. listed n (λ v. listed (length c.args.plan.now.groups) (first_summands w c.args.s v))) ended)

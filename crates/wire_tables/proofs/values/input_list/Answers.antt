@@ -27,7 +27,7 @@ overflow_add-at c =
     let party : o < plan.parties = subst (λ z. z < plan.parties) (sym own) (sound.owned v lv) in
     let at_is = read_count (slice_index (owners x)) c.loop-v.given.items v plan.parties o c.index-at.result.now c.loop-v.invariant.parties party c.index-at.ensures c.loop-v.invariant.given in
     let few = given_few (slice_index (owners x)) o v in
-    let wires = sound.wires in let inputs = sound.input_wires in
+    let wires = sound.wired.wires in let inputs = sound.wired.input_wires in
     omega arith
 
 pub offset_bounds-of-at : goal.offset_bounds-of-at
@@ -43,7 +43,7 @@ offset_bounds-of-at c =
     let party : o < plan.parties = subst (λ z. z < plan.parties) (sym own) (sound.owned v lv) in
     let at_is = read_count (slice_index (owners x)) c.loop-v.given.items v plan.parties o c.index-at.result.now c.loop-v.invariant.parties party c.index-at.ensures c.loop-v.invariant.given in
     let few = given_few (slice_index (owners x)) o v in
-    let wires = sound.wires in let inputs = sound.input_wires in
+    let wires = sound.wired.wires in let inputs = sound.wired.input_wires in
     omega arith
 
 pub bounds-of-at : goal.bounds-of-at

@@ -19,7 +19,7 @@ pad-requires c =
     let w : World = record { plan = c.args.plan.now; inputs = c.args.inputs.now; tapes = [] } in
     let long = ap length (c.in_ok-values.ensures []) ∙ length-listed (length (owners x)) (input_of w c.args.s) in
     let wires : c.wires.result ≡ x.wires = c.wires.ensures ∙ ap (λ (y : Session). y.wires) c.part-part.ensures in
-    let inputs = (c.ring-ring.ensures.sound.sessions c.args.s c.requires.session).input_wires in
+    let inputs = (c.ring-ring.ensures.sound.sessions c.args.s c.requires.session).wired.input_wires in
     omega arith
 
 pub loop-t-init : goal.loop-t-init
@@ -29,7 +29,7 @@ loop-t-init c =
     let n : ℕ = length (owners x) in
     let m : ℕ = c.wires.result - length c.in_ok-values.values.items in
     let wires : c.wires.result ≡ x.wires = c.wires.ensures ∙ ap (λ (y : Session). y.wires) c.part-part.ensures in
-    let inputs = (c.ring-ring.ensures.sound.sessions c.args.s c.requires.session).input_wires in
+    let inputs = (c.ring-ring.ensures.sound.sessions c.args.s c.requires.session).wired.input_wires in
     let given : c.in_ok-values.values.items ≡ listed n (input_of w c.args.s) = c.in_ok-values.ensures [] in
     let is : c.pad.new.values.items ≡ listed n (input_of w c.args.s) ++ replicate m 0 = c.in_ok-pad.ensures ∙ ap (λ xs. xs ++ replicate m 0) given in
     let start : (v : ℕ) → slice_index c.pad.new.values.items v ≡ first_values w c.args.s v = λ v. ap (λ xs. slice_index xs v) is ∙ given_first n m (input_of w c.args.s) v in

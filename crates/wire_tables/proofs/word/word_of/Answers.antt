@@ -48,7 +48,7 @@ row-requires c =
     let sound = c.requires.whole.sound.sessions s st.in_session in
     let table_is = c.in_ok-table.ensures in
     let v = c.in-Input.v in
-    let lv : v < x.wires = omega (arith, sound.input_wires, c.in-Input.ensures.inside, ap (λ y. length (owners y)) c.part-part.ensures) in
+    let lv : v < x.wires = omega (arith, sound.wired.input_wires, c.in-Input.ensures.inside, ap (λ y. length (owners y)) c.part-part.ensures) in
     let z : slot plan s key.slot ≡ Input v = ap (λ y. session_slot y key.slot) (sym c.part-part.ensures) ∙ sym c.in-Input.ensures.is in
     subst (λ n. v < n) (sym (table_long w s c.in_ok-table.table table_is)) lv
 
@@ -63,7 +63,7 @@ bounds-row-share c =
     let sound = c.requires.whole.sound.sessions s st.in_session in
     let table_is = c.in_ok-table.ensures in
     let v = c.in-Input.v in
-    let lv : v < x.wires = omega (arith, sound.input_wires, c.in-Input.ensures.inside, ap (λ y. length (owners y)) c.part-part.ensures) in
+    let lv : v < x.wires = omega (arith, sound.wired.input_wires, c.in-Input.ensures.inside, ap (λ y. length (owners y)) c.part-part.ensures) in
     let z : slot plan s key.slot ≡ Input v = ap (λ y. session_slot y key.slot) (sym c.part-part.ensures) ∙ sym c.in-Input.ensures.is in
     let row = table_row w s c.in_ok-table.table table_is v c.row.result.now lv c.row.ensures in
     subst (λ n. key.share < n) (sym (row_long w s v c.row.result.now row)) st.share
@@ -79,7 +79,7 @@ returns-in-Input c =
     let sound = c.requires.whole.sound.sessions s st.in_session in
     let table_is = c.in_ok-table.ensures in
     let v = c.in-Input.v in
-    let lv : v < x.wires = omega (arith, sound.input_wires, c.in-Input.ensures.inside, ap (λ y. length (owners y)) c.part-part.ensures) in
+    let lv : v < x.wires = omega (arith, sound.wired.input_wires, c.in-Input.ensures.inside, ap (λ y. length (owners y)) c.part-part.ensures) in
     let z : slot plan s key.slot ≡ Input v = ap (λ y. session_slot y key.slot) (sym c.part-part.ensures) ∙ sym c.in-Input.ensures.is in
     let row = table_row w s c.in_ok-table.table table_is v c.row.result.now lv c.row.ensures in
     row_at w s v key.share c.row.result.now row st.share ∙ sym (input_word w c.requires.whole key st v z) ∙ ap (word w) c.message-key.ensures.is
@@ -98,8 +98,8 @@ row-x-requires c =
     let z : slot plan s key.slot ≡ At_gate t = ap (λ y. session_slot y key.slot) (sym c.part-part.ensures) ∙ sym c.in-Gate.ensures.is in
     let lt : t < length x.gates = gate_there w c.requires.whole key st t z in
     let at : c.gate-gate.result ≡ gate x t = c.gate-gate.ensures ∙ ap (λ (y : Session). gate y t) c.part-part.ensures in
-    let first : c.gate-gate.result.first < x.wires = subst (λ (g : Gate). g.first < x.wires) (sym at) (sound.first t lt) in
-    let second : c.gate-gate.result.second < x.wires = subst (λ (g : Gate). g.second < x.wires) (sym at) (sound.second t lt) in
+    let first : c.gate-gate.result.first < x.wires = subst (λ (g : Gate). g.first < x.wires) (sym at) (sound.wired.first t lt) in
+    let second : c.gate-gate.result.second < x.wires = subst (λ (g : Gate). g.second < x.wires) (sym at) (sound.wired.second t lt) in
     subst (λ n. c.gate-gate.result.first < n) (sym (table_long w s c.in_ok-table.table table_is)) first
 
 pub row-y-requires : goal.row-y-requires
@@ -116,8 +116,8 @@ row-y-requires c =
     let z : slot plan s key.slot ≡ At_gate t = ap (λ y. session_slot y key.slot) (sym c.part-part.ensures) ∙ sym c.in-Gate.ensures.is in
     let lt : t < length x.gates = gate_there w c.requires.whole key st t z in
     let at : c.gate-gate.result ≡ gate x t = c.gate-gate.ensures ∙ ap (λ (y : Session). gate y t) c.part-part.ensures in
-    let first : c.gate-gate.result.first < x.wires = subst (λ (g : Gate). g.first < x.wires) (sym at) (sound.first t lt) in
-    let second : c.gate-gate.result.second < x.wires = subst (λ (g : Gate). g.second < x.wires) (sym at) (sound.second t lt) in
+    let first : c.gate-gate.result.first < x.wires = subst (λ (g : Gate). g.first < x.wires) (sym at) (sound.wired.first t lt) in
+    let second : c.gate-gate.result.second < x.wires = subst (λ (g : Gate). g.second < x.wires) (sym at) (sound.wired.second t lt) in
     subst (λ n. c.gate-gate.result.second < n) (sym (table_long w s c.in_ok-table.table table_is)) second
 
 pub own_products-own-requires : goal.own_products-own-requires
@@ -134,8 +134,8 @@ own_products-own-requires c =
     let z : slot plan s key.slot ≡ At_gate t = ap (λ y. session_slot y key.slot) (sym c.part-part.ensures) ∙ sym c.in-Gate.ensures.is in
     let lt : t < length x.gates = gate_there w c.requires.whole key st t z in
     let at : c.gate-gate.result ≡ gate x t = c.gate-gate.ensures ∙ ap (λ (y : Session). gate y t) c.part-part.ensures in
-    let first : c.gate-gate.result.first < x.wires = subst (λ (g : Gate). g.first < x.wires) (sym at) (sound.first t lt) in
-    let second : c.gate-gate.result.second < x.wires = subst (λ (g : Gate). g.second < x.wires) (sym at) (sound.second t lt) in
+    let first : c.gate-gate.result.first < x.wires = subst (λ (g : Gate). g.first < x.wires) (sym at) (sound.wired.first t lt) in
+    let second : c.gate-gate.result.second < x.wires = subst (λ (g : Gate). g.second < x.wires) (sym at) (sound.wired.second t lt) in
     let a = table_row w s c.in_ok-table.table table_is c.gate-gate.result.first c.row-x.result.now first c.row-x.ensures in
     let b = table_row w s c.in_ok-table.table table_is c.gate-gate.result.second c.row-y.result.now second c.row-y.ensures in
     let groups = ap (λ (y : Structure). length y.groups) c.duty.ensures in
@@ -161,8 +161,8 @@ dealt_row-requires-clause-words c =
     let z : slot plan s key.slot ≡ At_gate t = ap (λ y. session_slot y key.slot) (sym c.part-part.ensures) ∙ sym c.in-Gate.ensures.is in
     let lt : t < length x.gates = gate_there w c.requires.whole key st t z in
     let at : c.gate-gate.result ≡ gate x t = c.gate-gate.ensures ∙ ap (λ (y : Session). gate y t) c.part-part.ensures in
-    let first : c.gate-gate.result.first < x.wires = subst (λ (g : Gate). g.first < x.wires) (sym at) (sound.first t lt) in
-    let second : c.gate-gate.result.second < x.wires = subst (λ (g : Gate). g.second < x.wires) (sym at) (sound.second t lt) in
+    let first : c.gate-gate.result.first < x.wires = subst (λ (g : Gate). g.first < x.wires) (sym at) (sound.wired.first t lt) in
+    let second : c.gate-gate.result.second < x.wires = subst (λ (g : Gate). g.second < x.wires) (sym at) (sound.wired.second t lt) in
     let sends = gate_sender w c.requires.whole key st t z in
     let deals : deals_in plan s key.sender (slot plan s key.slot) ≡ true = ap (deals_in plan s key.sender) z ∙ sends.1 in
     subst (λ places. HasWords plan (session_words c.args.tapes.now) places key.sender) (sym c.deref.ensures.value)
@@ -190,8 +190,8 @@ returns-in-Gate c =
     let z : slot plan s key.slot ≡ At_gate t = ap (λ y. session_slot y key.slot) (sym c.part-part.ensures) ∙ sym c.in-Gate.ensures.is in
     let lt : t < length x.gates = gate_there w c.requires.whole key st t z in
     let at : c.gate-gate.result ≡ gate x t = c.gate-gate.ensures ∙ ap (λ (y : Session). gate y t) c.part-part.ensures in
-    let first : c.gate-gate.result.first < x.wires = subst (λ (g : Gate). g.first < x.wires) (sym at) (sound.first t lt) in
-    let second : c.gate-gate.result.second < x.wires = subst (λ (g : Gate). g.second < x.wires) (sym at) (sound.second t lt) in
+    let first : c.gate-gate.result.first < x.wires = subst (λ (g : Gate). g.first < x.wires) (sym at) (sound.wired.first t lt) in
+    let second : c.gate-gate.result.second < x.wires = subst (λ (g : Gate). g.second < x.wires) (sym at) (sound.wired.second t lt) in
     let a = table_row w s c.in_ok-table.table table_is c.gate-gate.result.first c.row-x.result.now first c.row-x.ensures in
     let b = table_row w s c.in_ok-table.table table_is c.gate-gate.result.second c.row-y.result.now second c.row-y.ensures in
     let m : ℕ = length plan.groups in
@@ -227,7 +227,7 @@ row-requires-in-Output c =
     let o = c.in-Output.o in
     let z : slot plan s key.slot ≡ Output o = ap (λ y. session_slot y key.slot) (sym c.part-part.ensures) ∙ sym c.in-Output.ensures.is in
     let wire : c.wires.result - c.output_wires.result + o ≡ output_wire x o = ap₂ (λ a b. a - b + o) (c.wires.ensures ∙ ap (λ (y : Session). y.wires) c.part-part.ensures) (c.output_wires.ensures ∙ ap (λ y. length (readers y)) c.part-part.ensures) in
-    let lo : output_wire x o < x.wires = omega (arith, sound.output_wires, c.in-Output.ensures.inside, ap (λ y. length (readers y)) c.part-part.ensures) in
+    let lo : output_wire x o < x.wires = omega (arith, sound.wired.output_wires, c.in-Output.ensures.inside, ap (λ y. length (readers y)) c.part-part.ensures) in
     let lv : c.wires.result - c.output_wires.result + o < x.wires = subst (λ v. v < x.wires) (sym wire) lo in
     subst (λ n. c.wires.result - c.output_wires.result + o < n) (sym (table_long w s c.in_ok-table.table table_is)) lv
 
@@ -244,7 +244,7 @@ bounds-row-share-in-Output c =
     let o = c.in-Output.o in
     let z : slot plan s key.slot ≡ Output o = ap (λ y. session_slot y key.slot) (sym c.part-part.ensures) ∙ sym c.in-Output.ensures.is in
     let wire : c.wires.result - c.output_wires.result + o ≡ output_wire x o = ap₂ (λ a b. a - b + o) (c.wires.ensures ∙ ap (λ (y : Session). y.wires) c.part-part.ensures) (c.output_wires.ensures ∙ ap (λ y. length (readers y)) c.part-part.ensures) in
-    let lo : output_wire x o < x.wires = omega (arith, sound.output_wires, c.in-Output.ensures.inside, ap (λ y. length (readers y)) c.part-part.ensures) in
+    let lo : output_wire x o < x.wires = omega (arith, sound.wired.output_wires, c.in-Output.ensures.inside, ap (λ y. length (readers y)) c.part-part.ensures) in
     let lv : c.wires.result - c.output_wires.result + o < x.wires = subst (λ v. v < x.wires) (sym wire) lo in
     let row = table_row w s c.in_ok-table.table table_is (c.wires.result - c.output_wires.result + o) c.row-in-Output.result.now lv c.row-in-Output.ensures in
     subst (λ n. key.share < n) (sym (row_long w s (c.wires.result - c.output_wires.result + o) c.row-in-Output.result.now row)) st.share
@@ -262,7 +262,7 @@ returns c =
     let o = c.in-Output.o in
     let z : slot plan s key.slot ≡ Output o = ap (λ y. session_slot y key.slot) (sym c.part-part.ensures) ∙ sym c.in-Output.ensures.is in
     let wire : c.wires.result - c.output_wires.result + o ≡ output_wire x o = ap₂ (λ a b. a - b + o) (c.wires.ensures ∙ ap (λ (y : Session). y.wires) c.part-part.ensures) (c.output_wires.ensures ∙ ap (λ y. length (readers y)) c.part-part.ensures) in
-    let lo : output_wire x o < x.wires = omega (arith, sound.output_wires, c.in-Output.ensures.inside, ap (λ y. length (readers y)) c.part-part.ensures) in
+    let lo : output_wire x o < x.wires = omega (arith, sound.wired.output_wires, c.in-Output.ensures.inside, ap (λ y. length (readers y)) c.part-part.ensures) in
     let lv : c.wires.result - c.output_wires.result + o < x.wires = subst (λ v. v < x.wires) (sym wire) lo in
     let row = table_row w s c.in_ok-table.table table_is (c.wires.result - c.output_wires.result + o) c.row-in-Output.result.now lv c.row-in-Output.ensures in
     row_at w s (c.wires.result - c.output_wires.result + o) key.share c.row-in-Output.result.now row st.share

@@ -31,8 +31,8 @@ gate_row-requires c =
     let gates : length c.part-part.result.now.gates ≡ length x.gates = ap (λ (y : Session). length y.gates) c.part-part.ensures in
     let lt : t < length x.gates = omega (arith, c.loop-t-test.true, c.gates-t-end.ensures) in
     let at : c.gate-gate.result ≡ gate x t = c.gate-gate.ensures ∙ ap (λ (y : Session). gate y t) c.part-part.ensures in
-    let first : c.gate-gate.result.first < x.wires = subst (λ (g : Gate). g.first < x.wires) (sym at) (sound.first t lt) in
-    let second : c.gate-gate.result.second < x.wires = subst (λ (g : Gate). g.second < x.wires) (sym at) (sound.second t lt) in
+    let first : c.gate-gate.result.first < x.wires = subst (λ (g : Gate). g.first < x.wires) (sym at) (sound.wired.first t lt) in
+    let second : c.gate-gate.result.second < x.wires = subst (λ (g : Gate). g.second < x.wires) (sym at) (sound.wired.second t lt) in
     let h = c.loop-t.invariant.rows in
     let a = is_row w c.requires.whole s t c.gate-gate.result.first c.loop-t.rows.items c.deref-in-loop-t.result.now h first (c.deref-in-loop-t.ensures.value ∙ row_read c.loop-t.rows.items c.gate-gate.result.first c.index-x.result.now (omega (arith, h.wires)) c.index-x.ensures) in
     let b = is_row w c.requires.whole s t c.gate-gate.result.second c.loop-t.rows.items c.deref-in-loop-t-2.result.now h second (c.deref-in-loop-t-2.ensures.value ∙ row_read c.loop-t.rows.items c.gate-gate.result.second c.index-y.result.now (omega (arith, h.wires)) c.index-y.ensures) in
@@ -61,8 +61,8 @@ loop-t-preserved c =
     let lt : t < length x.gates = omega (arith, c.loop-t-test.true, c.gates-t-end.ensures) in
     let at : c.gate-gate.result ≡ gate x t = c.gate-gate.ensures ∙ ap (λ (y : Session). gate y t) c.part-part.ensures in
     let h = c.loop-t.invariant.rows in
-    let first : (gate x t).first < x.wires = sound.first t lt in
-    let second : (gate x t).second < x.wires = sound.second t lt in
+    let first : (gate x t).first < x.wires = sound.wired.first t lt in
+    let second : (gate x t).second < x.wires = sound.wired.second t lt in
     let first_at : c.gate-gate.result.first ≡ (gate x t).first = ap (λ (g : Gate). g.first) at in
     let second_at : c.gate-gate.result.second ≡ (gate x t).second = ap (λ (g : Gate). g.second) at in
     let a = is_row w c.requires.whole s t (gate x t).first c.loop-t.rows.items c.deref-in-loop-t.result.now h first
@@ -76,7 +76,7 @@ loop-t-preserved c =
     ∙ listed_at m _ i 0 li
     ∙ ap (λ (g : Gate). gate_summand (scheme plan) deal g (slice_index c.deref-in-loop-t.result.now) (slice_index c.deref-in-loop-t-2.result.now) i) at
     ∙ gate_here w s t c.deref.result.now (slice_index c.deref-in-loop-t.result.now) (slice_index c.deref-in-loop-t-2.result.now) here a.are b.are i li in
-    let next = rows_next w s t c.loop-t.rows.items c.in_ok-row.row h (sound.output t lt) (ap length c.in_ok-row.ensures ∙ length-listed m _) made in
+    let next = rows_next w s t c.loop-t.rows.items c.in_ok-row.row h (sound.wired.output t lt) (ap length c.in_ok-row.ensures ∙ length-listed m _) made in
     let one : suc t ≡ t + 1 = omega arith in
     let slot_next : c.input_wires-first_gate.result + t + 1 ≡ length (owners x) + (t + 1) = omega (arith, c.input_wires-first_gate.ensures) in
     record {
