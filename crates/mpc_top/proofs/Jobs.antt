@@ -1,33 +1,32 @@
 -- A job that was read, step by step.
-use Rattle.std.proofs.Common.{ℕ, List, [], Ok, Err, Vec}
+use Rattle.std.proofs.Common.{ℕ, List, [], Option, Ok, Err, Vec}
 use Rattle.std.specs.declared.alloc.Global.{Global}
 use Rattle.outer_io.specs.Files.{FilesReading}
 use Rattle.party_file.specs.declared.data.PartyData.{PartyData}
-use Rattle.job_run.specs.Parties.{world_of}
 use Rattle.mpc_top.specs.declared.plan.Planned as code
 use Rattle.mpc_top.specs.declared.stop.Stop.{Stop}
-use Rattle.mpc_top.specs.JobOf.{WholeJob, PlanAt, PartiesAfter, JobAt}
+use Rattle.mpc_top.specs.JobOf.{WholeJob, whole_job, PlanAt, PartiesAfter, JobAt}
 use Rattle.mpc_top.specs.Seen.{planned_view, parties_view}
 use Rattle.mpc_top.specs.Reads.{ReadsAs}
 use Rattle.mpc_top.proofs.Steps.{reads_stop, reads_then, reads_end}
 
 -- the job of a plan and of what the parties give
 abbrev pub job_seen : code.Planned → Vec PartyData Global → WholeJob
-job_seen planned parties = record { names = planned.names; world = world_of planned.plan (parties_view parties) }
+job_seen planned parties = whole_job (planned_view planned) (parties_view parties)
 
 -- the plan could not be read
-pub job_stops : (dir : List ℕ) (before after : FilesReading) (stop : Stop) → ReadsAs {C = code.Planned} planned_view (λ m. PlanAt m dir) before after (Err stop) → ReadsAs {C = WholeJob} (λ job. job) (λ m. JobAt m dir) before after (Err stop)
+pub job_stops : (dir : List ℕ) (asked : Option (List ℕ)) (before after : FilesReading) (stop : Stop) → ReadsAs {C = code.Planned} planned_view (λ m. PlanAt m dir asked) before after (Err stop) → ReadsAs {C = WholeJob} (λ job. job) (λ m. JobAt m dir asked) before after (Err stop)
 unfolding JobAt
-job_stops dir before after stop r = reads_stop _ _ planned_view (λ job. job) before after stop r
+job_stops dir asked before after stop r = reads_stop _ _ planned_view (λ job. job) before after stop r
 
-module _ (dir : List ℕ) (planned : code.Planned) (before mid after : FilesReading) where
-  module _ (read : ReadsAs planned_view (λ m. PlanAt m dir) before mid (Ok planned)) where
+module _ (dir : List ℕ) (asked : Option (List ℕ)) (planned : code.Planned) (before mid after : FilesReading) where
+  module _ (read : ReadsAs planned_view (λ m. PlanAt m dir asked) before mid (Ok planned)) where
     -- a party's file could not be read
-    pub job_stops_later : (stop : Stop) → ReadsAs parties_view (λ m. PartiesAfter m dir planned.plan [] planned.names) mid after (Err stop) → ReadsAs (job_seen planned) (λ m. JobAt m dir) before after (Err stop)
+    pub job_stops_later : (stop : Stop) → ReadsAs parties_view (λ m. PartiesAfter m dir planned.plan [] planned.names) mid after (Err stop) → ReadsAs (job_seen planned) (λ m. JobAt m dir asked) before after (Err stop)
     unfolding JobAt
     job_stops_later stop r = reads_then _ _ planned_view (job_seen planned) before mid after planned (Err stop) read (reads_stop _ _ parties_view (job_seen planned) mid after stop r)
 
-    pub job_read : (parties : Vec PartyData Global) → ReadsAs parties_view (λ m. PartiesAfter m dir planned.plan [] planned.names) mid after (Ok parties) → ReadsAs (job_seen planned) (λ m. JobAt m dir) before after (Ok parties)
+    pub job_read : (parties : Vec PartyData Global) → ReadsAs parties_view (λ m. PartiesAfter m dir planned.plan [] planned.names) mid after (Ok parties) → ReadsAs (job_seen planned) (λ m. JobAt m dir asked) before after (Ok parties)
     unfolding JobAt
     job_read parties r =
         reads_then _ _ planned_view (job_seen planned) before mid after planned (Ok parties) read (reads_then _ _ parties_view (job_seen planned) mid after after parties (Ok parties) r (reads_end (job_seen planned) after parties))

@@ -1,5 +1,6 @@
 mod Equal
 mod FileEnds
+mod HiddenInputs
 mod Jobs
 mod Loops
 mod Runs

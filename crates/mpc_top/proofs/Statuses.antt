@@ -102,6 +102,7 @@ module _ (words : List (List ℕ)) (files files' : FilesReading) (out out' err e
   pub done : (u : Unit {0}) → err' ≡ err → RunsTo (Ok u) → Answers words before after 0
   done u same r = record {
     done = λ _. (r.ok, same);
+    hides = λ _. r.hides;
     stopped = λ not. absurd (not refl);
     due = λ _. record {
       quiet = λ none. (accepted r.ok.0, r.ok.1.0, (refl, r.ok.2));
@@ -113,6 +114,7 @@ module _ (words : List (List ℕ)) (files files' : FilesReading) (out out' err e
   stopped : (stop : Stop) (status : ℕ) → RunsTo (Err stop) → Tells err err' stop status → ¬ (status ≡ 0) → Answers words before after status
   stopped stop status r tells some = record {
     done = λ is. absurd (some is);
+    hides = λ is. absurd (some is);
     stopped = λ _. (stop, r.stop, tells);
     due = given stop status r.stop tells;
     keeps = record { files = r.keeps; out = out_kept stop r.stop; err = err_kept stop status tells };

@@ -3,8 +3,8 @@ use Rattle.std.specs.Prelude.{◌≡◌, ℕ, List, map, Option, None, Some, IfS
 use Rattle.std.specs.declared.alloc.Global.{Global}
 use Rattle.outer_io.specs.Files.{Told}
 use Rattle.command_words.specs.Commands.{CommandForm, run, check}
-use Rattle.output_text.specs.OutText.{out_text}
 use Rattle.output_text.specs.CheckText.{check_text}
+use Rattle.output_text.specs.ViewText.{run_text}
 use Rattle.mpc_top.specs.Texts.{files_fault_line, usage_text}
 use Rattle.mpc_top.specs.Verdict.{Verdict, accepted, missing, refused, Ends, Then}
 use Rattle.mpc_top.specs.JobOf.{Contents, Planned, WholeJob, PlanAt, JobAt}
@@ -15,10 +15,11 @@ words_view words = map string_bytes words
 
 -- the text of a command over files; how many workers run a job changes nothing
 unfoldable pub TextOf : CommandForm → Contents → Verdict (List ℕ) → Type 0
-TextOf (run dir workers) files =
-    Then (JobAt files dir) (λ (job : WholeJob). Ends (accepted (out_text job.names job.world)))
+TextOf (run dir workers view) files =
+    Then (JobAt files dir view) (λ (job : WholeJob).
+    Ends (accepted (run_text job.names job.world job.group)))
 TextOf (check dir) files =
-    Then (PlanAt files dir) (λ (p : Planned). Ends (accepted (check_text p.names p.plan)))
+    Then (PlanAt files dir None) (λ (p : Planned). Ends (accepted (check_text p.names p.plan)))
 
 -- the verdict that is due, as far as the files tell; words that ask for nothing are refused with the usage
 abbrev pub IsDue : Option CommandForm → Told → Verdict (List ℕ) → Type 0

@@ -19,10 +19,11 @@ use Rattle.plan_faults.specs.declared.plan_fault.PlanFault.{PlanFault}
 use Rattle.plan_faults.specs.declared.plan_fault.PlanFault.TheVariants as plan_fault
 use Rattle.job_file.specs.Forms.{JobForm, SessionForm, AdversaryForm, by_formula, by_list}
 use Rattle.job_file.specs.Faults.{job_in}
+use Rattle.group_text.specs.GroupTexts.{group_in}
 use Rattle.party_file.specs.Table.{PartyForm, party_in}
 use Rattle.share_world.specs.Worlds.{World}
 use Rattle.job_run.specs.Parties.{world_of}
-use Rattle.refusal_text.specs.Lines.{too_long_line, job_line, formula_line, groups_line, covering_line, circuit_line, session_line, plan_line, party_line}
+use Rattle.refusal_text.specs.Lines.{too_long_line, job_line, group_line, formula_line, groups_line, covering_line, circuit_line, session_line, plan_line, party_line}
 use Rattle.mpc_top.specs.Names as names
 use Rattle.mpc_top.specs.Verdict.{Verdict, accepted, missing, refused, Ends, Then, verdict_of, unless}
 
@@ -51,6 +52,14 @@ unfoldable pub JobText : Contents → List ℕ → Verdict JobForm → Type 0
 JobText files dir =
     Then (Ends (file_at files dir names.job_file)) (λ bytes.
     Ends (verdict_of job_line (job_in false bytes)))
+
+-- ---- the group
+
+-- the group of which is asked what it sees, if one is asked for
+unfoldable pub GroupOf : List (List ℕ) → Option (List ℕ) → Verdict (Option Members) → Type 0
+GroupOf names None = Ends (accepted None)
+GroupOf names (Some text) =
+    Then (Ends (verdict_of group_line (group_in names text))) (λ group. Ends (accepted (Some group)))
 
 -- ---- the structure
 
@@ -133,21 +142,25 @@ PlanOf job plan (refused status line) =
     × (status ≡ 3)
     × (line ≡ plan_line job.names fault)
 
--- the names of the parties, and the plan
+-- the names of the parties, the group that is asked for, and the plan
 pub record Planned : Type 0 where
   pub names : List (List ℕ)
+  pub group : Option Members
   pub plan : Plan
 
-unfoldable pub PlannedOf : Contents → List ℕ → JobForm → Structure → Verdict Planned → Type 0
-PlannedOf files dir job s =
+unfoldable pub PlannedOf :
+    Contents → List ℕ → JobForm → Option Members → Structure → Verdict Planned → Type 0
+PlannedOf files dir job group s =
     Then (SessionsAfter files dir job [] job.sessions) (λ sessions.
     Then (PlanOf job (plan_of job.bits s sessions)) (λ plan.
-    Ends (accepted (record { names = job.names; plan = plan }))))
+    Ends (accepted (record { names = job.names; group = group; plan = plan }))))
 
--- the plan of a folder, for which no party's file is read
-unfoldable pub PlanAt : Contents → List ℕ → Verdict Planned → Type 0
-PlanAt files dir =
-    Then (JobText files dir) (λ job. Then (StructureOf job) (PlannedOf files dir job))
+-- the plan of a folder, for which no party's file is read, and the group that a text asks for
+unfoldable pub PlanAt : Contents → List ℕ → Option (List ℕ) → Verdict Planned → Type 0
+PlanAt files dir asked =
+    Then (JobText files dir) (λ job.
+    Then (GroupOf job.names asked) (λ group.
+    Then (StructureOf job) (PlannedOf files dir job group)))
 
 -- ---- the parties
 
@@ -165,14 +178,19 @@ PartiesAfter files dir plan before (name ∷ more) =
     Then (PartyAt files dir plan (length before) name) (λ party.
     PartiesAfter files dir plan (before ++ (party ∷ [])) more)
 
--- the names of the parties, and the world
+-- the names of the parties, the group that is asked for, and the world
 pub record WholeJob : Type 0 where
   pub names : List (List ℕ)
+  pub group : Option Members
   pub world : World
 
--- the job of a folder
-unfoldable pub JobAt : Contents → List ℕ → Verdict WholeJob → Type 0
-JobAt files dir =
-    Then (PlanAt files dir) (λ planned.
+abbrev pub whole_job : Planned → List PartyForm → WholeJob
+whole_job planned parties =
+    record { names = planned.names; group = planned.group; world = world_of planned.plan parties }
+
+-- the job of a folder, and the group that a text asks for
+unfoldable pub JobAt : Contents → List ℕ → Option (List ℕ) → Verdict WholeJob → Type 0
+JobAt files dir asked =
+    Then (PlanAt files dir asked) (λ planned.
     Then (PartiesAfter files dir planned.plan [] planned.names) (λ parties.
-    Ends (accepted (record { names = planned.names; world = world_of planned.plan parties }))))
+    Ends (accepted (whole_job planned parties))))

@@ -3,6 +3,7 @@
 
 mod call;
 mod file;
+mod group;
 mod job;
 mod parties;
 mod plan;

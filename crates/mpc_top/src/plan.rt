@@ -1,14 +1,15 @@
 //! The plan of a job.
-ghost use Rattle.std.specs.Prelude.{◌≡◌, ◌≤◌, All, IfOk, length};
+ghost use Rattle.std.specs.Prelude.{◌≡◌, ◌≤◌, All, IfOk, IfSome, length};
 ghost use Rattle.party_set.specs.Parties.{IsQ2};
 ghost use Rattle.job_plan.specs.Plans.{plan_of, structure};
 ghost use Rattle.job_session.specs.SoundSessions.{IsSoundSession};
 ghost use Rattle.job_file.specs.Jobs.{job_view};
 ghost use Rattle.mpc_top.specs.JobOf.{PlanOf, PlanAt};
-ghost use Rattle.mpc_top.specs.Seen.{planned_view};
+ghost use Rattle.mpc_top.specs.Seen.{planned_view, text_view};
 ghost use Rattle.mpc_top.specs.Reads.{ReadsAs, WalksAs};
 
 use crate::Stop;
+use crate::group::asked_group;
 use crate::job::read_job_text;
 use crate::sessions::read_sessions;
 use crate::stop::refusal;
@@ -16,39 +17,46 @@ use crate::structure::structure_of;
 use job_file::Job;
 use job_plan::{Plan, SessionPart};
 use outer_io::Files;
-use party_set::{Groups, Names};
+use party_set::{Group, Groups, Names};
 use plan_faults::PlanFault;
 use product_duty::Duty;
 use refusal_text::plan_line;
 use share_layout::Layout;
 use std::alloc::Global;
 
-/// What the job's file and the circuits' files give.
+/// What the job's file and the circuits' files give, and the group that is asked for.
 #[derive(Drop)]
 pub(crate) struct Planned {
     pub(crate) names: Names,
+    pub(crate) group: Option<Group>,
     pub(crate) groups: Groups,
     pub(crate) plan: Plan,
 }
 
-/// Reads the job's file and the circuits' files.
+/// Reads the job's file, the group that a text asks for, if there is a text, and the circuits' files.
 pub(crate) fn read_planned<F: Files>(
     alloc: Global,
     files: &mut F,
     dir: &str,
+    asked: Option<&str>,
 ) -> Result<Planned, Stop>
-    ensures reads { ReadsAs planned_view (λ contents. PlanAt contents dir.now)
+    ensures reads { ReadsAs planned_view
+        (λ contents. PlanAt contents dir.now (text_view asked.entry))
         (F.reading files.old) (F.reading files.new) result }
     ensures names { IfOk result (λ planned. length planned.names ≡ planned.plan.parties) }
+    ensures group { IfOk result (λ planned. IfSome planned.group
+        (λ group. group.parties ≡ length planned.names)) }
     ensures groups { IfOk result (λ planned. planned.groups ≡ structure planned.plan) }
 {
     let job = read_job_text(alloc, files, dir)?;
+    let group = asked_group(alloc, asked, &job.names)?;
     let groups = structure_of(alloc, &job)?;
     let parts = read_sessions(alloc, files, dir, &job)?;
     let plan = make_plan(alloc, &job, &groups, parts)?;
     let Job { names, .. } = job;
     Ok(Planned {
         names,
+        group,
         groups,
         plan,
     })

@@ -1,6 +1,7 @@
 //! The commands.
 ghost use Rattle.std.specs.Prelude.{Some, ◌<◌, ◌≤◌};
 ghost use Rattle.command_words.specs.Commands.{form_of, run, check, HasWorkers};
+ghost use Rattle.mpc_top.specs.Seen.{text_view};
 ghost use Rattle.mpc_top.specs.Stops.{Runs};
 
 use crate::Stop;
@@ -9,7 +10,7 @@ use crate::plan::read_planned;
 use command_words::Command;
 use job_run::prepared;
 use outer_io::{Files, Pace, Sink};
-use output_text::{write_check, write_out};
+use output_text::{write_check, write_run};
 use std::alloc::Global;
 use std::thread::Threads;
 
@@ -27,12 +28,15 @@ pub(crate) fn run_command<F: Files, O: Sink, P: Pace, R: Threads + Sync>(
         (O.reading out.old) (O.reading out.new) result }
 {
     match command {
-        Command::Run { dir, workers } => run_job(rt, alloc, files, out, pace, dir, workers),
+        Command::Run { dir, workers, view } => {
+            run_job(rt, alloc, files, out, pace, dir, workers, view)
+        }
         Command::Check { dir } => check_job(alloc, files, out, dir),
     }
 }
 
-/// Runs the job of a folder by so many workers: the outputs that its desks delivered.
+/// Runs the job of a folder by so many workers: the outputs that its desks delivered, and what a group saw, where one
+/// is asked for.
 fn run_job<F: Files, O: Sink, P: Pace, R: Threads + Sync>(
     rt: &R,
     alloc: Global,
@@ -41,16 +45,17 @@ fn run_job<F: Files, O: Sink, P: Pace, R: Threads + Sync>(
     pace: &P,
     dir: &str,
     workers: u32,
+    view: Option<&str>,
 ) -> Result<(), Stop>
     requires { (0 < workers) × (workers ≤ 16) }
-    ensures { Runs (Some (run dir.now workers)) (F.reading files.old) (F.reading files.new)
+    ensures { Runs (Some (run dir.now workers (text_view view.entry))) (F.reading files.old) (F.reading files.new)
         (O.reading out.old) (O.reading out.new) result }
 {
-    let planned = read_planned(alloc, files, dir)?;
+    let planned = read_planned(alloc, files, dir, view)?;
     let parties = read_parties(alloc, files, dir, &planned.names, &planned.plan)?;
     let ready = prepared(alloc, &planned.plan, parties, workers)?;
     let done = ready.run(rt, &planned.plan, pace);
-    Ok(write_out(out, &planned.names, &planned.plan, &done)?)
+    Ok(write_run(out, &planned.names, &planned.plan, &done, planned.group)?)
 }
 
 /// Checks the job of a folder: its structure and its counts.
@@ -63,6 +68,6 @@ fn check_job<F: Files, O: Sink>(
     ensures { Runs (Some (check dir.now)) (F.reading files.old) (F.reading files.new)
         (O.reading out.old) (O.reading out.new) result }
 {
-    let planned = read_planned(alloc, files, dir)?;
+    let planned = read_planned(alloc, files, dir, None)?;
     Ok(write_check(out, &planned.names, &planned.groups, &planned.plan)?)
 }

@@ -41,7 +41,7 @@ all_inside bits session words e = inside (2 ^ bits) words (ltb-false _ _ (not_fa
 in_ring-none : (bits : ℕ) → InRing bits []
 in_ring-none bits = λ k d l. absurd (omega arith)
 
-word_below : (bits : ℕ) (words : List ℕ) (k : ℕ) → InRing bits words → slice_index words k < 2 ^ bits
+pub word_below : (bits : ℕ) (words : List ℕ) (k : ℕ) → InRing bits words → slice_index words k < 2 ^ bits
 word_below bits words k all = elim (cases_lt k (length words)) [
   | inl l ↦ all k 0 l
   | inr past ↦ subst (λ w. w < 2 ^ bits) (sym (get_or_past words k 0 past)) (pow_pos bits)
@@ -64,10 +64,10 @@ module _ (plan : Plan) (p : ℕ) (texts : List (List ℕ)) (counted : length tex
   unfolding input_checks
   input_sound s l = session_sound plan.bits (owned (session plan s) p) s (slice_index_or texts s []) (joined-passed (length plan.sessions) s (checks_of plan p texts) l passed)
 
-  input_count : (s : ℕ) → s < length plan.sessions → length (slice_index_or (map numbers_in texts) s []) ≡ total (length (owners (session plan s))) (λ v. if gives plan s p v then 1 else 0)
+  pub input_count : (s : ℕ) → s < length plan.sessions → length (slice_index_or (map numbers_in texts) s []) ≡ total (length (owners (session plan s))) (λ v. if gives plan s p v then 1 else 0)
   input_count s l = ap length (input_at s l) ∙ (input_sound s l).0 ∙ sym (total_count (λ owner. nat_eq owner p) (owners (session plan s)) 0)
 
-  input_ring : (s : ℕ) → InRing plan.bits (slice_index_or (map numbers_in texts) s [])
+  pub input_ring : (s : ℕ) → InRing plan.bits (slice_index_or (map numbers_in texts) s [])
   input_ring s = elim (cases_lt s (length plan.sessions)) [
     | inl l ↦ subst (InRing plan.bits) (sym (input_at s l)) (input_sound s l).1
     | inr past ↦ subst (InRing plan.bits) (sym (get_or_past (map numbers_in texts) s [] (omega (arith, past, counted, length-map texts numbers_in)))) (in_ring-none plan.bits)

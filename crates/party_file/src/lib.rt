@@ -13,4 +13,6 @@ mod tapes;
 pub use data::PartyData;
 pub use fault::{PartyFault, WordCause};
 pub use field::Field;
+pub use fields::check_version;
+pub use inputs::read_inputs;
 pub use party::read_party;

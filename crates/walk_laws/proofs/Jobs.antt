@@ -1,13 +1,13 @@
 -- The whole walk ends once.
 use Rattle.std.proofs.Common.{ℕ, List, [], ◌∷◌, ◌++◌, length, Option, None, Some}
-use Rattle.party_set.specs.Parties.{Structure}
+use Rattle.party_set.specs.Parties.{Structure, Members}
 use Rattle.job_session.specs.Sessions.{Session}
 use Rattle.job_plan.specs.Plans.{Plan}
 use Rattle.job_file.specs.Forms.{JobForm, SessionForm}
 use Rattle.party_file.specs.Table.{PartyForm}
 use Rattle.command_words.specs.Commands.{CommandForm, run, check}
 use Rattle.mpc_top.specs.Verdict.{EndsOnce}
-use Rattle.mpc_top.specs.JobOf.{Contents, JobText, StructureOf, SessionAt, SessionsAfter, PlannedOf, PlanAt, PartyAt, PartiesAfter, JobAt}
+use Rattle.mpc_top.specs.JobOf.{Contents, JobText, GroupOf, StructureOf, SessionAt, SessionsAfter, PlannedOf, PlanAt, PartyAt, PartiesAfter, JobAt}
 use Rattle.mpc_top.specs.Due.{TextOf, IsDue}
 use Rattle.walk_laws.proofs.Walks.{ends_once, then_once}
 use Rattle.walk_laws.proofs.Plans.{groups_once, q2_once, plan_once}
@@ -15,6 +15,11 @@ use Rattle.walk_laws.proofs.Plans.{groups_once, q2_once, plan_once}
 structure_once : (job : JobForm) → EndsOnce (StructureOf job)
 unfolding StructureOf
 structure_once job = then_once _ _ (groups_once job.names job.adversary) (q2_once job)
+
+group_once : (names : List (List ℕ)) (asked : Option (List ℕ)) → EndsOnce (GroupOf names asked)
+unfolding GroupOf
+group_once names None = ends_once _
+group_once names (Some text) = then_once _ _ (ends_once _) (λ group. ends_once _)
 
 text_once : (files : Contents) (dir : List ℕ) → EndsOnce (JobText files dir)
 unfolding JobText
@@ -29,13 +34,14 @@ unfolding SessionsAfter
 sessions_once files dir job before [] = ends_once _
 sessions_once files dir job before (form ∷ forms) = then_once _ _ (session_once files dir job (length before) form) (λ s. sessions_once files dir job (before ++ s ∷ []) forms)
 
-planned_once : (files : Contents) (dir : List ℕ) (job : JobForm) (s : Structure) → EndsOnce (PlannedOf files dir job s)
+planned_once : (files : Contents) (dir : List ℕ) (job : JobForm) (group : Option Members) (s : Structure) → EndsOnce (PlannedOf files dir job group s)
 unfolding PlannedOf
-planned_once files dir job s = then_once _ _ (sessions_once files dir job [] job.sessions) (λ sessions. then_once _ _ (plan_once job _) (λ plan. ends_once _))
+planned_once files dir job group s = then_once _ _ (sessions_once files dir job [] job.sessions) (λ sessions. then_once _ _ (plan_once job _) (λ plan. ends_once _))
 
-plan_at_once : (files : Contents) (dir : List ℕ) → EndsOnce (PlanAt files dir)
+plan_at_once : (files : Contents) (dir : List ℕ) (asked : Option (List ℕ)) → EndsOnce (PlanAt files dir asked)
 unfolding PlanAt
-plan_at_once files dir = then_once _ _ (text_once files dir) (λ job. then_once _ _ (structure_once job) (planned_once files dir job))
+plan_at_once files dir asked =
+    then_once _ _ (text_once files dir) (λ job. then_once _ _ (group_once job.names asked) (λ group. then_once _ _ (structure_once job) (planned_once files dir job group)))
 
 party_once : (files : Contents) (dir : List ℕ) (plan : Plan) (p : ℕ) (name : List ℕ) → EndsOnce (PartyAt files dir plan p name)
 unfolding PartyAt
@@ -46,14 +52,14 @@ unfolding PartiesAfter
 parties_once files dir plan before [] = ends_once _
 parties_once files dir plan before (name ∷ names) = then_once _ _ (party_once files dir plan (length before) name) (λ party. parties_once files dir plan (before ++ party ∷ []) names)
 
-job_once : (files : Contents) (dir : List ℕ) → EndsOnce (JobAt files dir)
+job_once : (files : Contents) (dir : List ℕ) (asked : Option (List ℕ)) → EndsOnce (JobAt files dir asked)
 unfolding JobAt
-job_once files dir = then_once _ _ (plan_at_once files dir) (λ planned. then_once _ _ (parties_once files dir planned.plan [] planned.names) (λ parties. ends_once _))
+job_once files dir asked = then_once _ _ (plan_at_once files dir asked) (λ planned. then_once _ _ (parties_once files dir planned.plan [] planned.names) (λ parties. ends_once _))
 
 command_once : (command : CommandForm) (files : Contents) → EndsOnce (TextOf command files)
 unfolding TextOf
-command_once (run dir workers) files = then_once _ _ (job_once files dir) (λ job. ends_once _)
-command_once (check dir) files = then_once _ _ (plan_at_once files dir) (λ planned. ends_once _)
+command_once (run dir workers view) files = then_once _ _ (job_once files dir view) (λ job. ends_once _)
+command_once (check dir) files = then_once _ _ (plan_at_once files dir None) (λ planned. ends_once _)
 
 pub due_once : (command : Option CommandForm) (files : Contents) → EndsOnce (IsDue command (Some files))
 due_once None files = ends_once _

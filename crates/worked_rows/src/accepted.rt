@@ -36,6 +36,42 @@ const HIGHEST_BID: &[u8] =
 const SUM_AND_SQUARES: &str =
     "[[session]]\ncircuit = \"sum.txt\"\nlayout = \"ring\"\nowners = [\"a\", \"b\", \"c\"]\nreaders = [[\"a\", \"b\", \"c\"]]\n[[session]]\ncircuit = \"squares.txt\"\nlayout = \"ring\"\nowners = [\"a\", \"b\", \"c\"]\nreaders = [[\"b\"]]\n";
 
+/// The changes that make of the product one of 6 and 7 that b reads, in which a holds everything.
+pub const ALL_HELD_BY_ONE: [Change<'static>; 7] = [
+    Change::Edit("job.toml", "\"a\", \"b\", \"c\"", "\"a\", \"b\""),
+    Change::Edit("job.toml", "2 of (a, b, c)", "a"),
+    Change::Edit("job.toml", "[[\"c\"]]", "[[\"b\"]]"),
+    Change::Edit("party_a.toml", "5", "6"),
+    Change::Edit("party_a.toml", "10 20 1 2", ""),
+    Change::Edit("party_b.toml", "30 40 3 4", ""),
+    Change::Without("party_c.toml"),
+];
+
+/// The changes that leave an input of a, which b reads.
+pub const NO_GATES: [Change<'static>; 8] = [
+    Change::Whole("mul.txt", b"0 1\n1 1\n1 1\n"),
+    Change::Edit("job.toml", "[\"a\", \"b\"]", "[\"a\"]"),
+    Change::Edit("job.toml", "[[\"c\"]]", "[[\"b\"]]"),
+    Change::Edit("party_a.toml", "5", "200"),
+    Change::Edit("party_a.toml", "10 20 1 2", "10 20"),
+    Change::Edit("party_b.toml", "7", ""),
+    Change::Edit("party_b.toml", "30 40 3 4", ""),
+    Change::Edit("party_c.toml", "5 6", ""),
+];
+
+/// The changes that leave a bit of a, a constant bit and the inverse of a's, which c reads.
+pub const CONSTANT_BIT: [Change<'static>; 9] = [
+    Change::Edit("job.toml", "8", "1"),
+    Change::Edit("job.toml", "\"ring\"", "\"bristol\""),
+    Change::Edit("job.toml", "[\"a\", \"b\"]", "[\"a\"]"),
+    Change::Whole("mul.txt", b"2 3\n1 1\n1 2\n1 1 1 1 EQ\n1 1 0 2 INV\n"),
+    Change::Edit("party_a.toml", "5", "1"),
+    Change::Edit("party_a.toml", "10 20 1 2", "0 1"),
+    Change::Edit("party_b.toml", "7", ""),
+    Change::Edit("party_b.toml", "30 40 3 4", ""),
+    Change::Edit("party_c.toml", "5 6", ""),
+];
+
 /// Calls that end with status 0.
 pub const ACCEPTED: [Row<'static>; 20] = [
     Row {
@@ -107,15 +143,7 @@ pub const ACCEPTED: [Row<'static>; 20] = [
     Row {
         name: "one_party_holds_everything",
         words: &RUN,
-        changes: &[
-            Change::Edit("job.toml", "\"a\", \"b\", \"c\"", "\"a\", \"b\""),
-            Change::Edit("job.toml", "2 of (a, b, c)", "a"),
-            Change::Edit("job.toml", "[[\"c\"]]", "[[\"b\"]]"),
-            Change::Edit("party_a.toml", "5", "6"),
-            Change::Edit("party_a.toml", "10 20 1 2", ""),
-            Change::Edit("party_b.toml", "30 40 3 4", ""),
-            Change::Without("party_c.toml"),
-        ],
+        changes: &ALL_HELD_BY_ONE,
         status: 0,
         out: "out 0 0 b 42\n",
         err: "",
@@ -150,16 +178,7 @@ pub const ACCEPTED: [Row<'static>; 20] = [
     Row {
         name: "no_gates",
         words: &RUN,
-        changes: &[
-            Change::Whole("mul.txt", b"0 1\n1 1\n1 1\n"),
-            Change::Edit("job.toml", "[\"a\", \"b\"]", "[\"a\"]"),
-            Change::Edit("job.toml", "[[\"c\"]]", "[[\"b\"]]"),
-            Change::Edit("party_a.toml", "5", "200"),
-            Change::Edit("party_a.toml", "10 20 1 2", "10 20"),
-            Change::Edit("party_b.toml", "7", ""),
-            Change::Edit("party_b.toml", "30 40 3 4", ""),
-            Change::Edit("party_c.toml", "5 6", ""),
-        ],
+        changes: &NO_GATES,
         status: 0,
         out: "out 0 0 b 200\n",
         err: "",
@@ -184,17 +203,7 @@ pub const ACCEPTED: [Row<'static>; 20] = [
     Row {
         name: "a_constant_bit_and_its_inverse",
         words: &RUN,
-        changes: &[
-            Change::Edit("job.toml", "8", "1"),
-            Change::Edit("job.toml", "\"ring\"", "\"bristol\""),
-            Change::Edit("job.toml", "[\"a\", \"b\"]", "[\"a\"]"),
-            Change::Whole("mul.txt", b"2 3\n1 1\n1 2\n1 1 1 1 EQ\n1 1 0 2 INV\n"),
-            Change::Edit("party_a.toml", "5", "1"),
-            Change::Edit("party_a.toml", "10 20 1 2", "0 1"),
-            Change::Edit("party_b.toml", "7", ""),
-            Change::Edit("party_b.toml", "30 40 3 4", ""),
-            Change::Edit("party_c.toml", "5 6", ""),
-        ],
+        changes: &CONSTANT_BIT,
         status: 0,
         out: "out 0 0 c 1 0\n",
         err: "",

@@ -30,4 +30,6 @@ mod tests;
 #[cfg(test)]
 mod tolerated;
 #[cfg(test)]
+mod views;
+#[cfg(test)]
 mod workers;

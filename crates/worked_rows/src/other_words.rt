@@ -7,7 +7,7 @@ const USAGE: &str =
     "refused words\nusage: mpc check DIR\n       mpc run DIR [--workers W] [--view GROUP]\n       mpc pair DIR --group GROUP\n       mpc node DIR NAME\n       mpc sample N\n";
 
 /// Calls whose words are refused.
-pub const OTHER_WORDS: [Row<'static>; 10] = [
+pub const OTHER_WORDS: [Row<'static>; 14] = [
     Row {
         name: "no_words",
         words: &[],
@@ -83,6 +83,38 @@ pub const OTHER_WORDS: [Row<'static>; 10] = [
     Row {
         name: "a_sample_of_none",
         words: &["mpc", "sample", "0"],
+        changes: &[],
+        status: 2,
+        out: "",
+        err: USAGE,
+    },
+    Row {
+        name: "a_view_of_nothing",
+        words: &["mpc", "run", "d", "--view"],
+        changes: &[],
+        status: 2,
+        out: "",
+        err: USAGE,
+    },
+    Row {
+        name: "a_view_of_an_option",
+        words: &["mpc", "run", "d", "--view", "--workers"],
+        changes: &[],
+        status: 2,
+        out: "",
+        err: USAGE,
+    },
+    Row {
+        name: "two_views",
+        words: &["mpc", "run", "d", "--view", "a", "--view", "b"],
+        changes: &[],
+        status: 2,
+        out: "",
+        err: USAGE,
+    },
+    Row {
+        name: "a_view_before_the_folder",
+        words: &["mpc", "run", "--view", "a", "d"],
         changes: &[],
         status: 2,
         out: "",

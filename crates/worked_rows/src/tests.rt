@@ -11,6 +11,7 @@ use crate::party_faults::PARTY_FAULTS;
 use crate::product::{CIRCUIT, SESSION, TWO_SESSIONS};
 use crate::row::{CHECK, Change, RUN, Row};
 use crate::tolerated::TOLERATED;
+use crate::views::{OTHER_GROUPS, VIEWS};
 use mpc_ring::Ring;
 use std::alloc::Global;
 use std::process::Abort;
@@ -26,6 +27,15 @@ fn each_row_has_its_answer(rt: HostRuntime) -> Result<(), Fail> {
     expect_all(&rt, alloc, &CIRCUIT_FAULTS)?;
     expect_all(&rt, alloc, &PARTY_FAULTS)?;
     expect_all(&rt, alloc, &TOLERATED)
+}
+
+#[test]
+fn each_view_is_told(rt: HostRuntime) -> Result<(), Fail> {
+    let alloc = rt.alloc();
+    for row in &VIEWS {
+        expect_within(&rt, alloc, row, 600, 300)?;
+    }
+    expect_all(&rt, alloc, &OTHER_GROUPS)
 }
 
 /// That each run of these rows that writes outputs writes the values that its circuits have in the clear.

@@ -16,4 +16,4 @@ returns-in_err-write_check g c =
 pub returns : goal.returns
 returns g c =
     let planned = c.in_ok-planned.planned in
-    runs_written (check c.args.dir.now) _ _ _ _ (check_text planned.names planned.plan) _ (check_read c.args.dir.now _ _ planned c.in_ok-planned.ensures.reads) c.in_ok-write_check.ensures
+    runs_written (check c.args.dir.now) _ _ _ _ (check_text planned.names planned.plan) _ (check_read c.args.dir.now _ _ planned c.in_ok-planned.ensures.reads) c.in_ok-write_check.ensures tt

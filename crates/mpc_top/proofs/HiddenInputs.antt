@@ -1,0 +1,42 @@
+-- That the view of a tolerated group hides the inputs of all others.
+use Rattle.std.proofs.Common.{ℕ, List, [], ◌++◌, Option, None, Some, Ok, Vec, sym, subst}
+use Rattle.std.specs.Prelude.{IfSome}
+use Rattle.std.specs.declared.alloc.Global.{Global}
+use Rattle.outer_io.specs.Files.{FilesReading, Told}
+use Rattle.command_words.specs.Commands.{run}
+use Rattle.party_set.specs.Parties.{Members}
+use Rattle.party_file.specs.declared.data.PartyData.{PartyData}
+use Rattle.share_world.specs.Worlds.{World, view}
+use Rattle.share_world.specs.Laws.{IsWhole}
+use Rattle.tape_map.specs.TapeMaps.{second_world}
+use Rattle.tape_map.proofs.SeenWords.{same_view}
+use Rattle.output_text.specs.OutText.{out_text}
+use Rattle.output_text.specs.ViewText.{view_text, run_text}
+use Rattle.mpc_top.specs.declared.plan.Planned as code
+use Rattle.mpc_top.specs.Verdict.{accepted}
+use Rattle.mpc_top.specs.JobOf.{WholeJob, JobAt}
+use Rattle.mpc_top.specs.Reads.{ReadsAs}
+use Rattle.mpc_top.specs.Hiding.{AreAlike, Hides, RunHides}
+use Rattle.mpc_top.proofs.Jobs.{job_seen}
+
+module _ (Written : List ℕ → Type 0) where
+  -- the text of a run over a whole world hides them
+  hidden : (names : List (List ℕ)) (w : World) (group : Option Members) → IsWhole w → Written (run_text names w group)
+      → Hides (record { names = names; group = group; world = w }) Written
+  unfolding run_text
+  hidden names w None whole text = tt
+  hidden names w (Some group) whole text = λ other alike.
+      subst (λ seen. Written (out_text names w ++ view_text names group.mask seen))
+      (sym (same_view w other group.mask (record { whole = whole; others = alike.inputs; tolerated = alike.tolerated; agree = alike.agree })))
+      text
+
+  told_hides : (dir : List ℕ) (workers : ℕ) (asked : Option (List ℕ)) (job : WholeJob) (told : Told) → IfSome told (λ m. JobAt m dir asked (accepted job)) → Hides job Written
+      → RunHides (Some (run dir workers asked)) told Written
+  told_hides dir workers asked job None is hides = tt
+  told_hides dir workers asked job (Some files) is hides = (job, is, hides)
+
+  pub run_hides : (dir : List ℕ) (workers : ℕ) (asked : Option (List ℕ)) (planned : code.Planned) (parties : Vec PartyData Global) (before after : FilesReading)
+      → IsWhole (job_seen planned parties).world → ReadsAs (job_seen planned) (λ m. JobAt m dir asked) before after (Ok parties)
+      → Written (run_text planned.names (job_seen planned parties).world planned.group) → RunHides (Some (run dir workers asked)) before.told Written
+  run_hides dir workers asked planned parties before after whole read text =
+      told_hides dir workers asked (job_seen planned parties) before.told read.ok (hidden planned.names (job_seen planned parties).world planned.group whole text)

@@ -1,0 +1,87 @@
+-- The file of other inputs: its checks in order, what it gives, and the first fault.
+use Rattle.std.specs.Prelude.{ℕ, not, ◌==◌, List, [], ◌∷◌, ◌++◌, length, map, slice_index_or, Option, Some, None, Result, Err, if◌then◌else◌, codes}
+use Rattle.std.specs.Option.{is_some, unwrap_or, option_map, option_or}
+use Rattle.toml.specs.Data.{Members, no_members}
+use Rattle.toml_fields.specs.Documents.{document_of}
+use Rattle.toml_fields.specs.Fields.{has_field, is_misfit, texts_at, table_at}
+use Rattle.toml_fields.specs.Keys.{least_unknown}
+use Rattle.toml_fields.specs.declared.kind.Kind.TheVariants as kind
+use Rattle.list_laws.specs.Lists.{listed}
+use Rattle.list_laws.specs.Checks.{◌answers◌, first_fault, or_fault}
+use Rattle.party_set.specs.Names.{name_at}
+use Rattle.job_plan.specs.Plans.{Plan}
+use Rattle.party_file.specs.Table.{version_checks, input_checks, numbers_in}
+use Rattle.party_file.specs.declared.field.Field.TheVariants as field
+use Rattle.party_file.specs.declared.fault.PartyFault.{PartyFault}
+use Rattle.party_file.specs.declared.fault.PartyFault.TheVariants.{NotToml, Missing, Unknown, WrongKind, CountDiffers}
+use Rattle.other_file.specs.declared.fault.OtherFault.{OtherFault}
+use Rattle.other_file.specs.declared.fault.OtherFault.TheVariants as other
+
+-- ---- the fields
+
+-- no field of the table has another name than these; the least one that has is told
+unfoldable pub name_checks : List (List ℕ) → Members → List (Option PartyFault)
+name_checks known fields =
+    (is_some (least_unknown known fields) answers Unknown (unwrap_or (least_unknown known fields) [])) ∷ []
+
+-- the inputs are there, and they are a table
+unfoldable pub kind_checks : Members → List (Option PartyFault)
+kind_checks fields =
+    (not (has_field (codes "inputs") fields) answers Missing field.Inputs)
+    ∷ (is_misfit kind.Fields (codes "inputs") fields answers WrongKind field.Inputs)
+    ∷ []
+
+-- what stands under `inputs`
+abbrev pub inputs_in : Members → Members
+inputs_in fields = unwrap_or (table_at (codes "inputs") fields) no_members
+
+-- the checks of the file as such; the last is that the names under `inputs` are the parties'
+unfoldable pub file_checks : List (List ℕ) → Members → List (Option PartyFault)
+file_checks names fields =
+    version_checks fields ++ (name_checks (codes "version" ∷ codes "inputs" ∷ []) fields
+    ++ (kind_checks fields ++ name_checks names (inputs_in fields)))
+
+-- ---- the parties
+
+-- the texts of party p: one for each session, and the words that its input wires want
+unfoldable pub text_checks : Plan → ℕ → List (List ℕ) → List (Option PartyFault)
+text_checks plan p texts =
+    (not (length texts == length plan.sessions) answers CountDiffers None (length plan.sessions) (length texts))
+    ∷ input_checks plan p texts
+
+-- the fault of what this table gives party p, if it names p
+unfoldable pub party_fault : Plan → List (List ℕ) → Members → ℕ → Option OtherFault
+party_fault plan names given p =
+    if not (has_field (name_at names p) given) then None
+    else if is_misfit kind.Texts (name_at names p) given then Some (other.WrongKind p)
+    else option_map (λ fault. other.Inputs p fault)
+    (first_fault (text_checks plan p (texts_at (name_at names p) given)))
+
+-- the inputs of party p: those that this table gives, or where it doesn't name p, those of the first run
+unfoldable pub party_inputs : List (List ℕ) → List (List (List ℕ)) → Members → ℕ → List (List ℕ)
+party_inputs names inputs given p =
+    if has_field (name_at names p) given then map numbers_in (texts_at (name_at names p) given)
+    else slice_index_or inputs p []
+
+-- ---- the file
+
+-- the first fault of the fields: of the file as such, and then party by party
+unfoldable pub other_fault : Plan → List (List ℕ) → Members → Option OtherFault
+other_fault plan names fields =
+    option_or (option_map (λ fault. other.File fault) (first_fault (file_checks names fields)))
+    (first_fault (listed plan.parties (party_fault plan names (inputs_in fields))))
+
+unfoldable pub other_inputs : Plan → List (List ℕ) → List (List (List ℕ)) → Members → List (List (List ℕ))
+other_inputs plan names inputs fields = listed plan.parties (party_inputs names inputs (inputs_in fields))
+
+-- what the fields give, or their first fault
+abbrev pub other_in_fields :
+    Plan → List (List ℕ) → List (List (List ℕ)) → Option Members → Result (List (List (List ℕ))) OtherFault
+other_in_fields plan names inputs None = Err (other.File NotToml)
+other_in_fields plan names inputs (Some fields) =
+    or_fault (other_fault plan names fields) (other_inputs plan names inputs fields)
+
+-- the inputs of all parties that the bytes of a file give beside those of a first run, or its first fault
+unfoldable pub other_in :
+    Plan → List (List ℕ) → List (List (List ℕ)) → List ℕ → Result (List (List (List ℕ))) OtherFault
+other_in plan names inputs bytes = other_in_fields plan names inputs (document_of bytes)
