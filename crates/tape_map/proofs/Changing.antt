@@ -1,21 +1,21 @@
 -- The tables of a session make the change of its tapes.
-use Rattle.std.proofs.Common.{◌≡◌, ◌≢◌, ℕ, suc, ◌+◌, ◌-◌, ◌%◌, ◌^◌, ◌<◌, ◌≤◌, true, false, nat_eq, nat_lt, if◌then◌else◌, All, List, [], length, refl, sym, ap, ap₂, ◌∙◌, subst, arith, inl, inr, pow_pos}
+use Rattle.std.proofs.Common.{◌≡◌, ℕ, ◌+◌, ◌-◌, ◌%◌, ◌^◌, ◌<◌, ◌≤◌, true, nat_eq, nat_lt, if◌then◌else◌, All, List, [], length, refl, sym, ap, ap₂, ◌∙◌, subst, arith, inl, inr, pow_pos}
 use Rattle.std.specs.Prelude.{slice_index, slice_index_or}
 use Rattle.std.specs.Global.{Vec}
 use Rattle.std.proofs.lemmas.List.{length-map, get_or_default}
 use Rattle.std.proofs.Math.Nat.{mod-eq_of_lt, mod-lt}
 use Rattle.std.proofs.Math.ListN.{get_or-eq_default}
-use Rattle.std.proofs.lemmas.Bool.{cases_Bool, cases_eq, cases_lt, cond-true, cond-false, cond_both, lt-ltb, and_parts}
+use Rattle.std.proofs.lemmas.Bool.{cases_Bool, cases_lt, cond-true, cond-false, cond_both, lt-ltb, and_parts}
 use Rattle.list_laws.specs.Lists.{total, joined, listed}
 use Rattle.list_laws.proofs.Totals.{total_eq}
 use Rattle.list_laws.proofs.JoinedLists.{length-joined, length-listed, listed_at, listed_eq, joined_eq}
 use Rattle.mpc_ring.specs.Differences.{difference}
 use Rattle.circuit_model.specs.Circuits.{is_product}
 use Rattle.circuit_model.proofs.SetAt.{set_there}
-use Rattle.secret_sharing.specs.Sharing.{own_product, own_value, summands}
+use Rattle.secret_sharing.specs.Sharing.{summands}
 use Rattle.party_set.specs.Parties.{has_party}
-use Rattle.job_plan.specs.Plans.{Plan, Session, Slot, scheme, session, owners, gate, slot, slots, session_slot, words, words_in, place, deals_in}
-use Rattle.job_plan.specs.Plans.Slot.{Input, At_gate, Output}
+use Rattle.job_plan.specs.Plans.{Plan, Session, session, owners, gate, slot, slots, words, words_in, place, deals_in}
+use Rattle.job_plan.specs.Plans.Slot.{At_gate}
 use Rattle.job_plan.specs.InputWords.{AreInputs, session_words}
 use Rattle.job_plan.proofs.Slots.{slot_cases}
 use Rattle.share_world.specs.Laws.{IsWorld, IsWhole}
@@ -28,7 +28,7 @@ use Rattle.wire_tables.proofs.RowSteps.{own_alike}
 use Rattle.wire_tables.proofs.Settled.{in_order, settled, product_settled}
 use Rattle.wire_tables.proofs.MessageSenders.{own_at_end, read_settled}
 use Rattle.tape_map.specs.TapeMaps.{hidden, with_inputs, delta, raised, moved_summands, moved_value, moved_words, piece_map, tape_of}
-use Rattle.tape_map.specs.Changes.{moved_rows, IsChange, Fits, deals_by, growth, grown_words, grown_piece}
+use Rattle.tape_map.specs.Changes.{moved_rows, IsChange, Fits, deals_by, grown_words, grown_piece}
 use Rattle.tape_map.specs.declared.change.Change.{Change}
 
 -- ---- numbers of lists

@@ -1,7 +1,7 @@
 -- The first fault of checks that follow each other.
 use Rattle.std.proofs.Common.{◌≡◌, ℕ, zero, suc, ◌+◌, ◌<◌, Bool, true, false, List, [], ◌∷◌, ◌++◌, Option, Some, None, refl, sym, ◌∙◌, ap, arith, inl, inr}
 use Rattle.std.proofs.lemmas.Bool.{cases_eq}
-use Rattle.list_laws.specs.Lists.{joined, listed}
+use Rattle.list_laws.specs.Lists.{joined}
 use Rattle.list_laws.specs.Checks.{◌answers◌, first_fault}
 
 module _ {F : Type 0} where

@@ -1,6 +1,6 @@
 -- There is no fault exactly where the other inputs can be hidden.
-use Rattle.std.proofs.Common.{◌≡◌, ℕ, suc, ◌+◌, ◌<◌, ◌≤◌, Bool, true, false, ◌&&◌, ◌||◌, not, nat_eq, List, [], ◌∷◌, ◌++◌, Option, Some, None, length, refl, sym, ap, ap₂, ◌∙◌, subst, arith, inl, inr}
-use Rattle.std.specs.Prelude.{◌↔◌, SomeIff, slice_index, slice_index_or}
+use Rattle.std.proofs.Common.{◌≡◌, ℕ, suc, ◌<◌, ◌≤◌, Bool, true, false, ◌&&◌, not, nat_eq, List, [], ◌∷◌, ◌++◌, Option, Some, None, length, refl, sym, ap, ap₂, ◌∙◌, subst, arith, inl, inr}
+use Rattle.std.specs.Prelude.{◌↔◌, SomeIff, slice_index}
 use Rattle.list_laws.proofs.JoinedLists.{joined_eq, listed_at}
 use Rattle.std.specs.List.{list_any, position_or_len}
 use Rattle.std.proofs.lemmas.Bool.{cases_Bool, cases_lt, both_ways, eqb-true, eq-eqb, or_cases}
@@ -17,7 +17,7 @@ use Rattle.share_world.specs.Laws.{IsWhole}
 use Rattle.share_world.specs.Worlds.{World, input_of, plain}
 use Rattle.tape_map.specs.TapeMaps.{hidden, with_inputs}
 use Rattle.tape_map.specs.Laws.{Agree, CanHide}
-use Rattle.tape_map.specs.MapFaults.{is_tolerated, input_check, output_check, input_checks, output_checks, value_checks, map_checks, map_fault}
+use Rattle.tape_map.specs.MapFaults.{is_tolerated, input_check, output_check, input_checks, output_checks, value_checks, map_fault}
 use Rattle.tape_map.specs.declared.fault.MapFault.{MapFault}
 use Rattle.tape_map.specs.declared.fault.MapFault.TheVariants.{NotTolerated, InputDiffers, OutputDiffers}
 use Rattle.tape_map.proofs.FirstChecks.{first-after, first-front, one-fails, passed-front, passed-back, passed-one, one-passed, joined-passed, all-passed}

@@ -1,4 +1,4 @@
-use Rattle.std.proofs.Common.{◌≡◌, ℕ, ◌<◌, [], sym, ◌∙◌, length, arith}
+use Rattle.std.proofs.Common.{[], sym, ◌∙◌, length, arith}
 use Rattle.share_world.specs.Worlds.{World}
 use Rattle.tape_map.specs.MapFaults.{input_checks}
 use Rattle.tape_map.proofs.FirstChecks.{joined-stops, joined_more-passed}

@@ -1,8 +1,8 @@
-use Rattle.std.proofs.Common.{◌≡◌, ℕ, suc, ◌+◌, ◌<◌, ◌++◌, List, [], length, sym, ap, ap₂, ◌∙◌, subst, arith}
+use Rattle.std.proofs.Common.{◌≡◌, ℕ, ◌<◌, ◌++◌, [], length, sym, ap, ap₂, ◌∙◌, arith}
 use Rattle.std.specs.Prelude.{slice_index_or}
 use Rattle.std.specs.Global.{Vec}
 use Rattle.std.proofs.lemmas.List.{length-map, with_items_is}
-use Rattle.list_laws.specs.Lists.{joined, listed}
+use Rattle.list_laws.specs.Lists.{joined}
 use Rattle.list_laws.proofs.JoinedLists.{joined_more}
 use Rattle.job_plan.specs.InputWords.{session_words}
 use Rattle.job_plan.specs.Plans.{place}
@@ -10,7 +10,6 @@ use Rattle.share_world.specs.Worlds.{World}
 use Rattle.wire_tables.specs.WireTables.{world_of}
 use Rattle.wire_tables.proofs.ListedRows.{listed_of}
 use Rattle.tape_map.specs.TapeMaps.{piece_map, tape_map}
-use Rattle.tape_map.specs.Changes.{IsChange, grown_piece}
 use Rattle.tape_map.proofs.Changing.{change_fits, piece_grown, pieces_long}
 use Rattle.tape_map.proofs.map.changed_tapes.Goals as goal
 

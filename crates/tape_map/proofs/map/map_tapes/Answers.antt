@@ -1,5 +1,4 @@
-use Rattle.std.proofs.Common.{◌≡◌, ℕ, ◌<◌, true, length, [], None, sym, ap, ◌∙◌, subst, inl, inr}
-use Rattle.list_laws.specs.Checks.{first_fault}
+use Rattle.std.proofs.Common.{◌≡◌, ℕ, ◌<◌, true, length, sym, ◌∙◌, subst, inr}
 use Rattle.job_plan.specs.Plans.{Plan}
 use Rattle.share_world.specs.Worlds.{World}
 use Rattle.wire_tables.specs.WireTables.{world_of}

@@ -1,8 +1,7 @@
-use Rattle.std.proofs.Common.{◌≡◌, ℕ, ◌<◌, [], length, sym, ap, ◌∙◌, arith}
-use Rattle.std.specs.Prelude.{slice_index}
+use Rattle.std.proofs.Common.{◌<◌, [], length, sym, ap, ◌∙◌, arith}
 use Rattle.list_laws.specs.Checks.{first_fault}
 use Rattle.list_laws.proofs.JoinedLists.{length-listed}
-use Rattle.job_plan.specs.Plans.{Session, session}
+use Rattle.job_plan.specs.Plans.{session}
 use Rattle.share_world.specs.Worlds.{World, plain}
 use Rattle.tape_map.specs.TapeMaps.{with_inputs}
 use Rattle.tape_map.specs.MapFaults.{output_checks}

@@ -1,6 +1,5 @@
-use Rattle.std.proofs.Common.{◌≡◌, ◌≤◌, true, length, sym, ap, ◌∙◌, subst, arith}
-use Rattle.std.specs.Prelude.{slice_index}
-use Rattle.job_plan.specs.Plans.{slot, session_slot, deals_in, place}
+use Rattle.std.proofs.Common.{◌≡◌, true, sym, ap, ◌∙◌, subst, arith}
+use Rattle.job_plan.specs.Plans.{slot, session_slot, deals_in}
 use Rattle.job_plan.specs.Sound.{IsSoundSession, slot_of_kind}
 use Rattle.wire_tables.proofs.NextPlaces.{dealt_within}
 use Rattle.wire_tables.proofs.places.pass_slot.Goals as goal

@@ -1,4 +1,4 @@
-use Rattle.std.proofs.Common.{◌≡◌, ℕ, ◌^◌, ◌<◌, false, List, [], length, sym, ap, ap₂, ◌∙◌, subst, arith, All}
+use Rattle.std.proofs.Common.{◌≡◌, ℕ, ◌^◌, ◌<◌, List, [], length, sym, ap, ap₂, ◌∙◌, subst, arith}
 use Rattle.std.specs.Prelude.{slice_index, slice_index_or}
 use Rattle.std.proofs.lemmas.Bool.{cond-false}
 use Rattle.mpc_ring.specs.Differences.{difference}
@@ -8,10 +8,9 @@ use Rattle.product_duty.specs.Duties.{scheme_of}
 use Rattle.secret_sharing.specs.Sharing.{own_product}
 use Rattle.job_plan.specs.InputWords.{session_words}
 use Rattle.job_plan.specs.Plans.{Session, scheme, session, gate}
-use Rattle.job_plan.specs.Plans.Slot.{At_gate}
 use Rattle.job_plan.specs.Sound.{Inside, slot_of_kind}
 use Rattle.wire_tables.proofs.ListedRows.{row_read}
-use Rattle.tape_map.specs.Changes.{growth, deals_by}
+use Rattle.tape_map.specs.Changes.{growth}
 use Rattle.tape_map.proofs.Changing.{small_all}
 use Rattle.tape_map.proofs.change.Change.growth.Goals as goal
 

@@ -1,10 +1,7 @@
-use Rattle.std.proofs.Common.{◌≡◌, ℕ, ◌^◌, ◌<◌, All, List, [], length, refl, sym, ap, ◌∙◌, subst, arith, pow_pos}
-use Rattle.std.specs.Prelude.{slice_index, slice_index_or}
-use Rattle.list_laws.specs.Lists.{listed}
+use Rattle.std.proofs.Common.{◌≡◌, ℕ, ◌^◌, ◌<◌, All, List, length, refl, sym, ap, ◌∙◌, subst}
 use Rattle.list_laws.proofs.JoinedLists.{length-listed}
 use Rattle.secret_sharing.specs.Sharing.{summands}
 use Rattle.job_plan.specs.Plans.{Session, session}
-use Rattle.job_plan.specs.InputWords.{session_words}
 use Rattle.share_world.specs.Laws.{IsWorld}
 use Rattle.share_world.specs.Worlds.{World, plain, run_of}
 use Rattle.share_world.proofs.SmallWords.{is_world, is_plan, small_run}

@@ -1,10 +1,10 @@
-use Rattle.std.proofs.Common.{◌≡◌, ℕ, ◌+◌, ◌-◌, ◌^◌, ◌<◌, ◌≤◌, ◌++◌, true, false, List, [], length, sym, ap, ap₂, ◌∙◌, subst, arith, length-append}
+use Rattle.std.proofs.Common.{◌≡◌, ℕ, ◌+◌, ◌-◌, ◌^◌, ◌<◌, true, List, length, sym, ap, ap₂, ◌∙◌, arith, length-append}
 use Rattle.std.specs.Prelude.{slice_index}
 use Rattle.std.specs.Global.{Vec}
 use Rattle.std.proofs.lemmas.Bool.{cond-true, cond-false}
-use Rattle.list_laws.specs.Lists.{total, joined, listed}
+use Rattle.list_laws.specs.Lists.{joined, listed}
 use Rattle.list_laws.proofs.JoinedLists.{joined_step, joined_step_none, total_within}
-use Rattle.job_plan.specs.Plans.{Plan, slot, slots, session_slot, words, words_in, place, deals_in}
+use Rattle.job_plan.specs.Plans.{slot, slots, session_slot, words_in, place, deals_in}
 use Rattle.job_plan.specs.Sound.{slot_of_kind}
 use Rattle.tape_map.specs.TapeMaps.{raised}
 use Rattle.tape_map.specs.Changes.{growth, grown_words}
