@@ -16,6 +16,19 @@ ghost use Rattle.tape_map.specs.Laws.{AgreesBack, DeltaIsPlain};
 ghost use Rattle.tape_map.specs.Multiply.{CanHideFromA, HiddenFromA, SecondPlain, CanHideFromC};
 ghost use Rattle.tape_map.specs.Multiply.{HiddenFromNobody, HiddenFromC, SeenByBoth};
 
+mod change;
+mod differing;
+mod fault;
+mod fault_law;
+mod hiding;
+mod inputs;
+mod map;
+mod outputs;
+
+pub use fault::MapFault;
+pub use fault_law::no_fault_where_it_can_be_hidden;
+pub use map::map_tapes;
+
 /// In the second world a tolerated group sees what it saw: each message that a member sends or
 /// receives has the word that it had, and each output that a member reads is what it was.
 pub fn same_view()

@@ -1,21 +1,21 @@
 -- Who sends a message, and the word of it.
-use Rattle.std.proofs.Common.{◌≡◌, ◌≢◌, ℕ, suc, ◌+◌, ◌<◌, true, false, List, [], ◌∷◌, length, refl, sym, ap, ◌∙◌, subst, arith}
-use Rattle.std.specs.Prelude.{slice_index, slice_index_or}
+use Rattle.std.proofs.Common.{◌≡◌, ℕ, ◌+◌, ◌<◌, true, List, [], ◌∷◌, length, refl, sym, ap, ◌∙◌, subst}
+use Rattle.std.specs.Prelude.{slice_index}
 use Rattle.std.specs.List.{AllByRecursion}
 use Rattle.list_laws.proofs.JoinedLists.{every_joined, every_only_if}
 use Rattle.circuit_model.specs.Circuits.{is_product}
 use Rattle.secret_sharing.specs.Sharing.{dealt, own_product, own_value, summands}
-use Rattle.job_session.specs.Sessions.{Session, Slot, owners, gate, session_slot, session_slots, output_wire}
+use Rattle.job_session.specs.Sessions.{Session, Slot, owners, gate, session_slot, session_slots}
 use Rattle.job_plan.specs.Plans.{Plan, scheme, session, slot, slots, deals_in}
 use Rattle.job_session.specs.Sessions.Slot.{Input, At_gate, Output}
 use Rattle.job_plan.specs.declared.key.Key.{Key}
 use Rattle.job_plan.specs.Messages.{deal_messages, slot_messages, messages}
-use Rattle.job_plan.specs.Numbers.{message, no_key, number}
+use Rattle.job_plan.specs.Numbers.{message, no_key}
 use Rattle.job_plan.proofs.DistinctMessages.{every_one, every_place, number_of_message}
-use Rattle.job_plan.proofs.MessageSlots.{IsThere, is_there, share_within}
-use Rattle.job_session.proofs.SessionSlots.{slot_input, slot_gate, slot_cases}
+use Rattle.job_plan.proofs.MessageSlots.{is_there, share_within}
+use Rattle.job_session.proofs.SessionSlots.{slot_cases}
 use Rattle.share_world.specs.Solutions.{GatesInOrder}
-use Rattle.share_world.specs.Worlds.{World, run_of, input_of, tape_word, dealt_value, word, word_in}
+use Rattle.share_world.specs.Worlds.{World, run_of, input_of, tape_word}
 use Rattle.share_world.proofs.Solutions.{is_solution}
 use Rattle.wire_tables.proofs.RowSteps.{own_alike}
 use Rattle.wire_tables.proofs.Settled.{product_settled}

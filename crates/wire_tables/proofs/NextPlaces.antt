@@ -1,7 +1,6 @@
 -- Where the parties' next deals begin.
-use Rattle.std.proofs.Common.{◌≡◌, ℕ, suc, ◌+◌, ◌-◌, ◌<◌, ◌≤◌, true, false, if◌then◌else◌, length, sym, ap, ◌∙◌, arith}
+use Rattle.std.proofs.Common.{◌≡◌, ℕ, ◌+◌, ◌-◌, ◌<◌, ◌≤◌, true, false, length, ap, ◌∙◌, arith}
 use Rattle.std.proofs.lemmas.Bool.{cond-true, cond-false}
-use Rattle.list_laws.specs.Lists.{total}
 use Rattle.list_laws.proofs.Totals.{total_more}
 use Rattle.list_laws.proofs.JoinedLists.{total_within}
 use Rattle.job_plan.specs.Plans.{Plan, slot, slots, words, words_in, place, deals_in}

@@ -1,5 +1,5 @@
 -- The gates of a session stand in order, and a wire that is set stays as it is.
-use Rattle.std.proofs.Common.{◌≡◌, ◌≢◌, ℕ, zero, suc, ◌+◌, ◌-◌, ◌<◌, ◌≤◌, Bool, true, false, ◌||◌, nat_eq, [], ◌∷◌, length, refl, sym, ap, ◌∙◌, subst, arith, inl, inr}
+use Rattle.std.proofs.Common.{◌≡◌, ◌≢◌, ℕ, zero, suc, ◌+◌, ◌-◌, ◌<◌, ◌≤◌, true, false, ◌||◌, nat_eq, [], ◌∷◌, length, refl, sym, ap, ◌∙◌, subst, arith, inl, inr}
 use Rattle.std.specs.Prelude.{take}
 use Rattle.std.specs.List.{list_any}
 use Rattle.std.proofs.lemmas.Bool.{cases_Bool, both_ways, eqb-true, eq-eqb}
@@ -7,8 +7,7 @@ use Rattle.circuit_model.specs.declared.gate.Operation.{Operation}
 use Rattle.circuit_model.specs.declared.gate.Operation.TheVariants.{Add, Sub, Neg, Mul, Xor, And, Inv, Eq, Eqw}
 use Rattle.circuit_model.specs.Circuits.{is_product}
 use Rattle.circuit_model.specs.Netlists.{arity, reads, read_by}
-use Rattle.job_session.specs.Sessions.{Session, Slot, owners, gate, session_slot, session_slots}
-use Rattle.job_session.specs.Sessions.Slot.{Input, At_gate, Output}
+use Rattle.job_session.specs.Sessions.{Session, owners, gate, session_slots}
 use Rattle.job_session.specs.KeptWires.{IsInOrder, sets, sets_in, reads_in}
 use Rattle.list_laws.proofs.Tests.{or_true}
 use Rattle.job_session.proofs.SessionSlots.{slot_input, slot_gate, slot_cases}

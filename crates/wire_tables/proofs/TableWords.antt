@@ -1,13 +1,13 @@
 -- The words of messages, read off a table.
-use Rattle.std.proofs.Common.{◌≡◌, ℕ, ◌+◌, ◌-◌, ◌^◌, ◌<◌, ◌≤◌, All, true, nat_eq, List, [], length, sym, ap, ap₂, ◌∙◌, subst, arith}
+use Rattle.std.proofs.Common.{◌≡◌, ℕ, ◌^◌, ◌<◌, All, true, List, [], length, sym, ap, ap₂, ◌∙◌, subst, arith}
 use Rattle.std.specs.Prelude.{slice_index, slice_index_or}
 use Rattle.std.proofs.lemmas.Bool.{and_parts}
 use Rattle.list_laws.proofs.JoinedLists.{length-listed, listed_at}
 use Rattle.circuit_model.specs.Circuits.{is_product}
 use Rattle.secret_sharing.specs.Sharing.{dealt, own_product, summands}
 use Rattle.job_plan.specs.declared.key.Key.{Key}
-use Rattle.job_session.specs.Sessions.{Session, Slot, gate, output_wire}
-use Rattle.job_plan.specs.Plans.{Plan, scheme, session, slot, slots, deals_in}
+use Rattle.job_session.specs.Sessions.{Session, gate, output_wire}
+use Rattle.job_plan.specs.Plans.{scheme, session, slot, slots, deals_in}
 use Rattle.job_session.specs.Sessions.Slot.{Input, At_gate, Output}
 use Rattle.share_world.specs.Laws.{IsWhole}
 use Rattle.share_world.specs.Solutions.{GatesInOrder}

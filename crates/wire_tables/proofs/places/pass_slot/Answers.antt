@@ -1,7 +1,6 @@
-use Rattle.std.proofs.Common.{◌≡◌, ◌≤◌, true, length, sym, ap, ◌∙◌, subst, arith}
-use Rattle.std.specs.Prelude.{slice_index}
+use Rattle.std.proofs.Common.{◌≡◌, true, sym, ap, ◌∙◌, subst, arith}
 use Rattle.job_session.specs.Sessions.{session_slot}
-use Rattle.job_plan.specs.Plans.{slot, deals_in, place}
+use Rattle.job_plan.specs.Plans.{slot, deals_in}
 use Rattle.job_session.specs.SoundSessions.{IsSoundSession, slot_of_kind}
 use Rattle.wire_tables.proofs.NextPlaces.{dealt_within}
 use Rattle.wire_tables.proofs.places.pass_slot.Goals as goal

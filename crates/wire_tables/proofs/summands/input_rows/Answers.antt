@@ -1,4 +1,4 @@
-use Rattle.std.proofs.Common.{◌≡◌, ℕ, ◌+◌, ◌^◌, ◌<◌, ◌≤◌, true, nat_eq, nat_lt, List, [], ◌∷◌, ◌++◌, replicate, length, sym, ap, ap₂, ◌∙◌, subst, arith}
+use Rattle.std.proofs.Common.{◌≡◌, ℕ, ◌^◌, ◌<◌, ◌≤◌, true, nat_lt, List, [], ◌∷◌, replicate, length, sym, ap, ap₂, ◌∙◌, subst, arith}
 use Rattle.std.specs.Prelude.{slice_index}
 use Rattle.std.specs.Global.{Vec}
 use Rattle.std.proofs.lemmas.Bool.{cond-true, cond-false, eq-eqb, lt-ltb, le-ltb}
@@ -14,7 +14,6 @@ use Rattle.job_plan.proofs.GrownLists.{listed_push}
 use Rattle.job_session.proofs.SessionSlots.{slot_input}
 use Rattle.share_world.specs.Worlds.{World, input_of, tape_word, first_summands}
 use Rattle.wire_tables.specs.WireTables.{world_of}
-use Rattle.wire_tables.specs.Steps.{AreRows}
 use Rattle.wire_tables.proofs.DealtRows.{zeros_listed}
 use Rattle.wire_tables.proofs.RowSteps.{dealt_here, rows_first}
 use Rattle.wire_tables.proofs.TableWords.{has_words}

@@ -1,8 +1,6 @@
 use Rattle.std.proofs.Common.{◌≡◌, length}
 use Rattle.list_laws.specs.Lists.{listed}
 use Rattle.job_plan.specs.InputWords.{session_words}
-use Rattle.job_session.specs.Sessions.{owners}
-use Rattle.job_plan.specs.Plans.{session}
 use Rattle.share_world.specs.Worlds.{first_summands}
 use Rattle.wire_tables.specs.Places.{ArePlaces}
 use Rattle.wire_tables.specs.WireTables.{world_of}

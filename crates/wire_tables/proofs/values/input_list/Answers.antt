@@ -1,7 +1,7 @@
-use Rattle.std.proofs.Common.{◌≡◌, ℕ, ◌+◌, ◌<◌, ◌≤◌, List, [], length, set, sym, ap, ap₂, ◌∙◌, subst, arith, length-set}
+use Rattle.std.proofs.Common.{◌≡◌, ℕ, ◌+◌, ◌<◌, List, [], length, set, sym, ap, ap₂, ◌∙◌, subst, arith, length-set}
 use Rattle.std.specs.Prelude.{slice_index, slice_index_or}
 use Rattle.std.proofs.lemmas.Grind.{get_or_default_zero}
-use Rattle.list_laws.specs.Lists.{total, listed}
+use Rattle.list_laws.specs.Lists.{total}
 use Rattle.job_plan.specs.InputWords.{given}
 use Rattle.job_session.specs.Sessions.{Session, owners}
 use Rattle.job_plan.specs.Plans.{session}

@@ -1,4 +1,4 @@
-use Rattle.std.proofs.Common.{◌≡◌, ℕ, ◌+◌, ◌-◌, ◌<◌, true, List, length, sym, ap, ap₂, ◌∙◌, subst, arith}
+use Rattle.std.proofs.Common.{◌≡◌, ℕ, ◌+◌, ◌-◌, ◌<◌, true, length, sym, ap, ap₂, ◌∙◌, subst, arith}
 use Rattle.std.specs.Prelude.{slice_index}
 use Rattle.std.proofs.lemmas.Grind.{common_steps, get_or_default_zero}
 use Rattle.list_laws.specs.Lists.{listed}
@@ -7,8 +7,7 @@ use Rattle.circuit_model.specs.declared.gate.Gate.{Gate}
 use Rattle.party_set.specs.Parties.{Structure}
 use Rattle.product_duty.specs.Duties.{scheme_of}
 use Rattle.secret_sharing.specs.Sharing.{dealt, own_product, summands}
-use Rattle.job_plan.specs.declared.key.Key.{Key}
-use Rattle.job_session.specs.Sessions.{Session, Slot, gate, session_slot, session_slots, owners, readers, output_wire}
+use Rattle.job_session.specs.Sessions.{Session, gate, session_slot, session_slots, owners, readers, output_wire}
 use Rattle.job_plan.specs.Plans.{scheme, session, slot, deals_in}
 use Rattle.job_session.specs.Sessions.Slot.{Input, At_gate, Output}
 use Rattle.job_session.specs.SoundSessions.{IsSoundSession}

@@ -1,4 +1,4 @@
-use Rattle.std.proofs.Common.{◌≡◌, ℕ, suc, ◌+◌, ◌^◌, ◌<◌, true, ◌&&◌, List, [], length, set, sym, ap, ◌∙◌, subst, arith}
+use Rattle.std.proofs.Common.{◌≡◌, ℕ, suc, ◌+◌, ◌<◌, true, [], length, set, sym, ap, ◌∙◌, subst, arith}
 use Rattle.std.specs.Prelude.{slice_index, slice_index_or}
 use Rattle.std.proofs.lemmas.Bool.{and_from}
 use Rattle.std.proofs.lemmas.List.{with_items_is}
@@ -9,14 +9,13 @@ use Rattle.secret_sharing.specs.Sharing.{gate_summands, summands, has_pair}
 use Rattle.job_plan.specs.InputWords.{session_words}
 use Rattle.job_session.specs.Sessions.{Session, owners, gate}
 use Rattle.job_plan.specs.Plans.{session, scheme, slot, deals_in}
-use Rattle.job_session.specs.Sessions.Slot.{At_gate}
 use Rattle.job_session.proofs.SessionSlots.{slot_gate}
 use Rattle.share_world.specs.Worlds.{World, run_of}
 use Rattle.wire_tables.specs.Places.{ArePlaces, HasWords, dealt_at}
 use Rattle.wire_tables.specs.WireTables.{world_of, gate_summand}
 use Rattle.wire_tables.specs.Steps.{AreRows}
 use Rattle.wire_tables.proofs.ListedRows.{row_read}
-use Rattle.wire_tables.proofs.RowSteps.{IsRow, is_row, gate_here, rows_next, rows_last}
+use Rattle.wire_tables.proofs.RowSteps.{is_row, gate_here, rows_next, rows_last}
 use Rattle.wire_tables.proofs.TableWords.{has_words}
 use Rattle.wire_tables.proofs.summands.SummandTable.make.Goals as goal
 

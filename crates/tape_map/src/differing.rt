@@ -1,0 +1,29 @@
+//! Whether a member sees a difference.
+ghost use Rattle.std.specs.Prelude.{◌≡◌, ◌&&◌, ◌<◌, nat_eq, not, length, slice_index};
+ghost use Rattle.party_set.specs.Parties.{has_party};
+ghost use Rattle.job_session.specs.Sessions.{readers};
+
+use job_plan::SessionPart;
+
+/// Whether it is seen that two words differ.
+pub(crate) fn differ(is_seen: bool, first: u64, second: u64) -> bool
+    ensures { result ≡ (is_seen && not (nat_eq first second)) }
+{
+    is_seen && first != second
+}
+
+/// Whether a member reads two values that differ.
+pub(crate) fn read_differ(is_member: bool, reads: bool, first: u64, second: u64) -> bool
+    ensures { result ≡ (is_member && (reads && not (nat_eq first second))) }
+{
+    is_member && differ(reads, first, second)
+}
+
+/// Whether party `r` reads output wire `o`.
+pub(crate) fn reads(part: &SessionPart, o: u32, r: u32) -> bool
+    requires output { o < length (readers part.now) }
+    requires party { r < 12 }
+    ensures { result ≡ has_party (slice_index (readers part.now) o) r }
+{
+    part.wire_readers(o) >> r & 1 == 1
+}
