@@ -16,8 +16,8 @@ mod ranks;
 mod starts;
 
 pub use inputs::Inputs;
-pub use key::Key;
 pub use job_session::{InputValue, OutputValue, RowTable, SessionPart, SlotKind};
+pub use key::Key;
 pub use laws::{numbers_are_inverse, places_are_apart, slots_are_listed, slots_follow_patterns};
 pub use pattern::{Line, Pattern};
 pub use plan::Plan;

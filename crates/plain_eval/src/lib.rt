@@ -9,7 +9,6 @@ use circuit_model::Circuit;
 use mpc_ring::Ring;
 use std::alloc::{AllocError, Global};
 
-
 /// The value of every wire, from the words on the input wires; 0 for a wire that is never set.
 pub fn eval(
     alloc: Global,

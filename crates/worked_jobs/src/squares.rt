@@ -17,7 +17,8 @@ use std::fmt::Write;
 use std::test::Fail;
 
 /// The third party gives nothing.
-const FILE: &str = "version = 1\ninputs = [\"\"]\nseed = \"79d52978bd203150003b54d8ad64076997b3dedd47b7e2709cb6ac8efb450585\"";
+const FILE: &str =
+    "version = 1\ninputs = [\"\"]\nseed = \"79d52978bd203150003b54d8ad64076997b3dedd47b7e2709cb6ac8efb450585\"";
 
 // A thousand gates, each of which squares the wire that the one before sets.
 fn squares_text(alloc: Global) -> Result<String, AllocError> {
