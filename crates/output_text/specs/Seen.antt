@@ -1,7 +1,7 @@
 -- What a group sees, message by message.
-use Rattle.std.specs.Prelude.{◌≡◌, ℕ, ◌<◌, List, [], ◌∷◌, filter, map, length}
+use Rattle.std.specs.Prelude.{◌≡◌, ℕ, ◌<◌, List, filter, map, length}
 use Rattle.job_plan.specs.declared.key.Key.{Key}
-use Rattle.job_plan.specs.Plans.{Plan, slot, slots}
+use Rattle.job_plan.specs.Plans.{Plan, slot}
 use Rattle.job_plan.specs.Messages.{slot_messages, session_messages, messages}
 use Rattle.job_plan.specs.Numbers.{message}
 use Rattle.program_laws.specs.Once.{IsBetweenParties}

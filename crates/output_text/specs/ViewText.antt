@@ -1,5 +1,5 @@
 -- The text of what a group sees of a run, and of a run after which it is told.
-use Rattle.std.specs.Prelude.{ℕ, List, [], ◌∷◌, ◌++◌, slice_index_or, Option, None, Some, codes, decimal}
+use Rattle.std.specs.Prelude.{ℕ, List, [], ◌++◌, slice_index_or, Option, None, Some, codes, decimal}
 use Rattle.std.specs.List.{flat_map}
 use Rattle.party_set.specs.Parties.{Members}
 use Rattle.job_plan.specs.declared.key.Key.{Key}

@@ -1,4 +1,4 @@
-use Rattle.std.proofs.Common.{Some, None, sym, subst}
+use Rattle.std.proofs.Common.{sym, subst}
 use Rattle.outer_io.specs.Gathering.{Adds}
 use Rattle.outer_io.proofs.GatheredTexts.{adds_then}
 use Rattle.party_set.specs.Parties.{Members}

@@ -1,10 +1,10 @@
-use Rattle.std.proofs.Common.{◌≡◌, ◌<◌, ◌++◌, true, false, length, sym, ap, ◌∙◌, subst, arith}
+use Rattle.std.proofs.Common.{◌≡◌, ◌<◌, ◌++◌, length, sym, ap, ◌∙◌, subst}
 use Rattle.std.specs.Prelude.{codes, decimal}
 use Rattle.outer_io.proofs.GatheredTexts.{adds_nothing, adds_then}
 use Rattle.text_parts.proofs.GatheredTexts.{adds_same}
 use Rattle.job_plan.specs.Messages.{messages}
 use Rattle.job_plan.specs.Numbers.{message}
-use Rattle.share_world.specs.Worlds.{touches, word}
+use Rattle.share_world.specs.Worlds.{word}
 use Rattle.output_text.specs.ViewText.{key_place, key_parties}
 use Rattle.output_text.proofs.SeenMessages.{seen-own, seen-other}
 use Rattle.output_text.proofs.view.gather_message.Goals as goal
