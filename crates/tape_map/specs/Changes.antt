@@ -1,5 +1,6 @@
 -- The tables of a session by which its tapes are changed.
-use Rattle.std.specs.Prelude.{◌≡◌, ℕ, ◌+◌, ◌^◌, ◌<◌, if◌then◌else◌, List, [], length, slice_index, slice_index_or}
+use Rattle.std.specs.Prelude.{◌≡◌, ℕ, ◌+◌, ◌^◌, ◌<◌, if◌then◌else◌, List, [], length}
+use Rattle.std.specs.Prelude.{slice_index, slice_index_or}
 use Rattle.list_laws.specs.Lists.{joined, listed}
 use Rattle.mpc_ring.specs.Differences.{difference}
 use Rattle.secret_sharing.specs.Sharing.{own_product}
@@ -20,7 +21,8 @@ moved_rows w other group s =
     (moved_summands w other group s (length (session w.plan s).gates) v))
 
 -- the tables are those of session s of a world and of other inputs
-pub record IsChange (w : World) (other : List (List (List ℕ))) (group s : ℕ) (c : Change) : Type 0 where
+pub record IsChange (w : World) (other : List (List (List ℕ))) (group s : ℕ) (c : Change)
+    : Type 0 where
   pub at : c.session ≡ s
   pub hidden_summand : c.hidden ≡ hidden w.plan group
   pub first : c.first.items ≡ value_list w s
@@ -37,18 +39,21 @@ pub record Fits (plan : Plan) (c : Change) : Type 0 where
   pub moved : length c.moved.items ≡ (session plan c.session).wires
   pub small_first : (v : ℕ) → slice_index c.first.items v < 2 ^ plan.bits
   pub small_second : (v : ℕ) → slice_index c.second.items v < 2 ^ plan.bits
-  pub wide_rows : (v : ℕ) → v < (session plan c.session).wires → length (slice_index_or c.rows v []) ≡ length plan.groups
+  pub wide_rows : (v : ℕ) → v < (session plan c.session).wires
+      → length (slice_index_or c.rows v []) ≡ length plan.groups
   pub wide_moved : (v : ℕ) → v < (session plan c.session).wires
       → length (slice_index_or (session_words c.moved.items) v []) ≡ length plan.groups
   pub small_rows : (v i : ℕ) → slice_index (slice_index_or c.rows v []) i < 2 ^ plan.bits
-  pub small_moved : (v i : ℕ) → slice_index (slice_index_or (session_words c.moved.items) v []) i < 2 ^ plan.bits
+  pub small_moved : (v i : ℕ)
+      → slice_index (slice_index_or (session_words c.moved.items) v []) i < 2 ^ plan.bits
 
 -- what party p deals in a slot, by the rows of a table and the values of the input wires
 abbrev pub deals_by : Plan → ℕ → ℕ → List ℕ → List (List ℕ) → Slot → ℕ
 deals_by plan s p values rows (Input v) = slice_index values v
 deals_by plan s p values rows (At_gate t) =
-    own_product (scheme plan) p (slice_index (slice_index_or rows (gate (session plan s) t).first []))
-    (slice_index (slice_index_or rows (gate (session plan s) t).second []))
+    let wires = gate (session plan s) t in
+    own_product (scheme plan) p (slice_index (slice_index_or rows wires.first []))
+    (slice_index (slice_index_or rows wires.second []))
 deals_by plan s p values rows (Output o) = 0
 
 -- by how much what party p deals in a slot grows: not at all where it is a member
@@ -63,7 +68,8 @@ growth plan group c p kind =
 abbrev pub grown_words : Plan → ℕ → Change → List ℕ → ℕ → ℕ → List ℕ
 grown_words plan group c tape p k =
     let kind = slot plan c.session k in
-    listed (words_in plan c.session p kind) (raised (2 ^ plan.bits) c.hidden (growth plan group c p kind)
+    listed (words_in plan c.session p kind)
+    (raised (2 ^ plan.bits) c.hidden (growth plan group c p kind)
     (λ i. slice_index tape (place plan p c.session k + i)))
 
 -- and all words that it draws in the session

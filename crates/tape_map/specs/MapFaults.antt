@@ -1,5 +1,6 @@
 -- Why other inputs can't be hidden from a group.
-use Rattle.std.specs.Prelude.{ℕ, Bool, ◌&&◌, not, nat_eq, Option, List, ◌∷◌, ◌++◌, length, slice_index}
+use Rattle.std.specs.Prelude.{ℕ, Bool, ◌&&◌, not, nat_eq, Option, List, ◌∷◌, ◌++◌, length}
+use Rattle.std.specs.Prelude.{slice_index}
 use Rattle.std.specs.List.{list_any}
 use Rattle.list_laws.specs.Lists.{joined, listed}
 use Rattle.list_laws.specs.Checks.{◌answers◌, first_fault}
@@ -9,7 +10,8 @@ use Rattle.job_plan.specs.Plans.{Plan, session, reads}
 use Rattle.share_world.specs.Worlds.{World, input_of, plain}
 use Rattle.tape_map.specs.TapeMaps.{with_inputs}
 use Rattle.tape_map.specs.declared.fault.MapFault.{MapFault}
-use Rattle.tape_map.specs.declared.fault.MapFault.TheVariants.{NotTolerated, InputDiffers, OutputDiffers}
+use Rattle.tape_map.specs.declared.fault.MapFault.TheVariants.{NotTolerated, InputDiffers}
+use Rattle.tape_map.specs.declared.fault.MapFault.TheVariants.{OutputDiffers}
 
 -- a maximal group has all parties of this one
 abbrev pub is_tolerated : Plan → ℕ → Bool
@@ -34,14 +36,17 @@ abbrev pub input_checks : World → List (List (List ℕ)) → ℕ → ℕ → L
 input_checks w other group s =
     listed (length (owners (session w.plan s))) (input_check w other group s)
 
--- the checks of its outputs, by wires and parties, where its wires have these values with the inputs and the others
+-- the checks of its outputs, by wires and parties, where its wires have these values with the
+-- inputs and with the others
 abbrev pub value_checks : Plan → ℕ → ℕ → (ℕ → ℕ) → (ℕ → ℕ) → List (Option MapFault)
 value_checks plan group s first second =
-    joined (length (readers (session plan s))) (λ o. listed plan.parties
-    (output_check plan group s (first (output_wire (session plan s) o)) (second (output_wire (session plan s) o)) o))
+    joined (length (readers (session plan s))) (λ o.
+    let wire = output_wire (session plan s) o in
+    listed plan.parties (output_check plan group s (first wire) (second wire) o))
 
 abbrev pub output_checks : World → List (List (List ℕ)) → ℕ → ℕ → List (Option MapFault)
-output_checks w other group s = value_checks w.plan group s (plain w s) (plain (with_inputs w other) s)
+output_checks w other group s =
+    value_checks w.plan group s (plain w s) (plain (with_inputs w other) s)
 
 -- all checks in their order: of the group, of all inputs, of all outputs
 abbrev pub map_checks : World → List (List (List ℕ)) → ℕ → List (Option MapFault)

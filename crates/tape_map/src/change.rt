@@ -1,5 +1,6 @@
 //! How the tapes of one session change.
-ghost use Rattle.std.specs.Prelude.{◌≡◌, ℕ, ◌+◌, ◌^◌, ◌<◌, ◌≤◌, ◌++◌, ◌%◌, if◌then◌else◌, List, [], All, IfOk, OnOk, length, slice_index, slice_index_or};
+ghost use Rattle.std.specs.Prelude.{◌≡◌, ℕ, ◌+◌, ◌^◌, ◌<◌, ◌≤◌, ◌++◌, ◌%◌, if◌then◌else◌, List};
+ghost use Rattle.std.specs.Prelude.{[], All, IfOk, OnOk, length, slice_index, slice_index_or};
 ghost use Rattle.list_laws.specs.Lists.{listed};
 ghost use Rattle.mpc_ring.specs.Differences.{difference};
 ghost use Rattle.job_plan.specs.InputWords.{session_words};
@@ -13,8 +14,8 @@ use reshare_step::own_products;
 use std::alloc::{AllocError, Global};
 use wire_tables::{SummandTable, deals_in, value_list};
 
-/// The tables of a session: the values of its wires with the inputs and with the others, their summands, and the
-/// summands of which the hidden one grows as the value does.
+/// The tables of a session: the values of its wires with the inputs and with the others, their
+/// summands, and the summands of which the hidden one grows as the value does.
 #[derive(Drop)]
 pub struct Change {
     pub session: u32,
@@ -79,7 +80,8 @@ impl Change {
         requires fits { Fits plan.now self.now }
         requires group { group.parties ≡ plan.now.parties }
         requires party { p < plan.now.parties }
-        requires tape { place plan.now p self.now.session 0 + words plan.now p self.now.session ≤ length tape.now }
+        requires tape { place plan.now p self.now.session 0 + words plan.now p self.now.session
+            ≤ length tape.now }
         requires words { All (λ word. word < 2 ^ plan.now.bits) tape.now }
         requires before { length changed.old.items ≡ place plan.now p self.now.session 0 }
         ensures { OnOk result (changed.new.items
@@ -145,9 +147,12 @@ fn moved_rows(
     requires small_first { All (λ word. word < 2 ^ plan.now.bits) first.now }
     requires small_second { All (λ word. word < 2 ^ plan.now.bits) second.now }
     requires wide { All (λ (row : List ℕ). length row ≡ length plan.now.groups) rows.now }
-    requires small_rows { All (λ (row : List ℕ). All (λ word. word < 2 ^ plan.now.bits) row) rows.now }
-    ensures { IfOk result (λ moved. session_words moved.items ≡ listed (length rows.now) (λ v. listed (length plan.now.groups)
-        (raised (2 ^ plan.now.bits) share (difference (2 ^ plan.now.bits) (slice_index second.now v) (slice_index first.now v))
+    requires small_rows { All (λ (row : List ℕ).
+        All (λ word. word < 2 ^ plan.now.bits) row) rows.now }
+    ensures { IfOk result (λ moved. session_words moved.items
+        ≡ listed (length rows.now) (λ v. listed (length plan.now.groups)
+        (raised (2 ^ plan.now.bits) share
+        (difference (2 ^ plan.now.bits) (slice_index second.now v) (slice_index first.now v))
         (slice_index (slice_index_or rows.now v []))))) }
 {
     let ring = plan.ring();
@@ -192,7 +197,8 @@ fn push_deal(
     requires growth { growth < 2 ^ ring }
     requires words { All (λ word. word < 2 ^ ring) tape.now }
     ensures { OnOk result (changed.new.items ≡ changed.old.items ++ listed count
-        (raised (2 ^ ring) share growth (λ i. slice_index tape.now (length changed.old.items + i)))) }
+        (raised (2 ^ ring) share growth
+        (λ i. slice_index tape.now (length changed.old.items + i)))) }
 {
     for i in 0..count {
         let word = tape[changed.len()];

@@ -6,9 +6,10 @@ ghost use Rattle.share_world.specs.Worlds.{World};
 ghost use Rattle.tape_map.specs.Laws.{CanHide};
 ghost use Rattle.tape_map.specs.MapFaults.{map_fault};
 
-/// There is no fault exactly where the other inputs can be hidden: the group is tolerated, and its members give and
-/// read the same.
+/// There is no fault exactly where the other inputs can be hidden: the group is tolerated, and its
+/// members give and read the same.
 pub fn no_fault_where_it_can_be_hidden()
-    ensures { (w : World) (other : List (List (List ℕ))) (group : ℕ) → IsWhole w → AreInputs w.plan other
+    ensures { (w : World) (other : List (List (List ℕ))) (group : ℕ)
+        → IsWhole w → AreInputs w.plan other
         → (map_fault w other group ≡ None) ↔ CanHide w other group }
 {}

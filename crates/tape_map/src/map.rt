@@ -1,5 +1,6 @@
 //! The change of tapes.
-ghost use Rattle.std.specs.Prelude.{◌≡◌, ℕ, ◌<◌, ◌⊎◌, ◌++◌, Some, IfOk, IfErr, OnOk, length, replicate, [], slice_index_or};
+ghost use Rattle.std.specs.Prelude.{◌≡◌, ℕ, ◌<◌, ◌⊎◌, ◌++◌, Some, IfOk, IfErr, OnOk, length};
+ghost use Rattle.std.specs.Prelude.{replicate, [], slice_index_or};
 ghost use Rattle.job_plan.specs.Plans.{structure, place};
 ghost use Rattle.job_plan.specs.InputWords.{AreInputs, session_words};
 ghost use Rattle.share_world.specs.Laws.{IsWhole, AreTapes};
@@ -19,10 +20,10 @@ use job_plan::{Inputs, Plan};
 use party_set::{Group, Groups};
 use std::alloc::{AllocError, Global};
 
-/// The tapes with which a group sees of the other inputs what it sees of the first, exactly where the group is
-/// tolerated and with both gives and reads the same. `tapes` has for each party the words that it draws, all sessions
-/// in order, and so has the answer. Otherwise the first fault: of the group, of the inputs by session and wire, of
-/// the outputs by session, wire and reader.
+/// The tapes with which a group sees of the other inputs what it sees of the first, exactly where the
+/// group is tolerated and with both gives and reads the same. `tapes` has for each party the words
+/// that it draws, all sessions in order, and so has the answer. Otherwise the first fault: of the
+/// group, of the inputs by session and wire, of the outputs by session, wire and reader.
 pub fn map_tapes(
     alloc: Global,
     plan: &Plan,
@@ -36,7 +37,8 @@ pub fn map_tapes(
     requires other { AreInputs plan.now other.now }
     requires groups { groups.now ≡ structure plan.now }
     requires group { group.parties ≡ plan.now.parties }
-    ensures hides { OnOk result (CanHide (world_of plan.now inputs.now tapes.now) other.now group.mask) }
+    ensures hides { OnOk result
+        (CanHide (world_of plan.now inputs.now tapes.now) other.now group.mask) }
     ensures tapes { IfOk result (λ changed. session_words changed.items
         ≡ (second_world (world_of plan.now inputs.now tapes.now) other.now group.mask).tapes) }
     ensures fault { IfErr result (λ fault. (fault ≡ Memory)
@@ -55,7 +57,8 @@ pub fn map_tapes(
     Ok(changed)
 }
 
-// The tapes of all parties, changed session by session, so that the tables of one session are there at a time.
+// The tapes of all parties, changed session by session, so that the tables of one session are there
+// at a time.
 fn changed_tapes(
     alloc: Global,
     plan: &Plan,
@@ -104,11 +107,13 @@ fn push_pieces(
     requires tapes { AreTapes plan.now (session_words tapes.now) }
     requires parties { length changed.old ≡ plan.now.parties }
     requires before { (p : ℕ) → p < plan.now.parties
-        → length (slice_index_or (session_words changed.old) p []) ≡ place plan.now p change.now.session 0 }
+        → length (slice_index_or (session_words changed.old) p [])
+        ≡ place plan.now p change.now.session 0 }
     ensures parties { length changed.new ≡ plan.now.parties }
-    ensures pieces { OnOk result ((p : ℕ) → p < plan.now.parties → slice_index_or (session_words changed.new) p []
-        ≡ slice_index_or (session_words changed.old) p []
-        ++ grown_piece plan.now group.mask change.now (slice_index_or (session_words tapes.now) p []) p) }
+    ensures pieces { OnOk result ((p : ℕ) → p < plan.now.parties
+        → slice_index_or (session_words changed.new) p []
+        ≡ slice_index_or (session_words changed.old) p [] ++ grown_piece plan.now group.mask
+        change.now (slice_index_or (session_words tapes.now) p []) p) }
 {
     for p in 0..plan.parties() {
         change.push_piece(plan, group, p, &tapes[p as usize], &mut changed[p as usize])?;

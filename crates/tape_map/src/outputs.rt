@@ -52,7 +52,8 @@ fn session_fault(
     requires session { s < length plan.now.sessions }
     requires first { length first.now ≡ (session plan.now s).wires }
     requires second { length second.now ≡ (session plan.now s).wires }
-    ensures { result ≡ first_fault (value_checks plan.now group.mask s (slice_index first.now) (slice_index second.now)) }
+    ensures { result ≡ first_fault
+        (value_checks plan.now group.mask s (slice_index first.now) (slice_index second.now)) }
 {
     let _ = plan.parties();
     let part = plan.part(s);
@@ -79,7 +80,8 @@ fn reader_fault(
     requires group { group.parties ≡ plan.now.parties }
     requires session { s < length plan.now.sessions }
     requires output { o < length (readers (session plan.now s)) }
-    ensures { result ≡ first_fault (listed plan.now.parties (output_check plan.now group.mask s first second o)) }
+    ensures { result ≡ first_fault
+        (listed plan.now.parties (output_check plan.now group.mask s first second o)) }
 {
     let parties = plan.parties();
     let part = plan.part(s);
