@@ -80,7 +80,7 @@ module _ (w : World) (other : List (List (List ℕ))) (group s : ℕ) (whole : I
   after = with_inputs w other
 
   ordered : GatesInOrder x
-  ordered = in_order x (whole.sound.sessions s ls).order
+  ordered = in_order x (whole.sound.sessions s ls).wired.order
 
   after_is : IsWorld after
   after_is = record { plan = is_plan w whole; inputs = others.below }
@@ -116,7 +116,7 @@ module _ (w : World) (other : List (List (List ℕ))) (group s : ℕ) (whole : I
         ∙ cond-true (nat_lt v (length (owners (session u.plan s)))) (input_of u s v) 0 (lt-ltb v (length (owners (session u.plan s))) l)
 
     input_wires : length (owners x) ≤ x.wires
-    input_wires = (whole.sound.sessions s ls).input_wires
+    input_wires = (whole.sound.sessions s ls).wired.input_wires
 
     input_before : (v : ℕ) → v < length (owners x) → slice_index c.first.items v ≡ input_of w s v
     input_before v l = ap (λ xs. slice_index xs v) h.first ∙ listed_at x.wires (plain w s) v 0 (omega (arith, input_wires)) ∙ input_at_end w v ordered l
@@ -144,8 +144,8 @@ module _ (w : World) (other : List (List (List ℕ))) (group s : ℕ) (whole : I
     own_before : (t p : ℕ) → t < length x.gates → is_product (gate x t).operation ≡ true → deals_by w.plan s p c.first.items c.rows (At_gate t) ≡ dealt_value w s p (At_gate t)
     own_before t p l product =
         own_at_end w s ordered t p _ _ l product
-        (λ i li. row_before (gate x t).first i ((whole.sound.sessions s ls).first t l) li)
-        (λ i li. row_before (gate x t).second i ((whole.sound.sessions s ls).second t l) li)
+        (λ i li. row_before (gate x t).first i ((whole.sound.sessions s ls).wired.first t l) li)
+        (λ i li. row_before (gate x t).second i ((whole.sound.sessions s ls).wired.second t l) li)
 
     own_after : (t p : ℕ) → t < length x.gates → is_product (gate x t).operation ≡ true → deals_by w.plan s p c.second.items (session_words c.moved.items) (At_gate t) ≡ moved_value w other group s p (At_gate t)
     own_after t p l product =
@@ -153,8 +153,8 @@ module _ (w : World) (other : List (List (List ℕ))) (group s : ℕ) (whole : I
         let others_values = product_settled x ordered (value_before after s) (λ t v ne. set_there (value_before after s t) (gate x t).output v _ ne) t l product in
         let sums = read_settled w s ordered t l product in
         own_alike w p _ _ (moved_summands w other group s t (gate x t).first) (moved_summands w other group s t (gate x t).second)
-        (λ i li. row_after (gate x t).first i ((whole.sound.sessions s ls).first t l) li ∙ moved_same t (gate x t).first i values.0 others_values.0 sums.0)
-        (λ i li. row_after (gate x t).second i ((whole.sound.sessions s ls).second t l) li ∙ moved_same t (gate x t).second i values.1 others_values.1 sums.1)
+        (λ i li. row_after (gate x t).first i ((whole.sound.sessions s ls).wired.first t l) li ∙ moved_same t (gate x t).first i values.0 others_values.0 sums.0)
+        (λ i li. row_after (gate x t).second i ((whole.sound.sessions s ls).wired.second t l) li ∙ moved_same t (gate x t).second i values.1 others_values.1 sums.1)
 
     -- what a party deals in a slot, before and after
     dealt_before : (p k : ℕ) → k < slots w.plan s → deals_in w.plan s p (slot w.plan s k) ≡ true → deals_by w.plan s p c.first.items c.rows (slot w.plan s k) ≡ dealt_value w s p (slot w.plan s k)

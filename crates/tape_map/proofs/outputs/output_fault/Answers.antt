@@ -25,7 +25,7 @@ returns-in-Some c tapes =
     let s = c.loop-s.s in
     let mask = c.args.group.mask in
     let ls : s < length c.args.plan.now.sessions = omega (arith, c.loop-s-test.true, c.sessions-s-end.ensures) in
-    let alike = values_alike c.args.plan.now mask s c.deref.result.now c.deref-in-loop-s.result.now (plain w s) (plain (with_inputs w c.args.other.now) s) (c.parties.ensures.sound.sessions s ls).output_wires
+    let alike = values_alike c.args.plan.now mask s c.deref.result.now c.deref-in-loop-s.result.now (plain w s) (plain (with_inputs w c.args.other.now) s) (c.parties.ensures.sound.sessions s ls).wired.output_wires
     (c.deref.ensures.value ∙ c.in_ok-first.ensures tapes) (c.deref-in-loop-s.ensures.value ∙ c.in_ok-second.ensures tapes) in
     sym (joined-stops (length c.args.plan.now.sessions) s (output_checks w c.args.other.now mask) c.in-Some.fault ls c.loop-s.invariant
     (ap first_fault (sym alike) ∙ sym c.session_fault.ensures ∙ c.in-Some.is))
@@ -36,6 +36,6 @@ loop-s-preserved c =
     let s = c.loop-s.s in
     let mask = c.args.group.mask in
     let ls : s < length c.args.plan.now.sessions = omega (arith, c.loop-s-test.true, c.sessions-s-end.ensures) in
-    let alike = values_alike c.args.plan.now mask s c.deref.result.now c.deref-in-loop-s.result.now (plain w s) (plain (with_inputs w c.args.other.now) s) (c.parties.ensures.sound.sessions s ls).output_wires
+    let alike = values_alike c.args.plan.now mask s c.deref.result.now c.deref-in-loop-s.result.now (plain w s) (plain (with_inputs w c.args.other.now) s) (c.parties.ensures.sound.sessions s ls).wired.output_wires
     (c.deref.ensures.value ∙ c.in_ok-first.ensures []) (c.deref-in-loop-s.ensures.value ∙ c.in_ok-second.ensures []) in
     joined_more-passed s (output_checks w c.args.other.now mask) c.loop-s.invariant (ap first_fault (sym alike) ∙ sym c.session_fault.ensures ∙ c.in_default.is)
