@@ -13,8 +13,8 @@ use std::alloc::{AllocError, Global};
 use std::test::Fail;
 use tape_words::Tape;
 
-/// What the party's file gives.
-pub(crate) fn party_data(alloc: Global, plan: &Plan, p: u32, file: &str) -> Result<PartyData, Fail>
+// What the party's file gives.
+fn party_data(alloc: Global, plan: &Plan, p: u32, file: &str) -> Result<PartyData, Fail>
     requires { p < plan.now.parties }
     ensures { IfOk result (λ party_data. FitsPlan plan.now p (form_of party_data)) }
 {
