@@ -1,7 +1,7 @@
 use Rattle.std.proofs.Common.{subst}
 use Rattle.message_board.specs.Seats.{AreNewSeats}
 use Rattle.message_board.proofs.SeatLists.{new_last}
-use Rattle.desk_rack.proofs.NewSeats.{new_others}
+use Rattle.worked_parts.proofs.NewSeats.{new_others}
 use Rattle.worked_parts.proofs.racks.two_seats.Goals as goal
 
 pub returns : goal.returns
