@@ -6,8 +6,8 @@ use Rattle.std.specs.List.{list_all}
 use Rattle.std.proofs.lemmas.Bool.{lt-ltb, ltb-false, eqb-true, and_parts, and_from, not-false}
 use Rattle.std.proofs.lemmas.List.{take_more, take-append-drop, length-take-le, length-map}
 use Rattle.std.proofs.Math.Seq.{take-length}
-use Rattle.text_tokens.specs.Numbers.{number_of}
-use Rattle.list_laws.proofs.FirstFaults.{none_failed}
+use Rattle.text_tokens.specs.Numbers.{number_written}
+use Rattle.list_laws.proofs.FirstFaults.{none_failed, or_fault-ok}
 use Rattle.list_laws.proofs.ShortLists.{one_long, two_long}
 use Rattle.gate_lines.specs.Rows.{Row}
 use Rattle.circuit_model.specs.declared.gate.Gate.{Gate}
@@ -20,29 +20,29 @@ use Rattle.circuit_model.specs.Building.{gate_checks, gate_of, next_gate}
 use Rattle.circuit_file.specs.Tokens.{token, tokens_after, is_number, number_in, all_numbers}
 use Rattle.circuit_file.specs.GateLines.{operation_of, input_count, output_count, wire_count, operation_in, form_checks, wires_in, gate_line_of, gate_line_in, GateLine}
 use Rattle.circuit_file.specs.CircuitFiles.{gate_in}
-use Rattle.circuit_file.specs.Grammar.{Write, listed, IsGateLine}
+use Rattle.circuit_file.specs.Grammar.{Write, listed_wires, IsGateLine}
 use Rattle.circuit_model.specs.declared.layout.CircuitLayout.{CircuitLayout}
-use Rattle.circuit_file.proofs.PassedChecks.{or_ok, bind_ok}
+use Rattle.circuit_file.proofs.PassedChecks.{bind_ok}
 use Rattle.circuit_file.proofs.WrittenNumbers.{write_all, write_some, write_none}
 
 -- ---- a gate line in the grammar has no fault
 
 two : (layout : CircuitLayout) (c : Netlist) (line : ℕ) (o : Operation) (t0 t1 t2 t3 t4 name : List ℕ) (a b w : ℕ)
-    → arity o ≡ 2 → is_constant o ≡ false → number_of t0 ≡ Some 2 → number_of t1 ≡ Some 1 → number_of t2 ≡ Some a → number_of t3 ≡ Some b → number_of t4 ≡ Some w → operation_of layout name ≡ Some o
+    → arity o ≡ 2 → is_constant o ≡ false → number_written t0 ≡ Some 2 → number_written t1 ≡ Some 1 → number_written t2 ≡ Some a → number_written t3 ≡ Some b → number_written t4 ≡ Some w → operation_of layout name ≡ Some o
     → list_all (λ v. nat_lt v c.wires) (a ∷ b ∷ []) ≡ true → nat_lt w c.wires ≡ true → list_all (sets c) (a ∷ b ∷ []) ≡ true → sets c w ≡ false
     → gate_in layout c (record { number = line; tokens = t0 ∷ t1 ∷ t2 ∷ t3 ∷ t4 ∷ name ∷ [] }) ≡ Ok (record { operation = o; first = a; second = b; output = w; constant = 0 })
 unfolding gate_line_in form_checks next_gate gate_checks
 two layout c line o t0 t1 t2 t3 t4 name a b w ar k v0 v1 v2 v3 v4 op below out read fresh = simp (v0, v1, v2, v3, v4, op, ar, k, below, out, read, fresh)
 
 one : (layout : CircuitLayout) (c : Netlist) (line : ℕ) (o : Operation) (t0 t1 t2 t3 name : List ℕ) (a w : ℕ)
-    → arity o ≡ 1 → is_constant o ≡ false → number_of t0 ≡ Some 1 → number_of t1 ≡ Some 1 → number_of t2 ≡ Some a → number_of t3 ≡ Some w → operation_of layout name ≡ Some o
+    → arity o ≡ 1 → is_constant o ≡ false → number_written t0 ≡ Some 1 → number_written t1 ≡ Some 1 → number_written t2 ≡ Some a → number_written t3 ≡ Some w → operation_of layout name ≡ Some o
     → list_all (λ v. nat_lt v c.wires) (a ∷ []) ≡ true → nat_lt w c.wires ≡ true → list_all (sets c) (a ∷ []) ≡ true → sets c w ≡ false
     → gate_in layout c (record { number = line; tokens = t0 ∷ t1 ∷ t2 ∷ t3 ∷ name ∷ [] }) ≡ Ok (record { operation = o; first = a; second = 0; output = w; constant = 0 })
 unfolding gate_line_in form_checks next_gate gate_checks
 one layout c line o t0 t1 t2 t3 name a w ar k v0 v1 v2 v3 op below out read fresh = simp (v0, v1, v2, v3, op, ar, k, below, out, read, fresh)
 
 constant : (layout : CircuitLayout) (c : Netlist) (line : ℕ) (t0 t1 t2 t3 name : List ℕ) (a w : ℕ)
-    → number_of t0 ≡ Some 1 → number_of t1 ≡ Some 1 → number_of t2 ≡ Some a → number_of t3 ≡ Some w → operation_of layout name ≡ Some Eq
+    → number_written t0 ≡ Some 1 → number_written t1 ≡ Some 1 → number_written t2 ≡ Some a → number_written t3 ≡ Some w → operation_of layout name ≡ Some Eq
     → nat_lt a (2 ^ c.bits) ≡ true → nat_lt w c.wires ≡ true → sets c w ≡ false
     → gate_in layout c (record { number = line; tokens = t0 ∷ t1 ∷ t2 ∷ t3 ∷ name ∷ [] }) ≡ Ok (record { operation = Eq; first = 0; second = 0; output = w; constant = a })
 unfolding gate_line_in form_checks next_gate gate_checks
@@ -51,10 +51,10 @@ constant layout c line t0 t1 t2 t3 name a w v0 v1 v2 v3 op small out fresh = sim
 on_tokens : (layout : CircuitLayout) (c : Netlist) (row : Row) (ts : List (List ℕ)) (x : Result Gate CircuitFault) → row.tokens ≡ ts → gate_in layout c (record { number = row.number; tokens = ts }) ≡ x → gate_in layout c row ≡ x
 on_tokens layout c row ts x e h = ap (λ us. gate_in layout c (record { number = row.number; tokens = us })) e ∙ h
 
-listed_two : (g : Gate) → arity g.operation ≡ 2 → is_constant g.operation ≡ false → listed g ≡ g.first ∷ g.second ∷ []
+listed_two : (g : Gate) → arity g.operation ≡ 2 → is_constant g.operation ≡ false → listed_wires g ≡ g.first ∷ g.second ∷ []
 listed_two g ar k = ap (λ b. cond b (g.constant ∷ []) (take (arity g.operation) (g.first ∷ g.second ∷ []))) k ∙ ap (λ n. take n (g.first ∷ g.second ∷ [])) ar
 
-listed_one : (g : Gate) → arity g.operation ≡ 1 → is_constant g.operation ≡ false → listed g ≡ g.first ∷ []
+listed_one : (g : Gate) → arity g.operation ≡ 1 → is_constant g.operation ≡ false → listed_wires g ≡ g.first ∷ []
 listed_one g ar k = ap (λ b. cond b (g.constant ∷ []) (take (arity g.operation) (g.first ∷ g.second ∷ []))) k ∙ ap (λ n. take n (g.first ∷ g.second ∷ [])) ar
 
 with_two : (layout : CircuitLayout) (c : Netlist) (row : Row) (g : Gate) → IsGateLine layout row g → GateFits c c.gates g → arity g.operation ≡ 2 → is_constant g.operation ≡ false → gate_in layout c row ≡ Ok g
@@ -126,7 +126,7 @@ front_numbers [] l e = absurd (omega arith)
 front_numbers (a ∷ []) l e = absurd (omega arith)
 front_numbers (a ∷ b ∷ ts) l e = ((and_parts _ _ e).0, (and_parts _ _ (and_parts (is_number a) _ e).1).0)
 
-inputs_are : (o : Operation) (is os : List ℕ) → length is ≡ arity o → is ≡ listed (gate_of o is os)
+inputs_are : (o : Operation) (is os : List ℕ) → length is ≡ arity o → is ≡ listed_wires (gate_of o is os)
 inputs_are Add is os e = two_long is e
 inputs_are Sub is os e = two_long is e
 inputs_are Mul is os e = two_long is e
@@ -164,10 +164,10 @@ formed layout row e =
 passed_arity : (c : Netlist) (line : ℕ) (o : Operation) (is os : List ℕ) (g : Gate) → next_gate c line o is os ≡ Ok g → (length is ≡ arity o) × (length os ≡ 1) × (gate_of o is os ≡ g)
 unfolding next_gate gate_checks
 passed_arity c line o is os g e =
-    let k = or_ok _ (gate_of o is os) g e in
+    let k = or_fault-ok _ (gate_of o is os) g (sym e) in
     let a = none_failed _ _ _ k.0 in
     let both : (nat_eq (length is) (arity o) && nat_eq (length os) 1) ≡ true = not-false _ a.0 in
-    (eqb-true (length is) (arity o) (and_parts _ _ both).0, eqb-true (length os) 1 (and_parts (nat_eq (length is) (arity o)) _ both).1, k.1)
+    (eqb-true (length is) (arity o) (and_parts _ _ both).0, eqb-true (length os) 1 (and_parts (nat_eq (length is) (arity o)) _ both).1, sym k.1)
 
 line_of : (layout : CircuitLayout) (line : Row) (o : Operation) (is os : List ℕ) → IsFormed layout line → o ≡ unwrap_or (operation_in layout line) Eqw → is ≡ take (input_count line) (wires_in line) → os ≡ drop (input_count line) (wires_in line)
     → length is ≡ arity o → length os ≡ 1 → IsGateLine layout line (gate_of o is os)
@@ -182,7 +182,7 @@ line_of layout line o is os f oe ie oe2 li lo =
     let more : take (k2 + 1) ts ≡ take k2 ts ++ (get_or ts k2 [] ∷ []) = take_more ts k2 [] (omega (arith, f.long)) in
     let whole : take (k2 + 1) ts ≡ ts = ap (λ n. take n ts) (let e : k2 + 1 ≡ length ts = omega (arith, f.long) in e) ∙ take-length ts in
     let head : take k2 ts ≡ token line 0 ∷ token line 1 ∷ tokens_after 2 (wire_count line) line = front ts (wire_count line) f.two in
-    let split : wires_in line ≡ listed (gate_of o is os) ++ (slice_index os 0 ∷ []) =
+    let split : wires_in line ≡ listed_wires (gate_of o is os) ++ (slice_index os 0 ∷ []) =
     sym (take-append-drop (input_count line) (wires_in line)) ∙ ap₂ (λ a b. a ++ b) (sym ie ∙ inputs_are o is os li) (sym oe2 ∙ one_long os lo) in
     let heads = front_numbers ts f.two f.counts in
     let write : Write (token line 0 ∷ token line 1 ∷ tokens_after 2 (wire_count line) line) (input_count line ∷ output_count line ∷ wires_in line) =
@@ -200,9 +200,9 @@ pub line_grounded : (layout : CircuitLayout) (c : Netlist) (row : Row) (g : Gate
 unfolding gate_line_in
 line_grounded layout c row g e =
     let b = bind_ok (gate_line_in layout row) (λ (l : GateLine). next_gate c row.number l.operation l.inputs l.outputs) g e in
-    let k = or_ok _ (gate_line_of layout row) b.0 b.1 in
+    let k = or_fault-ok _ (gate_line_of layout row) b.0 (sym b.1) in
     let next : next_gate c row.number (gate_line_of layout row).operation (gate_line_of layout row).inputs (gate_line_of layout row).outputs ≡ Ok g =
-    ap (λ (l : GateLine). next_gate c row.number l.operation l.inputs l.outputs) k.1 ∙ b.2 in
+    ap (λ (l : GateLine). next_gate c row.number l.operation l.inputs l.outputs) (sym k.1) ∙ b.2 in
     let p = passed_arity c row.number (gate_line_of layout row).operation (gate_line_of layout row).inputs (gate_line_of layout row).outputs g next in (
       subst (λ (h : Gate). IsGateLine layout row h) p.2
           (line_of layout row (gate_line_of layout row).operation (gate_line_of layout row).inputs (gate_line_of layout row).outputs (formed layout row k.0) refl refl refl p.0 p.1),

@@ -4,7 +4,7 @@ use Rattle.std.specs.Prelude.{slice_index_or}
 use Rattle.std.proofs.lemmas.Bool.{le-ltb, eqb-true, cases_Bool, and_parts}
 use Rattle.std.proofs.lemmas.List.{take_more, take_more_set, get_or-drop, map-append, length-map, length-take-le}
 use Rattle.std.proofs.Math.Seq.{take-append_seam, get_or-append_seam}
-use Rattle.text_tokens.specs.Numbers.{number_of}
+use Rattle.text_tokens.specs.Numbers.{number_written}
 use Rattle.gate_lines.specs.Rows.{Row}
 use Rattle.gate_lines.specs.Places.{Place, rows_at, next_token, past_token}
 use Rattle.circuit_model.specs.declared.gate.Operation.{Operation}
@@ -18,11 +18,11 @@ use Rattle.circuit_file.specs.Tokens.{token, tokens_after, number_in, all_number
 use Rattle.circuit_file.specs.GateLines.{operation_of, form_checks, form_of, gate_line_of, wires_in}
 use Rattle.circuit_file.specs.CircuitFiles.{gate_in, gates_in}
 use Rattle.circuit_file.specs.Grammar.{Write}
-use Rattle.circuit_file.specs.Steps.{Takes, IsSaid, Says, Adds, AddsNext}
+use Rattle.circuit_file.specs.Steps.{Takes, IsSaid, Says, AddsGate, AddsNext}
 use Rattle.circuit_model.specs.declared.layout.CircuitLayout.{CircuitLayout}
 use Rattle.circuit_file.specs.declared.gate_line.Form.{Form}
 use Rattle.circuit_file.specs.declared.gate_line.Said.{Said}
-use Rattle.circuit_file.proofs.PassedChecks.{or_ok}
+use Rattle.list_laws.proofs.FirstFaults.{or_fault-ok}
 use Rattle.circuit_file.proofs.WrittenNumbers.{write_some, written_long, written_all, written_are}
 use Rattle.circuit_file.proofs.GateLaws.{IsFormed, formed}
 use Rattle.circuit_file.proofs.ReaderSteps.{read_so, fails_so, gate_stops}
@@ -42,12 +42,12 @@ takes_then p q r ns ms a b = record {
   write = write_append a.tokens b.tokens ns ms a.write b.write;
 }
 
-takes_from : (k : ℕ) (ts : List (List ℕ)) (rows : List Row) (n : ℕ) → Some n ≡ number_of (slice_index_or ts 0 []) → Takes (record { number = k; tokens = ts; rows = rows }) (n ∷ []) (record { number = k; tokens = drop 1 ts; rows = rows })
-unfolding number_of
+takes_from : (k : ℕ) (ts : List (List ℕ)) (rows : List Row) (n : ℕ) → Some n ≡ number_written (slice_index_or ts 0 []) → Takes (record { number = k; tokens = ts; rows = rows }) (n ∷ []) (record { number = k; tokens = drop 1 ts; rows = rows })
+unfolding number_written
 takes_from k [] rows n e = cc
 takes_from k (t ∷ ts) rows n e = record { tokens = t ∷ []; before = refl; write = (sym e, tt) }
 
-pub takes_one : (p q : Place) (n : ℕ) → Some n ≡ number_of (next_token p) → q ≡ past_token p → Takes p (n ∷ []) q
+pub takes_one : (p q : Place) (n : ℕ) → Some n ≡ number_written (next_token p) → q ≡ past_token p → Takes p (n ∷ []) q
 takes_one p q n e s = subst (Takes p (n ∷ [])) (sym s) (takes_from p.number p.tokens p.rows n e)
 
 pub takes_two : (p q r : Place) (a b : ℕ) → Takes p (a ∷ []) q → Takes q (b ∷ []) r → Takes p (a ∷ b ∷ []) r
@@ -59,7 +59,7 @@ takes_count p q ns ms k count e f t = subst (λ xs. Takes p xs q) (sym (ap (λ i
 -- ---- a line that has the form of a gate line
 
 -- the counts, the wires and the operation
-line_form : (layout : CircuitLayout) (n : ℕ) (t0 t1 name : List ℕ) (ts : List (List ℕ)) (inputs outputs : ℕ) (o : Operation) → number_of t0 ≡ Some inputs → number_of t1 ≡ Some outputs → all_numbers ts ≡ true → length ts ≡ inputs + outputs
+line_form : (layout : CircuitLayout) (n : ℕ) (t0 t1 name : List ℕ) (ts : List (List ℕ)) (inputs outputs : ℕ) (o : Operation) → number_written t0 ≡ Some inputs → number_written t1 ≡ Some outputs → all_numbers ts ≡ true → length ts ≡ inputs + outputs
     → operation_of layout name ≡ Some o
     → or_fault (first_fault (form_checks layout (record { number = n; tokens = t0 ∷ t1 ∷ (ts ++ (name ∷ [])) }))) (form_of layout (record { number = n; tokens = t0 ∷ t1 ∷ (ts ++ (name ∷ [])) }))
     ≡ Ok (record { operation = o; inputs = inputs; wires = inputs + outputs })
@@ -132,9 +132,9 @@ too_many c n o is os l = simp (misfit o (length is) (length os) l)
 
 pub wrong_arity : (layout : CircuitLayout) (c : Netlist) (row : Row) (form : Form) → Ok form ≡ or_fault (first_fault (form_checks layout row)) (form_of layout row) → 3 < form.wires → gate_in layout c row ≡ Err (WrongArity row.number)
 wrong_arity layout c row form f l =
-    let k = or_ok (first_fault (form_checks layout row)) (form_of layout row) form (sym f) in
+    let k = or_fault-ok (first_fault (form_checks layout row)) (form_of layout row) form f in
     let shape : IsFormed layout row = formed layout row k.0 in
-    let wires : (form_of layout row).wires ≡ form.wires = ap (λ (x : Form). x.wires) k.1 in
+    let wires : (form_of layout row).wires ≡ form.wires = ap (λ (x : Form). x.wires) (sym k.1) in
     let all : length (wires_in row) ≡ (form_of layout row).wires =
     length-map (tokens_after 2 (form_of layout row).wires row) number_in ∙ length-take-le (form_of layout row).wires (drop 2 row.tokens) (omega (arith, length-drop 2 row.tokens, shape.long)) in
     let parts : 3 < length (gate_line_of layout row).inputs + length (gate_line_of layout row).outputs =
@@ -144,7 +144,7 @@ wrong_arity layout c row form f l =
 -- ---- the next line
 
 pub added_next : (layout : CircuitLayout) (seen : ℕ) (rows rest : List Row) (said : Said) (old new : Draft) (r : Result (Unit {0}) CircuitFault) → Says layout rows said rest
-    → ((k : CircuitLayout) (row : Row) → IsSaid k row said → Adds k row old r new) → AddsNext layout seen rows old r rest new
+    → ((k : CircuitLayout) (row : Row) → IsSaid k row said → AddsGate k row old r new) → AddsNext layout seen rows old r rest new
 added_next layout seen rows rest said old new (Ok done) says adds = (says.row, says.first, adds layout says.row says.is)
 added_next layout seen rows rest said old new (Err f) says adds = λ n.
     fails_so f (gate_in layout old.circuit says.row) (gates_in layout (suc n) seen old.circuit rows) (adds layout says.row says.is)

@@ -1,13 +1,9 @@
 -- What checks that passed tell.
 use Rattle.std.proofs.Common.{◌≡◌, ℕ, Bool, true, false, ◌&&◌, Option, Some, None, Result, Ok, Err, refl}
 use Rattle.std.specs.Option.{is_some, unwrap_or}
-use Rattle.list_laws.specs.Checks.{or_fault, then_fault}
+use Rattle.list_laws.specs.Checks.{then_fault}
 use Rattle.circuit_model.specs.declared.fault.CircuitFault.{CircuitFault}
 use Rattle.circuit_file.specs.Answers.{◌>>=◌}
-
-pub or_ok : {A : Type 0} (o : Option CircuitFault) (a x : A) → or_fault o a ≡ Ok x → (o ≡ None) × (a ≡ x)
-or_ok None a x e = (refl, cc)
-or_ok (Some f) a x e = cc
 
 pub then_ok : {A : Type 0} (o : Option CircuitFault) (r : Result A CircuitFault) (x : A) → then_fault o r ≡ Ok x → (o ≡ None) × (r ≡ Ok x)
 then_ok None r x e = (refl, e)

@@ -1,5 +1,5 @@
 -- The parts of a reader, step by step.
-use Rattle.std.proofs.Common.{◌≡◌, ℕ, suc, ◌+◌, inl, inr, Bool, true, false, not, ◌&&◌, nat_eq, List, [], ◌∷◌, length, take, drop, nat_lt, sum, Option, Some, None, Result, Ok, Err, refl, sym, ◌∙◌, ap, subst}
+use Rattle.std.proofs.Common.{◌≡◌, ℕ, suc, ◌+◌, inl, inr, Bool, true, false, not, ◌&&◌, nat_eq, List, [], ◌∷◌, length, take, drop, nat_lt, sum, Option, None, Result, Ok, Err, refl, sym, ◌∙◌, ap, subst}
 use Rattle.std.specs.Prelude.{pos, if◌then◌else◌}
 use Rattle.std.specs.Option.{is_some}
 use Rattle.std.specs.Result.{IsErr, IsErrAnd}
@@ -19,11 +19,12 @@ use Rattle.circuit_file.specs.Header.{counts_in, widths_in}
 use Rattle.circuit_file.specs.GateLines.{form_checks, form_of, gate_line_of, gate_line_in}
 use Rattle.circuit_file.specs.CircuitFiles.{next_row, gate_in, gates_in, ended, no_gates, header_in, lines_in, is_bristol, text_checks, circuit_in}
 use Rattle.circuit_file.specs.Answers.{Fails}
-use Rattle.circuit_file.specs.Steps.{Adds, Begins}
+use Rattle.circuit_file.specs.Steps.{AddsGate, Begins}
 use Rattle.circuit_file.specs.declared.header.Counts.{Counts}
 use Rattle.circuit_model.specs.declared.layout.CircuitLayout.{CircuitLayout}
 use Rattle.circuit_file.specs.declared.gate_line.Form.{Form}
-use Rattle.circuit_file.proofs.PassedChecks.{or_ok, ok_same}
+use Rattle.list_laws.proofs.FirstFaults.{or_fault-err, or_fault-ok}
+use Rattle.circuit_file.proofs.PassedChecks.{ok_same}
 use Rattle.circuit_file.proofs.HeaderLaws.{AreCounts, AreWidths, counts_grounded, widths_grounded}
 
 -- what `?` hands on is the fault that it met
@@ -118,33 +119,29 @@ begun bits rows r one two three k is os lines b e c w v s =
 
 -- ---- a gate line
 
-blocked : {A : Type 0} (o : Option CircuitFault) (a : A) (f : CircuitFault) → Err f ≡ or_fault o a → o ≡ Some f
-blocked None a f e = cc
-blocked (Some g) a f e = cc
-
 pub form_fails : (layout : CircuitLayout) (c : Netlist) (row : Row) (f : CircuitFault) → Err f ≡ or_fault (first_fault (form_checks layout row)) (form_of layout row) → Err f ≡ gate_in layout c row
 unfolding gate_line_in
-form_fails layout c row f e = rw (blocked (first_fault (form_checks layout row)) (form_of layout row) f e) refl
+form_fails layout c row f e = rw (or_fault-err (first_fault (form_checks layout row)) (form_of layout row) f e) refl
 
 pub read_so : (layout : CircuitLayout) (c : Netlist) (row : Row) (form : Form) (n : ℕ) (is os : List ℕ) → Ok form ≡ or_fault (first_fault (form_checks layout row)) (form_of layout row)
     → n ≡ row.number → is ≡ (gate_line_of layout row).inputs → os ≡ (gate_line_of layout row).outputs → gate_in layout c row ≡ next_gate c n form.operation is os
 unfolding gate_line_in
 read_so layout c row form n is os f e i o =
-    let k = or_ok (first_fault (form_checks layout row)) (form_of layout row) form (sym f) in
-    let op : (gate_line_of layout row).operation ≡ form.operation = ap (λ (x : Form). x.operation) k.1 in
+    let k = or_fault-ok (first_fault (form_checks layout row)) (form_of layout row) form f in
+    let op : (gate_line_of layout row).operation ≡ form.operation = ap (λ (x : Form). x.operation) (sym k.1) in
     rw (k.0, e, i, o, ← op) refl
 
 added : (layout : CircuitLayout) (row : Row) (old new : Draft) (result : Result (Unit {0}) CircuitFault) (wanted : Result Gate CircuitFault) → gate_in layout old.circuit row ≡ wanted → old.refused ≡ None → result ≡ answer_of new
-    → Becomes old (take_gate old wanted) new → Adds layout row old result new
+    → Becomes old (take_gate old wanted) new → AddsGate layout row old result new
 added layout row old new result (Ok g) e n a (inl b) =
     let fine : result ≡ Ok tt = a ∙ ap answer_of b ∙ ap (λ (o : Option CircuitFault). or_fault o tt) n in
-    subst (λ (r : Result (Unit {0}) CircuitFault). Adds layout row old r new) (sym fine) (g, e, b)
+    subst (λ (r : Result (Unit {0}) CircuitFault). AddsGate layout row old r new) (sym fine) (g, e, b)
 added layout row old new result (Err f) e n a (inl b) =
     let bad : result ≡ Err f = a ∙ ap answer_of b in
-    subst (λ (r : Result (Unit {0}) CircuitFault). Adds layout row old r new) (sym bad) (fails f _ (sym e))
+    subst (λ (r : Result (Unit {0}) CircuitFault). AddsGate layout row old r new) (sym bad) (fails f _ (sym e))
 added layout row old new result wanted e n a (inr b) =
     let out : result ≡ Err Memory = a ∙ ap answer_of b.1 in
-    subst (λ (r : Result (Unit {0}) CircuitFault). Adds layout row old r new) (sym out) tt
+    subst (λ (r : Result (Unit {0}) CircuitFault). AddsGate layout row old r new) (sym out) tt
 
 abbrev gate_wires : CircuitLayout → Row → List ℕ
 gate_wires layout row = numbers_in (take (form_of layout row).wires (drop 2 row.tokens))
@@ -154,13 +151,13 @@ going_on old new n o is os e b = subst (λ (d : Draft). Becomes old d new) (ap (
 
 pub gate_added : (layout : CircuitLayout) (row : Row) (old new : Draft) (result : Result (Unit {0}) CircuitFault) (form : Form) (n : ℕ) (found d is os : List ℕ) (ts : List (List ℕ))
     → Ok form ≡ or_fault (first_fault (form_checks layout row)) (form_of layout row) → n ≡ row.number → ts ≡ drop 2 row.tokens → found ≡ numbers_in (take form.wires ts) → d ≡ found
-    → is ≡ take form.inputs d → os ≡ drop form.inputs d → old.refused ≡ None → result ≡ answer_of new → Becomes old (after_gate old n form.operation is os) new → Adds layout row old result new
+    → is ≡ take form.inputs d → os ≡ drop form.inputs d → old.refused ≡ None → result ≡ answer_of new → Becomes old (after_gate old n form.operation is os) new → AddsGate layout row old result new
 gate_added layout row old new result form n found d is os ts f e t w dw i o going a b =
-    let k = or_ok (first_fault (form_checks layout row)) (form_of layout row) form (sym f) in
+    let k = or_fault-ok (first_fault (form_checks layout row)) (form_of layout row) form f in
     let all : d ≡ numbers_in (take (form_of layout row).wires (drop 2 row.tokens)) =
-    dw ∙ w ∙ ap (λ us. numbers_in (take form.wires us)) t ∙ ap (λ (x : Form). numbers_in (take x.wires (drop 2 row.tokens))) (sym k.1) in
-    let ins : is ≡ (gate_line_of layout row).inputs = i ∙ ap (λ xs. take form.inputs xs) all ∙ ap (λ (x : Form). take x.inputs (gate_wires layout row)) (sym k.1) in
-    let outs : os ≡ (gate_line_of layout row).outputs = o ∙ ap (λ xs. drop form.inputs xs) all ∙ ap (λ (x : Form). drop x.inputs (gate_wires layout row)) (sym k.1) in
+    dw ∙ w ∙ ap (λ us. numbers_in (take form.wires us)) t ∙ ap (λ (x : Form). numbers_in (take x.wires (drop 2 row.tokens))) k.1 in
+    let ins : is ≡ (gate_line_of layout row).inputs = i ∙ ap (λ xs. take form.inputs xs) all ∙ ap (λ (x : Form). take x.inputs (gate_wires layout row)) k.1 in
+    let outs : os ≡ (gate_line_of layout row).outputs = o ∙ ap (λ xs. drop form.inputs xs) all ∙ ap (λ (x : Form). drop x.inputs (gate_wires layout row)) k.1 in
     added layout row old new result (next_gate old.circuit n form.operation is os) (read_so layout old.circuit row form n is os f e ins outs) going a
     (going_on old new n form.operation is os going b)
 

@@ -15,7 +15,8 @@ use Rattle.circuit_file.specs.GateLines.{gate_line_of}
 use Rattle.circuit_file.specs.CircuitFiles.{gate_in, gates_in, ended}
 use Rattle.circuit_file.specs.Grammar.{AreGateLines}
 use Rattle.circuit_model.specs.declared.layout.CircuitLayout.{CircuitLayout}
-use Rattle.circuit_file.proofs.PassedChecks.{bind_ok, bind_from, or_ok, ok_same}
+use Rattle.list_laws.proofs.FirstFaults.{or_fault-ok}
+use Rattle.circuit_file.proofs.PassedChecks.{bind_ok, bind_from, ok_same}
 use Rattle.circuit_file.proofs.GateLaws.{gate_related, line_grounded}
 
 -- the gates that were read, beyond those of c
@@ -92,7 +93,7 @@ no_fault None e = refl
 no_fault (Some w) e = cc
 
 pub ended_grounded : (c d : Netlist) (rows : List Row) → ended c rows ≡ Ok d → (rows ≡ []) × (c ≡ d) × (unset_output c ≡ None)
-ended_grounded c d [] e = let k = or_ok _ c d e in (refl, k.1, no_fault (unset_output c) k.0)
+ended_grounded c d [] e = let k = or_fault-ok _ c d (sym e) in (refl, sym k.1, no_fault (unset_output c) k.0)
 ended_grounded c d (row ∷ rows) e = cc
 
 pub ended_related : (c : Netlist) → unset_output c ≡ None → ended c [] ≡ Ok c

@@ -1,7 +1,7 @@
 -- Tokens that write numbers.
 use Rattle.std.proofs.Common.{◌≡◌, ℕ, suc, true, ◌&&◌, List, [], ◌∷◌, length, Some, refl, ◌∙◌, ap, ap₂}
 use Rattle.std.specs.Option.{is_some, unwrap_or}
-use Rattle.text_tokens.specs.Numbers.{number_of}
+use Rattle.text_tokens.specs.Numbers.{number_written}
 use Rattle.std.proofs.lemmas.Bool.{and_parts}
 use Rattle.circuit_file.specs.Tokens.{is_number, number_in, all_numbers, numbers_in}
 use Rattle.circuit_file.specs.Grammar.{Write}
@@ -9,9 +9,9 @@ use Rattle.circuit_file.proofs.PassedChecks.{some_is}
 
 pub write_all : (ts : List (List ℕ)) → all_numbers ts ≡ true → Write ts (numbers_in ts)
 write_all [] e = tt
-write_all (t ∷ ts) e = (some_is (number_of t) (and_parts (is_number t) (all_numbers ts) e).0, write_all ts (and_parts (is_number t) (all_numbers ts) e).1)
+write_all (t ∷ ts) e = (some_is (number_written t) (and_parts (is_number t) (all_numbers ts) e).0, write_all ts (and_parts (is_number t) (all_numbers ts) e).1)
 
-pub write_some : (ts : List (List ℕ)) (n : ℕ) (ns : List ℕ) → Write ts (n ∷ ns) → (t : List ℕ) × (rest : List (List ℕ)) × (ts ≡ t ∷ rest) × (number_of t ≡ Some n) × Write rest ns
+pub write_some : (ts : List (List ℕ)) (n : ℕ) (ns : List ℕ) → Write ts (n ∷ ns) → (t : List ℕ) × (rest : List (List ℕ)) × (ts ≡ t ∷ rest) × (number_written t ≡ Some n) × Write rest ns
 write_some [] n ns w = absurd w
 write_some (t ∷ ts) n ns w = (t, ts, refl, w.0, w.1)
 
@@ -19,10 +19,10 @@ pub write_none : (ts : List (List ℕ)) → Write ts [] → ts ≡ []
 write_none [] w = refl
 write_none (t ∷ ts) w = absurd w
 
-pub some_number : (t : List ℕ) (n : ℕ) → number_of t ≡ Some n → is_number t ≡ true
+pub some_number : (t : List ℕ) (n : ℕ) → number_written t ≡ Some n → is_number t ≡ true
 some_number t n e = ap is_some e
 
-pub this_number : (t : List ℕ) (n : ℕ) → number_of t ≡ Some n → number_in t ≡ n
+pub this_number : (t : List ℕ) (n : ℕ) → number_written t ≡ Some n → number_in t ≡ n
 this_number t n e = ap (λ o. unwrap_or o 0) e
 
 pub written_long : (ts : List (List ℕ)) (ns : List ℕ) → Write ts ns → length ts ≡ length ns

@@ -1,7 +1,7 @@
 -- The grammar of circuit files.
 use Rattle.std.specs.Prelude.{◌≡◌, ℕ, ◌↔◌, List, [], ◌∷◌, ◌++◌, take, length, if◌then◌else◌, Some, Ok}
 use Rattle.std.specs.Str.{IsUtf8}
-use Rattle.text_tokens.specs.Numbers.{number_of}
+use Rattle.text_tokens.specs.Numbers.{number_written}
 use Rattle.gate_lines.specs.Rows.{Row, rows_of}
 use Rattle.circuit_model.specs.Netlists.{Netlist, IsCircuit, arity, is_constant}
 use Rattle.circuit_model.specs.declared.gate.Gate.{Gate}
@@ -15,18 +15,18 @@ abbrev pub Write : List (List ℕ) → List ℕ → Type 0
 Write [] [] = Unit {0}
 Write [] (n ∷ ns) = ⊥
 Write (t ∷ ts) [] = ⊥
-Write (t ∷ ts) (n ∷ ns) = (number_of t ≡ Some n) × Write ts ns
+Write (t ∷ ts) (n ∷ ns) = (number_written t ≡ Some n) × Write ts ns
 
 -- the input wires of a gate, or its constant
-abbrev pub listed : Gate → List ℕ
-listed g = if is_constant g.operation then g.constant ∷ [] else take (arity g.operation) (g.first ∷ g.second ∷ [])
+abbrev pub listed_wires : Gate → List ℕ
+listed_wires g = if is_constant g.operation then g.constant ∷ [] else take (arity g.operation) (g.first ∷ g.second ∷ [])
 
 -- the count of input wires, the count of output wires, the input wires, the output wire, the operation
 pub record IsGateLine (layout : CircuitLayout) (row : Row) (g : Gate) : Type 0 where
   pub numbers : List (List ℕ)
   pub name : List ℕ
   pub tokens : row.tokens ≡ numbers ++ (name ∷ [])
-  pub write : Write numbers (arity g.operation ∷ 1 ∷ (listed g ++ (g.output ∷ [])))
+  pub write : Write numbers (arity g.operation ∷ 1 ∷ (listed_wires g ++ (g.output ∷ [])))
   pub operation : operation_of layout name ≡ Some g.operation
 
 -- each line is the line of the gate beside it

@@ -35,14 +35,15 @@ pub record Says (layout : CircuitLayout) (rows : List Row) (said : Said) (rest :
   pub is : IsSaid layout row said
 
 -- the draft has the gate of the line, or the line has this fault
-abbrev pub Adds : CircuitLayout → Row → Draft → Result (Unit {0}) CircuitFault → Draft → Type 0
-Adds layout row old (Ok done) new =
+abbrev pub AddsGate : CircuitLayout → Row → Draft → Result (Unit {0}) CircuitFault → Draft → Type 0
+AddsGate layout row old (Ok done) new =
     (g : Gate) × (gate_in layout old.circuit row ≡ Ok g) × (new ≡ record old { circuit = add_gate old.circuit g })
-Adds layout row old (Err f) new = Fails f (gate_in layout old.circuit row)
+AddsGate layout row old (Err f) new = Fails f (gate_in layout old.circuit row)
 
 -- the draft has the gate of the first line, or that line has the first fault, or there is none
 abbrev pub AddsNext : CircuitLayout → ℕ → List Row → Draft → Result (Unit {0}) CircuitFault → List Row → Draft → Type 0
-AddsNext layout seen rows old (Ok done) rest new = (row : Row) × (rows ≡ row ∷ rest) × Adds layout row old (Ok done) new
+AddsNext layout seen rows old (Ok done) rest new =
+    (row : Row) × (rows ≡ row ∷ rest) × AddsGate layout row old (Ok done) new
 AddsNext layout seen rows old (Err f) rest new = (n : ℕ) → Fails f (gates_in layout (suc n) seen old.circuit rows)
 
 -- a draft that waits for its first gate, and the rows that are left, or the first fault of a header

@@ -1,7 +1,7 @@
 -- The tokens of a line, and the numbers that they write.
 use Rattle.std.specs.Prelude.{ℕ, Bool, List, [], take, drop, map, slice_index_or, is_some, unwrap_or}
 use Rattle.std.specs.List.{list_all}
-use Rattle.text_tokens.specs.Numbers.{number_of}
+use Rattle.text_tokens.specs.Numbers.{number_written}
 use Rattle.gate_lines.specs.Rows.{Row}
 
 -- the token at a place
@@ -13,11 +13,11 @@ abbrev pub tokens_after : ℕ → ℕ → Row → List (List ℕ)
 tokens_after k n row = take n (drop k row.tokens)
 
 abbrev pub is_number : List ℕ → Bool
-is_number t = is_some (number_of t)
+is_number t = is_some (number_written t)
 
 -- the number that a token writes; 0 where it writes none
 abbrev pub number_in : List ℕ → ℕ
-number_in t = unwrap_or (number_of t) 0
+number_in t = unwrap_or (number_written t) 0
 
 abbrev pub all_numbers : List (List ℕ) → Bool
 all_numbers ts = list_all is_number ts

@@ -7,7 +7,7 @@ ghost use Rattle.circuit_model.specs.Netlists.{Netlist};
 ghost use Rattle.circuit_file.specs.Tokens.{tokens_after, numbers_in};
 ghost use Rattle.circuit_file.specs.CircuitFiles.{gate_in};
 ghost use Rattle.circuit_model.specs.declared.layout.CircuitLayout.{CircuitLayout};
-ghost use Rattle.circuit_file.specs.Steps.{IsSaid, Adds};
+ghost use Rattle.circuit_file.specs.Steps.{IsSaid, AddsGate};
 
 use crate::layout::operation_of;
 use crate::tokens::{after, all_numbers, number_in};
@@ -115,7 +115,7 @@ pub(crate) fn add_gate(said: &Said, builder: &mut Builder) -> Result<(), Circuit
     requires going { builder.old.refused ≡ None }
     requires form { (said.now.form.inputs ≤ said.now.form.wires) × (said.now.form.wires ≤ 3) }
     ensures { (layout : CircuitLayout) (row : Row) → IsSaid layout row said.now
-        → Adds layout row builder.old result builder.new }
+        → AddsGate layout row builder.old result builder.new }
 {
     let (inputs, outputs) = said.wires[..said.form.wires].split_at(said.form.inputs);
     builder.gate(said.line, said.form.operation, inputs, outputs)

@@ -14,7 +14,8 @@ use Rattle.circuit_model.specs.Netlists.{Netlist, IsCircuit, GateFits, sets, inp
 use Rattle.list_laws.specs.Checks.{first_fault, or_fault, then_fault}
 use Rattle.circuit_model.specs.Building.{Draft, header_checks, gate_checks, gate_of, next_gate, take_gate, after_gate, no_gates_yet, start_of, unset_output, circuit_of}
 use Rattle.circuit_model.specs.Drafts.{IsDraft}
-use Rattle.circuit_model.proofs.PassedChecks.{IsSmall, header_small, ok_passed, fault_moves}
+use Rattle.list_laws.proofs.FirstFaults.{or_fault-ok}
+use Rattle.circuit_model.proofs.PassedChecks.{IsSmall, header_small, fault_moves}
 use Rattle.circuit_model.proofs.SetWires.{funext, told_next, all_fit_next, none_found}
 
 abbrev pub Told : Netlist → List Bool → Type 0
@@ -37,10 +38,10 @@ pub started : (bits gates wires n : ℕ) (inputs outputs lines : List ℕ) (list
 unfolding start_of
 started bits gates wires n inputs outputs lines list e same none =
     ap₂ (λ k gs. Ok (record (no_gates_yet bits gates wires inputs outputs) { circuit = record { bits = bits; gates = gs; wires = k; inputs = inputs; outputs = outputs } })) same none
-    ∙ ap (λ o. or_fault o (no_gates_yet bits gates wires inputs outputs)) (sym (ok_passed {A = Unit {0}} (first_fault (header_checks gates wires inputs outputs lines)) tt tt e).0)
+    ∙ ap (λ o. or_fault o (no_gates_yet bits gates wires inputs outputs)) (sym (or_fault-ok {A = Unit {0}} (first_fault (header_checks gates wires inputs outputs lines)) tt tt e).0)
 
 pub small : (gates wires : ℕ) (inputs outputs lines : List ℕ) → Passes gates wires inputs outputs lines → IsSmall gates wires inputs outputs
-small gates wires inputs outputs lines e = header_small gates wires inputs outputs lines (ok_passed {A = Unit {0}} (first_fault (header_checks gates wires inputs outputs lines)) tt tt e).0
+small gates wires inputs outputs lines e = header_small gates wires inputs outputs lines (or_fault-ok {A = Unit {0}} (first_fault (header_checks gates wires inputs outputs lines)) tt tt e).0
 
 pub start_sound : (bits gates wires n : ℕ) (inputs outputs : List ℕ) (list : List Gate) (xs : List Bool) → 0 < bits → bits ≤ 32 → IsSmall gates wires inputs outputs → n ≡ wires → list ≡ []
     → Told (record { bits = bits; gates = []; wires = wires; inputs = inputs; outputs = outputs }) xs

@@ -5,7 +5,7 @@ use Rattle.std.specs.List.{list_all}
 use Rattle.std.specs.Prelude.{take, ◌∷◌}
 use Rattle.circuit_model.specs.declared.gate.Operation.{Operation}
 use Rattle.circuit_model.specs.declared.gate.Operation.TheVariants.{Add, Sub, Neg, Mul, Xor, And, Inv, Eq, Eqw}
-use Rattle.circuit_model.specs.Netlists.{Netlist, IsCircuit, arity, is_constant, reads, gate}
+use Rattle.circuit_model.specs.Netlists.{Netlist, IsCircuit, arity, is_constant, inputs_read, gate}
 
 both : (a b : Bool) → (a && (b && true)) ≡ true → (a ≡ true) × (b ≡ true)
 both true true e = (refl, refl)
@@ -17,7 +17,7 @@ one true e = refl
 one false e = cc
 
 -- a field that isn't read is 0, which is a wire
-reads_below : (o : Operation) (n a b : ℕ) → 0 < n → (arity o ≡ 1 → b ≡ 0) → list_all (λ w. nat_lt w n) (reads o (take (arity o) (a ∷ b ∷ []))) ≡ true → (o ≡ Eq → a ≡ 0) → (a < n) × (b < n)
+reads_below : (o : Operation) (n a b : ℕ) → 0 < n → (arity o ≡ 1 → b ≡ 0) → list_all (λ w. nat_lt w n) (inputs_read o (take (arity o) (a ∷ b ∷ []))) ≡ true → (o ≡ Eq → a ≡ 0) → (a < n) × (b < n)
 reads_below Add n a b some z r f = let p = both (nat_lt a n) (nat_lt b n) r in (ltb-true a n p.0, ltb-true b n p.1)
 reads_below Sub n a b some z r f = let p = both (nat_lt a n) (nat_lt b n) r in (ltb-true a n p.0, ltb-true b n p.1)
 reads_below Mul n a b some z r f = let p = both (nat_lt a n) (nat_lt b n) r in (ltb-true a n p.0, ltb-true b n p.1)

@@ -4,20 +4,16 @@ use Rattle.std.specs.Prelude.{slice_index}
 use Rattle.std.specs.List.{list_all}
 use Rattle.std.proofs.Math.ListN.{get_or-eq_default}
 use Rattle.std.proofs.lemmas.Bool.{eqb-true, ltb-true, ltb-false, and_parts, or_parts, not-false}
-use Rattle.list_laws.proofs.FirstFaults.{none_failed}
+use Rattle.list_laws.proofs.FirstFaults.{none_failed, or_fault-ok}
 use Rattle.list_laws.proofs.ShortLists.{one_long, two_long}
 use Rattle.circuit_model.specs.declared.gate.Operation.{Operation}
 use Rattle.circuit_model.specs.declared.gate.Operation.TheVariants.{Add, Sub, Neg, Mul, Xor, And, Inv, Eq, Eqw}
 use Rattle.circuit_model.specs.declared.fault.CircuitFault.{CircuitFault}
 use Rattle.circuit_model.specs.declared.fault.CircuitFault.TheVariants.{Memory}
 use Rattle.circuit_model.specs.Checks.{Gives}
-use Rattle.circuit_model.specs.Netlists.{Netlist, arity, is_constant, reads, read_by, sets, GateFits}
+use Rattle.circuit_model.specs.Netlists.{Netlist, arity, is_constant, inputs_read, read_by, sets, GateFits}
 use Rattle.list_laws.specs.Checks.{first_fault, or_fault}
 use Rattle.circuit_model.specs.Building.{header_checks, gate_checks, gate_of, next_gate}
-
-pub ok_passed : {A : Type 0} (o : Option CircuitFault) (a x : A) → Ok x ≡ or_fault o a → (o ≡ None) × (x ≡ a)
-ok_passed None a x e = (refl, cc)
-ok_passed (Some f) a x e = cc
 
 -- the same fault, whatever value it stands for
 pub fault_moves : {A B : Type 0} (o : Option CircuitFault) (a : A) (b : B) (f : CircuitFault) → Err f ≡ or_fault o a → Gives (Err f) (or_fault o b)
@@ -61,7 +57,7 @@ header_small gates wires inputs outputs lines e =
 
 -- ---- a gate
 
-reads_are : (o : Operation) (inputs outputs : List ℕ) → length inputs ≡ arity o → reads o inputs ≡ read_by (gate_of o inputs outputs)
+reads_are : (o : Operation) (inputs outputs : List ℕ) → length inputs ≡ arity o → inputs_read o inputs ≡ read_by (gate_of o inputs outputs)
 reads_are Add inputs outputs e = two_long inputs e
 reads_are Sub inputs outputs e = two_long inputs e
 reads_are Mul inputs outputs e = two_long inputs e
@@ -117,5 +113,5 @@ gate_fits c line o inputs outputs e =
 pub next_fits : (c : Netlist) (line : ℕ) (o : Operation) (inputs outputs : List ℕ) (g : _) → Ok g ≡ next_gate c line o inputs outputs → GateFits c c.gates g
 unfolding next_gate
 next_fits c line o inputs outputs g e =
-    let k = ok_passed _ _ g e in
+    let k = or_fault-ok _ _ g e in
     subst (λ h. GateFits c c.gates h) (sym k.1) (gate_fits c line o inputs outputs k.0)

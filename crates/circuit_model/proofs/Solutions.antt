@@ -9,13 +9,13 @@ use Rattle.circuit_model.specs.declared.gate.Gate.{Gate}
 use Rattle.circuit_model.specs.declared.gate.Operation.{Operation}
 use Rattle.circuit_model.specs.declared.gate.Operation.TheVariants.{Add, Sub, Neg, Mul, Xor, And, Inv, Eq, Eqw}
 use Rattle.circuit_model.specs.Circuits.{operate, values}
-use Rattle.circuit_model.specs.Netlists.{Netlist, IsCircuit, arity, reads, gate, no_gate, is_set, sets, input_wires, given, plain}
+use Rattle.circuit_model.specs.Netlists.{Netlist, IsCircuit, arity, inputs_read, gate, no_gate, is_set, sets, input_wires, before_gates, plain}
 use Rattle.circuit_model.specs.Equations.{Solves}
 use Rattle.circuit_model.proofs.SetAt.{set_here, set_there}
 use Rattle.circuit_model.proofs.SetWires.{set_next}
 
 -- words that agree on what an operation reads give the same
-reads_same : (q : ℕ) (o : Operation) (k a b : ℕ) (x y : ℕ → ℕ) (p : ℕ → Bool) → list_all p (reads o (take (arity o) (a ∷ b ∷ []))) ≡ true → ((w : ℕ) → p w ≡ true → x w ≡ y w)
+reads_same : (q : ℕ) (o : Operation) (k a b : ℕ) (x y : ℕ → ℕ) (p : ℕ → Bool) → list_all p (inputs_read o (take (arity o) (a ∷ b ∷ []))) ≡ true → ((w : ℕ) → p w ≡ true → x w ≡ y w)
     → operate q o k (x a) (x b) ≡ operate q o k (y a) (y b)
 reads_same q Add k a b x y p r h = ap₂ (operate q Add k) (h a (and_parts (p a) (p b && true) r).0) (h b (and_parts (p b) true (and_parts (p a) (p b && true) r).1).0)
 reads_same q Sub k a b x y p r h = ap₂ (operate q Sub k) (h a (and_parts (p a) (p b && true) r).0) (h b (and_parts (p b) true (and_parts (p a) (p b && true) r).1).0)
@@ -32,7 +32,7 @@ abbrev set_before : Netlist → ℕ → ℕ → Bool
 set_before c t = is_set (input_wires c) (take t c.gates)
 
 abbrev values_at : Netlist → (ℕ → ℕ) → ℕ → ℕ → ℕ
-values_at c inputs = values (2 ^ c.bits) (gate c) (given c inputs)
+values_at c inputs = values (2 ^ c.bits) (gate c) (before_gates c inputs)
 
 before_next : (c : Netlist) (t w : ℕ) → t < length c.gates → set_before c (suc t) w ≡ (set_before c t w || ((gate c t).output == w))
 before_next c t w l = ap (λ gs. is_set (input_wires c) gs w) (take-suc c.gates t no_gate l) ∙ set_next (input_wires c) (take t c.gates) (gate c t) w

@@ -7,7 +7,7 @@ use Rattle.circuit_model.specs.declared.gate.Operation.{Operation}
 use Rattle.circuit_model.specs.declared.fault.CircuitFault.{CircuitFault}
 use Rattle.circuit_model.specs.declared.fault.CircuitFault.TheVariants.{TooLarge, HeaderWidths, WrongArity, BadConstant, WireOutOfRange, ReadBeforeSet, SetTwice, OutputNotSet, Memory}
 use Rattle.list_laws.specs.Checks.{◌answers◌, first_fault, or_fault, then_fault}
-use Rattle.circuit_model.specs.Netlists.{Netlist, arity, is_constant, reads, output_wires, sets}
+use Rattle.circuit_model.specs.Netlists.{Netlist, arity, is_constant, inputs_read, output_wires, sets}
 
 -- a circuit that lacks gates: how many it will have, and the first refusal
 pub record Draft : Type 0 where
@@ -45,9 +45,9 @@ unfoldable pub gate_checks : ℕ → ℕ → (ℕ → Bool) → ℕ → Operatio
 gate_checks bits wires set line o inputs outputs =
     (not ((length inputs == arity o) && (length outputs == 1)) answers WrongArity line)
     ∷ ((is_constant o && not (nat_lt (slice_index inputs 0) (2 ^ bits))) answers BadConstant line)
-    ∷ (not (list_all (λ w. nat_lt w wires) (reads o inputs) && nat_lt
+    ∷ (not (list_all (λ w. nat_lt w wires) (inputs_read o inputs) && nat_lt
     (slice_index outputs 0) wires) answers WireOutOfRange line)
-    ∷ (not (list_all set (reads o inputs)) answers ReadBeforeSet line)
+    ∷ (not (list_all set (inputs_read o inputs)) answers ReadBeforeSet line)
     ∷ (set (slice_index outputs 0) answers SetTwice line)
     ∷ []
 
@@ -56,8 +56,8 @@ abbrev pub gate_of : Operation → List ℕ → List ℕ → Gate
 gate_of o inputs outputs =
     record {
       operation = o;
-      first = slice_index (reads o inputs) 0;
-      second = slice_index (reads o inputs) 1;
+      first = slice_index (inputs_read o inputs) 0;
+      second = slice_index (inputs_read o inputs) 1;
       output = slice_index outputs 0;
       constant = if is_constant o then slice_index inputs 0 else 0;
     }

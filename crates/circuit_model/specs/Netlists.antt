@@ -48,12 +48,12 @@ is_constant Eq = true
 is_constant _ = false
 
 -- the wires among what an operation takes
-abbrev pub reads : Operation → List ℕ → List ℕ
-reads o taken = if is_constant o then [] else taken
+abbrev pub inputs_read : Operation → List ℕ → List ℕ
+inputs_read o taken = if is_constant o then [] else taken
 
 -- the wires that a gate reads
 abbrev pub read_by : Gate → List ℕ
-read_by g = reads g.operation (take (arity g.operation) (g.first ∷ g.second ∷ []))
+read_by g = inputs_read g.operation (take (arity g.operation) (g.first ∷ g.second ∷ []))
 
 -- the wire is one of so many input wires, or one of the gates sets it
 abbrev pub is_set : ℕ → List Gate → ℕ → Bool
@@ -100,9 +100,9 @@ pub record IsCircuit (c : Netlist) : Type 0 where
   pub outputs : (w : ℕ) → c.wires - output_wires c ≤ w → w < c.wires → sets c w ≡ true
 
 -- the words on the wires before the first gate
-abbrev pub given : Netlist → (ℕ → ℕ) → ℕ → ℕ
-given c inputs w = if nat_lt w (input_wires c) then inputs w else 0
+abbrev pub before_gates : Netlist → (ℕ → ℕ) → ℕ → ℕ
+before_gates c inputs w = if nat_lt w (input_wires c) then inputs w else 0
 
 -- the value of each wire, from the words on the input wires
 abbrev pub plain : Netlist → (ℕ → ℕ) → ℕ → ℕ
-plain c inputs = values (2 ^ c.bits) (gate c) (given c inputs) (length c.gates)
+plain c inputs = values (2 ^ c.bits) (gate c) (before_gates c inputs) (length c.gates)

@@ -2,7 +2,7 @@
 ghost use Rattle.std.specs.Prelude.{◌≡◌, ◌^◌, ◌≤◌, ◌<◌, Result, Ok, Err, length, sum, slice_index, slice_index_or, nat_lt, not, ◌&&◌, ◌||◌, ◌==◌, true, false, if◌then◌else◌};
 ghost use Rattle.std.specs.List.{list_all};
 ghost use Rattle.list_laws.specs.Checks.{or_fault, first_fault};
-ghost use Rattle.circuit_model.specs.Netlists.{arity, is_constant, reads};
+ghost use Rattle.circuit_model.specs.Netlists.{arity, is_constant, inputs_read};
 ghost use Rattle.circuit_model.specs.Building.{header_checks, gate_checks, gate_of};
 
 use crate::fault::CircuitFault;
@@ -112,8 +112,8 @@ fn word(words: &[u64], at: usize) -> u64
 }
 
 // The wires that a gate reads.
-fn reads(operation: Operation, inputs: &[u64]) -> &[u64]
-    ensures { result.now ≡ reads operation inputs.now }
+fn inputs_read(operation: Operation, inputs: &[u64]) -> &[u64]
+    ensures { result.now ≡ inputs_read operation inputs.now }
 {
     if is_constant(operation) { &[] } else { inputs }
 }
@@ -165,7 +165,7 @@ pub(crate) fn check_gate(
         is_bad_constant(ring, operation, inputs),
         CircuitFault::BadConstant { line },
     )?;
-    let read = reads(operation, inputs);
+    let read = inputs_read(operation, inputs);
     let output = word(outputs, 0);
     check(
         !are_below(set.len() as u64, read, output),

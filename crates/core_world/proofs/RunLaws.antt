@@ -14,7 +14,7 @@ use Rattle.core_world.specs.Running.{IsRunOf, IsMoment, IsFinish, desk_of}
 use Rattle.desk_laws.proofs.Elements.{element_there}
 use Rattle.desk_laws.proofs.StuckDesks.{quotient, remainder, beside, desk_there}
 use Rattle.core_world.proofs.StuckDesks.{desks}
-use Rattle.desk_laws.specs.InWorld.{IsRight, IsDone}
+use Rattle.desk_laws.specs.InWorld.{IsRight, IsDeskDone}
 use Rattle.desk_laws.proofs.Outputs.{right_now, done_at_end}
 
 module _ (w : World) (whole : IsWhole w) (r : code.World) (h : IsRunOf w r) (s p : ℕ) (ls : s < length w.plan.sessions) (lp : p < w.plan.parties) where
@@ -39,11 +39,11 @@ module _ (w : World) (whole : IsWhole w) (r : code.World) (h : IsRunOf w r) (s p
   pub right_here : IsSomeAnd (desk_of r s p) (IsRight w s p)
   right_here = subst (λ found. IsSomeAnd found (IsRight w s p)) (sym desk_is) (right_now w s p desk whole is_desk)
 
-  pub done_here : AllEnded w r.desks.items → IsSomeAnd (desk_of r s p) (IsDone w s p)
+  pub done_here : AllEnded w r.desks.items → IsSomeAnd (desk_of r s p) (IsDeskDone w s p)
   done_here ended =
       let at_end : desk.position ≡ length (program w.plan p s) =
       ended k desk (element_there r.desks.items k inside).1 ∙ ap₂ (λ a b. length (program w.plan a b)) (remainder w s p lp) (quotient w s p lp) in
-      subst (λ found. IsSomeAnd found (IsDone w s p)) (sym desk_is) (done_at_end w s p desk whole is_desk at_end)
+      subst (λ found. IsSomeAnd found (IsDeskDone w s p)) (sym desk_is) (done_at_end w s p desk whole is_desk at_end)
 
 pub moment : (w : World) (r : code.World) → IsWhole w → IsRunOf w r → IsMoment w r
 moment w r whole h = record {

@@ -25,7 +25,7 @@ use Rattle.program_laws.proofs.LocalPrograms.{met}
 use Rattle.program_laws.proofs.LawfulWorlds.{lawful, suits_in}
 use Rattle.party_desk.specs.declared.desk.Desk.{Desk}
 use Rattle.party_desk.specs.Desks.{IsDesk, drawn_of, output_at}
-use Rattle.desk_laws.specs.InWorld.{IsRight, IsDone, piece_of}
+use Rattle.desk_laws.specs.InWorld.{IsRight, IsDeskDone, piece_of}
 
 -- ---- at any moment
 
@@ -127,7 +127,7 @@ module _ (w : World) (s p : ℕ) (d : Desk) (whole : IsWhole w) (h : IsDesk (giv
     tape_is : d.memory.tape ≡ []
     tape_is = h.tape ∙ drop_all past (piece_of w p s) (let a = piece_is w whole s p h.suits.session h.suits.party in let b = spent in omega arith)
 
-    pub done_at_end : IsDone w s p d
+    pub done_at_end : IsDeskDone w s p d
     done_at_end = record {
       delivered = λ o lo reads.
           h.memory.outputs o

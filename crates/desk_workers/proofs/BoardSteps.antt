@@ -28,7 +28,7 @@ use Rattle.desk_laws.proofs.StepCounts as counting
 use Rattle.desk_laws.proofs.PostedWords.{posts_stay}
 use Rattle.desk_workers.specs.declared.promised.Promised.{Promised}
 use Rattle.desk_workers.specs.Promises.{world_in, words_of}
-use Rattle.desk_workers.specs.Pools.{IsPool, StandsIn, Leads}
+use Rattle.desk_workers.specs.Pools.{IsPool, StandsInWorld, Leads}
 use Rattle.desk_workers.proofs.PostedPairs.{many_words, word_at, word_is}
 
 -- a desk that can't move for what is known can't for less
@@ -37,7 +37,7 @@ stuck_less xs ys w k q more (inl e) = inl e
 stuck_less xs ys w k q more (inr t) = inr (t.0, t.1, t.2, λ v known. t.3 v (more t.0 v known))
 
 module _ (w : World) (k : ℕ) where
-  pub at_rest : (s : Sitting Promised) (d : Desk) → StandsIn w s.view.seen k d → Leads w k s d s d 0
+  pub at_rest : (s : Sitting Promised) (d : Desk) → StandsInWorld w s.view.seen k d → Leads w k s d s d 0
   at_rest s d h = record { stands = h; counts = omega arith; still = λ z. refl; grows = λ n v known. known; seats = refl; out = refl }
 
   pub follows : (s t u : Sitting Promised) (d e f : Desk) (m n : ℕ) → Leads w k s d t e m → Leads w k t e u f n → Leads w k s d u f (m + n)
@@ -51,7 +51,7 @@ module _ (w : World) (k : ℕ) where
   }
 
 -- few instructions are left
-pub left_small : (w : World) → IsWhole w → (seen : List (ℕ × ℕ)) (k : ℕ) (d : Desk) → StandsIn w seen k d → left d < 2 ^ 32
+pub left_small : (w : World) → IsWhole w → (seen : List (ℕ × ℕ)) (k : ℕ) (d : Desk) → StandsInWorld w seen k d → left d < 2 ^ 32
 left_small w whole seen k d h =
     let short : length (program_of w k) < 4294967295 = (lawful w whole).short (k % w.plan.parties) (k / w.plan.parties) in
     let same : d.instructions ≡ length (program_of w k) = h.desk.instructions in
@@ -105,7 +105,7 @@ module _ (board : BoardModel Promised) (s t : Sitting Promised) where
 module _ {C : Type 0} (cells : Meaning C) (seat_of : C → Sitting Promised) (list : Promised → List ℕ) (board : BoardModel Promised) (w : World) (k : ℕ) (c f : C) (d e : Desk)
     (put_is : (n v : ℕ) (a : Posted) → cells.put c n v a f → HasPosted board (seat_of c) (seat_of f) n v a)
     (took_is : (n : ℕ) (a : Option ℕ) → cells.took c n a f → HasTaken list board (seat_of c) (seat_of f) n a)
-    (h : StandsIn w (seat_of c).view.seen k d) where
+    (h : StandsInWorld w (seat_of c).view.seen k d) where
   abbrev s : ℕ
   s = k / w.plan.parties
 
@@ -183,7 +183,7 @@ seat_cells = record {
   below = λ c k. AllBelow k (words_of (world_in c.board.now.about.world));
 }
 
-module _ (plan : Plan) (c : SeatAt Promised (Box Desk Global)) (pool : IsPool plan c.board.now) (seat : IsSeatOf c.board.now c.seat.now) (k : ℕ) (d : Desk) (h : StandsIn (world_in c.board.now.about.world) c.seat.now.view.seen k d) where
+module _ (plan : Plan) (c : SeatAt Promised (Box Desk Global)) (pool : IsPool plan c.board.now) (seat : IsSeatOf c.board.now c.seat.now) (k : ℕ) (d : Desk) (h : StandsInWorld (world_in c.board.now.about.world) c.seat.now.view.seen k d) where
   abbrev here : World
   here = world_in c.board.now.about.world
 

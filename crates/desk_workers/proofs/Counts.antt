@@ -25,14 +25,30 @@ next_term f [] i d l = absurd (omega arith)
 next_term f (x ∷ ds) zero d l = omega arith
 next_term f (x ∷ ds) (suc i) d l = let r = next_term f ds i d (omega arith) in omega arith
 
-pub one_more : (f : Desk → ℕ) (ds : List Desk) (i : ℕ) (d : Desk) → i < length ds → total_over f (take (i + 1) ds) ≡ total_over f (take i ds) + f (get_or ds i d)
+one_more : (f : Desk → ℕ) (ds : List Desk) (i : ℕ) (d : Desk) → i < length ds → total_over f (take (i + 1) ds) ≡ total_over f (take i ds) + f (get_or ds i d)
 one_more f ds i d l = ap (λ n. total_over f (take n ds)) (let e : i + 1 ≡ suc i = omega arith in e) ∙ next_term f ds i d l
 
-pub take_all : (ds : List Desk) (n : ℕ) → n ≡ length ds → take n ds ≡ ds
+take_all : (ds : List Desk) (n : ℕ) → n ≡ length ds → take n ds ≡ ds
 take_all [] zero e = refl
 take_all [] (suc n) e = absurd (omega arith)
 take_all (x ∷ ds) zero e = absurd (omega arith)
 take_all (x ∷ ds) (suc n) e = ap (λ l. x ∷ l) (take_all ds n (omega arith))
+
+-- ---- a loop that counts by desks, each of which has less than 2 ^ 32
+
+abbrev pub IsCount : (Desk → ℕ) → List Desk → ℕ → ℕ → Type 0
+IsCount f ds i count = (count ≡ total_over f (take i ds)) × (count ≤ i * 2 ^ 32)
+
+pub count_next : (f : Desk → ℕ) (ds : List Desk) (i : ℕ) (d : Desk) (count more : ℕ) → i < length ds → d ≡ get_or ds i d → more ≡ f d → more < 2 ^ 32 → IsCount f ds i count → IsCount f ds (i + 1) (count + more)
+count_next f ds i d count more l is more_is small so_far =
+    let step : total_over f (take (i + 1) ds) ≡ total_over f (take i ds) + f (get_or ds i d) = one_more f ds i d l in
+    let same : f d ≡ f (get_or ds i d) = ap f is in
+    let before : count ≡ total_over f (take i ds) = so_far.0 in
+    let bound : count ≤ i * 2 ^ 32 = so_far.1 in
+    (omega arith, omega arith)
+
+pub count_all : (f : Desk → ℕ) (ds : List Desk) (i count : ℕ) → i ≡ length ds → IsCount f ds i count → count ≡ total_over f ds
+count_all f ds i count all so_far = so_far.0 ∙ ap (λ l. total_over f l) (take_all ds i all)
 
 -- the first term of a sum
 first_term : (n : ℕ) (g : ℕ → ℕ) → sums.total (suc n) g ≡ g 0 + sums.total n (λ k. g (suc k))

@@ -13,15 +13,15 @@ use Rattle.desk_laws.proofs.Elements.{by_place, by_element}
 use Rattle.desk_laws.proofs.StuckDesks.{stuck_is_ended}
 use Rattle.desk_workers.specs.declared.promised.Promised.{Promised}
 use Rattle.desk_workers.specs.Promises.{world_in}
-use Rattle.desk_workers.specs.Pools.{IsPool, StandsIn, AllStand}
+use Rattle.desk_workers.specs.Pools.{IsPool, StandsInWorld, AllStand}
 use Rattle.desk_workers.proofs.Counts.{few_desks}
 use Rattle.desk_workers.proofs.PostedPairs.{stands_more}
 
-pub all_set : (w : World) (xs ys : List (ℕ × ℕ)) (ds : List Desk) (i : ℕ) (e : Desk) → Grows xs ys → i < length ds → StandsIn w ys i e → AllStand w xs ds → AllStand w ys (set ds i e)
-all_set w xs ys ds i e more inside h all = by_element (StandsIn w ys) (set ds i e) (λ k d less.
+pub all_set : (w : World) (xs ys : List (ℕ × ℕ)) (ds : List Desk) (i : ℕ) (e : Desk) → Grows xs ys → i < length ds → StandsInWorld w ys i e → AllStand w xs ds → AllStand w ys (set ds i e)
+all_set w xs ys ds i e more inside h all = by_element (StandsInWorld w ys) (set ds i e) (λ k d less.
     let len = length-set ds i e in
-    ⊎_elim (λ (q : k ≡ i). subst (λ j. StandsIn w ys j (get_or (set ds i e) j d)) (sym q) (subst (StandsIn w ys i) (sym (get_or-set_same ds i e d inside)) h))
-    (λ (ne : k ≢ i). subst (StandsIn w ys k) (sym (get_or-set_other ds i k e d ne)) (stands_more w xs ys k (get_or ds k d) more (by_place (StandsIn w xs) ds all k d (omega arith)))) (cases_eq k i))
+    ⊎_elim (λ (q : k ≡ i). subst (λ j. StandsInWorld w ys j (get_or (set ds i e) j d)) (sym q) (subst (StandsInWorld w ys i) (sym (get_or-set_same ds i e d inside)) h))
+    (λ (ne : k ≢ i). subst (StandsInWorld w ys k) (sym (get_or-set_other ds i k e d ne)) (stands_more w xs ys k (get_or ds k d) more (by_place (StandsInWorld w xs) ds all k d (omega arith)))) (cases_eq k i))
 
 module _ (plan : Plan) (board : BoardModel Promised) (pool : IsPool plan board) where
   pub few_slots : board.id.slots ≤ 192

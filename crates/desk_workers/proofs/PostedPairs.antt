@@ -13,7 +13,7 @@ use Rattle.party_desk.specs.declared.desk.Desk.{Desk}
 use Rattle.party_desk.specs.Desks.{IsDesk}
 use Rattle.program_laws.specs.Lawful.{given_to}
 use Rattle.desk_workers.specs.Promises.{words_of, posted_pairs, posted_by}
-use Rattle.desk_workers.specs.Pools.{StandsIn}
+use Rattle.desk_workers.specs.Pools.{StandsInWorld}
 
 -- ---- words
 
@@ -89,16 +89,16 @@ module _ (w : World) where
 
   module _ (k : ℕ) (d : Desk) where
     -- who knows the posts knows the pairs, and the other way round
-    pub covers : (seen : List (ℕ × ℕ)) → StandsIn w seen k d → Grows (posted_by w d) seen
+    pub covers : (seen : List (ℕ × ℕ)) → StandsInWorld w seen k d → Grows (posted_by w d) seen
     covers seen h n v known = pairs_are (Knows seen) d.position (program w.plan d.party d.session) (λ q m i l e. h.posted q m i l ((λ z. at (program w.plan (sym h.desk.party z) (sym h.desk.session z)) q) ∙ e)) n v known
 
-    pub stands : (seen : List (ℕ × ℕ)) → IsDesk (given_to w k) d → Grows (posted_by w d) seen → StandsIn w seen k d
+    pub stands : (seen : List (ℕ × ℕ)) → IsDesk (given_to w k) d → Grows (posted_by w d) seen → StandsInWorld w seen k d
     stands seen h grows = record {
       desk = h;
       posted = λ q n i l e. grows n (word w (message w.plan n)) (post_there d.position (program w.plan d.party d.session) q n i l ((λ z. at (program w.plan (h.party z) (h.session z)) q) ∙ e));
     }
 
-  pub stands_more : (xs ys : List (ℕ × ℕ)) (k : ℕ) (d : Desk) → Grows xs ys → StandsIn w xs k d → StandsIn w ys k d
+  pub stands_more : (xs ys : List (ℕ × ℕ)) (k : ℕ) (d : Desk) → Grows xs ys → StandsInWorld w xs k d → StandsInWorld w ys k d
   stands_more xs ys k d more h = record { desk = h.desk; posted = λ q n i l e. more n (word w (message w.plan n)) (h.posted q n i l e) }
 
   -- a desk at its start posted nothing

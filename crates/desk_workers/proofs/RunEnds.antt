@@ -9,7 +9,7 @@ use Rattle.job_plan.specs.Messages.{messages}
 use Rattle.job_plan.specs.Numbers.{message}
 use Rattle.share_world.specs.Worlds.{World, word}
 use Rattle.party_desk.specs.declared.desk.Desk.{Desk}
-use Rattle.desk_laws.specs.InWorld.{IsDone}
+use Rattle.desk_laws.specs.InWorld.{IsDeskDone}
 use Rattle.desk_laws.specs.Pools.{AreDesks, AllEnded}
 use Rattle.desk_laws.proofs.Outputs.{done_at_end}
 use Rattle.desk_laws.proofs.Elements.{element_there}
@@ -44,9 +44,9 @@ module _ (plan : Plan) (board : BoardModel Promised) (pool : IsPool plan board) 
       abbrev desk : Desk
       desk = (element_there ds k inside).0
 
-      done : IsSomeAnd (desk_of o s p) (IsDone w s p)
+      done : IsSomeAnd (desk_of o s p) (IsDeskDone w s p)
       done =
-          subst (λ z. IsSomeAnd z (IsDone w s p)) (sym (ap (λ n. slice_get ds (s * n + p)) parties ∙ (element_there ds k inside).1))
+          subst (λ z. IsSomeAnd z (IsDeskDone w s p)) (sym (ap (λ n. slice_get ds (s * n + p)) parties ∙ (element_there ds k inside).1))
           (done_at_end w s p desk pool.whole (desk_there w s p lp ds are ls desk (element_there ds k inside).1)
           (ended k desk (element_there ds k inside).1 ∙ ap length (program_there w s p lp)))
 

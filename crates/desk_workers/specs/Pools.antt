@@ -20,14 +20,14 @@ pub record IsPool (plan : Plan) (board : BoardModel Promised) : Type 0 where
   pub slots : board.id.slots ≡ plan.parties * length plan.sessions
 
 -- desk k stands where its program leaves it in the world, and these pairs have what it posted
-pub record StandsIn (w : World) (seen : List (ℕ × ℕ)) (k : ℕ) (d : Desk) : Type 0 where
+pub record StandsInWorld (w : World) (seen : List (ℕ × ℕ)) (k : ℕ) (d : Desk) : Type 0 where
   pub desk : IsDesk (given_to w k) d
   pub posted : HasPosts (Knows seen) w (k / w.plan.parties) (k % w.plan.parties) d.position
 
 -- so many steps of desk k led from one desk and seat to another
 pub record Leads (w : World) (k : ℕ) (seat : Sitting Promised) (d : Desk) (seat' : Sitting Promised) (d' : Desk)
     (moves : ℕ) : Type 0 where
-  pub stands : StandsIn w seat'.view.seen k d'
+  pub stands : StandsInWorld w seat'.view.seen k d'
   pub counts : moves + left d' ≡ left d
   pub still : moves ≡ 0 → d' ≡ d
   pub grows : Grows seat.view.seen seat'.view.seen
@@ -37,23 +37,23 @@ pub record Leads (w : World) (k : ℕ) (seat : Sitting Promised) (d : Desk) (sea
 -- of the board's world: a desk and a seat that knows what it posted, where so many steps led, and that the desk could
 -- not move
 abbrev pub IsDeskOf : BoardModel Promised → Sitting Promised → Desk → Type 0
-IsDeskOf board seat d = (k : ℕ) × StandsIn (world_in board.about.world) seat.view.seen k d
+IsDeskOf board seat d = (k : ℕ) × StandsInWorld (world_in board.about.world) seat.view.seen k d
 
 -- so many steps led from one to the other, of whichever desk of the world it is
 abbrev pub LeadsOn : BoardModel Promised → Sitting Promised → Desk → Sitting Promised → Desk → ℕ → Type 0
 LeadsOn board seat d seat' d' moves =
-    (k : ℕ) → StandsIn (world_in board.about.world) seat.view.seen k d
+    (k : ℕ) → StandsInWorld (world_in board.about.world) seat.view.seen k d
     → Leads (world_in board.about.world) k seat d seat' d' moves
 
 -- the desk could not move
 abbrev pub IsStuck : BoardModel Promised → Sitting Promised → Desk → Type 0
 IsStuck board seat d =
-    (k : ℕ) → StandsIn (world_in board.about.world) seat.view.seen k d
+    (k : ℕ) → StandsInWorld (world_in board.about.world) seat.view.seen k d
     → Stuck (Knows seat.view.seen) (world_in board.about.world) k d.position
 
 -- each desk stands where its program leaves it in the world, and these pairs have what they posted
 abbrev pub AllStand : World → List (ℕ × ℕ) → List Desk → Type 0
-AllStand w seen ds = (k : ℕ) (d : Desk) → slice_get ds k ≡ Some d → StandsIn w seen k d
+AllStand w seen ds = (k : ℕ) (d : Desk) → slice_get ds k ≡ Some d → StandsInWorld w seen k d
 
 -- each seat is one of the board's and holds no slot
 abbrev pub AllFree : BoardModel Promised → List (Sitting Promised) → Type 0

@@ -11,7 +11,7 @@ use Rattle.message_board.specs.Plain.{plain_cell}
 use Rattle.message_board.specs.Seats.{AreNewSeats}
 use Rattle.party_desk.specs.declared.desk.Desk.{Desk}
 use Rattle.program_laws.specs.Lawful.{program_of}
-use Rattle.desk_laws.specs.InWorld.{IsDone}
+use Rattle.desk_laws.specs.InWorld.{IsDeskDone}
 use Rattle.desk_workers.specs.declared.ready.Ready.{Ready}
 use Rattle.desk_workers.specs.declared.done.Done.{Done}
 use Rattle.desk_workers.specs.Promises.{world_in}
@@ -44,7 +44,8 @@ desk_of done s p = slice_get done.desks.items (s * done.parties + p)
 pub record IsOver (w : World) (done : Done) : Type 0 where
   pub parties : done.parties ≡ w.plan.parties
   pub count : length done.desks.items ≡ w.plan.parties * length w.plan.sessions
-  pub desks : (s p : ℕ) → s < length w.plan.sessions → p < w.plan.parties → IsSomeAnd (desk_of done s p) (IsDone w s p)
+  pub desks : (s p : ℕ) → s < length w.plan.sessions → p < w.plan.parties
+      → IsSomeAnd (desk_of done s p) (IsDeskDone w s p)
   pub all_cells : length done.cells ≡ length (messages w.plan)
   pub cells : (n : ℕ) → n < length (messages w.plan) → plain_cell done.cells n ≡ Some (word w (message w.plan n))
   pub steps : done.steps ≡ instructions_of w

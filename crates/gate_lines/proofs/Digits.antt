@@ -11,7 +11,7 @@ use Rattle.std.proofs.lemmas.Str.Parse.{digits_value-take-le, digits_value_short
 use Rattle.std.proofs.Math.Seq.{take-append_seam}
 use Rattle.std.proofs.lemmas.List.{drop_more, get_or-drop, length-take-le}
 use Rattle.text_tokens.specs.Tokens.{is_blank}
-use Rattle.text_tokens.specs.Numbers.{number_of}
+use Rattle.text_tokens.specs.Numbers.{number_written}
 use Rattle.text_tokens.proofs.Values.{digits, all_digits, number_is, number_large, number_other_byte}
 use Rattle.gate_lines.specs.Places.{Place, place_in, next_token, past_token, is_inner_blank, StandsAt, Passes}
 use Rattle.gate_lines.proofs.Places.{in_token, place-token, Begins, begins, between, line_over}
@@ -51,23 +51,23 @@ pub number_place : (n : ℕ) (text rest : List ℕ) (value : ℕ) → (d : Digit
 number_place n text rest value d l ends = ap (place_in n) d.cut ∙ place-token n d.digits rest l (digits_in_token d.digits d.all) ends
 
 pub number_read : (n : ℕ) (text rest : List ℕ) (value : ℕ) → (d : Digits text rest value) → 0 < length d.digits → (0 < length rest → is_blank (get_or rest 0 0) ≡ true) → value < 2 ^ 64
-    → Some value ≡ number_of (next_token (place_in n text))
-number_read n text rest value d l ends small = sym (ap (λ (p : Place). number_of (next_token p)) (number_place n text rest value d l ends) ∙ number_is d.digits value l d.all d.writes small)
+    → Some value ≡ number_written (next_token (place_in n text))
+number_read n text rest value d l ends small = sym (ap (λ (p : Place). number_written (next_token p)) (number_place n text rest value d l ends) ∙ number_is d.digits value l d.all d.writes small)
 
 pub number_past : (n : ℕ) (text rest : List ℕ) (value : ℕ) → (d : Digits text rest value) → 0 < length d.digits → (0 < length rest → is_blank (get_or rest 0 0) ≡ true) → place_in n rest ≡ past_token (place_in n text)
 number_past n text rest value d l ends = sym (ap past_token (number_place n text rest value d l ends))
 
 -- ---- tokens that write no number
 
-pub no_token : (p : Place) → p.tokens ≡ [] → None ≡ number_of (next_token p)
-unfolding number_of
+pub no_token : (p : Place) → p.tokens ≡ [] → None ≡ number_written (next_token p)
+unfolding number_written
 no_token p e = sym (rw e refl)
 
-token_so : (n : ℕ) (ds text : List ℕ) (b : Begins n ds text) → number_of (ds ++ b.more) ≡ None → None ≡ number_of (next_token (place_in n (ds ++ text)))
-token_so n ds text b e = sym (ap (λ (p : Place). number_of (next_token p)) b.is ∙ e)
+token_so : (n : ℕ) (ds text : List ℕ) (b : Begins n ds text) → number_written (ds ++ b.more) ≡ None → None ≡ number_written (next_token (place_in n (ds ++ text)))
+token_so n ds text b e = sym (ap (λ (p : Place). number_written (next_token p)) b.is ∙ e)
 
 -- a token with too many digits
-pub no_number_over : (n : ℕ) (text rest : List ℕ) (c value : ℕ) → Digits text (c ∷ rest) value → is_ascii_digit c ≡ true → (value * 10 + (c - 48) < 2 ^ 64 → ⊥) → None ≡ number_of (next_token (place_in n text))
+pub no_number_over : (n : ℕ) (text rest : List ℕ) (c value : ℕ) → Digits text (c ∷ rest) value → is_ascii_digit c ≡ true → (value * 10 + (c - 48) < 2 ^ 64 → ⊥) → None ≡ number_written (next_token (place_in n text))
 unfolding one_more
 no_number_over n text rest c value d e over =
     let more : Digits text rest (value * 10 + (c - 48)) = one_more text rest c value d e in
@@ -75,17 +75,17 @@ no_number_over n text rest c value d e over =
     let b : Begins n more.digits rest = begins n more.digits rest (omega (arith, long)) (digits_in_token more.digits more.all) in
     let le : digits_value 10 more.digits ≤ digits_value 10 (more.digits ++ b.more) =
     subst (λ ds. digits_value 10 ds ≤ digits_value 10 (more.digits ++ b.more)) (take-append_seam more.digits b.more) (digits_value-take-le 10 (more.digits ++ b.more) (length more.digits) (omega arith)) in
-    token_so n more.digits rest b (number_large (more.digits ++ b.more) (omega (arith, le, more.writes, over))) ∙ ap (λ t. number_of (next_token (place_in n t))) (sym more.cut)
+    token_so n more.digits rest b (number_large (more.digits ++ b.more) (omega (arith, le, more.writes, over))) ∙ ap (λ t. number_written (next_token (place_in n t))) (sym more.cut)
 
 -- a token with another byte than a digit
-pub no_number_in : (n : ℕ) (text rest : List ℕ) (c value : ℕ) → Digits text (c ∷ rest) value → is_ascii_digit c ≡ false → is_blank c ≡ false → None ≡ number_of (next_token (place_in n text))
+pub no_number_in : (n : ℕ) (text rest : List ℕ) (c value : ℕ) → Digits text (c ∷ rest) value → is_ascii_digit c ≡ false → is_blank c ≡ false → None ≡ number_written (next_token (place_in n text))
 no_number_in n text rest c value d e on =
     let ds : List ℕ = d.digits ++ (c ∷ []) in
     let whole : list_all in_token (d.digits ++ (c ∷ [])) ≡ true = list_all-append in_token d.digits (c ∷ []) ∙ ap₂ (λ a b. a && (not b && true)) (digits_in_token d.digits d.all) on in
     let b : Begins n (d.digits ++ (c ∷ [])) rest = begins n (d.digits ++ (c ∷ [])) rest (omega (arith, length-append d.digits (c ∷ []))) whole in
     let bad : list_all is_ascii_digit ((d.digits ++ (c ∷ [])) ++ b.more) ≡ false =
     list_all-append is_ascii_digit (d.digits ++ (c ∷ [])) b.more ∙ ap (λ x. x && list_all is_ascii_digit b.more) (list_all-append is_ascii_digit d.digits (c ∷ []) ∙ ap₂ (λ x y. x && (y && true)) d.all e) in
-    token_so n (d.digits ++ (c ∷ [])) rest b (number_other_byte ((d.digits ++ (c ∷ [])) ++ b.more) bad) ∙ ap (λ t. number_of (next_token (place_in n t))) (append_assoc d.digits (c ∷ []) rest ∙ sym d.cut)
+    token_so n (d.digits ++ (c ∷ [])) rest b (number_other_byte ((d.digits ++ (c ∷ [])) ++ b.more) bad) ∙ ap (λ t. number_written (next_token (place_in n t))) (append_assoc d.digits (c ∷ []) rest ∙ sym d.cut)
 
 -- ---- a number at a place in a text
 
@@ -101,11 +101,11 @@ end_follows bs at e l =
     ap is_blank (get_or-drop at bs 0 0 ∙ ap (λ i. get_or bs i 0) zero_more) ∙ e (omega (arith, l, length-drop at bs))
 
 pub none_at_byte : (bs : List ℕ) (start at value : ℕ) → Digits (drop start bs) (drop at bs) value → at < length bs → is_ascii_digit (get_or bs at 0) ≡ false → is_blank (get_or bs at 0) ≡ false
-    → None ≡ number_of (next_token (place_in 0 (drop start bs)))
+    → None ≡ number_written (next_token (place_in 0 (drop start bs)))
 none_at_byte bs start at value d l e on = no_number_in 0 (drop start bs) (drop (at + 1) bs) (get_or bs at 0) value (at_byte (drop start bs) bs at value l d) e on
 
 pub none_at_start : (bs : List ℕ) (start : ℕ) → start ≤ length bs → (start < length bs → is_inner_blank (get_or bs start 0) ≡ false) → (start < length bs → is_ascii_digit (get_or bs start 0) ≡ false)
-    → None ≡ number_of (next_token (place_in 0 (drop start bs)))
+    → None ≡ number_written (next_token (place_in 0 (drop start bs)))
 none_at_start bs start within run stop = elim (cases_lt start (length bs)) [
   | inl l ↦ elim (cases_Bool (is_blank (get_or bs start 0))) [
     | inl ends ↦ no_token (place_in 0 (drop start bs)) (line_over 0 start bs within run (λ k. ends))
@@ -134,7 +134,7 @@ digits_between bs start end value le all e = record { digits = take (end - start
 
 -- a number whose digits end at a place, where a token can end
 pub number_found : (bs : List ℕ) (start end value : ℕ) → Digits (drop start bs) (drop end bs) value → start < end → end ≤ length bs → (end < length bs → is_blank (get_or bs end 0) ≡ true) → value < 2 ^ 64
-    → Some value ≡ number_of (next_token (place_in 0 (drop start bs)))
+    → Some value ≡ number_written (next_token (place_in 0 (drop start bs)))
 number_found bs start end value d l within ends small =
     number_read 0 (drop start bs) (drop end bs) value d (some_digits bs start end value d (omega arith) within (omega arith)) (end_follows bs end ends) small
 
@@ -167,6 +167,6 @@ small_digit c d other le = elim (cases_Bool (is_ascii_digit c)) [
 ]
 
 -- what writes a number is no empty token
-pub some_token : (p : Place) (value : ℕ) → Some value ≡ number_of (next_token p) → next_token p ≡ [] → ⊥
-unfolding number_of
-some_token p value e none = let k : ◌≡◌ {A = Option ℕ} (Some value) None = e ∙ ap number_of none in cc
+pub some_token : (p : Place) (value : ℕ) → Some value ≡ number_written (next_token p) → next_token p ≡ [] → ⊥
+unfolding number_written
+some_token p value e none = let k : ◌≡◌ {A = Option ℕ} (Some value) None = e ∙ ap number_written none in cc

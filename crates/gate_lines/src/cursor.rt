@@ -6,7 +6,7 @@ ghost use Rattle.std.specs.Option.{SomeIff, option_map, is_some};
 ghost use Rattle.std.specs.Char.{is_ascii_digit};
 ghost use Rattle.std.specs.Str.Parse.{digits_value};
 ghost use Rattle.text_tokens.specs.Tokens.{is_blank};
-ghost use Rattle.text_tokens.specs.Numbers.{number_of};
+ghost use Rattle.text_tokens.specs.Numbers.{number_written};
 ghost use Rattle.gate_lines.specs.Places.{place_in, rows_at, next_token, past_token, is_inner_blank, StandsAt, Passes};
 
 use crate::lines::Lines;
@@ -119,7 +119,7 @@ fn first_digits(bytes: &[u8], start: usize) -> (u64, usize)
 #[cold]
 fn long_number(bytes: &[u8], start: usize) -> Option<u64>
     requires { StandsAt bytes.now start }
-    ensures { result ≡ number_of (next_token (place_in 0 (drop start bytes.now))) }
+    ensures { result ≡ number_written (next_token (place_in 0 (drop start bytes.now))) }
 {
     let mut value = 0;
     let mut at = start;
@@ -162,7 +162,7 @@ fn next_place(bytes: &[u8], start: usize) -> usize
 fn one_digit(bytes: &[u8], start: usize) -> Option<(u64, usize)>
     requires { StandsAt bytes.now start }
     ensures number { IfSome result (λ found. Some found.0
-        ≡ number_of (next_token (place_in 0 (drop start bytes.now)))) }
+        ≡ number_written (next_token (place_in 0 (drop start bytes.now)))) }
     ensures past { IfSome result (λ found. Passes bytes.now start found.1) }
 {
     if is_one_space(bytes, start + 1) && bytes[start].is_ascii_digit() {
@@ -175,7 +175,8 @@ fn one_digit(bytes: &[u8], start: usize) -> Option<(u64, usize)>
 #[inline(always)]
 fn number_at(bytes: &[u8], start: usize) -> Option<(u64, usize)>
     requires { StandsAt bytes.now start }
-    ensures number { option_map (λ found. found.0) result ≡ number_of (next_token (place_in 0 (drop start bytes.now))) }
+    ensures number { option_map (λ found. found.0) result
+        ≡ number_written (next_token (place_in 0 (drop start bytes.now))) }
     ensures past { IfSome result (λ found. Passes bytes.now start found.1) }
 {
     if let Some(found) = one_digit(bytes, start) {
@@ -232,7 +233,7 @@ impl<'a> Cursor<'a> {
     /// Takes the next token, if it writes a number below `2^64`, and tells that number.
     #[inline(always)]
     pub fn number(&mut self) -> Option<u64>
-        ensures number { result ≡ number_of (next_token self.old) }
+        ensures number { result ≡ number_written (next_token self.old) }
         ensures taken { self.new ≡ (if is_some result then past_token self.old else self.old) }
     {
         let (number, next) = number_at(self.text.as_bytes(), self.at)?;

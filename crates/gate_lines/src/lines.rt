@@ -1,6 +1,6 @@
 //! Lines with tokens.
 ghost use Rattle.std.specs.Prelude.{◌≡◌, ◌+◌, ◌^◌, ◌<◌, ℕ, [], ◌∷◌, length, slice_index_or, MatchOption};
-ghost use Rattle.text_tokens.specs.Numbers.{number_of};
+ghost use Rattle.text_tokens.specs.Numbers.{number_written};
 ghost use Rattle.gate_lines.specs.Rows.{Row, rows_of, rows_from, row_before};
 ghost use Rattle.gate_lines.specs.Places.{rows_at};
 
@@ -58,7 +58,7 @@ impl<'a> Line<'a> {
 
     /// The number that the token at a place writes, if it writes one below `2^64`.
     pub fn value(&self, at: u64) -> Option<u64>
-        ensures { result ≡ number_of (slice_index_or self.now.tokens at []) }
+        ensures { result ≡ number_written (slice_index_or self.now.tokens at []) }
     {
         number(self.token(at))
     }

@@ -13,8 +13,8 @@ use Rattle.group_formula.specs.declared.node.Node.{Node}
 use Rattle.group_formula.specs.declared.node.Node.TheVariants.{Name, And, Or, AtLeast}
 use Rattle.group_formula.specs.declared.fault.FormulaFault.{FormulaFault}
 use Rattle.group_formula.specs.declared.fault.FormulaFault.TheVariants.{UnknownName, BadCount}
-use Rattle.group_formula.specs.Tokens.{is_blank, has_byte, run_of, symbol, word, token_at, tokens_from}
-use Rattle.group_formula.specs.Trees.{count, postfix, postfix_all}
+use Rattle.group_formula.specs.Tokens.{is_blank, has_byte, run_begun, symbol, word_token, token_at, tokens_from}
+use Rattle.group_formula.specs.Trees.{tree_count, postfix, postfix_all}
 use Rattle.group_formula.specs.Grammar.{Expr, Term, Factor, Parts, spell, spell_term, spell_factor, spell_parts, shape, shape_term, shape_factor, shape_parts}
 use Rattle.group_formula.specs.Grammar.Expr.{one_term, or_term}
 use Rattle.group_formula.specs.Grammar.Term.{one_factor, and_factor}
@@ -22,7 +22,7 @@ use Rattle.group_formula.specs.Grammar.Factor.{named, grouped, counted}
 use Rattle.group_formula.specs.Grammar.Parts.{one_part, more_parts}
 use Rattle.group_formula.specs.Faults.{bare}
 use Rattle.group_formula.specs.Formulas.{Reading, or_else, bad_name, bad_count, bad, some_bad}
-use Rattle.group_formula.specs.Resolving.{place, earlier, bad_node, least}
+use Rattle.group_formula.specs.Resolving.{fault_place, earlier, bad_node, least}
 
 -- the places of the names and numbers rise
 abbrev pub Rises : ℕ → List Token → ℕ → Type 0
@@ -46,14 +46,14 @@ earlier_assoc : (x y z : Option FormulaFault) → earlier (earlier x y) z ≡ ea
 earlier_assoc None y z = refl
 earlier_assoc (Some x) None z = refl
 earlier_assoc (Some x) (Some y) None = earlier_none (earlier (Some x) (Some y))
-earlier_assoc (Some x) (Some y) (Some z) = elim (less (place x) (place y)) [
-  | inl a ↦ elim (less (place y) (place z)) [
-    | inl b ↦ (let c : nat_lt (place x) (place z) ≡ true = lt-ltb (place x) (place z) (omega (arith, a.1, b.1)) in simp (a.0, b.0, c))
+earlier_assoc (Some x) (Some y) (Some z) = elim (less (fault_place x) (fault_place y)) [
+  | inl a ↦ elim (less (fault_place y) (fault_place z)) [
+    | inl b ↦ (let c : nat_lt (fault_place x) (fault_place z) ≡ true = lt-ltb (fault_place x) (fault_place z) (omega (arith, a.1, b.1)) in simp (a.0, b.0, c))
     | inr b ↦ simp (a.0, b.0)
   ]
-  | inr a ↦ elim (less (place y) (place z)) [
+  | inr a ↦ elim (less (fault_place y) (fault_place z)) [
     | inl b ↦ simp (a.0, b.0)
-    | inr b ↦ (let c : nat_lt (place x) (place z) ≡ false = le-ltb (place x) (place z) (omega (arith, a.1, b.1)) in simp (a.0, b.0, c))
+    | inr b ↦ (let c : nat_lt (fault_place x) (fault_place z) ≡ false = le-ltb (fault_place x) (fault_place z) (omega (arith, a.1, b.1)) in simp (a.0, b.0, c))
   ]
 ]
 
@@ -69,17 +69,17 @@ least_one r n = earlier_none (bad_node r n)
 -- a bad place from lo on and below hi
 abbrev pub Between : ℕ → Option FormulaFault → ℕ → Type 0
 Between lo None hi = Unit {0}
-Between lo (Some x) hi = (lo ≤ place x) × (place x < hi)
+Between lo (Some x) hi = (lo ≤ fault_place x) × (fault_place x < hi)
 
 in_order : (lo m hi : ℕ) (x y : Option FormulaFault) → Between lo x m → Between m y hi → earlier x y ≡ or_else x y
 in_order lo m hi None y p q = refl
 in_order lo m hi (Some x) None p q = refl
-in_order lo m hi (Some x) (Some y) p q = ap (λ b. cond b (Some x) (Some y)) (lt-ltb (place x) (place y) (omega (arith, p, q)))
+in_order lo m hi (Some x) (Some y) p q = ap (λ b. cond b (Some x) (Some y)) (lt-ltb (fault_place x) (fault_place y) (omega (arith, p, q)))
 
 out_of_order : (lo m hi : ℕ) (x y : Option FormulaFault) → Between lo x m → Between m y hi → earlier y x ≡ or_else x y
 out_of_order lo m hi None y p q = earlier_none y
 out_of_order lo m hi (Some x) None p q = refl
-out_of_order lo m hi (Some x) (Some y) p q = ap (λ b. cond b (Some y) (Some x)) (le-ltb (place y) (place x) (omega (arith, p, q)))
+out_of_order lo m hi (Some x) (Some y) p q = ap (λ b. cond b (Some y) (Some x)) (le-ltb (fault_place y) (fault_place x) (omega (arith, p, q)))
 
 wider : (lo m hi : ℕ) (x y : Option FormulaFault) → lo ≤ m → m ≤ hi → Between lo x m → Between m y hi → Between lo (or_else x y) hi
 wider lo m hi None None a b p q = tt
@@ -165,10 +165,10 @@ mutual
       let s = rises_split (n + 1) (spell_parts ps) (tokens.Close ∷ []) hi up.1 in
       let h = tells_parts r ps (n + 1) s.0 s.1 in
       let after : n + 1 ≤ s.0 = rises_le (n + 1) (spell_parts ps) s.0 s.1 in
-      let own : Between lo (bad_count r n (count (shape_parts ps))) (n + 1) = lower lo n (n + 1) (bad_count r n (count (shape_parts ps))) up.0 (count_between r n (count (shape_parts ps))) in (
-        least_append r (postfix_all (shape_parts ps)) (AtLeast n (count (shape_parts ps)) ∷ []) ∙ ap₂ earlier h.0 (least_one r (AtLeast n (count (shape_parts ps))))
-            ∙ out_of_order lo (n + 1) s.0 (bad_count r n (count (shape_parts ps))) (some_bad r (shape_parts ps)) own h.1,
-        wider lo (n + 1) hi (bad_count r n (count (shape_parts ps))) (some_bad r (shape_parts ps)) (omega (arith, up.0)) (omega (arith, after, s.2)) own (raise (n + 1) s.0 hi (some_bad r (shape_parts ps)) s.2 h.1),
+      let own : Between lo (bad_count r n (tree_count (shape_parts ps))) (n + 1) = lower lo n (n + 1) (bad_count r n (tree_count (shape_parts ps))) up.0 (count_between r n (tree_count (shape_parts ps))) in (
+        least_append r (postfix_all (shape_parts ps)) (AtLeast n (tree_count (shape_parts ps)) ∷ []) ∙ ap₂ earlier h.0 (least_one r (AtLeast n (tree_count (shape_parts ps))))
+            ∙ out_of_order lo (n + 1) s.0 (bad_count r n (tree_count (shape_parts ps))) (some_bad r (shape_parts ps)) own h.1,
+        wider lo (n + 1) hi (bad_count r n (tree_count (shape_parts ps))) (some_bad r (shape_parts ps)) (omega (arith, up.0)) (omega (arith, after, s.2)) own (raise (n + 1) s.0 hi (some_bad r (shape_parts ps)) s.2 h.1),
       )
 
   pub tells_parts : (r : Reading) (ps : Parts) (lo hi : ℕ) → Rises lo (spell_parts ps) hi → Tells (least r (postfix_all (shape_parts ps))) (some_bad r (shape_parts ps)) lo hi
@@ -221,14 +221,14 @@ symbol_stands c at =
 
 token_stands : (at c : ℕ) (cs : List ℕ) → StandsAt (token_at at (c ∷ cs)) at
 token_stands at c cs =
-    choose (is_ascii_alphabetic c) (word at (take_while (has_byte runs.Name) (c ∷ cs))) _ at (choose (bytes_eq (take_while (has_byte runs.Name) (c ∷ cs)) (codes "of")) tokens.Of (tokens.Name at) at tt refl)
+    choose (is_ascii_alphabetic c) (word_token at (take_while (has_byte runs.Name) (c ∷ cs))) _ at (choose (bytes_eq (take_while (has_byte runs.Name) (c ∷ cs)) (codes "of")) tokens.Of (tokens.Name at) at tt refl)
     (choose (is_ascii_digit c) (tokens.Number at) (symbol c) at refl (symbol_stands c at))
 
 rises_at : (at : ℕ) (r : Run) (c : ℕ) (cs : List ℕ) (hi : ℕ) (goes blank : Bool) → ((run : Run) → Rises (at + 1) (bare (tokens_from (at + 1) run cs)) hi)
-    → Rises at (bare (cond goes (tokens_from (at + 1) r cs) (cond blank (tokens_from (at + 1) runs.Blank cs) (record { at = at; token = token_at at (c ∷ cs) } ∷ tokens_from (at + 1) (run_of c) cs)))) hi
+    → Rises at (bare (cond goes (tokens_from (at + 1) r cs) (cond blank (tokens_from (at + 1) runs.Blank cs) (record { at = at; token = token_at at (c ∷ cs) } ∷ tokens_from (at + 1) (run_begun c) cs)))) hi
 rises_at at r c cs hi true blank h = rises_from at (at + 1) (bare (tokens_from (at + 1) r cs)) hi (omega arith) (h r)
 rises_at at r c cs hi false true h = rises_from at (at + 1) (bare (tokens_from (at + 1) runs.Blank cs)) hi (omega arith) (h runs.Blank)
-rises_at at r c cs hi false false h = rises_more at (token_at at (c ∷ cs)) (bare (tokens_from (at + 1) (run_of c) cs)) hi (token_stands at c cs) (h (run_of c))
+rises_at at r c cs hi false false h = rises_more at (token_at at (c ∷ cs)) (bare (tokens_from (at + 1) (run_begun c) cs)) hi (token_stands at c cs) (h (run_begun c))
 
 pub rises : (at : ℕ) (r : Run) (cs : List ℕ) (hi : ℕ) → at + length cs ≤ hi → Rises at (bare (tokens_from at r cs)) hi
 rises at r [] hi l = omega arith

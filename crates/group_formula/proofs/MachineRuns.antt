@@ -124,14 +124,11 @@ same_end (or_term d t) (or_term f u) e = cc
 pub one_formula : (a b : Expr) → spell a ≡ spell b → a ≡ b
 one_formula a b e = same_end a b (sym (run_formula a) ∙ ap run e ∙ run_formula b)
 
--- a state has an end where tokens complete what it has read to a formula
-abbrev pub HasEnd : List Token → Type 0
-HasEnd ts = (rest : List Token) × (e : Expr) × (spell e ≡ ts ++ rest)
-
-one_more : (ts : List Token) (t : Token) (us : List Token) → us ≡ ts ++ (t ∷ []) → HasEnd us → HasEnd ts
+-- tokens complete what a state has read to a formula
+one_more : (ts : List Token) (t : Token) (us : List Token) → us ≡ ts ++ (t ∷ []) → IsViable us → IsViable ts
 one_more ts t us is (rest, e, spelled) = (t ∷ rest, e, spelled ∙ ap (λ xs. xs ++ rest) is ∙ append_assoc ts (t ∷ []) rest)
 
-pub end_have : (ors : Option Expr) (t : Term) (fs : List Pending) → HasEnd (read (have ors t fs))
+pub end_have : (ors : Option Expr) (t : Term) (fs : List Pending) → IsViable (read (have ors t fs))
 end_have ors t [] = ([], join_expr ors t, spell_joined_expr ors t ∙ sym (append-nil (read_ors ors ++ spell_term t)))
 end_have ors t (plain (level os ands) ∷ fs) =
     one_more (read (have ors t (plain (level os ands) ∷ fs))) Close (read (have os (join_term ands (grouped (join_expr ors t))) fs))
@@ -142,21 +139,21 @@ end_have ors t (listed n (level os ands) done ∷ fs) =
     (read_close ors t (listed n (level os ands) done ∷ fs) (have os (join_term ands (counted n (join_parts done (join_expr ors t)))) fs) refl)
     (end_have os (join_term ands (counted n (join_parts done (join_expr ors t)))) fs)
 
-end_want : (l : Level) (fs : List Pending) → HasEnd (read (want l fs))
+end_want : (l : Level) (fs : List Pending) → IsViable (read (want l fs))
 end_want (level os ands) fs = one_more (read (want (level os ands) fs)) (Name 0) (read (have os (join_term ands (named 0)) fs))
     (read_step (want (level os ands) fs) (Name 0) (have os (join_term ands (named 0)) fs) refl)
     (end_have os (join_term ands (named 0)) fs)
 
-end_want_open : (n : ℕ) (l : Level) (fs : List Pending) → HasEnd (read (want_open n l fs))
+end_want_open : (n : ℕ) (l : Level) (fs : List Pending) → IsViable (read (want_open n l fs))
 end_want_open n l fs = one_more (read (want_open n l fs)) Open (read (want (level None None) (listed n l None ∷ fs)))
     (read_step (want_open n l fs) Open (want (level None None) (listed n l None ∷ fs)) refl) (end_want (level None None) (listed n l None ∷ fs))
 
 -- each state can be completed
-pub has_end : (s : MachineState) → HasEnd (read s)
+pub has_end : (s : MachineState) → IsViable (read s)
 has_end (want l fs) = end_want l fs
 has_end (want_open n l fs) = end_want_open n l fs
 has_end (want_of n l fs) = one_more (read (want_of n l fs)) Of (read (want_open n l fs)) (read_step (want_of n l fs) Of (want_open n l fs) refl) (end_want_open n l fs)
 has_end (have ors t fs) = end_have ors t fs
 
 pub run_viable : (ts : List Token) (s : MachineState) → run ts ≡ Some s → IsViable ts
-run_viable ts s e = subst HasEnd (read_run ts s e) (has_end s)
+run_viable ts s e = subst IsViable (read_run ts s e) (has_end s)

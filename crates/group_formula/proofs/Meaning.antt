@@ -14,7 +14,7 @@ use Rattle.group_formula.specs.declared.node.Node.TheVariants.{And, Or, AtLeast}
 use Rattle.group_formula.specs.declared.fault.FormulaFault.{FormulaFault}
 use Rattle.group_formula.specs.declared.fault.FormulaFault.TheVariants.{UnknownName, BadCount}
 use Rattle.group_formula.specs.Tokens.{is_node, tokens}
-use Rattle.group_formula.specs.Trees.{Tree, Trees, count, IsSoundTree, AreSound, postfix, postfix_all, tree_of}
+use Rattle.group_formula.specs.Trees.{Tree, Trees, tree_count, IsSoundTree, AreSound, postfix, postfix_all, tree_of}
 use Rattle.group_formula.specs.Trees.Tree.{leaf, both, either, at_least}
 use Rattle.group_formula.specs.Trees.Trees.{one_tree, more_trees}
 use Rattle.group_formula.specs.Grammar.{Expr, Term, Factor, Parts, spell, spell_term, spell_factor, spell_parts, shape, shape_term, shape_factor, shape_parts}
@@ -25,7 +25,7 @@ use Rattle.group_formula.specs.Grammar.Parts.{one_part, more_parts}
 use Rattle.group_formula.proofs.WrittenTrees.{tree_of-postfix}
 use Rattle.group_formula.specs.Faults.{IsFine, bare}
 use Rattle.group_formula.specs.Parsing.{IsParsed}
-use Rattle.group_formula.specs.Formulas.{Reading, reading, name_at, resolved, all_resolved, or_else, bad_count, bad, some_bad}
+use Rattle.group_formula.specs.Formulas.{Reading, reading, name_in_text, resolved, all_resolved, or_else, bad_count, bad, some_bad}
 use Rattle.group_formula.specs.Resolving.{resolved_node, least}
 use Rattle.group_formula.proofs.FaultlessTokens.{one_if}
 use Rattle.group_formula.proofs.FirstNodeFault.{Rises, rises, tells_expr}
@@ -36,7 +36,7 @@ least_is text names nodes p =
     let up : Rises 0 (spell p.expr) (length text) = subst (λ ts. Rises 0 ts (length text)) (sym p.parsed.spelled) (rises 0 runs.Blank text (length text) (omega arith)) in
     ap (least (reading text names)) p.written ∙ (tells_expr (reading text names) p.expr 0 (length text) up).0
 
-count-resolved : (r : Reading) (ts : Trees) → count (all_resolved r ts) ≡ count ts
+count-resolved : (r : Reading) (ts : Trees) → tree_count (all_resolved r ts) ≡ tree_count ts
 count-resolved r (one_tree t) = refl
 count-resolved r (more_trees ts t) = ap (λ n. n + 1) (count-resolved r ts)
 
@@ -52,7 +52,7 @@ mutual
   map-postfix r (both a b) = map_last r (postfix a ++ postfix b) And _ (map_two r (postfix a) (postfix b) _ _ (map-postfix r a) (map-postfix r b))
   map-postfix r (either a b) = map_last r (postfix a ++ postfix b) Or _ (map_two r (postfix a) (postfix b) _ _ (map-postfix r a) (map-postfix r b))
   map-postfix r (at_least n ts) =
-      map_last r (postfix_all ts) (AtLeast n (count ts)) _ (map-postfix_all r ts) ∙ ap (λ k. postfix_all (all_resolved r ts) ++ (AtLeast (r.number n) k ∷ [])) (sym (count-resolved r ts))
+      map_last r (postfix_all ts) (AtLeast n (tree_count ts)) _ (map-postfix_all r ts) ∙ ap (λ k. postfix_all (all_resolved r ts) ++ (AtLeast (r.number n) k ∷ [])) (sym (count-resolved r ts))
 
   pub map-postfix_all : (r : Reading) (ts : Trees) → map (resolved_node r) (postfix_all ts) ≡ postfix_all (all_resolved r ts)
   map-postfix_all r (one_tree t) = map-postfix r t
@@ -81,8 +81,8 @@ mutual
   sound r n h (both a b) e = let f = neither (bad r a) (bad r b) e in (sound r n h a f.0, sound r n h b f.1)
   sound r n h (either a b) e = let f = neither (bad r a) (bad r b) e in (sound r n h a f.0, sound r n h b f.1)
   sound r n h (at_least at ts) e =
-      let f = neither (bad_count r at (count ts)) (some_bad r ts) e in
-      let g = in_range (r.number at) (count ts) (BadCount at) f.0 in
+      let f = neither (bad_count r at (tree_count ts)) (some_bad r ts) e in
+      let g = in_range (r.number at) (tree_count ts) (BadCount at) f.0 in
       (g.0, omega (arith, g.1, count-resolved r ts), all_sound r n h ts f.1)
 
   pub all_sound : (r : Reading) (n : ℕ) → ((at p : ℕ) → r.party at ≡ Some p → p < n) → (ts : Trees) → some_bad r ts ≡ None → AreSound n (all_resolved r ts)
@@ -90,37 +90,25 @@ mutual
   all_sound r n h (more_trees ts t) e = let f = neither (some_bad r ts) (bad r t) e in (all_sound r n h ts f.0, sound r n h t f.1)
 
 pub parties_below : (text : List ℕ) (names : List (List ℕ)) (at p : ℕ) → (reading text names).party at ≡ Some p → p < length names
-parties_below text names at p e = (position-Some (λ name. bytes_eq name (name_at text at)) names p [] e).0
+parties_below text names at p e = (position-Some (λ name. bytes_eq name (name_in_text text at)) names p [] e).0
 
 count_two : (xs ys : List Token) → count_by is_node (xs ++ ys) ≡ count_by is_node xs + count_by is_node ys
 count_two xs ys = sum_by-append (λ t. one_if (is_node t)) xs ys
 
+-- a node behind two formulas, where a symbol stands between them
+two_counted : (front back : List Node) (node : Node) (xs ys : List Token) (symbol : Token) → length front ≡ count_by is_node xs → length back ≡ count_by is_node ys → count_by is_node (symbol ∷ []) ≡ 1
+    → length ((front ++ back) ++ (node ∷ [])) ≡ count_by is_node (xs ++ (symbol ∷ ys))
+two_counted front back node xs ys symbol e f one =
+    omega (arith, e, f, one, length-append (front ++ back) (node ∷ []), length-append front back, count_two xs (symbol ∷ ys), count_two (symbol ∷ []) ys)
+
 mutual
   counted_expr : (e : Expr) → length (postfix (shape e)) ≡ count_by is_node (spell e)
   counted_expr (one_term t) = counted_term t
-  counted_expr (or_term e t) =
-      omega (
-        arith,
-        counted_expr e,
-        counted_term t,
-        length-append (postfix (shape e) ++ postfix (shape_term t)) (Or ∷ []),
-        length-append (postfix (shape e)) (postfix (shape_term t)),
-        count_two (spell e) (tokens.Bar ∷ spell_term t),
-        count_two (tokens.Bar ∷ []) (spell_term t),
-      )
+  counted_expr (or_term e t) = two_counted (postfix (shape e)) (postfix (shape_term t)) Or (spell e) (spell_term t) tokens.Bar (counted_expr e) (counted_term t) refl
 
   counted_term : (t : Term) → length (postfix (shape_term t)) ≡ count_by is_node (spell_term t)
   counted_term (one_factor f) = counted_factor f
-  counted_term (and_factor t f) =
-      omega (
-        arith,
-        counted_term t,
-        counted_factor f,
-        length-append (postfix (shape_term t) ++ postfix (shape_factor f)) (And ∷ []),
-        length-append (postfix (shape_term t)) (postfix (shape_factor f)),
-        count_two (spell_term t) (tokens.Ampersand ∷ spell_factor f),
-        count_two (tokens.Ampersand ∷ []) (spell_factor f),
-      )
+  counted_term (and_factor t f) = two_counted (postfix (shape_term t)) (postfix (shape_factor f)) And (spell_term t) (spell_factor f) tokens.Ampersand (counted_term t) (counted_factor f) refl
 
   counted_factor : (f : Factor) → length (postfix (shape_factor f)) ≡ count_by is_node (spell_factor f)
   counted_factor (named at) = omega arith
@@ -129,7 +117,7 @@ mutual
       omega (
         arith,
         counted_parts ps,
-        length-append (postfix_all (shape_parts ps)) (AtLeast at (count (shape_parts ps)) ∷ []),
+        length-append (postfix_all (shape_parts ps)) (AtLeast at (tree_count (shape_parts ps)) ∷ []),
         count_two (tokens.Number at ∷ tokens.Of ∷ tokens.Open ∷ []) (spell_parts ps ++ (tokens.Close ∷ [])),
         count_two (spell_parts ps) (tokens.Close ∷ []),
       )

@@ -7,7 +7,7 @@ use Rattle.list_laws.proofs.Tests.{or_true}
 use Rattle.party_set.specs.Parties.{has_party}
 use Rattle.party_set.proofs.EveryNumber.{every_at, implies_at}
 use Rattle.maximal_groups.specs.Families.{IsClosed, IsFamily}
-use Rattle.group_formula.specs.Trees.{Tree, Trees, Meaning, count, value, true_ones, IsSoundTree, AreSound, tree_of, is_tolerated}
+use Rattle.group_formula.specs.Trees.{Tree, Trees, Meaning, tree_count, value, true_ones, IsSoundTree, AreSound, tree_of, is_tolerated}
 use Rattle.group_formula.specs.Trees.Tree.{leaf, both, either, at_least}
 use Rattle.group_formula.specs.Trees.Trees.{one_tree, more_trees}
 
@@ -59,9 +59,9 @@ mutual
   true_for n g i (either a b) s = ap (λ x. x || value g b) (true_for n g i a s.0)
   true_for n g i (at_least c ts) s = le-leb c (true_ones g ts) (omega (arith, s.1, all_true n g i ts s.2))
 
-  pub all_true : (n : ℕ) (g : ℕ → Bool) → ((p : ℕ) → p < n → g p ≡ true) → (ts : Trees) → AreSound n ts → true_ones g ts ≡ count ts
+  pub all_true : (n : ℕ) (g : ℕ → Bool) → ((p : ℕ) → p < n → g p ≡ true) → (ts : Trees) → AreSound n ts → true_ones g ts ≡ tree_count ts
   all_true n g i (one_tree t) s = ap (λ b. if b then 1 else 0) (true_for n g i t s)
-  all_true n g i (more_trees ts t) s = one_more (value g t) (true_ones g ts) (count ts) (true_for n g i t s.1) (all_true n g i ts s.0)
+  all_true n g i (more_trees ts t) s = one_more (value g t) (true_ones g ts) (tree_count ts) (true_for n g i t s.1) (all_true n g i ts s.0)
 
 mutual
   -- where nobody is

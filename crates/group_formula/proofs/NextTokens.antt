@@ -7,13 +7,13 @@ use Rattle.std.proofs.lemmas.List.{drop-drop, drop_all}
 use Rattle.std.proofs.lemmas.List.Sums.{prefix_len_stops, prefix_len-drop_no}
 use Rattle.group_formula.specs.declared.token.Run.{Run}
 use Rattle.group_formula.specs.declared.token.Run.TheVariants as runs
-use Rattle.group_formula.specs.Tokens.{Placed, is_blank, has_byte, run_of, token_at, first_length, tokens_from}
+use Rattle.group_formula.specs.Tokens.{Placed, is_blank, has_byte, run_begun, token_at, first_length, tokens_from}
 
 -- after a run, as after a blank
 pub no_run : (r : Run) (c : ℕ) (cs : List ℕ) (at : ℕ) → has_byte r c ≡ false → tokens_from at r (c ∷ cs) ≡ tokens_from at runs.Blank (c ∷ cs)
 no_run r c cs at e =
-    ap (λ b. cond b (tokens_from (at + 1) r cs) (cond (is_blank c) (tokens_from (at + 1) runs.Blank cs) (record { at = at; token = token_at at (c ∷ cs) } ∷ tokens_from (at + 1) (run_of c) cs))) e
-    ∙ twice (is_blank c) (tokens_from (at + 1) runs.Blank cs) (record { at = at; token = token_at at (c ∷ cs) } ∷ tokens_from (at + 1) (run_of c) cs)
+    ap (λ b. cond b (tokens_from (at + 1) r cs) (cond (is_blank c) (tokens_from (at + 1) runs.Blank cs) (record { at = at; token = token_at at (c ∷ cs) } ∷ tokens_from (at + 1) (run_begun c) cs))) e
+    ∙ twice (is_blank c) (tokens_from (at + 1) runs.Blank cs) (record { at = at; token = token_at at (c ∷ cs) } ∷ tokens_from (at + 1) (run_begun c) cs)
   where
     twice : (b : Bool) (x y : List Placed) → cond b x y ≡ cond b x (cond b x y)
     twice true x y = refl
@@ -27,7 +27,7 @@ run_over_at : (r : Run) (c : ℕ) (cs : List ℕ) (at : ℕ) (b : Bool) → has_
 run_over_at r c cs at true e h =
     let k : ℕ = prefix_len (has_byte r) cs in
     let more : 1 + k ≡ suc k = omega arith in
-    ap (λ b. cond b (tokens_from (at + 1) r cs) (cond (is_blank c) (tokens_from (at + 1) runs.Blank cs) (record { at = at; token = token_at at (c ∷ cs) } ∷ tokens_from (at + 1) (run_of c) cs))) e
+    ap (λ b. cond b (tokens_from (at + 1) r cs) (cond (is_blank c) (tokens_from (at + 1) runs.Blank cs) (record { at = at; token = token_at at (c ∷ cs) } ∷ tokens_from (at + 1) (run_begun c) cs))) e
     ∙ h (at + 1)
     ∙ ap (λ m. tokens_from m runs.Blank (drop k cs)) (let place : at + 1 + k ≡ at + (1 + k) = omega arith in place)
     ∙ ap (λ m. tokens_from (at + (1 + k)) runs.Blank (drop m (c ∷ cs))) (sym more)
@@ -76,7 +76,7 @@ first_is : (xs : List ℕ) (at : ℕ) → 0 < length xs → prefix_len (has_byte
 first_is [] at l e = absurd (omega arith)
 first_is (c ∷ cs) at l e =
     let clear : is_blank c ≡ false = no_front (is_blank c) (prefix_len (has_byte runs.Blank) cs) e in
-    ap (λ b. cond b (tokens_from (at + 1) runs.Blank cs) (cond b (tokens_from (at + 1) runs.Blank cs) (record { at = at; token = token_at at (c ∷ cs) } ∷ tokens_from (at + 1) (run_of c) cs))) clear
+    ap (λ b. cond b (tokens_from (at + 1) runs.Blank cs) (cond b (tokens_from (at + 1) runs.Blank cs) (record { at = at; token = token_at at (c ∷ cs) } ∷ tokens_from (at + 1) (run_begun c) cs))) clear
     ∙ ap (λ ts. record { at = at; token = token_at at (c ∷ cs) } ∷ ts) (after_first c cs at (is_ascii_alphabetic c) (is_ascii_digit c) refl refl)
 
 -- the blanks before the next token

@@ -8,7 +8,7 @@ use Rattle.std.proofs.lemmas.List.{drop_all}
 use Rattle.party_set.specs.Parties.{has_party}
 use Rattle.group_formula.specs.declared.node.Node.{Node}
 use Rattle.group_formula.specs.declared.node.Node.TheVariants.{Name, And, Or, AtLeast}
-use Rattle.group_formula.specs.Trees.{Tree, Trees, count, value, true_ones, postfix, postfix_all}
+use Rattle.group_formula.specs.Trees.{Tree, Trees, tree_count, value, true_ones, postfix, postfix_all}
 use Rattle.group_formula.specs.Trees.Tree.{leaf, both, either, at_least}
 use Rattle.group_formula.specs.Trees.Trees.{one_tree, more_trees}
 use Rattle.group_formula.specs.Values.{top, how_many, after_value}
@@ -69,13 +69,13 @@ how_many_true : (g : ℕ → Bool) (ts : Trees) → how_many (values g ts) ≡ t
 how_many_true g (one_tree t) = omega arith
 how_many_true g (more_trees ts t) = omega (arith, how_many_true g ts)
 
-taken : (g : ℕ → Bool) (ts : Trees) (s : List Bool) → take (count ts) (values g ts ++ s) ≡ values g ts
+taken : (g : ℕ → Bool) (ts : Trees) (s : List Bool) → take (tree_count ts) (values g ts ++ s) ≡ values g ts
 taken g (one_tree t) s = refl
-taken g (more_trees ts t) s = let n : count ts + 1 ≡ suc (count ts) = omega arith in ap (λ k. take k (value g t ∷ (values g ts ++ s))) n ∙ ap (λ bs. value g t ∷ bs) (taken g ts s)
+taken g (more_trees ts t) s = let n : tree_count ts + 1 ≡ suc (tree_count ts) = omega arith in ap (λ k. take k (value g t ∷ (values g ts ++ s))) n ∙ ap (λ bs. value g t ∷ bs) (taken g ts s)
 
-left : (g : ℕ → Bool) (ts : Trees) (s : List Bool) → drop (count ts) (values g ts ++ s) ≡ s
+left : (g : ℕ → Bool) (ts : Trees) (s : List Bool) → drop (tree_count ts) (values g ts ++ s) ≡ s
 left g (one_tree t) s = refl
-left g (more_trees ts t) s = let n : count ts + 1 ≡ suc (count ts) = omega arith in ap (λ k. drop k (value g t ∷ (values g ts ++ s))) n ∙ left g ts s
+left g (more_trees ts t) s = let n : tree_count ts + 1 ≡ suc (tree_count ts) = omega arith in ap (λ k. drop k (value g t ∷ (values g ts ++ s))) n ∙ left g ts s
 
 two : (g : ℕ → Bool) (a b : List Node) (n : Node) (x y : Bool) (s : List Bool) → after_values g a s ≡ x ∷ s → after_values g b (x ∷ s) ≡ y ∷ x ∷ s → after_values g ((a ++ b) ++ (n ∷ [])) s ≡ after_value g n (y ∷ x ∷ s)
 two g a b n x y s e f =
@@ -87,9 +87,9 @@ mutual
   after_tree g (both a b) s = two g (postfix a) (postfix b) And (value g a) (value g b) s (after_tree g a s) (after_tree g b (value g a ∷ s))
   after_tree g (either a b) s = two g (postfix a) (postfix b) Or (value g a) (value g b) s (after_tree g a s) (after_tree g b (value g a ∷ s))
   after_tree g (at_least n ts) s =
-      after_append g (postfix_all ts) (AtLeast n (count ts) ∷ []) s
-      ∙ ap (after_values g (AtLeast n (count ts) ∷ [])) (after_trees g ts s)
-      ∙ after_one g (AtLeast n (count ts)) (values g ts ++ s)
+      after_append g (postfix_all ts) (AtLeast n (tree_count ts) ∷ []) s
+      ∙ ap (after_values g (AtLeast n (tree_count ts) ∷ [])) (after_trees g ts s)
+      ∙ after_one g (AtLeast n (tree_count ts)) (values g ts ++ s)
       ∙ ap₂ (λ bs r. nat_le n (how_many bs) ∷ r) (taken g ts s) (left g ts s)
       ∙ ap (λ k. nat_le n k ∷ s) (how_many_true g ts)
 

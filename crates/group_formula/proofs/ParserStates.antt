@@ -10,7 +10,7 @@ use Rattle.group_formula.specs.declared.parser.Mode.TheVariants as modes
 use Rattle.group_formula.specs.declared.parser.Bracket.{Bracket}
 use Rattle.group_formula.specs.declared.parser.Bracket.TheVariants as brackets
 use Rattle.group_formula.specs.declared.parser.Frame.{Frame}
-use Rattle.group_formula.specs.Trees.{Tree, Trees, count, postfix, postfix_all}
+use Rattle.group_formula.specs.Trees.{Tree, Trees, tree_count, postfix, postfix_all}
 use Rattle.group_formula.specs.Trees.Tree.{leaf, both, either, at_least}
 use Rattle.group_formula.specs.Trees.Trees.{one_tree, more_trees}
 use Rattle.group_formula.specs.Grammar.{Expr, Term, Factor, Parts, shape, shape_term, shape_factor, shape_parts}
@@ -37,7 +37,7 @@ pub nodes_joined_parts : (done : Option Parts) (e : Expr) → postfix_all (shape
 nodes_joined_parts None e = refl
 nodes_joined_parts (Some ps) e = refl
 
-pub count_joined : (done : Option Parts) (e : Expr) → count (shape_parts (join_parts done e)) ≡ number_done done + 1
+pub count_joined : (done : Option Parts) (e : Expr) → tree_count (shape_parts (join_parts done e)) ≡ number_done done + 1
 count_joined None e = refl
 count_joined (Some ps) e = refl
 
@@ -93,9 +93,9 @@ mutual
   some_tree (leaf p) = omega arith
   some_tree (both a b) = omega (arith, length-append (postfix a ++ postfix b) (And ∷ []))
   some_tree (either a b) = omega (arith, length-append (postfix a ++ postfix b) (Or ∷ []))
-  some_tree (at_least n ts) = omega (arith, length-append (postfix_all ts) (AtLeast n (count ts) ∷ []))
+  some_tree (at_least n ts) = omega (arith, length-append (postfix_all ts) (AtLeast n (tree_count ts) ∷ []))
 
-count_le : (ts : Trees) → count ts ≤ length (postfix_all ts)
+count_le : (ts : Trees) → tree_count ts ≤ length (postfix_all ts)
 count_le (one_tree t) = some_tree t
 count_le (more_trees ts t) = omega (arith, count_le ts, some_tree t, length-append (postfix_all ts) (postfix t))
 

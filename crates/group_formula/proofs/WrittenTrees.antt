@@ -2,7 +2,7 @@
 use Rattle.std.proofs.Common.{◌≡◌, suc, ◌+◌, List, [], ◌∷◌, ◌++◌, take, drop, refl, ◌∙◌, ap, ap₂, arith}
 use Rattle.group_formula.specs.declared.node.Node.{Node}
 use Rattle.group_formula.specs.declared.node.Node.TheVariants.{Name, And, Or, AtLeast}
-use Rattle.group_formula.specs.Trees.{Tree, Trees, count, postfix, postfix_all, last, joined_trees, after_node, after_nodes, tree_of}
+use Rattle.group_formula.specs.Trees.{Tree, Trees, tree_count, postfix, postfix_all, last, joined_trees, after_node, after_nodes, tree_of}
 use Rattle.group_formula.specs.Trees.Tree.{leaf, both, either, at_least}
 use Rattle.group_formula.specs.Trees.Trees.{one_tree, more_trees}
 
@@ -25,13 +25,13 @@ joined_listed (one_tree t) = refl
 joined_listed (more_trees (one_tree u) t) = refl
 joined_listed (more_trees (more_trees ts u) t) = ap (λ us. more_trees us t) (joined_listed (more_trees ts u))
 
-taken : (ts : Trees) (s : List Tree) → take (count ts) (listed ts ++ s) ≡ listed ts
+taken : (ts : Trees) (s : List Tree) → take (tree_count ts) (listed ts ++ s) ≡ listed ts
 taken (one_tree t) s = refl
-taken (more_trees ts t) s = let n : count ts + 1 ≡ suc (count ts) = omega arith in ap (λ k. take k (t ∷ (listed ts ++ s))) n ∙ ap (λ us. t ∷ us) (taken ts s)
+taken (more_trees ts t) s = let n : tree_count ts + 1 ≡ suc (tree_count ts) = omega arith in ap (λ k. take k (t ∷ (listed ts ++ s))) n ∙ ap (λ us. t ∷ us) (taken ts s)
 
-left : (ts : Trees) (s : List Tree) → drop (count ts) (listed ts ++ s) ≡ s
+left : (ts : Trees) (s : List Tree) → drop (tree_count ts) (listed ts ++ s) ≡ s
 left (one_tree t) s = refl
-left (more_trees ts t) s = let n : count ts + 1 ≡ suc (count ts) = omega arith in ap (λ k. drop k (t ∷ (listed ts ++ s))) n ∙ left ts s
+left (more_trees ts t) s = let n : tree_count ts + 1 ≡ suc (tree_count ts) = omega arith in ap (λ k. drop k (t ∷ (listed ts ++ s))) n ∙ left ts s
 
 two : (a b : Tree) (n : Node) (s : List Tree) → after_nodes (postfix a) s ≡ a ∷ s → after_nodes (postfix b) (a ∷ s) ≡ b ∷ a ∷ s → after_nodes ((postfix a ++ postfix b) ++ (n ∷ [])) s ≡ after_node n (b ∷ a ∷ s)
 two a b n s e f =
@@ -45,9 +45,9 @@ mutual
   after_tree (both a b) s = two a b And s (after_tree a s) (after_tree b (a ∷ s))
   after_tree (either a b) s = two a b Or s (after_tree a s) (after_tree b (a ∷ s))
   after_tree (at_least n ts) s =
-      after_append (postfix_all ts) (AtLeast n (count ts) ∷ []) s
-      ∙ ap (after_nodes (AtLeast n (count ts) ∷ [])) (after_trees ts s)
-      ∙ after_one (AtLeast n (count ts)) (listed ts ++ s)
+      after_append (postfix_all ts) (AtLeast n (tree_count ts) ∷ []) s
+      ∙ ap (after_nodes (AtLeast n (tree_count ts) ∷ [])) (after_trees ts s)
+      ∙ after_one (AtLeast n (tree_count ts)) (listed ts ++ s)
       ∙ ap₂ (λ us r. at_least n (joined_trees us) ∷ r) (taken ts s) (left ts s)
       ∙ ap (λ us. at_least n us ∷ s) (joined_listed ts)
 

@@ -1,12 +1,12 @@
 -- The formula that a text stands for, or its fault.
 use Rattle.std.specs.Prelude.{◌≡◌, ℕ, ◌+◌, ◌-◌, ◌*◌, ◌⊎◌, ◌&&◌, nat_le, List, [], ◌∷◌, length, drop, if◌then◌else◌, Option, Some, None, is_some, unwrap_or}
 use Rattle.std.specs.List.{take_while}
-use Rattle.party_set.specs.Names.{number_of}
+use Rattle.party_set.specs.Names.{party_named}
 use Rattle.group_formula.specs.declared.token.Run.TheVariants as runs
 use Rattle.group_formula.specs.declared.fault.FormulaFault.{FormulaFault}
 use Rattle.group_formula.specs.declared.fault.FormulaFault.TheVariants.{UnknownName, BadCount, Memory}
 use Rattle.group_formula.specs.Tokens.{has_byte}
-use Rattle.group_formula.specs.Trees.{Tree, Trees, Meaning, count, postfix, tree_of}
+use Rattle.group_formula.specs.Trees.{Tree, Trees, Meaning, tree_count, postfix, tree_of}
 use Rattle.group_formula.specs.Trees.Tree.{leaf, both, either, at_least}
 use Rattle.group_formula.specs.Trees.Trees.{one_tree, more_trees}
 use Rattle.group_formula.specs.Grammar.{Expr, shape}
@@ -27,16 +27,16 @@ pub record Reading : Type 0 where
   pub number : ℕ → ℕ
 
 -- the name at a place of the text
-abbrev pub name_at : List ℕ → ℕ → List ℕ
-name_at text at = take_while (has_byte runs.Name) (drop at text)
+abbrev pub name_in_text : List ℕ → ℕ → List ℕ
+name_in_text text at = take_while (has_byte runs.Name) (drop at text)
 
 -- the number at a place of the text
-abbrev pub number_at : List ℕ → ℕ → ℕ
-number_at text at = decimal (take_while (has_byte runs.Number) (drop at text))
+abbrev pub number_in_text : List ℕ → ℕ → ℕ
+number_in_text text at = decimal (take_while (has_byte runs.Number) (drop at text))
 
 -- what stands at the places of a text, over these names
 abbrev pub reading : List ℕ → List (List ℕ) → Reading
-reading text names = record { party = λ at. number_of names (name_at text at); number = number_at text }
+reading text names = record { party = λ at. party_named names (name_in_text text at); number = number_in_text text }
 
 -- the tree of parties and numbers, from the tree of places
 abbrev mutual
@@ -69,7 +69,7 @@ abbrev mutual
   bad r (leaf at) = bad_name r at
   bad r (both a b) = or_else (bad r a) (bad r b)
   bad r (either a b) = or_else (bad r a) (bad r b)
-  bad r (at_least at ts) = or_else (bad_count r at (count ts)) (some_bad r ts)
+  bad r (at_least at ts) = or_else (bad_count r at (tree_count ts)) (some_bad r ts)
 
   pub some_bad : Reading → Trees → Option FormulaFault
   some_bad r (one_tree t) = bad r t

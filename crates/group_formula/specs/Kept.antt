@@ -8,7 +8,7 @@ use Rattle.group_formula.specs.declared.parser.Mode.TheVariants as modes
 use Rattle.group_formula.specs.declared.parser.Bracket.{Bracket}
 use Rattle.group_formula.specs.declared.parser.Bracket.TheVariants as brackets
 use Rattle.group_formula.specs.declared.parser.Frame.{Frame}
-use Rattle.group_formula.specs.Trees.{count, postfix, postfix_all}
+use Rattle.group_formula.specs.Trees.{tree_count, postfix, postfix_all}
 use Rattle.group_formula.specs.Grammar.{Expr, Term, Parts, shape, shape_term, shape_parts}
 use Rattle.group_formula.specs.Machine.{Level, Pending, MachineState}
 use Rattle.group_formula.specs.Machine.Level.{level}
@@ -46,7 +46,7 @@ nodes_done (Some ps) = postfix_all (shape_parts ps)
 -- how many parts of a list were read
 abbrev pub number_done : Option Parts → ℕ
 number_done None = 0
-number_done (Some ps) = count (shape_parts ps)
+number_done (Some ps) = tree_count (shape_parts ps)
 
 -- the nodes of both left sides
 abbrev pub nodes_level : Level → List Node

@@ -11,19 +11,19 @@ abbrev pub good_count : ℕ → ℕ → Option ℕ
 good_count number parts = if nat_le 1 number && nat_le number parts then Some number else None
 
 -- where a fault stands
-abbrev pub place : FormulaFault → ℕ
-place (Syntax at) = at
-place (UnknownName at) = at
-place (BadCount at) = at
-place (TooDeep at) = at
-place (TooManyNodes at) = at
-place Memory = 0
+abbrev pub fault_place : FormulaFault → ℕ
+fault_place (Syntax at) = at
+fault_place (UnknownName at) = at
+fault_place (BadCount at) = at
+fault_place (TooDeep at) = at
+fault_place (TooManyNodes at) = at
+fault_place Memory = 0
 
 -- the fault that stands first
 abbrev pub earlier : Option FormulaFault → Option FormulaFault → Option FormulaFault
 earlier None y = y
 earlier (Some x) None = Some x
-earlier (Some x) (Some y) = if nat_lt (place x) (place y) then Some x else Some y
+earlier (Some x) (Some y) = if nat_lt (fault_place x) (fault_place y) then Some x else Some y
 
 -- the fault of a node
 abbrev pub bad_node : Reading → Node → Option FormulaFault

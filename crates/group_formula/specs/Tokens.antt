@@ -24,8 +24,8 @@ has_byte runs.Name c = is_ascii_alphanumeric c || nat_eq c 95
 has_byte runs.Number c = is_ascii_digit c
 
 -- the run that a byte begins; a symbol stands alone
-abbrev pub run_of : ℕ → Run
-run_of c = if is_ascii_alphabetic c then runs.Name else if is_ascii_digit c then runs.Number else runs.Blank
+abbrev pub run_begun : ℕ → Run
+run_begun c = if is_ascii_alphabetic c then runs.Name else if is_ascii_digit c then runs.Number else runs.Blank
 
 -- the token of a byte that begins no run: | & ( ) ,
 abbrev pub symbol : ℕ → Token
@@ -38,14 +38,14 @@ symbol c =
     else Unknown
 
 -- the token of the letters, digits and `_` that stand at a place: `of` is no name
-abbrev pub word : ℕ → List ℕ → Token
-word at run = if bytes_eq run (codes "of") then Of else Name at
+abbrev pub word_token : ℕ → List ℕ → Token
+word_token at run = if bytes_eq run (codes "of") then Of else Name at
 
 -- the token at a place, where this text stands
 abbrev pub token_at : ℕ → List ℕ → Token
 token_at at [] = Unknown
 token_at at (c ∷ cs) =
-    if is_ascii_alphabetic c then word at (take_while (has_byte runs.Name) (c ∷ cs))
+    if is_ascii_alphabetic c then word_token at (take_while (has_byte runs.Name) (c ∷ cs))
     else if is_ascii_digit c then Number at
     else symbol c
 
@@ -63,7 +63,7 @@ tokens_from at run [] = []
 tokens_from at run (c ∷ cs) =
     if has_byte run c then tokens_from (at + 1) run cs
     else if is_blank c then tokens_from (at + 1) runs.Blank cs
-    else record { at = at; token = token_at at (c ∷ cs) } ∷ tokens_from (at + 1) (run_of c) cs
+    else record { at = at; token = token_at at (c ∷ cs) } ∷ tokens_from (at + 1) (run_begun c) cs
 
 -- the tokens that are left from a place on, which is no place inside a name or a number
 abbrev pub tokens_after : List ℕ → ℕ → List Placed

@@ -17,9 +17,9 @@ mutual
     more_trees : Trees → Tree → Trees
 
 -- how many there are
-abbrev pub count : Trees → ℕ
-count (one_tree t) = 1
-count (more_trees ts t) = count ts + 1
+abbrev pub tree_count : Trees → ℕ
+tree_count (one_tree t) = 1
+tree_count (more_trees ts t) = tree_count ts + 1
 
 -- the truth of a formula where exactly the parties that pass are true
 abbrev mutual
@@ -39,7 +39,7 @@ abbrev mutual
   IsSoundTree n (leaf p) = p < n
   IsSoundTree n (both a b) = IsSoundTree n a × IsSoundTree n b
   IsSoundTree n (either a b) = IsSoundTree n a × IsSoundTree n b
-  IsSoundTree n (at_least c ts) = (1 ≤ c) × (c ≤ count ts) × AreSound n ts
+  IsSoundTree n (at_least c ts) = (1 ≤ c) × (c ≤ tree_count ts) × AreSound n ts
 
   pub AreSound : ℕ → Trees → Type 0
   AreSound n (one_tree t) = IsSoundTree n t
@@ -51,7 +51,7 @@ abbrev mutual
   postfix (leaf p) = Name p ∷ []
   postfix (both a b) = (postfix a ++ postfix b) ++ (And ∷ [])
   postfix (either a b) = (postfix a ++ postfix b) ++ (Or ∷ [])
-  postfix (at_least n ts) = postfix_all ts ++ (AtLeast n (count ts) ∷ [])
+  postfix (at_least n ts) = postfix_all ts ++ (AtLeast n (tree_count ts) ∷ [])
 
   pub postfix_all : Trees → List Node
   postfix_all (one_tree t) = postfix t

@@ -1,6 +1,6 @@
 //! Why a text is no formula.
 ghost use Rattle.std.specs.Prelude.{◌≡◌};
-ghost use Rattle.group_formula.specs.Resolving.{place};
+ghost use Rattle.group_formula.specs.Resolving.{fault_place};
 
 use std::alloc::AllocError;
 
@@ -26,7 +26,7 @@ pub enum FormulaFault {
 impl FormulaFault {
     /// The byte at which the fault stands; 0 for want of memory.
     pub fn at(self) -> u64
-        ensures { result ≡ place self }
+        ensures { result ≡ fault_place self }
     {
         match self {
             FormulaFault::Syntax { at }

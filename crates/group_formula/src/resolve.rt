@@ -2,7 +2,7 @@
 ghost use Rattle.std.specs.Prelude.{◌≡◌, ℕ, ◌≤◌, ◌+◌, ◌*◌, ◌^◌, ◌&&◌, nat_le, nat_lt, length, drop, map, MatchOption, MatchResult, Option, Some, None, if◌then◌else◌};
 ghost use Rattle.std.specs.List.{take_while};
 ghost use Rattle.group_formula.specs.Tokens.{has_byte};
-ghost use Rattle.group_formula.specs.Formulas.{number_at, reading, IsFormula, IsSecondFault};
+ghost use Rattle.group_formula.specs.Formulas.{number_in_text, reading, IsFormula, IsSecondFault};
 ghost use Rattle.group_formula.specs.Resolving.{good_count, meaning, earlier, least, resolved_node};
 ghost use Rattle.group_formula.specs.Parsing.{IsParsed};
 
@@ -42,7 +42,7 @@ fn with_digit(number: usize, digit: u8) -> Option<usize>
 
 /// The number that stands at this place, if it is at least 1 and at most `parts`.
 fn count_at(text: &[u8], at: usize, parts: usize) -> Option<usize>
-    ensures { result ≡ good_count (number_at text.now at) parts }
+    ensures { result ≡ good_count (number_in_text text.now at) parts }
 {
     let digits = run_at(Run::Number, text, at);
     let mut number = 0;

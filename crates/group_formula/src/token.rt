@@ -1,7 +1,7 @@
 //! The tokens of a text.
 ghost use Rattle.std.specs.Prelude.{◌≡◌, ℕ, ◌∷◌, [], ◌<◌, ◌≤◌, length, MatchOption, IfSome};
 ghost use Rattle.std.specs.List.{prefix_len};
-ghost use Rattle.group_formula.specs.Tokens.{Placed, has_byte, symbol, word, token_at, first_length, tokens_after, is_node};
+ghost use Rattle.group_formula.specs.Tokens.{Placed, has_byte, symbol, word_token, token_at, first_length, tokens_after, is_node};
 
 /// Bytes that are read together.
 #[derive(Clone, Copy, Debug, PartialEq, Eq)]
@@ -85,8 +85,8 @@ fn symbol(byte: u8) -> Token
 }
 
 /// The token of a run that begins with a letter, at this place.
-fn word(at: usize, run: &[u8]) -> Token
-    ensures { result ≡ word at run.now }
+fn word_token(at: usize, run: &[u8]) -> Token
+    ensures { result ≡ word_token at run.now }
 {
     if run == b"of".as_slice() {
         Token::Of
@@ -105,7 +105,7 @@ fn first_token(at: usize, text: &[u8]) -> (Token, usize)
 {
     if text[0].is_ascii_alphabetic() {
         let length = Run::Name.length(text);
-        return (word(at, &text[..length]), length);
+        return (word_token(at, &text[..length]), length);
     }
     if text[0].is_ascii_digit() {
         return (Token::Number(at), Run::Number.length(text));

@@ -1,10 +1,10 @@
 -- Names that are read one by one into a mask.
-use Rattle.std.proofs.Common.{◌≡◌, ℕ, ◌+◌, ◌*◌, ◌%◌, ◌^◌, ◌<◌, ◌≤◌, inl, inr, nat_eq, Bool, true, false, ◌||◌, cond, List, [], ◌∷◌, ◌++◌, length, Option, None, Some, Result, Ok, Err, refl, sym, ap, ap₂, ◌∙◌, subst, arith, length-append}
+use Rattle.std.proofs.Common.{◌≡◌, ℕ, ◌+◌, ◌^◌, ◌<◌, ◌≤◌, inl, inr, nat_eq, Bool, true, false, ◌||◌, cond, List, [], ◌∷◌, ◌++◌, length, Option, None, Some, Result, Ok, Err, refl, sym, ap, ap₂, ◌∙◌, subst, arith, length-append}
 use Rattle.std.specs.Prelude.{IfOk, bit_or, fold, option_and_then, slice_get, unwrap_or}
 use Rattle.std.specs.List.{list_any}
 use Rattle.std.specs.Option.{is_none, option_map}
 use Rattle.std.specs.Str.{bytes_eq}
-use Rattle.std.proofs.lemmas.Bool.{cases_lt, cond-true, cond-false, false_from_ne_true}
+use Rattle.std.proofs.lemmas.Bool.{cases_lt, false_from_ne_true}
 use Rattle.std.proofs.lemmas.Bool.Decides.{eqb_tells}
 use Rattle.std.proofs.lemmas.List.Folds.{list_any-append}
 use Rattle.std.proofs.lemmas.Nat.{or_lt, pow_pos}
@@ -15,7 +15,7 @@ use Rattle.std.proofs.Math.Pow.{pow-lt}
 use Rattle.list_laws.specs.Checks.{or_fault}
 use Rattle.list_laws.proofs.Tests.{or_false}
 use Rattle.party_set.specs.Parties.{Members, has_party}
-use Rattle.party_set.specs.Names.{number_of, AreNames}
+use Rattle.party_set.specs.Names.{party_named, AreNames}
 use Rattle.party_set.proofs.Masks.{power_is, has_with}
 use Rattle.party_set.proofs.NameFaults.{number_at}
 use Rattle.job_file.specs.Faults.{bad_name, is_no_party}
@@ -79,7 +79,7 @@ module _ (names parts : List (List ℕ)) where
     -- the party that is added
     record Added (mask' : ℕ) : Type 0 where
       party : ℕ
-      number : number_of names part ≡ Some party
+      number : party_named names part ≡ Some party
       out : has_party mask party ≡ false
       is : mask' ≡ bit_or mask (2 ^ party)
 
@@ -87,7 +87,7 @@ module _ (names parts : List (List ℕ)) where
     some_is true m m' e = absurd (cc)
     some_is false m m' e = (refl, cc)
 
-    added : (o : Option ℕ) (mask' : ℕ) → number_of names part ≡ o → option_and_then (λ p. cond (has_party mask p) None (Some (bit_or mask (2 ^ p)))) o ≡ Some mask' → Added mask'
+    added : (o : Option ℕ) (mask' : ℕ) → party_named names part ≡ o → option_and_then (λ p. cond (has_party mask p) None (Some (bit_or mask (2 ^ p)))) o ≡ Some mask' → Added mask'
     added None mask' is e = absurd (cc)
     added (Some p) mask' is e =
         let parts = some_is (has_party mask p) (bit_or mask (2 ^ p)) mask' e in
@@ -132,7 +132,7 @@ module _ (names parts : List (List ℕ)) where
 
     -- one more part
     pub reads_next : AreNames names → (mask' : ℕ) → mask_with names mask part ≡ Some mask' → Reads names parts (before ++ part ∷ []) left (at + 1) mask'
-    reads_next are mask' e = reads_more are mask' (added (number_of names part) mask' refl e)
+    reads_next are mask' e = reads_more are mask' (added (party_named names part) mask' refl e)
 
     none_is : (b : Bool) (m : ℕ) → cond b None (Some m) ≡ None → b ≡ true
     none_is true m e = refl
@@ -142,7 +142,7 @@ module _ (names parts : List (List ℕ)) where
     either true b e = refl
     either false b e = e
 
-    refused : (o : Option ℕ) → number_of names part ≡ o → option_and_then (λ p. cond (has_party mask p) None (Some (bit_or mask (2 ^ p)))) o ≡ None → (is_no_party names part || stood) ≡ true
+    refused : (o : Option ℕ) → party_named names part ≡ o → option_and_then (λ p. cond (has_party mask p) None (Some (bit_or mask (2 ^ p)))) o ≡ None → (is_no_party names part || stood) ≡ true
     refused None is e = ap (λ o. is_none o || stood) is
     refused (Some p) is e = either (is_no_party names part) stood (reads.members p part (number_at names part p (sym is)) ∙ none_is (has_party mask p) (bit_or mask (2 ^ p)) e)
 
@@ -152,7 +152,7 @@ module _ (names parts : List (List ℕ)) where
     reads_bad e =
         ap (λ o. or_fault (option_map (λ at. BadGroup at) o) (record { parties = length names; mask = mask_of names parts }))
         (reads.faults
-        ∙ ap (λ b. cond b (Some (length before)) (bad_name names (before ++ part ∷ []) left)) (refused (number_of names part) refl e)
+        ∙ ap (λ b. cond b (Some (length before)) (bad_name names (before ++ part ∷ []) left)) (refused (party_named names part) refl e)
         ∙ ap Some (sym reads.count))
 
   -- no part is left

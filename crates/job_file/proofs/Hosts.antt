@@ -1,5 +1,5 @@
 -- The rows on hosts, over the values of the list.
-use Rattle.std.proofs.Common.{◌≡◌, ℕ, List, ◌∙◌, ap, sym, refl, map, length, Option, Some, None, not, min}
+use Rattle.std.proofs.Common.{◌≡◌, ℕ, List, ◌∙◌, ap, sym, map, length, Option, None, not, min}
 use Rattle.std.specs.Prelude.{position, ◌==◌, ◌&&◌}
 use Rattle.std.proofs.lemmas.List.{length-map}
 use Rattle.std.specs.Option.{option_map, option_or}
@@ -14,11 +14,8 @@ use Rattle.job_file.specs.Names.{is_host}
 use Rattle.job_file.specs.Forms.{texts, items}
 use Rattle.list_laws.specs.Checks.{◌answers◌}
 use Rattle.job_file.specs.Faults.{hosts_fault, is_there}
+use Rattle.list_laws.proofs.FirstFaults.{first-one}
 use Rattle.job_file.proofs.Lists.{position-texts}
-
-pub or_none : (o : Option JobFault) → option_or o None ≡ o
-or_none None = refl
-or_none (Some fault) = refl
 
 abbrev pub count_row : Members → ℕ → ℕ → Option JobFault
 count_row fields hosts parties = (is_there Hosts fields && not (hosts == parties)) answers BadHost (min hosts parties)
@@ -38,4 +35,4 @@ hosts_are fields hosts parties are count =
     ap (λ n. option_or (count_row fields n (length (texts Parties fields))) rest) long
     ∙ ap (λ n. option_or (count_row fields (length hosts) n) rest) (sym count)
     ∙ ap (λ o. option_or (count_row fields (length hosts) parties) (option_or (option_map (λ at. BadHost at) o) None)) bad
-    ∙ ap (λ o. option_or (count_row fields (length hosts) parties) o) (or_none (text_row hosts))
+    ∙ ap (λ o. option_or (count_row fields (length hosts) parties) o) (first-one (text_row hosts))

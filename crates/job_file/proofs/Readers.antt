@@ -5,7 +5,7 @@ use Rattle.std.specs.List.{list_any}
 use Rattle.std.specs.Option.{option_or, option_map}
 use Rattle.std.specs.Str.{bytes_eq}
 use Rattle.std.proofs.lemmas.List.{drop_more, take_more, map-append, length-map}
-use Rattle.job_file.proofs.Hosts.{or_none}
+use Rattle.list_laws.proofs.FirstFaults.{first-one}
 use Rattle.toml.specs.Data.{Members}
 use Rattle.toml.specs.View.{view}
 use Rattle.toml.specs.declared.value.Value.{Value}
@@ -61,4 +61,4 @@ sessions_turn names vs session v fields within is same =
     let rest : Option JobFault = sessions_fault names (session + 1) (map session_of (drop (session + 1) vs)) in
     ap (λ xs. sessions_fault names session (map session_of xs)) (cut vs session v within is)
     ∙ ap (λ ms. option_or (session_fields_fault session ms) (option_or (session_values_fault names session ms) (option_or rest None))) same
-    ∙ ap (λ o. option_or (session_fields_fault session fields) (option_or (session_values_fault names session fields) o)) (or_none rest)
+    ∙ ap (λ o. option_or (session_fields_fault session fields) (option_or (session_values_fault names session fields) o)) (first-one rest)

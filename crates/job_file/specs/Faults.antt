@@ -8,7 +8,7 @@ use Rattle.toml.specs.Data.{Members}
 use Rattle.toml_fields.specs.Documents.{document_of}
 use Rattle.toml_fields.specs.Fields.{has_field, is_misfit}
 use Rattle.toml_fields.specs.Keys.{least_unknown}
-use Rattle.party_set.specs.Names.{number_of, names_fault}
+use Rattle.party_set.specs.Names.{party_named, names_fault}
 use Rattle.job_file.specs.declared.field.Field.{Field}
 use Rattle.job_file.specs.declared.field.Field.TheVariants.{Version, RingBits, Parties, Tolerated, Hosts, Port, Session, Circuit, Layout, Owners, Readers}
 use Rattle.job_file.specs.declared.fault.JobFault.{JobFault}
@@ -19,7 +19,7 @@ use Rattle.job_file.specs.Forms.{JobForm, job_form, is_listed, adversary_field, 
 -- ---- lists of parties' names
 
 abbrev pub is_no_party : List (List ℕ) → List ℕ → Bool
-is_no_party names name = is_none (number_of names name)
+is_no_party names name = is_none (party_named names name)
 
 -- the place of the first text that is no party's name, or stands before
 unfoldable pub bad_name : List (List ℕ) → List (List ℕ) → List (List ℕ) → Option ℕ

@@ -4,7 +4,7 @@ use Rattle.std.specs.Option.{unwrap_or}
 use Rattle.std.specs.Ordering.{int_eq}
 use Rattle.toml.specs.Data.{Data, Members}
 use Rattle.toml_fields.specs.Fields.{integer_at, text_at, items_at, texts_at, texts_of, fields_of}
-use Rattle.party_set.specs.Names.{number_of}
+use Rattle.party_set.specs.Names.{party_named}
 use Rattle.job_file.specs.declared.field.Field.{Field}
 use Rattle.job_file.specs.declared.field.Field.TheVariants.{Version, RingBits, Parties, Formula, Tolerated, Hosts, Port, Session, Circuit, Layout, Owners, Readers}
 use Rattle.circuit_model.specs.declared.layout.CircuitLayout.{CircuitLayout}
@@ -66,7 +66,7 @@ adversary_field fields = if is_listed fields then Tolerated else Formula
 
 -- the party of this name
 abbrev pub party_of : List (List ℕ) → List ℕ → ℕ
-party_of names name = unwrap_or (number_of names name) 0
+party_of names name = unwrap_or (party_named names name) 0
 
 -- the mask of these parties: the bit of each is 1
 unfoldable pub mask_of : List (List ℕ) → List (List ℕ) → ℕ

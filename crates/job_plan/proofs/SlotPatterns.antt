@@ -20,7 +20,7 @@ map_joined : {A B : Type 0} (f : A → B) (n : ℕ) (g : ℕ → List A) → map
 map_joined f zero g = refl
 map_joined f (suc n) g = map-append f (joined n g) (g n) ∙ ap (λ xs. xs ++ map f (g n)) (map_joined f n g)
 
-map_only_if : {A B : Type 0} (f : A → B) (b : Bool) (xs : List A) → map f (only_if b xs) ≡ only_if b (map f xs)
+pub map_only_if : {A B : Type 0} (f : A → B) (b : Bool) (xs : List A) → map f (only_if b xs) ≡ only_if b (map f xs)
 map_only_if f true xs = refl
 map_only_if f false xs = refl
 

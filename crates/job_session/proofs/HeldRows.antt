@@ -7,7 +7,7 @@ use Rattle.list_laws.specs.Lists.{total}
 use Rattle.list_laws.proofs.Tests.{or_true, or_false}
 use Rattle.list_laws.proofs.Totals.{total_one, total_eq}
 use Rattle.job_session.specs.declared.row_scan.RowScan.{RowScan}
-use Rattle.job_session.specs.RowScans.{AreHeld, Gives, TakesBack, ends}
+use Rattle.job_session.specs.RowScans.{AreHeld, GivesRow, TakesBack, ends}
 use Rattle.job_session.specs.Wirings.{is_named}
 
 -- ---- how often a row is held, and how many wires hold one
@@ -120,7 +120,7 @@ held_same holds gone scan none held = record {
 -- ---- giving and taking back
 
 -- no wire, and a free row
-pub gives_spare : (scan : RowScan) → 0 < length scan.free.items → Gives None scan scan
+pub gives_spare : (scan : RowScan) → 0 < length scan.free.items → GivesRow None scan scan
 gives_spare scan some = record {
   wires = refl;
   others = λ w e. refl;
@@ -133,7 +133,7 @@ gives_spare scan some = record {
 }
 
 -- no wire, and a free row that is new
-pub gives_new_spare : (old new : RowScan) → new.rows.items ≡ old.rows.items → old.free.items ≡ [] → new.free.items ≡ old.free.items ++ old.made ∷ [] → new.made ≡ old.made + 1 → Gives None old new
+pub gives_new_spare : (old new : RowScan) → new.rows.items ≡ old.rows.items → old.free.items ≡ [] → new.free.items ≡ old.free.items ++ old.made ∷ [] → new.made ≡ old.made + 1 → GivesRow None old new
 gives_new_spare old new rows none one made = record {
   wires = ap length rows;
   others = λ w e. ap (λ xs. slice_index xs w) rows;
@@ -160,7 +160,7 @@ other_row rows wire r w e = get_or-set_other rows wire w r 0 (λ same. absurd (b
 
 -- a free row
 pub gives_free : (wire r : ℕ) (old new : RowScan) → wire < length old.rows.items → new.rows.items ≡ set old.rows.items wire r
-    → old.free.items ≡ new.free.items ++ r ∷ [] → new.made ≡ old.made → Gives (Some wire) old new
+    → old.free.items ≡ new.free.items ++ r ∷ [] → new.made ≡ old.made → GivesRow (Some wire) old new
 gives_free wire r old new l rows free made = record {
   wires = ap length rows ∙ length-set old.rows.items wire r;
   others = λ w e. ap (λ xs. slice_index xs w) rows ∙ other_row old.rows.items wire r w e;
@@ -184,7 +184,7 @@ gives_free wire r old new l rows free made = record {
 
 -- a new row
 pub gives_new : (wire : ℕ) (old new : RowScan) → wire < length old.rows.items → new.rows.items ≡ set old.rows.items wire old.made
-    → old.free.items ≡ [] → new.free.items ≡ [] → new.made ≡ old.made + 1 → Gives (Some wire) old new
+    → old.free.items ≡ [] → new.free.items ≡ [] → new.made ≡ old.made + 1 → GivesRow (Some wire) old new
 gives_new wire old new l rows none still made = record {
   wires = ap length rows ∙ length-set old.rows.items wire old.made;
   others = λ w e. ap (λ xs. slice_index xs w) rows ∙ other_row old.rows.items wire old.made w e;
@@ -298,19 +298,19 @@ held_apart holds scan v w held lv lw here there ne same =
 
 -- ---- the same, of a wire that may be none
 
-pub gives_no_wire : (o : Option ℕ) (old new : RowScan) → o ≡ None → Gives None old new → Gives o old new
-gives_no_wire o old new e h = subst (λ (z : Option ℕ). Gives z old new) (sym e) h
+pub gives_no_wire : (o : Option ℕ) (old new : RowScan) → o ≡ None → GivesRow None old new → GivesRow o old new
+gives_no_wire o old new e h = subst (λ (z : Option ℕ). GivesRow z old new) (sym e) h
 
 pub named_some : (o : Option ℕ) (wire : ℕ) → o ≡ Some wire → is_named o wire ≡ true
 named_some o wire e = subst (λ (z : Option ℕ). is_named z wire ≡ true) (sym e) (eq-eqb wire wire refl)
 
 pub gives_free_to : (o : Option ℕ) (wire r : ℕ) (old new : RowScan) → o ≡ Some wire → wire < length old.rows.items → new.rows.items ≡ set old.rows.items wire r
-    → old.free.items ≡ new.free.items ++ r ∷ [] → new.made ≡ old.made → Gives o old new
-gives_free_to o wire r old new e l rows free made = subst (λ (z : Option ℕ). Gives z old new) (sym e) (gives_free wire r old new l rows free made)
+    → old.free.items ≡ new.free.items ++ r ∷ [] → new.made ≡ old.made → GivesRow o old new
+gives_free_to o wire r old new e l rows free made = subst (λ (z : Option ℕ). GivesRow z old new) (sym e) (gives_free wire r old new l rows free made)
 
 pub gives_new_to : (o : Option ℕ) (wire : ℕ) (old new : RowScan) → o ≡ Some wire → wire < length old.rows.items → new.rows.items ≡ set old.rows.items wire old.made
-    → old.free.items ≡ [] → new.free.items ≡ [] → new.made ≡ old.made + 1 → Gives o old new
-gives_new_to o wire old new e l rows none still made = subst (λ (z : Option ℕ). Gives z old new) (sym e) (gives_new wire old new l rows none still made)
+    → old.free.items ≡ [] → new.free.items ≡ [] → new.made ≡ old.made + 1 → GivesRow o old new
+gives_new_to o wire old new e l rows none still made = subst (λ (z : Option ℕ). GivesRow z old new) (sym e) (gives_new wire old new l rows none still made)
 
 pub takes_back_from : (o : Option ℕ) (wire at : ℕ) (last : List ℕ) (old new : RowScan) → o ≡ Some wire → wire < length old.rows.items → slice_index last wire ≡ at → new.rows.items ≡ old.rows.items
     → new.free.items ≡ old.free.items ++ slice_index old.rows.items wire ∷ [] → new.made ≡ old.made → TakesBack o at last old new

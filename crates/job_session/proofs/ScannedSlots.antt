@@ -10,10 +10,10 @@ use Rattle.list_laws.proofs.Totals.{total_zero}
 use Rattle.job_session.specs.declared.row_scan.RowScan.{RowScan}
 use Rattle.job_session.specs.declared.touched.Touched.{Touched}
 use Rattle.job_session.specs.Sessions.{Session, gate, session_slots}
-use Rattle.job_session.specs.KeptWires.{sets_in, sets, reads, is_kept, kept, greatest, live, IsRowTable}
+use Rattle.job_session.specs.KeptWires.{sets_in, slot_sets, slot_reads, is_kept, kept, greatest, live, IsRowTable}
 use Rattle.job_session.specs.SoundSessions.{IsWired}
 use Rattle.job_session.specs.Wirings.{IsTouched, is_named}
-use Rattle.job_session.specs.RowScans.{AreLastReads, AreHeld, Gives, TakesBack, IsScan, ends}
+use Rattle.job_session.specs.RowScans.{AreLastReads, AreHeld, GivesRow, TakesBack, IsScan, ends}
 use Rattle.job_session.proofs.SessionSlots.{slot_cases}
 use Rattle.job_session.proofs.KeptRows.{one_wire, some_found, some_at, kept_found, kept_from}
 use Rattle.job_session.proofs.HeldRows.{held_below, held_apart}
@@ -21,14 +21,14 @@ use Rattle.job_session.proofs.LastReads.{zeros_at}
 
 -- ---- the wires of a slot are wires
 
-pub sets_within : (s : Session) (k w : ℕ) → IsWired s → k < session_slots s → sets s k w ≡ true → w < s.wires
+pub sets_within : (s : Session) (k w : ℕ) → IsWired s → k < session_slots s → slot_sets s k w ≡ true → w < s.wires
 sets_within s k w wired l = slot_cases s (λ k z. list_any (nat_eq w) (sets_in s z) ≡ true → w < s.wires)
     (λ v lv e. omega (arith, one_wire v w e, lv, wired.input_wires))
     (λ t lt e. omega (arith, one_wire (gate s t).output w e, wired.output t lt))
     (λ o lo e. absurd (false≢true e))
     k l
 
-pub reads_within : (s : Session) (k w : ℕ) → IsWired s → k < session_slots s → reads s k w ≡ true → w < s.wires
+pub reads_within : (s : Session) (k w : ℕ) → IsWired s → k < session_slots s → slot_reads s k w ≡ true → w < s.wires
 reads_within s k w wired l e =
     let set = wired.order.before k w l e in
     sets_within s set.0 w wired (omega (arith, set.1, l)) set.2
@@ -41,15 +41,15 @@ same_bool false true f g = absurd (false≢true (g refl))
 same_bool false false f g = refl
 
 later_reads : (s : Session) (k w : ℕ) (last : List ℕ) → AreLastReads s (session_slots s) last
-    → some_below (session_slots s) (λ m. nat_le k m && reads s m w) ≡ nat_lt k (slice_index last w)
-later_reads s k w last reading = same_bool (some_below (session_slots s) (λ m. nat_le k m && reads s m w)) (nat_lt k (slice_index last w))
-    (λ e. let found = some_found (session_slots s) (λ m. nat_le k m && reads s m w) e in
-    let parts = and_parts (nat_le k found.0) (reads s found.0 w) found.2 in
+    → some_below (session_slots s) (λ m. nat_le k m && slot_reads s m w) ≡ nat_lt k (slice_index last w)
+later_reads s k w last reading = same_bool (some_below (session_slots s) (λ m. nat_le k m && slot_reads s m w)) (nat_lt k (slice_index last w))
+    (λ e. let found = some_found (session_slots s) (λ m. nat_le k m && slot_reads s m w) e in
+    let parts = and_parts (nat_le k found.0) (slot_reads s found.0 w) found.2 in
     lt-ltb k (slice_index last w) (omega (arith, after k found.0 parts.0, reading.past found.0 w found.1 parts.1)))
     (λ e. let less = ltb-true k (slice_index last w) e in
     let m = slice_index last w - 1 in
     let read = reading.read m w (omega (arith, less)) in
-    some_at (session_slots s) (λ m. nat_le k m && reads s m w) m read.0 (and_from (nat_le k m) (reads s m w) (before k m (omega (arith, less))) read.1))
+    some_at (session_slots s) (λ m. nat_le k m && slot_reads s m w) m read.0 (and_from (nat_le k m) (slot_reads s m w) (before k m (omega (arith, less))) read.1))
   where
     after : (k m : ℕ) → nat_le k m ≡ true → k ≤ m
     after k m e = leb-true k m e
@@ -57,9 +57,9 @@ later_reads s k w last reading = same_bool (some_below (session_slots s) (λ m. 
     before : (k m : ℕ) → k ≤ m → nat_le k m ≡ true
     before k m l = le-leb k m l
 
-kept_by_last : (s : Session) (k w : ℕ) (last : List ℕ) → AreLastReads s (session_slots s) last → is_kept s k w ≡ (some_below k (λ j. sets s j w) && nat_lt k (slice_index last w))
+kept_by_last : (s : Session) (k w : ℕ) (last : List ℕ) → AreLastReads s (session_slots s) last → is_kept s k w ≡ (some_below k (λ j. slot_sets s j w) && nat_lt k (slice_index last w))
 unfolding is_kept
-kept_by_last s k w last reading = ap (λ b. some_below k (λ j. sets s j w) && b) (later_reads s k w last reading)
+kept_by_last s k w last reading = ap (λ b. some_below k (λ j. slot_sets s j w) && b) (later_reads s k w last reading)
 
 -- ---- which wires are kept after the slot
 
@@ -117,13 +117,13 @@ kept_next : (s : Session) (k w : ℕ) (t : Touched) (last : List ℕ) → IsWire
     → after_slot (is_kept s k w) (is_named t.sets w) (is_named t.first w) (is_named t.second w) (nat_eq (slice_index last w) (k + 1)) (nat_eq (slice_index last w) 0) ≡ is_kept s (k + 1) w
 kept_next s k w t last wired l reading touched =
     let x = slice_index last w in
-    let earlier = some_below k (λ j. sets s j w) in
+    let earlier = some_below k (λ j. slot_sets s j w) in
     let set = is_named t.sets w in
     let first = is_named t.first w in
     let second = is_named t.second w in
     let now : is_kept s k w ≡ (earlier && nat_lt k x) = kept_by_last s k w last reading in
-    let one_more : some_below (k + 1) (λ j. sets s j w) ≡ (earlier || set) =
-    ap (λ n. some_below n (λ j. sets s j w)) (let e : k + 1 ≡ suc k = omega arith in e) ∙ ap (λ b. earlier || b) (touched.sets w) in
+    let one_more : some_below (k + 1) (λ j. slot_sets s j w) ≡ (earlier || set) =
+    ap (λ n. some_below n (λ j. slot_sets s j w)) (let e : k + 1 ≡ suc k = omega arith in e) ∙ ap (λ b. earlier || b) (touched.sets w) in
     let next : is_kept s (k + 1) w ≡ ((earlier || set) && nat_lt (k + 1) x) =
     kept_by_last s (k + 1) w last reading ∙ ap (λ b. b && nat_lt (k + 1) x) one_more in
     elim (cases_order x (k + 1)) [
@@ -151,7 +151,7 @@ kept_next s k w t last wired l reading touched =
           let m = slice_index last w - 1 in
           let read = reading.read m w (omega (arith, some)) in
           let set = wired.order.before m w read.0 read.1 in
-          absurd (both_ways (sets s k w) (wired.order.once set.0 k w (omega (arith, set.1, past, some)) l set.2) (touched.sets w ∙ named))
+          absurd (both_ways (slot_sets s k w) (wired.order.once set.0 k w (omega (arith, set.1, past, some)) l set.2) (touched.sets w ∙ named))
     ]
 
 -- ---- one slot more
@@ -171,10 +171,10 @@ given s k t w = is_kept s k w || is_named t.sets w
 unkept : (s : Session) (k w : ℕ) (t : Touched) → IsWired s → k < session_slots s → IsTouched s k t → is_named t.sets w ≡ true → is_kept s k w ≡ false
 unkept s k w t wired l touched named = false_from_ne_true (is_kept s k w) (λ kept.
     let set = (kept_found s k w kept).0 in
-    both_ways (sets s k w) (wired.order.once set.0 k w set.1 l set.2) (touched.sets w ∙ named))
+    both_ways (slot_sets s k w) (wired.order.once set.0 k w set.1 l set.2) (touched.sets w ∙ named))
 
 -- one that an earlier slot sets is not set here
-unnamed_again : (s : Session) (j k w : ℕ) (t : Touched) → IsWired s → k < session_slots s → IsTouched s k t → j < k → sets s j w ≡ true → is_named t.sets w ≡ false
+unnamed_again : (s : Session) (j k w : ℕ) (t : Touched) → IsWired s → k < session_slots s → IsTouched s k t → j < k → slot_sets s j w ≡ true → is_named t.sets w ≡ false
 unnamed_again s j k w t wired l touched before set = sym (touched.sets w) ∙ wired.order.once j k w before l set
 
 ends_parts : (o : Option ℕ) (at : ℕ) (last : List ℕ) (w : ℕ) → ends o at last w ≡ true → (is_named o w ≡ true) × (slice_index last w ≡ at)
@@ -185,7 +185,7 @@ ends_parts o at last w e =
 -- one that is read here for the last time is kept until now
 kept_here : (s : Session) (k w : ℕ) (last : List ℕ) → IsWired s → k < session_slots s → AreLastReads s (session_slots s) last → slice_index last w ≡ k + 1 → is_kept s k w ≡ true
 kept_here s k w last wired l reading here =
-    let read : reads s k w ≡ true = (reading.read k w here).1 in
+    let read : slot_reads s k w ≡ true = (reading.read k w here).1 in
     let set = wired.order.before k w l read in
     kept_from s set.0 k k w set.1 (omega arith) l set.2 read
 
@@ -215,7 +215,7 @@ pub few_made : (s : Session) (k : ℕ) (scan : RowScan) → IsWired s → IsScan
 few_made s k scan wired v = omega (arith, v.made, few_kept s k, wired.wires)
 
 pub stepped : (s : Session) (k : ℕ) (t : Touched) (last : List ℕ) (old a b c d : RowScan) → IsWired s → k < session_slots s → AreLastReads s (session_slots s) last → IsTouched s k t → IsScan s k old
-    → Gives t.sets old a → TakesBack t.first (k + 1) last a b → TakesBack t.second (k + 1) last b c → TakesBack t.sets 0 last c d → IsScan s (k + 1) d
+    → GivesRow t.sets old a → TakesBack t.first (k + 1) last a b → TakesBack t.second (k + 1) last b c → TakesBack t.sets 0 last c d → IsScan s (k + 1) d
 stepped s k t last old a b c d wired l reading touched scan gives first second unread =
     let set = given s k t in
     let after_first = λ (w : ℕ). set w && not (ends t.first (k + 1) last w) in
@@ -249,7 +249,7 @@ stepped s k t last old a b c d wired l reading touched scan gives first second u
       ];
       apart = λ i j m v w ij jk jm ml sv rv sw. elim (cases_eq j k) [
         | inl here ↦
-            let set_here : sets s k w ≡ true = subst (λ (z : ℕ). sets s z w ≡ true) here sw in
+            let set_here : slot_sets s k w ≡ true = subst (λ (z : ℕ). slot_sets s z w ≡ true) here sw in
             let named : is_named t.sets w ≡ true = sym (touched.sets w) ∙ set_here in
             let unnamed : is_named t.sets v ≡ false = unnamed_again s i k v t wired l touched (omega (arith, ij, here)) sv in
             let kept_v : is_kept s k v ≡ true = kept_from s i k m v (omega (arith, ij, here)) (omega (arith, jm, here)) ml sv rv in

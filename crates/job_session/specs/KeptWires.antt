@@ -20,23 +20,24 @@ reads_in s (At_gate t) = read_by (gate s t)
 reads_in s (Output o) = output_wire s o ∷ []
 
 -- slot k sets wire w
-abbrev pub sets : Session → ℕ → ℕ → Bool
-sets s k w = list_any (nat_eq w) (sets_in s (session_slot s k))
+abbrev pub slot_sets : Session → ℕ → ℕ → Bool
+slot_sets s k w = list_any (nat_eq w) (sets_in s (session_slot s k))
 
 -- slot k reads wire w
-abbrev pub reads : Session → ℕ → ℕ → Bool
-reads s k w = list_any (nat_eq w) (reads_in s (session_slot s k))
+abbrev pub slot_reads : Session → ℕ → ℕ → Bool
+slot_reads s k w = list_any (nat_eq w) (reads_in s (session_slot s k))
 
 -- each wire is set once, and read only after that
 pub record IsInOrder (s : Session) : Type 0 where
-  pub once : (j k w : ℕ) → j < k → k < session_slots s → sets s j w ≡ true → sets s k w ≡ false
-  pub before : (k w : ℕ) → k < session_slots s → reads s k w ≡ true → (j : ℕ) × (j < k) × (sets s j w ≡ true)
+  pub once : (j k w : ℕ) → j < k → k < session_slots s → slot_sets s j w ≡ true → slot_sets s k w ≡ false
+  pub before : (k w : ℕ) → k < session_slots s → slot_reads s k w ≡ true → (j : ℕ) × (j < k) × (slot_sets s j w ≡ true)
 
 -- ---- wires that are kept
 
 -- wire w is kept before slot k: an earlier slot sets it, and slot k or a later one reads it
 unfoldable pub is_kept : Session → ℕ → ℕ → Bool
-is_kept s k w = some_below k (λ j. sets s j w) && some_below (session_slots s) (λ m. nat_le k m && reads s m w)
+is_kept s k w =
+    some_below k (λ j. slot_sets s j w) && some_below (session_slots s) (λ m. nat_le k m && slot_reads s m w)
 
 -- how many wires are kept before slot k
 unfoldable pub kept : Session → ℕ → ℕ
@@ -57,8 +58,8 @@ live s = greatest (session_slots s) (kept s)
 pub record IsRowTable (s : Session) (rows : List ℕ) : Type 0 where
   pub wires : length rows ≡ s.wires
   pub below : All (λ row. row < live s + 1) rows
-  pub apart : (j k m v w : ℕ) → j < k → k ≤ m → m < session_slots s → sets s j v ≡ true → reads s m v ≡ true
-      → sets s k w ≡ true → slice_index rows v ≢ slice_index rows w
+  pub apart : (j k m v w : ℕ) → j < k → k ≤ m → m < session_slots s → slot_sets s j v ≡ true → slot_reads s m v ≡ true
+      → slot_sets s k w ≡ true → slice_index rows v ≢ slice_index rows w
 
 -- the table gives each wire its row, and has a row more than wires are kept at most
 abbrev pub IsRows : Session → RowTable → Type 0

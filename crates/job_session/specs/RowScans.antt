@@ -3,14 +3,14 @@ use Rattle.std.specs.Prelude.{◌≡◌, ◌≢◌, ℕ, ◌+◌, ◌<◌, ◌�
 use Rattle.list_laws.specs.Lists.{total}
 use Rattle.job_session.specs.declared.row_scan.RowScan.{RowScan}
 use Rattle.job_session.specs.Sessions.{Session, session_slots}
-use Rattle.job_session.specs.KeptWires.{greatest, is_kept, kept, reads, sets}
+use Rattle.job_session.specs.KeptWires.{greatest, is_kept, kept, slot_reads, slot_sets}
 use Rattle.job_session.specs.Wirings.{is_named}
 
 -- for each wire the number of the slot behind the last before slot n that reads it, and 0 where there is none
 pub record AreLastReads (s : Session) (n : ℕ) (last : List ℕ) : Type 0 where
   pub wires : length last ≡ s.wires
-  pub read : (m w : ℕ) → slice_index last w ≡ m + 1 → (m < n) × (reads s m w ≡ true)
-  pub past : (m w : ℕ) → m < n → reads s m w ≡ true → m < slice_index last w
+  pub read : (m w : ℕ) → slice_index last w ≡ m + 1 → (m < n) × (slot_reads s m w ≡ true)
+  pub past : (m w : ℕ) → m < n → slot_reads s m w ≡ true → m < slice_index last w
 
 -- the wire is this one, and the number beside it in the list is this
 abbrev pub ends : Option ℕ → ℕ → List ℕ → ℕ → Bool
@@ -24,7 +24,7 @@ pub record AreHeld (holds : ℕ → Bool) (scan : RowScan) : Type 0 where
   pub all : total (length scan.rows.items) (λ w. if holds w then 1 else 0) + length scan.free.items ≡ scan.made
 
 -- the wire, if there is one, has got a free row; a new one was made where none was free
-pub record Gives (wire : Option ℕ) (old new : RowScan) : Type 0 where
+pub record GivesRow (wire : Option ℕ) (old new : RowScan) : Type 0 where
   pub wires : length new.rows.items ≡ length old.rows.items
   pub others : (w : ℕ) → is_named wire w ≡ false
       → slice_index new.rows.items w ≡ slice_index old.rows.items w
@@ -46,5 +46,6 @@ pub record IsScan (s : Session) (k : ℕ) (scan : RowScan) : Type 0 where
   pub held : AreHeld (is_kept s k) scan
   pub made : scan.made ≡ greatest k (kept s) + 1
   pub below : (w : ℕ) → slice_index scan.rows.items w < greatest k (kept s) + 1
-  pub apart : (i j m v w : ℕ) → i < j → j < k → j ≤ m → m < session_slots s → sets s i v ≡ true → reads s m v ≡ true
-      → sets s j w ≡ true → slice_index scan.rows.items v ≢ slice_index scan.rows.items w
+  pub apart : (i j m v w : ℕ) → i < j → j < k → j ≤ m → m < session_slots s → slot_sets s i v ≡ true
+      → slot_reads s m v ≡ true
+      → slot_sets s j w ≡ true → slice_index scan.rows.items v ≢ slice_index scan.rows.items w

@@ -2,7 +2,7 @@
 use Rattle.std.specs.Prelude.{◌≡◌, ℕ, ◌<◌, ◌≤◌, nat_eq, Bool, true, false, ◌||◌, length, Option, Some, None}
 use Rattle.job_session.specs.declared.touched.Touched.{Touched}
 use Rattle.job_session.specs.declared.wiring.Wiring.{Wiring}
-use Rattle.job_session.specs.KeptWires.{sets, reads}
+use Rattle.job_session.specs.KeptWires.{slot_sets, slot_reads}
 use Rattle.job_session.specs.SoundSessions.{IsWired}
 use Rattle.job_session.specs.Sessions.{Session, gate, owners, owners_of, readers, readers_of}
 use Rattle.job_session.specs.Counts.{products_of}
@@ -25,7 +25,7 @@ is_named (Some v) w = nat_eq w v
 
 -- the wire that slot k sets, and two different ones among which are those that it reads
 pub record IsTouched (s : Session) (k : ℕ) (touched : Touched) : Type 0 where
-  pub sets : (w : ℕ) → sets s k w ≡ is_named touched.sets w
-  pub reads : (w : ℕ) → reads s k w ≡ true → (is_named touched.first w || is_named touched.second w) ≡ true
+  pub sets : (w : ℕ) → slot_sets s k w ≡ is_named touched.sets w
+  pub reads : (w : ℕ) → slot_reads s k w ≡ true → (is_named touched.first w || is_named touched.second w) ≡ true
   pub apart : (w : ℕ) → is_named touched.first w ≡ true → is_named touched.second w ≡ false
   pub within : (w : ℕ) → (is_named touched.first w || is_named touched.second w) ≡ true → w < s.wires

@@ -19,7 +19,7 @@ pub(crate) struct RowScan {
 impl RowScan {
     ghost use Rattle.std.specs.Prelude.{◌≡◌, ℕ, ◌+◌, ◌<◌, true, IfOk, OnOk, length, replicate, [], ◌∷◌};
     ghost use Rattle.job_session.specs.Sessions.{session_slots};
-    ghost use Rattle.job_session.specs.RowScans.{AreLastReads, Gives, TakesBack, IsScan};
+    ghost use Rattle.job_session.specs.RowScans.{AreLastReads, GivesRow, TakesBack, IsScan};
     ghost use Rattle.job_session.specs.Wirings.{IsTouched, IsWiring, is_named, session_in};
 
     /// One free row, for so many wires.
@@ -70,7 +70,7 @@ impl RowScan {
     fn give(&mut self, wire: Option<u32>) -> Result<(), AllocError>
         requires within { (w : ℕ) → is_named wire w ≡ true → w < length self.old.rows.items }
         requires few { self.old.made < 4294967295 }
-        ensures { OnOk result (Gives wire self.old self.new) }
+        ensures { OnOk result (GivesRow wire self.old self.new) }
     {
         let Some(wire) = wire else {
             return self.spare();
@@ -88,7 +88,7 @@ impl RowScan {
     // Makes a free row where there is none.
     fn spare(&mut self) -> Result<(), AllocError>
         requires { self.old.made < 4294967295 }
-        ensures { OnOk result (Gives None self.old self.new) }
+        ensures { OnOk result (GivesRow None self.old self.new) }
     {
         if self.free.is_empty() {
             self.free.push(self.made)?;

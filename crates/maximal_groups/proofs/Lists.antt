@@ -14,7 +14,7 @@ use Rattle.maximal_groups.proofs.FoundGroups.{within_both, within_le, some_maxim
 use Rattle.maximal_groups.proofs.Largest.{none_larger}
 use Rattle.maximal_groups.proofs.NumberFilters.{filter_suc}
 
-find_any : (p : ℕ → Bool) (xs : List ℕ) → list_any p xs ≡ true → (i : ℕ) × (i < length xs) × (p (slice_index xs i) ≡ true)
+pub find_any : (p : ℕ → Bool) (xs : List ℕ) → list_any p xs ≡ true → (i : ℕ) × (i < length xs) × (p (slice_index xs i) ≡ true)
 find_any p [] e = cc
 find_any p (x ∷ xs) e =
     elim (or_cases (p x) (list_any p xs) e) [

@@ -17,7 +17,7 @@ use Rattle.party_program.specs.Proper.{Proper, IsGivenWord, HasInput, with_got}
 use Rattle.party_program.specs.Suiting.{Suits}
 use Rattle.party_program.specs.Standing.{IsPatternIn, IsProgram, StandsIn}
 use Rattle.party_program.proofs.StateReads.{state_same}
-use Rattle.program_laws.specs.WordsRead.{Carries, Reads}
+use Rattle.program_laws.specs.WordsRead.{Carries, ReadsSummand}
 use Rattle.program_laws.proofs.SetWords.{reads_are_set}
 use Rattle.party_desk.specs.declared.memory.Memory.{Memory}
 use Rattle.party_program.proofs.RisingTakes.{takes_rise}
@@ -27,7 +27,7 @@ use Rattle.party_desk.specs.declared.desk.Desk.{Desk}
 use Rattle.party_desk.specs.declared.desk.Stepped.{Stepped}
 use Rattle.party_desk.specs.declared.desk.Stepped.TheVariants.{Moved, NotYet, Ended}
 use Rattle.party_desk.specs.Memories.{state_of, row_of, posted_on_rows, IsMemoryOf, CanDeal, FindsInput}
-use Rattle.party_desk.specs.Desks.{posts_in, takes_in, posts_before, takes_before, Stands, Allowed, Advanced, Effect, Did, IsDesk, NamesSlot, Remembers, instruction_at, word_in}
+use Rattle.party_desk.specs.Desks.{posts_in, takes_in, posts_before, takes_before, Stands, Allowed, Advanced, Effect, Did, IsDesk, NamesSlot, Remembers, instruction_at, word_in_memory}
 use Rattle.party_desk.specs.Steps.{word_at, heard, Allows, MayStep, Does, Steps}
 use Rattle.party_desk.proofs.DeskSteps.{kept}
 use Rattle.party_desk.proofs.NamedSlots.{names_slot}
@@ -145,11 +145,11 @@ module _ (l : Given) (d : Desk) (is_desk : IsDesk l d) where
         input = finds (slot l.plan l.session k) c.input;
       }
 
-  pub posts_right : (n j : ℕ) → i ≡ Post n j → word_in l.plan d n j ≡ word_at l d.position n j
+  pub posts_right : (n j : ℕ) → i ≡ Post n j → word_in_memory l.plan d n j ≡ word_at l d.position n j
   posts_right n j e =
       let share : j < length l.plan.groups = (subst (Proper l.plan l.session) e proper).share in
       let order = (suits.sound.sessions l.session suits.session).wired.order in
-      let reads : (v : ℕ) → Carries (session l.plan l.session) (slot_of l.plan l.session n) v → Reads l.plan l.party l.session i v j = λ v c. subst (λ y. Reads l.plan l.party l.session y v j) (sym e) (c, refl) in
+      let reads : (v : ℕ) → Carries (session l.plan l.session) (slot_of l.plan l.session n) v → ReadsSummand l.plan l.party l.session i v j = λ v c. subst (λ y. ReadsSummand l.plan l.party l.session y v j) (sym e) (c, refl) in
       ap (λ z. posted_on_rows (row_of d.memory) (session l.plan z) (slot_of l.plan z n) j (state_of (length l.plan.groups) d.memory)) is_desk.session
       ∙ posted_same l.plan l.session (slot_of l.plan l.session n) j (row_of d.memory) (state_of (length l.plan.groups) d.memory) (state l d.position)
       (λ v c. is_desk.memory.rows v j share (reads_are_set l.plan suits.sound l.session l.party suits.session suits.party order d.position v j share (reads v c)) (d.position, omega arith, reads v c))

@@ -1,21 +1,19 @@
 -- What a desk remembers after an instruction.
-use Rattle.std.proofs.Common.{◌≡◌, ℕ, zero, suc, ◌+◌, ◌-◌, ◌*◌, ◌%◌, ◌<◌, ◌≤◌, ◌≢◌, ◌^◌, ◌&&◌, ◌||◌, Bool, true, false, nat_eq, if◌then◌else◌, length, refl, sym, ap, ap₂, ◌∙◌, subst, arith}
+use Rattle.std.proofs.Common.{◌≡◌, ℕ, zero, suc, ◌+◌, ◌-◌, ◌*◌, ◌%◌, ◌<◌, ◌≢◌, ◌^◌, true, false, nat_eq, if◌then◌else◌, length, refl, sym, ap, ap₂, ◌∙◌, subst, arith}
 use Rattle.std.specs.Prelude.{slice_index, take, List, [], ◌∷◌, Some}
 use Rattle.std.specs.List.{list_any}
-use Rattle.std.specs.Arc.{arc_value}
-use Rattle.std.proofs.lemmas.Bool.{cases_eq, cases_lt, cases_Bool, cond-true, cond-false, eq-eqb, ne_eqb, false≢true, both_ways}
+use Rattle.std.proofs.lemmas.Bool.{cases_eq, cases_Bool, cond-true, cond-false, ne_eqb, both_ways}
 use mathlib.Core.Logic.{inl, inr}
-use Rattle.list_laws.proofs.Tests.{or_true}
 use Rattle.list_laws.proofs.Totals.{total_eq}
 use Rattle.circuit_model.specs.Circuits.{is_product, operate, set_at}
-use Rattle.circuit_model.specs.Netlists.{arity, read_by, reads}
+use Rattle.circuit_model.specs.Netlists.{arity, read_by, inputs_read}
 use Rattle.circuit_model.proofs.SetAt.{set_here, set_there}
 use Rattle.circuit_model.specs.declared.gate.Gate.{Gate}
 use Rattle.circuit_model.specs.declared.gate.Operation.{Operation}
 use Rattle.circuit_model.specs.declared.gate.Operation.TheVariants.{Add, Sub, Neg, Mul, Xor, And, Inv, Eq, Eqw}
 use Rattle.mpc_ring.specs.Differences.{difference}
 use Rattle.secret_sharing.specs.Sharing.{Scheme, IsScheme, dealt, own_product, local}
-use Rattle.job_session.specs.Sessions.{Session, Slot, gate, output_wire}
+use Rattle.job_session.specs.Sessions.{Session, Slot, output_wire}
 use Rattle.job_plan.specs.Plans.{IsPlan, Plan, holds, scheme, session, slot}
 use Rattle.job_session.specs.Sessions.Slot.{Input, At_gate, Output}
 use Rattle.job_session.specs.KeptWires.{IsInOrder, IsRowTable}
@@ -24,45 +22,37 @@ use Rattle.job_plan.proofs.PlanSchemes.{scheme_is}
 use Rattle.party_program.specs.declared.program.Instruction.{Instruction}
 use Rattle.party_program.specs.declared.program.Instruction.TheVariants.{Deal, Post, Take, Linear, Own, Sum, Deliver, End}
 use Rattle.party_program.specs.Programs.{program, at}
-use Rattle.party_program.specs.Proper.{Proper, IsGate, IsOutput}
+use Rattle.party_program.specs.Proper.{Proper, IsGate}
 use Rattle.party_program.specs.States.{State, slot_of, gate_in_slot, output_in_slot, after, dealt_in, took_in, opened}
-use Rattle.program_laws.specs.WordsRead.{gate_at, Sets, Reads, IsSet, IsToRead}
+use Rattle.program_laws.specs.WordsRead.{gate_at, SetsSummand, ReadsSummand, IsSet, IsToRead}
+use Rattle.share_world.proofs.Settled.{is_one, is_first, is_second}
 use Rattle.program_laws.proofs.ProperPrograms.{proper_at}
 use Rattle.program_laws.proofs.SetWords.{named, sets_at, one_wire, own_at, reads_are_set, own_row, read_is_held}
 use Rattle.party_desk.specs.Desks.{after_on_rows}
-use Rattle.party_desk.specs.Rows.{SameRow, gate_on_rows, slot_on_rows}
+use Rattle.party_desk.specs.Rows.{SameRow, slot_on_rows}
 
 -- ---- what an operation reads
 
-reads_one : (u : ℕ) → list_any (nat_eq u) (u ∷ []) ≡ true
-reads_one u = ap (λ c. c || false) (eq-eqb u u refl)
-
-reads_first : (u v : ℕ) → list_any (nat_eq u) (u ∷ v ∷ []) ≡ true
-reads_first u v = ap (λ c. c || (nat_eq u v || false)) (eq-eqb u u refl)
-
-reads_second : (u v : ℕ) → list_any (nat_eq v) (u ∷ v ∷ []) ≡ true
-reads_second u v = ap (λ c. nat_eq v u || (c || false)) (eq-eqb v v refl) ∙ or_true (nat_eq v u)
-
 -- a linear operation hangs on what it reads alone
-local_of : (q : ℕ) (op : Operation) (c i a b x y u v : ℕ) → (list_any (nat_eq u) (reads op (take (arity op) (u ∷ v ∷ []))) ≡ true → a ≡ x) → (list_any (nat_eq v) (reads op (take (arity op) (u ∷ v ∷ []))) ≡ true → b ≡ y) → local q op c i a b ≡ local q op c i x y
-local_of q Add c i a b x y u v f g = ap₂ (operate q Add c) (f (reads_first u v)) (g (reads_second u v))
-local_of q Sub c i a b x y u v f g = ap₂ (operate q Sub c) (f (reads_first u v)) (g (reads_second u v))
-local_of q Mul c i a b x y u v f g = ap₂ (operate q Mul c) (f (reads_first u v)) (g (reads_second u v))
-local_of q Xor c i a b x y u v f g = ap₂ (operate q Xor c) (f (reads_first u v)) (g (reads_second u v))
-local_of q And c i a b x y u v f g = ap₂ (operate q And c) (f (reads_first u v)) (g (reads_second u v))
-local_of q Neg c i a b x y u v f g = ap (λ z. difference q 0 z) (f (reads_one u))
-local_of q Inv c zero a b x y u v f g = ap (λ z. (z + 1) % q) (f (reads_one u))
-local_of q Inv c (suc i) a b x y u v f g = f (reads_one u)
+local_of : (q : ℕ) (op : Operation) (c i a b x y u v : ℕ) → (list_any (nat_eq u) (inputs_read op (take (arity op) (u ∷ v ∷ []))) ≡ true → a ≡ x) → (list_any (nat_eq v) (inputs_read op (take (arity op) (u ∷ v ∷ []))) ≡ true → b ≡ y) → local q op c i a b ≡ local q op c i x y
+local_of q Add c i a b x y u v f g = ap₂ (operate q Add c) (f (is_first u v)) (g (is_second u v))
+local_of q Sub c i a b x y u v f g = ap₂ (operate q Sub c) (f (is_first u v)) (g (is_second u v))
+local_of q Mul c i a b x y u v f g = ap₂ (operate q Mul c) (f (is_first u v)) (g (is_second u v))
+local_of q Xor c i a b x y u v f g = ap₂ (operate q Xor c) (f (is_first u v)) (g (is_second u v))
+local_of q And c i a b x y u v f g = ap₂ (operate q And c) (f (is_first u v)) (g (is_second u v))
+local_of q Neg c i a b x y u v f g = ap (λ z. difference q 0 z) (f (is_one u u refl))
+local_of q Inv c zero a b x y u v f g = ap (λ z. (z + 1) % q) (f (is_one u u refl))
+local_of q Inv c (suc i) a b x y u v f g = f (is_one u u refl)
 local_of q Eq c zero a b x y u v f g = refl
 local_of q Eq c (suc i) a b x y u v f g = refl
-local_of q Eqw c i a b x y u v f g = f (reads_one u)
+local_of q Eqw c i a b x y u v f g = f (is_one u u refl)
 
 local_same : (q : ℕ) (g : Gate) (i a b x y : ℕ) → (list_any (nat_eq g.first) (read_by g) ≡ true → a ≡ x) → (list_any (nat_eq g.second) (read_by g) ≡ true → b ≡ y) → local q g.operation g.constant i a b ≡ local q g.operation g.constant i x y
 local_same q g i a b x y f h = local_of q g.operation g.constant i a b x y g.first g.second f h
 
-product_of : (op : Operation) (u v : ℕ) → is_product op ≡ true → (list_any (nat_eq u) (reads op (take (arity op) (u ∷ v ∷ []))) ≡ true) × (list_any (nat_eq v) (reads op (take (arity op) (u ∷ v ∷ []))) ≡ true)
-product_of Mul u v h = (reads_first u v, reads_second u v)
-product_of And u v h = (reads_first u v, reads_second u v)
+product_of : (op : Operation) (u v : ℕ) → is_product op ≡ true → (list_any (nat_eq u) (inputs_read op (take (arity op) (u ∷ v ∷ []))) ≡ true) × (list_any (nat_eq v) (inputs_read op (take (arity op) (u ∷ v ∷ []))) ≡ true)
+product_of Mul u v h = (is_first u v, is_second u v)
+product_of And u v h = (is_first u v, is_second u v)
 product_of Add u v h = absurd (both_ways false refl h)
 product_of Sub u v h = absurd (both_ways false refl h)
 product_of Neg u v h = absurd (both_ways false refl h)
@@ -133,36 +123,36 @@ module _ (plan : Plan) (sound : IsSound plan) (s p : ℕ) (ls : s < length plan.
     sooner v i r = (r.0, (let l = r.1 in omega arith), r.2)
 
     -- what the instruction at q reads is the same in both
-    pub known : (v i : ℕ) → i < m → Reads plan p s (at es q) v i → τ.rows (row_of v) i ≡ σ.rows v i
+    pub known : (v i : ℕ) → i < m → ReadsSummand plan p s (at es q) v i → τ.rows (row_of v) i ≡ σ.rows v i
     known v i li r = h.rows v i li (reads_are_set plan sound s p ls lp order q v i li r) (q, omega arith, r)
 
     -- where the instruction doesn't set it, it was set before
-    before : (v i : ℕ) → IsSet plan p s (suc q) v i → (Sets plan s (at es q) v i → ⊥) → IsSet plan p s q v i
+    before : (v i : ℕ) → IsSet plan p s (suc q) v i → (SetsSummand plan s (at es q) v i → ⊥) → IsSet plan p s q v i
     before v i was none = elim (cases_eq was.0 q) [
-      | inl e ↦ absurd (none (subst (λ z. Sets plan s (at es z) v i) e was.2))
+      | inl e ↦ absurd (none (subst (λ z. SetsSummand plan s (at es z) v i) e was.2))
       | inr ne ↦ (was.0, (let l = was.1 in omega arith), was.2)
     ]
 
     -- an instruction that sets nothing leaves all
-    stays : ((v i : ℕ) → Sets plan s (at es q) v i → ⊥) → (v i : ℕ) → i < m → IsSet plan p s (suc q) v i → IsToRead plan p s (suc q) v i → τ.rows (row_of v) i ≡ σ.rows v i
+    stays : ((v i : ℕ) → SetsSummand plan s (at es q) v i → ⊥) → (v i : ℕ) → i < m → IsSet plan p s (suc q) v i → IsToRead plan p s (suc q) v i → τ.rows (row_of v) i ≡ σ.rows v i
     stays none v i li was later = h.rows v i li (before v i was (none v i)) (sooner v i later)
 
     -- an instruction that sets wire u leaves the others
-    others : (u j : ℕ) (f g : ℕ → ℕ) → Sets plan s (at es q) u j → (v i : ℕ) → v ≢ u → i < m → IsSet plan p s (suc q) v i → IsToRead plan p s (suc q) v i → set_at τ.rows (row_of u) f (row_of v) i ≡ set_at σ.rows u g v i
+    others : (u j : ℕ) (f g : ℕ → ℕ) → SetsSummand plan s (at es q) u j → (v i : ℕ) → v ≢ u → i < m → IsSet plan p s (suc q) v i → IsToRead plan p s (suc q) v i → set_at τ.rows (row_of u) f (row_of v) i ≡ set_at σ.rows u g v i
     others u j f g now v i ne li was later =
         let old = before v i was (λ z. ne (one_wire plan sound s p ls lp q v u i j z now)) in
         let apart : row_of v ≢ row_of u = own_row plan sound s p ls lp order list table q v u i j now old later ne in
         ap (λ z. z i) (set_there τ.rows (row_of u) (row_of v) f apart) ∙ h.rows v i li old (sooner v i later) ∙ sym (ap (λ z. z i) (set_there σ.rows u v g ne))
 
     -- an instruction that sets all summands of wire u
-    writes : (u : ℕ) (f g : ℕ → ℕ) → ((i : ℕ) → Sets plan s (at es q) u i) → ((i : ℕ) → i < m → IsToRead plan p s (suc q) u i → f i ≡ g i) → (v i : ℕ) → i < m → IsSet plan p s (suc q) v i → IsToRead plan p s (suc q) v i → set_at τ.rows (row_of u) f (row_of v) i ≡ set_at σ.rows u g v i
+    writes : (u : ℕ) (f g : ℕ → ℕ) → ((i : ℕ) → SetsSummand plan s (at es q) u i) → ((i : ℕ) → i < m → IsToRead plan p s (suc q) u i → f i ≡ g i) → (v i : ℕ) → i < m → IsSet plan p s (suc q) v i → IsToRead plan p s (suc q) v i → set_at τ.rows (row_of u) f (row_of v) i ≡ set_at σ.rows u g v i
     writes u f g now same v i li was later = elim (cases_eq v u) [
       | inl e ↦ ap (λ z. z i) (set_here τ.rows (row_of u) (row_of v) f (ap row_of e)) ∙ same i li (subst (λ z. IsToRead plan p s (suc q) z i) e later) ∙ sym (ap (λ z. z i) (set_here σ.rows u v g e))
       | inr ne ↦ others u i f g (now i) v i ne li was later
     ]
 
     -- an instruction that sets summand j of wire u
-    puts : (u j w : ℕ) → Sets plan s (at es q) u j → ((i : ℕ) → Sets plan s (at es q) u i → i ≡ j) → (v i : ℕ) → i < m → IsSet plan p s (suc q) v i → IsToRead plan p s (suc q) v i
+    puts : (u j w : ℕ) → SetsSummand plan s (at es q) u j → ((i : ℕ) → SetsSummand plan s (at es q) u i → i ≡ j) → (v i : ℕ) → i < m → IsSet plan p s (suc q) v i → IsToRead plan p s (suc q) v i
         → set_at τ.rows (row_of u) (set_at (τ.rows (row_of u)) j w) (row_of v) i ≡ set_at σ.rows u (set_at (σ.rows u) j w) v i
     puts u j w now alone v i li was later = elim (cases_eq v u) [
       | inl e ↦ ap (λ z. z i) (set_here τ.rows (row_of u) (row_of v) (set_at (τ.rows (row_of u)) j w) (ap row_of e)) ∙ elim (cases_eq i j) [
@@ -187,21 +177,21 @@ module _ (plan : Plan) (sound : IsSound plan) (s p : ℕ) (ls : s < length plan.
     module _ (words : ℕ → ℕ) (input w : ℕ) (got : ℕ → ℕ) where
       deals_same : (k d : ℕ) (z : Slot) → at es q ≡ Deal k d → slot plan s k ≡ z → SameRead (suc q) (dealt_in plan words input (slot_on_rows row_of z) τ) (dealt_in plan words input z σ)
       deals_same k d (Input u) is e = record {
-        rows = writes u (dealt (scheme plan) input words) (dealt (scheme plan) input words) (λ i. subst (λ z. Sets plan s z u i) (sym is) e) (λ i li later. refl);
+        rows = writes u (dealt (scheme plan) input words) (dealt (scheme plan) input words) (λ i. subst (λ z. SetsSummand plan s z u i) (sym is) e) (λ i li later. refl);
         own = h.own;
         sums = h.sums;
         deals = ap (λ z. z + 1) h.deals;
         outputs = h.outputs;
       }
       deals_same k d (At_gate t) is e = record {
-        rows = stays (λ v i z. let both : At_gate t ≡ Input v = sym e ∙ subst (λ y. Sets plan s y v i) is z in cc);
+        rows = stays (λ v i z. let both : At_gate t ≡ Input v = sym e ∙ subst (λ y. SetsSummand plan s y v i) is z in cc);
         own = h.own;
         sums = λ i li. ap (λ z. dealt (scheme plan) z words i) h.own;
         deals = ap (λ z. z + 1) h.deals;
         outputs = h.outputs;
       }
       deals_same k d (Output o) is e = record {
-        rows = stays (λ v i z. let both : Output o ≡ Input v = sym e ∙ subst (λ y. Sets plan s y v i) is z in cc);
+        rows = stays (λ v i z. let both : Output o ≡ Input v = sym e ∙ subst (λ y. SetsSummand plan s y v i) is z in cc);
         own = h.own;
         sums = h.sums;
         deals = h.deals;
@@ -210,21 +200,21 @@ module _ (plan : Plan) (sound : IsSound plan) (s p : ℕ) (ls : s < length plan.
 
       takes_same : (n j : ℕ) (z : Slot) → at es q ≡ Take n j → slot_of plan s n ≡ z → SameRead (suc q) (took_in (2 ^ plan.bits) (slot_on_rows row_of z) j w τ) (took_in (2 ^ plan.bits) z j w σ)
       takes_same n j (Input u) is e = record {
-        rows = puts u j w (subst (λ y. Sets plan s y u j) (sym is) (e, refl)) (λ i z. (subst (λ y. Sets plan s y u i) is z).1);
+        rows = puts u j w (subst (λ y. SetsSummand plan s y u j) (sym is) (e, refl)) (λ i z. (subst (λ y. SetsSummand plan s y u i) is z).1);
         own = h.own;
         sums = h.sums;
         deals = h.deals;
         outputs = h.outputs;
       }
       takes_same n j (At_gate t) is e = record {
-        rows = stays (λ v i z. let both : At_gate t ≡ Input v = sym e ∙ (subst (λ y. Sets plan s y v i) is z).0 in cc);
+        rows = stays (λ v i z. let both : At_gate t ≡ Input v = sym e ∙ (subst (λ y. SetsSummand plan s y v i) is z).0 in cc);
         own = h.own;
         sums = sums_put j w;
         deals = h.deals;
         outputs = h.outputs;
       }
       takes_same n j (Output o) is e = record {
-        rows = stays (λ v i z. let both : Output o ≡ Input v = sym e ∙ (subst (λ y. Sets plan s y v i) is z).0 in cc);
+        rows = stays (λ v i z. let both : Output o ≡ Input v = sym e ∙ (subst (λ y. SetsSummand plan s y v i) is z).0 in cc);
         own = h.own;
         sums = sums_put j w;
         deals = h.deals;
@@ -236,10 +226,10 @@ module _ (plan : Plan) (sound : IsSound plan) (s p : ℕ) (ls : s < length plan.
       linear_same k (Output o) is e gate' = absurd gate'
       linear_same k (At_gate t) is e gate' =
           let g : Gate = gate_at plan s k in
-          let now : (i : ℕ) → Sets plan s (at es q) g.output i = λ i. subst (λ y. Sets plan s y g.output i) (sym is) refl in
+          let now : (i : ℕ) → SetsSummand plan s (at es q) g.output i = λ i. subst (λ y. SetsSummand plan s y g.output i) (sym is) refl in
           let here : slot plan s (named plan (at es q)) ≡ At_gate t = ap (λ y. slot plan s (named plan y)) is ∙ e in
           let held : (i : ℕ) → IsToRead plan p s (suc q) g.output i → holds plan p i ≡ true = λ i later. read_is_held plan sound s p ls lp order q t g.output i here (sets_at plan sound s p ls lp q g.output i (now i)).1 later in
-          let reads_at : (v i : ℕ) → list_any (nat_eq v) (read_by g) ≡ true → holds plan p i ≡ true → Reads plan p s (at es q) v i = λ v i a b. subst (λ y. Reads plan p s y v i) (sym is) (a, b) in
+          let reads_at : (v i : ℕ) → list_any (nat_eq v) (read_by g) ≡ true → holds plan p i ≡ true → ReadsSummand plan p s (at es q) v i = λ v i a b. subst (λ y. ReadsSummand plan p s y v i) (sym is) (a, b) in
           record {
             rows = writes g.output _ _ now (λ i li later.
                 local_same (2 ^ plan.bits) g i (τ.rows (row_of g.first) i) (τ.rows (row_of g.second) i) (σ.rows g.first i) (σ.rows g.second i)
@@ -253,7 +243,7 @@ module _ (plan : Plan) (sound : IsSound plan) (s p : ℕ) (ls : s < length plan.
       sum_same : (k : ℕ) → at es q ≡ Sum k → SameRead (suc q) (after_on_rows row_of plan p s words input w (Sum k) τ) (after plan p s words input got (Sum k) σ)
       sum_same k is =
           let g : Gate = gate_at plan s k in record {
-            rows = writes g.output τ.sums σ.sums (λ i. subst (λ y. Sets plan s y g.output i) (sym is) refl) (λ i li later. h.sums i li);
+            rows = writes g.output τ.sums σ.sums (λ i. subst (λ y. SetsSummand plan s y g.output i) (sym is) refl) (λ i li later. h.sums i li);
             own = h.own;
             sums = λ i li. refl;
             deals = h.deals;
@@ -266,9 +256,9 @@ module _ (plan : Plan) (sound : IsSound plan) (s p : ℕ) (ls : s < length plan.
           let at' = own_at plan sound s p ls lp q k is in
           let product : is_product g.operation ≡ true = ap (λ z. is_product (gate_in_slot x z).operation) at'.1 ∙ at'.2 in
           let both = product_reads g product in
-          let reads_at : (v i : ℕ) → list_any (nat_eq v) (read_by g) ≡ true → holds plan p i ≡ true → Reads plan p s (at es q) v i = λ v i a b. subst (λ y. Reads plan p s y v i) (sym is) (a, b) in
+          let reads_at : (v i : ℕ) → list_any (nat_eq v) (read_by g) ≡ true → holds plan p i ≡ true → ReadsSummand plan p s (at es q) v i = λ v i a b. subst (λ y. ReadsSummand plan p s y v i) (sym is) (a, b) in
           record {
-            rows = stays (λ v i z. subst (λ y. Sets plan s y v i) is z);
+            rows = stays (λ v i z. subst (λ y. SetsSummand plan s y v i) is z);
             own = own_of_held (scheme plan) (scheme_is plan is_plan) p (τ.rows (row_of g.first)) (τ.rows (row_of g.second)) (σ.rows g.first) (σ.rows g.second)
                 (λ i li has. known g.first i li (reads_at g.first i both.0 has)) (λ i li has. known g.second i li (reads_at g.second i both.1 has));
             sums = h.sums;
@@ -280,9 +270,9 @@ module _ (plan : Plan) (sound : IsSound plan) (s p : ℕ) (ls : s < length plan.
       deliver_same k is =
           let o : ℕ = output_in_slot (slot plan s k) in
           let v : ℕ = output_wire x o in
-          let opened_same : opened plan p (τ.rows (row_of v)) τ.sums ≡ opened plan p (σ.rows v) σ.sums = opened_of_held plan p _ _ _ _ (λ i li has. known v i li (subst (λ y. Reads plan p s y v i) (sym is) (refl, has))) h.sums in
+          let opened_same : opened plan p (τ.rows (row_of v)) τ.sums ≡ opened plan p (σ.rows v) σ.sums = opened_of_held plan p _ _ _ _ (λ i li has. known v i li (subst (λ y. ReadsSummand plan p s y v i) (sym is) (refl, has))) h.sums in
           record {
-            rows = stays (λ v i z. subst (λ y. Sets plan s y v i) is z);
+            rows = stays (λ v i z. subst (λ y. SetsSummand plan s y v i) is z);
             own = h.own;
             sums = λ i li. refl;
             deals = h.deals;
@@ -294,13 +284,13 @@ module _ (plan : Plan) (sound : IsSound plan) (s p : ℕ) (ls : s < length plan.
 
       after_same : (e : Instruction) → at es q ≡ e → IsWordOf got w e → SameRead (suc q) (after_on_rows row_of plan p s words input w e τ) (after plan p s words input got e σ)
       after_same (Deal k d) is right = deals_same k d (slot plan s k) is refl
-      after_same (Post n j) is right = record { rows = stays (λ v i z. subst (λ y. Sets plan s y v i) is z); own = h.own; sums = h.sums; deals = h.deals; outputs = h.outputs }
+      after_same (Post n j) is right = record { rows = stays (λ v i z. subst (λ y. SetsSummand plan s y v i) is z); own = h.own; sums = h.sums; deals = h.deals; outputs = h.outputs }
       after_same (Take n j) is right = subst (λ z. SameRead (suc q) (took_in (2 ^ plan.bits) (slot_on_rows row_of (slot_of plan s n)) j w τ) (took_in (2 ^ plan.bits) (slot_of plan s n) j z σ)) right (takes_same n j (slot_of plan s n) is refl)
       after_same (Linear k) is right = linear_same k (slot plan s k) is refl (proper (Linear k) is).kind
       after_same (Own k) is right = own_same k is
       after_same (Sum k) is right = sum_same k is
       after_same (Deliver k) is right = deliver_same k is
-      after_same End is right = record { rows = stays (λ v i z. subst (λ y. Sets plan s y v i) is z); own = h.own; sums = h.sums; deals = h.deals; outputs = h.outputs }
+      after_same End is right = record { rows = stays (λ v i z. subst (λ y. SetsSummand plan s y v i) is z); own = h.own; sums = h.sums; deals = h.deals; outputs = h.outputs }
 
       pub goes_on : IsWordOf got w (at es q) → SameRead (suc q) (after_on_rows row_of plan p s words input w (at es q) τ) (after plan p s words input got (at es q) σ)
       goes_on right = after_same (at es q) refl right

@@ -10,12 +10,12 @@ use Rattle.list_laws.specs.Lists.{listed}
 use Rattle.tape_words.specs.Cuts.{cut}
 use Rattle.tape_words.specs.Seeds.{seed_word}
 use Rattle.toml_fields.specs.Documents.{document_of}
-use Rattle.list_laws.specs.Checks.{first_fault, or_fault}
-use Rattle.party_file.specs.Table.{version_checks, name_checks, kind_checks, count_checks, input_checks, random_checks, seed_checks, seed_in, tape_checks, word_counts, party_checks, party_of, party_in, party_in_fields, PartyForm, numbers_in, tapes_of}
+use Rattle.list_laws.specs.Checks.{◌answers◌, first_fault, or_fault}
+use Rattle.party_file.specs.Table.{version_checks, name_checks, kind_checks, count_checks, input_checks, random_checks, seed_checks, seed_in, tape_checks, word_counts, party_checks, party_given, party_in, party_in_fields, PartyForm, numbers_in, tapes_of}
 use Rattle.party_file.specs.declared.field.Field.TheVariants as field
 use Rattle.party_file.specs.declared.fault.PartyFault.{PartyFault}
 use Rattle.party_file.specs.declared.fault.PartyFault.TheVariants.{Memory, NotToml, TapeAndSeed, Missing, CountDiffers}
-use Rattle.party_file.proofs.CheckChains.{first-front, after_passed, passed-three}
+use Rattle.list_laws.proofs.FirstFaults.{first-front, after_passed, passed-three, not_failed}
 
 pub texts_at-items : (key : List ℕ) (fields : Members) (items : List Data) → items ≡ items_at key fields → map text_of items ≡ texts_at key fields
 unfolding texts_at
@@ -23,8 +23,9 @@ texts_at-items key fields items e = ap (map text_of) e
 
 pub counted : (n : ℕ) (fields : Members) → first_fault (count_checks n fields) ≡ None → length (texts_at (codes "inputs") fields) ≡ n
 unfolding count_checks
-counted n fields e = eqb-true _ _ (not-false (length (texts_at (codes "inputs") fields) == n) (passed-three (has_field (codes "tape") fields && has_field (codes "seed") fields) (not (has_field (codes "tape") fields || has_field (codes "seed") fields))
-    (not (length (texts_at (codes "inputs") fields) == n)) TapeAndSeed (Missing field.Tape) (CountDiffers None n (length (texts_at (codes "inputs") fields))) e).2)
+counted n fields e = eqb-true _ _ (not-false (length (texts_at (codes "inputs") fields) == n) (not_failed _ (CountDiffers None n (length (texts_at (codes "inputs") fields)))
+    (passed-three ((has_field (codes "tape") fields && has_field (codes "seed") fields) answers TapeAndSeed) (not (has_field (codes "tape") fields || has_field (codes "seed") fields) answers Missing field.Tape)
+    (not (length (texts_at (codes "inputs") fields) == n) answers CountDiffers None n (length (texts_at (codes "inputs") fields))) e).2))
 
 pub counted_items : (n : ℕ) (fields : Members) (items : List Data) → items ≡ items_at (codes "inputs") fields → first_fault (count_checks n fields) ≡ None → length items ≡ n
 counted_items n fields items is e = sym (length-map items text_of) ∙ ap length (texts_at-items (codes "inputs") fields items is) ∙ counted n fields e
@@ -71,17 +72,17 @@ module _ (plan : Plan) (p : ℕ) (fields : Members) where
 
 -- the form of inputs and tapes that were read
 pub form-read : (plan : Plan) (p : ℕ) (fields : Members) (inputs tapes : List (List ℕ)) → inputs ≡ map numbers_in (texts_at (codes "inputs") fields) → tapes ≡ tapes_of plan p fields
-    → record { inputs = inputs; tapes = tapes } ≡ party_of plan p fields
-unfolding party_of
+    → record { inputs = inputs; tapes = tapes } ≡ party_given plan p fields
+unfolding party_given
 form-read plan p fields inputs tapes i t = cc
 
-pub party_in-ok : (plan : Plan) (p : ℕ) (fields : Members) (form : PartyForm) → first_fault (party_checks plan p fields) ≡ None → form ≡ party_of plan p fields → party_in_fields plan p (Some fields) ≡ Ok form
-party_in-ok plan p fields form e is = ap (λ o. or_fault o (party_of plan p fields)) e ∙ ap Ok (sym is)
+pub party_in-ok : (plan : Plan) (p : ℕ) (fields : Members) (form : PartyForm) → first_fault (party_checks plan p fields) ≡ None → form ≡ party_given plan p fields → party_in_fields plan p (Some fields) ≡ Ok form
+party_in-ok plan p fields form e is = ap (λ o. or_fault o (party_given plan p fields)) e ∙ ap Ok (sym is)
 
 pub party_in-err : (plan : Plan) (p : ℕ) (fields : Members) (fault : PartyFault) → first_fault (party_checks plan p fields) ≡ Some fault → party_in_fields plan p (Some fields) ≡ Err fault
-party_in-err plan p fields fault e = ap (λ o. or_fault o (party_of plan p fields)) e
+party_in-err plan p fields fault e = ap (λ o. or_fault o (party_given plan p fields)) e
 
-pub file-ok : (plan : Plan) (p : ℕ) (bytes : List ℕ) (fields : Members) (form : PartyForm) → document_of bytes ≡ Some fields → first_fault (party_checks plan p fields) ≡ None → form ≡ party_of plan p fields
+pub file-ok : (plan : Plan) (p : ℕ) (bytes : List ℕ) (fields : Members) (form : PartyForm) → document_of bytes ≡ Some fields → first_fault (party_checks plan p fields) ≡ None → form ≡ party_given plan p fields
     → party_in plan p bytes ≡ Ok form
 unfolding party_in
 file-ok plan p bytes fields form d e is = ap (party_in_fields plan p) d ∙ party_in-ok plan p fields form e is

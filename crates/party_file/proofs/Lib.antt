@@ -1,5 +1,4 @@
 pub mod SessionInputs
 pub mod FaultRows
-pub mod CheckChains
 pub mod PlanFit
 pub mod WordChecks

@@ -18,10 +18,10 @@ use Rattle.job_plan.specs.Plans.{Plan, session, words, gives}
 use Rattle.job_session.specs.Counts.{owned}
 use Rattle.job_plan.proofs.TallyLaws.{total_count}
 use Rattle.list_laws.specs.Checks.{◌answers◌, first_fault}
-use Rattle.party_file.specs.Table.{version_checks, name_checks, kind_checks, count_checks, session_checks, input_checks, random_checks, tape_checks, seed_checks, seed_in, party_checks, party_of, PartyForm, numbers_in, tapes_of, first_outside, out_of_ring, bad_words, word_counts}
+use Rattle.party_file.specs.Table.{version_checks, name_checks, kind_checks, count_checks, session_checks, input_checks, random_checks, tape_checks, seed_checks, seed_in, party_checks, party_given, PartyForm, numbers_in, tapes_of, first_outside, out_of_ring, bad_words, word_counts}
 use Rattle.party_file.specs.declared.fault.PartyFault.TheVariants.{CountDiffers, TapeShort}
 use Rattle.party_file.specs.Forms.{FitsPlan}
-use Rattle.party_file.proofs.CheckChains.{passed-front, passed-back, passed-checks, joined-passed, not_failed}
+use Rattle.list_laws.proofs.FirstFaults.{passed-front, passed-back, passed-three, joined-passed, not_failed}
 use Rattle.party_file.proofs.FaultRows.{counted}
 use Rattle.party_file.proofs.SessionInputs.{checks_of}
 
@@ -53,7 +53,7 @@ session_sound : (bits wanted s : ℕ) (text : List ℕ) → first_fault (session
 unfolding session_checks
 session_sound bits wanted s text e =
     let found = numbers_in text in
-    let passed = passed-checks (bad_words (Some s) text) (out_of_ring bits (Some s) found) (not (length found == wanted) answers CountDiffers (Some s) wanted (length found)) e in
+    let passed = passed-three (bad_words (Some s) text) (out_of_ring bits (Some s) found) (not (length found == wanted) answers CountDiffers (Some s) wanted (length found)) e in
     (eqb-true _ _ (not-false (length found == wanted) (not_failed _ _ passed.2)), all_inside bits (Some s) found passed.1)
 
 module _ (plan : Plan) (p : ℕ) (texts : List (List ℕ)) (counted : length texts ≡ length plan.sessions) (passed : first_fault (input_checks plan p texts) ≡ None) where
@@ -93,7 +93,7 @@ tape_sound : (bits wanted : ℕ) (text : List ℕ) → first_fault (tape_checks 
 unfolding tape_checks
 tape_sound bits wanted text e =
     let found = numbers_in text in
-    let passed = passed-checks (bad_words None text) (out_of_ring bits None found) (nat_lt (length found) wanted answers TapeShort wanted (length found)) e in
+    let passed = passed-three (bad_words None text) (out_of_ring bits None found) (nat_lt (length found) wanted answers TapeShort wanted (length found)) e in
     (ltb-false _ _ (not_failed _ _ passed.2), all_inside bits None found passed.1)
 
 -- as many pieces as sessions, each of as many words of the ring as are drawn
@@ -144,8 +144,8 @@ tapes_fit plan p fields e = go (has_field (codes "seed") fields) e
 
 -- ---- the file
 
-pub party-fits : (plan : Plan) (p : ℕ) (fields : Members) (form : PartyForm) → first_fault (party_checks plan p fields) ≡ None → form ≡ party_of plan p fields → FitsPlan plan p form
-unfolding party_checks party_of
+pub party-fits : (plan : Plan) (p : ℕ) (fields : Members) (form : PartyForm) → first_fault (party_checks plan p fields) ≡ None → form ≡ party_given plan p fields → FitsPlan plan p form
+unfolding party_checks party_given
 party-fits plan p fields form e is =
     let texts = texts_at (codes "inputs") fields in
     let after_version = passed-back (version_checks fields) _ e in

@@ -16,7 +16,7 @@ use Rattle.list_laws.proofs.JoinedLists.{length-listed}
 use Rattle.list_laws.specs.Checks.{first_fault}
 use Rattle.party_file.specs.Table.{session_checks, input_checks, numbers_in, word_counts}
 use Rattle.party_file.specs.declared.fault.PartyFault.{PartyFault}
-use Rattle.party_file.proofs.CheckChains.{joined-stops}
+use Rattle.list_laws.proofs.FirstFaults.{joined-stops}
 
 abbrev pub checks_of : Plan → ℕ → List (List ℕ) → ℕ → List (Option PartyFault)
 checks_of plan p texts s = session_checks plan.bits (owned (session plan s) p) s (slice_index_or texts s [])

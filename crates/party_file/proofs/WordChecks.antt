@@ -6,7 +6,7 @@ use Rattle.std.proofs.lemmas.Bool.{lt-ltb, le-ltb}
 use Rattle.std.proofs.lemmas.List.Sums.{position_or_len_is}
 use Rattle.hex.specs.Hex.{decode_sized}
 use Rattle.hex.specs.declared.error.FromHexError.{FromHexError}
-use Rattle.plain_text.specs.Words.{words_in}
+use Rattle.plain_text.specs.Words.{numbers_or_fault}
 use Rattle.plain_text.specs.declared.fault.WordsFault.{WordsFault}
 use Rattle.plain_text.specs.declared.fault.WordsFault.TheVariants.{NotNumber, TooLarge, Memory}
 use Rattle.list_laws.specs.Checks.{◌answers◌, first_fault}
@@ -18,17 +18,17 @@ use Rattle.party_file.specs.declared.fault.PartyFault.{PartyFault}
 abbrev row : Option ℕ → Result (List ℕ) WordsFault → Option PartyFault
 row session r = is_err r answers BadWords session (bad_place r) (bad_cause r)
 
-pub bad_words-ok : (session : Option ℕ) (text words : List ℕ) → words_in text ≡ Ok words → (first_fault (bad_words session text ∷ []) ≡ None) × (words ≡ numbers_in text)
+pub bad_words-ok : (session : Option ℕ) (text words : List ℕ) → numbers_or_fault text ≡ Ok words → (first_fault (bad_words session text ∷ []) ≡ None) × (words ≡ numbers_in text)
 unfolding bad_words numbers_in
 bad_words-ok session text words e = (ap (λ r. first_fault (row session r ∷ [])) e, sym (ap (λ r. result_unwrap_or r []) e))
 
-pub bad_words-no_number : (session : Option ℕ) (text : List ℕ) (at : ℕ) (fault : WordsFault) → fault ≡ NotNumber at → (fault ≡ Memory) ⊎ (words_in text ≡ Err fault)
+pub bad_words-no_number : (session : Option ℕ) (text : List ℕ) (at : ℕ) (fault : WordsFault) → fault ≡ NotNumber at → (fault ≡ Memory) ⊎ (numbers_or_fault text ≡ Err fault)
     → first_fault (bad_words session text ∷ []) ≡ Some (BadWords session at cause.NotNumber)
 unfolding bad_words
 bad_words-no_number session text at fault is (inl e) = cc
 bad_words-no_number session text at fault is (inr e) = ap (λ r. first_fault (row session r ∷ [])) (e ∙ ap Err is)
 
-pub bad_words-too_large : (session : Option ℕ) (text : List ℕ) (at : ℕ) (fault : WordsFault) → fault ≡ TooLarge at → (fault ≡ Memory) ⊎ (words_in text ≡ Err fault)
+pub bad_words-too_large : (session : Option ℕ) (text : List ℕ) (at : ℕ) (fault : WordsFault) → fault ≡ TooLarge at → (fault ≡ Memory) ⊎ (numbers_or_fault text ≡ Err fault)
     → first_fault (bad_words session text ∷ []) ≡ Some (BadWords session at cause.TooLarge)
 unfolding bad_words
 bad_words-too_large session text at fault is (inl e) = cc

@@ -7,7 +7,7 @@ use Rattle.std.specs.Result.{is_err, result_unwrap_or}
 use Rattle.hex.specs.Hex.{decode_sized}
 use Rattle.toml.specs.Data.{Members}
 use Rattle.list_laws.specs.Lists.{joined, listed}
-use Rattle.plain_text.specs.Words.{words_in}
+use Rattle.plain_text.specs.Words.{numbers_or_fault}
 use Rattle.plain_text.specs.declared.fault.WordsFault.{WordsFault}
 use Rattle.plain_text.specs.declared.fault.WordsFault.TheVariants.{NotNumber, TooLarge}
 use Rattle.tape_words.specs.Cuts.{cut}
@@ -66,7 +66,7 @@ count_checks sessions fields =
 
 -- the numbers of a text; none, where a word is bad
 unfoldable pub numbers_in : List ℕ → List ℕ
-numbers_in text = result_unwrap_or (words_in text) []
+numbers_in text = result_unwrap_or (numbers_or_fault text) []
 
 -- where the bad word stands
 abbrev pub bad_place : Result (List ℕ) WordsFault → ℕ
@@ -82,7 +82,8 @@ bad_cause _ = cause.NotNumber
 -- some word of the text is bad
 unfoldable pub bad_words : Option ℕ → List ℕ → Option PartyFault
 bad_words session text =
-    is_err (words_in text) answers BadWords session (bad_place (words_in text)) (bad_cause (words_in text))
+    is_err (numbers_or_fault text)
+    answers BadWords session (bad_place (numbers_or_fault text)) (bad_cause (numbers_or_fault text))
 
 -- the place of the first word that isn't below q
 unfoldable pub first_outside : ℕ → List ℕ → ℕ
@@ -153,8 +154,8 @@ pub record PartyForm : Type 0 where
   pub inputs : List (List ℕ)
   pub tapes : List (List ℕ)
 
-unfoldable pub party_of : Plan → ℕ → Members → PartyForm
-party_of plan p fields =
+unfoldable pub party_given : Plan → ℕ → Members → PartyForm
+party_given plan p fields =
     record { inputs = map numbers_in (texts_at (codes "inputs") fields); tapes = tapes_of plan p fields }
 
 -- all checks, in order
@@ -166,7 +167,7 @@ party_checks plan p fields =
 -- what the fields stand for, or their first fault
 abbrev pub party_in_fields : Plan → ℕ → Option Members → Result PartyForm PartyFault
 party_in_fields plan p None = Err NotToml
-party_in_fields plan p (Some fields) = or_fault (first_fault (party_checks plan p fields)) (party_of plan p fields)
+party_in_fields plan p (Some fields) = or_fault (first_fault (party_checks plan p fields)) (party_given plan p fields)
 
 -- what the bytes of the file of party p stand for, or their first fault
 unfoldable pub party_in : Plan → ℕ → List ℕ → Result PartyForm PartyFault

@@ -2,7 +2,7 @@
 ghost use Rattle.std.specs.Prelude.{◌≡◌, ◌⊎◌, ◌<◌, Some, None, Ok, Err, IfOk, IfErr};
 ghost use Rattle.toml.specs.View.{table_view};
 ghost use Rattle.list_laws.specs.Checks.{first_fault};
-ghost use Rattle.party_file.specs.Table.{party_checks, party_of, party_in};
+ghost use Rattle.party_file.specs.Table.{party_checks, party_given, party_in};
 ghost use Rattle.party_file.specs.Forms.{form_of, FitsPlan};
 ghost use Rattle.party_file.specs.declared.fault.PartyFault.TheVariants.{Memory};
 
@@ -25,7 +25,7 @@ fn read_fields(
 ) -> Result<PartyData, PartyFault>
     requires { party < plan.now.parties }
     ensures passed { IfOk result (λ found. (first_fault (party_checks plan.now party (table_view table.now)) ≡ None)
-        × (form_of found ≡ party_of plan.now party (table_view table.now))) }
+        × (form_of found ≡ party_given plan.now party (table_view table.now))) }
     ensures fault { IfErr result (λ fault. (fault ≡ Memory)
         ⊎ (first_fault (party_checks plan.now party (table_view table.now)) ≡ Some fault)) }
 {

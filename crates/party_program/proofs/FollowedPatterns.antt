@@ -19,21 +19,17 @@ use Rattle.job_plan.specs.Numbers.{message, no_key, deals_before}
 use Rattle.job_plan.specs.Firsts.{count, first, numbers}
 use Rattle.job_plan.specs.Patterns.{named, lines, pattern, pattern_at}
 use Rattle.job_plan.proofs.SlotMessages.{message_at}
-use Rattle.job_plan.proofs.SlotPatterns.{slots_follow_patterns}
+use Rattle.job_plan.proofs.SlotPatterns.{map_only_if, slots_follow_patterns}
 use Rattle.party_program.specs.declared.program.Instruction.{Instruction}
 use Rattle.party_program.specs.declared.program.Instruction.TheVariants as instruction
 use Rattle.party_program.specs.declared.step.Step.{Step}
 use Rattle.party_program.specs.declared.step.Step.TheVariants.{Deal, Own, Deliver}
 use Rattle.party_program.specs.Programs as programs
-use Rattle.party_program.specs.PartySteps.{before, after, posts, takes, post_of, take_of, is_from, is_to, steps, placed}
+use Rattle.party_program.specs.PartySteps.{steps_before, steps_after, post_steps, take_steps, post_step, take_step, is_from, is_to, steps, placed}
 
 map_map : {A B C : Type 0} (f : B → C) (g : A → B) (xs : List A) → map f (map g xs) ≡ map (λ x. f (g x)) xs
 map_map f g [] = refl
 map_map f g (x ∷ xs) = ap (λ ys. f (g x) ∷ ys) (map_map f g xs)
-
-map_only_if : {A B : Type 0} (f : A → B) (b : Bool) (xs : List A) → map f (only_if b xs) ≡ only_if b (map f xs)
-map_only_if f true xs = refl
-map_only_if f false xs = refl
 
 -- what passes of a range of numbers is what passes of the lines that stand at them
 passing : (f : ℕ → Instruction) (test : ℕ → Bool) (g : ℕ × Line → Instruction) (check : ℕ × Line → Bool) (a j : ℕ) (ls : List Line)
@@ -61,20 +57,20 @@ module _ (plan : Plan) (p s k : ℕ) where
   abbrev place : Step → Instruction
   place = placed k (first plan s k) (deals_before plan p s k)
 
-  before_product : (b : Bool) → only_if (b && has_pair (scheme plan) p) (instruction.Own k ∷ instruction.Deal k (deals_before plan p s k) ∷ []) ≡ map place (before plan p (if b then Multiplied else Silent))
+  before_product : (b : Bool) → only_if (b && has_pair (scheme plan) p) (instruction.Own k ∷ instruction.Deal k (deals_before plan p s k) ∷ []) ≡ map place (steps_before plan p (if b then Multiplied else Silent))
   before_product true = sym (map_only_if place (has_pair (scheme plan) p) (Own ∷ Deal ∷ []))
   before_product false = refl
 
-  opening_is : (z : Slot) → programs.opening plan p s k z ≡ map place (before plan p (pattern plan s z))
+  opening_is : (z : Slot) → programs.opening plan p s k z ≡ map place (steps_before plan p (pattern plan s z))
   opening_is (Input v) = sym (map_only_if place (gives plan s p v) (Deal ∷ []))
   opening_is (At_gate t) = before_product (is_product (gate (session plan s) t).operation)
   opening_is (Output o) = refl
 
-  after_gate : (b : Bool) → only_if b (instruction.Sum k ∷ []) ++ only_if (not b) (instruction.Linear k ∷ []) ≡ map place (after p (if b then Multiplied else Silent))
+  after_gate : (b : Bool) → only_if b (instruction.Sum k ∷ []) ++ only_if (not b) (instruction.Linear k ∷ []) ≡ map place (steps_after p (if b then Multiplied else Silent))
   after_gate true = refl
   after_gate false = refl
 
-  closing_is : (z : Slot) → programs.closing plan p s k z ≡ map place (after p (pattern plan s z))
+  closing_is : (z : Slot) → programs.closing plan p s k z ≡ map place (steps_after p (pattern plan s z))
   closing_is (Input v) = refl
   closing_is (At_gate t) = after_gate (is_product (gate (session plan s) t).operation)
   closing_is (Output o) = sym (map_only_if place (opens_to plan s p (Output o)) (Deliver ∷ []))
@@ -104,15 +100,15 @@ module _ (plan : Plan) (p s k : ℕ) where
         ∙ passing f test (λ e. place (g e)) check (first plan s k) 0 (lines plan its) (λ i n m d l e o. h n m (slice_index_or (lines plan its) i d) (omega arith) (line_is i n d l (omega arith)))
         ∙ sym (map_map place g (filter check (enumerate_from 0 (lines plan its))))
 
-    posts_are : programs.posts plan p s k ≡ map place (posts plan p its)
-    posts_are = numbers_are (programs.post plan) (programs.from plan p) post_of (is_from p) (λ n m x e is. (ap (λ (key : Key). nat_eq key.sender p) is, ap₂ instruction.Post e (ap (λ (key : Key). key.share) is)))
+    posts_are : programs.posts plan p s k ≡ map place (post_steps plan p its)
+    posts_are = numbers_are (programs.post plan) (programs.from plan p) post_step (is_from p) (λ n m x e is. (ap (λ (key : Key). nat_eq key.sender p) is, ap₂ instruction.Post e (ap (λ (key : Key). key.share) is)))
 
-    takes_are : programs.takes plan p s k ≡ map place (takes plan p its)
-    takes_are = numbers_are (programs.take_of plan) (programs.to plan p) take_of (is_to p) (λ n m x e is. (ap (λ (key : Key). nat_eq key.receiver p) is, ap₂ instruction.Take e (ap (λ (key : Key). key.share) is)))
+    takes_are : programs.takes plan p s k ≡ map place (take_steps plan p its)
+    takes_are = numbers_are (programs.take_of plan) (programs.to plan p) take_step (is_to p) (λ n m x e is. (ap (λ (key : Key). nat_eq key.receiver p) is, ap₂ instruction.Take e (ap (λ (key : Key). key.share) is)))
 
     pub slot_program_follows : programs.slot_program plan p s k ≡ map place (steps plan p its)
     slot_program_follows =
         ap₂ (λ x y. x ++ y) (ap₂ (λ x y. x ++ y) (ap₂ (λ x y. x ++ y) (opening_is (slot plan s k)) posts_are) takes_are) (closing_is (slot plan s k))
-        ∙ sym (map-append place (before plan p its ++ posts plan p its ++ takes plan p its) (after p its)
-        ∙ ap (λ x. x ++ map place (after p its)) (map-append place (before plan p its ++ posts plan p its) (takes plan p its)
-        ∙ ap (λ x. x ++ map place (takes plan p its)) (map-append place (before plan p its) (posts plan p its))))
+        ∙ sym (map-append place (steps_before plan p its ++ post_steps plan p its ++ take_steps plan p its) (steps_after p its)
+        ∙ ap (λ x. x ++ map place (steps_after p its)) (map-append place (steps_before plan p its ++ post_steps plan p its) (take_steps plan p its)
+        ∙ ap (λ x. x ++ map place (take_steps plan p its)) (map-append place (steps_before plan p its) (post_steps plan p its))))

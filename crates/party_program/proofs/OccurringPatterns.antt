@@ -12,7 +12,7 @@ use Rattle.job_plan.specs.Sound.{IsSound}
 use Rattle.job_session.proofs.SessionSlots.{slot_cases}
 use Rattle.party_program.specs.declared.step.Step.{Step}
 use Rattle.party_program.specs.declared.step_table.StepTable.{StepTable}
-use Rattle.party_program.specs.PartySteps.{deals, steps}
+use Rattle.party_program.specs.PartySteps.{deals_in_pattern, steps}
 use Rattle.party_program.specs.Standing.{AreSteps, OccursIn}
 
 module _ (plan : Plan) (s : ℕ) where
@@ -37,11 +37,11 @@ module _ (plan : Plan) (s : ℕ) where
   steps_found p k its table found are sound ls lk e of = of plan p s are (occurs_in k its sound ls lk e) ∙ ap (steps plan p) e
 
   -- whether a party deals in a slot, its pattern tells
-  pub deals_by_pattern : (p : ℕ) (z : Slot) → deals plan p (pattern plan s z) ≡ deals_in plan s p z
+  pub deals_by_pattern : (p : ℕ) (z : Slot) → deals_in_pattern plan p (pattern plan s z) ≡ deals_in plan s p z
   deals_by_pattern p (Input v) = refl
   deals_by_pattern p (At_gate t) = of_gate (is_product (gate (session plan s) t).operation)
     where
-      of_gate : (b : Bool) → deals plan p (if b then Multiplied else Silent) ≡ (b && has_pair (scheme plan) p)
+      of_gate : (b : Bool) → deals_in_pattern plan p (if b then Multiplied else Silent) ≡ (b && has_pair (scheme plan) p)
       of_gate true = refl
       of_gate false = refl
   deals_by_pattern p (Output o) = refl

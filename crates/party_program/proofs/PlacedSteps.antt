@@ -15,7 +15,7 @@ use Rattle.job_plan.specs.Patterns.{lines}
 use Rattle.job_plan.proofs.DistinctMessages.{every_place}
 use Rattle.party_program.specs.declared.step.Step.{Step}
 use Rattle.party_program.specs.declared.step.Step.TheVariants.{Deal, Own, Deliver}
-use Rattle.party_program.specs.PartySteps.{before, after, posts, takes, post_of, take_of, is_from, is_to, steps, IsPlaced}
+use Rattle.party_program.specs.PartySteps.{steps_before, steps_after, post_steps, take_steps, post_step, take_step, is_from, is_to, steps, IsPlaced}
 
 passing_placed : (f : ℕ × Line → Step) (test : ℕ × Line → Bool) (n j : ℕ) (ls : List Line) → ((e : ℕ × Line) → e.0 < n → IsPlaced n (f e)) → j + length ls ≤ n
     → AllByRecursion (IsPlaced n) (map f (filter test (enumerate_from j ls)))
@@ -28,13 +28,13 @@ passing_placed f test n j (l ∷ ls) h b =
     ]
 
 module _ (plan : Plan) (p n : ℕ) where
-  before_placed : (pattern : Pattern) → AllByRecursion (IsPlaced n) (before plan p pattern)
+  before_placed : (pattern : Pattern) → AllByRecursion (IsPlaced n) (steps_before plan p pattern)
   before_placed Silent = tt
   before_placed (Dealt q) = every_only_if (IsPlaced n) (nat_eq q p) (Deal ∷ []) (λ e. (tt, tt))
   before_placed Multiplied = every_only_if (IsPlaced n) (has_pair (scheme plan) p) (Own ∷ Deal ∷ []) (λ e. (tt, (tt, tt)))
   before_placed (Opened readers) = tt
 
-  after_placed : (pattern : Pattern) → AllByRecursion (IsPlaced n) (after p pattern)
+  after_placed : (pattern : Pattern) → AllByRecursion (IsPlaced n) (steps_after p pattern)
   after_placed Silent = (tt, tt)
   after_placed (Dealt q) = tt
   after_placed Multiplied = (tt, tt)
@@ -44,9 +44,9 @@ pub steps_placed : (plan : Plan) (p : ℕ) (pattern : Pattern) (i : ℕ) (d : St
 steps_placed plan p pattern i d l =
     let n : ℕ = length (lines plan pattern) in
     every_place (IsPlaced n) (steps plan p pattern) i d
-    (every_append (IsPlaced n) (before plan p pattern ++ posts plan p pattern ++ takes plan p pattern) (after p pattern)
-    (every_append (IsPlaced n) (before plan p pattern ++ posts plan p pattern) (takes plan p pattern)
-    (every_append (IsPlaced n) (before plan p pattern) (posts plan p pattern) (before_placed plan p n pattern) (passing_placed post_of (is_from p) n 0 (lines plan pattern) (λ e b. b) (omega arith)))
-    (passing_placed take_of (is_to p) n 0 (lines plan pattern) (λ e b. b) (omega arith)))
+    (every_append (IsPlaced n) (steps_before plan p pattern ++ post_steps plan p pattern ++ take_steps plan p pattern) (steps_after p pattern)
+    (every_append (IsPlaced n) (steps_before plan p pattern ++ post_steps plan p pattern) (take_steps plan p pattern)
+    (every_append (IsPlaced n) (steps_before plan p pattern) (post_steps plan p pattern) (before_placed plan p n pattern) (passing_placed post_step (is_from p) n 0 (lines plan pattern) (λ e b. b) (omega arith)))
+    (passing_placed take_step (is_to p) n 0 (lines plan pattern) (λ e b. b) (omega arith)))
     (after_placed plan p n pattern))
     l

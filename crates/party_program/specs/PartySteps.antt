@@ -15,26 +15,26 @@ use Rattle.party_program.specs.declared.step.Step.{Step}
 use Rattle.party_program.specs.declared.step.Step.TheVariants.{Deal, Own, Post, Take, Linear, Sum, Deliver}
 
 -- what p does before its posts
-abbrev pub before : Plan → ℕ → Pattern → List Step
-before plan p Silent = []
-before plan p (Dealt q) = only_if (nat_eq q p) (Deal ∷ [])
-before plan p Multiplied = only_if (has_pair (scheme plan) p) (Own ∷ Deal ∷ [])
-before plan p (Opened readers) = []
+abbrev pub steps_before : Plan → ℕ → Pattern → List Step
+steps_before plan p Silent = []
+steps_before plan p (Dealt q) = only_if (nat_eq q p) (Deal ∷ [])
+steps_before plan p Multiplied = only_if (has_pair (scheme plan) p) (Own ∷ Deal ∷ [])
+steps_before plan p (Opened readers) = []
 
 -- p deals in a slot of this pattern
-abbrev pub deals : Plan → ℕ → Pattern → Bool
-deals plan p Silent = false
-deals plan p (Dealt q) = nat_eq q p
-deals plan p Multiplied = has_pair (scheme plan) p
-deals plan p (Opened readers) = false
+abbrev pub deals_in_pattern : Plan → ℕ → Pattern → Bool
+deals_in_pattern plan p Silent = false
+deals_in_pattern plan p (Dealt q) = nat_eq q p
+deals_in_pattern plan p Multiplied = has_pair (scheme plan) p
+deals_in_pattern plan p (Opened readers) = false
 
 -- the post of a line with its place in the pattern, and the take
-abbrev pub post_of : ℕ × Line → Step
-post_of entry = Post entry.0 entry.1.share
+abbrev pub post_step : ℕ × Line → Step
+post_step entry = Post entry.0 entry.1.share
 
 -- the take of a line
-abbrev pub take_of : ℕ × Line → Step
-take_of entry = Take entry.0 entry.1.share
+abbrev pub take_step : ℕ × Line → Step
+take_step entry = Take entry.0 entry.1.share
 
 -- whether p is the sender of the line, or its receiver
 abbrev pub is_from : ℕ → ℕ × Line → Bool
@@ -45,23 +45,24 @@ abbrev pub is_to : ℕ → ℕ × Line → Bool
 is_to p entry = nat_eq entry.1.receiver p
 
 -- the posts of p, and its takes
-abbrev pub posts : Plan → ℕ → Pattern → List Step
-posts plan p pattern = map post_of (filter (is_from p) (enumerate_from 0 (lines plan pattern)))
+abbrev pub post_steps : Plan → ℕ → Pattern → List Step
+post_steps plan p pattern = map post_step (filter (is_from p) (enumerate_from 0 (lines plan pattern)))
 
 -- the takes of p
-abbrev pub takes : Plan → ℕ → Pattern → List Step
-takes plan p pattern = map take_of (filter (is_to p) (enumerate_from 0 (lines plan pattern)))
+abbrev pub take_steps : Plan → ℕ → Pattern → List Step
+take_steps plan p pattern = map take_step (filter (is_to p) (enumerate_from 0 (lines plan pattern)))
 
 -- what p does after its takes
-abbrev pub after : ℕ → Pattern → List Step
-after p Silent = Linear ∷ []
-after p (Dealt q) = []
-after p Multiplied = Sum ∷ []
-after p (Opened readers) = only_if (has_party readers p) (Deliver ∷ [])
+abbrev pub steps_after : ℕ → Pattern → List Step
+steps_after p Silent = Linear ∷ []
+steps_after p (Dealt q) = []
+steps_after p Multiplied = Sum ∷ []
+steps_after p (Opened readers) = only_if (has_party readers p) (Deliver ∷ [])
 
 -- what p does in a slot of this pattern
 abbrev pub steps : Plan → ℕ → Pattern → List Step
-steps plan p pattern = before plan p pattern ++ posts plan p pattern ++ takes plan p pattern ++ after p pattern
+steps plan p pattern =
+    steps_before plan p pattern ++ post_steps plan p pattern ++ take_steps plan p pattern ++ steps_after p pattern
 
 -- the instruction of a step in slot k, whose first message has this number, where p has made so many deals before
 abbrev pub placed : ℕ → ℕ → ℕ → Step → Instruction

@@ -1,7 +1,7 @@
 //! Lists what a party does in a slot of a pattern.
 ghost use Rattle.std.specs.Prelude.{◌≡◌, ◌<◌, ◌++◌, IfOk, OnOk};
 ghost use Rattle.job_plan.specs.Patterns.{Occurs};
-ghost use Rattle.party_program.specs.PartySteps.{before, posts, takes, after, steps};
+ghost use Rattle.party_program.specs.PartySteps.{steps_before, post_steps, take_steps, steps_after, steps};
 
 use crate::step::Step;
 use crate::step_list::StepList;
@@ -30,7 +30,7 @@ pub(crate) fn list_steps(
 // What p does before its posts.
 fn push_before(plan: &Plan, p: u32, pattern: Pattern, list: &mut StepList) -> Result<(), AllocError>
     requires { p < plan.now.parties }
-    ensures { OnOk result (list.new ≡ list.old ++ before plan.now p pattern) }
+    ensures { OnOk result (list.new ≡ list.old ++ steps_before plan.now p pattern) }
 {
     match pattern {
         Pattern::Silent | Pattern::Opened(_) => Ok(()),
@@ -48,7 +48,7 @@ fn push_before(plan: &Plan, p: u32, pattern: Pattern, list: &mut StepList) -> Re
 // The posts of p.
 fn push_posts(plan: &Plan, p: u32, pattern: Pattern, list: &mut StepList) -> Result<(), AllocError>
     requires { Occurs plan.now pattern }
-    ensures { OnOk result (list.new ≡ list.old ++ posts plan.now p pattern) }
+    ensures { OnOk result (list.new ≡ list.old ++ post_steps plan.now p pattern) }
 {
     let _ = plan.parties();
     let lines = plan.lines(pattern);
@@ -65,7 +65,7 @@ fn push_posts(plan: &Plan, p: u32, pattern: Pattern, list: &mut StepList) -> Res
 // The takes of p.
 fn push_takes(plan: &Plan, p: u32, pattern: Pattern, list: &mut StepList) -> Result<(), AllocError>
     requires { Occurs plan.now pattern }
-    ensures { OnOk result (list.new ≡ list.old ++ takes plan.now p pattern) }
+    ensures { OnOk result (list.new ≡ list.old ++ take_steps plan.now p pattern) }
 {
     let _ = plan.parties();
     let lines = plan.lines(pattern);
@@ -82,7 +82,7 @@ fn push_takes(plan: &Plan, p: u32, pattern: Pattern, list: &mut StepList) -> Res
 // What p does after its takes.
 fn push_after(plan: &Plan, p: u32, pattern: Pattern, list: &mut StepList) -> Result<(), AllocError>
     requires { p < plan.now.parties }
-    ensures { OnOk result (list.new ≡ list.old ++ after p pattern) }
+    ensures { OnOk result (list.new ≡ list.old ++ steps_after p pattern) }
 {
     let _ = plan.parties();
     match pattern {

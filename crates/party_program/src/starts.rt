@@ -3,7 +3,7 @@ ghost use Rattle.std.specs.Prelude.{◌≡◌, ℕ, ◌<◌, IfOk, length};
 ghost use Rattle.secret_sharing.specs.Sharing.{has_pair};
 ghost use Rattle.job_plan.specs.Plans as plans;
 ghost use Rattle.job_plan.specs.Plans.{scheme};
-ghost use Rattle.party_program.specs.PartySteps.{deals};
+ghost use Rattle.party_program.specs.PartySteps.{deals_in_pattern};
 ghost use Rattle.party_program.specs.Standing.{AreSteps, slot_starts};
 
 use crate::step_table::StepTable;
@@ -50,7 +50,7 @@ pub(crate) fn list_starts(
 
 // Whether party p deals in a slot of this pattern.
 fn deals_in(pattern: Pattern, p: u32, multiplies: bool) -> bool
-    ensures { (plan : plans.Plan) → multiplies ≡ has_pair (scheme plan) p → result ≡ deals plan p pattern }
+    ensures { (plan : plans.Plan) → multiplies ≡ has_pair (scheme plan) p → result ≡ deals_in_pattern plan p pattern }
 {
     match pattern {
         Pattern::Silent | Pattern::Opened(_) => false,

@@ -14,7 +14,7 @@ use Rattle.std.proofs.lemmas.Slice.Eq.{bytes_eq-Decides}
 use Rattle.indexmap.specs.IndexSet.{insert_key}
 use Rattle.party_set.specs.declared.names.NamesFault.{NamesFault}
 use Rattle.party_set.specs.declared.names.NamesFault.TheVariants.{BadName, TwiceNamed, PartyCount}
-use Rattle.party_set.specs.Names.{is_name, is_name_byte, name_at, name_fault, first_of, first_name_fault, names_fault, number_of, AreNames}
+use Rattle.party_set.specs.Names.{is_name, is_name_byte, name_at, name_fault, first_of, first_name_fault, names_fault, party_named, AreNames}
 
 all_true : (a b c d e r : Bool) → a ≡ true → b ≡ true → c ≡ true → d ≡ true → r ≡ e → r ≡ (a && (b && (c && (d && e))))
 all_true true true true true e r p q s t h = h
@@ -126,7 +126,7 @@ no_fault_from names is = counted names is.some is.few ∙ none_from names is (le
 
 -- ---- the number of a name
 
-pub number_at : (names : List (List ℕ)) (name : List ℕ) (p : ℕ) → Some p ≡ number_of names name → slice_get names p ≡ Some name
+pub number_at : (names : List (List ℕ)) (name : List ℕ) (p : ℕ) → Some p ≡ party_named names name → slice_get names p ≡ Some name
 number_at names name p e =
     let found : (p < length names) × (bytes_eq (name_at names p) name ≡ true) × ((k : ℕ) → k < p → bytes_eq (name_at names k) name ≡ false) =
     position-Some (λ other. bytes_eq other name) names p [] (sym e) in

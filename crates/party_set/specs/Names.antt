@@ -43,8 +43,8 @@ names_fault names =
     else first_name_fault names (length names)
 
 -- the number of the party of this name, if there is one
-abbrev pub number_of : List (List ℕ) → List ℕ → Option ℕ
-number_of names name = position (λ other. bytes_eq other name) names
+abbrev pub party_named : List (List ℕ) → List ℕ → Option ℕ
+party_named names name = position (λ other. bytes_eq other name) names
 
 -- 1 to 12 different names
 pub record AreNames (texts : List (List ℕ)) : Type 0 where

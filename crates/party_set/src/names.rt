@@ -2,7 +2,7 @@
 ghost use Rattle.std.specs.Prelude.{◌≡◌, ℕ, List, ◌<◌, ◌≤◌, ◌⊎◌, IfSome, MatchResult, Some, None, length, map, slice_get};
 ghost use Rattle.std.specs.List.{list_all};
 ghost use Rattle.std.specs.String.{string_bytes};
-ghost use Rattle.party_set.specs.Names.{is_name, is_name_byte, name_fault, names_fault, number_of, AreNames};
+ghost use Rattle.party_set.specs.Names.{is_name, is_name_byte, name_fault, names_fault, party_named, AreNames};
 ghost use Rattle.party_set.specs.declared.names.NamesFault.TheVariants.{Memory};
 
 use crate::name_text::NameText;
@@ -90,7 +90,7 @@ impl Names {
 
     /// The party of this name, if there is one.
     pub fn number(&self, name: &str) -> Option<u32>
-        ensures is { result ≡ number_of self.now name.now }
+        ensures is { result ≡ party_named self.now name.now }
         ensures party { IfSome result (λ p. slice_get self.now p ≡ Some name.now) }
     {
         let p = self.names.get_index_of(name)?;

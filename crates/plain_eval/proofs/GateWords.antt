@@ -1,11 +1,11 @@
 -- The words along the gates.
-use Rattle.std.proofs.Common.{◌≡◌, ℕ, suc, ◌+◌, ◌-◌, ◌^◌, ◌≤◌, ◌<◌, List, [], ◌∷◌, ◌++◌, inl, inr, length, get_or, set, replicate, refl, sym, ◌∙◌, ap, subst, arith, nat_lt, pow_pos, get_or-set_other, get_or-set_same}
-use Rattle.std.specs.Prelude.{slice_index, if◌then◌else◌, All}
+use Rattle.std.proofs.Common.{◌≡◌, ℕ, suc, ◌+◌, ◌-◌, ◌^◌, ◌<◌, List, ◌++◌, inl, inr, length, set, replicate, sym, ◌∙◌, ap, subst, arith, nat_lt, pow_pos, get_or-set_other, get_or-set_same}
+use Rattle.std.specs.Prelude.{slice_index, All}
 use Rattle.std.proofs.Math.ListN.{get_or-append, get_or-eq_default}
 use Rattle.std.proofs.Math.Seq.{get_or-append_right}
 use Rattle.std.proofs.lemmas.List.{get_or-replicate, length-replicate}
 use Rattle.std.proofs.lemmas.Bool.{cases_eq, cases_lt, cond-true, cond-false, lt-ltb, le-ltb}
-use Rattle.circuit_model.specs.Netlists.{Netlist, gate, given, input_wires}
+use Rattle.circuit_model.specs.Netlists.{Netlist, gate, before_gates, input_wires}
 use Rattle.circuit_model.specs.Circuits.{operate, values}
 use Rattle.circuit_model.proofs.SetAt.{set_here, set_there}
 
@@ -16,13 +16,13 @@ zeros m k = elim (cases_lt k m) [
 ]
 
 -- the words before the first gate
-pub words_given : (c : Netlist) (inputs : List ℕ) (m w : ℕ) → length inputs ≡ input_wires c → slice_index (inputs ++ replicate m 0) w ≡ given c (slice_index inputs) w
+pub words_given : (c : Netlist) (inputs : List ℕ) (m w : ℕ) → length inputs ≡ input_wires c → slice_index (inputs ++ replicate m 0) w ≡ before_gates c (slice_index inputs) w
 words_given c inputs m w long = elim (cases_lt w (length inputs)) [
   | inl less ↦ get_or-append inputs (replicate m 0) 0 w less ∙ sym (cond-true (nat_lt w (input_wires c)) (slice_index inputs w) 0 (lt-ltb w (input_wires c) (omega (arith, less, long))))
   | inr past ↦ get_or-append_right inputs (replicate m 0) w 0 past ∙ zeros m (w - length inputs) ∙ sym (cond-false (nat_lt w (input_wires c)) (slice_index inputs w) 0 (le-ltb w (input_wires c) (omega (arith, past, long))))
 ]
 
-pub given_below : (c : Netlist) (bits : ℕ) (inputs : List ℕ) (w : ℕ) → length inputs ≡ input_wires c → All (λ word. word < 2 ^ bits) inputs → given c (slice_index inputs) w < 2 ^ bits
+pub given_below : (c : Netlist) (bits : ℕ) (inputs : List ℕ) (w : ℕ) → length inputs ≡ input_wires c → All (λ word. word < 2 ^ bits) inputs → before_gates c (slice_index inputs) w < 2 ^ bits
 given_below c bits inputs w long all = elim (cases_lt w (length inputs)) [
   | inl less ↦ subst (λ (n : ℕ). n < 2 ^ bits) (sym (cond-true (nat_lt w (input_wires c)) (slice_index inputs w) 0 (lt-ltb w (input_wires c) (omega (arith, less, long))))) (all w 0 less)
   | inr past ↦ subst (λ (n : ℕ). n < 2 ^ bits) (sym (cond-false (nat_lt w (input_wires c)) (slice_index inputs w) 0 (le-ltb w (input_wires c) (omega (arith, past, long))))) (pow_pos bits)

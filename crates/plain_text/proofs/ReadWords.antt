@@ -1,7 +1,7 @@
 -- Reading the words of a text one by one.
 use Rattle.std.proofs.Common.{◌≡◌, ℕ, List, [], ◌∷◌, ◌++◌, length, Result, Ok, Err, refl, sym, ap, append_assoc}
 use Rattle.text_tokens.specs.Tokens.{tokens_of}
-use Rattle.plain_text.specs.Words.{before, numbers_from, words_in}
+use Rattle.plain_text.specs.Words.{before, numbers_from, numbers_or_fault}
 use Rattle.plain_text.specs.declared.fault.WordsFault.{WordsFault}
 
 -- numbers that were read, and those that follow
@@ -17,6 +17,6 @@ pub after-one : (numbers : List ℕ) (n : ℕ) (rest : Result (List ℕ) WordsFa
 after-one numbers n (Ok more) = ap Ok (sym (append_assoc numbers (n ∷ []) more))
 after-one numbers n (Err fault) = refl
 
-pub words_in-begin : (text numbers : List ℕ) (tokens : List (List ℕ)) → tokens ≡ tokens_of text → numbers ≡ [] → words_in text ≡ after numbers (numbers_from (length numbers) tokens)
-unfolding words_in
+pub words_in-begin : (text numbers : List ℕ) (tokens : List (List ℕ)) → tokens ≡ tokens_of text → numbers ≡ [] → numbers_or_fault text ≡ after numbers (numbers_from (length numbers) tokens)
+unfolding numbers_or_fault
 words_in-begin text numbers tokens same none = rw (none, same) (after-none [] (numbers_from 0 (tokens_of text)) refl)

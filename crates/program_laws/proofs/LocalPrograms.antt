@@ -20,7 +20,7 @@ use Rattle.job_plan.specs.Messages.{messages, slot_messages, deal_messages, open
 use Rattle.job_session.specs.Sessions.Slot.{Input, At_gate, Output}
 use Rattle.share_world.specs.Worlds.{World, input_of, tape_word}
 use Rattle.share_world.specs.Locals.{local_run, local_word, local_word_in, local_output}
-use Rattle.job_plan.specs.Numbers.{message, deals_before, deals}
+use Rattle.job_plan.specs.Numbers.{no_key, message, deals_before, deals}
 use Rattle.mpc_ring.proofs.Remainders.{same_refl, same_mod, same_trans, mods_of_same}
 use Rattle.list_laws.proofs.Totals.{total_eq, total_one, total_zero}
 use Rattle.mpc_ring.proofs.Totals.{total_same}
@@ -34,7 +34,7 @@ use Rattle.party_program.specs.declared.program.Instruction.TheVariants.{Deal, L
 use Rattle.party_program.specs.Programs.{program, from, to, post, take_of, opening, closing, posts, takes, slot_program}
 use Rattle.job_plan.specs.Firsts.{numbers}
 use Rattle.party_program.specs.States.{Given, State, next, new_state, after_all, slot_of, posted, word_of, opened, dealt_in, computed, multiplied, summed, delivered, gate_in_slot, output_in_slot}
-use Rattle.party_program.specs.Proper.{IsMessage, Deals, IsGate, IsOutput}
+use Rattle.party_program.specs.Proper.{IsSessionMessage, Deals, IsGate, IsOutput}
 use Rattle.party_program.specs.Along.{AllAlong}
 use Rattle.program_laws.specs.Meets.{local_given, OpensRight, Goes, SmallTape}
 use Rattle.circuit_model.proofs.SetAt.{set_here, set_there}
@@ -124,7 +124,7 @@ module _ (w : World) (h' : IsPlan w.plan) (got : Key → ℕ) (s p : ℕ) (ls : 
   input_numbers v lv = each_number plan s v ls (omega arith) (FromOwner v) (subst (λ z. AllByRecursion (FromOwner v) (slot_messages plan s v z)) (sym (slot_input x v lv)) (from_owner v))
 
   -- a message of a slot is proper
-  message_is : (k n : ℕ) (y : Key) → k < slots w.plan s → n < length (messages plan) → (message plan n).slot ≡ k → (message plan n).share < m → IsMessage plan s n (message plan n).share
+  message_is : (k n : ℕ) (y : Key) → k < slots w.plan s → n < length (messages plan) → (message plan n).slot ≡ k → (message plan n).share < m → IsSessionMessage plan s n (message plan n).share
   message_is k n y lk ln e li = record { number = ln; share = li; slot = omega (arith, lk, e) }
 
   -- rows after an input slot
@@ -154,12 +154,12 @@ module _ (w : World) (h' : IsPlan w.plan) (got : Key → ℕ) (s p : ℕ) (ls : 
   start_other : (v i : ℕ) → v < length (owners x) → owner v ≢ p → run.start v i ≡ got (key v i (owner v) p)
   start_other v i lv ne = cond-true (nat_lt v (length (owners x))) _ 0 (lt-ltb v (length (owners x)) lv) ∙ cond-false (nat_eq (owner v) p) _ _ (ne_eqb (owner v) p ne)
 
-  along_taking : (ns : List ℕ) (σ : State) → AllByRecursion (λ n. IsMessage plan s n (message plan n).share) ns → AllAlong good l (map (take_of plan) ns) σ
+  along_taking : (ns : List ℕ) (σ : State) → AllByRecursion (λ n. IsSessionMessage plan s n (message plan n).share) ns → AllAlong good l (map (take_of plan) ns) σ
   along_taking [] σ h = tt
   along_taking (n ∷ ns) σ h = ((h.0, tt), along_taking ns (next l (take_of plan n) σ) h.1)
 
   -- posts, then takes, from one state to another
-  exchanged : (k : ℕ) (Q : State → Type 0) (σ : State) → AllByRecursion (λ n. good (post plan n) σ) (filter (from plan p) (numbers plan s k)) → AllByRecursion (λ n. IsMessage plan s n (message plan n).share) (filter (to plan p) (numbers plan s k))
+  exchanged : (k : ℕ) (Q : State → Type 0) (σ : State) → AllByRecursion (λ n. good (post plan n) σ) (filter (from plan p) (numbers plan s k)) → AllByRecursion (λ n. IsSessionMessage plan s n (message plan n).share) (filter (to plan p) (numbers plan s k))
       → Q (after_all l (takes plan p s k) σ) → (xs : List Instruction) (R : State → Type 0) (ρ : State) → Leaves good l xs (λ τ. τ ≡ σ) ρ → (ys : List Instruction) → ((τ : State) → Q τ → Leaves good l ys R τ)
       → Leaves good l (xs ++ posts plan p s k ++ takes plan p s k ++ ys) R ρ
   exchanged k Q σ ps ts q xs R ρ opens ys close =
@@ -177,7 +177,7 @@ module _ (w : World) (h' : IsPlan w.plan) (got : Key → ℕ) (s p : ℕ) (ls : 
       let lk : v < slots w.plan s = omega arith in
       let d : ℕ = deals_before plan p s v in
       let ns : List ℕ = filter (to plan p) (numbers plan s v) in
-      let proper : AllByRecursion (λ n. IsMessage plan s n (message plan n).share) ns = every_filter _ _ (to plan p) (numbers plan s v) (input_numbers v lv) (λ n f e. message_is v n no lk f.0 (ap (λ z. z.slot) f.1.0) f.1.1) in
+      let proper : AllByRecursion (λ n. IsSessionMessage plan s n (message plan n).share) ns = every_filter _ _ (to plan p) (numbers plan s v) (input_numbers v lv) (λ n f e. message_is v n no_key lk f.0 (ap (λ z. z.slot) f.1.0) f.1.1) in
       let slot_is : (n : ℕ) → In v (FromOwner v) n → slot_of plan s n ≡ Input v = λ n f. ap (λ z. slot w.plan s z.slot) f.1.0 ∙ at in
       subst (λ z. Leaves good l (opening plan p s v z ++ posts plan p s v ++ takes plan p s v ++ closing plan p s v z) (InInputs (suc v)) σ) (sym at)
       (elim (cases_eq (owner v) p) [
@@ -192,7 +192,7 @@ module _ (w : World) (h' : IsPlan w.plan) (got : Key → ℕ) (s p : ℕ) (ls : 
             subst (λ ys. Leaves good l (ys ++ posts plan p s v ++ takes plan p s v ++ []) (InInputs (suc v)) σ) (sym (cond-true (nat_eq (owner v) p) (Deal v d ∷ []) [] (eq-eqb (owner v) p e)))
             (exchanged v (InInputs (suc v)) σ1
             (every_filter _ _ (from plan p) (numbers plan s v) (input_numbers v lv) (λ n f e'. (
-              message_is v n no lk f.0 (ap (λ z. z.slot) f.1.0) f.1.1,
+              message_is v n no_key lk f.0 (ap (λ z. z.slot) f.1.0) f.1.1,
               (
                 eqb-true _ _ e',
                 ap (λ z. posted x z (message plan n).share σ1) (slot_is n f) ∙ dealt' (message plan n).share ∙ start_input v (message plan n).share lv e
@@ -224,9 +224,6 @@ module _ (w : World) (h' : IsPlan w.plan) (got : Key → ℕ) (s p : ℕ) (ls : 
             })
             [] (InInputs (suc v)) σ (tt, refl) [] (λ τ q. (tt, q)))
       ])
-    where
-      no : Key
-      no = record { session = 0; slot = 0; share = 0; sender = 0; receiver = 0 }
 
   -- ---- gate slots
 
@@ -356,19 +353,16 @@ module _ (w : World) (h' : IsPlan w.plan) (got : Key → ℕ) (s p : ℕ) (ls : 
         (subst (λ b. Leaves good l (opening plan p s k (At_gate t) ++ posts plan p s k ++ takes plan p s k ++ (only_if b (Sum k ∷ []) ++ only_if (not b) (Linear k ∷ []))) (InGates (suc t)) σ) (sym prod)
         (exchanged k (λ ρ. ρ ≡ τ) σ2
         (every_filter _ _ (from plan p) (numbers plan s k) (gate_numbers t lt) (λ n f e. (
-          message_is k n no lk f.0 (ap (λ z. z.slot) f.1.0) f.1.1,
+          message_is k n no_key lk f.0 (ap (λ z. z.slot) f.1.0) f.1.1,
           (let sender : (message plan n).sender ≡ p = eqb-true _ _ e in (
             sender,
             ap (λ z. posted x z (message plan n).share σ2) (slot_is n f) ∙ mine' (sym (deals_is p) ∙ ap (λ z. deals_in plan s z (At_gate t)) (sym sender) ∙ f.1.3) (message plan n).share
                 ∙ sym (ap (local_word w got p) f.1.0 ∙ ap (local_word_in w got p (key k (message plan n).share (message plan n).sender (message plan n).receiver)) at),
           )),
         )))
-        (every_filter _ _ (to plan p) (numbers plan s k) (gate_numbers t lt) (λ n f e. message_is k n no lk f.0 (ap (λ z. z.slot) f.1.0) f.1.1))
+        (every_filter _ _ (to plan p) (numbers plan s k) (gate_numbers t lt) (λ n f e. message_is k n no_key lk f.0 (ap (λ z. z.slot) f.1.0) f.1.1))
         refl (opening plan p s k (At_gate t)) (InGates (suc t)) σ opens (Sum k ∷ [])
         (λ ρ e. subst (Leaves good l (Sum k ∷ []) (InGates (suc t))) (sym e) (((record { slot = lk; kind = subst IsGate (sym at) tt }, tt), tt), subst (InGates (suc t)) (sym is) after'))))
-      where
-        no : Key
-        no = record { session = 0; slot = 0; share = 0; sender = 0; receiver = 0 }
 
     own_is : own_product (scheme plan) p (σ.rows g.first) (σ.rows g.second) ≡ own_value run t p
     own_is = holder_own plan h' p _ _ _ _ (λ i li held. h.rows g.first i li held) (λ i li held. h.rows g.second i li held)
@@ -469,7 +463,7 @@ module _ (w : World) (h' : IsPlan w.plan) (got : Key → ℕ) (s p : ℕ) (ls : 
     out_posts = every_filter _ _ (from plan p) (numbers plan s ko) out_numbers (λ n f e.
         let i : ℕ = (message plan n).share in
         let sender : least_holder plan i ≡ p = sym (ap (λ z. z.sender) f.1.0) ∙ eqb-true _ _ e in (
-          message_is ko n no lko f.0 (ap (λ z. z.slot) f.1.0) f.1.1,
+          message_is ko n no_key lko f.0 (ap (λ z. z.slot) f.1.0) f.1.1,
           (
             eqb-true _ _ e,
             ap (λ z. posted x z i σ) (ap (λ z. slot w.plan s z.slot) f.1.0 ∙ ato)
@@ -477,11 +471,8 @@ module _ (w : World) (h' : IsPlan w.plan) (got : Key → ℕ) (s p : ℕ) (ls : 
                 ∙ sym (ap (local_word w got p) f.1.0 ∙ ap (local_word_in w got p (key ko i (least_holder plan i) (message plan n).receiver)) ato),
           ),
         ))
-      where
-        no : Key
-        no = record { session = 0; slot = 0; share = 0; sender = 0; receiver = 0 }
 
-    out_proper : AllByRecursion (λ n. IsMessage plan s n (message plan n).share) nso
+    out_proper : AllByRecursion (λ n. IsSessionMessage plan s n (message plan n).share) nso
     out_proper = every_filter _ _ (to plan p) (numbers plan s ko) out_numbers (λ n f e. message_is ko n (message plan n) lko f.0 (ap (λ z. z.slot) f.1.0) f.1.1)
 
     abbrev τo : State

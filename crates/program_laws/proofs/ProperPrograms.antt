@@ -22,7 +22,7 @@ use Rattle.party_program.specs.declared.program.Instruction.TheVariants.{Deal, P
 use Rattle.party_program.specs.Programs.{program, at}
 use Rattle.party_program.specs.States.{Given, State, new_state, state, after, dealt_in, took_in, slot_of}
 use Rattle.party_program.specs.Proper.{Proper, CanDealIn, HasInput}
-use Rattle.party_program.specs.Suiting.{Suits, inputs_of}
+use Rattle.party_program.specs.Suiting.{Suits, input_count}
 use Rattle.party_program.proofs.InstructionLists.{along_at, state_is}
 use Rattle.program_laws.specs.Meets.{local_given, Goes, SmallTape}
 use Rattle.program_laws.proofs.LocalPrograms.{met}
@@ -95,7 +95,7 @@ module _ (plan : Plan) (h : IsSound plan) (s p : ℕ) (ls : s < length plan.sess
       at_most true = omega arith
       at_most false = omega arith
 
-  module _ (inputs tape : List ℕ) (got : ℕ → ℕ) (many : length inputs ≡ inputs_of plan p s) (long : length tape ≡ words plan p s) where
+  module _ (inputs tape : List ℕ) (got : ℕ → ℕ) (many : length inputs ≡ input_count plan p s) (long : length tape ≡ words plan p s) where
     has_input : (k : ℕ) → k < slots plan s → deals_in plan s p (slot plan s k) ≡ true → HasInput (given plan p s inputs tape got) (slot plan s k) (deals_before plan p s k)
     has_input = slot_cases (session plan s) (λ k z. deals_in plan s p z ≡ true → HasInput (given plan p s inputs tape got) z (deals_before plan p s k))
         (λ v lv yes'.

@@ -1,8 +1,8 @@
 -- What an instruction reads was set before, and what is still to be read stands in a row of its own.
-use Rattle.std.proofs.Common.{◌≡◌, ◌⊎◌, ℕ, suc, ◌+◌, ◌*◌, ◌<◌, ◌≤◌, ◌≢◌, Bool, true, false, not, ◌||◌, ◌&&◌, nat_eq, List, [], ◌∷◌, map, length, refl, sym, ap, ◌∙◌, subst, arith}
+use Rattle.std.proofs.Common.{◌≡◌, ◌⊎◌, ℕ, suc, ◌+◌, ◌*◌, ◌<◌, ◌≤◌, ◌≢◌, Bool, true, false, not, ◌&&◌, nat_eq, List, [], ◌∷◌, map, length, refl, sym, ap, ◌∙◌, subst, arith}
 use Rattle.std.specs.Prelude.{slice_index}
 use Rattle.std.specs.List.{AllByRecursion, list_any, filter}
-use Rattle.std.proofs.lemmas.Bool.{cases_eq, cases_lt, cases_Bool, cond-true, eq-eqb, eqb-true, both_ways, and_parts, not_from_false, false≢true}
+use Rattle.std.proofs.lemmas.Bool.{cases_eq, cases_lt, cases_Bool, cond-true, eq-eqb, both_ways, and_parts, not_from_false, false≢true}
 use Rattle.std.proofs.lemmas.List.{get_or_past}
 use mathlib.Core.Logic.{inl, inr}
 use Rattle.list_laws.specs.Lists.{joined, only_if}
@@ -14,7 +14,7 @@ use Rattle.job_session.specs.Sessions.{owners, Slot, Session, gate, output_wire}
 use Rattle.job_plan.specs.Plans.{Plan, session, slot, slots, holds, least_holder, deals_in, scheme, IsPlan, gives, opens_to}
 use Rattle.job_session.specs.Sessions.Slot.{Input, At_gate, Output}
 use Rattle.job_plan.specs.declared.key.Key.{Key}
-use Rattle.job_session.specs.KeptWires.{IsInOrder, IsRowTable, sets, reads, sets_in, reads_in}
+use Rattle.job_session.specs.KeptWires.{IsInOrder, IsRowTable, slot_sets, slot_reads, sets_in, reads_in}
 use Rattle.job_plan.specs.Messages.{slot_messages, deal_message, open_messages}
 use Rattle.job_plan.specs.Numbers.{message, no_key, deals_before}
 use Rattle.job_plan.specs.Firsts.{numbers}
@@ -28,9 +28,10 @@ use Rattle.party_program.specs.declared.program.Instruction.TheVariants.{Deal, P
 use Rattle.party_program.specs.Programs.{program, at, from, to, post, take_of, opening, closing, posts, takes, slot_program}
 use Rattle.party_program.specs.States.{gate_in_slot, output_in_slot, slot_of}
 use Rattle.party_program.specs.Proper.{Proper, IsGate, IsOutput}
-use Rattle.program_laws.specs.WordsRead.{gate_at, Carries, Sets, Reads, IsSet, IsToRead}
+use Rattle.program_laws.specs.WordsRead.{gate_at, Carries, SetsSummand, ReadsSummand, IsSet, IsToRead}
 use Rattle.program_laws.proofs.OncePosted.{there, once}
 use Rattle.program_laws.proofs.ProperPrograms.{proper_at}
+use Rattle.share_world.proofs.Settled.{is_one, of_one}
 use Rattle.program_laws.proofs.Ranks.{rank, is_plan, owned, ranks_rise, each, at_within}
 use Rattle.program_laws.proofs.SlotTakes.{Has}
 use Rattle.program_laws.proofs.SlotTallies.{Any, deal_any, any_number}
@@ -46,15 +47,6 @@ named plan (Linear k) = k
 named plan (Sum k) = k
 named plan (Deliver k) = k
 named plan End = 0
-
-pub of_one : (u v : ℕ) → list_any (nat_eq v) (u ∷ []) ≡ true → v ≡ u
-of_one u v h = elim (cases_Bool (nat_eq v u)) [
-  | inl e ↦ eqb-true v u e
-  | inr e ↦ absurd (both_ways (nat_eq v u || false) (ap (λ b. b || false) e) h)
-]
-
-is_one : (u v : ℕ) → v ≡ u → list_any (nat_eq v) (u ∷ []) ≡ true
-is_one u v e = ap (λ b. b || false) (eq-eqb v u e)
 
 -- no slot sets two wires
 one_set : (x : Session) (z : Slot) (v w : ℕ) → list_any (nat_eq v) (sets_in x z) ≡ true → list_any (nat_eq w) (sets_in x z) ≡ true → v ≡ w
@@ -148,10 +140,10 @@ module _ (plan : Plan) (sound : IsSound plan) (s p : ℕ) (ls : s < length plan.
   gate_sets (At_gate t) v h e = is_one (gate x t).output v e
   gate_sets (Output o) v h e = absurd h
 
-  input_sets : (k v : ℕ) → slot plan s k ≡ Input v → sets x k v ≡ true
+  input_sets : (k v : ℕ) → slot plan s k ≡ Input v → slot_sets x k v ≡ true
   input_sets k v e = subst (λ z. list_any (nat_eq v) (sets_in x z) ≡ true) (sym e) (is_one v v refl)
 
-  sets_of : (e : Instruction) (v i : ℕ) → Proper plan s e → Sets plan s e v i → (named plan e < slots plan s) × (sets x (named plan e) v ≡ true)
+  sets_of : (e : Instruction) (v i : ℕ) → Proper plan s e → SetsSummand plan s e v i → (named plan e < slots plan s) × (slot_sets x (named plan e) v ≡ true)
   sets_of (Deal k d) v i h e = (h.slot, input_sets k v e)
   sets_of (Own k) v i h e = absurd e
   sets_of (Post n j) v i h e = absurd e
@@ -161,14 +153,14 @@ module _ (plan : Plan) (sound : IsSound plan) (s p : ℕ) (ls : s < length plan.
   sets_of (Deliver k) v i h e = absurd e
   sets_of End v i h e = absurd e
 
-  pub sets_at : (q v i : ℕ) → Sets plan s (at es q) v i → (named plan (at es q) < slots plan s) × (sets x (named plan (at es q)) v ≡ true)
+  pub sets_at : (q v i : ℕ) → SetsSummand plan s (at es q) v i → (named plan (at es q) < slots plan s) × (slot_sets x (named plan (at es q)) v ≡ true)
   sets_at q v i h = sets_of (at es q) v i (proper q (at es q) refl) h
 
   -- ---- the wire that an instruction reads: one that its slot reads, or else the input that it posts
 
   abbrev Reading : Instruction → ℕ → ℕ → Type 0
   Reading e v i =
-      ((reads x (named plan e) v ≡ true) × (holds plan p i ≡ true))
+      ((slot_reads x (named plan e) v ≡ true) × (holds plan p i ≡ true))
       ⊎ ((slot plan s (named plan e) ≡ Input v) × (rank plan e ≡ 4 * named plan e + 1) × (slice_index (owners x) v ≡ p))
 
   post_reads : (n i j v : ℕ) (z : Slot) → slot_of plan s n ≡ z → Carries x z v → i ≡ j → Sends plan s p z j → Reading (Post n j) v i
@@ -187,7 +179,7 @@ module _ (plan : Plan) (sound : IsSound plan) (s p : ℕ) (ls : s < length plan.
   output_reads (At_gate t) v h e = absurd h
   output_reads (Output o) v h e = is_one (output_wire x o) v e
 
-  reads_of : (q : ℕ) (e : Instruction) → at es q ≡ e → (v i : ℕ) → Reads plan p s e v i → (named plan e < slots plan s) × Reading e v i
+  reads_of : (q : ℕ) (e : Instruction) → at es q ≡ e → (v i : ℕ) → ReadsSummand plan p s e v i → (named plan e < slots plan s) × Reading e v i
   reads_of q (Deal k d) is v i h = absurd h
   reads_of q (Own k) is v i h = let it = proper q (Own k) is in (it.slot, inl (gate_reads (slot plan s k) v it.kind h.0, h.1))
   reads_of q (Post n j) is v i h = let it = proper q (Post n j) is in (it.slot, post_reads n i j v (slot_of plan s n) refl h.0 h.1 (sends_own q n j is))
@@ -197,17 +189,17 @@ module _ (plan : Plan) (sound : IsSound plan) (s p : ℕ) (ls : s < length plan.
   reads_of q (Deliver k) is v i h = let it = proper q (Deliver k) is in (it.slot, inl (output_reads (slot plan s k) v it.kind h.0, h.1))
   reads_of q End is v i h = absurd h
 
-  reads_at : (q v i : ℕ) → Reads plan p s (at es q) v i → (named plan (at es q) < slots plan s) × Reading (at es q) v i
+  reads_at : (q v i : ℕ) → ReadsSummand plan p s (at es q) v i → (named plan (at es q) < slots plan s) × Reading (at es q) v i
   reads_at q v i h = reads_of q (at es q) refl v i h
 
-  reads_inside : (q v i : ℕ) → Reads plan p s (at es q) v i → q < length es
+  reads_inside : (q v i : ℕ) → ReadsSummand plan p s (at es q) v i → q < length es
   reads_inside q v i h = elim (cases_lt q (length es)) [
     | inl b ↦ b
-    | inr past ↦ absurd (subst (λ e. Reads plan p s e v i) (get_or_past es q End past) h)
+    | inr past ↦ absurd (subst (λ e. ReadsSummand plan p s e v i) (get_or_past es q End past) h)
   ]
 
   -- no instruction sets two wires
-  pub one_wire : (q v w i j : ℕ) → Sets plan s (at es q) v i → Sets plan s (at es q) w j → v ≡ w
+  pub one_wire : (q v w i j : ℕ) → SetsSummand plan s (at es q) v i → SetsSummand plan s (at es q) w j → v ≡ w
   one_wire q v w i j a b = one_set x (slot plan s (named plan (at es q))) v w (sets_at q v i a).1 (sets_at q w j b).1
 
   -- ---- own products stand at products
@@ -256,7 +248,7 @@ module _ (plan : Plan) (sound : IsSound plan) (s p : ℕ) (ls : s < length plan.
   -- ---- each summand that a party holds of a wire is set in the wire's slot
 
   abbrev Setter : ℕ → ℕ → ℕ → Type 0
-  Setter j v i = (e : Instruction) × Contains es e × Sets plan s e v i × (named plan e ≡ j)
+  Setter j v i = (e : Instruction) × Contains es e × SetsSummand plan s e v i × (named plan e ≡ j)
 
   opened : (j : ℕ) (e : Instruction) → j < slots plan s → Contains (opening plan p s j (slot plan s j)) e → Contains es e
   opened j e lj h = contains_joined (slots plan s) j (slot_program plan p s) e lj (contains_left _ (closing plan p s j (slot plan s j)) e (contains_left _ (takes plan p s j) e (contains_left (opening plan p s j (slot plan s j)) (posts plan p s j) e h)))
@@ -315,7 +307,7 @@ module _ (plan : Plan) (sound : IsSound plan) (s p : ℕ) (ls : s < length plan.
 
   module _ (order : IsInOrder x) where
     -- an instruction before sets what an instruction reads
-    pub reads_are_set : (q v i : ℕ) → i < m → Reads plan p s (at es q) v i → IsSet plan p s q v i
+    pub reads_are_set : (q v i : ℕ) → i < m → ReadsSummand plan p s (at es q) v i → IsSet plan p s q v i
     reads_are_set q v i li h =
         let it = reads_at q v i h in
         let k : ℕ = named plan (at es q) in
@@ -326,7 +318,7 @@ module _ (plan : Plan) (sound : IsSound plan) (s p : ℕ) (ls : s < length plan.
               let r : ℕ = by.1.0 in
               let stands : at es r ≡ by.0 = by.1.2 in
               let of_slot : named plan (at es r) ≡ before.0 = ap (named plan) stands ∙ by.3 in
-              (r, earlier r q by.1.1 (let less = before.1 in omega arith), subst (λ e. Sets plan s e v i) (sym stands) by.2)
+              (r, earlier r q by.1.1 (let less = before.1 in omega arith), subst (λ e. SetsSummand plan s e v i) (sym stands) by.2)
           | inr here ↦
               let by = dealt_in_slot k v it.0 here.0 here.2 in
               let deal : rank plan (at es by.0) ≡ 4 * k = ap (rank plan) by.2 in
@@ -334,11 +326,11 @@ module _ (plan : Plan) (sound : IsSound plan) (s p : ℕ) (ls : s < length plan.
                 | inl b ↦ b
                 | inr past ↦ absurd (let a = ranks q by.0 past by.1 in let post = here.1 in omega arith)
               ] in
-              (by.0, sooner, subst (λ e. Sets plan s e v i) (sym by.2) here.0)
+              (by.0, sooner, subst (λ e. SetsSummand plan s e v i) (sym by.2) here.0)
         ]
 
     -- a wire that is set and still to be read has another row than a wire that is set now
-    pub own_row : (rows : List ℕ) → IsRowTable x rows → (q v w i j : ℕ) → Sets plan s (at es q) w j → IsSet plan p s q v i → IsToRead plan p s (suc q) v i → v ≢ w → slice_index rows v ≢ slice_index rows w
+    pub own_row : (rows : List ℕ) → IsRowTable x rows → (q v w i j : ℕ) → SetsSummand plan s (at es q) w j → IsSet plan p s q v i → IsToRead plan p s (suc q) v i → v ≢ w → slice_index rows v ≢ slice_index rows w
     own_row rows table q v w i j now set' later ne =
         let k : ℕ = named plan (at es q) in
         let n : ℕ = named plan (at es set'.0) in
@@ -349,15 +341,15 @@ module _ (plan : Plan) (sound : IsSound plan) (s p : ℕ) (ls : s < length plan.
         let after : suc q ≤ later.0 = later.1 in
         let n_k : n ≤ k = named_rises set'.0 q (let l = set'.1 in omega arith) (omega arith) in
         let k_o : k ≤ o = named_rises q later.0 (omega arith) inside in
-        let apart : n ≢ k = (λ z. ne (one_set x (slot plan s k) v w (subst (λ y. sets x y v ≡ true) z sets_v.1) sets_w.1)) in
+        let apart : n ≢ k = (λ z. ne (one_set x (slot plan s k) v w (subst (λ y. slot_sets x y v ≡ true) z sets_v.1) sets_w.1)) in
         let reading = reads_at later.0 v i later.2 in
         elim reading.1 [
           | inl here ↦ table.apart n k o v w (omega arith) k_o reading.0 sets_v.1 here.0 sets_w.1
-          | inr here ↦ absurd (both_ways (sets x o v) (order.once n o v (omega arith) reading.0 sets_v.1) (input_sets o v here.0))
+          | inr here ↦ absurd (both_ways (slot_sets x o v) (order.once n o v (omega arith) reading.0 sets_v.1) (input_sets o v here.0))
         ]
 
     -- what is still to be read of a wire that a gate sets is held
-    pub read_is_held : (q t w i : ℕ) → slot plan s (named plan (at es q)) ≡ At_gate t → sets x (named plan (at es q)) w ≡ true → IsToRead plan p s (suc q) w i → holds plan p i ≡ true
+    pub read_is_held : (q t w i : ℕ) → slot plan s (named plan (at es q)) ≡ At_gate t → slot_sets x (named plan (at es q)) w ≡ true → IsToRead plan p s (suc q) w i → holds plan p i ≡ true
     read_is_held q t w i e now later =
         let k : ℕ = named plan (at es q) in
         let o : ℕ = named plan (at es later.0) in
@@ -368,6 +360,6 @@ module _ (plan : Plan) (sound : IsSound plan) (s p : ℕ) (ls : s < length plan.
           | inl here ↦ here.1
           | inr here ↦ absurd (elim (cases_eq k o) [
             | inl same ↦ let both : At_gate t ≡ Input w = sym e ∙ ap (slot plan s) same ∙ here.0 in cc
-            | inr ne ↦ both_ways (sets x o w) (order.once k o w (omega arith) reading.0 now) (input_sets o w here.0)
+            | inr ne ↦ both_ways (slot_sets x o w) (order.once k o w (omega arith) reading.0 now) (input_sets o w here.0)
           ])
         ]

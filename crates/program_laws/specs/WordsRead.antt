@@ -22,37 +22,40 @@ Carries s (At_gate t) v = ⊥
 Carries s (Output o) v = v ≡ output_wire s o
 
 -- the instruction sets summand i of wire v
-abbrev pub Sets : Plan → ℕ → Instruction → ℕ → ℕ → Type 0
-Sets plan s (Deal k d) v i = slot plan s k ≡ Input v
-Sets plan s (Take n j) v i = (slot_of plan s n ≡ Input v) × (i ≡ j)
-Sets plan s (Linear k) v i = v ≡ (gate_at plan s k).output
-Sets plan s (Sum k) v i = v ≡ (gate_at plan s k).output
-Sets plan s _ v i = ⊥
+abbrev pub SetsSummand : Plan → ℕ → Instruction → ℕ → ℕ → Type 0
+SetsSummand plan s (Deal k d) v i = slot plan s k ≡ Input v
+SetsSummand plan s (Take n j) v i = (slot_of plan s n ≡ Input v) × (i ≡ j)
+SetsSummand plan s (Linear k) v i = v ≡ (gate_at plan s k).output
+SetsSummand plan s (Sum k) v i = v ≡ (gate_at plan s k).output
+SetsSummand plan s _ v i = ⊥
 
 -- the instruction of party p reads summand i of wire v: it posts it, or computes with those that p holds
-abbrev pub Reads : Plan → ℕ → ℕ → Instruction → ℕ → ℕ → Type 0
-Reads plan p s (Post n j) v i = Carries (session plan s) (slot_of plan s n) v × (i ≡ j)
-Reads plan p s (Linear k) v i = (list_any (nat_eq v) (read_by (gate_at plan s k)) ≡ true) × (holds plan p i ≡ true)
-Reads plan p s (Own k) v i = (list_any (nat_eq v) (read_by (gate_at plan s k)) ≡ true) × (holds plan p i ≡ true)
-Reads plan p s (Deliver k) v i =
+abbrev pub ReadsSummand : Plan → ℕ → ℕ → Instruction → ℕ → ℕ → Type 0
+ReadsSummand plan p s (Post n j) v i = Carries (session plan s) (slot_of plan s n) v × (i ≡ j)
+ReadsSummand plan p s (Linear k) v i =
+    (list_any (nat_eq v) (read_by (gate_at plan s k)) ≡ true) × (holds plan p i ≡ true)
+ReadsSummand plan p s (Own k) v i =
+    (list_any (nat_eq v) (read_by (gate_at plan s k)) ≡ true) × (holds plan p i ≡ true)
+ReadsSummand plan p s (Deliver k) v i =
     (v ≡ output_wire (session plan s) (output_in_slot (slot plan s k))) × (holds plan p i ≡ true)
-Reads plan p s _ v i = ⊥
+ReadsSummand plan p s _ v i = ⊥
 
 -- an instruction before position q sets summand i of wire v
 abbrev pub IsSet : Plan → ℕ → ℕ → ℕ → ℕ → ℕ → Type 0
-IsSet plan p s q v i = (r : ℕ) × (r < q) × Sets plan s (at (program plan p s) r) v i
+IsSet plan p s q v i = (r : ℕ) × (r < q) × SetsSummand plan s (at (program plan p s) r) v i
 
 -- an instruction from position q on reads it
 abbrev pub IsToRead : Plan → ℕ → ℕ → ℕ → ℕ → ℕ → Type 0
-IsToRead plan p s q v i = (r : ℕ) × (q ≤ r) × Reads plan p s (at (program plan p s) r) v i
+IsToRead plan p s q v i = (r : ℕ) × (q ≤ r) × ReadsSummand plan p s (at (program plan p s) r) v i
 
 -- what an instruction of p reads of a wire, an instruction before it sets
 abbrev pub ReadsWhatIsSet : Plan → ℕ → ℕ → Type 0
 ReadsWhatIsSet plan p s =
-    (q v i : ℕ) → i < length plan.groups → Reads plan p s (at (program plan p s) q) v i → IsSet plan p s q v i
+    (q v i : ℕ) → i < length plan.groups → ReadsSummand plan p s (at (program plan p s) q) v i → IsSet plan p s q v i
 
 -- while an instruction sets a wire, each other wire that is set and still to be read has another row
 abbrev pub KeepsRowsApart : Plan → ℕ → ℕ → List ℕ → Type 0
 KeepsRowsApart plan p s rows =
-    (q v w i j : ℕ) → Sets plan s (at (program plan p s) q) w j → IsSet plan p s q v i → IsToRead plan p s (q + 1) v i
+    (q v w i j : ℕ) → SetsSummand plan s (at (program plan p s) q) w j → IsSet plan p s q v i
+    → IsToRead plan p s (q + 1) v i
     → v ≢ w → slice_index rows v ≢ slice_index rows w

@@ -16,13 +16,10 @@ use Rattle.secret_sharing.proofs.Agreement.{gate_agrees, product_agrees}
 use Rattle.list_laws.proofs.JoinedLists.{every_both, at_joined, at_only_if}
 use Rattle.job_session.proofs.SessionSlots.{slot_input, slot_gate, product_within}
 use Rattle.share_world.proofs.LocalWords.{holder_own, seen}
-use Rattle.share_world.proofs.SentWords.{SendsWord, all_sent}
+use Rattle.share_world.proofs.SentWords.{SendsWord, key_of, all_sent}
 
 abbrev Sent : World → (ℕ → Key → ℕ) → Key → Type 0
 Sent w got k = got k.receiver k ≡ local_word w (got k.sender) k.sender k
-
-abbrev key_of : ℕ → ℕ → ℕ → ℕ → ℕ → Key
-key_of s k i p q = record { session = s; slot = k; share = i; sender = p; receiver = q }
 
 module _ (w : World) (h : IsPlan w.plan) (got : ℕ → Key → ℕ) (sent : AllByRecursion (Sent w got) (messages w.plan)) where
   local_at : ℕ → ℕ → Run

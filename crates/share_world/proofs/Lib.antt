@@ -2,6 +2,7 @@ pub mod WireSums
 pub mod LocalWords
 pub mod SentWords
 pub mod SmallWords
+pub mod Settled
 pub mod Solutions
 pub mod JoinedLocals
 pub mod WorkedProduct

@@ -11,7 +11,7 @@ use Rattle.circuit_model.specs.declared.gate.Gate.{Gate}
 use Rattle.circuit_model.specs.declared.gate.Operation.{Operation}
 use Rattle.circuit_model.specs.declared.gate.Operation.TheVariants.{Add, Sub, Neg, Mul, Xor, And, Inv, Eq, Eqw}
 use Rattle.circuit_model.specs.Circuits.{values}
-use Rattle.circuit_model.specs.Netlists.{Netlist, IsCircuit, arity, reads, no_gate, is_set, input_wires, gate as gate_of}
+use Rattle.circuit_model.specs.Netlists.{Netlist, IsCircuit, arity, inputs_read, no_gate, is_set, input_wires, gate as gate_of}
 use Rattle.job_session.specs.Sessions.{Session, gate, owners}
 use Rattle.job_plan.specs.Plans.{session}
 use Rattle.job_session.specs.Parts.{session_of}
@@ -20,7 +20,7 @@ use Rattle.share_world.specs.Worlds.{World, input_of}
 use Rattle.share_world.specs.Solutions.{GatesInOrder, SetBefore, reads_first, reads_second}
 use Rattle.share_world.specs.Made.{MadeHasValues}
 
-first_passes : (o : Operation) (p : ℕ → Bool) (a b : ℕ) → list_all p (reads o (take (arity o) (a ∷ b ∷ []))) ≡ true → reads_first o ≡ true → p a ≡ true
+first_passes : (o : Operation) (p : ℕ → Bool) (a b : ℕ) → list_all p (inputs_read o (take (arity o) (a ∷ b ∷ []))) ≡ true → reads_first o ≡ true → p a ≡ true
 first_passes Add p a b e r = (and_parts (p a) (p b && true) e).0
 first_passes Sub p a b e r = (and_parts (p a) (p b && true) e).0
 first_passes Mul p a b e r = (and_parts (p a) (p b && true) e).0
@@ -31,7 +31,7 @@ first_passes Inv p a b e r = (and_parts (p a) true e).0
 first_passes Eqw p a b e r = (and_parts (p a) true e).0
 first_passes Eq p a b e r = cc
 
-second_passes : (o : Operation) (p : ℕ → Bool) (a b : ℕ) → list_all p (reads o (take (arity o) (a ∷ b ∷ []))) ≡ true → reads_second o ≡ true → p b ≡ true
+second_passes : (o : Operation) (p : ℕ → Bool) (a b : ℕ) → list_all p (inputs_read o (take (arity o) (a ∷ b ∷ []))) ≡ true → reads_second o ≡ true → p b ≡ true
 second_passes Add p a b e r = (and_parts (p b) true (and_parts (p a) (p b && true) e).1).0
 second_passes Sub p a b e r = (and_parts (p b) true (and_parts (p a) (p b && true) e).1).0
 second_passes Mul p a b e r = (and_parts (p b) true (and_parts (p a) (p b && true) e).1).0

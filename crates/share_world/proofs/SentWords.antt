@@ -22,7 +22,7 @@ use Rattle.share_world.specs.Laws.{IsWorld, SentAreWords, OpenedArePlain}
 use Rattle.share_world.proofs.WireSums.{world_sums}
 use Rattle.share_world.proofs.LocalWords.{holder_own, held_are_dealt}
 
-abbrev key_of : ℕ → ℕ → ℕ → ℕ → ℕ → Key
+abbrev pub key_of : ℕ → ℕ → ℕ → ℕ → ℕ → Key
 key_of s k i p q = record { session = s; slot = k; share = i; sender = p; receiver = q }
 
 -- each party's held summands are those of the equations, where it goes by what it got

@@ -16,6 +16,7 @@ use Rattle.job_session.proofs.SessionSlots.{slot_input, slot_gate, slot_cases}
 use Rattle.mpc_ring.proofs.Remainders.{same_refl}
 use Rattle.list_laws.proofs.Totals.{total_eq}
 use Rattle.secret_sharing.proofs.Agreement.{own_same}
+use Rattle.share_world.proofs.Settled.{product_reads, settled}
 
 set_later : (s : Session) (t v : ℕ) → SetBefore s t v → SetBefore s (suc t) v
 set_later s t v (inl l) = inl l
@@ -58,17 +59,6 @@ local_reads q Eq c zero a b a' b' p f s = refl
 local_reads q Eq c (suc i) a b a' b' p f s = refl
 local_reads q Mul c i a b a' b' p f s = absurd (both_ways true p refl)
 local_reads q And c i a b a' b' p f s = absurd (both_ways true p refl)
-
-product_reads : (op : Operation) → is_product op ≡ true → (reads_first op ≡ true) × (reads_second op ≡ true)
-product_reads Mul p = (refl, refl)
-product_reads And p = (refl, refl)
-product_reads Add p = absurd (both_ways false refl p)
-product_reads Sub p = absurd (both_ways false refl p)
-product_reads Neg p = absurd (both_ways false refl p)
-product_reads Xor p = absurd (both_ways false refl p)
-product_reads Inv p = absurd (both_ways false refl p)
-product_reads Eq p = absurd (both_ways false refl p)
-product_reads Eqw p = absurd (both_ways false refl p)
 
 -- the wires that are set before gate t have their summands
 solved : (w : World) (s : ℕ) → GatesInOrder (session w.plan s) → (sh : ℕ → ℕ → ℕ) (dl : ℕ → ℕ → ℕ → ℕ) → SummandsSolve w s sh dl → (t : ℕ) → t ≤ length (session w.plan s).gates
@@ -143,26 +133,9 @@ only_solution w s c sh dl h = record {
 -- ---- the summands at the end solve the equations
 
 -- a wire that is set keeps its summands
-settled : (w : World) (s : ℕ) → GatesInOrder (session w.plan s) → (t n : ℕ) → t + n ≤ length (session w.plan s).gates → (v : ℕ) → SetBefore (session w.plan s) t v → summands (run_of w s) (t + n) v ≡ summands (run_of w s) t v
-settled w s c t zero le v b = let none : t + 0 ≡ t = omega arith in ap (λ z. summands (run_of w s) z v) none
-settled w s c t (suc n) le v b =
-    let sess = session w.plan s in
-    let g = gate sess (t + n) in
-    let more : t + suc n ≡ suc (t + n) = omega arith in
-    let apart : v ≢ g.output = λ e. c.output (t + n) (omega arith) (subst (SetBefore sess (t + n)) e (set_within sess t n v b)) in
-    ap (λ z. summands (run_of w s) z v) more
-    ∙ cond-false (nat_eq v g.output) _ (summands (run_of w s) (t + n) v) (ne_eqb v g.output apart)
-    ∙ settled w s c t n (omega arith) v b
-  where
-    set_within : (s : Session) (t n v : ℕ) → SetBefore s t v → SetBefore s (t + n) v
-    set_within s t n v (inl l) = inl l
-    set_within s t n v (inr u) = inr (u.0, omega (arith, u.1), u.2)
-
 at_end : (w : World) (s : ℕ) → GatesInOrder (session w.plan s) → (t v : ℕ) → t ≤ length (session w.plan s).gates → SetBefore (session w.plan s) t v → summands (run_of w s) (length (session w.plan s).gates) v ≡ summands (run_of w s) t v
 at_end w s c t v le b =
-    let count = length (session w.plan s).gates in
-    let rest : t + (count - t) ≡ count = omega arith in
-    subst (λ z. summands (run_of w s) z v ≡ summands (run_of w s) t v) rest (settled w s c t (count - t) (omega arith) v b)
+    settled (session w.plan s) c (summands (run_of w s)) (λ t v apart. cond-false (nat_eq v (gate (session w.plan s) t).output) _ (summands (run_of w s) t v) (ne_eqb v (gate (session w.plan s) t).output apart)) t v le b
 
 pub is_solution : (w : World) (s : ℕ) → IsSolution w s
 is_solution w s c = record {

@@ -6,7 +6,7 @@ use Rattle.std.proofs.lemmas.Bool.{cases_Bool, cases_eq, eq-eqb, eqb-true, ne_eq
 use Rattle.list_laws.specs.Lists.{total}
 use Rattle.list_laws.proofs.JoinedLists.{every_at}
 use Rattle.party_set.specs.Parties.{IsQ2, covers}
-use Rattle.job_session.specs.KeptWires.{sets, reads}
+use Rattle.job_session.specs.KeptWires.{slot_sets, slot_reads}
 use Rattle.job_session.specs.Sessions.{owners, gate}
 use Rattle.job_plan.specs.Plans.{session, structure, words, gives}
 use Rattle.job_session.specs.SoundSessions.{IsSoundSession}
@@ -65,7 +65,7 @@ sound_session = record {
       | inr differs ↦ absurd (both_ways (nat_eq w a || false) (ap (λ c. c || false) differs) e)
     ]
 
-    once : (j k w : ℕ) → j < k → k < 4 → sets multiply_session j w ≡ true → sets multiply_session k w ≡ false
+    once : (j k w : ℕ) → j < k → k < 4 → slot_sets multiply_session j w ≡ true → slot_sets multiply_session k w ≡ false
     once j zero w jk lk e = absurd (omega arith)
     once zero (suc zero) w jk lk e = other 0 1 w (λ z. cc) e
     once (suc j) (suc zero) w jk lk e = absurd (omega arith)
@@ -75,15 +75,15 @@ sound_session = record {
     once j (suc (suc (suc zero))) w jk lk e = refl
     once j (suc (suc (suc (suc k)))) w jk lk e = absurd (omega arith)
 
-    before : (k w : ℕ) → k < 4 → reads multiply_session k w ≡ true → (j : ℕ) × (j < k) × (sets multiply_session j w ≡ true)
+    before : (k w : ℕ) → k < 4 → slot_reads multiply_session k w ≡ true → (j : ℕ) × (j < k) × (slot_sets multiply_session j w ≡ true)
     before zero w lk e = absurd (false≢true e)
     before (suc zero) w lk e = absurd (false≢true e)
     before (suc (suc zero)) zero lk e = (0, omega arith, refl)
     before (suc (suc zero)) (suc zero) lk e = (1, omega arith, refl)
-    before (suc (suc zero)) (suc (suc w)) lk e = absurd (both_ways (reads multiply_session 2 (suc (suc w))) (ap₂ (λ a b. a || (b || false)) (ne_eqb (suc (suc w)) 0 (omega arith)) (ne_eqb (suc (suc w)) 1 (omega arith))) e)
+    before (suc (suc zero)) (suc (suc w)) lk e = absurd (both_ways (slot_reads multiply_session 2 (suc (suc w))) (ap₂ (λ a b. a || (b || false)) (ne_eqb (suc (suc w)) 0 (omega arith)) (ne_eqb (suc (suc w)) 1 (omega arith))) e)
     before (suc (suc (suc zero))) w lk e = elim (cases_eq w 2) [
       | inl is ↦ (2, omega arith, ap (λ c. c || false) (eq-eqb w 2 is))
-      | inr ne ↦ absurd (both_ways (reads multiply_session 3 w) (ap (λ c. c || false) (ne_eqb w 2 ne)) e)
+      | inr ne ↦ absurd (both_ways (slot_reads multiply_session 3 w) (ap (λ c. c || false) (ne_eqb w 2 ne)) e)
     ]
     before (suc (suc (suc (suc k)))) w lk e = absurd (omega arith)
 

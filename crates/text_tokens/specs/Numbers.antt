@@ -9,6 +9,6 @@ abbrev pub is_digits : List ℕ → Bool
 is_digits token = not_empty token && all_ascii_digits token
 
 -- what digits with a value below 2^64 write
-unfoldable pub number_of : List ℕ → Option ℕ
-number_of token =
+unfoldable pub number_written : List ℕ → Option ℕ
+number_written token =
     if is_digits token && nat_lt (digits_value 10 token) (2 ^ 64) then Some (digits_value 10 token) else None

@@ -1,6 +1,6 @@
 //! The numbers that tokens write.
 ghost use Rattle.std.specs.Prelude.{◌≡◌};
-ghost use Rattle.text_tokens.specs.Numbers.{is_digits, number_of};
+ghost use Rattle.text_tokens.specs.Numbers.{is_digits, number_written};
 
 /// Whether a token is one or more decimal digits.
 pub fn is_digits(token: &str) -> bool
@@ -12,7 +12,7 @@ pub fn is_digits(token: &str) -> bool
 /// The number that a token writes in one or more decimal digits, if it is below `2^64`. There may be leading zeros, and
 /// any count of digits.
 pub fn number(token: &str) -> Option<u64>
-    ensures { result ≡ number_of token.now }
+    ensures { result ≡ number_written token.now }
 {
     if !is_digits(token) {
         return None;

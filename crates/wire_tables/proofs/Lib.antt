@@ -1,6 +1,5 @@
 pub mod ListedRows
 pub mod DealtRows
-pub mod Settled
 pub mod ValueSteps
 pub mod NextPlaces
 pub mod RowSteps

@@ -18,7 +18,7 @@ use Rattle.share_world.specs.Solutions.{GatesInOrder}
 use Rattle.share_world.specs.Worlds.{World, run_of, input_of, tape_word}
 use Rattle.share_world.proofs.Solutions.{is_solution}
 use Rattle.wire_tables.proofs.RowSteps.{own_alike}
-use Rattle.wire_tables.proofs.Settled.{product_settled}
+use Rattle.share_world.proofs.Settled.{product_settled}
 use Rattle.circuit_model.proofs.SetAt.{set_there}
 
 -- ---- senders
@@ -50,7 +50,7 @@ pub record Stands (plan : Plan) (key : Key) : Type 0 where
   pub share : key.share < length plan.groups
   pub sends : Sends plan key.session (slot plan key.session key.slot) key.sender
 
-pub stands : (plan : Plan) (n : ℕ) → n < length (messages plan) → Stands plan (message plan n)
+stands : (plan : Plan) (n : ℕ) → n < length (messages plan) → Stands plan (message plan n)
 stands plan n l =
     let key = message plan n in
     let at = is_there plan key (subst (λ m. m < length (messages plan)) (sym (number_of_message plan n l)) l) in
@@ -104,3 +104,7 @@ module _ (w : World) (s : ℕ) (order : GatesInOrder (session w.plan s)) where
       let still = read_settled t l product in
       own_alike w p a b (summands (run_of w s) t (gate x t).first) (summands (run_of w s) t (gate x t).second)
       (λ i li. ha i li ∙ ap (λ (f : ℕ → ℕ). f i) still.0) (λ i li. hb i li ∙ ap (λ (f : ℕ → ℕ). f i) still.1)
+
+-- so of a message that was read
+pub stands_so : (plan : Plan) (n : ℕ) {key : Key} → n < length (messages plan) → key ≡ message plan n → Stands plan key
+stands_so plan n l is = subst (Stands plan) (sym is) (stands plan n l)

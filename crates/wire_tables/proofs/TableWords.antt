@@ -1,28 +1,29 @@
 -- The words of messages, read off a table.
-use Rattle.std.proofs.Common.{◌≡◌, ℕ, ◌^◌, ◌<◌, All, true, List, [], length, sym, ap, ap₂, ◌∙◌, subst, arith}
+use Rattle.std.proofs.Common.{◌≡◌, ℕ, ◌+◌, ◌-◌, ◌^◌, ◌<◌, All, true, List, [], length, sym, ap, ap₂, ◌∙◌, subst, arith}
 use Rattle.std.specs.Prelude.{slice_index, slice_index_or}
 use Rattle.std.proofs.lemmas.Bool.{and_parts}
 use Rattle.list_laws.proofs.JoinedLists.{length-listed, listed_at}
+use Rattle.circuit_model.specs.declared.gate.Gate.{Gate}
 use Rattle.circuit_model.specs.Circuits.{is_product}
 use Rattle.secret_sharing.specs.Sharing.{dealt, own_product, summands}
 use Rattle.job_plan.specs.declared.key.Key.{Key}
-use Rattle.job_session.specs.Sessions.{Session, gate, output_wire}
+use Rattle.job_session.specs.Sessions.{Session, Slot, gate, output_wire, owners, readers, session_slot}
 use Rattle.job_plan.specs.Plans.{scheme, session, slot, slots, deals_in}
 use Rattle.job_session.specs.Sessions.Slot.{Input, At_gate, Output}
 use Rattle.share_world.specs.Laws.{IsWhole}
 use Rattle.share_world.specs.Solutions.{GatesInOrder}
 use Rattle.share_world.specs.Worlds.{World, run_of, input_of, tape_word, word, word_in}
 use Rattle.share_world.proofs.SmallWords.{small_run}
-use Rattle.wire_tables.specs.Places.{ArePlaces, HasWords}
+use Rattle.wire_tables.specs.Places.{ArePlaces, HasDealWords}
 use Rattle.wire_tables.specs.WireTables.{summand_row, summand_rows}
 use Rattle.wire_tables.proofs.DealtRows.{all_listed}
 use Rattle.wire_tables.proofs.NextPlaces.{dealt_within}
-use Rattle.wire_tables.proofs.Settled.{in_order}
+use Rattle.share_world.proofs.Settled.{in_order}
 use Rattle.wire_tables.proofs.MessageSenders.{Sends, Stands, slot_of_input, slot_of_gate, input_summand, own_at_end}
 
 -- a party that deals in a slot has the words of its deal
 pub has_words : (w : World) → IsWhole w → (s k p : ℕ) (places : List ℕ) → s < length w.plan.sessions → k < slots w.plan s → p < w.plan.parties → deals_in w.plan s p (slot w.plan s k) ≡ true
-    → ArePlaces w.plan s k places → HasWords w.plan w.tapes places p
+    → ArePlaces w.plan s k places → HasDealWords w.plan w.tapes places p
 has_words w whole s k p places ls lk lp deals h =
     let within = dealt_within w.plan s p k ls lk deals in record {
       tape = omega (arith, whole.tapes.parties);
@@ -54,6 +55,21 @@ row_long w s v row e = ap length e ∙ length-listed (length w.plan.groups) (sum
 
 -- ---- words
 
+-- the gate of a message, as it was read
+pub record AtGate (w : World) (key : Key) (t : ℕ) (g : Gate) : Type 0 where
+  pub slot_is : slot w.plan key.session key.slot ≡ At_gate t
+  pub gate_is : g ≡ gate (session w.plan key.session) t
+  pub first : g.first < (session w.plan key.session).wires
+  pub second : g.second < (session w.plan key.session).wires
+  pub sender : key.sender < w.plan.parties
+  pub deals : deals_in w.plan key.session key.sender (slot w.plan key.session key.slot) ≡ true
+
+-- the wire of a message of an output, as it was read
+pub record AtOutput (w : World) (key : Key) (o v : ℕ) : Type 0 where
+  pub slot_is : slot w.plan key.session key.slot ≡ Output o
+  pub wire_is : v ≡ output_wire (session w.plan key.session) o
+  pub there : v < (session w.plan key.session).wires
+
 module _ (w : World) (whole : IsWhole w) (key : Key) (st : Stands w.plan key) where
   abbrev x : Session
   x = session w.plan key.session
@@ -72,10 +88,10 @@ module _ (w : World) (whole : IsWhole w) (key : Key) (st : Stands w.plan key) wh
       ∙ ap₂ (λ k p. dealt (scheme w.plan) (input_of w key.session v) (tape_word w key.session k p) key.share) at.0 sender
       ∙ sym (input_summand w key.session ordered v key.share at.1)
 
-  pub gate_there : (t : ℕ) → slot w.plan key.session key.slot ≡ At_gate t → t < length x.gates
+  gate_there : (t : ℕ) → slot w.plan key.session key.slot ≡ At_gate t → t < length x.gates
   gate_there t z = (slot_of_gate x t key.slot st.in_slot z).1
 
-  pub gate_sender : (t : ℕ) → slot w.plan key.session key.slot ≡ At_gate t → (key.sender < w.plan.parties) × (deals_in w.plan key.session key.sender (At_gate t) ≡ true)
+  gate_sender : (t : ℕ) → slot w.plan key.session key.slot ≡ At_gate t → (key.sender < w.plan.parties) × (deals_in w.plan key.session key.sender (At_gate t) ≡ true)
   gate_sender t z = subst (λ y. Sends w.plan key.session y key.sender) z st.sends
 
   pub gate_word : (t : ℕ) (a b : ℕ → ℕ) → slot w.plan key.session key.slot ≡ At_gate t
@@ -89,3 +105,36 @@ module _ (w : World) (whole : IsWhole w) (key : Key) (st : Stands w.plan key) wh
 
   pub output_word : (o : ℕ) → slot w.plan key.session key.slot ≡ Output o → word w key ≡ ends (output_wire x o) key.share
   output_word o z = ap (word_in w key) z
+
+  -- ---- a message whose session was read
+
+  module _ (part : Session) (part_is : part ≡ x) where
+    slot_read : (kind : Slot) → kind ≡ session_slot part key.slot → slot w.plan key.session key.slot ≡ kind
+    slot_read kind is = ap (λ y. session_slot y key.slot) (sym part_is) ∙ sym is
+
+    pub read_input : (v : ℕ) → Input v ≡ session_slot part key.slot → v < length (owners part) → (slot w.plan key.session key.slot ≡ Input v) × (v < x.wires)
+    read_input v is inside =
+        let sound = whole.sound.sessions key.session st.in_session in
+        (slot_read (Input v) is, omega (arith, sound.wired.input_wires, inside, ap (λ y. length (owners y)) part_is))
+
+    pub read_gate : (t : ℕ) (g : Gate) → At_gate t ≡ session_slot part key.slot → g ≡ gate part t → AtGate w key t g
+    read_gate t g is gate_is =
+        let wired = (whole.sound.sessions key.session st.in_session).wired in
+        let z = slot_read (At_gate t) is in
+        let sends = gate_sender t z in
+        let at : g ≡ gate x t = gate_is ∙ ap (λ (y : Session). gate y t) part_is in record {
+          slot_is = z;
+          gate_is = at;
+          first = subst (λ (g : Gate). g.first < x.wires) (sym at) (wired.first t (gate_there t z));
+          second = subst (λ (g : Gate). g.second < x.wires) (sym at) (wired.second t (gate_there t z));
+          sender = sends.0;
+          deals = ap (deals_in w.plan key.session key.sender) z ∙ sends.1;
+        }
+
+    pub read_output : (o wires outputs : ℕ) → Output o ≡ session_slot part key.slot → o < length (readers part) → wires ≡ part.wires → outputs ≡ length (readers part) → AtOutput w key o (wires - outputs + o)
+    read_output o wires outputs is inside wires_is outputs_are =
+        let sound = whole.sound.sessions key.session st.in_session in
+        let same = ap (λ y. length (readers y)) part_is in
+        let at : wires - outputs + o ≡ output_wire x o = ap₂ (λ a b. a - b + o) (wires_is ∙ ap (λ (y : Session). y.wires) part_is) (outputs_are ∙ same) in
+        let there : output_wire x o < x.wires = omega (arith, sound.wired.output_wires, inside, same) in
+        record { slot_is = slot_read (Output o) is; wire_is = at; there = subst (λ v. v < x.wires) (sym at) there }

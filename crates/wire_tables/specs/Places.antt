@@ -14,7 +14,7 @@ dealt_at scheme tapes places p v =
     dealt scheme v (λ i. slice_index (slice_index_or tapes p []) (slice_index places p + i))
 
 -- party p has the words of its next deal
-pub record HasWords (plan : Plan) (tapes : List (List ℕ)) (places : List ℕ) (p : ℕ) : Type 0 where
+pub record HasDealWords (plan : Plan) (tapes : List (List ℕ)) (places : List ℕ) (p : ℕ) : Type 0 where
   pub tape : p < length tapes
   pub place : p < length places
   pub enough : slice_index places p + (length plan.groups - 1) ≤ length (slice_index_or tapes p [])

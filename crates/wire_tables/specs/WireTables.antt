@@ -11,8 +11,8 @@ use Rattle.job_plan.specs.InputWords.{session_words}
 use Rattle.share_world.specs.Worlds.{World, input_of, plain, run_of}
 
 -- the world of a plan, the inputs of all parties, and a tape for each party
-abbrev pub world_of : Plan → List (List (List ℕ)) → List (Vec ℕ) → World
-world_of plan inputs tapes =
+abbrev pub world_given : Plan → List (List (List ℕ)) → List (Vec ℕ) → World
+world_given plan inputs tapes =
     record { plan = plan; inputs = inputs; tapes = session_words tapes }
 
 -- the word on each input wire of session s

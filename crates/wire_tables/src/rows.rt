@@ -6,13 +6,13 @@ ghost use Rattle.circuit_model.specs.Circuits.{is_product};
 ghost use Rattle.secret_sharing.specs.Sharing.{has_pair, local, product_summand};
 ghost use Rattle.job_plan.specs.Plans.{scheme};
 ghost use Rattle.job_plan.specs.InputWords.{session_words};
-ghost use Rattle.wire_tables.specs.Places.{HasWords, dealt_at};
+ghost use Rattle.wire_tables.specs.Places.{HasDealWords, dealt_at};
 ghost use Rattle.wire_tables.specs.WireTables.{gate_summand};
 
-use circuit_model::{Gate, Operation};
+use circuit_model::Gate;
 use job_plan::Plan;
 use mpc_ring::Ring;
-use reshare_step::own_products;
+use reshare_step::{local_summand, own_products};
 use std::alloc::{AllocError, Global};
 
 /// The summands of a wire that is not set.
@@ -41,7 +41,7 @@ pub(crate) fn dealt_row(
     value: u64,
 ) -> Result<Vec<u64>, AllocError>
     requires value { value < 2 ^ plan.now.bits }
-    requires words { HasWords plan.now (session_words tapes.now) places.now p }
+    requires words { HasDealWords plan.now (session_words tapes.now) places.now p }
     ensures { IfOk result (λ row. row.items ≡ listed (length plan.now.groups)
         (dealt_at (scheme plan.now) (session_words tapes.now) places.now p value)) }
 {
@@ -83,7 +83,7 @@ fn product_row(
     requires words { All (λ word. word < 2 ^ plan.now.bits) x.now }
     requires more_words { All (λ word. word < 2 ^ plan.now.bits) y.now }
     requires tapes { (p : ℕ) → p < plan.now.parties → has_pair (scheme plan.now) p ≡ true
-        → HasWords plan.now (session_words tapes.now) places.now p }
+        → HasDealWords plan.now (session_words tapes.now) places.now p }
     ensures { IfOk result (λ row. row.items ≡ listed (length plan.now.groups)
         (product_summand (scheme plan.now)
         (dealt_at (scheme plan.now) (session_words tapes.now) places.now)
@@ -99,21 +99,6 @@ fn product_row(
         }
     }
     Ok(sums)
-}
-
-// What a linear operation makes of summand `i` of its wires: a constant stands in summand 0.
-fn local_of(ring: Ring, gate: Gate, i: usize, a: u64, b: u64) -> u64
-    requires words { (a < 2 ^ ring) × (b < 2 ^ ring) }
-    ensures { result ≡ local (2 ^ ring) gate.operation gate.constant i a b }
-{
-    if i == 0 {
-        return gate.operation.apply(ring, gate.constant, a, b);
-    }
-    match gate.operation {
-        Operation::Inv => a,
-        Operation::Eq => ring.zero(),
-        _ => gate.operation.apply(ring, gate.constant, a, b),
-    }
 }
 
 // The summands that a linear gate makes of those of its wires.
@@ -132,7 +117,9 @@ fn linear_row(
 {
     let mut row = Vec::new(alloc);
     for i in 0..x.len() {
-        row.push(local_of(ring, gate, i, x[i], y[i]))?;
+        let a = x[i];
+        let b = y[i];
+        row.push(local_summand(ring, gate.operation, gate.constant, i == 0, a, b))?;
     }
     Ok(row)
 }
@@ -153,7 +140,7 @@ pub(crate) fn gate_row(
     requires more_words { All (λ word. word < 2 ^ plan.now.bits) y.now }
     requires tapes { is_product gate.operation ≡ true → (p : ℕ) → p < plan.now.parties
         → has_pair (scheme plan.now) p ≡ true
-        → HasWords plan.now (session_words tapes.now) places.now p }
+        → HasDealWords plan.now (session_words tapes.now) places.now p }
     ensures { IfOk result (λ row. row.items ≡ listed (length plan.now.groups)
         (gate_summand (scheme plan.now)
         (dealt_at (scheme plan.now) (session_words tapes.now) places.now) gate

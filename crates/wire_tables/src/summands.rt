@@ -4,7 +4,7 @@ ghost use Rattle.job_session.specs.Sessions.{owners};
 ghost use Rattle.job_plan.specs.Plans.{session};
 ghost use Rattle.share_world.specs.Laws.{IsWhole};
 ghost use Rattle.wire_tables.specs.Places.{ArePlaces};
-ghost use Rattle.wire_tables.specs.WireTables.{world_of};
+ghost use Rattle.wire_tables.specs.WireTables.{world_given};
 ghost use Rattle.wire_tables.specs.Steps.{AreRows};
 
 use crate::places::{first_places, pass_slot};
@@ -32,7 +32,7 @@ impl Model for SummandTable {
 impl SummandTable {
     ghost use Rattle.std.specs.Prelude.{◌≡◌, ◌<◌, [], IfOk, length, slice_index_or};
     ghost use Rattle.share_world.specs.Laws.{IsWhole};
-    ghost use Rattle.wire_tables.specs.WireTables.{world_of, summand_rows};
+    ghost use Rattle.wire_tables.specs.WireTables.{world_given, summand_rows};
 
     /// The summands of the wires of session `s`, as the sharing equations have them. `tapes` has
     /// for each party the words that it draws, all sessions in order.
@@ -43,10 +43,10 @@ impl SummandTable {
         tapes: &[Vec<u64>],
         s: u32,
     ) -> Result<SummandTable, AllocError>
-        requires whole { IsWhole (world_of plan.now inputs.now tapes.now) }
+        requires whole { IsWhole (world_given plan.now inputs.now tapes.now) }
         requires session { s < length plan.now.sessions }
         ensures { IfOk result (λ table.
-            table ≡ summand_rows (world_of plan.now inputs.now tapes.now) s) }
+            table ≡ summand_rows (world_given plan.now inputs.now tapes.now) s) }
     {
         let part = plan.part(s);
         let first_gate = part.input_wires() as u32;
@@ -82,11 +82,11 @@ fn input_rows(
     s: u32,
     places: &mut [u32],
 ) -> Result<Vec<Vec<u64>>, AllocError>
-    requires whole { IsWhole (world_of plan.now inputs.now tapes.now) }
+    requires whole { IsWhole (world_given plan.now inputs.now tapes.now) }
     requires session { s < length plan.now.sessions }
     requires places { ArePlaces plan.now s 0 places.old }
     ensures rows { IfOk result (λ rows.
-        AreRows (world_of plan.now inputs.now tapes.now) s 0 rows.items) }
+        AreRows (world_given plan.now inputs.now tapes.now) s 0 rows.items) }
     ensures places { OnOk result
         (ArePlaces plan.now s (length (owners (session plan.now s))) places.new) }
 {

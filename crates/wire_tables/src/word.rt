@@ -4,7 +4,7 @@ ghost use Rattle.job_plan.specs.Messages.{messages};
 ghost use Rattle.job_plan.specs.Numbers.{message};
 ghost use Rattle.share_world.specs.Laws.{IsWhole};
 ghost use Rattle.share_world.specs.Worlds.{word};
-ghost use Rattle.wire_tables.specs.WireTables.{world_of};
+ghost use Rattle.wire_tables.specs.WireTables.{world_given};
 
 use crate::places::places_before;
 use crate::rows::dealt_row;
@@ -22,10 +22,10 @@ pub fn word_of(
     tapes: &[Vec<u64>],
     number: u32,
 ) -> Result<u64, AllocError>
-    requires whole { IsWhole (world_of plan.now inputs.now tapes.now) }
+    requires whole { IsWhole (world_given plan.now inputs.now tapes.now) }
     requires number { number < length (messages plan.now) }
     ensures { IfOk result (λ found. found
-        ≡ word (world_of plan.now inputs.now tapes.now) (message plan.now number)) }
+        ≡ word (world_given plan.now inputs.now tapes.now) (message plan.now number)) }
 {
     let key = plan.message(number);
     let part = plan.part(key.session);

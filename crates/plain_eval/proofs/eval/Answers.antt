@@ -1,9 +1,9 @@
-use Rattle.std.proofs.Common.{◌≡◌, ◌+◌, ◌-◌, ◌^◌, ◌<◌, ◌≤◌, ℕ, suc, List, length, get_or, replicate, ◌++◌, sym, ◌∙◌, ap, ap₂, subst, arith, length-append, length-set, set}
+use Rattle.std.proofs.Common.{◌≡◌, ◌+◌, ◌-◌, ◌^◌, ◌<◌, ◌≤◌, ℕ, suc, List, length, get_or, replicate, sym, ◌∙◌, ap, ap₂, subst, arith, length-append, length-set, set}
 use Rattle.std.specs.Prelude.{slice_index}
 use Rattle.std.proofs.lemmas.List.{length-replicate, get_or_default}
 use Rattle.circuit_model.specs.Circuits.{operate, values}
 use Rattle.circuit_model.specs.declared.gate.Gate.{Gate}
-use Rattle.circuit_model.specs.Netlists.{gate, given, input_wires}
+use Rattle.circuit_model.specs.Netlists.{gate, before_gates, input_wires}
 use Rattle.circuit_model.proofs.GateWires.{first_below, second_below, output_below}
 use Rattle.plain_eval.proofs.GateWords.{words_given, given_below, words_next, below_next}
 use Rattle.plain_eval.proofs.eval.Goals as goal
@@ -54,14 +54,14 @@ loop-i-preserved c =
     let a = read xs g.first c.index-first.result.now first c.index-first.ensures in
     let b = read xs g.second c.index-second.result.now second c.index-second.ensures in
     let word : c.apply-word.result ≡ operate q g.operation g.constant (slice_index xs g.first) (slice_index xs g.second) = c.apply-word.ensures.is ∙ ap₂ (operate q g.operation g.constant) a b in
-    let Next : Gate → Type 0 = λ h. (w : ℕ) → slice_index (set xs h.output c.apply-word.result) w ≡ values q (gate circuit) (given circuit (slice_index c.args.inputs.now)) (i + 1) w in
+    let Next : Gate → Type 0 = λ h. (w : ℕ) → slice_index (set xs h.output c.apply-word.result) w ≡ values q (gate circuit) (before_gates circuit (slice_index c.args.inputs.now)) (i + 1) w in
     let Small : Gate → Type 0 = λ h. (w : ℕ) → slice_index (set xs h.output c.apply-word.result) w < q in
     let one : suc i ≡ i + 1 = omega arith in
-    let next = words_next circuit q i c.apply-word.result (given circuit (slice_index c.args.inputs.now)) xs output c.loop-i.invariant.values
+    let next = words_next circuit q i c.apply-word.result (before_gates circuit (slice_index c.args.inputs.now)) xs output c.loop-i.invariant.values
     (subst (λ (h : Gate). c.apply-word.result ≡ operate q h.operation h.constant (slice_index xs h.first) (slice_index xs h.second)) c.gate-gate.ensures word) in
     record {
       long = length-set xs g.output c.apply-word.result ∙ c.loop-i.invariant.long;
-      values = subst Next (sym c.gate-gate.ensures) (λ w. next w ∙ ap (λ k. values q (gate circuit) (given circuit (slice_index c.args.inputs.now)) k w) one);
+      values = subst Next (sym c.gate-gate.ensures) (λ w. next w ∙ ap (λ k. values q (gate circuit) (before_gates circuit (slice_index c.args.inputs.now)) k w) one);
       words = subst Small (sym c.gate-gate.ensures) (below_next q (gate circuit i).output c.apply-word.result xs output c.apply-word.ensures.below c.loop-i.invariant.words);
     }
 

@@ -3,7 +3,7 @@ use Rattle.message_board.specs.Pairs.{Knows}
 use Rattle.message_board.specs.Rule.{others}
 use Rattle.message_board.proofs.Pairs.{knows_left}
 use Rattle.desk_workers.specs.Promises.{world_in, posted_by}
-use Rattle.desk_workers.specs.Pools.{IsPool, IsDeskOf, StandsIn, Leads, LeadsOn}
+use Rattle.desk_workers.specs.Pools.{IsPool, IsDeskOf, StandsInWorld, Leads, LeadsOn}
 use Rattle.desk_workers.proofs.PostedPairs.{stands, covers}
 use Rattle.desk_workers.proofs.pool.look_in.Goals as goal
 
@@ -14,8 +14,8 @@ pub walk-moves-requires-clause-desk : goal.walk-moves-requires-clause-desk
 walk-moves-requires-clause-desk g c κs within =
     let w = world_in c.args.rack.now.about.world in
     let found = c.in-Some.ensures.found in
-    let start : StandsIn w c.take.new.seat.view.seen c.args.turn.desk c.deref_mut.result.now =
-    subst (StandsIn w c.take.new.seat.view.seen c.args.turn.desk) (sym c.deref_mut.ensures.value)
+    let start : StandsInWorld w c.take.new.seat.view.seen c.args.turn.desk c.deref_mut.result.now =
+    subst (StandsInWorld w c.take.new.seat.view.seen c.args.turn.desk) (sym c.deref_mut.ensures.value)
     (stands w c.args.turn.desk c.in-Some.desk.value c.take.new.seat.view.seen found.0 (λ k x known. subst (λ v. Knows v.seen k x) (sym found.1) (knows_left (posted_by w c.in-Some.desk.value) c.args.seat.now.view.seen k x known))) in
     subst (λ b. IsDeskOf b c.take.new.seat c.deref_mut.result.now) (sym c.board.ensures) (c.args.turn.desk, start)
 
@@ -23,8 +23,8 @@ pub put-requires-clause-held : goal.put-requires-clause-held
 put-requires-clause-held g c =
     let w = world_in c.args.rack.now.about.world in
     let found = c.in-Some.ensures.found in
-    let start : StandsIn w c.take.new.seat.view.seen c.args.turn.desk c.deref_mut.result.now =
-    subst (StandsIn w c.take.new.seat.view.seen c.args.turn.desk) (sym c.deref_mut.ensures.value)
+    let start : StandsInWorld w c.take.new.seat.view.seen c.args.turn.desk c.deref_mut.result.now =
+    subst (StandsInWorld w c.take.new.seat.view.seen c.args.turn.desk) (sym c.deref_mut.ensures.value)
     (stands w c.args.turn.desk c.in-Some.desk.value c.take.new.seat.view.seen found.0 (λ k x known. subst (λ v. Knows v.seen k x) (sym found.1) (knows_left (posted_by w c.in-Some.desk.value) c.args.seat.now.view.seen k x known))) in
     let lead : Leads w c.args.turn.desk c.take.new.seat c.deref_mut.result.now c.walk-moves.new.seat c.walk-moves.new.desk c.walk-moves.result =
     subst (λ b. LeadsOn b c.take.new.seat c.deref_mut.result.now c.walk-moves.new.seat c.walk-moves.new.desk c.walk-moves.result) c.board.ensures c.walk-moves.ensures.leads c.args.turn.desk start in
@@ -35,8 +35,8 @@ pub put-requires-clause-good : goal.put-requires-clause-good
 put-requires-clause-good g c =
     let w = world_in c.args.rack.now.about.world in
     let found = c.in-Some.ensures.found in
-    let start : StandsIn w c.take.new.seat.view.seen c.args.turn.desk c.deref_mut.result.now =
-    subst (StandsIn w c.take.new.seat.view.seen c.args.turn.desk) (sym c.deref_mut.ensures.value)
+    let start : StandsInWorld w c.take.new.seat.view.seen c.args.turn.desk c.deref_mut.result.now =
+    subst (StandsInWorld w c.take.new.seat.view.seen c.args.turn.desk) (sym c.deref_mut.ensures.value)
     (stands w c.args.turn.desk c.in-Some.desk.value c.take.new.seat.view.seen found.0 (λ k x known. subst (λ v. Knows v.seen k x) (sym found.1) (knows_left (posted_by w c.in-Some.desk.value) c.args.seat.now.view.seen k x known))) in
     let lead : Leads w c.args.turn.desk c.take.new.seat c.deref_mut.result.now c.walk-moves.new.seat c.walk-moves.new.desk c.walk-moves.result =
     subst (λ b. LeadsOn b c.take.new.seat c.deref_mut.result.now c.walk-moves.new.seat c.walk-moves.new.desk c.walk-moves.result) c.board.ensures c.walk-moves.ensures.leads c.args.turn.desk start in
@@ -46,8 +46,8 @@ pub put-requires-clause-posts : goal.put-requires-clause-posts
 put-requires-clause-posts g c =
     let w = world_in c.args.rack.now.about.world in
     let found = c.in-Some.ensures.found in
-    let start : StandsIn w c.take.new.seat.view.seen c.args.turn.desk c.deref_mut.result.now =
-    subst (StandsIn w c.take.new.seat.view.seen c.args.turn.desk) (sym c.deref_mut.ensures.value)
+    let start : StandsInWorld w c.take.new.seat.view.seen c.args.turn.desk c.deref_mut.result.now =
+    subst (StandsInWorld w c.take.new.seat.view.seen c.args.turn.desk) (sym c.deref_mut.ensures.value)
     (stands w c.args.turn.desk c.in-Some.desk.value c.take.new.seat.view.seen found.0 (λ k x known. subst (λ v. Knows v.seen k x) (sym found.1) (knows_left (posted_by w c.in-Some.desk.value) c.args.seat.now.view.seen k x known))) in
     let lead : Leads w c.args.turn.desk c.take.new.seat c.deref_mut.result.now c.walk-moves.new.seat c.walk-moves.new.desk c.walk-moves.result =
     subst (λ b. LeadsOn b c.take.new.seat c.deref_mut.result.now c.walk-moves.new.seat c.walk-moves.new.desk c.walk-moves.result) c.board.ensures c.walk-moves.ensures.leads c.args.turn.desk start in
@@ -57,8 +57,8 @@ pub returns-clause-seat : goal.returns-clause-seat
 returns-clause-seat g c =
     let w = world_in c.args.rack.now.about.world in
     let found = c.in-Some.ensures.found in
-    let start : StandsIn w c.take.new.seat.view.seen c.args.turn.desk c.deref_mut.result.now =
-    subst (StandsIn w c.take.new.seat.view.seen c.args.turn.desk) (sym c.deref_mut.ensures.value)
+    let start : StandsInWorld w c.take.new.seat.view.seen c.args.turn.desk c.deref_mut.result.now =
+    subst (StandsInWorld w c.take.new.seat.view.seen c.args.turn.desk) (sym c.deref_mut.ensures.value)
     (stands w c.args.turn.desk c.in-Some.desk.value c.take.new.seat.view.seen found.0 (λ k x known. subst (λ v. Knows v.seen k x) (sym found.1) (knows_left (posted_by w c.in-Some.desk.value) c.args.seat.now.view.seen k x known))) in
     let lead : Leads w c.args.turn.desk c.take.new.seat c.deref_mut.result.now c.walk-moves.new.seat c.walk-moves.new.desk c.walk-moves.result =
     subst (λ b. LeadsOn b c.take.new.seat c.deref_mut.result.now c.walk-moves.new.seat c.walk-moves.new.desk c.walk-moves.result) c.board.ensures c.walk-moves.ensures.leads c.args.turn.desk start in
@@ -69,8 +69,8 @@ pub returns-clause-seats : goal.returns-clause-seats
 returns-clause-seats g c =
     let w = world_in c.args.rack.now.about.world in
     let found = c.in-Some.ensures.found in
-    let start : StandsIn w c.take.new.seat.view.seen c.args.turn.desk c.deref_mut.result.now =
-    subst (StandsIn w c.take.new.seat.view.seen c.args.turn.desk) (sym c.deref_mut.ensures.value)
+    let start : StandsInWorld w c.take.new.seat.view.seen c.args.turn.desk c.deref_mut.result.now =
+    subst (StandsInWorld w c.take.new.seat.view.seen c.args.turn.desk) (sym c.deref_mut.ensures.value)
     (stands w c.args.turn.desk c.in-Some.desk.value c.take.new.seat.view.seen found.0 (λ k x known. subst (λ v. Knows v.seen k x) (sym found.1) (knows_left (posted_by w c.in-Some.desk.value) c.args.seat.now.view.seen k x known))) in
     let lead : Leads w c.args.turn.desk c.take.new.seat c.deref_mut.result.now c.walk-moves.new.seat c.walk-moves.new.desk c.walk-moves.result =
     subst (λ b. LeadsOn b c.take.new.seat c.deref_mut.result.now c.walk-moves.new.seat c.walk-moves.new.desk c.walk-moves.result) c.board.ensures c.walk-moves.ensures.leads c.args.turn.desk start in

@@ -8,7 +8,7 @@ use Rattle.desk_laws.specs.Pools.{Stuck, left, left_all}
 use Rattle.desk_laws.proofs.Elements.{by_place, stands_at}
 use Rattle.desk_laws.proofs.StepCounts.{left_set}
 use Rattle.desk_workers.specs.Promises.{world_in}
-use Rattle.desk_workers.specs.Pools.{StandsIn}
+use Rattle.desk_workers.specs.Pools.{StandsInWorld}
 use Rattle.desk_workers.proofs.BoardSteps.{stuck_less}
 use Rattle.desk_workers.proofs.DeskLists.{all_set}
 use Rattle.desk_workers.proofs.rounds.round.Goals as goal
@@ -17,7 +17,7 @@ pub walk-moves-requires-clause-desk : goal.walk-moves-requires-clause-desk
 walk-moves-requires-clause-desk c κs =
     let h = c.loop-i.invariant in
     let inside : c.loop-i.i < length c.loop-i.desks = (let a = h.3 in let b = c.loop-i-test.true in omega arith) in
-    (c.loop-i.i, by_place (StandsIn (world_in c.args.board.now.about.world) c.loop-i.seat.view.seen) c.loop-i.desks h.2 c.loop-i.i c.index-desks-i.result inside)
+    (c.loop-i.i, by_place (StandsInWorld (world_in c.args.board.now.about.world) c.loop-i.seat.view.seen) c.loop-i.desks h.2 c.loop-i.i c.index-desks-i.result inside)
 
 pub loop-i-preserved : goal.loop-i-preserved
 loop-i-preserved c =
@@ -29,7 +29,7 @@ loop-i-preserved c =
     let d : Desk = get_or ds i d0 in
     let e : Desk = c.walk-moves.new.desk in
     let inside : i < length ds = (let a = h.3 in let b = c.loop-i-test.true in omega arith) in
-    let stands : StandsIn w c.loop-i.seat.view.seen i d = by_place (StandsIn w c.loop-i.seat.view.seen) ds h.2 i d0 inside in
+    let stands : StandsInWorld w c.loop-i.seat.view.seen i d = by_place (StandsInWorld w c.loop-i.seat.view.seen) ds h.2 i d0 inside in
     let lead = c.walk-moves.ensures.leads i stands in
     let count : c.walk-moves.result + left e ≡ left d = lead.counts in
     let sum : left_all (set ds i e) + left d ≡ left_all ds + left e = left_set ds i e d0 inside in

@@ -5,7 +5,8 @@ use Rattle.std.proofs.lemmas.List.{length-map}
 use Rattle.list_laws.specs.Checks.{first_fault}
 use Rattle.party_file.specs.Table.{numbers_in}
 use Rattle.party_file.proofs.SessionInputs.{inputs-stop, inputs-passed, pushed, read_more, read_all, same_checks, text_at_place, checks_of}
-use Rattle.party_file.proofs.CheckChains.{stops_by, joined_more-passed}
+use Rattle.party_file.specs.declared.fault.PartyFault.TheVariants.{Memory}
+use Rattle.list_laws.proofs.FirstFaults.{stops_by, joined_more-passed}
 use Rattle.party_file.proofs.inputs.read_inputs.Goals as goal
 
 pub returns-in_err-words-clause-fault : goal.returns-in_err-words-clause-fault
@@ -15,7 +16,7 @@ returns-in_err-words-clause-fault c =
     let within : c.loop-session.session < length c.args.items.now = omega arith in
     let text = text_at_place c.args.items.now c.loop-session.session _ _ within c.index-items-session.is c.text_of-text.ensures in
     let same = same_checks plan c.args.party texts _ _ c.loop-session.session _ _ c.ring.ensures.is c.owned-wanted.ensures c.part.ensures text in
-    stops_by c.from_residual.result _ _ _ c.from_residual.ensures.1
+    stops_by Memory c.from_residual.result _ _ _ c.from_residual.ensures.1
     (λ h. inputs-stop plan c.args.party texts c.loop-session.session _ (omega arith) c.loop-session.invariant.checked (ap first_fault (sym same) ∙ h)) c.in_err-words.ensures.fault
 
 pub loop-session-preserved : goal.loop-session-preserved

@@ -3,7 +3,7 @@ use Rattle.std.specs.Prelude.{slice_index_or}
 use Rattle.list_laws.specs.Lists.{only_if}
 use Rattle.job_plan.specs.declared.pattern.Line.{Line}
 use Rattle.party_program.specs.declared.step.Step.TheVariants.{Take}
-use Rattle.party_program.specs.PartySteps.{take_of, is_to}
+use Rattle.party_program.specs.PartySteps.{take_step, is_to}
 use Rattle.party_program.proofs.FewLines.{few_lines}
 use Rattle.party_program.proofs.GrownLists.{passing_step}
 use Rattle.party_program.proofs.list_steps.push_takes.Goals as goal
@@ -18,5 +18,5 @@ pub loop-place-preserved : goal.loop-place-preserved
 loop-place-preserved c =
     let none : Line = record { share = 0; sender = 0; receiver = 0 } in
     let line = slice_index_or c.lines-lines.result.now c.loop-place.place none in
-    passing_step take_of (is_to c.args.p) c.lines-lines.result.now c.loop-place.place none c.args.list.now c.loop-place.list _ c.loop-place-test.true c.loop-place.invariant
+    passing_step take_step (is_to c.args.p) c.lines-lines.result.now c.loop-place.place none c.args.list.now c.loop-place.list _ c.loop-place-test.true c.loop-place.invariant
     (c.in_ok-push_if.ensures ∙ ap (λ n. c.loop-place.list ++ only_if (nat_eq n c.args.p) (Take c.loop-place.place line.share ∷ [])) c.from.ensures)

@@ -4,7 +4,7 @@ use Rattle.list_laws.proofs.Totals.{total_more}
 use Rattle.job_plan.specs.Plans.{slot, slots, deals_in}
 use Rattle.job_plan.proofs.GrownLists.{listed_push}
 use Rattle.party_program.specs.declared.step.Step.{Step}
-use Rattle.party_program.specs.PartySteps.{deals}
+use Rattle.party_program.specs.PartySteps.{deals_in_pattern}
 use Rattle.party_program.specs.Standing.{start_of}
 use Rattle.party_program.proofs.OccurringPatterns.{steps_found, deals_by_pattern}
 use Rattle.party_program.proofs.ProgramPlaces.{before_more, length-slot}
@@ -60,7 +60,7 @@ loop-k-preserved c =
     let added : c.from.result ≡ (if deals_in plan s p (slot plan s k) then 1 else 0) =
     c.from.ensures
     ∙ as_number c.deals_in.result
-    ∙ ap (λ b. if b then 1 else 0) (c.deals_in.ensures plan c.multiplies-multiplies.ensures ∙ ap (deals plan p) c.pattern-pattern.ensures.is ∙ deals_by_pattern plan s p (slot plan s k)) in
+    ∙ ap (λ b. if b then 1 else 0) (c.deals_in.ensures plan c.multiplies-multiplies.ensures ∙ ap (deals_in_pattern plan p) c.pattern-pattern.ensures.is ∙ deals_by_pattern plan s p (slot plan s k)) in
     let one = one_most (deals_in plan s p (slot plan s k)) in
     record {
       starts = c.in_ok-push.ensures.items ∙ listed_push k (start_of plan p s) c.loop-k.list.items c.loop-k.start before.starts (ap₂ (λ n d. record { instructions = n; deals = d }) before.instructions before.deals);

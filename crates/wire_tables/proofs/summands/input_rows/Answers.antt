@@ -13,7 +13,7 @@ use Rattle.job_plan.specs.Plans.{session, scheme, slot, deals_in}
 use Rattle.job_plan.proofs.GrownLists.{listed_push}
 use Rattle.job_session.proofs.SessionSlots.{slot_input}
 use Rattle.share_world.specs.Worlds.{World, input_of, tape_word, first_summands}
-use Rattle.wire_tables.specs.WireTables.{world_of}
+use Rattle.wire_tables.specs.WireTables.{world_given}
 use Rattle.wire_tables.proofs.DealtRows.{zeros_listed}
 use Rattle.wire_tables.proofs.RowSteps.{dealt_here, rows_first}
 use Rattle.wire_tables.proofs.TableWords.{has_words}
@@ -22,7 +22,7 @@ use Rattle.wire_tables.proofs.summands.input_rows.Goals as goal
 pub index-requires : goal.index-requires
 index-requires c =
     let x : Session = session c.args.plan.now c.args.s in
-    let w : World = world_of c.args.plan.now c.args.inputs.now c.args.tapes.now in
+    let w : World = world_given c.args.plan.now c.args.inputs.now c.args.tapes.now in
     let long : length c.in_ok-given.given.items ≡ length (owners x) = ap length (c.in_ok-given.ensures w.tapes) ∙ length-listed (length (owners x)) (input_of w c.args.s) in
     let same : length (owners c.part-part.result.now) ≡ length (owners x) = ap (λ y. length (owners y)) c.part-part.ensures in
     let lv : c.loop-v.v < length (owners x) = omega (arith, c.loop-v-test.true, c.input_wires-v-end.ensures) in
@@ -31,7 +31,7 @@ index-requires c =
 pub dealt_row-requires-clause-value : goal.dealt_row-requires-clause-value
 dealt_row-requires-clause-value c =
     let x : Session = session c.args.plan.now c.args.s in
-    let w : World = world_of c.args.plan.now c.args.inputs.now c.args.tapes.now in
+    let w : World = world_given c.args.plan.now c.args.inputs.now c.args.tapes.now in
     let given = c.in_ok-given.ensures w.tapes in
     let same : length (owners c.part-part.result.now) ≡ length (owners x) = ap (λ y. length (owners y)) c.part-part.ensures in
     let lv : c.loop-v.v < length (owners x) = omega (arith, c.loop-v-test.true, c.input_wires-v-end.ensures) in
@@ -45,7 +45,7 @@ dealt_row-requires-clause-words c =
     let x : Session = session plan c.args.s in
     let v = c.loop-v.v in
     let o = c.wire_owner.result in
-    let w : World = world_of plan c.args.inputs.now c.args.tapes.now in
+    let w : World = world_given plan c.args.inputs.now c.args.tapes.now in
     let same : length (owners c.part-part.result.now) ≡ length (owners x) = ap (λ y. length (owners y)) c.part-part.ensures in
     let lv : v < length (owners x) = omega (arith, c.loop-v-test.true, c.input_wires-v-end.ensures) in
     let own : o ≡ slice_index (owners x) v = c.wire_owner.ensures ∙ ap (λ y. slice_index (owners y) v) c.part-part.ensures in
@@ -60,7 +60,7 @@ loop-v-preserved c =
     let v = c.loop-v.v in
     let o = c.wire_owner.result in
     let m : ℕ = length plan.groups in
-    let w : World = world_of plan c.args.inputs.now c.args.tapes.now in
+    let w : World = world_given plan c.args.inputs.now c.args.tapes.now in
     let given = c.in_ok-given.ensures w.tapes in
     let same : length (owners c.part-part.result.now) ≡ length (owners x) = ap (λ y. length (owners y)) c.part-part.ensures in
     let lv : v < length (owners x) = omega (arith, c.loop-v-test.true, c.input_wires-v-end.ensures) in
@@ -86,7 +86,7 @@ loop-wire-preserved c =
     let x : Session = session plan c.args.s in
     let v = c.loop-wire._wire in
     let m : ℕ = length plan.groups in
-    let w : World = world_of plan c.args.inputs.now c.args.tapes.now in
+    let w : World = world_given plan c.args.inputs.now c.args.tapes.now in
     let f : ℕ → List ℕ = λ v. listed m (first_summands w c.args.s v) in
     let same : length (owners c.part-part.result.now) ≡ length (owners x) = ap (λ y. length (owners y)) c.part-part.ensures in
     let past : length (owners x) ≤ v = omega (arith, c.input_wires-wire.ensures, c.loop-wire.auto._wire) in
@@ -101,7 +101,7 @@ loop-wire-preserved c =
 pub returns-clause-rows : goal.returns-clause-rows
 returns-clause-rows c =
     let x : Session = session c.args.plan.now c.args.s in
-    let w : World = world_of c.args.plan.now c.args.inputs.now c.args.tapes.now in
+    let w : World = world_given c.args.plan.now c.args.inputs.now c.args.tapes.now in
     let same : length (owners c.part-part.result.now) ≡ length (owners x) = ap (λ y. length (owners y)) c.part-part.ensures in
     let wires : c.part-part.result.now.wires ≡ x.wires = ap (λ (y : Session). y.wires) c.part-part.ensures in
     let inputs = (c.requires.whole.sound.sessions c.args.s c.requires.session).wired.input_wires in

@@ -4,7 +4,8 @@ use Rattle.std.proofs.lemmas.Grind.{get_or_default_zero}
 use Rattle.list_laws.specs.Lists.{total}
 use Rattle.job_plan.specs.InputWords.{given}
 use Rattle.job_session.specs.Sessions.{Session, owners}
-use Rattle.job_plan.specs.Plans.{session}
+use Rattle.job_session.specs.SoundSessions.{IsSoundSession}
+use Rattle.job_plan.specs.Plans.{Plan, session}
 use Rattle.job_plan.proofs.GrownLists.{listed_push}
 use Rattle.share_world.specs.Worlds.{World, input_of}
 use Rattle.wire_tables.proofs.ValueSteps.{gives_one, given_next, given_within, given_few}
@@ -14,36 +15,32 @@ use Rattle.wire_tables.proofs.values.input_list.Goals as goal
 read_count : (owner : ℕ → ℕ) (counts : List ℕ) (v n o at : ℕ) → length counts ≡ n → o < n → at ≡ slice_index_or counts o at → ((p : ℕ) → p < n → slice_index counts p ≡ total v (gives_one owner p)) → at ≡ total v (gives_one owner o)
 read_count owner counts v n o at long party e h = e ∙ get_or_default_zero counts o at (omega arith) ∙ h o party
 
-pub overflow_add-at : goal.overflow_add-at
-overflow_add-at c =
-    let plan = c.args.plan.now in
-    let x : Session = session plan c.args.s in
-    let v = c.loop-v.v in
-    let o = c.wire_owner-owner.result in
-    let sound = c.parties.ensures.sound.sessions c.args.s c.requires.session in
-    let same : length (owners c.part-part.result.now) ≡ length (owners x) = ap (λ y. length (owners y)) c.part-part.ensures in
-    let lv : v < length (owners x) = omega (arith, c.loop-v-test.true, c.input_wires-v-end.ensures) in
-    let own : o ≡ slice_index (owners x) v = c.wire_owner-owner.ensures ∙ ap (λ y. slice_index (owners y) v) c.part-part.ensures in
+-- how many words the owner of wire v gave before it, and that they are few
+few_given : (plan : Plan) (s : ℕ) (part : Session) (v owner at : ℕ) (counts : List ℕ) → IsSoundSession plan.parties (session plan s) → part ≡ session plan s → v < length (owners part) → owner ≡ slice_index (owners part) v
+    → length counts ≡ plan.parties → at ≡ slice_index_or counts owner at → ((p : ℕ) → p < plan.parties → slice_index counts p ≡ total v (gives_one (slice_index (owners (session plan s))) p)) → at < 131072
+few_given plan s part v o at counts sound is inside own_is long read counted =
+    let x : Session = session plan s in
+    let same : length (owners part) ≡ length (owners x) = ap (λ y. length (owners y)) is in
+    let lv : v < length (owners x) = omega (arith, inside, same) in
+    let own : o ≡ slice_index (owners x) v = own_is ∙ ap (λ y. slice_index (owners y) v) is in
     let party : o < plan.parties = subst (λ z. z < plan.parties) (sym own) (sound.owned v lv) in
-    let at_is = read_count (slice_index (owners x)) c.loop-v.given.items v plan.parties o c.index-at.result.now c.loop-v.invariant.parties party c.index-at.ensures c.loop-v.invariant.given in
+    let at_is = read_count (slice_index (owners x)) counts v plan.parties o at long party read counted in
     let few = given_few (slice_index (owners x)) o v in
     let wires = sound.wired.wires in let inputs = sound.wired.input_wires in
     omega arith
 
+pub overflow_add-at : goal.overflow_add-at
+overflow_add-at c =
+    let lv : c.loop-v.v < length (owners c.part-part.result.now) = omega (arith, c.loop-v-test.true, c.input_wires-v-end.ensures) in
+    let few = few_given c.args.plan.now c.args.s c.part-part.result.now c.loop-v.v c.wire_owner-owner.result c.index-at.result.now c.loop-v.given.items (c.parties.ensures.sound.sessions c.args.s c.requires.session) c.part-part.ensures lv c.wire_owner-owner.ensures
+    c.loop-v.invariant.parties c.index-at.ensures c.loop-v.invariant.given in
+    omega arith
+
 pub offset_bounds-of-at : goal.offset_bounds-of-at
 offset_bounds-of-at c =
-    let plan = c.args.plan.now in
-    let x : Session = session plan c.args.s in
-    let v = c.loop-v.v in
-    let o = c.wire_owner-owner.result in
-    let sound = c.parties.ensures.sound.sessions c.args.s c.requires.session in
-    let same : length (owners c.part-part.result.now) ≡ length (owners x) = ap (λ y. length (owners y)) c.part-part.ensures in
-    let lv : v < length (owners x) = omega (arith, c.loop-v-test.true, c.input_wires-v-end.ensures) in
-    let own : o ≡ slice_index (owners x) v = c.wire_owner-owner.ensures ∙ ap (λ y. slice_index (owners y) v) c.part-part.ensures in
-    let party : o < plan.parties = subst (λ z. z < plan.parties) (sym own) (sound.owned v lv) in
-    let at_is = read_count (slice_index (owners x)) c.loop-v.given.items v plan.parties o c.index-at.result.now c.loop-v.invariant.parties party c.index-at.ensures c.loop-v.invariant.given in
-    let few = given_few (slice_index (owners x)) o v in
-    let wires = sound.wired.wires in let inputs = sound.wired.input_wires in
+    let lv : c.loop-v.v < length (owners c.part-part.result.now) = omega (arith, c.loop-v-test.true, c.input_wires-v-end.ensures) in
+    let few = few_given c.args.plan.now c.args.s c.part-part.result.now c.loop-v.v c.wire_owner-owner.result c.index-at.result.now c.loop-v.given.items (c.parties.ensures.sound.sessions c.args.s c.requires.session) c.part-part.ensures lv c.wire_owner-owner.ensures
+    c.loop-v.invariant.parties c.index-at.ensures c.loop-v.invariant.given in
     omega arith
 
 pub bounds-of-at : goal.bounds-of-at

@@ -11,8 +11,8 @@ use Rattle.job_session.specs.Sessions.{Session, owners, gate}
 use Rattle.job_plan.specs.Plans.{session, scheme, slot, deals_in}
 use Rattle.job_session.proofs.SessionSlots.{slot_gate}
 use Rattle.share_world.specs.Worlds.{World, run_of}
-use Rattle.wire_tables.specs.Places.{ArePlaces, HasWords, dealt_at}
-use Rattle.wire_tables.specs.WireTables.{world_of, gate_summand}
+use Rattle.wire_tables.specs.Places.{ArePlaces, HasDealWords, dealt_at}
+use Rattle.wire_tables.specs.WireTables.{world_given, gate_summand}
 use Rattle.wire_tables.specs.Steps.{AreRows}
 use Rattle.wire_tables.proofs.ListedRows.{row_read}
 use Rattle.wire_tables.proofs.RowSteps.{is_row, gate_here, rows_next, rows_last}
@@ -25,7 +25,7 @@ gate_row-requires c =
     let s = c.args.s in
     let t = c.loop-t.t in
     let x : Session = session plan s in
-    let w : World = world_of plan c.args.inputs.now c.args.tapes.now in
+    let w : World = world_given plan c.args.inputs.now c.args.tapes.now in
     let sound = c.requires.whole.sound.sessions s c.requires.session in
     let gates : length c.part-part.result.now.gates ≡ length x.gates = ap (λ (y : Session). length y.gates) c.part-part.ensures in
     let lt : t < length x.gates = omega (arith, c.loop-t-test.true, c.gates-t-end.ensures) in
@@ -43,7 +43,7 @@ gate_row-requires c =
       more_words = b.small;
       tapes = λ product p lp pair.
           let deals : deals_in plan s p (slot plan s k) ≡ true = ap (deals_in plan s p) (slot_gate x t lt) ∙ and_from (is_product (gate x t).operation) (has_pair (scheme plan) p) (ap (λ (g : Gate). is_product g.operation) (sym at) ∙ product) pair in
-          subst (λ places. HasWords plan (session_words c.args.tapes.now) places p) (sym c.deref.ensures.value) (has_words w c.requires.whole s k p c.loop-t.places.items c.requires.session (omega arith) lp deals c.loop-t.invariant.places);
+          subst (λ places. HasDealWords plan (session_words c.args.tapes.now) places p) (sym c.deref.ensures.value) (has_words w c.requires.whole s k p c.loop-t.places.items c.requires.session (omega arith) lp deals c.loop-t.invariant.places);
     }
 
 pub loop-t-preserved : goal.loop-t-preserved
@@ -53,7 +53,7 @@ loop-t-preserved c =
     let t = c.loop-t.t in
     let m : ℕ = length plan.groups in
     let x : Session = session plan s in
-    let w : World = world_of plan c.args.inputs.now c.args.tapes.now in
+    let w : World = world_given plan c.args.inputs.now c.args.tapes.now in
     let sound = c.requires.whole.sound.sessions s c.requires.session in
     let gates : length c.part-part.result.now.gates ≡ length x.gates = ap (λ (y : Session). length y.gates) c.part-part.ensures in
     let inputs : length (owners c.part-part.result.now) ≡ length (owners x) = ap (λ y. length (owners y)) c.part-part.ensures in
@@ -87,7 +87,7 @@ loop-t-preserved c =
 pub returns : goal.returns
 returns c =
     let x : Session = session c.args.plan.now c.args.s in
-    let w : World = world_of c.args.plan.now c.args.inputs.now c.args.tapes.now in
+    let w : World = world_given c.args.plan.now c.args.inputs.now c.args.tapes.now in
     let gates : length c.part-part.result.now.gates ≡ length x.gates = ap (λ (y : Session). length y.gates) c.part-part.ensures in
     let ended : c.loop-t.t ≡ length x.gates = omega (arith, c.loop-t-test.false, c.gates-t-end.ensures, c.loop-t.auto.t-end) in
     rows_last w c.args.s c.loop-t.rows.items c.loop-t.t ended c.loop-t.invariant.rows

@@ -6,30 +6,34 @@ use Rattle.std.proofs.lemmas.Bool.{cases_Bool, both_ways, eqb-true, eq-eqb}
 use Rattle.circuit_model.specs.declared.gate.Operation.{Operation}
 use Rattle.circuit_model.specs.declared.gate.Operation.TheVariants.{Add, Sub, Neg, Mul, Xor, And, Inv, Eq, Eqw}
 use Rattle.circuit_model.specs.Circuits.{is_product}
-use Rattle.circuit_model.specs.Netlists.{arity, reads, read_by}
+use Rattle.circuit_model.specs.Netlists.{arity, inputs_read, read_by}
 use Rattle.job_session.specs.Sessions.{Session, owners, gate, session_slots}
-use Rattle.job_session.specs.KeptWires.{IsInOrder, sets, sets_in, reads_in}
+use Rattle.job_session.specs.KeptWires.{IsInOrder, slot_sets, sets_in, reads_in}
 use Rattle.list_laws.proofs.Tests.{or_true}
 use Rattle.job_session.proofs.SessionSlots.{slot_input, slot_gate, slot_cases}
 use Rattle.share_world.specs.Solutions.{SetBefore, GatesInOrder, reads_first, reads_second}
 
-is_one : (u v : ℕ) → v ≡ u → list_any (nat_eq v) (u ∷ []) ≡ true
+-- ---- whether a wire is one of these
+
+pub is_one : (u v : ℕ) → v ≡ u → list_any (nat_eq v) (u ∷ []) ≡ true
 is_one u v e = ap (λ b. b || false) (eq-eqb v u e)
 
-of_one : (u v : ℕ) → list_any (nat_eq v) (u ∷ []) ≡ true → v ≡ u
+pub of_one : (u v : ℕ) → list_any (nat_eq v) (u ∷ []) ≡ true → v ≡ u
 of_one u v h = elim (cases_Bool (nat_eq v u)) [
   | inl e ↦ eqb-true v u e
   | inr e ↦ absurd (both_ways (nat_eq v u || false) (ap (λ b. b || false) e) h)
 ]
 
-is_first : (a b : ℕ) → list_any (nat_eq a) (a ∷ b ∷ []) ≡ true
+pub is_first : (a b : ℕ) → list_any (nat_eq a) (a ∷ b ∷ []) ≡ true
 is_first a b = ap (λ z. z || (nat_eq a b || false)) (eq-eqb a a refl)
 
-is_second : (a b : ℕ) → list_any (nat_eq b) (a ∷ b ∷ []) ≡ true
+pub is_second : (a b : ℕ) → list_any (nat_eq b) (a ∷ b ∷ []) ≡ true
 is_second a b = ap (λ z. nat_eq b a || z) (is_one b b refl) ∙ or_true (nat_eq b a)
 
+-- ---- what an operation reads
+
 -- the wires that an operation reads are among those that it takes
-first_read : (op : Operation) (a b : ℕ) → reads_first op ≡ true → list_any (nat_eq a) (reads op (take (arity op) (a ∷ b ∷ []))) ≡ true
+first_read : (op : Operation) (a b : ℕ) → reads_first op ≡ true → list_any (nat_eq a) (inputs_read op (take (arity op) (a ∷ b ∷ []))) ≡ true
 first_read Add a b r = is_first a b
 first_read Sub a b r = is_first a b
 first_read Mul a b r = is_first a b
@@ -40,7 +44,7 @@ first_read Inv a b r = is_one a a refl
 first_read Eqw a b r = is_one a a refl
 first_read Eq a b r = absurd (both_ways false refl r)
 
-second_read : (op : Operation) (a b : ℕ) → reads_second op ≡ true → list_any (nat_eq b) (reads op (take (arity op) (a ∷ b ∷ []))) ≡ true
+second_read : (op : Operation) (a b : ℕ) → reads_second op ≡ true → list_any (nat_eq b) (inputs_read op (take (arity op) (a ∷ b ∷ []))) ≡ true
 second_read Add a b r = is_second a b
 second_read Sub a b r = is_second a b
 second_read Mul a b r = is_second a b
@@ -52,14 +56,14 @@ second_read Eqw a b r = absurd (both_ways false refl r)
 second_read Eq a b r = absurd (both_ways false refl r)
 
 -- a wire that an earlier slot sets is set before the gate
-set_before : (x : Session) (t w : ℕ) → (j : ℕ) → j < session_slots x → sets x j w ≡ true → j < length (owners x) + t → SetBefore x t w
+set_before : (x : Session) (t w : ℕ) → (j : ℕ) → j < session_slots x → slot_sets x j w ≡ true → j < length (owners x) + t → SetBefore x t w
 set_before x t w = slot_cases x (λ j z. list_any (nat_eq w) (sets_in x z) ≡ true → j < length (owners x) + t → SetBefore x t w)
     (λ v lv h l. inl (subst (λ z. z < length (owners x)) (sym (of_one v w h)) lv))
     (λ u lu h l. inr (u, omega arith, sym (of_one (gate x u).output w h)))
     (λ o lo h l. absurd (both_ways false refl h))
 
 -- and such a wire was set by an earlier slot
-setter : (x : Session) (t w : ℕ) → t ≤ length x.gates → SetBefore x t w → (j : ℕ) × (j < length (owners x) + t) × (sets x j w ≡ true)
+setter : (x : Session) (t w : ℕ) → t ≤ length x.gates → SetBefore x t w → (j : ℕ) × (j < length (owners x) + t) × (slot_sets x j w ≡ true)
 setter x t w le (inl l) = (w, omega arith, ap (λ z. list_any (nat_eq w) (sets_in x z)) (slot_input x w l) ∙ is_one w w refl)
 setter x t w le (inr u) =
     let less : u.0 < t = u.1 in
@@ -82,11 +86,11 @@ module _ (x : Session) (order : IsInOrder x) where
         let w : ℕ = (gate x t).output in
         let k : ℕ = length (owners x) + t in
         let by = setter x t w (omega arith) set in
-        both_ways (sets x k w) (order.once by.0 k w by.1 (omega arith) by.2) (ap (λ z. list_any (nat_eq w) (sets_in x z)) (slot_gate x t l) ∙ is_one w w refl);
+        both_ways (slot_sets x k w) (order.once by.0 k w by.1 (omega arith) by.2) (ap (λ z. list_any (nat_eq w) (sets_in x z)) (slot_gate x t l) ∙ is_one w w refl);
   }
 
 -- a product reads both its wires
-product_reads : (op : Operation) → is_product op ≡ true → (reads_first op ≡ true) × (reads_second op ≡ true)
+pub product_reads : (op : Operation) → is_product op ≡ true → (reads_first op ≡ true) × (reads_second op ≡ true)
 product_reads Mul p = (refl, refl)
 product_reads And p = (refl, refl)
 product_reads Add p = absurd (both_ways false refl p)
