@@ -12,9 +12,9 @@ fn owners_before_readers(rt: HostRuntime) -> Result<(), Fail> {
         wanted: 1,
         found: 0,
     };
-    assert_eq!(rt; check_counts(2, 3, 1, 0), Err(owners));
-    assert_eq!(rt; check_counts(2, 2, 1, 0), Err(readers));
-    assert_eq!(rt; check_counts(2, 2, 1, 1), Ok(()));
+    expect_same!(rt; check_counts(2, 3, 1, 0), Err(owners));
+    expect_same!(rt; check_counts(2, 2, 1, 0), Err(readers));
+    expect_same!(rt; check_counts(2, 2, 1, 1), Ok(()));
     Ok(())
 }
 
@@ -24,13 +24,13 @@ fn texts_of_faults(rt: HostRuntime) -> Result<(), Fail> {
         wanted: 2,
         found: 3,
     };
-    assert_eq!(rt; (part.number(), part.name()), (2, "ReadersDiffer"));
-    assert_eq!(rt; (part.wanted(), part.found()), (Some(2), Some(3)));
+    expect_same!(rt; (part.number(), part.name()), (2, "ReadersDiffer"));
+    expect_same!(rt; (part.wanted(), part.found()), (Some(2), Some(3)));
     let plan = PlanFault::TooManyWords {
         party: 1,
         count: 1_048_577,
     };
-    assert_eq!(rt; (plan.number(), plan.name()), (2, "TooManyWords"));
-    assert_eq!(rt; (plan.party(), plan.count()), (Some(1), Some(1_048_577)));
+    expect_same!(rt; (plan.number(), plan.name()), (2, "TooManyWords"));
+    expect_same!(rt; (plan.party(), plan.count()), (Some(1), Some(1_048_577)));
     Ok(())
 }

@@ -1,62 +1,75 @@
 //! Lines of tokens.
-use gate_lines::Lines;
+use gate_lines::{Cursor, Line, Lines};
+use std::process::Abort;
+
+fn expect_first(rt: &impl Abort, line: &Line<'_>) {
+    expect_same!(rt; (line.number(), line.count()), (1, 2));
+    expect_same!(rt; line.token(1), "3");
+}
+
+fn expect_second(rt: &impl Abort, line: &Line<'_>) {
+    expect_same!(rt; (line.number(), line.count()), (4, 3));
+    expect_same!(rt; line.value(0), Some(2));
+    expect_same!(rt; line.token(3), "");
+}
 
 #[test]
 fn blank_lines_count(rt: HostRuntime) {
     let mut lines = Lines::new("1 3\r\n\n \t\r\n2  1\t1");
-    let first = lines.next_line().expect(&rt, "the first line");
-    assert_eq!(rt; first.number(), 1);
-    assert_eq!(rt; first.count(), 2);
-    assert_eq!(rt; first.token(1), "3");
-    let second = lines.next_line().expect(&rt, "the fourth line");
-    assert_eq!(rt; second.number(), 4);
-    assert_eq!(rt; second.count(), 3);
-    assert_eq!(rt; second.value(0), Some(2));
-    assert_eq!(rt; second.token(3), "");
+    expect_first(&rt, &lines.next_line().expect(&rt, "the first line"));
+    expect_second(&rt, &lines.next_line().expect(&rt, "the fourth line"));
     assert!(rt; lines.next_line().is_none());
     assert!(rt; lines.next_line().is_none());
+}
+
+fn expect_numbers(rt: &impl Abort, cursor: &mut Cursor<'_>, numbers: &[Option<u64>]) {
+    for number in numbers {
+        expect_same!(rt; cursor.number(), *number);
+    }
 }
 
 #[test]
 fn tokens_in_one_go(rt: HostRuntime) {
     let lines = Lines::new("\n \r\n\t12  0007\tADD \r\n18446744073709551615 x");
     let mut cursor = lines.cursor();
-    assert_eq!(rt; cursor.line(), 3);
-    assert_eq!(rt; cursor.number(), Some(12));
-    assert_eq!(rt; cursor.number(), Some(7));
-    assert_eq!(rt; cursor.number(), None);
-    assert_eq!(rt; cursor.token(), Some(b"ADD".as_slice()));
+    expect_same!(rt; cursor.line(), 3);
+    expect_numbers(&rt, &mut cursor, &[Some(12), Some(7), None]);
+    expect_same!(rt; cursor.token(), Some(b"ADD".as_slice()));
     assert!(rt; cursor.token().is_none());
-    let rest = cursor.finish().expect(&rt, "the lines after the third");
+    expect_last(
+        &rt,
+        &cursor.finish().expect(&rt, "the lines after the third"),
+    );
+}
+
+fn expect_last(rt: &impl Abort, rest: &Lines<'_>) {
     let mut last = rest.cursor();
-    assert_eq!(rt; last.line(), 4);
-    assert_eq!(rt; last.number(), Some(u64::MAX));
+    expect_same!(rt; last.line(), 4);
+    expect_numbers(rt, &mut last, &[Some(u64::MAX)]);
     assert!(rt; last.finish().is_none());
 }
 
+const NUMBERS: [(&str, Option<u64>); 12] = [
+    ("7", Some(7)),
+    ("7\r\n", Some(7)),
+    ("9999999999999999999", Some(9999999999999999999)),
+    ("00000000000000000007\n", Some(7)),
+    ("18446744073709551615", Some(u64::MAX)),
+    ("18446744073709551616", None),
+    ("99999999999999999999", None),
+    ("000000000000000000000x", None),
+    ("1x", None),
+    ("+1", None),
+    ("1\u{b}", None),
+    ("", None),
+];
+
 #[test]
 fn numbers_in_one_go(rt: HostRuntime) {
-    let rows = [
-        ("7", Some(7)),
-        ("7\r\n", Some(7)),
-        ("9999999999999999999", Some(9999999999999999999)),
-        ("00000000000000000007\n", Some(7)),
-        ("18446744073709551615", Some(u64::MAX)),
-        ("18446744073709551616", None),
-        ("99999999999999999999", None),
-        ("000000000000000000000x", None),
-        ("1x", None),
-        ("+1", None),
-        ("1\u{b}", None),
-        ("", None),
-    ];
-    for (text, value) in rows {
+    for (text, value) in &NUMBERS {
         let mut cursor = Lines::new(text).cursor();
-        assert_eq!(rt; cursor.number(), value, "{text}");
-        assert_eq!(rt;
-            cursor.finish().is_some(),
-            value.is_some() || text.is_empty(),
-            "{text}"
-        );
+        expect_same!(rt; cursor.number(), *value, text);
+        let ends = value.is_some() || text.is_empty();
+        expect_same!(rt; cursor.finish().is_some(), ends, text);
     }
 }

@@ -15,27 +15,43 @@ fn read_text(rt: &impl Abort, alloc: Global, text: &str) -> Result<Circuit, Circ
 
 fn check_faults(rt: &impl Abort, alloc: Global, rows: &[(&str, CircuitFault)]) {
     for (text, fault) in rows {
-        assert_eq!(rt; read_text(rt, alloc, text).err(), Some(*fault), "{text}");
+        expect_same!(rt; read_text(rt, alloc, text).err(), Some(*fault), text);
     }
 }
 
 fn check_multiply(rt: &impl Abort, alloc: Global, text: &str) -> Result<(), Fail> {
     let circuit = read_text(rt, alloc, text)?;
-    assert_eq!(rt; circuit.gates(), 1);
-    assert_eq!(rt; circuit.wires(), 3);
-    assert_eq!(rt; circuit.input_widths(), [1, 1].as_slice());
-    assert_eq!(rt; circuit.output_widths(), [1].as_slice());
-    assert!(rt; circuit.gates() > 0);
-    let multiply = Gate {
-        operation: Operation::Mul,
-        first: 0,
-        second: 1,
-        output: 2,
-        constant: 0,
-    };
-    assert_eq!(rt; circuit.gate(0), multiply);
+    expect_same!(rt; (circuit.gates(), circuit.wires()), (1, 3));
+    expect_widths(rt, &circuit);
+    expect_gate(rt, &circuit, PRODUCT);
     Ok(())
 }
+
+fn expect_widths(rt: &impl Abort, circuit: &Circuit) {
+    expect_same!(rt; circuit.input_widths(), [1, 1].as_slice());
+    expect_same!(rt; circuit.output_widths(), [1].as_slice());
+}
+
+fn expect_gate(rt: &impl Abort, circuit: &Circuit, wanted: Gate) {
+    assert!(rt; circuit.gates() > 0);
+    expect_same!(rt; circuit.gate(0), wanted);
+}
+
+const PRODUCT: Gate = Gate {
+    operation: Operation::Mul,
+    first: 0,
+    second: 1,
+    output: 2,
+    constant: 0,
+};
+
+const CONSTANT: Gate = Gate {
+    operation: Operation::Eq,
+    first: 0,
+    second: 0,
+    output: 2,
+    constant: 255,
+};
 
 #[test]
 fn multiply(rt: HostRuntime) -> Result<(), Fail> {
@@ -57,23 +73,19 @@ fn multiply(rt: HostRuntime) -> Result<(), Fail> {
 #[test]
 fn no_gates(rt: HostRuntime) -> Result<(), Fail> {
     let circuit = read_text(&rt, rt.alloc(), "0 1\n1 1\n1 1\n")?;
-    assert_eq!(rt; circuit.gates(), 0);
-    assert_eq!(rt; circuit.inputs(), 1);
-    assert_eq!(rt; circuit.outputs(), 1);
+    expect_same!(rt;
+        (circuit.gates(), circuit.inputs(), circuit.outputs()),
+        (0, 1, 1)
+    );
     let nothing = read_text(&rt, rt.alloc(), "0 0\n0\n0")?;
-    assert_eq!(rt; nothing.wires(), 0);
+    expect_same!(rt; nothing.wires(), 0);
     Ok(())
 }
 
 #[test]
 fn a_constant(rt: HostRuntime) -> Result<(), Fail> {
     let circuit = read_text(&rt, rt.alloc(), "1 3\n2 1 1\n1 1\n1 1 255 2 EQ\n")?;
-    assert!(rt; circuit.gates() > 0);
-    let gate = circuit.gate(0);
-    assert_eq!(rt; gate.operation, Operation::Eq);
-    assert_eq!(rt; gate.constant, 255);
-    assert_eq!(rt; gate.first, 0);
-    assert_eq!(rt; gate.output, 2);
+    expect_gate(&rt, &circuit, CONSTANT);
     Ok(())
 }
 
@@ -194,7 +206,7 @@ fn hostile_numbers(rt: HostRuntime) {
 fn no_text(rt: HostRuntime) {
     let ring = Ring::new(8).expect(&rt, "a ring of 8 bits");
     let fault = read(rt.alloc(), b"1 3\n2\xff1 1\n1 1\n2 1 0 1 2 MUL\n", ring).err();
-    assert_eq!(rt; fault, Some(CircuitFault::NotUtf8 { at: 5 }));
+    expect_same!(rt; fault, Some(CircuitFault::NotUtf8 { at: 5 }));
 }
 
 /// The fault of the first bytes of the file, which has 28.

@@ -6,6 +6,7 @@ ghost use Rattle.party_file.specs.Forms.{form_of, FitsPlan};
 ghost use Rattle.job_run.specs.Parties.{AllFit};
 ghost use Rattle.job_run.specs.Pieces.{pieces_in};
 
+use crate::product_plan::FILES;
 use core_world::World;
 use job_plan::{Inputs, Plan};
 use party_file::{PartyData, read_party};
@@ -73,4 +74,14 @@ pub fn opened(alloc: Global, plan: &Plan, all_data: Vec<PartyData>) -> Result<Wo
     let FirstParts { inputs, pieces } = first_parts(alloc, all_data)?;
     let inputs = Inputs::make(plan, inputs);
     World::open(alloc, plan, &inputs, pieces)
+}
+
+/// The world of the plan of one product, before its first step.
+pub fn product_world(alloc: Global, plan: &Plan) -> Result<World, Fail>
+    requires sessions { length plan.now.sessions ≡ 1 }
+    requires parties { plan.now.parties ≡ 3 }
+    ensures { IfOk result (IsRunOfPlan plan.now) }
+{
+    let all_data = all_data(alloc, plan, &FILES)?;
+    Ok(opened(alloc, plan, all_data)?)
 }

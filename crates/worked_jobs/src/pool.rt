@@ -38,21 +38,24 @@ fn expect_words(rt: &impl Abort, done: &Done)
     requires { (w : worlds.World) × (w.plan ≡ multiply.multiply_plan w.plan.bits) × IsOver w done.now }
 {
     for number in 0..21 {
-        assert_eq!(rt; done.cell(number), MESSAGES[number as usize]);
+        expect_same!(rt; done.cell(number), MESSAGES[number as usize]);
     }
-    assert_eq!(rt; done.delivered(0, 0, 2), 35);
-    assert_eq!(rt; done.drawn(0, 0), 4);
-    assert_eq!(rt; done.drawn(1, 0), 4);
-    assert_eq!(rt; done.drawn(2, 0), 2);
-    assert_eq!(rt; done.steps(), 54);
+    expect_same!(rt; done.delivered(0, 0, 2), 35);
+    expect_same!(rt; done.drawn(0, 0), 4);
+    expect_same!(rt; done.drawn(1, 0), 4);
+    expect_same!(rt; done.drawn(2, 0), 2);
+    expect_same!(rt; done.steps(), 54);
 }
+
+// How many workers run.
+const WORKERS: [u32; 3] = [1, 2, 16];
 
 #[test]
 fn any_number_of_workers_has_the_words(rt: HostRuntime) -> Result<(), Fail> {
     let ring = Ring::new(8).ok_or("no ring")?;
     let plan = multiply_plan(rt.alloc(), ring)?;
-    for workers in [1, 2, 16] {
-        let done = run_by(&rt, rt.alloc(), &plan, &FILES, workers)?;
+    for workers in &WORKERS {
+        let done = run_by(&rt, rt.alloc(), &plan, &FILES, *workers)?;
         expect_words(&rt, &done);
     }
     Ok(())

@@ -5,11 +5,10 @@ ghost use Rattle.share_world.specs.Worlds.{World};
 ghost use Rattle.share_world.specs.Multiply.{multiply_world};
 ghost use Rattle.program_laws.specs.Lawful.{given_in};
 ghost use Rattle.party_desk.specs.Desks.{IsDesk};
-ghost use Rattle.desk_laws.specs.InWorld.{IsDone};
+ghost use Rattle.desk_laws.specs.InWorld.{IsDeskDone};
 ghost use Rattle.worked_jobs.specs.Recording.{HasWords};
 
 use crate::product_plan::{MESSAGES, multiply_plan};
-use arrayvec::ArrayVec;
 use desk_laws::{ended_desks_are_done, next_instructions_are_served, step_in_world};
 use job_plan::Plan;
 use message_board::{Cells, Posted};
@@ -19,6 +18,7 @@ use program_laws::worlds_are_lawful;
 use share_world::multiply_job;
 use std::alloc::{AllocError, Global};
 use std::marker::Model;
+use std::process::Abort;
 use std::test::Fail;
 use tape_words::Tape;
 
@@ -27,12 +27,6 @@ use tape_words::Tape;
 enum Call {
     Post(u32, u64),
     Take(u32),
-}
-
-impl Default for Call {
-    fn default() -> Call {
-        Call::Take(0)
-    }
 }
 
 /// What the third party's desk asks for where 5 and 7 are multiplied, by hand: it takes its summands of both inputs,
@@ -54,12 +48,12 @@ const CALLS: [Call; 13] = [
     Call::Take(20),
 ];
 
-/// Cells that have a word for each number beforehand, whatever is posted, and keep the first 64 calls in their order.
+/// Cells that have a word for each number beforehand, whatever is posted, and keep the calls in their order.
 /// Contracts see the words.
 #[derive(Drop)]
 struct Recorder {
     words: Vec<u64>,
-    calls: ArrayVec<Call, 64>,
+    calls: Vec<Call>,
 }
 
 impl Model for Recorder {
@@ -76,15 +70,15 @@ impl Recorder {
     {
         Ok(Recorder {
             words: words.to_vec(alloc)?,
-            calls: ArrayVec::new(),
+            calls: Vec::with_capacity(alloc, 64)?,
         })
     }
 
-    // Keeps the call, where there is room.
+    // Keeps the call, where there is memory.
     fn keep(&mut self, call: Call)
         ensures { self.new ≡ self.old }
     {
-        let _ = self.calls.try_push(call);
+        let _ = self.calls.push(call);
     }
 }
 
@@ -117,7 +111,7 @@ fn finish_desk(plan: &Plan, desk: &mut Desk, cells: &mut Recorder)
     requires { (w : World) × (s : ℕ) × (p : ℕ) × HasWords plan.now w s p desk.old cells.old }
     ensures stays { (w : World) (s p : ℕ) → HasWords plan.now w s p desk.old cells.old
         → HasWords plan.now w s p desk.new cells.new }
-    ensures done { (w : World) (s p : ℕ) → HasWords plan.now w s p desk.old cells.old → IsDone w s p desk.new }
+    ensures done { (w : World) (s p : ℕ) → HasWords plan.now w s p desk.old cells.old → IsDeskDone w s p desk.new }
 {
     worlds_are_lawful();
     next_instructions_are_served();
@@ -141,6 +135,19 @@ fn reader(alloc: Global, plan: &Plan, ring: Ring) -> Result<Desk, Fail>
     }
 }
 
+fn expect_calls(rt: &impl Abort, cells: &Recorder) {
+    expect_same!(rt; cells.calls.as_slice(), CALLS.as_slice());
+}
+
+// What the third party's desk has done at its end.
+fn expect_ended(rt: &impl Abort, desk: &Desk) {
+    expect_same!(rt; desk.delivered(0), Some(35));
+    expect_same!(rt; desk.rows(), 3);
+    expect_same!(rt; desk.drawn(), 2);
+    expect_same!(rt; desk.sent(), 4);
+    expect_same!(rt; desk.taken(), 9);
+}
+
 #[test]
 fn a_reader_over_a_recorder(rt: HostRuntime) -> Result<(), Fail> {
     let alloc = rt.alloc();
@@ -150,15 +157,11 @@ fn a_reader_over_a_recorder(rt: HostRuntime) -> Result<(), Fail> {
     let mut cells = Recorder::new(alloc, &MESSAGES)?;
     multiply_job();
     worlds_are_lawful();
-    assert_eq!(rt; plan.live(0), 2);
-    assert_eq!(rt; desk.rows(), 3);
+    expect_same!(rt; plan.live(0), 2);
+    expect_same!(rt; desk.rows(), 3);
     finish_desk(&plan, &mut desk, &mut cells);
-    assert_eq!(rt; step_in_world(&mut desk, &plan, &mut cells), Stepped::Ended);
-    assert_eq!(rt; cells.calls.as_slice(), CALLS.as_slice());
-    assert_eq!(rt; desk.delivered(0), Some(35));
-    assert_eq!(rt; desk.rows(), 3);
-    assert_eq!(rt; desk.drawn(), 2);
-    assert_eq!(rt; desk.sent(), 4);
-    assert_eq!(rt; desk.taken(), 9);
+    expect_same!(rt; step_in_world(&mut desk, &plan, &mut cells), Stepped::Ended);
+    expect_calls(&rt, &cells);
+    expect_ended(&rt, &desk);
     Ok(())
 }

@@ -50,14 +50,14 @@ fn a_seat(board: &TokenBoard, mut seats: Vec<TokenSeat>) -> Option<TokenSeat>
 fn a_cell_of_a_board_is_filled_once(rt: HostRuntime) -> Result<(), Fail> {
     let (board, seats) = five_cells(rt.alloc())?;
     let mut seat = a_seat(&board, seats).ok_or("no seat")?;
-    assert_eq!(rt; board.post(&mut seat, 3, 7), Posted::Done);
-    assert_eq!(rt; board.post(&mut seat, 3, 7), Posted::Occupied(7));
-    assert_eq!(rt; board.take(&mut seat, 3), Some(7));
-    assert_eq!(rt; board.take(&mut seat, 4), None);
+    expect_same!(rt; board.post(&mut seat, 3, 7), Posted::Done);
+    expect_same!(rt; board.post(&mut seat, 3, 7), Posted::Occupied(7));
+    expect_same!(rt; board.take(&mut seat, 3), Some(7));
+    expect_same!(rt; board.take(&mut seat, 4), None);
     let mut last = Vec::new(rt.alloc());
     last.push(seat)?;
     let closed = board.close(last);
-    assert_eq!(rt; closed.cell(3), Some(7));
-    assert_eq!(rt; closed.cell(4), None);
+    expect_same!(rt; closed.cell(3), Some(7));
+    expect_same!(rt; closed.cell(4), None);
     Ok(())
 }

@@ -10,8 +10,8 @@ fn two_words_and_a_difference(rt: HostRuntime) -> Result<(), Fail> {
     let mut tape = Tape::from_words(ring, vec![in rt.alloc(); 10, 20, 1]?)?;
     let mut summands = [0; 3];
     deal(ring, 5, &mut tape, &mut summands);
-    assert_eq!(rt; summands, [10, 20, 231]);
-    assert_eq!(rt; tape.left(), 1);
+    expect_same!(rt; summands, [10, 20, 231]);
+    expect_same!(rt; tape.left(), 1);
     Ok(())
 }
 
@@ -21,7 +21,7 @@ fn one_summand_is_the_value(rt: HostRuntime) -> Result<(), Fail> {
     let mut tape = Tape::from_words(ring, vec![in rt.alloc(); 10]?)?;
     let mut summands = [0; 1];
     deal(ring, 6, &mut tape, &mut summands);
-    assert_eq!(rt; summands, [6]);
-    assert_eq!(rt; tape.left(), 1);
+    expect_same!(rt; summands, [6]);
+    expect_same!(rt; tape.left(), 1);
     Ok(())
 }

@@ -5,6 +5,7 @@ use party_set::{Group, Groups};
 use product_duty::Duty;
 use share_layout::Layout;
 use std::alloc::{AllocError, Global};
+use std::process::Abort;
 use std::test::Fail;
 
 fn second_alone(alloc: Global) -> Result<Groups, AllocError>
@@ -15,20 +16,25 @@ fn second_alone(alloc: Global) -> Result<Groups, AllocError>
     Ok(Groups::of(2, groups))
 }
 
+fn expect_layout(rt: &impl Abort, layout: &Layout)
+    requires { layout.now ≡ record { parties = 2; groups = 2 ∷ [] } }
+{
+    expect_same!(rt; layout.shares(), 1);
+    assert!(rt; layout.holds(0, 0));
+    assert!(rt; !layout.holds(1, 0));
+    expect_same!(rt; layout.least_holder(0), 0);
+}
+
 #[test]
 fn one_party_holds_and_multiplies(rt: HostRuntime) -> Result<(), Fail> {
     let groups = second_alone(rt.alloc())?;
-    let layout = Layout::make(rt.alloc(), &groups)?;
-    assert_eq!(rt; layout.shares(), 1);
-    assert!(rt; layout.holds(0, 0));
-    assert!(rt; !layout.holds(1, 0));
-    assert_eq!(rt; layout.least_holder(0), 0);
+    expect_layout(&rt, &Layout::make(rt.alloc(), &groups)?);
     let duty = Duty::make(rt.alloc(), &groups)?;
-    assert_eq!(rt; duty.duty(0, 0), 0);
+    expect_same!(rt; duty.duty(0, 0), 0);
     assert!(rt; duty.deals(0));
     assert!(rt; !duty.deals(1));
     let mut pairs = duty.pairs(0);
-    assert_eq!(rt; pairs.next(), Some((0, 0)));
-    assert_eq!(rt; pairs.next(), None);
+    expect_same!(rt; pairs.next(), Some((0, 0)));
+    expect_same!(rt; pairs.next(), None);
     Ok(())
 }

@@ -1,6 +1,7 @@
 //! Families of tolerated groups.
 use maximal_groups::{Family, Listed, find_groups};
-use party_set::Group;
+use party_set::{Group, Groups};
+use std::process::Abort;
 use std::test::Fail;
 
 /// Two parties, of which the first knows all.
@@ -23,11 +24,17 @@ impl Family for FirstHolds {
     }
 }
 
+/// That these groups were found.
+pub fn expect_masks(rt: &impl Abort, groups: &Groups, masks: &[u32]) {
+    assert!(rt; groups.len() as usize == masks.len());
+    for (i, mask) in masks.iter().enumerate() {
+        expect_same!(rt; groups.get(i as u32).mask(), *mask);
+    }
+}
+
 #[test]
 fn the_second_party_alone(rt: HostRuntime) -> Result<(), Fail> {
-    let groups = find_groups(rt.alloc(), &FirstHolds)?;
-    assert_eq!(rt; groups.len(), 1);
-    assert_eq!(rt; groups.get(0).mask(), 2);
+    expect_masks(&rt, &find_groups(rt.alloc(), &FirstHolds)?, &[2]);
     Ok(())
 }
 
@@ -36,18 +43,18 @@ fn groups_within_others_change_nothing(rt: HostRuntime) -> Result<(), Fail> {
     let nobody = Group::empty(4);
     let (a, b) = (nobody.with(0), nobody.with(1));
     let list = vec![in rt.alloc(); b, a, b.with(2), a]?;
-    let groups = find_groups(rt.alloc(), &Listed::make(4, list))?;
-    assert_eq!(rt; groups.len(), 2);
-    assert_eq!(rt; groups.get(0).mask(), 1);
-    assert_eq!(rt; groups.get(1).mask(), 6);
+    expect_masks(
+        &rt,
+        &find_groups(rt.alloc(), &Listed::make(4, list))?,
+        &[1, 6],
+    );
     Ok(())
 }
 
 #[test]
 fn an_empty_list_tolerates_nobody(rt: HostRuntime) -> Result<(), Fail> {
-    let groups = find_groups(rt.alloc(), &Listed::make(3, Vec::new(rt.alloc())))?;
-    assert_eq!(rt; groups.len(), 1);
-    assert_eq!(rt; groups.get(0).mask(), 0);
+    let nobody = Listed::make(3, Vec::new(rt.alloc()));
+    expect_masks(&rt, &find_groups(rt.alloc(), &nobody)?, &[0]);
     Ok(())
 }
 
@@ -55,8 +62,6 @@ fn an_empty_list_tolerates_nobody(rt: HostRuntime) -> Result<(), Fail> {
 fn all_parties_are_a_group(rt: HostRuntime) -> Result<(), Fail> {
     let a = Group::empty(2).with(0);
     let list = vec![in rt.alloc(); a, a.with(1)]?;
-    let groups = find_groups(rt.alloc(), &Listed::make(2, list))?;
-    assert_eq!(rt; groups.len(), 1);
-    assert_eq!(rt; groups.get(0).mask(), 3);
+    expect_masks(&rt, &find_groups(rt.alloc(), &Listed::make(2, list))?, &[3]);
     Ok(())
 }

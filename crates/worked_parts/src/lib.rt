@@ -1,8 +1,22 @@
 //! Worked cases of groups, words, cells and what a party does with them.
 #![tactic(auto)]
 
+/// That both are equal, which the text of the first tells where they are not, or another one. It is a call, since the
+/// proof of a call is far shorter than that of an assertion in place.
+#[cfg(test)]
+macro_rules! expect_same {
+    ($rt:expr; $found:expr, $wanted:expr $(,)?) => {
+        crate::check::expect_equal(&$rt, stringify!($found), $found, $wanted)
+    };
+    ($rt:expr; $found:expr, $wanted:expr, $text:expr) => {
+        crate::check::expect_equal(&$rt, $text, $found, $wanted)
+    };
+}
+
 #[cfg(test)]
 mod boards;
+#[cfg(test)]
+mod check;
 #[cfg(test)]
 mod deals;
 #[cfg(test)]

@@ -1,38 +1,48 @@
 //! Names of parties.
-use party_set::{NamesFault, read_names};
+use party_set::{Names, NamesFault, read_names};
+use std::alloc::{AllocError, Global};
+use std::process::Abort;
 use std::test::Fail;
 
-#[test]
-fn names_are_found(rt: HostRuntime) -> Result<(), Fail> {
-    let alloc = rt.alloc();
-    let texts = [
-        String::from_str(alloc, "a")?,
-        String::from_str(alloc, "b_2")?,
-    ];
-    let names = read_names(alloc, &texts)?;
-    assert_eq!(rt; names.len(), 2);
-    assert!(rt; names.name(1) == "b_2");
-    assert_eq!(rt; names.number("b_2"), Some(1));
-    assert_eq!(rt; names.number("b"), None);
-    Ok(())
+/// The texts in memory of their own.
+fn texts_of(alloc: Global, texts: &[&str]) -> Result<Vec<String>, AllocError> {
+    let mut found = Vec::new(alloc);
+    for text in texts {
+        found.push(String::from_str(alloc, text)?)?;
+    }
+    Ok(found)
+}
+
+/// The parties of these names.
+pub fn names_of(alloc: Global, names: &[&str]) -> Result<Names, Fail> {
+    Ok(read_names(alloc, &texts_of(alloc, names)?)?)
 }
 
 #[test]
+fn names_are_found(rt: HostRuntime) -> Result<(), Fail> {
+    let names = names_of(rt.alloc(), &["a", "b_2"])?;
+    assert!(rt; names.len() == 2);
+    assert!(rt; names.name(1) == "b_2");
+    expect_numbers(&rt, &names);
+    Ok(())
+}
+
+fn expect_numbers(rt: &impl Abort, names: &Names) {
+    expect_same!(rt; names.number("b_2"), Some(1));
+    expect_same!(rt; names.number("b"), None);
+}
+
+/// Names, and their faults.
+const FAULTS: [(&[&str], NamesFault); 2] = [
+    (&["a", "a", "of"], NamesFault::TwiceNamed { at: 1 }),
+    (&["of"], NamesFault::BadName { at: 0 }),
+];
+
+#[test]
 fn the_first_fault_is_told(rt: HostRuntime) -> Result<(), Fail> {
-    let alloc = rt.alloc();
-    let twice = [
-        String::from_str(alloc, "a")?,
-        String::from_str(alloc, "a")?,
-        String::from_str(alloc, "of")?,
-    ];
-    assert_eq!(rt;
-        read_names(alloc, &twice).err(),
-        Some(NamesFault::TwiceNamed { at: 1 })
-    );
-    let bad = [String::from_str(alloc, "of")?];
-    assert_eq!(rt;
-        read_names(alloc, &bad).err(),
-        Some(NamesFault::BadName { at: 0 })
-    );
+    for (names, fault) in &FAULTS {
+        let texts = texts_of(rt.alloc(), names)?;
+        expect_same!(rt; read_names(rt.alloc(), &texts).err(), Some(*fault));
+    }
     Ok(())
 }

@@ -1,6 +1,11 @@
 //! Parts of texts.
-use outer_io::{Blocks, Gather, VecSink};
-use party_set::{Group, read_names};
+ghost use Rattle.std.specs.Prelude.{◌≡◌, length};
+
+use crate::names::names_of;
+use outer_io::{Blocks, Failed, Gather, VecSink};
+use party_set::{Group, Names};
+use std::alloc::{AllocError, Global};
+use std::process::Abort;
 use std::test::Fail;
 use text_parts::{
     gather_group, gather_number, gather_word, push_group, push_head, push_number_key,
@@ -21,27 +26,49 @@ fn a_line_is_its_parts(rt: HostRuntime) -> Result<(), Fail> {
     Ok(())
 }
 
-#[test]
-fn members_are_joined(rt: HostRuntime) -> Result<(), Fail> {
-    let alloc = rt.alloc();
-    let texts = [
-        String::from_str(alloc, "a")?,
-        String::from_str(alloc, "b")?,
-        String::from_str(alloc, "c")?,
-    ];
-    let names = read_names(alloc, &texts)?;
+// The first and the third of three parties.
+fn first_and_third() -> Group
+    ensures { result.parties ≡ 3 }
+{
+    Group::empty(3).with(2).with(0)
+}
+
+fn expect_pushed(rt: &impl Abort, alloc: Global, names: &Names) -> Result<(), AllocError>
+    requires { length names.now ≡ 3 }
+{
     let mut text = Vec::new(alloc);
-    push_group(&mut text, Group::empty(3).with(2).with(0), &names)?;
-    push_group(&mut text, Group::empty(3), &names)?;
+    push_group(&mut text, first_and_third(), names)?;
+    push_group(&mut text, Group::empty(3), names)?;
     assert!(rt; text.as_slice() == b"a+c0".as_slice());
-    let mut sink = VecSink::new(Vec::with_capacity(alloc, 20)?, 20, Vec::new(alloc));
-    let mut blocks = Blocks::new(&mut sink);
-    gather_group(&mut blocks, Group::empty(3).with(2).with(0), &names);
+    Ok(())
+}
+
+fn gather(sink: &mut VecSink, names: &Names) -> Result<(), Failed>
+    requires { length names.now ≡ 3 }
+{
+    let mut blocks = Blocks::new(sink);
+    gather_group(&mut blocks, first_and_third(), names);
     blocks.push(b" ");
     gather_number(&mut blocks, 7);
     gather_word(&mut blocks, 10);
-    gather_group(&mut blocks, Group::empty(3), &names);
-    assert!(rt; blocks.finish().is_ok());
-    assert_eq!(rt; sink.bytes(), b"a+c 7 100".as_slice());
+    gather_group(&mut blocks, Group::empty(3), names);
+    blocks.finish()
+}
+
+fn expect_gathered(rt: &impl Abort, alloc: Global, names: &Names) -> Result<(), AllocError>
+    requires { length names.now ≡ 3 }
+{
+    let mut sink = VecSink::new(Vec::with_capacity(alloc, 20)?, 20, Vec::new(alloc));
+    assert!(rt; gather(&mut sink, names).is_ok());
+    expect_same!(rt; sink.bytes(), b"a+c 7 100".as_slice());
+    Ok(())
+}
+
+#[test]
+fn members_are_joined(rt: HostRuntime) -> Result<(), Fail> {
+    let names = names_of(rt.alloc(), &["a", "b", "c"])?;
+    assert!(rt; names.len() == 3);
+    expect_pushed(&rt, rt.alloc(), &names)?;
+    expect_gathered(&rt, rt.alloc(), &names)?;
     Ok(())
 }

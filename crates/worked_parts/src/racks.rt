@@ -68,10 +68,10 @@ fn expect_one_holder(
     requires slots { rack.now.id.slots ≡ 1 }
 {
     let item = rack.take(first, 0).ok_or("the item is not at home")?;
-    assert_eq!(rt; item, Item(7));
-    assert_eq!(rt; rack.take(second, 0), None);
+    expect_same!(rt; item, Item(7));
+    expect_same!(rt; rack.take(second, 0), None);
     rack.put(first, 0, item);
-    assert_eq!(rt; rack.take(second, 0), Some(Item(7)));
+    expect_same!(rt; rack.take(second, 0), Some(Item(7)));
     Ok(())
 }
 

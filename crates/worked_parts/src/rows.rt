@@ -3,7 +3,8 @@ use circuit_model::{Builder, Operation};
 use job_session::SessionPart;
 use mpc_ring::Ring;
 use party_set::Group;
-use std::alloc::Global;
+use std::alloc::{AllocError, Global};
+use std::process::Abort;
 use std::test::Fail;
 
 // Products over so many wires: each reads two wires and sets a third. The first wires are given, and the last one
@@ -33,24 +34,29 @@ fn products(
     }
 }
 
-#[test]
-fn rows_of_wires_that_are_kept(rt: HostRuntime) -> Result<(), Fail> {
-    let alloc = rt.alloc();
+// Each wire squared is the next one.
+fn squares(alloc: Global) -> Result<Vec<[u64; 3]>, AllocError> {
     let mut squares = Vec::new(alloc);
     for j in 0..1000 {
         squares.push([j, j, j + 1])?;
     }
-    let unread = [[0, 1, 2], [0, 1, 3]];
-    for (part, count) in [
-        (products(alloc, 3, 2, &[[0, 1, 2]])?, 3),
-        (products(alloc, 1001, 1, &squares)?, 2),
-        (products(alloc, 4, 2, &unread)?, 3),
-    ] {
-        let rows = part.rows();
-        assert_eq!(rt; rows.count(), count);
-        for wire in 0..part.wires() {
-            assert!(rt; rows.row(wire) < count);
-        }
+    Ok(squares)
+}
+
+// That the wires of the session have so many rows.
+fn expect_rows(rt: &impl Abort, part: &SessionPart, count: u32) {
+    let rows = part.rows();
+    expect_same!(rt; rows.count(), count);
+    for wire in 0..part.wires() {
+        assert!(rt; rows.row(wire) < count);
     }
+}
+
+#[test]
+fn rows_of_wires_that_are_kept(rt: HostRuntime) -> Result<(), Fail> {
+    let alloc = rt.alloc();
+    expect_rows(&rt, &products(alloc, 3, 2, &[[0, 1, 2]])?, 3);
+    expect_rows(&rt, &products(alloc, 1001, 1, &squares(alloc)?)?, 2);
+    expect_rows(&rt, &products(alloc, 4, 2, &[[0, 1, 2], [0, 1, 3]])?, 3);
     Ok(())
 }

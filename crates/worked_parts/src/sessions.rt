@@ -5,6 +5,7 @@ use mpc_ring::Ring;
 use party_set::Group;
 use plan_faults::PartFault;
 use std::alloc::Global;
+use std::process::Abort;
 use std::test::Fail;
 
 // The product of two wires, each of a value of its own.
@@ -18,42 +19,46 @@ fn product(alloc: Global, ring: Ring) -> Result<Circuit, CircuitFault> {
     builder.finish()
 }
 
+// The session of this product with so many owners and so many groups of readers.
+fn session(
+    alloc: Global,
+    owners: usize,
+    groups: usize,
+) -> Result<Result<SessionPart, PartFault>, Fail> {
+    let ring = Ring::new(8).ok_or("no ring")?;
+    let circuit = product(alloc, ring)?;
+    let owners = vec![in alloc; 1; owners]?;
+    let readers = vec![in alloc; Group::empty(3); groups]?;
+    Ok(SessionPart::make(alloc, circuit, owners, readers))
+}
+
+fn expect_product(rt: &impl Abort, part: &SessionPart) {
+    expect_same!(rt; (part.gates(), part.wires(), part.products()), (1, 3, 1));
+    expect_same!(rt; (part.input_wires(), part.output_wires()), (2, 1));
+    expect_same!(rt;
+        part.inputs().get(1).copied(),
+        Some(InputValue { width: 1, owner: 1 })
+    );
+}
+
+const OTHER_OWNERS: PartFault = PartFault::OwnersDiffer {
+    wanted: 2,
+    found: 3,
+};
+
+const OTHER_READERS: PartFault = PartFault::ReadersDiffer {
+    wanted: 1,
+    found: 0,
+};
+
 #[test]
 fn a_session_of_a_product(rt: HostRuntime) -> Result<(), Fail> {
     let alloc = rt.alloc();
-    let ring = Ring::new(8).ok_or("no ring")?;
-    for (owners, groups, fault) in [
-        (
-            3,
-            0,
-            Some(PartFault::OwnersDiffer {
-                wanted: 2,
-                found: 3,
-            }),
-        ),
-        (
-            2,
-            0,
-            Some(PartFault::ReadersDiffer {
-                wanted: 1,
-                found: 0,
-            }),
-        ),
-        (2, 1, None),
-    ] {
-        let circuit = product(alloc, ring).ok().ok_or("no circuit")?;
-        let owners = vec![in alloc; 1; owners]?;
-        let readers = vec![in alloc; Group::empty(3); groups]?;
-        let part = SessionPart::make(alloc, circuit, owners, readers);
-        if let Ok(part) = &part {
-            assert_eq!(rt; (part.gates(), part.wires(), part.products()), (1, 3, 1));
-            assert_eq!(rt; (part.input_wires(), part.output_wires()), (2, 1));
-            assert_eq!(rt;
-                part.inputs().get(1).copied(),
-                Some(InputValue { width: 1, owner: 1 })
-            );
-        }
-        assert_eq!(rt; part.err(), fault);
+    expect_same!(rt; session(alloc, 3, 0)?.err(), Some(OTHER_OWNERS));
+    expect_same!(rt; session(alloc, 2, 0)?.err(), Some(OTHER_READERS));
+    match session(alloc, 2, 1)? {
+        Ok(part) => expect_product(&rt, &part),
+        Err(_) => return Err(Fail::from("no session")),
     }
     Ok(())
 }

@@ -7,21 +7,21 @@ use tape_words::{SplitFault, Tape, TapeFault};
 fn assert_draws(rt: &impl Abort, tape: &mut Tape, words: &[u64]) {
     for word in words {
         let drawn = tape.draw().map(|drawn| drawn.spend());
-        assert_eq!(rt; drawn, Some(*word));
+        expect_same!(rt; drawn, Some(*word));
     }
 }
 
 fn assert_empty(rt: &impl Abort, tape: &mut Tape) {
     let drawn = tape.draw().map(|drawn| drawn.spend());
-    assert_eq!(rt; drawn, None);
+    expect_same!(rt; drawn, None);
 }
 
 #[test]
 fn a_word_is_drawn_once(rt: HostRuntime) -> Result<(), Fail> {
     let ring = Ring::new(8).ok_or("no ring")?;
     let mut tape = Tape::from_words(ring, vec![in rt.alloc(); 10]?)?;
-    assert_eq!(rt; tape.left(), 1);
-    assert_eq!(rt; tape.copy_words(rt.alloc())?.as_slice(), [10].as_slice());
+    expect_same!(rt; tape.left(), 1);
+    expect_same!(rt; tape.copy_words(rt.alloc())?.as_slice(), [10].as_slice());
     assert_draws(&rt, &mut tape, &[10]);
     assert_empty(&rt, &mut tape);
     Ok(())
@@ -31,7 +31,7 @@ fn a_word_is_drawn_once(rt: HostRuntime) -> Result<(), Fail> {
 fn words_of_the_ring_alone(rt: HostRuntime) -> Result<(), Fail> {
     let ring = Ring::new(8).ok_or("no ring")?;
     let fault = Tape::from_words(ring, vec![in rt.alloc(); 10, 256, 1, 300]?).err();
-    assert_eq!(rt; fault, Some(TapeFault::WordOutOfRing { at: 1 }));
+    expect_same!(rt; fault, Some(TapeFault::WordOutOfRing { at: 1 }));
     Ok(())
 }
 
@@ -51,7 +51,7 @@ fn pieces_follow_each_other(rt: HostRuntime) -> Result<(), Fail> {
     match tape.split_sessions(rt.alloc(), &[4, 0, 4]) {
         Err(_) => return Err(Fail::from("refused")),
         Ok(mut pieces) => {
-            assert_eq!(rt; pieces.len(), 3);
+            expect_same!(rt; pieces.len(), 3);
             assert_draws(&rt, &mut pieces[0], &[10, 20, 1, 2]);
             assert_empty(&rt, &mut pieces[0]);
             assert_empty(&rt, &mut pieces[1]);
@@ -69,7 +69,7 @@ fn a_short_tape_comes_back(rt: HostRuntime) -> Result<(), Fail> {
     match tape.split_sessions(rt.alloc(), &[4]) {
         Ok(_) => return Err(Fail::from("accepted")),
         Err((fault, mut tape)) => {
-            assert_eq!(rt;
+            expect_same!(rt;
                 fault,
                 SplitFault::TapeShort {
                     wanted: 4,

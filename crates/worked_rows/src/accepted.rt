@@ -29,12 +29,34 @@ const NO_INPUTS: &[u8] =
     b"version = 1\ninputs = [\"\"]\nseed = \"0000000000000000000000000000000000000000000000000000000000000000\"\n";
 
 /// Which of two bids of two bits, the lower one first, is higher: 0 for the first, 1 for the second; and that bid.
-const HIGHEST_BID: &[u8] =
-    b"13 17\n2 2 2\n2 1 2\n2 1 1 3 4 XOR\n1 1 4 5 INV\n1 1 0 6 INV\n2 1 2 6 7 AND\n2 1 5 7 8 AND\n2 1 3 4 9 AND\n2 1 8 9 10 XOR\n2 1 0 2 11 XOR\n2 1 10 11 12 AND\n2 1 10 4 13 AND\n1 1 10 14 EQW\n2 1 0 12 15 XOR\n2 1 1 13 16 XOR\n";
+const HIGHEST_BID: &[u8] = b"13 17\n\
+     2 2 2\n\
+     2 1 2\n\
+     2 1 1 3 4 XOR\n\
+     1 1 4 5 INV\n\
+     1 1 0 6 INV\n\
+     2 1 2 6 7 AND\n\
+     2 1 5 7 8 AND\n\
+     2 1 3 4 9 AND\n\
+     2 1 8 9 10 XOR\n\
+     2 1 0 2 11 XOR\n\
+     2 1 10 11 12 AND\n\
+     2 1 10 4 13 AND\n\
+     1 1 10 14 EQW\n\
+     2 1 0 12 15 XOR\n\
+     2 1 1 13 16 XOR\n";
 
 /// A session for the sum of three words, and one for the sum of their squares.
-const SUM_AND_SQUARES: &str =
-    "[[session]]\ncircuit = \"sum.txt\"\nlayout = \"ring\"\nowners = [\"a\", \"b\", \"c\"]\nreaders = [[\"a\", \"b\", \"c\"]]\n[[session]]\ncircuit = \"squares.txt\"\nlayout = \"ring\"\nowners = [\"a\", \"b\", \"c\"]\nreaders = [[\"b\"]]\n";
+const SUM_AND_SQUARES: &str = "[[session]]\n\
+     circuit = \"sum.txt\"\n\
+     layout = \"ring\"\n\
+     owners = [\"a\", \"b\", \"c\"]\n\
+     readers = [[\"a\", \"b\", \"c\"]]\n\
+     [[session]]\n\
+     circuit = \"squares.txt\"\n\
+     layout = \"ring\"\n\
+     owners = [\"a\", \"b\", \"c\"]\n\
+     readers = [[\"b\"]]\n";
 
 /// The changes that make of the product one of 6 and 7 that b reads, in which a holds everything.
 pub const ALL_HELD_BY_ONE: [Change<'static>; 7] = [
@@ -73,7 +95,7 @@ pub const CONSTANT_BIT: [Change<'static>; 9] = [
 ];
 
 /// Calls that end with status 0.
-pub const ACCEPTED: [Row<'static>; 20] = [
+const ACCEPTED: [Row<'static>; 20] = [
     Row {
         name: "multiply",
         words: &RUN,
@@ -290,7 +312,19 @@ pub const ACCEPTED: [Row<'static>; 20] = [
         words: &CHECK,
         changes: &[],
         status: 0,
-        out: "parties 3\ngroups 3\ngroup 0 a\ngroup 1 b\ngroup 2 c\nduty a 4\nduty b 3\nduty c 2\nsession 0 gates 1 products 1 messages 21\nwords a 4\nwords b 4\nwords c 2\nmessages 21\n",
+        out: "parties 3\n\
+            groups 3\n\
+            group 0 a\n\
+            group 1 b\n\
+            group 2 c\n\
+            duty a 4\n\
+            duty b 3\n\
+            duty c 2\n\
+            session 0 gates 1 products 1 messages 21\n\
+            words a 4\n\
+            words b 4\n\
+            words c 2\n\
+            messages 21\n",
         err: "",
     },
     Row {
@@ -308,7 +342,27 @@ pub const ACCEPTED: [Row<'static>; 20] = [
             Change::Without("party_c.toml"),
         ],
         status: 0,
-        out: "parties 4\ngroups 4\ngroup 0 a\ngroup 1 b+c\ngroup 2 b+d\ngroup 3 c+d\nduty a 9\nduty b 3\nduty c 2\nduty d 2\nsession 0 gates 1 products 1 messages 42\nwords a 6\nwords b 6\nwords c 3\nwords d 3\nmessages 42\n",
+        out: "parties 4\n\
+            groups 4\n\
+            group 0 a\n\
+            group 1 b+c\n\
+            group 2 b+d\n\
+            group 3 c+d\n\
+            duty a 9\n\
+            duty b 3\n\
+            duty c 2\n\
+            duty d 2\n\
+            session 0 gates 1 products 1 messages 42\n\
+            words a 6\n\
+            words b 6\n\
+            words c 3\n\
+            words d 3\n\
+            messages 42\n",
         err: "",
     },
 ];
+
+/// The jobs that are accepted.
+pub fn accepted() -> &'static [Row<'static>] {
+    &ACCEPTED
+}

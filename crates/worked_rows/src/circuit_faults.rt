@@ -3,7 +3,7 @@
 use crate::row::{Change, RUN, Row};
 
 /// A fault of the circuit.
-pub const CIRCUIT_FAULTS: [Row<'static>; 18] = [
+const CIRCUIT_FAULTS: [Row<'static>; 18] = [
     Row {
         name: "a_wire_set_twice",
         words: &RUN,
@@ -153,6 +153,11 @@ pub const CIRCUIT_FAULTS: [Row<'static>; 18] = [
         err: "fault files file=mul.txt\n",
     },
 ];
+
+/// The faults of circuits.
+pub fn circuit_faults() -> &'static [Row<'static>] {
+    &CIRCUIT_FAULTS
+}
 
 /// The refusals of the first bytes of the product's circuit, each up to so many bytes. With more it is accepted.
 pub const FRONTS: [(usize, &str); 9] = [

@@ -9,7 +9,7 @@ use std::test::Fail;
 use std::thread::Threads;
 
 /// A sink that takes so many bytes.
-fn sink(alloc: Global, room: usize) -> Result<VecSink, AllocError> {
+pub fn sink(alloc: Global, room: usize) -> Result<VecSink, AllocError> {
     Ok(VecSink::new(Vec::with_capacity(alloc, room)?, room, Vec::new(alloc)))
 }
 

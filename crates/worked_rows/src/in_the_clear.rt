@@ -3,7 +3,7 @@ ghost use Rattle.std.specs.Prelude.{◌^◌, ◌<◌, All, IfOk};
 
 use crate::row::{Change, files};
 use circuit_model::{Circuit, CircuitFault, CircuitLayout};
-use job_file::{Job, read_job};
+use job_file::{Job, JobSession, read_job};
 use mpc_ring::Ring;
 use outer_io::{Files, MapFiles};
 use party_set::Group;
@@ -65,6 +65,24 @@ fn words_text(alloc: Global, words: &mut Iter<'_, u64>, count: u64) -> Result<St
     Ok(text)
 }
 
+/// Adds the line of each reader of a value.
+fn push_readers(
+    alloc: Global,
+    out: &mut String,
+    job: &Job,
+    group: Group,
+    value: &str,
+    text: &str,
+) -> Result<(), AllocError> {
+    for p in 0..job.names.len() {
+        if p < group.parties() && group.has(p) {
+            let name = job.names.name(p);
+            out.push_str(format!(in alloc; "{value} {name}{text}\n")?.as_str())?;
+        }
+    }
+    Ok(())
+}
+
 /// Adds the lines of a session, whose output values lie on the last wires.
 fn push_lines(
     alloc: Global,
@@ -83,14 +101,31 @@ fn push_lines(
             .get(v)
             .ok_or("too few output values")?;
         let text = words_text(alloc, &mut words, width)?;
-        for p in 0..job.names.len() {
-            if p < group.parties() && group.has(p) {
-                let name = job.names.name(p);
-                out.push_str(format!(in alloc; "out {s} {v} {name}{text}\n")?.as_str())?;
-            }
-        }
+        let value = format!(in alloc; "out {s} {v}")?;
+        push_readers(alloc, out, job, *group, &value, &text)?;
     }
     Ok(())
+}
+
+fn job_of(alloc: Global, files: &mut MapFiles) -> Result<Job, Fail> {
+    let bytes = read_file(alloc, files, "job.toml")?;
+    Ok(read_job(alloc, &bytes, false).ok().ok_or("no job")?)
+}
+
+/// Adds the lines of a session.
+fn push_session(
+    alloc: Global,
+    out: &mut String,
+    files: &mut MapFiles,
+    job: &Job,
+    s: usize,
+    session: &JobSession,
+    words: &[u64],
+) -> Result<(), Fail> {
+    let bytes = read_file(alloc, files, session.circuit.as_str())?;
+    let circuit = read_circuit(alloc, &bytes, session.layout, job.ring)?;
+    let values = values_of(alloc, &circuit, job.ring, words)?;
+    push_lines(alloc, out, job, s, &session.readers, &circuit, &values)
 }
 
 /// What a run over the product's files with these changes is to write, from the words on the input wires of each
@@ -101,23 +136,11 @@ pub fn out_in_the_clear(
     inputs: &[&[u64]],
 ) -> Result<String, Fail> {
     let mut files = files(alloc, changes)?;
-    let bytes = read_file(alloc, &mut files, "job.toml")?;
-    let job = read_job(alloc, &bytes, false).ok().ok_or("no job")?;
+    let job = job_of(alloc, &mut files)?;
     let mut out = String::new(alloc);
     for (s, session) in job.sessions.iter().enumerate() {
         let words = *inputs.get(s).ok_or("a session without inputs")?;
-        let bytes = read_file(alloc, &mut files, session.circuit.as_str())?;
-        let circuit = read_circuit(alloc, &bytes, session.layout, job.ring)?;
-        let values = values_of(alloc, &circuit, job.ring, words)?;
-        push_lines(
-            alloc,
-            &mut out,
-            &job,
-            s,
-            &session.readers,
-            &circuit,
-            &values,
-        )?;
+        push_session(alloc, &mut out, &mut files, &job, s, session, words)?;
     }
     Ok(out)
 }

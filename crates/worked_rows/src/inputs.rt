@@ -28,9 +28,9 @@ const INPUTS: [(&str, &[&[u64]]); 20] = [
 
 /// The inputs of the run of this name.
 pub fn inputs_of(name: &str) -> Result<&'static [&'static [u64]], Fail> {
-    for (run, inputs) in INPUTS {
-        if run == name {
-            return Ok(inputs);
+    for (run, inputs) in &INPUTS {
+        if *run == name {
+            return Ok(*inputs);
         }
     }
     Err("a run without inputs".into())

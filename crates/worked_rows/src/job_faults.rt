@@ -3,7 +3,7 @@
 use crate::row::{CHECK, Change, RUN, Row};
 
 /// A fault of the job, of its formula or of its structure.
-pub const JOB_FAULTS: [Row<'static>; 18] = [
+const JOB_FAULTS: [Row<'static>; 18] = [
     Row {
         name: "ten_bytes_of_a_job",
         words: &RUN,
@@ -181,3 +181,8 @@ pub const JOB_FAULTS: [Row<'static>; 18] = [
         err: "fault files file=job.toml\n",
     },
 ];
+
+/// The faults of jobs.
+pub fn job_faults() -> &'static [Row<'static>] {
+    &JOB_FAULTS
+}

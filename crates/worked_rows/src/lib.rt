@@ -4,6 +4,8 @@
 #[cfg(test)]
 mod accepted;
 #[cfg(test)]
+mod calls;
+#[cfg(test)]
 mod circuit_faults;
 #[cfg(test)]
 mod expect;
@@ -20,11 +22,15 @@ mod long_files;
 #[cfg(test)]
 mod other_words;
 #[cfg(test)]
+mod pairs;
+#[cfg(test)]
 mod party_faults;
 #[cfg(test)]
 mod product;
 #[cfg(test)]
 mod row;
+#[cfg(test)]
+mod samples;
 #[cfg(test)]
 mod tests;
 #[cfg(test)]

@@ -17,8 +17,15 @@ pub fn joined_names(alloc: Global, count: usize) -> Result<String, AllocError> {
 }
 
 /// The job of seven parties, of whom any four are qualified, with one input value and one output value for nobody.
-pub const SEVEN_PARTIES: &[u8] =
-    b"version = 1\nring_bits = 32\nparties = [\"p0\", \"p1\", \"p2\", \"p3\", \"p4\", \"p5\", \"p6\"]\nformula = \"4 of (p0, p1, p2, p3, p4, p5, p6)\"\n[[session]]\ncircuit = \"mul.txt\"\nlayout = \"ring\"\nowners = [\"p0\"]\nreaders = [[]]\n";
+pub const SEVEN_PARTIES: &[u8] = b"version = 1\n\
+     ring_bits = 32\n\
+     parties = [\"p0\", \"p1\", \"p2\", \"p3\", \"p4\", \"p5\", \"p6\"]\n\
+     formula = \"4 of (p0, p1, p2, p3, p4, p5, p6)\"\n\
+     [[session]]\n\
+     circuit = \"mul.txt\"\n\
+     layout = \"ring\"\n\
+     owners = [\"p0\"]\n\
+     readers = [[]]\n";
 
 /// A circuit with this header, and a product of the two operands for each of these wires.
 pub fn products(

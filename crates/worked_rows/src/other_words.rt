@@ -3,11 +3,17 @@
 use crate::row::Row;
 
 /// The text on `err` for each of them.
-const USAGE: &str =
-    "refused words\nusage: mpc check DIR\n       mpc run DIR [--workers W] [--view GROUP]\n       mpc pair DIR --group GROUP\n       mpc node DIR NAME\n       mpc sample N\n";
+pub const USAGE: &str = concat!(
+    "refused words\n",
+    "usage: mpc check DIR\n",
+    "       mpc run DIR [--workers W] [--view GROUP]\n",
+    "       mpc pair DIR --group GROUP\n",
+    "       mpc node DIR NAME\n",
+    "       mpc sample N\n",
+);
 
 /// Calls whose words are refused.
-pub const OTHER_WORDS: [Row<'static>; 14] = [
+const OTHER_WORDS: [Row<'static>; 14] = [
     Row {
         name: "no_words",
         words: &[],
@@ -121,3 +127,8 @@ pub const OTHER_WORDS: [Row<'static>; 14] = [
         err: USAGE,
     },
 ];
+
+/// The calls by other words.
+pub fn other_words() -> &'static [Row<'static>] {
+    &OTHER_WORDS
+}

@@ -3,7 +3,7 @@
 use crate::row::{Change, RUN, Row};
 
 /// A fault of a party file.
-pub const PARTY_FAULTS: [Row<'static>; 8] = [
+const PARTY_FAULTS: [Row<'static>; 8] = [
     Row {
         name: "a_tape_that_is_too_short",
         words: &RUN,
@@ -77,3 +77,8 @@ pub const PARTY_FAULTS: [Row<'static>; 8] = [
         err: "fault files file=party_b.toml\n",
     },
 ];
+
+/// The faults of the files of parties.
+pub fn party_faults() -> &'static [Row<'static>] {
+    &PARTY_FAULTS
+}

@@ -1,8 +1,15 @@
 //! The files of the product of two words, of which the other jobs are changes.
 
 /// The job of one product.
-pub const JOB: &str =
-    "version = 1\nring_bits = 8\nparties = [\"a\", \"b\", \"c\"]\nformula = \"2 of (a, b, c)\"\n[[session]]\ncircuit = \"mul.txt\"\nlayout = \"ring\"\nowners = [\"a\", \"b\"]\nreaders = [[\"c\"]]\n";
+pub const JOB: &str = "version = 1\n\
+     ring_bits = 8\n\
+     parties = [\"a\", \"b\", \"c\"]\n\
+     formula = \"2 of (a, b, c)\"\n\
+     [[session]]\n\
+     circuit = \"mul.txt\"\n\
+     layout = \"ring\"\n\
+     owners = [\"a\", \"b\"]\n\
+     readers = [[\"c\"]]\n";
 
 /// Its circuit.
 pub const CIRCUIT: &str = "1 3\n2 1 1\n1 1\n2 1 0 1 2 MUL\n";
@@ -30,5 +37,13 @@ pub const SESSION: &str =
     "[[session]]\ncircuit = \"mul.txt\"\nlayout = \"ring\"\nowners = [\"a\", \"b\"]\nreaders = [[\"c\"]]\n";
 
 /// The same session twice.
-pub const TWO_SESSIONS: &str =
-    "[[session]]\ncircuit = \"mul.txt\"\nlayout = \"ring\"\nowners = [\"a\", \"b\"]\nreaders = [[\"c\"]]\n[[session]]\ncircuit = \"mul.txt\"\nlayout = \"ring\"\nowners = [\"a\", \"b\"]\nreaders = [[\"c\"]]\n";
+pub const TWO_SESSIONS: &str = "[[session]]\n\
+     circuit = \"mul.txt\"\n\
+     layout = \"ring\"\n\
+     owners = [\"a\", \"b\"]\n\
+     readers = [[\"c\"]]\n\
+     [[session]]\n\
+     circuit = \"mul.txt\"\n\
+     layout = \"ring\"\n\
+     owners = [\"a\", \"b\"]\n\
+     readers = [[\"c\"]]\n";

@@ -58,20 +58,27 @@ fn changed(
     Ok(Some(text.into_bytes()))
 }
 
+fn insert(
+    alloc: Global,
+    all: &mut BTreeMap<String, Vec<u8>>,
+    file: &str,
+    bytes: Vec<u8>,
+) -> Result<(), AllocError> {
+    all.insert(format!(in alloc; "d/{file}")?, bytes)?;
+    Ok(())
+}
+
 /// The files of the product with these changes, in the folder `d`.
 pub fn files(alloc: Global, changes: &[Change<'_>]) -> Result<MapFiles, Fail> {
     let mut all: BTreeMap<String, Vec<u8>> = BTreeMap::new(alloc);
-    for (file, text) in PRODUCT {
+    for (file, text) in &PRODUCT {
         if let Some(bytes) = changed(alloc, file, text, changes)? {
-            all.insert(format!(in alloc; "d/{file}")?, bytes)?;
+            insert(alloc, &mut all, file, bytes)?;
         }
     }
     for change in changes {
         if let Change::Whole(file, bytes) = *change {
-            all.insert(
-                format!(in alloc; "d/{file}")?,
-                Vec::from_slice(alloc, bytes)?,
-            )?;
+            insert(alloc, &mut all, file, Vec::from_slice(alloc, bytes)?)?;
         }
     }
     Ok(MapFiles::new(all, Vec::new(alloc)))

@@ -1,17 +1,19 @@
-use crate::accepted::ACCEPTED;
-use crate::circuit_faults::{CIRCUIT_FAULTS, FRONTS};
+use crate::accepted::accepted;
+use crate::circuit_faults::{FRONTS, circuit_faults};
 use crate::expect::{expect_all, expect_within};
 use crate::failing_sinks::{SHORT_ERR, SHORT_OUT};
 use crate::in_the_clear::out_in_the_clear;
 use crate::inputs::inputs_of;
-use crate::job_faults::JOB_FAULTS;
+use crate::job_faults::job_faults;
 use crate::long_files::{SEVEN_PARTIES, joined_names, parentheses, products};
-use crate::other_words::OTHER_WORDS;
-use crate::party_faults::PARTY_FAULTS;
+use crate::other_words::other_words;
+use crate::pairs::{other_faults, pair_faults, pairs};
+use crate::party_faults::party_faults;
 use crate::product::{CIRCUIT, SESSION, TWO_SESSIONS};
 use crate::row::{CHECK, Change, RUN, Row};
-use crate::tolerated::TOLERATED;
-use crate::views::{OTHER_GROUPS, VIEWS};
+use crate::samples::samples;
+use crate::tolerated::tolerated;
+use crate::views::{other_groups, views};
 use mpc_ring::Ring;
 use std::alloc::Global;
 use std::process::Abort;
@@ -21,21 +23,36 @@ use std::thread::Threads;
 #[test]
 fn each_row_has_its_answer(rt: HostRuntime) -> Result<(), Fail> {
     let alloc = rt.alloc();
-    expect_all(&rt, alloc, &ACCEPTED)?;
-    expect_all(&rt, alloc, &OTHER_WORDS)?;
-    expect_all(&rt, alloc, &JOB_FAULTS)?;
-    expect_all(&rt, alloc, &CIRCUIT_FAULTS)?;
-    expect_all(&rt, alloc, &PARTY_FAULTS)?;
-    expect_all(&rt, alloc, &TOLERATED)
+    expect_all(&rt, alloc, accepted())?;
+    expect_all(&rt, alloc, other_words())?;
+    expect_all(&rt, alloc, job_faults())?;
+    expect_all(&rt, alloc, circuit_faults())?;
+    expect_all(&rt, alloc, party_faults())?;
+    expect_all(&rt, alloc, tolerated())
 }
 
 #[test]
 fn each_view_is_told(rt: HostRuntime) -> Result<(), Fail> {
     let alloc = rt.alloc();
-    for row in &VIEWS {
+    for row in views() {
         expect_within(&rt, alloc, row, 600, 300)?;
     }
-    expect_all(&rt, alloc, &OTHER_GROUPS)
+    expect_all(&rt, alloc, other_groups())
+}
+
+#[test]
+fn each_sample_is_told(rt: HostRuntime) -> Result<(), Fail> {
+    expect_all(&rt, rt.alloc(), samples())
+}
+
+#[test]
+fn each_pair_is_told(rt: HostRuntime) -> Result<(), Fail> {
+    let alloc = rt.alloc();
+    for row in pairs() {
+        expect_within(&rt, alloc, row, 900, 300)?;
+    }
+    expect_all(&rt, alloc, other_faults())?;
+    expect_all(&rt, alloc, pair_faults())
 }
 
 /// That each run of these rows that writes outputs writes the values that its circuits have in the clear.
@@ -64,8 +81,8 @@ fn expect_in_the_clear<R: Abort + Threads + Sync>(
 #[test]
 fn each_run_has_the_values_in_the_clear(rt: HostRuntime) -> Result<(), Fail> {
     let alloc = rt.alloc();
-    expect_in_the_clear(&rt, alloc, &ACCEPTED)?;
-    expect_in_the_clear(&rt, alloc, &TOLERATED)
+    expect_in_the_clear(&rt, alloc, accepted())?;
+    expect_in_the_clear(&rt, alloc, tolerated())
 }
 
 #[test]

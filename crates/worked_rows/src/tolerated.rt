@@ -3,7 +3,7 @@
 use crate::row::{CHECK, Change, RUN, Row};
 
 /// Jobs of version 2.
-pub const TOLERATED: [Row<'static>; 15] = [
+const TOLERATED: [Row<'static>; 15] = [
     Row {
         name: "product_with_a_list",
         words: &RUN,
@@ -31,7 +31,19 @@ pub const TOLERATED: [Row<'static>; 15] = [
             ),
         ],
         status: 0,
-        out: "parties 3\ngroups 3\ngroup 0 a\ngroup 1 b\ngroup 2 c\nduty a 4\nduty b 3\nduty c 2\nsession 0 gates 1 products 1 messages 21\nwords a 4\nwords b 4\nwords c 2\nmessages 21\n",
+        out: "parties 3\n\
+            groups 3\n\
+            group 0 a\n\
+            group 1 b\n\
+            group 2 c\n\
+            duty a 4\n\
+            duty b 3\n\
+            duty c 2\n\
+            session 0 gates 1 products 1 messages 21\n\
+            words a 4\n\
+            words b 4\n\
+            words c 2\n\
+            messages 21\n",
         err: "",
     },
     Row {
@@ -66,7 +78,20 @@ pub const TOLERATED: [Row<'static>; 15] = [
             ),
         ],
         status: 0,
-        out: "parties 4\ngroups 2\ngroup 0 a\ngroup 1 b+c\nduty a 1\nduty b 1\nduty c 0\nduty d 2\nsession 0 gates 1 products 1 messages 20\nwords a 2\nwords b 2\nwords c 0\nwords d 1\nmessages 20\n",
+        out: "parties 4\n\
+            groups 2\n\
+            group 0 a\n\
+            group 1 b+c\n\
+            duty a 1\n\
+            duty b 1\n\
+            duty c 0\n\
+            duty d 2\n\
+            session 0 gates 1 products 1 messages 20\n\
+            words a 2\n\
+            words b 2\n\
+            words c 0\n\
+            words d 1\n\
+            messages 20\n",
         err: "",
     },
     Row {
@@ -107,7 +132,17 @@ pub const TOLERATED: [Row<'static>; 15] = [
             Change::Edit("job.toml", "formula = \"2 of (a, b, c)\"", "tolerated = []"),
         ],
         status: 0,
-        out: "parties 3\ngroups 1\ngroup 0 0\nduty a 1\nduty b 0\nduty c 0\nsession 0 gates 1 products 1 messages 6\nwords a 0\nwords b 0\nwords c 0\nmessages 6\n",
+        out: "parties 3\n\
+            groups 1\n\
+            group 0 0\n\
+            duty a 1\n\
+            duty b 0\n\
+            duty c 0\n\
+            session 0 gates 1 products 1 messages 6\n\
+            words a 0\n\
+            words b 0\n\
+            words c 0\n\
+            messages 6\n",
         err: "",
     },
     Row {
@@ -122,7 +157,17 @@ pub const TOLERATED: [Row<'static>; 15] = [
             ),
         ],
         status: 0,
-        out: "parties 3\ngroups 1\ngroup 0 0\nduty a 1\nduty b 0\nduty c 0\nsession 0 gates 1 products 1 messages 6\nwords a 0\nwords b 0\nwords c 0\nmessages 6\n",
+        out: "parties 3\n\
+            groups 1\n\
+            group 0 0\n\
+            duty a 1\n\
+            duty b 0\n\
+            duty c 0\n\
+            session 0 gates 1 products 1 messages 6\n\
+            words a 0\n\
+            words b 0\n\
+            words c 0\n\
+            messages 6\n",
         err: "",
     },
     Row {
@@ -234,3 +279,8 @@ pub const TOLERATED: [Row<'static>; 15] = [
         err: "refused job 3 Missing field=tolerated\n",
     },
 ];
+
+/// The jobs that list groups.
+pub fn tolerated() -> &'static [Row<'static>] {
+    &TOLERATED
+}

@@ -7,11 +7,24 @@ const OF_C: [&str; 5] = ["mpc", "run", "d", "--view", "c"];
 
 const OF_B: [&str; 5] = ["mpc", "run", "d", "--view", "b"];
 
-const SEEN_BY_C: &str =
-    "out 0 0 c 35\nview c\n0 0 0 a c 10\n0 0 1 a c 20\n0 1 0 b c 30\n0 1 1 b c 40\n0 2 0 a c 1\n0 2 1 a c 2\n0 2 0 b c 3\n0 2 1 b c 4\n0 2 0 c b 5\n0 2 1 c a 6\n0 2 2 c a 221\n0 2 2 c b 221\n0 3 2 a c 14\n";
+const SEEN_BY_C: &str = "out 0 0 c 35\n\
+     view c\n\
+     0 0 0 a c 10\n\
+     0 0 1 a c 20\n\
+     0 1 0 b c 30\n\
+     0 1 1 b c 40\n\
+     0 2 0 a c 1\n\
+     0 2 1 a c 2\n\
+     0 2 0 b c 3\n\
+     0 2 1 b c 4\n\
+     0 2 0 c b 5\n\
+     0 2 1 c a 6\n\
+     0 2 2 c a 221\n\
+     0 2 2 c b 221\n\
+     0 3 2 a c 14\n";
 
 /// Runs with a view.
-pub const VIEWS: [Row<'static>; 10] = [
+const VIEWS: [Row<'static>; 10] = [
     Row {
         name: "view_of_c",
         words: &OF_C,
@@ -33,7 +46,29 @@ pub const VIEWS: [Row<'static>; 10] = [
         words: &["mpc", "run", "d", "--view", "c+b+a"],
         changes: &[],
         status: 0,
-        out: "out 0 0 c 35\nview a+b+c\n0 0 0 a b 10\n0 0 0 a c 10\n0 0 1 a c 20\n0 0 2 a b 231\n0 1 0 b c 30\n0 1 1 b a 40\n0 1 1 b c 40\n0 1 2 b a 193\n0 2 0 a b 1\n0 2 0 a c 1\n0 2 1 a c 2\n0 2 2 a b 112\n0 2 0 b c 3\n0 2 1 b a 4\n0 2 1 b c 4\n0 2 2 b a 193\n0 2 0 c b 5\n0 2 1 c a 6\n0 2 2 c a 221\n0 2 2 c b 221\n0 3 2 a c 14\n",
+        out: "out 0 0 c 35\n\
+            view a+b+c\n\
+            0 0 0 a b 10\n\
+            0 0 0 a c 10\n\
+            0 0 1 a c 20\n\
+            0 0 2 a b 231\n\
+            0 1 0 b c 30\n\
+            0 1 1 b a 40\n\
+            0 1 1 b c 40\n\
+            0 1 2 b a 193\n\
+            0 2 0 a b 1\n\
+            0 2 0 a c 1\n\
+            0 2 1 a c 2\n\
+            0 2 2 a b 112\n\
+            0 2 0 b c 3\n\
+            0 2 1 b a 4\n\
+            0 2 1 b c 4\n\
+            0 2 2 b a 193\n\
+            0 2 0 c b 5\n\
+            0 2 1 c a 6\n\
+            0 2 2 c a 221\n\
+            0 2 2 c b 221\n\
+            0 3 2 a c 14\n",
         err: "",
     },
     Row {
@@ -41,7 +76,29 @@ pub const VIEWS: [Row<'static>; 10] = [
         words: &["mpc", "run", "d", "--view", "c+a"],
         changes: &[],
         status: 0,
-        out: "out 0 0 c 35\nview a+c\n0 0 0 a b 10\n0 0 0 a c 10\n0 0 1 a c 20\n0 0 2 a b 231\n0 1 0 b c 30\n0 1 1 b a 40\n0 1 1 b c 40\n0 1 2 b a 193\n0 2 0 a b 1\n0 2 0 a c 1\n0 2 1 a c 2\n0 2 2 a b 112\n0 2 0 b c 3\n0 2 1 b a 4\n0 2 1 b c 4\n0 2 2 b a 193\n0 2 0 c b 5\n0 2 1 c a 6\n0 2 2 c a 221\n0 2 2 c b 221\n0 3 2 a c 14\n",
+        out: "out 0 0 c 35\n\
+            view a+c\n\
+            0 0 0 a b 10\n\
+            0 0 0 a c 10\n\
+            0 0 1 a c 20\n\
+            0 0 2 a b 231\n\
+            0 1 0 b c 30\n\
+            0 1 1 b a 40\n\
+            0 1 1 b c 40\n\
+            0 1 2 b a 193\n\
+            0 2 0 a b 1\n\
+            0 2 0 a c 1\n\
+            0 2 1 a c 2\n\
+            0 2 2 a b 112\n\
+            0 2 0 b c 3\n\
+            0 2 1 b a 4\n\
+            0 2 1 b c 4\n\
+            0 2 2 b a 193\n\
+            0 2 0 c b 5\n\
+            0 2 1 c a 6\n\
+            0 2 2 c a 221\n\
+            0 2 2 c b 221\n\
+            0 3 2 a c 14\n",
         err: "",
     },
     Row {
@@ -73,7 +130,35 @@ pub const VIEWS: [Row<'static>; 10] = [
         words: &["mpc", "run", "d", "--view", "c", "--workers", "2"],
         changes: &PRODUCTS_OF_TWO_SESSIONS,
         status: 0,
-        out: "out 0 0 c 35\nout 1 0 c 6\nview c\n0 0 0 a c 10\n0 0 1 a c 20\n0 1 0 b c 30\n0 1 1 b c 40\n0 2 0 a c 1\n0 2 1 a c 2\n0 2 0 b c 3\n0 2 1 b c 4\n0 2 0 c b 5\n0 2 1 c a 6\n0 2 2 c a 221\n0 2 2 c b 221\n0 3 2 a c 14\n1 0 0 a c 11\n1 0 1 a c 21\n1 1 0 b c 31\n1 1 1 b c 41\n1 2 0 a c 3\n1 2 1 a c 4\n1 2 0 b c 5\n1 2 1 b c 6\n1 2 0 c b 7\n1 2 1 c a 8\n1 2 2 c a 63\n1 2 2 c b 63\n1 3 2 a c 229\n",
+        out: "out 0 0 c 35\n\
+            out 1 0 c 6\n\
+            view c\n\
+            0 0 0 a c 10\n\
+            0 0 1 a c 20\n\
+            0 1 0 b c 30\n\
+            0 1 1 b c 40\n\
+            0 2 0 a c 1\n\
+            0 2 1 a c 2\n\
+            0 2 0 b c 3\n\
+            0 2 1 b c 4\n\
+            0 2 0 c b 5\n\
+            0 2 1 c a 6\n\
+            0 2 2 c a 221\n\
+            0 2 2 c b 221\n\
+            0 3 2 a c 14\n\
+            1 0 0 a c 11\n\
+            1 0 1 a c 21\n\
+            1 1 0 b c 31\n\
+            1 1 1 b c 41\n\
+            1 2 0 a c 3\n\
+            1 2 1 a c 4\n\
+            1 2 0 b c 5\n\
+            1 2 1 b c 6\n\
+            1 2 0 c b 7\n\
+            1 2 1 c a 8\n\
+            1 2 2 c a 63\n\
+            1 2 2 c b 63\n\
+            1 3 2 a c 229\n",
         err: "",
     },
     Row {
@@ -94,10 +179,15 @@ pub const VIEWS: [Row<'static>; 10] = [
     },
 ];
 
+/// The runs with the view of a group.
+pub fn views() -> &'static [Row<'static>] {
+    &VIEWS
+}
+
 const OF_A_AND_X: [&str; 5] = ["mpc", "run", "d", "--view", "a+x"];
 
 /// Runs whose group is refused, and where that stands among the refusals.
-pub const OTHER_GROUPS: [Row<'static>; 7] = [
+const OTHER_GROUPS: [Row<'static>; 7] = [
     Row {
         name: "a_member_that_is_no_party",
         words: &OF_A_AND_X,
@@ -155,3 +245,8 @@ pub const OTHER_GROUPS: [Row<'static>; 7] = [
         err: "refused group 1 BadGroup at=1\n",
     },
 ];
+
+/// The runs with the view of another group.
+pub fn other_groups() -> &'static [Row<'static>] {
+    &OTHER_GROUPS
+}

@@ -34,20 +34,32 @@ const fn two_products<'w>(name: &'w str, words: &'w [&'w str]) -> Row<'w> {
     }
 }
 
+/// Runs of one product: their names and words.
+const ONE_PRODUCT: [(&str, &[&str]); 3] = [
+    ("two_workers", &["mpc", "run", "d", "--workers", "2"]),
+    ("five_workers", &["mpc", "run", "d", "--workers", "05"]),
+    (
+        "more_workers_than_desks",
+        &["mpc", "run", "d", "--workers", "16"],
+    ),
+];
+
+/// Runs of a product in each of two sessions.
+const TWO_PRODUCTS: [(&str, &[&str]); 3] = [
+    ("one_worker", &["mpc", "run", "d", "--workers", "1"]),
+    ("two_workers", &["mpc", "run", "d", "--workers", "2"]),
+    ("sixteen_workers", &["mpc", "run", "d", "--workers", "16"]),
+];
+
 #[test]
 fn any_number_of_workers_writes_the_same(rt: HostRuntime) -> Result<(), Fail> {
-    let rows = [
-        product("two_workers", &["mpc", "run", "d", "--workers", "2"]),
-        product("five_workers", &["mpc", "run", "d", "--workers", "05"]),
-        product(
-            "more_workers_than_desks",
-            &["mpc", "run", "d", "--workers", "16"],
-        ),
-        two_products("one_worker", &["mpc", "run", "d", "--workers", "1"]),
-        two_products("two_workers", &["mpc", "run", "d", "--workers", "2"]),
-        two_products("sixteen_workers", &["mpc", "run", "d", "--workers", "16"]),
-    ];
-    expect_all(&rt, rt.alloc(), &rows)
+    for (name, words) in &ONE_PRODUCT {
+        expect_all(&rt, rt.alloc(), &[product(name, words)])?;
+    }
+    for (name, words) in &TWO_PRODUCTS {
+        expect_all(&rt, rt.alloc(), &[two_products(name, words)])?;
+    }
+    Ok(())
 }
 
 /// The most turns that a worker is held.
