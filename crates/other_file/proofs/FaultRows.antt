@@ -14,7 +14,7 @@ use Rattle.party_file.specs.Table.{version_checks, input_checks, numbers_in}
 use Rattle.party_file.specs.declared.fault.PartyFault.{PartyFault}
 use Rattle.party_file.specs.declared.fault.PartyFault.TheVariants.{CountDiffers}
 use Rattle.party_file.specs.declared.fault.PartyFault.TheVariants as party
-use Rattle.party_file.proofs.CheckChains.{first-front, after_passed}
+use Rattle.list_laws.proofs.FirstFaults.{first-front, after_passed}
 use Rattle.other_file.specs.declared.fault.OtherFault.{OtherFault}
 use Rattle.other_file.specs.declared.fault.OtherFault.TheVariants.{File, WrongKind, Inputs, Memory}
 use Rattle.other_file.specs.Faults.{of_file, of_party}

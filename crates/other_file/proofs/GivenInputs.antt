@@ -10,7 +10,7 @@ use Rattle.toml_fields.specs.Fields.{has_field, is_misfit, texts_at}
 use Rattle.toml_fields.specs.declared.kind.Kind.TheVariants as kind
 use Rattle.list_laws.specs.Lists.{total, listed}
 use Rattle.list_laws.specs.Checks.{first_fault}
-use Rattle.list_laws.proofs.FirstFaults.{none_failed}
+use Rattle.list_laws.proofs.FirstFaults.{none_failed, listed-passed}
 use Rattle.list_laws.proofs.JoinedLists.{length-listed, listed_at}
 use Rattle.party_set.specs.Names.{name_at}
 use Rattle.job_session.specs.Sessions.{owners}
@@ -23,7 +23,6 @@ use Rattle.party_file.proofs.PlanFit.{input_count, input_ring, word_below}
 use Rattle.other_file.specs.declared.fault.OtherFault.TheVariants.{File, WrongKind, Inputs}
 use Rattle.other_file.specs.declared.fault.OtherFault.{OtherFault}
 use Rattle.other_file.specs.Table.{inputs_in, file_checks, text_checks, party_fault, party_inputs, other_fault, other_inputs}
-use Rattle.other_file.proofs.FirstFaults.{listed-each}
 
 -- a party's inputs, by session, fit the plan
 record Gives (plan : Plan) (p : ℕ) (words : List (List ℕ)) : Type 0 where
@@ -81,7 +80,7 @@ all_fit plan names inputs table are passed = record {
     at p l = listed_at plan.parties words p [] l
 
     own : (p : ℕ) (l : p < plan.parties) → Gives plan p (words p)
-    own p l = party_gives plan names inputs are table p l (listed-each plan.parties p (party_fault plan names table) l passed)
+    own p l = party_gives plan names inputs are table p l (listed-passed plan.parties p (party_fault plan names table) l passed)
 
 passed_second : (o : Option PartyFault) (rest : Option OtherFault) → option_or (option_map (λ fault. File fault) o) rest ≡ None → rest ≡ None
 passed_second None rest e = e

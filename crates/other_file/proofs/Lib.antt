@@ -1,3 +1,3 @@
-mod FirstFaults
 mod FaultRows
 mod GivenInputs
+mod FaultParties

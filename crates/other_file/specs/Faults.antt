@@ -1,5 +1,5 @@
 -- What the faults of a file of other inputs carry.
-use Rattle.std.specs.Prelude.{ℕ, List, Option, Some, None, codes}
+use Rattle.std.specs.Prelude.{ℕ, ◌<◌, List, Option, Some, None, IfSome, codes}
 use Rattle.party_file.specs.declared.fault.PartyFault.{PartyFault}
 use Rattle.party_file.specs.declared.fault.PartyFault.TheVariants as memory
 use Rattle.party_file.specs.Faults as party
@@ -25,6 +25,10 @@ abbrev pub party_of : OtherFault → Option ℕ
 party_of (WrongKind p) = Some p
 party_of (Inputs p fault) = Some p
 party_of _ = None
+
+-- the party whose inputs have the fault, if there is one, is below this number
+abbrev pub HasPartyBelow : ℕ → OtherFault → Type 0
+HasPartyBelow parties fault = IfSome (party_of fault) (λ p. p < parties)
 
 -- what more there is to tell, as of a party's own file
 abbrev pub detail_of : OtherFault → Option PartyFault

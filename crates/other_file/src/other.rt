@@ -3,6 +3,7 @@ ghost use Rattle.std.specs.Prelude.{◌≡◌, ◌⊎◌, Some, None, Ok, Err, I
 ghost use Rattle.toml.specs.View.{table_view};
 ghost use Rattle.job_plan.specs.InputWords.{AreInputs, input_words};
 ghost use Rattle.other_file.specs.Table.{other_fault, other_inputs, other_in};
+ghost use Rattle.other_file.specs.Faults.{HasPartyBelow};
 ghost use Rattle.other_file.specs.declared.fault.OtherFault.TheVariants.{Memory};
 
 use crate::checks::{check_file, inputs_in};
@@ -57,6 +58,7 @@ pub fn read_other(
     ensures fits { IfOk result (AreInputs plan.now) }
     ensures fault { IfErr result (λ fault. (fault ≡ Memory)
         ⊎ (other_in plan.now names.now inputs.now bytes.now ≡ Err fault)) }
+    ensures party { IfErr result (HasPartyBelow plan.now.parties) }
 {
     let Some(table) = document(alloc, bytes)? else {
         return Err(OtherFault::File(PartyFault::NotToml));

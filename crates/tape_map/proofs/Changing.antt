@@ -26,7 +26,7 @@ use Rattle.share_world.proofs.SmallWords.{is_world, is_plan, small_run, small_wo
 use Rattle.share_world.proofs.WireSums.{world_sums}
 use Rattle.wire_tables.specs.WireTables.{value_list, summand_row, summand_rows}
 use Rattle.wire_tables.proofs.RowSteps.{own_alike}
-use Rattle.wire_tables.proofs.Settled.{in_order, settled, product_settled}
+use Rattle.share_world.proofs.Settled.{in_order, settled, product_settled}
 use Rattle.wire_tables.proofs.MessageSenders.{own_at_end, read_settled}
 use Rattle.tape_map.specs.TapeMaps.{hidden, with_inputs, delta, raised, moved_summands, moved_value, moved_words, piece_map, tape_of}
 use Rattle.tape_map.specs.Changes.{moved_rows, IsChange, Fits, deals_by, grown_words, grown_piece}

@@ -5,6 +5,6 @@ pub mod SeenWords
 pub mod WayBack
 pub mod ReadWires
 pub mod WorkedChange
-pub mod FirstChecks
+pub mod Recipients
 pub mod NoFaults
 pub mod Changing

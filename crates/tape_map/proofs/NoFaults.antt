@@ -1,9 +1,9 @@
 -- There is no fault exactly where the other inputs can be hidden.
-use Rattle.std.proofs.Common.{◌≡◌, ℕ, suc, ◌<◌, ◌≤◌, Bool, true, false, ◌&&◌, not, nat_eq, List, [], ◌∷◌, ◌++◌, Option, Some, None, length, refl, sym, ap, ap₂, ◌∙◌, subst, arith, inl, inr}
+use Rattle.std.proofs.Common.{◌≡◌, ℕ, ◌<◌, ◌≤◌, Bool, true, false, ◌&&◌, not, nat_eq, List, [], ◌∷◌, ◌++◌, Option, Some, None, length, refl, sym, ap, ap₂, ◌∙◌, subst, arith, inl, inr}
 use Rattle.std.specs.Prelude.{◌↔◌, SomeIff, slice_index}
 use Rattle.list_laws.proofs.JoinedLists.{joined_eq, listed_at}
-use Rattle.std.specs.List.{list_any, position_or_len}
-use Rattle.std.proofs.lemmas.Bool.{cases_Bool, cases_lt, both_ways, eqb-true, eq-eqb, or_cases}
+use Rattle.std.specs.List.{position_or_len}
+use Rattle.std.proofs.lemmas.Bool.{cases_Bool, cases_lt, both_ways, eqb-true, eq-eqb}
 use Rattle.std.proofs.lemmas.List.{get_or_past}
 use Rattle.std.proofs.lemmas.List.Folds.{list_any_at}
 use Rattle.std.proofs.lemmas.List.Sums.{passes_at_first, fails_before_first}
@@ -21,7 +21,8 @@ use Rattle.tape_map.specs.Laws.{Agree, CanHide}
 use Rattle.tape_map.specs.MapFaults.{is_tolerated, input_check, output_check, input_checks, output_checks, value_checks, map_fault}
 use Rattle.tape_map.specs.declared.fault.MapFault.{MapFault}
 use Rattle.tape_map.specs.declared.fault.MapFault.TheVariants.{NotTolerated, InputDiffers, OutputDiffers}
-use Rattle.tape_map.proofs.FirstChecks.{first-after, first-front, one-fails, passed-front, passed-back, passed-one, one-passed, joined-passed, all-passed}
+use Rattle.maximal_groups.proofs.Lists.{find_any}
+use Rattle.list_laws.proofs.FirstFaults.{first-after, first-front, one-fails, passed-front, passed-back, none_failed, one-passed, joined-passed, all-passed}
 
 -- ---- tests
 
@@ -47,14 +48,6 @@ where_both_same true b m n h = where_same b m n (h refl)
 
 -- ---- the group
 
-any_at : (test : ℕ → Bool) (xs : List ℕ) → list_any test xs ≡ true → (i : ℕ) × (i < length xs) × (test (slice_index xs i) ≡ true)
-any_at test [] h = cc
-any_at test (x ∷ xs) h =
-    elim (or_cases (test x) (list_any test xs) h) [
-      | inl here ↦ (0, omega arith, here)
-      | inr more ↦ (let found : (i : ℕ) × (i < length xs) × (test (slice_index xs i) ≡ true) = any_at test xs more in (suc found.0, omega (arith, found.1), found.2))
-    ]
-
 not_false : (b : Bool) → not b ≡ false → b ≡ true
 not_false true e = refl
 not_false false e = absurd (both_ways true e refl)
@@ -77,7 +70,7 @@ module _ (w : World) (other : List (List (List ℕ))) (group : ℕ) where
     | inl ls ↦
         let one = joined-passed (length (owners (session w.plan s))) v (λ u. input_check w other group s u ∷ []) lv (joined-passed (length w.plan.sessions) s (input_checks w other group) ls h) in
         same_where (has_party group (slice_index (owners (session w.plan s)) v)) (input_of w s v) (input_of (with_inputs w other) s v)
-        (passed-one _ (InputDiffers s v (input_of w s v) (input_of (with_inputs w other) s v)) one) member
+        (none_failed _ (InputDiffers s v (input_of w s v) (input_of (with_inputs w other) s v)) None one).0 member
     | inr past ↦ absurd (let none = ap (λ x. length (owners x)) (no_more w.plan s past) in omega arith)
   ]
 
@@ -91,7 +84,7 @@ module _ (w : World) (other : List (List (List ℕ))) (group : ℕ) where
         let at_wire = joined-passed (length (readers x)) o (λ u. listed w.plan.parties (output_check w.plan group s (plain w s (output_wire x u)) (plain (with_inputs w other) s (output_wire x u)) u)) lo
         (joined-passed (length w.plan.sessions) s (output_checks w other group) ls h) in
         let one = joined-passed w.plan.parties r (λ q. output_check w.plan group s first second o q ∷ []) lr at_wire in
-        same_where_both (has_party group r) (reads w.plan r s o) first second (passed-one _ (OutputDiffers s (output_wire x o) r first second) one) member read
+        same_where_both (has_party group r) (reads w.plan r s o) first second (none_failed _ (OutputDiffers s (output_wire x o) r first second) None one).0 member read
     | inr past ↦ absurd (let none = ap (λ x. length (readers x)) (no_more w.plan s past) in omega arith)
   ]
 
@@ -111,7 +104,7 @@ module _ (w : World) (other : List (List (List ℕ))) (group : ℕ) where
       (where_both_same (has_party group r) (reads w.plan r s o) (plain w s (output_wire x o)) (plain (with_inputs w other) s (output_wire x o)) (λ m e. h.outputs s o r lo lr m e)))))
 
   tolerated : is_tolerated w.plan group ≡ true → LiesWithin (structure w.plan) group
-  tolerated h = any_at (within w.plan.parties group) w.plan.groups h
+  tolerated h = find_any (within w.plan.parties group) w.plan.groups h
 
   lies_within : LiesWithin (structure w.plan) group → is_tolerated w.plan group ≡ true
   lies_within h = list_any_at (within w.plan.parties group) w.plan.groups h.0 0 h.1 h.2
@@ -144,7 +137,7 @@ module _ (w : World) (other : List (List (List ℕ))) (group : ℕ) where
   no_fault whole others = (
     (λ none.
         let rest = passed-back group_check (ins ++ outs) none in
-        can_hide whole others (not_false (is_tolerated w.plan group) (passed-one (not (is_tolerated w.plan group)) NotTolerated (passed-front group_check (ins ++ outs) none)))
+        can_hide whole others (not_false (is_tolerated w.plan group) (none_failed (not (is_tolerated w.plan group)) NotTolerated None (passed-front group_check (ins ++ outs) none)).0)
         (passed-front ins outs rest) (passed-back ins outs rest)),
     (λ h. checks_pass (lies_within h.tolerated) (inputs_agreed h.agree) (outputs_agreed h.agree)),
   )
@@ -170,7 +163,7 @@ pub not_tolerated_test : (plan : Plan) (group : ℕ) → (position_or_len (withi
 not_tolerated_test plan group no' = elim (cases_Bool (is_tolerated plan group)) [
   | inl yes' ↦
       let test = within plan.parties group in
-      let found = any_at test plan.groups yes' in
+      let found = find_any test plan.groups yes' in
       absurd (no' (elim (cases_lt (position_or_len test plan.groups) (length plan.groups)) [
         | inl l ↦ l
         | inr past ↦ absurd (both_ways (test (slice_index plan.groups found.0)) (fails_before_first test plan.groups found.0 0 (let l = found.1 in omega arith)) found.2)

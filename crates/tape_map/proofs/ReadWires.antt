@@ -8,7 +8,7 @@ use Rattle.std.proofs.lemmas.List.{get_or_default}
 use Rattle.mpc_ring.specs.Differences.{difference}
 use Rattle.circuit_model.specs.Netlists.{read_by}
 use Rattle.circuit_model.proofs.SetAt.{set_there}
-use Rattle.job_session.specs.KeptWires.{IsInOrder, sets, sets_in, reads}
+use Rattle.job_session.specs.KeptWires.{IsInOrder, slot_sets, sets_in, slot_reads}
 use Rattle.job_session.specs.Sessions.{Session, no_gate, owners, gate}
 use Rattle.job_plan.specs.Plans.{session}
 use Rattle.job_plan.specs.Sound.{IsSound}
@@ -23,14 +23,14 @@ not_set : (x : Session) → IsInOrder x → (t v : ℕ) → t < length x.gates �
     → (n : ℕ) → t ≤ n → n < length x.gates → v ≢ (gate x n).output
 not_set x order t v lt read n le ln e =
     let k = length (owners x) in
-    let reads_it : reads x (k + t) v ≡ true =
+    let reads_it : slot_reads x (k + t) v ≡ true =
     gate_reads x k t v (gate x t) lt refl (get_or_default x.gates t no_gate (gate x t) lt)
     ∙ list_any-from_Contains nat_eq_equiv v (read_by (gate x t)) read in
     let set = order.before (k + t) v (omega (arith, lt)) reads_it in
-    let again : sets x (k + n) v ≡ true =
+    let again : slot_sets x (k + n) v ≡ true =
     ap (λ z. list_any (nat_eq v) (sets_in x z)) (slot_gate x n ln) ∙ ap (λ b. b || false) (eq-eqb v (gate x n).output e) in
     let apart = order.once set.0 (k + n) v (omega (arith, set.1, le)) (omega (arith, ln)) set.2 in
-    both_ways (sets x (k + n) v) apart again
+    both_ways (slot_sets x (k + n) v) apart again
 
 settled : (w : World) (s t v : ℕ) → ((n : ℕ) → t ≤ n → n < length (session w.plan s).gates → v ≢ (gate (session w.plan s) n).output)
     → (n : ℕ) → t + n ≤ length (session w.plan s).gates → value_before w s (t + n) v ≡ value_before w s t v

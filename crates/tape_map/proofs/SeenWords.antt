@@ -18,14 +18,12 @@ use Rattle.job_plan.proofs.DistinctMessages.{every_place}
 use Rattle.job_plan.proofs.PlanSchemes.{least_holds, least_within}
 use Rattle.job_session.proofs.SessionSlots.{slot_input, slot_gate, slot_output, slot_cases}
 use Rattle.share_world.specs.Worlds.{World, word, word_in, touches, view}
+use Rattle.share_world.proofs.SentWords.{key_of}
 use Rattle.share_world.proofs.SmallWords.{is_plan}
 use Rattle.tape_map.specs.TapeMaps.{hidden, second_world}
 use Rattle.tape_map.specs.Laws.{CanHide, SameView, SameWords, SameOutputs}
 use Rattle.tape_map.proofs.ChangedTapes.{CanMove, can_move, hidden_within, not_held}
 use Rattle.tape_map.proofs.HiddenSummands.{Stays, input_alike, gate_alike, others_stay, opens_alike}
-
-abbrev key_of : ℕ → ℕ → ℕ → ℕ → ℕ → Key
-key_of s k i p q = record { session = s; slot = k; share = i; sender = p; receiver = q }
 
 -- a member reads output o as the receiver of the message
 abbrev pub ReadBy : World → ℕ → Key → ℕ → Type 0

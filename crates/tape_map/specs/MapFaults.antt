@@ -1,5 +1,5 @@
 -- Why other inputs can't be hidden from a group.
-use Rattle.std.specs.Prelude.{ℕ, Bool, ◌&&◌, not, nat_eq, Option, List, ◌∷◌, ◌++◌, length}
+use Rattle.std.specs.Prelude.{ℕ, ◌<◌, Bool, ◌&&◌, not, nat_eq, Option, List, ◌∷◌, ◌++◌, length}
 use Rattle.std.specs.Prelude.{slice_index}
 use Rattle.std.specs.List.{list_any}
 use Rattle.list_laws.specs.Lists.{joined, listed}
@@ -58,3 +58,8 @@ map_checks w other group =
 -- why the other inputs can't be hidden from the group: the fault of the first check that fails
 abbrev pub map_fault : World → List (List (List ℕ)) → ℕ → Option MapFault
 map_fault w other group = first_fault (map_checks w other group)
+
+-- the member that reads another value, where the fault tells one, is below this number
+abbrev pub HasRecipientBelow : ℕ → MapFault → Type 0
+HasRecipientBelow parties (OutputDiffers s v recipient first second) = recipient < parties
+HasRecipientBelow parties _ = Unit

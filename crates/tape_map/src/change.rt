@@ -33,7 +33,7 @@ impl Change {
     ghost use Rattle.job_plan.specs.Plans.{session, place, words};
     ghost use Rattle.job_session.specs.SoundSessions.{Inside, slot_of_kind};
     ghost use Rattle.share_world.specs.Laws.{IsWhole};
-    ghost use Rattle.wire_tables.specs.WireTables.{world_of};
+    ghost use Rattle.wire_tables.specs.WireTables.{world_given};
     ghost use Rattle.tape_map.specs.TapeMaps.{hidden};
     ghost use Rattle.tape_map.specs.Changes.{IsChange, Fits, growth, grown_piece};
 
@@ -47,12 +47,12 @@ impl Change {
         share: u32,
         s: u32,
     ) -> Result<Change, AllocError>
-        requires whole { IsWhole (world_of plan.now inputs.now tapes.now) }
+        requires whole { IsWhole (world_given plan.now inputs.now tapes.now) }
         requires other { AreInputs plan.now other.now }
         requires share { share < length plan.now.groups }
         requires session { s < length plan.now.sessions }
         ensures { (group : ℕ) → share ≡ hidden plan.now group
-            → IfOk result (IsChange (world_of plan.now inputs.now tapes.now) other.now group s) }
+            → IfOk result (IsChange (world_given plan.now inputs.now tapes.now) other.now group s) }
     {
         let first = value_list(alloc, plan, inputs, s)?;
         let second = value_list(alloc, plan, other, s)?;

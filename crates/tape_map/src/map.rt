@@ -4,11 +4,11 @@ ghost use Rattle.std.specs.Prelude.{replicate, [], slice_index_or};
 ghost use Rattle.job_plan.specs.Plans.{structure, place};
 ghost use Rattle.job_plan.specs.InputWords.{AreInputs, session_words};
 ghost use Rattle.share_world.specs.Laws.{IsWhole, AreTapes};
-ghost use Rattle.wire_tables.specs.WireTables.{world_of};
+ghost use Rattle.wire_tables.specs.WireTables.{world_given};
 ghost use Rattle.tape_map.specs.TapeMaps.{hidden, changed_tapes, second_world};
 ghost use Rattle.tape_map.specs.Laws.{CanHide};
 ghost use Rattle.tape_map.specs.Changes.{Fits, grown_piece};
-ghost use Rattle.tape_map.specs.MapFaults.{map_fault};
+ghost use Rattle.tape_map.specs.MapFaults.{map_fault, HasRecipientBelow};
 ghost use Rattle.tape_map.specs.declared.fault.MapFault.TheVariants.{Memory};
 
 use crate::change::Change;
@@ -33,16 +33,17 @@ pub fn map_tapes(
     groups: &Groups,
     group: Group,
 ) -> Result<Vec<Vec<u64>>, MapFault>
-    requires whole { IsWhole (world_of plan.now inputs.now tapes.now) }
+    requires whole { IsWhole (world_given plan.now inputs.now tapes.now) }
     requires other { AreInputs plan.now other.now }
     requires groups { groups.now ≡ structure plan.now }
     requires group { group.parties ≡ plan.now.parties }
     ensures hides { OnOk result
-        (CanHide (world_of plan.now inputs.now tapes.now) other.now group.mask) }
+        (CanHide (world_given plan.now inputs.now tapes.now) other.now group.mask) }
     ensures tapes { IfOk result (λ changed. session_words changed.items
-        ≡ (second_world (world_of plan.now inputs.now tapes.now) other.now group.mask).tapes) }
+        ≡ (second_world (world_given plan.now inputs.now tapes.now) other.now group.mask).tapes) }
     ensures fault { IfErr result (λ fault. (fault ≡ Memory)
-        ⊎ (map_fault (world_of plan.now inputs.now tapes.now) other.now group.mask ≡ Some fault)) }
+        ⊎ (map_fault (world_given plan.now inputs.now tapes.now) other.now group.mask ≡ Some fault)) }
+    ensures recipient { IfErr result (HasRecipientBelow plan.now.parties) }
 {
     let Some(share) = hidden_summand(groups, group) else {
         return Err(MapFault::NotTolerated);
@@ -68,13 +69,13 @@ fn changed_tapes(
     share: u32,
     group: Group,
 ) -> Result<Vec<Vec<u64>>, AllocError>
-    requires whole { IsWhole (world_of plan.now inputs.now tapes.now) }
+    requires whole { IsWhole (world_given plan.now inputs.now tapes.now) }
     requires other { AreInputs plan.now other.now }
     requires within { share < length plan.now.groups }
     requires hidden { share ≡ hidden plan.now group.mask }
     requires group { group.parties ≡ plan.now.parties }
     ensures { IfOk result (λ changed. session_words changed.items
-        ≡ changed_tapes (world_of plan.now inputs.now tapes.now) other.now group.mask) }
+        ≡ changed_tapes (world_given plan.now inputs.now tapes.now) other.now group.mask) }
 {
     let mut changed = empty_tapes(alloc, plan.parties())?;
     for s in 0..plan.sessions() {

@@ -3,9 +3,11 @@ use Rattle.std.specs.Option.{option_map}
 use Rattle.toml.specs.View.{table_view}
 use Rattle.job_plan.specs.InputWords.{AreInputs}
 use Rattle.other_file.specs.Table.{other_in}
-use Rattle.other_file.proofs.FirstFaults.{stops_with}
+use Rattle.other_file.specs.declared.fault.OtherFault.TheVariants.{Memory}
+use Rattle.list_laws.proofs.FirstFaults.{stops_with}
 use Rattle.other_file.proofs.FaultRows.{bytes_none, bytes_fail, bytes_pass}
 use Rattle.other_file.proofs.GivenInputs.{given_fit}
+use Rattle.other_file.proofs.FaultParties.{exit_below}
 use Rattle.other_file.proofs.other.read_other.Goals as goal
 
 pub returns-in_default-clause-fault : goal.returns-in_default-clause-fault
@@ -17,11 +19,15 @@ returns-in_err-words-clause-fault c =
     let plan = c.args.plan.now in
     let names = c.args.names.now in
     let is = sym c.in_ok-table.ensures ∙ ap (option_map table_view) c.in-Some.is in
-    stops_with c.from_residual-in_err-words.result _ (λ fault. other_in plan names c.args.inputs.now c.args.bytes.now ≡ Err fault) c.from_residual-in_err-words.ensures.1
+    stops_with Memory c.from_residual-in_err-words.result _ (λ fault. other_in plan names c.args.inputs.now c.args.bytes.now ≡ Err fault) c.from_residual-in_err-words.ensures.1
     (elim c.in_err-words.ensures.fault [
       | inl memory ↦ inl memory
       | inr fault ↦ inr (bytes_fail plan names c.args.inputs.now c.args.bytes.now (table_view c.in-Some.table) _ is fault)
     ])
+
+pub returns-in_err-words-clause-party : goal.returns-in_err-words-clause-party
+returns-in_err-words-clause-party c =
+    exit_below c.args.plan.now c.args.names.now (table_view c.in-Some.table) c.from_residual-in_err-words.result _ c.from_residual-in_err-words.ensures.1 c.in_err-words.ensures.fault
 
 pub make-requires : goal.make-requires
 make-requires c =

@@ -7,13 +7,14 @@ use Rattle.list_laws.specs.Checks.{first_fault}
 use Rattle.list_laws.proofs.JoinedLists.{joined_more}
 use Rattle.job_plan.specs.InputWords.{session_words, input_words}
 use Rattle.other_file.specs.Table.{party_fault, party_inputs}
-use Rattle.other_file.proofs.FirstFaults.{listed-passed, listed-stops, stops}
+use Rattle.other_file.specs.declared.fault.OtherFault.TheVariants.{Memory}
+use Rattle.list_laws.proofs.FirstFaults.{listed_more-passed, listed-stops, stops_by}
 use Rattle.other_file.proofs.parties.read_parties.Goals as goal
 
 pub returns-in_err-read_party-clause-fault : goal.returns-in_err-read_party-clause-fault
 returns-in_err-read_party-clause-fault c =
     let plan = c.args.plan.now in
-    stops c.from_residual.result _ _ _ c.from_residual.ensures.1
+    stops_by Memory c.from_residual.result _ _ _ c.from_residual.ensures.1
     (λ h. listed-stops plan.parties c.loop-party.party (party_fault plan c.args.names.now (table_view c.args.given.now)) _ (omega arith) c.loop-party.invariant.passed h)
     c.in_err-read_party.ensures.fault
 
@@ -24,7 +25,7 @@ loop-party-preserved c =
     let p = c.loop-party.party in
     let own = party_inputs c.args.names.now c.args.inputs.now given in
     record {
-      passed = listed-passed p (party_fault plan c.args.names.now given) c.loop-party.invariant.passed c.in_ok-read_party.ensures.passed.0;
+      passed = listed_more-passed p (party_fault plan c.args.names.now given) c.loop-party.invariant.passed c.in_ok-read_party.ensures.passed.0;
       read =
           ap input_words c.in_ok-push.ensures.items
           ∙ map-append (λ (sessions : Vec (Vec ℕ)). session_words sessions.items) c.loop-party.words.items (c.in_ok-read_party.field-0 ∷ [])

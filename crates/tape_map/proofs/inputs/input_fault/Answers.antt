@@ -1,7 +1,7 @@
 use Rattle.std.proofs.Common.{[], sym, ◌∙◌, length, arith}
 use Rattle.share_world.specs.Worlds.{World}
 use Rattle.tape_map.specs.MapFaults.{input_checks}
-use Rattle.tape_map.proofs.FirstChecks.{joined-stops, joined_more-passed}
+use Rattle.list_laws.proofs.FirstFaults.{joined-stops, joined_more-passed}
 use Rattle.tape_map.proofs.inputs.input_fault.Goals as goal
 
 pub returns-in-Some : goal.returns-in-Some

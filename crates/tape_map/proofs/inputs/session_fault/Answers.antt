@@ -10,7 +10,7 @@ use Rattle.share_world.specs.Worlds.{World, input_of}
 use Rattle.tape_map.specs.TapeMaps.{with_inputs}
 use Rattle.tape_map.specs.MapFaults.{input_check}
 use Rattle.tape_map.specs.declared.fault.MapFault.TheVariants.{InputDiffers}
-use Rattle.tape_map.proofs.FirstChecks.{joined-stops, joined_more-passed, one-fails, one-passed}
+use Rattle.list_laws.proofs.FirstFaults.{joined-stops, joined_more-passed, one-fails, one-passed}
 use Rattle.tape_map.proofs.inputs.session_fault.Goals as goal
 
 -- a word that was read of a list

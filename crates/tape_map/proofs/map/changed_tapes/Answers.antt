@@ -7,7 +7,7 @@ use Rattle.list_laws.proofs.JoinedLists.{joined_more}
 use Rattle.job_plan.specs.InputWords.{session_words}
 use Rattle.job_plan.specs.Plans.{place}
 use Rattle.share_world.specs.Worlds.{World}
-use Rattle.wire_tables.specs.WireTables.{world_of}
+use Rattle.wire_tables.specs.WireTables.{world_given}
 use Rattle.wire_tables.proofs.ListedRows.{listed_of}
 use Rattle.tape_map.specs.TapeMaps.{piece_map, tape_map}
 use Rattle.tape_map.proofs.Changing.{change_fits, piece_grown, pieces_long}
@@ -15,13 +15,13 @@ use Rattle.tape_map.proofs.map.changed_tapes.Goals as goal
 
 pub push_pieces-requires-clause-fits : goal.push_pieces-requires-clause-fits
 push_pieces-requires-clause-fits c =
-    let w : World = world_of c.args.plan.now c.args.inputs.now c.args.tapes.now in
+    let w : World = world_given c.args.plan.now c.args.inputs.now c.args.tapes.now in
     let ls : c.loop-s.s < length c.args.plan.now.sessions = omega (arith, c.loop-s-test.true, c.sessions-s-end.ensures) in
     change_fits w c.args.other.now c.args.group.mask c.loop-s.s c.requires.whole c.requires.other ls c.in_ok-change.change (c.in_ok-change.ensures c.args.group.mask c.requires.hidden)
 
 pub push_pieces-requires-clause-before : goal.push_pieces-requires-clause-before
 push_pieces-requires-clause-before c p lp =
-    let w : World = world_of c.args.plan.now c.args.inputs.now c.args.tapes.now in
+    let w : World = world_given c.args.plan.now c.args.inputs.now c.args.tapes.now in
     let is = c.in_ok-change.ensures c.args.group.mask c.requires.hidden in
     ap (λ xs. length (slice_index_or (session_words xs) p [])) c.deref_mut.ensures.value
     ∙ ap length (c.loop-s.invariant.pieces p lp)
@@ -31,7 +31,7 @@ push_pieces-requires-clause-before c p lp =
 pub loop-s-preserved : goal.loop-s-preserved
 loop-s-preserved c =
     let plan = c.args.plan.now in
-    let w : World = world_of plan c.args.inputs.now c.args.tapes.now in
+    let w : World = world_given plan c.args.inputs.now c.args.tapes.now in
     let mask = c.args.group.mask in
     let s = c.loop-s.s in
     let ls : s < length plan.sessions = omega (arith, c.loop-s-test.true, c.sessions-s-end.ensures) in
@@ -51,7 +51,7 @@ loop-s-preserved c =
 pub returns : goal.returns
 returns c =
     let plan = c.args.plan.now in
-    let w : World = world_of plan c.args.inputs.now c.args.tapes.now in
+    let w : World = world_given plan c.args.inputs.now c.args.tapes.now in
     let mask = c.args.group.mask in
     let ended : c.loop-s.s ≡ length plan.sessions = omega (arith, c.loop-s-test.false, c.sessions-s-end.ensures, c.loop-s.auto.s-end) in
     listed_of [] plan.parties (tape_map w c.args.other.now mask) (session_words c.loop-s.changed.items) (length-map c.loop-s.changed.items (λ (t : Vec ℕ). t.items) ∙ c.loop-s.invariant.parties)

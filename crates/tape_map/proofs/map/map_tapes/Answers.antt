@@ -1,10 +1,11 @@
 use Rattle.std.proofs.Common.{◌≡◌, ℕ, ◌<◌, true, length, sym, ◌∙◌, subst, inr}
 use Rattle.job_plan.specs.Plans.{Plan}
 use Rattle.share_world.specs.Worlds.{World}
-use Rattle.wire_tables.specs.WireTables.{world_of}
+use Rattle.wire_tables.specs.WireTables.{world_given}
 use Rattle.tape_map.specs.TapeMaps.{hidden}
 use Rattle.tape_map.specs.MapFaults.{is_tolerated}
 use Rattle.tape_map.proofs.NoFaults.{can_hide, none_found, some_found, tolerated_test, group_fails, inputs_fail, outputs_fail}
+use Rattle.tape_map.proofs.Recipients.{recipient_below}
 use Rattle.tape_map.proofs.map.map_tapes.Goals as goal
 
 -- a group whose hidden summand is there is tolerated
@@ -13,26 +14,40 @@ lies plan group share h = tolerated_test plan group (subst (λ k. k < length pla
 
 pub returns-in_default-clause-fault : goal.returns-in_default-clause-fault
 returns-in_default-clause-fault c =
-    let w : World = world_of c.args.plan.now c.args.inputs.now c.args.tapes.now in
+    let w : World = world_given c.args.plan.now c.args.inputs.now c.args.tapes.now in
     inr (group_fails w c.args.other.now c.args.group.mask (none_found c.hidden_summand.result c.args.groups.now c.args.plan.now c.args.group.mask c.requires.groups c.hidden_summand.ensures c.in_default.is))
 
 pub returns-in-Some-2-clause-fault : goal.returns-in-Some-2-clause-fault
 returns-in-Some-2-clause-fault c =
-    let w : World = world_of c.args.plan.now c.args.inputs.now c.args.tapes.now in
+    let w : World = world_given c.args.plan.now c.args.inputs.now c.args.tapes.now in
     let mask = c.args.group.mask in
     let tolerated = lies c.args.plan.now mask c.in-Some.share (some_found c.hidden_summand.result c.in-Some.share c.args.groups.now c.args.plan.now mask c.requires.groups c.hidden_summand.ensures c.in-Some.is) in
     inr (inputs_fail w c.args.other.now mask c.in-Some-2.fault tolerated (sym (c.in_ok-fault.ensures w.tapes) ∙ c.in-Some-2.is))
 
 pub returns-in-Some-3-clause-fault : goal.returns-in-Some-3-clause-fault
 returns-in-Some-3-clause-fault c =
-    let w : World = world_of c.args.plan.now c.args.inputs.now c.args.tapes.now in
+    let w : World = world_given c.args.plan.now c.args.inputs.now c.args.tapes.now in
     let mask = c.args.group.mask in
     let tolerated = lies c.args.plan.now mask c.in-Some.share (some_found c.hidden_summand.result c.in-Some.share c.args.groups.now c.args.plan.now mask c.requires.groups c.hidden_summand.ensures c.in-Some.is) in
     inr (outputs_fail w c.args.other.now mask c.in-Some-3.fault tolerated (sym (c.in_ok-fault.ensures w.tapes) ∙ c.in_default-2.is) (sym (c.in_ok-fault-2.ensures w.tapes) ∙ c.in-Some-3.is))
 
 pub returns-clause-hides : goal.returns-clause-hides
 returns-clause-hides c =
-    let w : World = world_of c.args.plan.now c.args.inputs.now c.args.tapes.now in
+    let w : World = world_given c.args.plan.now c.args.inputs.now c.args.tapes.now in
     let mask = c.args.group.mask in
     let tolerated = lies c.args.plan.now mask c.in-Some.share (some_found c.hidden_summand.result c.in-Some.share c.args.groups.now c.args.plan.now mask c.requires.groups c.hidden_summand.ensures c.in-Some.is) in
     can_hide w c.args.other.now mask c.requires.whole c.requires.other tolerated (sym (c.in_ok-fault.ensures w.tapes) ∙ c.in_default-2.is) (sym (c.in_ok-fault-2.ensures w.tapes) ∙ c.in_default-3.is)
+
+pub returns-in-Some-2-clause-recipient : goal.returns-in-Some-2-clause-recipient
+returns-in-Some-2-clause-recipient c =
+    let w : World = world_given c.args.plan.now c.args.inputs.now c.args.tapes.now in
+    let mask = c.args.group.mask in
+    let tolerated = lies c.args.plan.now mask c.in-Some.share (some_found c.hidden_summand.result c.in-Some.share c.args.groups.now c.args.plan.now mask c.requires.groups c.hidden_summand.ensures c.in-Some.is) in
+    recipient_below w c.args.other.now mask c.in-Some-2.fault (inputs_fail w c.args.other.now mask c.in-Some-2.fault tolerated (sym (c.in_ok-fault.ensures w.tapes) ∙ c.in-Some-2.is))
+
+pub returns-in-Some-3-clause-recipient : goal.returns-in-Some-3-clause-recipient
+returns-in-Some-3-clause-recipient c =
+    let w : World = world_given c.args.plan.now c.args.inputs.now c.args.tapes.now in
+    let mask = c.args.group.mask in
+    let tolerated = lies c.args.plan.now mask c.in-Some.share (some_found c.hidden_summand.result c.in-Some.share c.args.groups.now c.args.plan.now mask c.requires.groups c.hidden_summand.ensures c.in-Some.is) in
+    recipient_below w c.args.other.now mask c.in-Some-3.fault (outputs_fail w c.args.other.now mask c.in-Some-3.fault tolerated (sym (c.in_ok-fault.ensures w.tapes) ∙ c.in_default-2.is) (sym (c.in_ok-fault-2.ensures w.tapes) ∙ c.in-Some-3.is))

@@ -5,7 +5,7 @@ use Rattle.job_plan.specs.Plans.{session}
 use Rattle.share_world.specs.Worlds.{World, plain}
 use Rattle.tape_map.specs.TapeMaps.{with_inputs}
 use Rattle.tape_map.specs.MapFaults.{output_checks}
-use Rattle.tape_map.proofs.FirstChecks.{joined-stops, joined_more-passed}
+use Rattle.list_laws.proofs.FirstFaults.{joined-stops, joined_more-passed}
 use Rattle.tape_map.proofs.NoFaults.{values_alike}
 use Rattle.tape_map.proofs.outputs.output_fault.Goals as goal
 

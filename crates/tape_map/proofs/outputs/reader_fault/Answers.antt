@@ -5,7 +5,7 @@ use Rattle.job_session.specs.Sessions.{Session, readers, output_wire}
 use Rattle.job_plan.specs.Plans.{session, reads}
 use Rattle.tape_map.specs.MapFaults.{output_check}
 use Rattle.tape_map.specs.declared.fault.MapFault.TheVariants.{OutputDiffers}
-use Rattle.tape_map.proofs.FirstChecks.{joined-stops, joined_more-passed, one-fails, one-passed}
+use Rattle.list_laws.proofs.FirstFaults.{joined-stops, joined_more-passed, one-fails, one-passed}
 use Rattle.tape_map.proofs.outputs.reader_fault.Goals as goal
 
 pub overflow_cast-wire : goal.overflow_cast-wire

@@ -6,7 +6,7 @@ use Rattle.job_session.specs.Sessions.{Session, readers, output_wire}
 use Rattle.job_plan.specs.Plans.{session}
 use Rattle.tape_map.specs.MapFaults.{output_check}
 use Rattle.tape_map.specs.declared.fault.MapFault.{MapFault}
-use Rattle.tape_map.proofs.FirstChecks.{joined-stops, joined_more-passed}
+use Rattle.list_laws.proofs.FirstFaults.{joined-stops, joined_more-passed}
 use Rattle.tape_map.proofs.outputs.session_fault.Goals as goal
 
 pub returns-in-Some : goal.returns-in-Some

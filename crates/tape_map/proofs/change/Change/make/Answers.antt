@@ -6,7 +6,7 @@ use Rattle.job_plan.specs.Plans.{session}
 use Rattle.share_world.specs.Laws.{IsWorld}
 use Rattle.share_world.specs.Worlds.{World, plain, run_of}
 use Rattle.share_world.proofs.SmallWords.{is_world, is_plan, small_run}
-use Rattle.wire_tables.specs.WireTables.{world_of, value_list, summand_row, summand_rows}
+use Rattle.wire_tables.specs.WireTables.{world_given, value_list, summand_row, summand_rows}
 use Rattle.wire_tables.proofs.DealtRows.{all_listed}
 use Rattle.tape_map.specs.TapeMaps.{with_inputs}
 use Rattle.tape_map.proofs.Changing.{all_of, moved_is, small_plain}
@@ -16,7 +16,7 @@ pub moved_rows-requires : goal.moved_rows-requires
 moved_rows-requires c =
     let plan = c.args.plan.now in
     let s = c.args.s in
-    let w : World = world_of plan c.args.inputs.now c.args.tapes.now in
+    let w : World = world_given plan c.args.inputs.now c.args.tapes.now in
     let after : World = with_inputs w c.args.other.now in
     let x : Session = session plan s in
     let m : ℕ = length plan.groups in
@@ -44,7 +44,7 @@ pub returns : goal.returns
 returns c group e =
     let plan = c.args.plan.now in
     let s = c.args.s in
-    let w : World = world_of plan c.args.inputs.now c.args.tapes.now in
+    let w : World = world_given plan c.args.inputs.now c.args.tapes.now in
     let first = c.in_ok-first.ensures w.tapes in
     let second = c.in_ok-second.ensures w.tapes in
     record {

@@ -1,0 +1,3 @@
+pub mod PartyCopies
+pub mod CutTapes
+pub mod PairWorlds
