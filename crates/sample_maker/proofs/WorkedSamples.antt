@@ -1,0 +1,12 @@
+-- The small samples, by computation.
+use Rattle.std.proofs.Common.{refl}
+use Rattle.job_session.specs.KeptWires.{is_kept, kept, live}
+use Rattle.sample_maker.specs.Worked.{FiveIsWorked, OneIsWorked}
+
+pub one_is : OneIsWorked
+unfolding live kept is_kept
+one_is = record { multiplies = refl; sends = refl; draws = refl; keeps = refl; finds = λ pieces. refl }
+
+pub five_is : FiveIsWorked
+unfolding live kept is_kept
+five_is = record { multiplies = refl; sends = refl; draws = refl; keeps = refl; finds = λ pieces. refl }

@@ -1,0 +1,36 @@
+-- Small samples, worked by hand.
+use Rattle.std.specs.Prelude.{◌≡◌, ℕ, ◌+◌, ◌-◌, ◌^◌, List, [], ◌∷◌, length}
+use Rattle.list_laws.specs.Lists.{listed}
+use Rattle.job_session.specs.Counts.{products}
+use Rattle.job_session.specs.KeptWires.{live}
+use Rattle.job_plan.specs.Plans.{words}
+use Rattle.job_plan.specs.Messages.{messages}
+use Rattle.share_world.specs.Worlds.{World, plain}
+use Rattle.desk_laws.specs.Opening.{world_of_pieces}
+use Rattle.sample_maker.specs.Samples.{sample_inputs, sample_plan, sample_session}
+
+-- the world of sample n, with any pieces of tape
+abbrev pub sample_world : ℕ → List (List ℕ) → World
+sample_world n = world_of_pieces (sample_plan n) (sample_inputs n)
+
+-- the words that the gates of sample n set in the clear
+abbrev pub gate_words : ℕ → List (List ℕ) → List ℕ
+gate_words n pieces = listed n (λ j. plain (sample_world n pieces) 0 (4 + j))
+
+-- sample n has so many products and messages, its parties draw so many words each, at most so many wires are kept at
+-- once, and these are the words that its gates set
+pub record IsWorked (n multiplied sent : ℕ) (drawn : List ℕ) (kept : ℕ) (found : List ℕ) : Type 0 where
+  pub multiplies : products (sample_session n) ≡ multiplied
+  pub sends : length (messages (sample_plan n)) ≡ sent
+  pub draws : listed 3 (λ p. words (sample_plan n) p 0) ≡ drawn
+  pub keeps : live (sample_session n) ≡ kept
+  pub finds : (pieces : List (List ℕ)) → gate_words n pieces ≡ found
+
+-- one sum: 2 + 4 is 6
+abbrev pub OneIsWorked : Type 0
+OneIsWorked = IsWorked 1 0 19 (4 ∷ 4 ∷ 0 ∷ []) 2 (6 ∷ [])
+
+-- five gates, of which the last sets the output: 30, -15, -10, -150, -140
+abbrev pub FiveIsWorked : Type 0
+FiveIsWorked =
+    IsWorked 5 1 31 (6 ∷ 6 ∷ 2 ∷ []) 3 (30 ∷ (2 ^ 32 - 15) ∷ (2 ^ 32 - 10) ∷ (2 ^ 32 - 150) ∷ 4294967156 ∷ [])

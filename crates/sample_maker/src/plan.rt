@@ -1,0 +1,66 @@
+//! The plan of a sample.
+ghost use Rattle.std.specs.Prelude.{◌≡◌, ◌<◌, ◌≤◌, IfOk};
+ghost use Rattle.party_set.specs.Parties.{IsQ2};
+ghost use Rattle.job_plan.specs.Multiply.{three_parties};
+ghost use Rattle.job_session.specs.SoundSessions.{IsSoundSession};
+ghost use Rattle.sample_maker.specs.Samples.{sample_plan, sample_session};
+
+use crate::circuit::{sample_circuit, sample_ring};
+use job_plan::{Plan, SessionPart};
+use party_set::{Group, Groups};
+use plan_faults::{PartFault, PlanFault};
+use product_duty::Duty;
+use share_layout::Layout;
+use std::alloc::{AllocError, Global};
+
+/// The plan of the sample with so many gates, 1 to 65,536.
+pub(crate) fn sample_plan(alloc: Global, count: u32) -> Result<Plan, AllocError>
+    requires { (0 < count) × (count ≤ 65536) }
+    ensures { IfOk result (λ plan. plan ≡ sample_plan count) }
+{
+    let groups = three_groups(alloc)?;
+    let layout = Layout::make(alloc, &groups)?;
+    let duty = Duty::make(alloc, &groups)?;
+    let parts = vec![in alloc; sample_part(alloc, count)?]?;
+    match Plan::make(alloc, sample_ring(), layout, duty, parts) {
+        Ok(plan) => Ok(plan),
+        Err(PlanFault::Memory) => Err(AllocError),
+        Err(PlanFault::TooManyMessages { .. }) => unreachable!(),
+        Err(PlanFault::TooManyWords { .. }) => unreachable!(),
+    }
+}
+
+// The groups of one party each, out of three.
+fn three_groups(alloc: Global) -> Result<Groups, AllocError>
+    ensures groups { IfOk result (λ groups. groups ≡ three_parties) }
+    ensures q2 { IfOk result IsQ2 }
+{
+    let groups = vec![in alloc; group(1), group(2), group(4)]?;
+    Ok(Groups::of(3, groups))
+}
+
+fn group(mask: u32) -> Group
+    requires { mask < 8 }
+    ensures { result ≡ record { parties = 3; mask = mask } }
+{
+    Group::of_mask(mask, 3).unwrap()
+}
+
+// The session: a gives a value of two wires, b another, and all three parties read the last wire.
+fn sample_part(alloc: Global, count: u32) -> Result<SessionPart, AllocError>
+    requires { (0 < count) × (count ≤ 65536) }
+    ensures is { IfOk result (λ part. part ≡ sample_session count) }
+    ensures sound { IfOk result (IsSoundSession 3) }
+{
+    let owners = vec![in alloc; 0, 1]?;
+    let readers = vec![in alloc; group(7)]?;
+    let Ok(circuit) = sample_circuit(alloc, count) else {
+        return Err(AllocError);
+    };
+    match SessionPart::make(alloc, circuit, owners, readers) {
+        Ok(part) => Ok(part),
+        Err(PartFault::Memory) => Err(AllocError),
+        Err(PartFault::OwnersDiffer { .. }) => unreachable!(),
+        Err(PartFault::ReadersDiffer { .. }) => unreachable!(),
+    }
+}
