@@ -3,7 +3,7 @@
 
 Each of COUNT tries takes the files of an example, changes one to three things in one of them (lines and fields cut, doubled, exchanged
 or joined, bytes flipped, numbers at each limit and past it, other encodings, very long and very deep values), and runs 'check' or
-'run' over them. Whatever the files say, the program has to end within 2 seconds and 300 MB, with a status of its table: 0 with a text on standard
+'run' over them, or 'pair' for one party where the example has other inputs. Whatever the files say, the program has to end within 2 seconds and 300 MB, with a status of its table: 0 with a text on standard
 output and nothing on standard error, or 2 to 5 with nothing on standard output and one line of printable characters on standard error.
 Try N is the same each time; FIRST is the number of the first, and 0 where it isn't given. Prints how often each status came, and ends with
 status 1, and keeps the files, where a try went wrong. It needs Linux.
@@ -113,11 +113,11 @@ def change_files(files, chance):
 
 
 def example_files(chance):
-    name = chance.choice(sorted(os.listdir(EXAMPLES)))
-    folder = os.path.join(EXAMPLES, name)
+    jobs = [name for name in sorted(os.listdir(EXAMPLES)) if os.path.exists(os.path.join(EXAMPLES, name, 'job.toml'))]
+    folder = os.path.join(EXAMPLES, chance.choice(jobs))
     files = {}
     for file in os.listdir(folder):
-        if file == 'job.toml' or file.startswith('party_') or file.endswith('.txt'):
+        if file in ('job.toml', 'other.toml') or file.startswith('party_') or file.endswith('.txt'):
             with open(os.path.join(folder, file), 'rb') as text:
                 files[file] = text.read()
     return files
@@ -145,11 +145,15 @@ def attempt(program, number, folder):
     """Try N: its status, or why it went wrong."""
     chance = random.Random(number)
     files = example_files(chance)
+    commands = [['check'], ['run'], ['run'], ['run', '--workers', '3']]
+    if 'other.toml' in files:
+        party = chance.choice(sorted(name[len('party_'):-len('.toml')] for name in files if name.startswith('party_')))
+        commands += [['pair', '--group', party], ['pair', '--group', party]]
     change_files(files, chance)
     for name, text in files.items():
         with open(os.path.join(folder, name), 'wb') as file:
             file.write(text)
-    words = chance.choice([['check'], ['run'], ['run'], ['run', '--workers', '3']])
+    words = chance.choice(commands)
     try:
         run = subprocess.run([program, words[0], folder, *words[1:]], stdin=subprocess.DEVNULL, capture_output=True,
                              timeout=MOST_SECONDS, preexec_fn=limited)

@@ -1,33 +1,39 @@
 -- What a command line asks for.
 use Rattle.std.specs.Prelude.{ℕ, ◌<◌, ◌≤◌, ◌==◌, ◌&&◌, nat_le, Bool, false, not, if◌then◌else◌, List, [], ◌∷◌, Option, Some, None, option_and_then, option_map, codes}
 use Rattle.std.specs.Str.{bytes_eq}
-use Rattle.text_tokens.specs.Numbers.{number_of}
+use Rattle.text_tokens.specs.Numbers.{number_written}
 use Rattle.command_words.specs.declared.command.Command.{Command}
-use Rattle.command_words.specs.declared.command.Command.TheVariants.{Run, Check}
+use Rattle.command_words.specs.declared.command.Command.TheVariants.{Run, Check, Pair, Sample}
 
 -- a command, with the bytes of its words; a run may ask for the view of a group
 pub data CommandForm : Type 0 where
   run : (dir : List ℕ) → (workers : ℕ) → (view : Option (List ℕ)) → CommandForm
   check : (dir : List ℕ) → CommandForm
+  pair : (dir : List ℕ) → (group : List ℕ) → CommandForm
+  sample : (count : ℕ) → CommandForm
 
 abbrev pub form_of : Command → CommandForm
 form_of (Run dir workers view) = run dir.now workers (option_map (λ group. group.now) view)
 form_of (Check dir) = check dir.now
+form_of (Pair dir group) = pair dir.now group.now
+form_of (Sample count) = sample count
 
--- a run has at least one worker, and at most 16
-abbrev pub HasWorkers : Command → Type 0
-HasWorkers (Run dir workers view) = (0 < workers) × (workers ≤ 16)
-HasWorkers (Check dir) = Unit
+-- a run has 1 to 16 workers, and a sample 1 to 65,536 gates
+abbrev pub IsInRange : Command → Type 0
+IsInRange (Run dir workers view) = (0 < workers) × (workers ≤ 16)
+IsInRange (Check dir) = Unit
+IsInRange (Pair dir group) = Unit
+IsInRange (Sample count) = (0 < count) × (count ≤ 65536)
 
 -- a word that can be a folder or a group: not empty, and not beginning with `-`
 abbrev pub is_plain : List ℕ → Bool
 is_plain [] = false
 is_plain (c ∷ cs) = not (c == 45)
 
--- a number from 1 to 16
-abbrev pub worker_count : List ℕ → Option ℕ
-worker_count word =
-    option_and_then (λ count. if nat_le 1 count && nat_le count 16 then Some count else None) (number_of word)
+-- the number that a word writes, from 1 to the most that there may be
+abbrev pub count_up_to : ℕ → List ℕ → Option ℕ
+count_up_to most word =
+    option_and_then (λ count. if nat_le 1 count && nat_le count most then Some count else None) (number_written word)
 
 -- ---- a run, and its options
 
@@ -39,7 +45,7 @@ is_view word = bytes_eq word (codes "--view")
 
 -- a run by as many workers as one word tells
 abbrev pub run_by : List ℕ → List ℕ → Option CommandForm
-run_by dir count = option_map (λ workers. run dir workers None) (worker_count count)
+run_by dir count = option_map (λ workers. run dir workers None) (count_up_to 16 count)
 
 -- a run by one worker, and the view of a group
 abbrev pub run_seen : List ℕ → List ℕ → Option CommandForm
@@ -48,27 +54,42 @@ run_seen dir group = if is_plain group then Some (run dir 1 (Some group)) else N
 -- a run by as many workers as one word tells, and the view of a group
 abbrev pub run_by_seen : List ℕ → List ℕ → List ℕ → Option CommandForm
 run_by_seen dir count group =
-    if is_plain group then option_map (λ workers. run dir workers (Some group)) (worker_count count) else None
+    if is_plain group then option_map (λ workers. run dir workers (Some group)) (count_up_to 16 count) else None
 
 -- a run of a folder, after which these words stand: its options, each at most once and in either order
-abbrev pub run_of : List ℕ → List (List ℕ) → Option CommandForm
-run_of dir [] = Some (run dir 1 None)
-run_of dir (option ∷ word ∷ []) =
+abbrev pub run_asked : List ℕ → List (List ℕ) → Option CommandForm
+run_asked dir [] = Some (run dir 1 None)
+run_asked dir (option ∷ word ∷ []) =
     if is_workers option then run_by dir word
     else if is_view option then run_seen dir word
     else None
-run_of dir (option ∷ word ∷ other ∷ last ∷ []) =
+run_asked dir (option ∷ word ∷ other ∷ last ∷ []) =
     if is_workers option && is_view other then run_by_seen dir word last
     else if is_view option && is_workers other then run_by_seen dir last word
     else None
-run_of dir words = None
+run_asked dir words = None
 
 -- ---- a check
 
 -- a check of a folder, after which no word stands
-abbrev pub check_of : List ℕ → List (List ℕ) → Option CommandForm
-check_of dir [] = Some (check dir)
-check_of dir options = None
+abbrev pub check_asked : List ℕ → List (List ℕ) → Option CommandForm
+check_asked dir [] = Some (check dir)
+check_asked dir options = None
+
+-- ---- a pair of runs
+
+-- a pair of runs of a folder, after which the group stands from which other inputs are to be hidden
+abbrev pub pair_asked : List ℕ → List (List ℕ) → Option CommandForm
+pair_asked dir (option ∷ group ∷ []) =
+    if bytes_eq option (codes "--group") && is_plain group then Some (pair dir group) else None
+pair_asked dir options = None
+
+-- ---- a sample
+
+-- a sample of as many gates as a word tells, after which no word stands
+abbrev pub sample_asked : List ℕ → List (List ℕ) → Option CommandForm
+sample_asked word [] = option_map (λ count. sample count) (count_up_to 65536 word)
+sample_asked word options = None
 
 -- ---- a command
 
@@ -76,7 +97,9 @@ check_of dir options = None
 abbrev pub command_of : List (List ℕ) → Option CommandForm
 command_of (program ∷ verb ∷ dir ∷ options) =
     if not (is_plain dir) then None
-    else if bytes_eq verb (codes "run") then run_of dir options
-    else if bytes_eq verb (codes "check") then check_of dir options
+    else if bytes_eq verb (codes "run") then run_asked dir options
+    else if bytes_eq verb (codes "check") then check_asked dir options
+    else if bytes_eq verb (codes "pair") then pair_asked dir options
+    else if bytes_eq verb (codes "sample") then sample_asked dir options
     else None
 command_of words = None

@@ -1,6 +1,7 @@
 //! Commands, and the words that ask for them.
 ghost use Rattle.std.specs.Prelude.{◌≡◌, map, Some, None, IfOk, IfSome, OnErr, [], ◌∷◌, option_map, string_bytes};
-ghost use Rattle.command_words.specs.Commands.{is_plain, worker_count, is_workers, is_view, run_by, run_seen, run_by_seen, run_of, command_of, form_of, HasWorkers};
+ghost use Rattle.command_words.specs.Commands.{is_plain, count_up_to, is_workers, is_view, run_by, run_seen, run_by_seen};
+ghost use Rattle.command_words.specs.Commands.{run_asked, pair_asked, sample_asked, command_of, form_of, IsInRange};
 
 use text_tokens::number;
 
@@ -18,6 +19,16 @@ pub enum Command<'w> {
     Check {
         dir: &'w str,
     },
+    /// `pair DIR --group GROUP`: runs the job of the folder, and again with the other inputs of the folder and the tapes
+    /// that hide them from the group.
+    Pair {
+        dir: &'w str,
+        group: &'w str,
+    },
+    /// `sample N`: makes a job of so many gates, 1 to 65,536, and runs it.
+    Sample {
+        count: u32,
+    },
 }
 
 /// The words ask for nothing that there is.
@@ -34,12 +45,12 @@ fn is_plain(word: &str) -> bool
     }
 }
 
-/// The number of workers that a word writes.
-fn worker_count(word: &str) -> Option<u32>
-    ensures { result ≡ worker_count word.now }
+/// The number that a word writes, from 1 to the most that there may be.
+fn count_up_to(word: &str, most: u32) -> Option<u32>
+    ensures { result ≡ count_up_to most word.now }
 {
     match number(word) {
-        Some(count) if 1 <= count && count <= 16 => Some(count as u32),
+        Some(count) if 1 <= count && count <= u64::from(most) => Some(count as u32),
         _ => None,
     }
 }
@@ -59,9 +70,9 @@ fn is_view(word: &str) -> bool
 /// A run by as many workers as one word tells.
 fn run_by<'w>(dir: &'w str, count: &str) -> Option<Command<'w>>
     ensures form { option_map form_of result ≡ run_by dir.now count.now }
-    ensures workers { IfSome result HasWorkers }
+    ensures range { IfSome result IsInRange }
 {
-    let workers = worker_count(count)?;
+    let workers = count_up_to(count, 16)?;
     Some(Command::Run {
         dir,
         workers,
@@ -72,7 +83,7 @@ fn run_by<'w>(dir: &'w str, count: &str) -> Option<Command<'w>>
 /// A run by one worker, and the view of a group.
 fn run_seen<'w>(dir: &'w str, group: &'w str) -> Option<Command<'w>>
     ensures form { option_map form_of result ≡ run_seen dir.now group.now }
-    ensures workers { IfSome result HasWorkers }
+    ensures range { IfSome result IsInRange }
 {
     if !is_plain(group) {
         return None;
@@ -87,12 +98,12 @@ fn run_seen<'w>(dir: &'w str, group: &'w str) -> Option<Command<'w>>
 /// A run by as many workers as one word tells, and the view of a group.
 fn run_by_seen<'w>(dir: &'w str, count: &str, group: &'w str) -> Option<Command<'w>>
     ensures form { option_map form_of result ≡ run_by_seen dir.now count.now group.now }
-    ensures workers { IfSome result HasWorkers }
+    ensures range { IfSome result IsInRange }
 {
     if !is_plain(group) {
         return None;
     }
-    let workers = worker_count(count)?;
+    let workers = count_up_to(count, 16)?;
     Some(Command::Run {
         dir,
         workers,
@@ -102,8 +113,8 @@ fn run_by_seen<'w>(dir: &'w str, count: &str, group: &'w str) -> Option<Command<
 
 /// A run with one option.
 fn run_with<'w>(dir: &'w str, option: &str, word: &'w str) -> Option<Command<'w>>
-    ensures form { option_map form_of result ≡ run_of dir.now (option.now ∷ word.now ∷ []) }
-    ensures workers { IfSome result HasWorkers }
+    ensures form { option_map form_of result ≡ run_asked dir.now (option.now ∷ word.now ∷ []) }
+    ensures range { IfSome result IsInRange }
 {
     if is_workers(option) {
         run_by(dir, word)
@@ -123,8 +134,8 @@ fn run_with_both<'w>(
     last: &'w str,
 ) -> Option<Command<'w>>
     ensures form { option_map form_of result
-        ≡ run_of dir.now (option.now ∷ word.now ∷ other.now ∷ last.now ∷ []) }
-    ensures workers { IfSome result HasWorkers }
+        ≡ run_asked dir.now (option.now ∷ word.now ∷ other.now ∷ last.now ∷ []) }
+    ensures range { IfSome result IsInRange }
 {
     if is_workers(option) && is_view(other) {
         run_by_seen(dir, word, last)
@@ -136,9 +147,9 @@ fn run_with_both<'w>(
 }
 
 /// A run of a folder, after which these words stand.
-fn run_of<'w>(dir: &'w str, options: &'w [String]) -> Option<Command<'w>>
-    ensures form { option_map form_of result ≡ run_of dir.now (map string_bytes options.now) }
-    ensures workers { IfSome result HasWorkers }
+fn run_asked<'w>(dir: &'w str, options: &'w [String]) -> Option<Command<'w>>
+    ensures form { option_map form_of result ≡ run_asked dir.now (map string_bytes options.now) }
+    ensures range { IfSome result IsInRange }
 {
     match options.len() {
         0 => Some(Command::Run {
@@ -158,9 +169,37 @@ fn run_of<'w>(dir: &'w str, options: &'w [String]) -> Option<Command<'w>>
     }
 }
 
+/// A pair of runs of a folder, after which these words stand.
+fn pair_asked<'w>(dir: &'w str, options: &'w [String]) -> Option<Command<'w>>
+    ensures form { option_map form_of result ≡ pair_asked dir.now (map string_bytes options.now) }
+    ensures range { IfSome result IsInRange }
+{
+    if options.len() != 2 {
+        return None;
+    }
+    let group = options[1].as_str();
+    if options[0].as_str() == "--group" && is_plain(group) {
+        Some(Command::Pair { dir, group })
+    } else {
+        None
+    }
+}
+
+/// A sample of as many gates as a word tells, after which these words stand.
+fn sample_asked<'w>(word: &str, options: &[String]) -> Option<Command<'w>>
+    ensures form { option_map form_of result ≡ sample_asked word.now (map string_bytes options.now) }
+    ensures range { IfSome result IsInRange }
+{
+    if !options.is_empty() {
+        return None;
+    }
+    let count = count_up_to(word, 65_536)?;
+    Some(Command::Sample { count })
+}
+
 fn command_of(words: &[String]) -> Option<Command<'_>>
     ensures form { option_map form_of result ≡ command_of (map string_bytes words.now) }
-    ensures workers { IfSome result HasWorkers }
+    ensures range { IfSome result IsInRange }
 {
     if words.len() < 3 {
         return None;
@@ -172,9 +211,13 @@ fn command_of(words: &[String]) -> Option<Command<'_>>
     let verb = words[1].as_str();
     let options = &words[3..];
     if verb == "run" {
-        run_of(dir, options)
+        run_asked(dir, options)
     } else if verb == "check" && options.is_empty() {
         Some(Command::Check { dir })
+    } else if verb == "pair" {
+        pair_asked(dir, options)
+    } else if verb == "sample" {
+        sample_asked(dir, options)
     } else {
         None
     }
@@ -184,12 +227,13 @@ fn command_of(words: &[String]) -> Option<Command<'_>>
 ///
 /// # Errors
 ///
-/// `Refused` where the words, after the first, are none of the forms `run DIR [--workers W] [--view GROUP]` and
-/// `check DIR`. The two options stand in either order, each at most once. DIR and GROUP aren't empty and don't begin
-/// with `-`, and W is one or more digits with a value from 1 to 16.
+/// `Refused` where the words, after the first, are none of the forms `run DIR [--workers W] [--view GROUP]`,
+/// `check DIR`, `pair DIR --group GROUP` and `sample N`. The two options of `run` stand in either order, each at most
+/// once. DIR and GROUP aren't empty and don't begin with `-`. W is one or more digits with a value from 1 to 16, and N
+/// with one from 1 to 65,536.
 pub fn read_command(words: &[String]) -> Result<Command<'_>, Refused>
     ensures taken { IfOk result (λ command. command_of (map string_bytes words.now) ≡ Some (form_of command)) }
-    ensures workers { IfOk result HasWorkers }
+    ensures range { IfOk result IsInRange }
     ensures refused { OnErr result (command_of (map string_bytes words.now) ≡ None) }
 {
     match command_of(words) {

@@ -16,7 +16,7 @@ use Rattle.mpc_top.specs.declared.plan.Planned as code
 use Rattle.mpc_top.specs.Verdict.{accepted}
 use Rattle.mpc_top.specs.JobOf.{WholeJob, JobAt}
 use Rattle.mpc_top.specs.Reads.{ReadsAs}
-use Rattle.mpc_top.specs.Hiding.{AreAlike, Hides, RunHides}
+use Rattle.mpc_top.specs.Hiding.{AreAlike, Hides, CommandHides}
 use Rattle.mpc_top.proofs.Jobs.{job_seen}
 
 module _ (Written : List ℕ → Type 0) where
@@ -31,12 +31,12 @@ module _ (Written : List ℕ → Type 0) where
       text
 
   told_hides : (dir : List ℕ) (workers : ℕ) (asked : Option (List ℕ)) (job : WholeJob) (told : Told) → IfSome told (λ m. JobAt m dir asked (accepted job)) → Hides job Written
-      → RunHides (Some (run dir workers asked)) told Written
+      → CommandHides (Some (run dir workers asked)) told Written
   told_hides dir workers asked job None is hides = tt
   told_hides dir workers asked job (Some files) is hides = (job, is, hides)
 
   pub run_hides : (dir : List ℕ) (workers : ℕ) (asked : Option (List ℕ)) (planned : code.Planned) (parties : Vec PartyData Global) (before after : FilesReading)
       → IsWhole (job_seen planned parties).world → ReadsAs (job_seen planned) (λ m. JobAt m dir asked) before after (Ok parties)
-      → Written (run_text planned.names (job_seen planned parties).world planned.group) → RunHides (Some (run dir workers asked)) before.told Written
+      → Written (run_text planned.names (job_seen planned parties).world planned.group) → CommandHides (Some (run dir workers asked)) before.told Written
   run_hides dir workers asked planned parties before after whole read text =
       told_hides dir workers asked (job_seen planned parties) before.told read.ok (hidden planned.names (job_seen planned parties).world planned.group whole text)

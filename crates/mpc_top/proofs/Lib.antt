@@ -3,6 +3,7 @@ mod FileEnds
 mod HiddenInputs
 mod Jobs
 mod Loops
+mod Pairs
 mod Runs
 mod Statuses
 mod Steps

@@ -18,7 +18,7 @@ use Rattle.mpc_top.specs.JobOf.{WholeJob, PlanAt, PartiesAfter}
 use Rattle.mpc_top.specs.Seen.{planned_view, parties_view}
 use Rattle.mpc_top.specs.Reads.{KeepsFiles, ReadsAs, StopsAt}
 use Rattle.mpc_top.specs.Due.{TextOf}
-use Rattle.mpc_top.specs.Hiding.{RunHides}
+use Rattle.mpc_top.specs.Hiding.{CommandHides}
 use Rattle.mpc_top.specs.Stops.{HasCause, Runs}
 use Rattle.mpc_top.proofs.Steps.{reads_stop, reads_then, reads_end}
 use Rattle.mpc_top.proofs.Jobs.{job_seen, job_stops, job_stops_later, job_read}
@@ -46,7 +46,7 @@ module _ (command : CommandForm) (files files' : FilesReading) (out out' : SinkR
 
   -- a text that was read, and then written
   pub runs_written : (text : List ℕ) (u : Unit {0}) → ReadsAs (λ (t : List ℕ). t) (TextOf command) files files' (Ok text) → Writes text out out' (Ok u)
-      → RunHides (Some command) files.told (λ text. Writes text out out' (Ok tt)) → RunsAs (Ok u)
+      → CommandHides (Some command) files.told (λ text. Writes text out out' (Ok tt)) → RunsAs (Ok u)
   runs_written text u r w hides = record { ok = (text, (r.ok, r.quiet), w); hides = hides; stop = tt; keeps = r.keeps }
 
   -- a text that was read, and could not be written

@@ -8,7 +8,7 @@ use Rattle.mpc_top.specs.declared.stop.Stop.{Stop}
 use Rattle.mpc_top.specs.Verdict.{Verdict, accepted, missing, refused}
 use Rattle.mpc_top.specs.Reads.{KeepsFiles}
 use Rattle.mpc_top.specs.Due.{IsDue, status_due, text_due}
-use Rattle.mpc_top.specs.Hiding.{RunHides}
+use Rattle.mpc_top.specs.Hiding.{CommandHides}
 use Rattle.mpc_top.specs.Stops.{HasCause, IsDone, Tells}
 
 -- ---- the outside of a call
@@ -83,9 +83,9 @@ pub record Answers (words : List (List ℕ)) (before after : Outside) (status : 
       → IsDone (command_of words) before.files after.files before.out after.out
       × (after.err ≡ before.err)
   -- At 0, what was written of the view of a tolerated group is its view with any other inputs too that leave what its
-  -- members give and read.
+  -- members give and read; and of a pair of runs it is the same twice.
   pub hides : status ≡ 0
-      → RunHides (command_of words) before.files.told (λ text. Writes text before.out after.out (Ok tt))
+      → CommandHides (command_of words) before.files.told (λ text. Writes text before.out after.out (Ok tt))
   -- At any other status there is a cause of the table, and `err` was told.
   pub stopped : ¬ (status ≡ 0)
       → (cause : Stop)

@@ -2,12 +2,15 @@
 use Rattle.std.specs.Prelude.{◌≡◌, ℕ, List, map, Option, None, Some, IfSome, String, string_bytes}
 use Rattle.std.specs.declared.alloc.Global.{Global}
 use Rattle.outer_io.specs.Files.{Told}
-use Rattle.command_words.specs.Commands.{CommandForm, run, check}
+use Rattle.command_words.specs.Commands.{CommandForm, run, check, pair, sample}
 use Rattle.output_text.specs.CheckText.{check_text}
 use Rattle.output_text.specs.ViewText.{run_text}
+use Rattle.output_text.specs.PairText.{pair_text}
+use Rattle.output_text.specs.SampleText.{sample_text}
+use Rattle.sample_maker.specs.Samples.{sample_names, sample_job}
 use Rattle.mpc_top.specs.Texts.{files_fault_line, usage_text}
 use Rattle.mpc_top.specs.Verdict.{Verdict, accepted, missing, refused, Ends, Then}
-use Rattle.mpc_top.specs.JobOf.{Contents, Planned, WholeJob, PlanAt, JobAt}
+use Rattle.mpc_top.specs.JobOf.{Contents, Planned, WholeJob, PairedJob, second_of, PlanAt, JobAt, PairAt}
 
 -- the bytes of each word
 abbrev pub words_view : List (String Global) → List (List ℕ)
@@ -20,6 +23,10 @@ TextOf (run dir workers view) files =
     Ends (accepted (run_text job.names job.world job.group)))
 TextOf (check dir) files =
     Then (PlanAt files dir None) (λ (p : Planned). Ends (accepted (check_text p.names p.plan)))
+TextOf (pair dir group) files =
+    Then (PairAt files dir group) (λ (p : PairedJob).
+    Ends (accepted (pair_text p.names p.first (second_of p) p.group)))
+TextOf (sample count) files = Ends (accepted (sample_text sample_names (sample_job count) count))
 
 -- the verdict that is due, as far as the files tell; words that ask for nothing are refused with the usage
 abbrev pub IsDue : Option CommandForm → Told → Verdict (List ℕ) → Type 0

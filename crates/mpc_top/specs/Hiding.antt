@@ -1,18 +1,18 @@
--- What the view of a tolerated group tells of the inputs of all others: nothing.
-use Rattle.std.specs.Prelude.{ℕ, List, ◌++◌, Option, None, Some, IfSome}
+-- What a tolerated group sees tells nothing of the inputs of all others.
+use Rattle.std.specs.Prelude.{ℕ, List, Option, None, Some, IfSome}
 use Rattle.outer_io.specs.Files.{Told}
-use Rattle.command_words.specs.Commands.{CommandForm, run, check}
+use Rattle.command_words.specs.Commands.{CommandForm, run, check, pair, sample}
 use Rattle.party_set.specs.Parties.{Members}
 use Rattle.maximal_groups.specs.Families.{LiesWithin}
 use Rattle.job_plan.specs.Plans.{structure}
 use Rattle.job_plan.specs.InputWords.{AreInputs}
 use Rattle.share_world.specs.Worlds.{World, view}
 use Rattle.tape_map.specs.TapeMaps.{second_world}
-use Rattle.tape_map.specs.Laws.{Agree}
-use Rattle.output_text.specs.OutText.{out_text}
-use Rattle.output_text.specs.ViewText.{view_text}
+use Rattle.tape_map.specs.Laws.{Agree, CanHide}
+use Rattle.output_text.specs.ViewText.{seen_text}
+use Rattle.output_text.specs.PairText.{pair_seen}
 use Rattle.mpc_top.specs.Verdict.{accepted}
-use Rattle.mpc_top.specs.JobOf.{WholeJob, JobAt}
+use Rattle.mpc_top.specs.JobOf.{WholeJob, PairedJob, second_of, JobAt, PairAt}
 
 -- other inputs of the plan, with which the members of a tolerated group give and read what they did
 pub record AreAlike (w : World) (group : ℕ) (other : List (List (List ℕ))) : Type 0 where
@@ -20,11 +20,12 @@ pub record AreAlike (w : World) (group : ℕ) (other : List (List (List ℕ))) :
   pub tolerated : LiesWithin (structure w.plan) group
   pub agree : Agree w other group
 
+-- ---- the view of one run
+
 -- the outputs of a job, and then what the group sees in the second world of these inputs
 abbrev pub other_text : WholeJob → ℕ → List (List (List ℕ)) → List ℕ
 other_text job group other =
-    out_text job.names job.world
-    ++ view_text job.names group (view (second_world job.world other group) group)
+    seen_text job.names job.world group (view (second_world job.world other group) group)
 
 -- whatever other inputs are alike to the group that was asked for, what was written has its view
 -- in their second world
@@ -33,9 +34,27 @@ Hides job Written =
     IfSome job.group (λ (group : Members). (other : List (List (List ℕ)))
     → AreAlike job.world group.mask other → Written (other_text job group.mask other))
 
--- that of the job which the files of a run stand for, where they tell
-abbrev pub RunHides : Option CommandForm → Told → (List ℕ → Type 0) → Type 0
-RunHides (Some (run dir workers view)) told Written =
+-- ---- the views of a pair
+
+-- the text of a pair, where what the group sees of the first run is told of both
+abbrev pub same_seen : PairedJob → List ℕ
+same_seen job =
+    let seen = view job.first job.group in
+    pair_seen job.names job.first (second_of job) job.group seen seen
+
+-- the other inputs can be hidden from the group, and what was written tells the same view of both runs
+pub record HidesPair (job : PairedJob) (Written : List ℕ → Type 0) : Type 0 where
+  pub can : CanHide job.first job.other job.group
+  pub same : Written (same_seen job)
+
+-- ---- a command
+
+-- that of the job which the files of a command stand for, where they tell
+abbrev pub CommandHides : Option CommandForm → Told → (List ℕ → Type 0) → Type 0
+CommandHides (Some (run dir workers view)) told Written =
     IfSome told (λ files. (job : WholeJob) × JobAt files dir view (accepted job) × Hides job Written)
-RunHides (Some (check dir)) told Written = Unit {0}
-RunHides None told Written = Unit {0}
+CommandHides (Some (pair dir group)) told Written =
+    IfSome told (λ files. (job : PairedJob) × PairAt files dir group (accepted job) × HidesPair job Written)
+CommandHides (Some (check dir)) told Written = Unit {0}
+CommandHides (Some (sample count)) told Written = Unit {0}
+CommandHides None told Written = Unit {0}

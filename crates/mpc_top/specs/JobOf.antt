@@ -21,10 +21,13 @@ use Rattle.job_file.specs.Forms.{JobForm, SessionForm, AdversaryForm, by_formula
 use Rattle.job_file.specs.Faults.{job_in}
 use Rattle.group_text.specs.GroupTexts.{group_in}
 use Rattle.party_file.specs.Table.{PartyForm, party_in}
+use Rattle.other_file.specs.Table.{other_in}
 use Rattle.share_world.specs.Worlds.{World}
+use Rattle.tape_map.specs.TapeMaps.{second_world}
+use Rattle.tape_map.specs.MapFaults.{map_fault}
 use Rattle.job_run.specs.Parties.{world_of}
-use Rattle.refusal_text.specs.Lines.{too_long_line, job_line, group_line, formula_line, groups_line, covering_line, circuit_line, session_line, plan_line, party_line}
-use Rattle.mpc_top.specs.Names as names
+use Rattle.refusal_text.specs.Lines.{too_long_line, job_line, group_line, formula_line, groups_line, covering_line, circuit_line, session_line, plan_line, party_line, other_line, pair_line}
+use Rattle.mpc_top.specs.Names as file_names
 use Rattle.mpc_top.specs.Verdict.{Verdict, accepted, missing, refused, Ends, Then, verdict_of, unless}
 
 -- what files hold: for each path its bytes, or none where no file is there
@@ -44,13 +47,13 @@ bytes_of (Some bytes) name =
     if nat_le (length bytes) file_limit then accepted bytes else refused 3 (too_long_line name)
 
 unfoldable pub file_at : Contents → List ℕ → List ℕ → Verdict (List ℕ)
-file_at files dir name = bytes_of (files (names.path_of dir name)) name
+file_at files dir name = bytes_of (files (file_names.path_of dir name)) name
 
 -- ---- the job's file
 
 unfoldable pub JobText : Contents → List ℕ → Verdict JobForm → Type 0
 JobText files dir =
-    Then (Ends (file_at files dir names.job_file)) (λ bytes.
+    Then (Ends (file_at files dir file_names.job_file)) (λ bytes.
     Ends (verdict_of job_line (job_in false bytes)))
 
 -- ---- the group
@@ -167,8 +170,8 @@ PlanAt files dir asked =
 -- what party p gives
 unfoldable pub PartyAt : Contents → List ℕ → Plan → ℕ → List ℕ → Verdict PartyForm → Type 0
 PartyAt files dir plan p name =
-    Then (Ends (file_at files dir (names.party_file name))) (λ bytes.
-    Ends (verdict_of (party_line (names.party_file name)) (party_in plan p bytes)))
+    Then (Ends (file_at files dir (file_names.party_file name))) (λ bytes.
+    Ends (verdict_of (party_line (file_names.party_file name)) (party_in plan p bytes)))
 
 -- what the parties of these names give, after those whose files were read
 unfoldable pub PartiesAfter :
@@ -194,3 +197,44 @@ JobAt files dir asked =
     Then (PlanAt files dir asked) (λ planned.
     Then (PartiesAfter files dir planned.plan [] planned.names) (λ parties.
     Ends (accepted (whole_job planned parties))))
+
+-- ---- a pair of runs
+
+-- the inputs that a folder gives beside those of its job
+unfoldable pub OtherAt :
+    Contents → List ℕ → Plan → List (List ℕ) → List (List (List ℕ)) → Verdict (List (List (List ℕ))) → Type 0
+OtherAt files dir plan names inputs =
+    Then (Ends (file_at files dir file_names.other_file)) (λ bytes.
+    Ends (verdict_of (other_line names) (other_in plan names inputs bytes)))
+
+-- a job, and other inputs that can be hidden from the group of this mask
+pub record PairedJob : Type 0 where
+  pub names : List (List ℕ)
+  pub group : ℕ
+  pub first : World
+  pub other : List (List (List ℕ))
+
+-- the world of the other inputs, in which the group sees what it saw
+abbrev pub second_of : PairedJob → World
+second_of job = second_world job.first job.other job.group
+
+-- the mask of a group, where one is asked for
+abbrev pub mask_of : Option Members → ℕ
+mask_of None = 0
+mask_of (Some group) = group.mask
+
+abbrev pub paired_job : WholeJob → List (List (List ℕ)) → PairedJob
+paired_job job other =
+    record { names = job.names; group = mask_of job.group; first = job.world; other = other }
+
+-- these inputs, where they can be hidden from the group
+abbrev pub hidden_of : WholeJob → List (List (List ℕ)) → Verdict PairedJob
+hidden_of job other =
+    unless (map_fault job.world other (mask_of job.group)) (pair_line job.names) (paired_job job other)
+
+-- the job of a folder, and its other inputs, which are to be hidden from the group that a text asks for
+unfoldable pub PairAt : Contents → List ℕ → List ℕ → Verdict PairedJob → Type 0
+PairAt files dir asked =
+    Then (JobAt files dir (Some asked)) (λ job.
+    Then (OtherAt files dir job.world.plan job.names job.world.inputs) (λ other.
+    Ends (hidden_of job other)))

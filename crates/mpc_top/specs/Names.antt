@@ -4,6 +4,10 @@ use Rattle.std.specs.Prelude.{ℕ, List, ◌++◌, codes}
 abbrev pub job_file : List ℕ
 job_file = codes "job.toml"
 
+-- the file of other inputs
+abbrev pub other_file : List ℕ
+other_file = codes "other.toml"
+
 -- the file of a party
 unfoldable pub party_file : List ℕ → List ℕ
 party_file name = codes "party_" ++ (name ++ codes ".toml")

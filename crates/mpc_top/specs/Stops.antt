@@ -11,7 +11,7 @@ use Rattle.mpc_top.specs.Texts.{files_fault_line, out_fault_line, usage_text}
 use Rattle.mpc_top.specs.Verdict.{Verdict, accepted, missing, refused}
 use Rattle.mpc_top.specs.Reads.{KeepsFiles}
 use Rattle.mpc_top.specs.Due.{IsDue}
-use Rattle.mpc_top.specs.Hiding.{RunHides}
+use Rattle.mpc_top.specs.Hiding.{CommandHides}
 
 abbrev pub status_of : Stop → ℕ
 status_of Words = 2
@@ -56,7 +56,7 @@ module _ (command : Option CommandForm) (files files_after : FilesReading) where
     -- a run of the words, before `err` is told
     pub record Runs (result : Result Unit Stop) : Type 0 where
       pub ok : OnOk result IsDone
-      pub hides : OnOk result (RunHides command files.told (λ text. Writes text out out_after (Ok tt)))
+      pub hides : OnOk result (CommandHides command files.told (λ text. Writes text out out_after (Ok tt)))
       pub stop : IfErr result HasCause
       pub keeps : KeepsFiles files files_after
 

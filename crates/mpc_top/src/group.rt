@@ -1,5 +1,6 @@
 //! The group of which is asked what it sees.
-ghost use Rattle.std.specs.Prelude.{◌≡◌, Some, IfOk, IfSome, length};
+ghost use Rattle.std.specs.Prelude.{◌≡◌, true, Some, IfOk, IfSome, length};
+ghost use Rattle.std.specs.Option.{is_some};
 ghost use Rattle.group_text.specs.GroupTexts.{group_in};
 ghost use Rattle.refusal_text.specs.Lines.{group_line};
 ghost use Rattle.mpc_top.specs.Verdict.{Ends, verdict_of};
@@ -22,6 +23,7 @@ pub(crate) fn asked_group(
 ) -> Result<Option<Group>, Stop>
     ensures walks { WalksAs (λ group. group) (GroupOf names.now (text_view asked.entry)) result }
     ensures parties { IfOk result (λ found. IfSome found (λ group. group.parties ≡ length names.now)) }
+    ensures asked { IfOk result (λ found. is_some found ≡ is_some asked.entry) }
 {
     match asked {
         Some(text) => some_group(alloc, text, names),
@@ -32,6 +34,7 @@ pub(crate) fn asked_group(
 fn some_group(alloc: Global, text: &str, names: &Names) -> Result<Option<Group>, Stop>
     ensures walks { WalksAs (λ group. group) (GroupOf names.now (Some text.now)) result }
     ensures parties { IfOk result (λ found. IfSome found (λ group. group.parties ≡ length names.now)) }
+    ensures asked { IfOk result (λ found. is_some found ≡ true) }
 {
     let group = group_of(alloc, text, names)?;
     Ok(Some(group))

@@ -1,5 +1,6 @@
 //! The plan of a job.
 ghost use Rattle.std.specs.Prelude.{◌≡◌, ◌≤◌, All, IfOk, IfSome, length};
+ghost use Rattle.std.specs.Option.{is_some};
 ghost use Rattle.party_set.specs.Parties.{IsQ2};
 ghost use Rattle.job_plan.specs.Plans.{plan_of, structure};
 ghost use Rattle.job_session.specs.SoundSessions.{IsSoundSession};
@@ -46,6 +47,7 @@ pub(crate) fn read_planned<F: Files>(
     ensures names { IfOk result (λ planned. length planned.names ≡ planned.plan.parties) }
     ensures group { IfOk result (λ planned. IfSome planned.group
         (λ group. group.parties ≡ length planned.names)) }
+    ensures asked { IfOk result (λ planned. is_some planned.group ≡ is_some asked.entry) }
     ensures groups { IfOk result (λ planned. planned.groups ≡ structure planned.plan) }
 {
     let job = read_job_text(alloc, files, dir)?;

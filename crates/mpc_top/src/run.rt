@@ -1,12 +1,14 @@
 //! The commands.
 ghost use Rattle.std.specs.Prelude.{Some, ◌<◌, ◌≤◌};
-ghost use Rattle.command_words.specs.Commands.{form_of, run, check, HasWorkers};
+ghost use Rattle.command_words.specs.Commands.{form_of, run, check, IsInRange};
 ghost use Rattle.mpc_top.specs.Seen.{text_view};
 ghost use Rattle.mpc_top.specs.Stops.{Runs};
 
 use crate::Stop;
+use crate::pair::run_pair;
 use crate::parties::read_parties;
 use crate::plan::read_planned;
+use crate::sample::run_sample;
 use command_words::Command;
 use job_run::prepared;
 use outer_io::{Files, Pace, Sink};
@@ -23,7 +25,7 @@ pub(crate) fn run_command<F: Files, O: Sink, P: Pace, R: Threads + Sync>(
     pace: &P,
     command: Command<'_>,
 ) -> Result<(), Stop>
-    requires { HasWorkers command }
+    requires { IsInRange command }
     ensures { Runs (Some (form_of command.entry)) (F.reading files.old) (F.reading files.new)
         (O.reading out.old) (O.reading out.new) result }
 {
@@ -32,6 +34,8 @@ pub(crate) fn run_command<F: Files, O: Sink, P: Pace, R: Threads + Sync>(
             run_job(rt, alloc, files, out, pace, dir, workers, view)
         }
         Command::Check { dir } => check_job(alloc, files, out, dir),
+        Command::Pair { dir, group } => run_pair(rt, alloc, files, out, pace, dir, group),
+        Command::Sample { count } => run_sample(rt, alloc, files, out, pace, count),
     }
 }
 

@@ -1,14 +1,12 @@
 -- The text of what a group sees of a run, and of a run after which it is told.
-use Rattle.std.specs.Prelude.{ℕ, List, [], ◌++◌, slice_index_or, Option, None, Some, codes, decimal}
+use Rattle.std.specs.Prelude.{ℕ, List, ◌++◌, Option, None, Some, codes, decimal}
 use Rattle.std.specs.List.{flat_map}
 use Rattle.party_set.specs.Parties.{Members}
+use Rattle.party_set.specs.Names.{name_at}
 use Rattle.job_plan.specs.declared.key.Key.{Key}
 use Rattle.share_world.specs.Worlds.{World, view}
 use Rattle.text_parts.specs.Parts.{group_text}
 use Rattle.output_text.specs.OutText.{out_text}
-
-abbrev pub name_of : List (List ℕ) → ℕ → List ℕ
-name_of names p = slice_index_or names p []
 
 -- the session, the slot and the summand of a message
 abbrev pub key_place : Key → List ℕ
@@ -17,7 +15,7 @@ key_place key = decimal key.session ++ (codes " " ++ (decimal key.slot ++ (codes
 -- its sender and its receiver, each after a space
 abbrev pub key_parties : List (List ℕ) → Key → List ℕ
 key_parties names key =
-    codes " " ++ (name_of names key.sender ++ (codes " " ++ name_of names key.receiver))
+    codes " " ++ (name_at names key.sender ++ (codes " " ++ name_at names key.receiver))
 
 -- the line of a message and its word: `SESSION SLOT SHARE SENDER RECEIVER WORD`
 abbrev pub message_line : List (List ℕ) → Key → ℕ → List ℕ
@@ -36,7 +34,11 @@ view_head names group = codes "view " ++ (group_text names group ++ codes "\n")
 unfoldable pub view_text : List (List ℕ) → ℕ → List (Key × ℕ) → List ℕ
 view_text names group seen = view_head names group ++ message_lines names seen
 
+-- the outputs of a run, and then what a group sees of it
+abbrev pub seen_text : List (List ℕ) → World → ℕ → List (Key × ℕ) → List ℕ
+seen_text names w group seen = out_text names w ++ view_text names group seen
+
 -- the outputs of a run, and then what a group sees, if one is given
 unfoldable pub run_text : List (List ℕ) → World → Option Members → List ℕ
 run_text names w None = out_text names w
-run_text names w (Some group) = out_text names w ++ view_text names group.mask (view w group.mask)
+run_text names w (Some group) = seen_text names w group.mask (view w group.mask)

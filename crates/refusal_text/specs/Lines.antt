@@ -18,6 +18,10 @@ use Rattle.job_file.specs.Names as job_names
 use Rattle.job_file.specs.Keys as job
 use Rattle.party_file.specs.declared.fault.PartyFault.{PartyFault}
 use Rattle.party_file.specs.Faults as party
+use Rattle.other_file.specs.declared.fault.OtherFault.{OtherFault}
+use Rattle.other_file.specs.Faults as other
+use Rattle.tape_map.specs.declared.fault.MapFault.{MapFault}
+use Rattle.tape_map.specs.declared.fault.MapFault.TheVariants as map
 use Rattle.text_parts.specs.Parts.{refusal_head, key_text, group_text}
 
 -- a line from its head and its keys
@@ -118,12 +122,12 @@ job_numbers f =
 unfoldable pub job_line : JobFault → List ℕ
 job_line f = line (job.fault_part f) (job.fault_number f) (job.fault_name f) (job_place f ++ job_numbers f)
 
--- where a fault of a party's file stands
-abbrev pub party_place : List ℕ → PartyFault → List ℕ
-party_place file f =
-    key_text (codes "file") (Some file) ++ (number_key (codes "session") (party.session_of f)
+-- where in a party's file a fault stands
+abbrev pub party_place : PartyFault → List ℕ
+party_place f =
+    number_key (codes "session") (party.session_of f)
     ++ (key_text (codes "field") (option_map party.field_text (party.field_of f))
-    ++ key_text (codes "name") (option_map masked (party.unknown_of f))))
+    ++ key_text (codes "name") (option_map masked (party.unknown_of f)))
 
 -- what it carries
 abbrev pub party_numbers : PartyFault → List ℕ
@@ -133,5 +137,41 @@ party_numbers f =
     ++ (number_key (codes "wanted") (party.wanted_of f)
     ++ (signed_key (codes "found") (party.version_of f) ++ number_key (codes "found") (party.found_of f))))
 
+abbrev pub party_keys : PartyFault → List ℕ
+party_keys f = party_place f ++ party_numbers f
+
 unfoldable pub party_line : List ℕ → PartyFault → List ℕ
-party_line file f = line (codes "party") (party.number_of f) (party.name_of f) (party_place file f ++ party_numbers f)
+party_line file f =
+    line (codes "party") (party.number_of f) (party.name_of f) (key_text (codes "file") (Some file) ++ party_keys f)
+
+-- the party of this number, if one is told
+abbrev pub party_key : List ℕ → List (List ℕ) → Option ℕ → List ℕ
+party_key key names p = key_text key (option_map (λ p. slice_index_or names p []) p)
+
+-- what more a fault of other inputs tells, as of a party's own file
+abbrev pub detail_keys : Option PartyFault → List ℕ
+detail_keys None = []
+detail_keys (Some f) = party_keys f
+
+unfoldable pub other_line : List (List ℕ) → OtherFault → List ℕ
+other_line names f =
+    line (codes "other") (other.number_of f) (other.name_of f)
+    (party_key (codes "party") names (other.party_of f) ++ detail_keys (other.detail_of f))
+
+-- two words that differ
+abbrev pub difference_keys : ℕ → ℕ → List ℕ
+difference_keys first second = number_key (codes "first") (Some first) ++ number_key (codes "second") (Some second)
+
+-- a wire of a session
+abbrev pub wire_keys : ℕ → ℕ → List ℕ
+wire_keys session wire = number_key (codes "session") (Some session) ++ number_key (codes "wire") (Some wire)
+
+-- other inputs that can't be hidden from a group
+unfoldable pub pair_line : List (List ℕ) → MapFault → List ℕ
+pair_line names map.NotTolerated = line (codes "pair") 1 (codes "NotTolerated") []
+pair_line names (map.InputDiffers session wire first second) =
+    line (codes "pair") 2 (codes "InputDiffers") (wire_keys session wire ++ difference_keys first second)
+pair_line names (map.OutputDiffers session wire recipient first second) =
+    line (codes "pair") 3 (codes "OutputDiffers")
+    (wire_keys session wire ++ (party_key (codes "recipient") names (Some recipient) ++ difference_keys first second))
+pair_line names map.Memory = []

@@ -3,7 +3,7 @@ ghost use Rattle.std.specs.Prelude.{◌≡◌, ◌++◌, IfOk, OnOk, codes};
 ghost use Rattle.std.specs.Option.{option_map};
 ghost use Rattle.text_parts.specs.Parts.{key_text};
 ghost use Rattle.party_file.specs.Faults.{field_text, field_of, unknown_of, cause_text, cause_of};
-ghost use Rattle.refusal_text.specs.Lines.{party_line, party_place, party_numbers, masked};
+ghost use Rattle.refusal_text.specs.Lines.{party_line, party_place, party_numbers, party_keys, masked};
 
 use crate::line::{keyed_line, wide};
 use crate::masked::push_name_key;
@@ -17,15 +17,22 @@ pub fn party_line(alloc: Global, file: &str, fault: &PartyFault) -> Result<Vec<u
     ensures { IfOk result (λ line. line.items ≡ party_line file.now fault.now) }
 {
     let mut keys = Vec::new(alloc);
-    push_place(&mut keys, file, fault)?;
-    push_numbers(&mut keys, fault)?;
+    push_text_key(&mut keys, "file", file.as_bytes())?;
+    push_party_keys(&mut keys, fault)?;
     keyed_line(alloc, "party", fault.number(), fault.name(), &keys)
 }
 
-fn push_place(line: &mut Vec<u8>, file: &str, fault: &PartyFault) -> Result<(), AllocError>
-    ensures { OnOk result (line.new.items ≡ line.old.items ++ party_place file.now fault.now) }
+/// Adds the keys of a fault of what a party gives.
+pub(crate) fn push_party_keys(line: &mut Vec<u8>, fault: &PartyFault) -> Result<(), AllocError>
+    ensures { OnOk result (line.new.items ≡ line.old.items ++ party_keys fault.now) }
 {
-    push_text_key(line, "file", file.as_bytes())?;
+    push_place(line, fault)?;
+    push_numbers(line, fault)
+}
+
+fn push_place(line: &mut Vec<u8>, fault: &PartyFault) -> Result<(), AllocError>
+    ensures { OnOk result (line.new.items ≡ line.old.items ++ party_place fault.now) }
+{
     push_number_key(line, "session", wide(fault.session()))?;
     push_field(line, fault)?;
     push_name(line, fault)

@@ -5,9 +5,9 @@ use Rattle.job_session.specs.Sessions.{Session}
 use Rattle.job_plan.specs.Plans.{Plan}
 use Rattle.job_file.specs.Forms.{JobForm, SessionForm}
 use Rattle.party_file.specs.Table.{PartyForm}
-use Rattle.command_words.specs.Commands.{CommandForm, run, check}
+use Rattle.command_words.specs.Commands.{CommandForm, run, check, pair, sample}
 use Rattle.mpc_top.specs.Verdict.{EndsOnce}
-use Rattle.mpc_top.specs.JobOf.{Contents, JobText, GroupOf, StructureOf, SessionAt, SessionsAfter, PlannedOf, PlanAt, PartyAt, PartiesAfter, JobAt}
+use Rattle.mpc_top.specs.JobOf.{Contents, JobText, GroupOf, StructureOf, SessionAt, SessionsAfter, PlannedOf, PlanAt, PartyAt, PartiesAfter, JobAt, OtherAt, PairAt}
 use Rattle.mpc_top.specs.Due.{TextOf, IsDue}
 use Rattle.walk_laws.proofs.Walks.{ends_once, then_once}
 use Rattle.walk_laws.proofs.Plans.{groups_once, q2_once, plan_once}
@@ -56,10 +56,21 @@ job_once : (files : Contents) (dir : List ℕ) (asked : Option (List ℕ)) → E
 unfolding JobAt
 job_once files dir asked = then_once _ _ (plan_at_once files dir asked) (λ planned. then_once _ _ (parties_once files dir planned.plan [] planned.names) (λ parties. ends_once _))
 
+other_once : (files : Contents) (dir : List ℕ) (plan : Plan) (names : List (List ℕ)) (inputs : List (List (List ℕ))) → EndsOnce (OtherAt files dir plan names inputs)
+unfolding OtherAt
+other_once files dir plan names inputs = then_once _ _ (ends_once _) (λ bytes. ends_once _)
+
+pair_once : (files : Contents) (dir asked : List ℕ) → EndsOnce (PairAt files dir asked)
+unfolding PairAt
+pair_once files dir asked =
+    then_once _ _ (job_once files dir (Some asked)) (λ job. then_once _ _ (other_once files dir job.world.plan job.names job.world.inputs) (λ other. ends_once _))
+
 command_once : (command : CommandForm) (files : Contents) → EndsOnce (TextOf command files)
 unfolding TextOf
 command_once (run dir workers view) files = then_once _ _ (job_once files dir view) (λ job. ends_once _)
 command_once (check dir) files = then_once _ _ (plan_at_once files dir None) (λ planned. ends_once _)
+command_once (pair dir group) files = then_once _ _ (pair_once files dir group) (λ job. ends_once _)
+command_once (sample count) files = ends_once _
 
 pub due_once : (command : Option CommandForm) (files : Contents) → EndsOnce (IsDue command (Some files))
 due_once None files = ends_once _

@@ -1,0 +1,58 @@
+//! The file of other inputs.
+ghost use Rattle.std.specs.Prelude.{◌≡◌, IfOk, length};
+ghost use Rattle.job_plan.specs.InputWords.{AreInputs};
+ghost use Rattle.other_file.specs.Table.{other_in};
+ghost use Rattle.refusal_text.specs.Lines.{other_line};
+ghost use Rattle.mpc_top.specs.Verdict.{Ends, verdict_of};
+ghost use Rattle.mpc_top.specs.JobOf.{OtherAt};
+ghost use Rattle.mpc_top.specs.Reads.{ReadsAs, WalksAs};
+
+use crate::Stop;
+use crate::file::read_file;
+use crate::stop::refusal;
+use job_plan::{Inputs, Plan};
+use other_file::{OtherFault, read_other};
+use outer_io::Files;
+use party_set::Names;
+use refusal_text::other_line;
+use std::alloc::Global;
+
+/// Reads the inputs that a folder gives beside those of its job.
+pub(crate) fn read_other_inputs<F: Files>(
+    alloc: Global,
+    files: &mut F,
+    dir: &str,
+    names: &Names,
+    plan: &Plan,
+    inputs: &Inputs,
+) -> Result<Inputs, Stop>
+    requires names { length names.now ≡ plan.now.parties }
+    requires inputs { AreInputs plan.now inputs.now }
+    ensures reads { ReadsAs (λ other. other)
+        (λ contents. OtherAt contents dir.now plan.now names.now inputs.now)
+        (F.reading files.old) (F.reading files.new) result }
+    ensures fits { IfOk result (AreInputs plan.now) }
+{
+    let bytes = read_file(alloc, files, dir, "other.toml")?;
+    other_in(alloc, &bytes, names, plan, inputs)
+}
+
+fn other_in(
+    alloc: Global,
+    bytes: &[u8],
+    names: &Names,
+    plan: &Plan,
+    inputs: &Inputs,
+) -> Result<Inputs, Stop>
+    requires names { length names.now ≡ plan.now.parties }
+    requires inputs { AreInputs plan.now inputs.now }
+    ensures walks { WalksAs (λ other. other)
+        (Ends (verdict_of (other_line names.now) (other_in plan.now names.now inputs.now bytes.now))) result }
+    ensures fits { IfOk result (AreInputs plan.now) }
+{
+    match read_other(alloc, bytes, plan, names, inputs) {
+        Ok(other) => Ok(other),
+        Err(OtherFault::Memory) => Err(Stop::Memory),
+        Err(fault) => Err(refusal(other_line(alloc, names, &fault))),
+    }
+}

@@ -1,0 +1,120 @@
+//! Two runs of a job, the second with other inputs.
+ghost use Rattle.std.specs.Prelude.{◌≡◌, true, Some, IfOk, length, map};
+ghost use Rattle.std.specs.Option.{is_some};
+ghost use Rattle.party_file.specs.Forms.{form_of};
+ghost use Rattle.job_plan.specs.InputWords.{AreInputs};
+ghost use Rattle.job_plan.specs.Plans.{structure};
+ghost use Rattle.job_run.specs.Parties.{AllFit, world_of};
+ghost use Rattle.pair_run.specs.Pairs.{IsPair};
+ghost use Rattle.command_words.specs.Commands.{pair};
+ghost use Rattle.tape_map.specs.MapFaults.{HasRecipientBelow};
+ghost use Rattle.tape_map.specs.declared.fault.MapFault.TheVariants as map;
+ghost use Rattle.refusal_text.specs.Lines.{pair_line};
+ghost use Rattle.mpc_top.specs.Verdict.{Ends, refused};
+ghost use Rattle.mpc_top.specs.JobOf.{PairedJob, hidden_of, paired_job, whole_job};
+ghost use Rattle.mpc_top.specs.Reads.{WalksAs, StopsBy};
+ghost use Rattle.mpc_top.specs.Seen.{planned_view, parties_view};
+ghost use Rattle.mpc_top.specs.Stops.{Runs};
+
+use crate::Stop;
+use crate::other::read_other_inputs;
+use crate::parties::read_parties;
+use crate::plan::{Planned, read_planned};
+use crate::stop::refusal;
+use job_plan::Inputs;
+use outer_io::{Files, Pace, Sink};
+use output_text::write_pair;
+use pair_run::{Pair, inputs_of, pair_of};
+use party_file::PartyData;
+use party_set::{Group, Names};
+use refusal_text::pair_line;
+use std::alloc::Global;
+use std::thread::Threads;
+use tape_map::MapFault;
+
+/// Runs the job of a folder, and again with the other inputs of the folder and the tapes that hide them from a group.
+/// Both runs have all their memory before the first byte is written.
+pub(crate) fn run_pair<F: Files, O: Sink, P: Pace, R: Threads + Sync>(
+    rt: &R,
+    alloc: Global,
+    files: &mut F,
+    out: &mut O,
+    pace: &P,
+    dir: &str,
+    group: &str,
+) -> Result<(), Stop>
+    ensures { Runs (Some (pair dir.now group.now)) (F.reading files.old) (F.reading files.new)
+        (O.reading out.old) (O.reading out.new) result }
+{
+    let planned = read_planned(alloc, files, dir, Some(group))?;
+    let group = group_of(&planned);
+    let parties = read_parties(alloc, files, dir, &planned.names, &planned.plan)?;
+    let inputs = inputs_of(alloc, &planned.plan, &parties)?;
+    let other = read_other_inputs(alloc, files, dir, &planned.names, &planned.plan, &inputs)?;
+    let pair = hidden_pair(alloc, &planned, group, parties, &other)?;
+    let Pair {
+        first,
+        second,
+        tapes,
+    } = pair;
+    let first = first.run(rt, &planned.plan, pace);
+    let second = second.run(rt, &planned.plan, pace);
+    Ok(write_pair(
+        out,
+        &planned.names,
+        &planned.plan,
+        &first,
+        &second,
+        group,
+        &tapes,
+    )?)
+}
+
+// The group that was asked for.
+fn group_of(planned: &Planned) -> Group
+    requires { is_some planned.now.group ≡ true }
+    ensures { planned.now.group ≡ Some result }
+{
+    match planned.group {
+        Some(group) => group,
+        None => unreachable!(),
+    }
+}
+
+// Makes both runs ready, where the other inputs can be hidden from the group.
+fn hidden_pair(
+    alloc: Global,
+    planned: &Planned,
+    group: Group,
+    parties: Vec<PartyData>,
+    other: &Inputs,
+) -> Result<Pair, Stop>
+    requires names { length planned.now.names ≡ planned.now.plan.parties }
+    requires groups { planned.now.groups ≡ structure planned.now.plan }
+    requires asked { planned.now.group ≡ Some group }
+    requires group { group.parties ≡ planned.now.plan.parties }
+    requires count { length parties.items ≡ planned.now.plan.parties }
+    requires fit { AllFit planned.now.plan parties.items }
+    requires other { AreInputs planned.now.plan other.now }
+    ensures walks { let job = whole_job (planned_view planned.now) (parties_view parties) in
+        WalksAs (λ _. paired_job job other.now) (Ends (hidden_of job other.now)) result }
+    ensures pair { IfOk result
+        (IsPair (world_of planned.now.plan (map form_of parties.items)) other.now group.mask) }
+{
+    match pair_of(alloc, &planned.plan, &planned.groups, group, parties, other) {
+        Ok(pair) => Ok(pair),
+        Err(fault) => Err(hiding_stop(alloc, &planned.names, fault)),
+    }
+}
+
+// The stop of a fault of the change of tapes.
+fn hiding_stop(alloc: Global, names: &Names, fault: MapFault) -> Stop
+    requires { HasRecipientBelow (length names.now) fault }
+    ensures memory { fault ≡ map.Memory → result ≡ Stop.Memory }
+    ensures line { StopsBy {A = PairedJob} (Ends (refused 3 (pair_line names.now fault))) result }
+{
+    match fault {
+        MapFault::Memory => Stop::Memory,
+        fault => refusal(pair_line(alloc, names, fault)),
+    }
+}

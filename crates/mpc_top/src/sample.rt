@@ -1,0 +1,56 @@
+//! A job made from a number.
+ghost use Rattle.std.specs.Prelude.{◌≡◌, ◌<◌, ◌≤◌, Some, IfOk};
+ghost use Rattle.command_words.specs.Commands.{sample};
+ghost use Rattle.sample_maker.specs.Samples.{sample_names};
+ghost use Rattle.mpc_top.specs.Stops.{Runs};
+
+use crate::Stop;
+use desk_workers::prepare;
+use outer_io::{Files, Pace, Sink};
+use output_text::write_sample;
+use party_set::{Names, read_names};
+use sample_maker::{Sample, make_sample};
+use std::alloc::{AllocError, Global};
+use std::thread::Threads;
+
+const WORKERS: u32 = 4;
+
+/// Makes a job of so many gates, 1 to 65,536, and runs it by four workers. It reads no file.
+pub(crate) fn run_sample<F: Files, O: Sink, P: Pace, R: Threads + Sync>(
+    rt: &R,
+    alloc: Global,
+    files: &mut F,
+    out: &mut O,
+    pace: &P,
+    count: u32,
+) -> Result<(), Stop>
+    requires { (0 < count) × (count ≤ 65536) }
+    ensures { Runs (Some (sample count)) (F.reading files.old) (F.reading files.new)
+        (O.reading out.old) (O.reading out.new) result }
+{
+    let _ = files;
+    let names = three_names(alloc)?;
+    let made = make_sample(alloc, count)?;
+    let Sample {
+        plan,
+        inputs,
+        tapes,
+    } = made;
+    let ready = prepare(alloc, &plan, &inputs, tapes, WORKERS)?;
+    let done = ready.run(rt, &plan, pace);
+    Ok(write_sample(out, &names, &plan, &done, count)?)
+}
+
+// The names of the parties. They have no fault, so there is no refusal but for want of memory.
+fn three_names(alloc: Global) -> Result<Names, AllocError>
+    ensures { IfOk result (λ names. names ≡ sample_names) }
+{
+    let first = String::from_str(alloc, "a")?;
+    let second = String::from_str(alloc, "b")?;
+    let third = String::from_str(alloc, "c")?;
+    let texts = vec![in alloc; first, second, third]?;
+    match read_names(alloc, &texts) {
+        Ok(names) => Ok(names),
+        Err(_) => Err(AllocError),
+    }
+}

@@ -1,0 +1,47 @@
+//! The text of a sample.
+ghost use Rattle.std.specs.Prelude.{◌≡◌, ◌<◌, length};
+ghost use Rattle.outer_io.specs.Sink.{Writes};
+ghost use Rattle.outer_io.specs.Gathering.{Adds};
+ghost use Rattle.desk_workers.specs.Runs.{IsRunOver, OfItsWorld};
+ghost use Rattle.output_text.specs.SampleText.{sample_text};
+
+use crate::check::{gather_count, gather_tapes};
+use crate::run::gather_out;
+use desk_workers::Done;
+use job_plan::Plan;
+use outer_io::{Blocks, Failed, Gather, Sink};
+use party_set::Names;
+
+/// Writes the number of a sample whose run is over, how many products, messages and tape words of each party its plan
+/// has, and then its outputs as after a run. It takes no memory.
+pub fn write_sample<S: Sink>(
+    sink: &mut S,
+    names: &Names,
+    plan: &Plan,
+    done: &Done,
+    count: u32,
+) -> Result<(), Failed>
+    requires names { length names.now ≡ plan.now.parties }
+    requires session { 0 < length plan.now.sessions }
+    requires over { IsRunOver plan.now done.now }
+    ensures { OfItsWorld plan.now done.now
+        (λ w. Writes (sample_text names.now w count) (S.reading sink.old) (S.reading sink.new) result) }
+{
+    let mut blocks = Blocks::new(sink);
+    gather_sample(&mut blocks, names, plan, done, count);
+    blocks.finish()
+}
+
+fn gather_sample<G: Gather>(out: &mut G, names: &Names, plan: &Plan, done: &Done, count: u32)
+    requires names { length names.now ≡ plan.now.parties }
+    requires session { 0 < length plan.now.sessions }
+    requires over { IsRunOver plan.now done.now }
+    ensures { OfItsWorld plan.now done.now
+        (λ w. Adds (sample_text names.now w count) (G.gathered out.old) (G.gathered out.new)) }
+{
+    gather_count(out, "sample", count as u64);
+    gather_count(out, "products", plan.part(0).products() as u64);
+    gather_count(out, "messages", plan.messages() as u64);
+    gather_tapes(out, names, plan);
+    gather_out(out, names, plan, done);
+}
