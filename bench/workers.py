@@ -2,19 +2,30 @@
 """Tells what more workers gain: workers.py PROGRAM
 
 Makes the jobs of make_jobs.py, and runs the one of eight sessions by 1, 2 and 4 workers in turn, ROUNDS times (50, where the environment
-doesn't say). Prints the least time for each number of workers, and what part it is of the time for one. Ends with status 1 where a run
-doesn't write what the plain circuit gives.
+doesn't say). Prints the least time for each number of workers, and what part it is of the time for one. For comparison it runs as many programs
+of one worker at the same time, and prints what part of one after the other they take together: this is the least part that the machine gives
+to programs that share nothing. Ends with status 1 where a run doesn't write what the plain circuit gives.
 """
 
 import os
 import subprocess
 import sys
 import tempfile
+import time
 
 from measure import Job, Wrong
 
 JOB = 'eight_sessions'
 WORKERS = [1, 2, 4]
+
+
+def together(program, job, count):
+    """The seconds that so many programs of one worker take at the same time."""
+    begin = time.perf_counter()
+    started = [subprocess.Popen([program, 'run', job.folder], stdin=subprocess.DEVNULL, stdout=subprocess.DEVNULL) for _ in range(count)]
+    if any([one.wait() for one in started]):
+        raise Wrong(f'{job.name}: one of {count} at the same time failed')
+    return time.perf_counter() - begin
 
 
 def main(words):
@@ -26,16 +37,18 @@ def main(words):
         listed = subprocess.run([sys.executable, os.path.join(here, 'make_jobs.py'), folder], check=True, capture_output=True, text=True)
         line = next(line for line in listed.stdout.splitlines() if line.startswith(JOB + ' '))
         jobs = {workers: Job(folder, line) for workers in WORKERS}
+        apart = {count: float('inf') for count in WORKERS}
         try:
             for _ in range(int(os.environ.get('ROUNDS', '50'))):
                 for workers, job in jobs.items():
                     job.run(program, ['--workers', str(workers)])
+                    apart[workers] = min(apart[workers], together(program, job, workers))
         except Wrong as wrong:
             sys.exit(str(wrong))
-    print('| Workers | Milliseconds | Part of one worker\'s |')
-    print('|---|---|---|')
+    print('| Workers | Milliseconds | Part of one worker\'s | Part for as many programs apart |')
+    print('|---|---|---|---|')
     for workers, job in jobs.items():
-        print(f'| {workers} | {job.seconds * 1000:.1f} | {job.seconds / jobs[1].seconds:.2f} |')
+        print(f'| {workers} | {job.seconds * 1000:.1f} | {job.seconds / jobs[1].seconds:.2f} | {apart[workers] / workers / apart[1]:.2f} |')
 
 
 if __name__ == '__main__':
