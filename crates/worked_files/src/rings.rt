@@ -116,51 +116,50 @@ fn gates_that_do_not_fit(rt: HostRuntime) {
     );
 }
 
+/// Circuits with a line of a wrong form, and the fault of each.
+const WRONG_FORMS: [(&str, CircuitFault); 10] = [
+    (
+        "1 3\n2 1 1\n1 1\n2 1 0 1 2 AND\n",
+        CircuitFault::UnknownOperation { line: 4 },
+    ),
+    (
+        "1 3\n2 1 1\n1 1\n1 1 0 2 ADD\n",
+        CircuitFault::WrongArity { line: 4 },
+    ),
+    (
+        "1 3\n2 1 1\n1 1\n2 1 0 1 2\n",
+        CircuitFault::ShortLine { line: 4 },
+    ),
+    (
+        "1 3\n2 1 1\n1 1\n\n2 1 0 1 2 MUL 2\n",
+        CircuitFault::LongLine { line: 5 },
+    ),
+    (
+        "1 3\n2 1 1\n1 1\n2 1 0 1 2x MUL\n",
+        CircuitFault::BadNumber { line: 4 },
+    ),
+    (
+        "1 3\n2 1 1\n1 1\n3 1 0 1 1 2 MUL\n",
+        CircuitFault::WrongArity { line: 4 },
+    ),
+    (
+        "1 3\n2 1 1\n1 1\n0 1 2 EQ\n",
+        CircuitFault::WrongArity { line: 4 },
+    ),
+    ("1 3\n2 1 1\n1 1\n", CircuitFault::FewLines { found: 3 }),
+    (
+        "1 3\n2 1 1\n1 1\n2 1 0 1 2 MUL\nx\n",
+        CircuitFault::ExtraLine { line: 5 },
+    ),
+    (
+        "1 1\n2 1 1\n1 1\n2 1 0 1 2 MUL\n",
+        CircuitFault::HeaderWidths { line: 2 },
+    ),
+];
+
 #[test]
 fn lines_of_a_wrong_form(rt: HostRuntime) {
-    check_faults(
-        &rt,
-        rt.alloc(),
-        &[
-            (
-                "1 3\n2 1 1\n1 1\n2 1 0 1 2 AND\n",
-                CircuitFault::UnknownOperation { line: 4 },
-            ),
-            (
-                "1 3\n2 1 1\n1 1\n1 1 0 2 ADD\n",
-                CircuitFault::WrongArity { line: 4 },
-            ),
-            (
-                "1 3\n2 1 1\n1 1\n2 1 0 1 2\n",
-                CircuitFault::ShortLine { line: 4 },
-            ),
-            (
-                "1 3\n2 1 1\n1 1\n\n2 1 0 1 2 MUL 2\n",
-                CircuitFault::LongLine { line: 5 },
-            ),
-            (
-                "1 3\n2 1 1\n1 1\n2 1 0 1 2x MUL\n",
-                CircuitFault::BadNumber { line: 4 },
-            ),
-            (
-                "1 3\n2 1 1\n1 1\n3 1 0 1 1 2 MUL\n",
-                CircuitFault::WrongArity { line: 4 },
-            ),
-            (
-                "1 3\n2 1 1\n1 1\n0 1 2 EQ\n",
-                CircuitFault::WrongArity { line: 4 },
-            ),
-            ("1 3\n2 1 1\n1 1\n", CircuitFault::FewLines { found: 3 }),
-            (
-                "1 3\n2 1 1\n1 1\n2 1 0 1 2 MUL\nx\n",
-                CircuitFault::ExtraLine { line: 5 },
-            ),
-            (
-                "1 1\n2 1 1\n1 1\n2 1 0 1 2 MUL\n",
-                CircuitFault::HeaderWidths { line: 2 },
-            ),
-        ],
-    );
+    check_faults(&rt, rt.alloc(), &WRONG_FORMS);
 }
 
 #[test]
