@@ -5,7 +5,7 @@ use Rattle.std.proofs.lemmas.Bool.{false≢true}
 use Rattle.std.proofs.lemmas.List.{append-nil}
 use Rattle.outer_io.specs.Sink.{SinkReading, Writes}
 use Rattle.outer_io.specs.declared.sink.Failed.{Failed}
-use Rattle.outer_io.specs.Gathering.{Gathering, Gathered, Extends, Adds, Finishes, block_size}
+use Rattle.outer_io.specs.Blocks.{Gathering, Gathered, Extends, Adds, Finishes, block_size}
 use Rattle.outer_io.proofs.WrittenPieces.{writes_nothing, writes_part, writes_then}
 
 -- nothing was gathered yet

@@ -1,5 +1,11 @@
+pub mod EmptyInlets
+pub mod FilledPlaces
+pub mod FreshLinks
 pub mod GatheredTexts
+pub mod HandedBytes
+pub mod HostTexts
 pub mod PastCalls
+pub mod NetRefusals
 pub mod Pieces
 pub mod Room
 pub mod WrittenPieces

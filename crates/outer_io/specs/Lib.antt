@@ -1,5 +1,10 @@
 pub mod Count
 pub mod Files
 pub mod Sink
-pub mod Gathering
+pub mod Blocks
+pub mod Inlet
+pub mod Links
+pub mod Jobs
 pub mod Memory
+pub mod Pipes
+pub mod PipeNets

@@ -1,12 +1,17 @@
 -- What the forms in memory show.
-use Rattle.std.specs.Prelude.{ℕ, ◌-◌, nat_lt, Bool, List, Option, Some, String, Vec, vec_len}
+use Rattle.std.specs.Prelude.{ℕ, ◌-◌, nat_lt, Bool, List, Option, Some, String, Vec, vec_len, drop}
 use Rattle.std.specs.Option.{option_map}
 use Rattle.std.specs.List.{list_all}
 use Rattle.std.specs.BTreeMap.{BTreeMap, get_by_text}
 use Rattle.std.specs.declared.alloc.Global.{Global}
+use Rattle.outer_io.specs.declared.inline_spawner.InlineSpawner.{InlineSpawner}
+use Rattle.outer_io.specs.declared.list_inlet.ListInlet.{ListInlet}
 use Rattle.outer_io.specs.declared.map_files.MapFiles.{MapFiles}
+use Rattle.outer_io.specs.declared.vec_outlet.VecOutlet.{VecOutlet}
 use Rattle.outer_io.specs.declared.vec_sink.VecSink.{VecSink}
 use Rattle.outer_io.specs.Files.{FilesReading}
+use Rattle.outer_io.specs.Inlet.{InletReading}
+use Rattle.outer_io.specs.Jobs.{SpawnerReading}
 use Rattle.outer_io.specs.Sink.{SinkReading}
 
 -- none of the listed calls is still to come, after so many calls
@@ -38,3 +43,22 @@ sink_reading s =
       steady = all_past s.failing.items s.calls;
       room = s.limit - vec_len s.bytes;
     }
+
+-- the bytes that an outlet in memory has
+abbrev pub outlet_bytes : VecOutlet → List ℕ
+outlet_bytes o = sink_bytes o.sink
+
+abbrev pub outlet_reading : VecOutlet → SinkReading
+outlet_reading o = sink_reading o.sink
+
+abbrev pub inlet_reading : ListInlet → InletReading
+inlet_reading i =
+    record {
+      told = Some (drop i.taken i.bytes.items);
+      faults = i.faults;
+      ended = i.ended;
+      steady = all_past i.failing.items i.calls;
+    }
+
+abbrev pub spawner_reading : InlineSpawner → SpawnerReading
+spawner_reading s = record { refusals = s.refusals; steady = all_past s.refusing.items s.starts }

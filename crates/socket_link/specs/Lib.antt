@@ -1,0 +1,4 @@
+pub mod Sockets
+pub mod TcpNets
+pub mod Threads
+pub mod Spawners

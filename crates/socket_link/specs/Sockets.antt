@@ -1,0 +1,28 @@
+-- What links over TCP show: nothing of what comes and goes.
+use Rattle.std.specs.Prelude.{ℕ, false, replicate, None}
+use Rattle.socket_link.specs.declared.tcp_inlet.TcpInlet.{TcpInlet}
+use Rattle.socket_link.specs.declared.tcp_outlet.TcpOutlet.{TcpOutlet}
+use Rattle.outer_io.specs.Inlet.{InletReading}
+use Rattle.outer_io.specs.Links.{LinksReading, links_reading}
+use Rattle.outer_io.specs.declared.net.Links.{Links}
+use Rattle.outer_io.specs.Sink.{SinkReading}
+
+abbrev pub inlet_reading : TcpInlet → InletReading
+inlet_reading i = record { told = None; faults = i.faults; ended = i.ended; steady = false }
+
+abbrev pub outlet_reading : TcpOutlet → SinkReading
+outlet_reading o = record { told = None; faults = o.faults; steady = false; room = 0 }
+
+abbrev pub tcp_links : Links TcpInlet TcpOutlet → LinksReading
+tcp_links links = links_reading inlet_reading outlet_reading links
+
+-- ends of pipes over which nothing went yet
+abbrev pub unread : InletReading
+unread = record { told = None; faults = 0; ended = false; steady = false }
+
+abbrev pub unsent : SinkReading
+unsent = record { told = None; faults = 0; steady = false; room = 0 }
+
+-- the links to so many peers
+abbrev pub unused : ℕ → LinksReading
+unused peers = record { inlets = replicate peers unread; outlets = replicate peers unsent }

@@ -1,0 +1,40 @@
+// The sending end of a pipe.
+ghost use Rattle.std.specs.Prelude.{◌≡◌};
+
+use outer_io::{Failed, Outlet};
+use std::io::Write;
+use std::net::TcpStream;
+
+/// The sending end of a TCP connection. What was sent over it is not told.
+#[derive(Drop)]
+pub struct TcpOutlet {
+    stream: TcpStream,
+    faults: u64,
+}
+
+impl TcpOutlet {
+    ghost use Rattle.socket_link.specs.Sockets.{outlet_reading, unsent};
+
+    /// An outlet over this connection.
+    pub fn over(stream: TcpStream) -> TcpOutlet
+        ensures { outlet_reading result ≡ unsent }
+    {
+        TcpOutlet { stream, faults: 0 }
+    }
+}
+
+impl Outlet for TcpOutlet {
+    ghost use Rattle.socket_link.specs.Sockets.{outlet_reading};
+
+    ghost reading = { outlet_reading };
+
+    fn send(&mut self, piece: &[u8]) -> Result<(), Failed> {
+        match self.stream.write_all(piece) {
+            Ok(()) => Ok(()),
+            Err(_) => {
+                self.faults = self.faults.saturating_add(1);
+                Err(Failed)
+            }
+        }
+    }
+}

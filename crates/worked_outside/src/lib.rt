@@ -1,0 +1,29 @@
+//! Worked cases of links, of what is said over them, and of jobs that are done beside their caller.
+#![tactic(auto)]
+
+/// That both are equal, which the text of the first tells where they are not, or another one. It is a call, since the
+/// proof of a call is far shorter than that of an assertion in place.
+#[cfg(test)]
+macro_rules! expect_same {
+    ($rt:expr; $found:expr, $wanted:expr $(,)?) => {
+        crate::check::expect_equal(&$rt, stringify!($found), $found, $wanted)
+    };
+    ($rt:expr; $found:expr, $wanted:expr, $text:expr) => {
+        crate::check::expect_equal(&$rt, $text, $found, $wanted)
+    };
+}
+
+#[cfg(test)]
+mod check;
+#[cfg(test)]
+mod digests;
+#[cfg(test)]
+mod frames;
+#[cfg(test)]
+mod inlets;
+#[cfg(test)]
+mod jobs;
+#[cfg(test)]
+mod nets;
+#[cfg(test)]
+mod sockets;
