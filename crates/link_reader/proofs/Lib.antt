@@ -1,0 +1,5 @@
+pub mod RowsOfFrames
+pub mod ToldCauses
+pub mod Runs
+pub mod BrokenOffRuns
+pub mod ExpectedMessages

@@ -1,0 +1,77 @@
+-- What was read is a run in the bytes of the inlet.
+use Rattle.std.proofs.Common.{◌≡◌, ℕ, zero, suc, ◌<◌, ◌≤◌, ◌^◌, List, [], ◌∷◌, ◌++◌, length, take, refl, sym, ap, ap₂, ◌∙◌, subst, arith, append_assoc, ⊎_elim}
+use Rattle.std.specs.Prelude.{slice_index, slice_index_or, Result, Ok, Err}
+use Rattle.std.specs.List.{AllByRecursion}
+use Rattle.std.proofs.Math.Seq.{take-length}
+use Rattle.job_plan.specs.declared.key.Key.{Key}
+use Rattle.job_plan.specs.Numbers.{no_key}
+use Rattle.outer_io.specs.Inlet.{InletReading, ahead}
+use Rattle.frame_code.specs.Frames.{hello, frame}
+use Rattle.node_talk.specs.declared.fault.NodeFault.{NodeFault}
+use Rattle.node_talk.specs.Talks.{Node, expected, frames, stream}
+use Rattle.node_talk.specs.PeerLinks.{in_from}
+use Rattle.node_talk.proofs.Frames.{begins_with}
+use Rattle.link_reader.specs.Expected.{TalkModel}
+use Rattle.link_reader.specs.ReadWords.{framed, Came, CameShort, Reads}
+use Rattle.link_reader.specs.NodeReaders.{incoming, ReadsARun, TalksThrough}
+
+-- the frames of more words begin with those of the first ones
+first_frames : (got : Key → ℕ) (keys : List Key) (words : List ℕ) (c : ℕ) → c ≤ length keys → c ≤ length words → ((f : ℕ) → f < c → got (slice_index_or keys f no_key) ≡ slice_index words f) → (more : List ℕ) × (framed keys words ≡ frames got (take c keys) ++ more)
+first_frames got keys words zero lk lw h = (framed keys words, refl)
+first_frames got [] words (suc c) lk lw h = absurd (omega arith)
+first_frames got (key ∷ keys) [] (suc c) lk lw h = absurd (omega arith)
+first_frames got (key ∷ keys) (word ∷ words) (suc c) lk lw h =
+    let r = first_frames got keys words c (omega arith) (omega arith) (λ f l. h (suc f) (omega arith)) in
+    (r.0, ap₂ (λ w z. frame key w ++ z) (sym (h 0 (omega arith))) r.1 ∙ sym (append_assoc (frame key (got key)) (frames got (take c keys)) r.0))
+
+small_words : (bits : ℕ) (got : Key → ℕ) (keys : List Key) (words : List ℕ) (c : ℕ) → c ≤ length keys → c ≤ length words → ((f : ℕ) → f < c → got (slice_index_or keys f no_key) ≡ slice_index words f)
+    → AllByRecursion (λ word. word < 2 ^ bits) words → AllByRecursion (λ key. got key < 2 ^ bits) (take c keys)
+small_words bits got keys words zero lk lw h small = tt
+small_words bits got [] words (suc c) lk lw h small = absurd (omega arith)
+small_words bits got (key ∷ keys) [] (suc c) lk lw h small = absurd (omega arith)
+small_words bits got (key ∷ keys) (word ∷ words) (suc c) lk lw h small =
+    (subst (λ z. z < 2 ^ bits) (sym (h 0 (omega arith))) small.0, small_words bits got keys words c (omega arith) (omega arith) (λ f l. h (suc f) (omega arith)) small.1)
+
+-- what came before the reader's end, of which a first word was read
+pub came_so_far : (talk : TalkModel) (words : List ℕ) (before after : InletReading) (result : Result (Unit {0}) NodeFault) → 0 < length words → Reads talk words before after result
+    → (now : InletReading) × Came talk words before now
+came_so_far talk words before after (Ok _) some h = (after, h.0)
+came_so_far talk words before after (Err fault) some h =
+    ⊎_elim (λ none. absurd (let e = ap length none.0 in omega arith)) (λ (s : CameShort talk words before after fault). (s.now, s.came)) h
+
+pub reads_a_run : (n : Node) (q : ℕ) → ReadsARun n q
+reads_a_run n q got count words bytes before after result told some has h =
+    let c = came_so_far (incoming n q) words (in_from n before q) (in_from n after q) result (let l = has.0 in omega arith) h in
+    let fits : count ≤ length (expected n q) = (let f = c.1.few in let l = has.0 in omega arith) in
+    let f = first_frames got (expected n q) words count fits has.0 has.1 in
+    let b = begins_with bytes (hello q n.me n.digest ++ framed (expected n q) words) c.0.told (sym told ∙ c.1.told) in
+    record {
+      count = fits;
+      small = small_words n.world.plan.bits got (expected n q) words count fits has.0 has.1 c.1.small;
+      begins = (
+        f.0 ++ b.0,
+        b.1
+            ∙ ap (λ z. (hello q n.me n.digest ++ z) ++ b.0) f.1
+            ∙ ap (λ z. z ++ b.0) (sym (append_assoc (hello q n.me n.digest) (frames got (take count (expected n q))) f.0))
+            ∙ append_assoc (stream n.digest q n.me got (take count (expected n q))) f.0 b.0,
+      );
+    }
+
+-- ---- all that is expected came
+
+framed_frames : (got : Key → ℕ) (keys : List Key) (words : List ℕ) → length words ≡ length keys → ((f : ℕ) → f < length keys → got (slice_index_or keys f no_key) ≡ slice_index words f) → framed keys words ≡ frames got keys
+framed_frames got [] words e h = refl
+framed_frames got (key ∷ keys) [] e h = absurd (omega arith)
+framed_frames got (key ∷ keys) (word ∷ words) e h = ap₂ (λ w z. frame key w ++ z) (sym (h 0 (omega arith))) (framed_frames got keys words (omega arith) (λ f l. h (suc f) (omega arith)))
+
+pub talks_through : (n : Node) → TalksThrough n
+talks_through n got before after h = record {
+  told = h.told;
+  heard = λ q peer.
+      let r = h.read q peer in
+      r.0.told ∙ ap (λ z. ahead (hello q n.me n.digest ++ z) (in_from n after q).told) (framed_frames got (expected n q) (h.words q) r.1 (h.agrees q peer).1);
+  small = λ q peer.
+      let r = h.read q peer in
+      let a = h.agrees q peer in
+      subst (AllByRecursion (λ key. got key < 2 ^ n.world.plan.bits)) (take-length (expected n q)) (small_words n.world.plan.bits got (expected n q) (h.words q) (length (expected n q)) (omega arith) a.0 a.1 r.0.small);
+}

@@ -1,0 +1,37 @@
+-- What a party expects of a peer.
+use Rattle.std.specs.Prelude.{◌≡◌, ℕ, ◌<◌, ◌≤◌, ◌^◌, List, length, slice_index, slice_index_or}
+use Rattle.job_plan.specs.declared.key.Key.{Key}
+use Rattle.job_plan.specs.Numbers.{no_key}
+use Rattle.job_plan.specs.Messages.{messages}
+use Rattle.frame_code.specs.Frames.{FitsFrame}
+use Rattle.node_talk.specs.Talks.{Node, place_of}
+
+-- the hello of `peer` to party `me`, in a job of this digest, and then a frame for each of these messages, with words of
+-- so many bits
+pub record TalkModel : Type 0 where
+  pub peer : ℕ
+  pub me : ℕ
+  pub digest : List ℕ
+  pub bits : ℕ
+  pub keys : List Key
+
+-- the message of the frame at this place
+abbrev pub key_at : TalkModel → ℕ → Key
+key_at talk place = slice_index_or talk.keys place no_key
+
+-- a frame has room for each of these names
+abbrev pub AllFitFrames : List Key → Type 0
+AllFitFrames keys = (place : ℕ) → place < length keys → FitsFrame (slice_index_or keys place no_key)
+
+-- a hello has room for the parties, and a frame for each message and its word
+pub record FitsTalk (talk : TalkModel) : Type 0 where
+  pub peer : talk.peer < 256
+  pub me : talk.me < 256
+  pub bits : talk.bits ≤ 32
+  pub few : length talk.keys < 2 ^ 32
+  pub frames : AllFitFrames talk.keys
+
+-- where each message stands among those that its sender sends to party n
+pub record HasPlaces (n : Node) (places : List ℕ) : Type 0 where
+  pub count : length places ≡ length (messages n.world.plan)
+  pub each : (m : ℕ) → m < length (messages n.world.plan) → slice_index places m ≡ place_of n m

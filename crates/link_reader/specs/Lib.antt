@@ -1,0 +1,4 @@
+pub mod Expected
+pub mod Heard
+pub mod ReadWords
+pub mod NodeReaders

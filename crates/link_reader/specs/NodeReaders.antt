@@ -1,0 +1,82 @@
+-- What the readers of a party tell, one for each of its peers.
+use Rattle.std.specs.Prelude.{◌≡◌, ◌⊎◌, ℕ, suc, ◌<◌, ◌≤◌, List, [], length, slice_index, Some, Result, Ok, Err}
+use Rattle.outer_io.specs.Sink.{added, AddedPrefix}
+use Rattle.job_plan.specs.declared.key.Key.{Key}
+use Rattle.node_talk.specs.declared.fault.NodeFault.{NodeFault}
+use Rattle.job_plan.specs.Numbers.{message}
+use Rattle.party_program.specs.declared.program.Instruction.TheVariants.{Take}
+use Rattle.party_program.specs.Programs.{at}
+use Rattle.node_talk.specs.Talks.{Node, IsPeer, IsRun, acts, own_word, said, talk, expected, expected_at, place_of}
+use Rattle.node_talk.specs.PeerLinks.{in_from, out_to}
+use Rattle.outer_io.specs.Links.{LinksReading}
+use Rattle.node_talk.specs.Causes.{Cause}
+use Rattle.node_talk.specs.Runs.{TalkedThrough, BrokeOff}
+use Rattle.link_reader.specs.Expected.{TalkModel}
+use Rattle.link_reader.specs.ReadWords.{Reads}
+
+-- what party n expects of q
+abbrev pub incoming : Node → ℕ → TalkModel
+incoming n q = record { peer = q; me = n.me; digest = n.digest; bits = n.world.plan.bits; keys = expected n q }
+
+-- these words were read of q, between what the links showed before and what they show after
+abbrev pub ReadsFrom : Node → ℕ → List ℕ → LinksReading → LinksReading → Result (Unit {0}) NodeFault → Type 0
+ReadsFrom n q words before after result = Reads (incoming n q) words (in_from n before q) (in_from n after q) result
+
+-- the first messages that are expected of q have these words
+abbrev pub HasFirstWords : Node → ℕ → (Key → ℕ) → ℕ → List ℕ → Type 0
+HasFirstWords n q got count words =
+    (count ≤ length words)
+    × ((place : ℕ) → place < count → got (expected_at n q place) ≡ slice_index words place)
+
+-- a reader's fault is a cause of the end of the party's run
+abbrev pub TellsCause : Node → ℕ → Type 0
+TellsCause n q =
+    (words : List ℕ) (before after : LinksReading) (refused refused' : ℕ) (fault : NodeFault)
+    → ReadsFrom n q words before after (Err fault) → Cause n before after refused refused' fault
+
+-- the first words that were read of an inlet that tells its bytes are a run in these bytes
+abbrev pub ReadsARun : Node → ℕ → Type 0
+ReadsARun n q =
+    (got : Key → ℕ) (count : ℕ) (words bytes : List ℕ) (before after : LinksReading)
+    (result : Result (Unit {0}) NodeFault)
+    → (in_from n before q).told ≡ Some bytes → 0 < count → HasFirstWords n q got count words
+    → ReadsFrom n q words before after result → IsRun n q bytes count got
+
+-- a party said all that it says where it got these words, and its readers read all that is expected, with these words
+pub record ReadThrough (n : Node) (got : Key → ℕ) (before after : LinksReading) : Type 0 where
+  pub told : (q : ℕ) → IsPeer n q → (out_to n after q).told ≡ added (out_to n before q).told (talk n q (own_word n got))
+  pub words : ℕ → List ℕ
+  pub read : (q : ℕ) → IsPeer n q → ReadsFrom n q (words q) before after (Ok tt)
+  pub agrees : (q : ℕ) → IsPeer n q → HasFirstWords n q got (length (expected n q)) (words q)
+
+-- so it talked through
+abbrev pub TalksThrough : Node → Type 0
+TalksThrough n =
+    (got : Key → ℕ) (before after : LinksReading) → ReadThrough n got before after → TalkedThrough n got before after
+
+-- these words were read of the peers, or none of a peer whose reader did nothing
+abbrev pub ReadsOfAll : Node → (ℕ → List ℕ) → LinksReading → LinksReading → Type 0
+ReadsOfAll n words before after =
+    (q : ℕ) → IsPeer n q
+    → (words q ≡ []) ⊎ ((result : Result (Unit {0}) NodeFault) × ReadsFrom n q (words q) before after result)
+
+-- each message has the word that was read at its place, where one was
+abbrev pub HasReadWords : Node → (Key → ℕ) → (ℕ → List ℕ) → Type 0
+HasReadWords n got words = (q : ℕ) → IsPeer n q → HasFirstWords n q got (length (words q)) (words q)
+
+-- a party stopped after k of its instructions: what it took was read at its place, and of its posts up to the next one it
+-- said a first part, whatever words are still to come
+pub record StoppedShort (n : Node) (before after : LinksReading) : Type 0 where
+  pub k : ℕ
+  pub within : k ≤ length (acts n)
+  pub words : ℕ → List ℕ
+  pub read : ReadsOfAll n words before after
+  pub taken : (j m i : ℕ) → j < k → at (acts n) j ≡ Take m i
+      → place_of n m < length (words (message n.world.plan m).sender)
+  pub sent : (got : Key → ℕ) → HasReadWords n got words → (q : ℕ) → IsPeer n q
+      → AddedPrefix (out_to n before q).told (said n q (own_word n got) (suc k)) (out_to n after q).told
+
+-- so it broke off
+abbrev pub BreaksOff : Node → Type 0
+BreaksOff n =
+    (before after : LinksReading) → StoppedShort n before after → (got : Key → ℕ) × BrokeOff n got before after
