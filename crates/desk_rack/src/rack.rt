@@ -25,7 +25,7 @@ impl<W: Promise, T: SlotItem<W>> Model for Rack<W, T> {
 impl<W: Promise, T: SlotItem<W>> Rack<W, T> {
     ghost use Rattle.message_board.specs.Pairs.{Grows};
     ghost use Rattle.message_board.specs.Rule.{brings_home, others};
-    ghost use Rattle.message_board.specs.Seats.{IsBoardOf, IsSeatOf, TookOut, FoundOut, AreFresh, AreNewSeats};
+    ghost use Rattle.message_board.specs.Seats.{IsBoardOf, IsSeatOf, TookOut, FoundOut, AreFresh, AreNewSeats, slots_of};
 
     /// A rack with so many empty cells and a slot for each item, and its seats. Out of memory, the items come back.
     pub fn make(
@@ -73,7 +73,7 @@ impl<W: Promise, T: SlotItem<W>> Rack<W, T> {
 
     /// How many slots there are, which are numbered from 0.
     pub fn slots(&self) -> u32
-        ensures { result ≡ self.now.id.slots }
+        ensures { result ≡ slots_of self.now.id }
     {
         self.board.slots()
     }
@@ -82,7 +82,7 @@ impl<W: Promise, T: SlotItem<W>> Rack<W, T> {
     /// where the seat stands for all.
     pub fn take(&self, seat: &mut BoardSeat<W, T>, slot: u32) -> Option<T>
         requires seat { IsSeatOf self.now seat.old }
-        requires inside { slot < self.now.id.slots }
+        requires inside { slot < slots_of self.now.id }
         ensures seat { IsSeatOf self.now seat.new }
         ensures found { IfSome result (TookOut T.good T.posted self.now.about.world seat.old seat.new slot) }
         ensures none { IfNone result (FoundOut W.list self.now seat.old seat.new slot) }
@@ -93,7 +93,7 @@ impl<W: Promise, T: SlotItem<W>> Rack<W, T> {
     /// Puts an item into the slot that the seat took last.
     pub fn put(&self, seat: &mut BoardSeat<W, T>, slot: u32, item: T)
         requires seat { IsSeatOf self.now seat.old }
-        requires inside { slot < self.now.id.slots }
+        requires inside { slot < slots_of self.now.id }
         requires held { seat.old.view.out ≡ slot ∷ others seat.old.view.out }
         requires good { T.good self.now.about.world item slot }
         requires posts { Grows (T.posted self.now.about.world item) seat.old.view.seen }

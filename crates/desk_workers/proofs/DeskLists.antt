@@ -3,7 +3,7 @@ use Rattle.std.proofs.Common.{◌≡◌, ◌≢◌, ℕ, ◌*◌, ◌<◌, ◌�
 use Rattle.std.proofs.lemmas.List.{get_or-set_other}
 use Rattle.std.proofs.lemmas.Bool.{cases_eq}
 use Rattle.message_board.specs.Pairs.{Knows, Grows}
-use Rattle.message_board.specs.Seats.{BoardModel}
+use Rattle.message_board.specs.Seats.{BoardModel, slots_of}
 use Rattle.job_plan.specs.Plans.{Plan}
 use Rattle.job_plan.specs.Sound.{IsSound}
 use Rattle.share_world.specs.Worlds.{World}
@@ -24,10 +24,10 @@ all_set w xs ys ds i e more inside h all = by_element (StandsInWorld w ys) (set 
     (λ (ne : k ≢ i). subst (StandsInWorld w ys k) (sym (get_or-set_other ds i k e d ne)) (stands_more w xs ys k (get_or ds k d) more (by_place (StandsInWorld w xs) ds all k d (omega arith)))) (cases_eq k i))
 
 module _ (plan : Plan) (board : BoardModel Promised) (pool : IsPool plan board) where
-  pub few_slots : board.id.slots ≤ 192
+  pub few_slots : slots_of board.id ≤ 192
   few_slots = let few = few_desks plan (subst IsSound pool.same pool.whole.sound) in let slots = pool.slots in omega arith
 
-  module _ (seen : List (ℕ × ℕ)) (ds : List Desk) (count : length ds ≡ board.id.slots) (all : AllStand (world_in board.about.world) seen ds) where
+  module _ (seen : List (ℕ × ℕ)) (ds : List Desk) (count : length ds ≡ slots_of board.id) (all : AllStand (world_in board.about.world) seen ds) where
     pub are_desks : AreDesks (world_in board.about.world) ds
     are_desks = record {
       many = count ∙ pool.slots ∙ ap (λ z. z.parties * length z.sessions) (sym pool.same);

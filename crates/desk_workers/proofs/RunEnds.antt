@@ -3,7 +3,7 @@ use Rattle.std.proofs.Common.{◌≡◌, ℕ, ◌+◌, ◌*◌, ◌<◌, List, l
 use Rattle.std.specs.Prelude.{slice_get, IsSomeAnd}
 use Rattle.message_board.specs.Pairs.{Knows, total_over}
 use Rattle.message_board.specs.Plain.{plain_cell}
-use Rattle.message_board.specs.Seats.{BoardModel, HasCells}
+use Rattle.message_board.specs.Seats.{BoardModel, HasCells, slots_of}
 use Rattle.job_plan.specs.Plans.{Plan}
 use Rattle.job_plan.specs.Messages.{messages}
 use Rattle.job_plan.specs.Numbers.{message}
@@ -30,7 +30,7 @@ module _ (plan : Plan) (board : BoardModel Promised) (pool : IsPool plan board) 
   abbrev ds : List Desk
   ds = o.desks.items
 
-  module _ (count : length ds ≡ board.id.slots) (all : AllStand w seen ds) (ended : AllEnded w ds) where
+  module _ (count : length ds ≡ slots_of board.id) (all : AllStand w seen ds) (ended : AllEnded w ds) where
     are : AreDesks w ds
     are = are_desks plan board pool seen ds count all
 

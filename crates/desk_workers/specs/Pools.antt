@@ -1,7 +1,7 @@
 -- Desks and seats of a pool.
 use Rattle.std.specs.Prelude.{◌≡◌, ℕ, ◌+◌, ◌*◌, ◌/◌, ◌%◌, List, length, All, Some, slice_get}
 use Rattle.message_board.specs.Pairs.{Knows, Grows}
-use Rattle.message_board.specs.Seats.{BoardModel, Sitting, IsFreeSeatOf}
+use Rattle.message_board.specs.Seats.{BoardModel, Sitting, IsFreeSeatOf, slots_of}
 use Rattle.job_plan.specs.Plans.{Plan}
 use Rattle.share_world.specs.Laws.{IsWhole}
 use Rattle.share_world.specs.Worlds.{World}
@@ -17,7 +17,7 @@ use Rattle.desk_workers.specs.Promises.{world_in}
 pub record IsPool (plan : Plan) (board : BoardModel Promised) : Type 0 where
   pub same : (world_in board.about.world).plan ≡ plan
   pub whole : IsWhole (world_in board.about.world)
-  pub slots : board.id.slots ≡ plan.parties * length plan.sessions
+  pub slots : slots_of board.id ≡ plan.parties * length plan.sessions
 
 -- desk k stands where its program leaves it in the world, and these pairs have what it posted
 pub record StandsInWorld (w : World) (seen : List (ℕ × ℕ)) (k : ℕ) (d : Desk) : Type 0 where

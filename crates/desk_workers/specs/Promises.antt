@@ -7,7 +7,7 @@ use Rattle.party_program.specs.declared.program.Instruction.{Instruction}
 use Rattle.party_program.specs.declared.program.Instruction.TheVariants.{Post}
 use Rattle.party_program.specs.Programs.{program}
 use Rattle.party_desk.specs.declared.desk.Desk.{Desk}
-use Rattle.desk_laws.specs.Opening.{world_of_pieces}
+use Rattle.desk_laws.specs.Pieces.{world_of_pieces}
 use Rattle.desk_workers.specs.declared.promised.Promised.{Promised}
 
 -- the world that a board is about

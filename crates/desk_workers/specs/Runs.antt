@@ -8,7 +8,7 @@ use Rattle.job_plan.specs.Numbers.{message}
 use Rattle.share_world.specs.Laws.{IsWhole}
 use Rattle.share_world.specs.Worlds.{World, word, plain}
 use Rattle.message_board.specs.Plain.{plain_cell}
-use Rattle.message_board.specs.Seats.{AreNewSeats}
+use Rattle.message_board.specs.Seats.{AreNewSeats, slots_of}
 use Rattle.party_desk.specs.declared.desk.Desk.{Desk}
 use Rattle.program_laws.specs.Lawful.{program_of}
 use Rattle.desk_laws.specs.InWorld.{IsDeskDone}
@@ -25,13 +25,13 @@ pub record IsReady (w : World) (ready : Ready) : Type 0 where
   pub world : world_in ready.rack.about.world ≡ w
   pub whole : IsWhole w
   pub parties : ready.parties ≡ w.plan.parties
-  pub slots : ready.rack.id.slots ≡ w.plan.parties * length w.plan.sessions
+  pub slots : slots_of ready.rack.id ≡ w.plan.parties * length w.plan.sessions
   pub some : 0 < length ready.seats.items
   pub all : length ready.seats.items ≡ ready.rack.about.seats
   pub new : AreNewSeats ready.rack ready.seats.items
   pub instructions : ready.instructions ≡ instructions_of w
   pub no_desk : ready.desks.items ≡ []
-  pub room : ready.rack.id.slots ≤ vec_capacity ready.desks
+  pub room : slots_of ready.rack.id ≤ vec_capacity ready.desks
   pub no_seat : ready.last.items ≡ []
   pub last : 0 < vec_capacity ready.last
 

@@ -1,7 +1,7 @@
 //! Workers, each of which steps any desk that it finds at home: first those of its share, so that what the desks hold
 //! stays near the processor, and the others where none of these moves.
 ghost use Rattle.std.specs.Prelude.{◌≡◌, ◌+◌, ◌<◌, ◌≤◌, ◌^◌, length, vec_len};
-ghost use Rattle.message_board.specs.Seats.{IsFreeSeatOf};
+ghost use Rattle.message_board.specs.Seats.{IsFreeSeatOf, slots_of};
 ghost use Rattle.desk_workers.specs.Pools.{IsPool, AllFree, SameSeatCounts};
 
 use crate::promised::Promised;
@@ -34,7 +34,7 @@ fn look_in<P: Pace>(
 ) -> Visit
     requires pool { IsPool plan.now rack.now }
     requires seat { IsFreeSeatOf rack.now seat.old }
-    requires inside { turn.desk < rack.now.id.slots }
+    requires inside { turn.desk < slots_of rack.now.id }
     ensures seat { IsFreeSeatOf rack.now seat.new }
     ensures seats { seat.new.view.seats ≡ seat.old.view.seats }
     ensures moves { result.moves < 2 ^ 32 }
@@ -94,7 +94,7 @@ fn pass<P: Pace>(
 ) -> Visit
     requires pool { IsPool plan.now rack.now }
     requires first { visited.first < 2 ^ 48 }
-    requires count { visited.count ≤ rack.now.id.slots }
+    requires count { visited.count ≤ slots_of rack.now.id }
     requires seat { IsFreeSeatOf rack.now seat.old }
     ensures seat { IsFreeSeatOf rack.now seat.new }
     ensures seats { seat.new.view.seats ≡ seat.old.view.seats }
@@ -122,7 +122,7 @@ fn round<P: Pace>(
 ) -> Visit
     requires pool { IsPool plan.now rack.now }
     requires first { share.first < 2 ^ 48 }
-    requires count { share.count ≤ rack.now.id.slots }
+    requires count { share.count ≤ slots_of rack.now.id }
     requires seat { IsFreeSeatOf rack.now seat.old }
     ensures seat { IsFreeSeatOf rack.now seat.new }
     ensures seats { seat.new.view.seats ≡ seat.old.view.seats }

@@ -1,6 +1,6 @@
 //! What the words of a board are promised by.
 ghost use Rattle.std.specs.Prelude.{◌≡◌};
-ghost use Rattle.desk_laws.specs.Opening.{world_of_pieces};
+ghost use Rattle.desk_laws.specs.Pieces.{world_of_pieces};
 ghost use Rattle.desk_workers.specs.Promises.{world_in};
 
 use job_plan::{Inputs, Plan};

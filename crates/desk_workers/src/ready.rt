@@ -3,7 +3,7 @@ ghost use Rattle.std.specs.Prelude.{◌≡◌, ◌<◌, ◌≤◌, IfOk, length,
 ghost use Rattle.message_board.specs.Pairs.{total_over};
 ghost use Rattle.job_plan.specs.InputWords.{AreInputs};
 ghost use Rattle.share_world.specs.Laws.{IsWhole};
-ghost use Rattle.desk_laws.specs.Opening.{ArePieces, world_of_pieces};
+ghost use Rattle.desk_laws.specs.Pieces.{ArePieces, world_of_pieces};
 ghost use Rattle.desk_workers.specs.Runs.{IsReady};
 
 use crate::done::Done;

@@ -1,7 +1,7 @@
 //! What is left once all workers have stopped.
 ghost use Rattle.std.specs.Prelude.{◌≡◌, ◌+◌, ◌<◌, ◌≤◌, [], length, vec_len, vec_capacity};
 ghost use Rattle.message_board.specs.Pairs.{Knows, total_over};
-ghost use Rattle.message_board.specs.Seats.{IsSeatOf, IsFreeSeatOf, AreSeatsOf};
+ghost use Rattle.message_board.specs.Seats.{IsSeatOf, IsFreeSeatOf, AreSeatsOf, slots_of};
 ghost use Rattle.desk_laws.specs.Pools.{AllEnded, AllStuck, left_all};
 ghost use Rattle.desk_workers.specs.Promises.{world_in};
 ghost use Rattle.desk_workers.specs.Pools.{IsPool, AllStand, seats_in};
@@ -42,9 +42,9 @@ pub fn take_all(
 ) -> Vec<Desk>
     requires seat { IsFreeSeatOf rack.now seat.old }
     requires seats { seat.old.view.seats ≡ rack.now.about.seats }
-    requires room { (desks.items ≡ []) × (rack.now.id.slots ≤ vec_capacity desks) }
+    requires room { (desks.items ≡ []) × (slots_of rack.now.id ≤ vec_capacity desks) }
     ensures seat { IsSeatOf rack.now seat.new }
-    ensures count { vec_len result ≡ rack.now.id.slots }
+    ensures count { vec_len result ≡ slots_of rack.now.id }
     ensures desks { AllStand (world_in rack.now.about.world) seat.new.view.seen result.items }
 {
     for slot in 0..rack.slots() {
@@ -93,7 +93,7 @@ fn finish(
     desks: &mut [Desk],
 )
     requires pool { IsPool plan.now board.now }
-    requires count { length desks.old ≡ board.now.id.slots }
+    requires count { length desks.old ≡ slots_of board.now.id }
     requires seat { IsSeatOf board.now seat.old }
     requires desks { AllStand (world_in board.now.about.world) seat.old.view.seen desks.old }
     ensures seat { IsSeatOf board.now seat.new }
@@ -115,7 +115,7 @@ pub fn finish_all(
     desks: &mut Vec<Desk>,
 )
     requires pool { IsPool plan.now board.now }
-    requires count { vec_len desks.old ≡ board.now.id.slots }
+    requires count { vec_len desks.old ≡ slots_of board.now.id }
     requires seat { IsSeatOf board.now seat.old }
     requires desks { AllStand (world_in board.now.about.world) seat.old.view.seen desks.old.items }
     ensures seat { IsSeatOf board.now seat.new }

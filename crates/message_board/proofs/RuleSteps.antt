@@ -1,5 +1,5 @@
 -- Each step of a board keeps its rule.
-use Rattle.std.proofs.Common.{◌≡◌, ◌≢◌, ◌⊎◌, ℕ, ◌+◌, ◌-◌, ◌<◌, ◌≤◌, eqb, List, [], ◌∷◌, ◌++◌, length, get_or, set, Option, Some, None, sym, refl, ap, ◌∙◌, subst, inl, inr, ⊎_elim, arith, get_or-set_same}
+use Rattle.std.proofs.Common.{◌≡◌, ◌≢◌, ◌⊎◌, ℕ, ◌+◌, ◌-◌, ◌*◌, ◌<◌, ◌≤◌, eqb, List, [], ◌∷◌, ◌++◌, length, get_or, set, Option, Some, None, sym, refl, ap, ◌∙◌, subst, inl, inr, ⊎_elim, arith, get_or-set_same}
 use Rattle.std.specs.Prelude.{slice_index}
 use Rattle.std.proofs.lemmas.List.{get_or-set_other, set-get_or}
 use Rattle.std.proofs.lemmas.Bool.{cases_eq}
@@ -12,6 +12,7 @@ use Rattle.message_board.specs.declared.steps.About.{About}
 use Rattle.message_board.specs.declared.steps.View.{View}
 use Rattle.message_board.specs.declared.cells.Posted.TheVariants.{Done, Occupied}
 use Rattle.message_board.specs.Pairs.{Knows, Has, times, total_over}
+use Rattle.message_board.specs.Words.{apart}
 use Rattle.message_board.specs.Rule as rule
 use Rattle.message_board.specs.Rule.{IsBoard, IsHome, IsOut, IsTold, Stand, cell, stores, unstores, finds, unfinds, posts, looks, folds, spent, less_one, one_seat, takes_out, others, brings_home, stored_step, posted_step, found_step, taken_step, out_step, home_step}
 use Rattle.message_board.proofs.Pairs.{knows_split, knows_left, knows_right, times_append, total_set, total_snoc, total_at, total_none, times_else, times_more, total_two, length_set, set_there}
@@ -49,7 +50,7 @@ module _ {W T : Type 0} (list : W → List ℕ) (good : W → T → ℕ → Type
   fl k = length words + k
 
   abbrev tn : ℕ → ℕ
-  tn i = length words + length words + i
+  tn i = length words + length words + apart * i
 
   abbrev Told : List ℕ → V → Type 0
   Told ws v = IsTold list good posted about ws v
@@ -90,7 +91,7 @@ module _ {W T : Type 0} (list : W → List ℕ) (good : W → T → ℕ → Type
       → (ws : List ℕ) (hs : List _) → length ws ≡ length s.words → length hs ≡ length s.homes
       → Filled ws → Stay s.words ws → Told ws w → Owns w
       → ((k : ℕ) → total_over (own k) (set s.views id w) ≤ 1)
-      → ((i : ℕ) → i < length s.homes → HomeOrOut record { words = ws; homes = hs; views = set s.views id w } i)
+      → ((i : ℕ) → apart * i < length s.homes → HomeOrOut record { words = ws; homes = hs; views = set s.views id w } i)
       → R record { words = ws; homes = hs; views = set s.views id w }
   changed s h id v w at like part ws hs lw lh filled stay seen mine once slots =
       record {
@@ -107,7 +108,7 @@ module _ {W T : Type 0} (list : W → List ℕ) (good : W → T → ℕ → Type
 
   -- a slot stays home or out where its turn word, its item and its holder's list stay
   slot_stays : (s : St) (id : ℕ) (v w : V) → get_elem? s.views id ≡ some v → (ws : List ℕ) (hs : List _) → Stay s.words ws → (i : ℕ)
-      → cell ws (tn i) ≡ cell s.words (tn i) → get_elem? hs i ≡ get_elem? s.homes i → (Has v.out i → Has w.out i)
+      → cell ws (tn i) ≡ cell s.words (tn i) → get_elem? hs (apart * i) ≡ get_elem? s.homes (apart * i) → (Has v.out i → Has w.out i)
       → HomeOrOut s i → HomeOrOut record { words = ws; homes = hs; views = set s.views id w } i
   slot_stays s id v w at ws hs stay i word home keep (inl a) = inl (word ∙ a.0, (a.1.0, home ∙ a.1.1, a.1.2, stand_on s.words ws (posted about.world a.1.0) stay a.1.3))
   slot_stays s id v w at ws hs stay i word home keep (inr away) =
@@ -293,7 +294,7 @@ module _ {W T : Type 0} (list : W → List ℕ) (good : W → T → ℕ → Type
           ),
         )
 
-  module _ (slots id : ℕ) (me : M) (i : ℕ) (inside : i < slots) (part : 0 < me.0.seats) where
+  module _ (slots id : ℕ) (me : M) (i : ℕ) (inside : apart * i < slots) (part : 0 < me.0.seats) where
     -- all that a turn word's change leaves as it is
     turned_cell : (ws : List ℕ) (n k : ℕ) → k ≢ tn i → cell (set ws (tn i + 1) n) k ≡ cell ws k
     turned_cell ws n k ne = get_or-set_other ws (tn i + 1) (k + 1) n 0 (λ q. ne (omega arith))
@@ -310,7 +311,7 @@ module _ {W T : Type 0} (list : W → List ℕ) (good : W → T → ℕ → Type
         let b = turned_cell ws n (fl k) (λ q. omega arith) in
         ⊎_elim (λ z. inl (b ∙ z)) (λ (z : (cell ws (fl k) ≡ 1) × (cell ws k ≡ slice_index words k)). inr (b ∙ z.0, a ∙ z.1)) (h k l)
 
-    turned_here : (s : St) → R s → i < length s.homes → (n : ℕ) → cell (set s.words (tn i + 1) n) (tn i) ≡ n
+    turned_here : (s : St) → R s → apart * i < length s.homes → (n : ℕ) → cell (set s.words (tn i + 1) n) (tn i) ≡ n
     turned_here s h here n = get_or-set_same s.words (tn i + 1) n 0 (let z = h.size in omega arith)
 
     posts_same : (s : St) → R s → (w : V) → get_elem? s.views id ≡ some me.0 → w.mine ≡ me.0.mine → (k : ℕ) → total_over (own k) (set s.views id w) ≤ 1
@@ -331,7 +332,7 @@ module _ {W T : Type 0} (list : W → List ℕ) (good : W → T → ℕ → Type
     pub outs_keep : Allows R slots id me (tn i + 1) (λ n. either (eqb n 1) 0 n) (out_step list good posted (step slots (tn i + 1) 1 0 none) me)
     outs_keep s h len at _ =
         let n : ℕ = cell s.words (tn i) in
-        let here : i < length s.homes = omega arith in
+        let here : apart * i < length s.homes = omega arith in
         exchanged n 1 0 (λ m. (u : V) × (a : Act (Option T)) × Valid s.homes me.1 a × R (stepped s (tn i + 1) m id me.1 u a) × out_step list good posted (step slots (tn i + 1) 1 0 none) me n (u, carried_after me.1 a))
         (λ (one : n ≡ 1). hit s h here at one (h.slots i here))
         (λ (not : n ≢ 1). miss s h here at not (h.slots i here))
@@ -339,33 +340,33 @@ module _ {W T : Type 0} (list : W → List ℕ) (good : W → T → ℕ → Type
         same_about : (s : St) → R s → get_elem? s.views id ≡ some me.0 → (ab : About W) → me.0.about ≡ Some ab → ab ≡ about
         same_about s h at ab e = some_same ab about (sym e ∙ h.knows id me.0 at part)
 
-        hit : (s : St) (h : R s) → i < length s.homes → get_elem? s.views id ≡ some me.0 → cell s.words (tn i) ≡ 1 → HomeOrOut s i
+        hit : (s : St) (h : R s) → apart * i < length s.homes → get_elem? s.views id ≡ some me.0 → cell s.words (tn i) ≡ 1 → HomeOrOut s i
             → (u : V) × (a : Act (Option T)) × Valid s.homes me.1 a × R (stepped s (tn i + 1) 0 id me.1 u a) × out_step list good posted (step slots (tn i + 1) 1 0 none) me (cell s.words (tn i)) (u, carried_after me.1 a)
         hit s h here at one (inr away) = absurd (let z = away.0 in omega arith)
         hit s h here at one (inl home) =
             let x = home.1.0 in
             let w = takes_out me.0 i (posted about.world x) in
             let ws = set s.words (tn i + 1) 0 in
-            let hs = set s.homes i none in (
+            let hs = set s.homes (apart * i) none in (
               w,
-              takes i (Some x),
+              takes (apart * i) (Some x),
               home.1.1,
-              changed s h id me.0 w at (refl, refl) part ws hs (length_set s.words (tn i + 1) 0) (length_set s.homes i none)
+              changed s h id me.0 w at (refl, refl) part ws hs (length_set s.words (tn i + 1) 0) (length_set s.homes (apart * i) none)
                   (turned_filled s.words 0 h.cells) (turned_stay s.words 0)
                   (let t = told_on s.words ws (turned_stay s.words 0) me.0 (h.told id me.0 at) in (stand_on s.words ws (posted about.world x ++ me.0.seen) (turned_stay s.words 0) (λ k y known. ⊎_elim (λ a. home.1.3 k y a) (λ a. (h.told id me.0 at).0 k y a) (knows_split (posted about.world x) me.0.seen k y known)), t.1, t.2))
                   (λ k more. let o = h.mine id me.0 at k more in (o.0, knows_right (posted about.world x) me.0.seen k o.0 o.1))
                   (posts_same s h w at refl)
                   (λ j less. ⊎_elim
                   (λ (e : j ≡ i). inr (ap (λ (m : ℕ). cell ws (tn m)) e ∙ turned_here s h here 0, (id, w, set_there s.views id me.0 w at, inl (sym e))))
-                  (λ (ne : j ≢ i). slot_stays s id me.0 w at ws hs (turned_stay s.words 0) j (turned_else s.words 0 j ne) (set_else s.homes i j none ne) (λ has. inr has) (h.slots j less))
+                  (λ (ne : j ≢ i). slot_stays s id me.0 w at ws hs (turned_stay s.words 0) j (turned_else s.words 0 j ne) (set_else s.homes (apart * i) (apart * j) none (λ q. ne (omega arith))) (λ has. inr has) (h.slots j less))
                   (cases_eq j i)),
               λ ab j same e.
                   let b : ab ≡ about = same_about s h at ab same in
                   let q : i ≡ j = (let l : length (list ab.world) ≡ length words = ap (λ (a : About W). length (list a.world)) b in omega arith) in
-                  inl (one, (x, subst (good ab.world x) q (subst (λ (a : About W). good a.world x i) (sym b) home.1.2), (λ k. takes_out me.0 (q k) (posted (sym b k).world x)), ap (λ (k : ℕ). (k, Some x) ∷ me.1) q)),
+                  inl (one, (x, subst (good ab.world x) q (subst (λ (a : About W). good a.world x i) (sym b) home.1.2), (λ k. takes_out me.0 (q k) (posted (sym b k).world x)), ap (λ (k : ℕ). (apart * k, Some x) ∷ me.1) q)),
             )
 
-        miss : (s : St) (h : R s) → i < length s.homes → get_elem? s.views id ≡ some me.0 → cell s.words (tn i) ≢ 1 → HomeOrOut s i
+        miss : (s : St) (h : R s) → apart * i < length s.homes → get_elem? s.views id ≡ some me.0 → cell s.words (tn i) ≢ 1 → HomeOrOut s i
             → (u : V) × (a : Act (Option T)) × Valid s.homes me.1 a × R (stepped s (tn i + 1) (cell s.words (tn i)) id me.1 u a) × out_step list good posted (step slots (tn i + 1) 1 0 none) me (cell s.words (tn i)) (u, carried_after me.1 a)
         miss s h here at not (inl home) = absurd (not home.0)
         miss s h here at not (inr away) =
@@ -383,32 +384,32 @@ module _ {W T : Type 0} (list : W → List ℕ) (good : W → T → ℕ → Type
     pub outs_keep_at : (p : ℕ) → p ≡ tn i + 1 → Allows R slots id me p (λ n. either (eqb n 1) 0 n) (out_step list good posted (step slots p 1 0 none) me)
     outs_keep_at p e = subst (λ q. Allows R slots id me q (λ n. either (eqb n 1) 0 n) (out_step list good posted (step slots q 1 0 none) me)) (sym e) outs_keep
 
-    homes_keep : (x : T) (held : List (ℕ × Option T)) → me.1 ≡ (i, Some x) ∷ held → me.0.out ≡ i ∷ others me.0.out → good about.world x i
+    homes_keep : (x : T) (held : List (ℕ × Option T)) → me.1 ≡ (apart * i, Some x) ∷ held → me.0.out ≡ i ∷ others me.0.out → good about.world x i
         → ((k w : ℕ) → Knows (posted about.world x) k w → Knows me.0.seen k w)
         → Allows R slots id me (tn i + 1) (λ _. 1) (λ _. home_step list good posted (step slots (tn i + 1) 1 0 none) me 1)
     homes_keep x held holds out is_good covers s h len at _ =
-        let here : i < length s.homes = omega arith in
+        let here : apart * i < length s.homes = omega arith in
         let w = brings_home me.0 in
         let ws = set s.words (tn i + 1) 1 in
-        let hs = set s.homes i (some (Some x)) in
+        let hs = set s.homes (apart * i) (some (Some x)) in
         let back : homes_after s.homes me.1 gives ≡ hs = ap (λ c. homes_after s.homes c gives) holds in (
           w,
           gives,
           tt,
           subst (λ l. R record { words = ws; homes = l; views = set s.views id w }) (sym back)
-              (changed s h id me.0 w at (refl, refl) part ws hs (length_set s.words (tn i + 1) 1) (length_set s.homes i (some (Some x)))
+              (changed s h id me.0 w at (refl, refl) part ws hs (length_set s.words (tn i + 1) 1) (length_set s.homes (apart * i) (some (Some x)))
               (turned_filled s.words 1 h.cells) (turned_stay s.words 1)
               (told_on s.words ws (turned_stay s.words 1) me.0 (h.told id me.0 at))
               (h.mine id me.0 at)
               (posts_same s h w at refl)
               (λ j less. ⊎_elim
-              (λ (e : j ≡ i). inl (ap (λ (m : ℕ). cell ws (tn m)) e ∙ turned_here s h here 1, (x, ap (get_elem? hs) e ∙ set_here s.homes i (some (Some x)) here, subst (good about.world x) (sym e) is_good, stand_on s.words ws (posted about.world x) (turned_stay s.words 1) (λ k y known. (h.told id me.0 at).0 k y (covers k y known)))))
-              (λ (ne : j ≢ i). slot_stays s id me.0 w at ws hs (turned_stay s.words 1) j (turned_else s.words 1 j ne) (set_else s.homes i j (some (Some x)) ne) (λ has. ⊎_elim (λ (e : i ≡ j). absurd (ne (sym e))) (λ t. t) (subst (λ l. Has l j) out has)) (h.slots j less))
+              (λ (e : j ≡ i). inl (ap (λ (m : ℕ). cell ws (tn m)) e ∙ turned_here s h here 1, (x, ap (λ (m : ℕ). get_elem? hs (apart * m)) e ∙ set_here s.homes (apart * i) (some (Some x)) here, subst (good about.world x) (sym e) is_good, stand_on s.words ws (posted about.world x) (turned_stay s.words 1) (λ k y known. (h.told id me.0 at).0 k y (covers k y known)))))
+              (λ (ne : j ≢ i). slot_stays s id me.0 w at ws hs (turned_stay s.words 1) j (turned_else s.words 1 j ne) (set_else s.homes (apart * i) (apart * j) (some (Some x)) (λ q. ne (omega arith))) (λ has. ⊎_elim (λ (e : i ≡ j). absurd (ne (sym e))) (λ t. t) (subst (λ l. Has l j) out has)) (h.slots j less))
               (cases_eq j i))),
           (refl, refl),
         )
 
-    pub homes_keep_at : (p : ℕ) → p ≡ tn i + 1 → (x : T) (held : List (ℕ × Option T)) → me.1 ≡ (i, Some x) ∷ held → me.0.out ≡ i ∷ others me.0.out → good about.world x i
+    pub homes_keep_at : (p : ℕ) → p ≡ tn i + 1 → (x : T) (held : List (ℕ × Option T)) → me.1 ≡ (apart * i, Some x) ∷ held → me.0.out ≡ i ∷ others me.0.out → good about.world x i
         → ((k w : ℕ) → Knows (posted about.world x) k w → Knows me.0.seen k w)
         → Allows R slots id me p (λ _. 1) (λ _. home_step list good posted (step slots p 1 0 none) me 1)
     homes_keep_at p e x held holds out is_good covers = subst (λ q. Allows R slots id me q (λ _. 1) (λ _. home_step list good posted (step slots q 1 0 none) me 1)) (sym e) (homes_keep x held holds out is_good covers)

@@ -1,5 +1,5 @@
 -- Lists of seats, and a board at its start and its end.
-use Rattle.std.proofs.Common.{◌≡◌, ◌⊎◌, ℕ, zero, suc, ◌+◌, ◌<◌, ◌≤◌, List, [], ◌∷◌, ◌++◌, length, map, reverse, append_assoc, take, drop, replicate, Option, Some, None, sym, refl, ap, ◌∙◌, subst, inl, inr, ⊎_elim, arith, get_or-take}
+use Rattle.std.proofs.Common.{◌≡◌, ◌⊎◌, ℕ, zero, suc, ◌+◌, ◌*◌, ◌<◌, ◌≤◌, List, [], ◌∷◌, ◌++◌, length, length-append, map, reverse, append_assoc, take, drop, replicate, Option, Some, None, sym, refl, ap, ◌∙◌, subst, inl, inr, ⊎_elim, arith, get_or-take}
 use Rattle.std.specs.Prelude.{slice_index, slice_get}
 use mathlib.Core.Option.{some, some-injective, some-ne-none}
 use lib.ListN.{get_elem?}
@@ -9,7 +9,7 @@ use Rattle.message_board.specs.declared.steps.About.{About}
 use Rattle.message_board.specs.declared.steps.View.{View}
 use Rattle.message_board.specs.Pairs.{Knows, times}
 use Rattle.message_board.specs.Plain.{plain_cell}
-use Rattle.message_board.specs.Words.{word_as, cells_from, cells_of, held}
+use Rattle.message_board.specs.Words.{apart, spaced, word_as, cells_from, cells_of, held}
 use Rattle.message_board.specs.Rule.{IsBoard, IsTold, newcomer, cell}
 use Rattle.message_board.specs.Seats.{BoardModel, Sitting, IsSeatOf, IsFreeSeatOf, AreSeatsOf, CanClose, AreNewSeats, KnownBy, times_by, HasCells, AreFresh}
 use Rattle.message_board.proofs.Pairs.{total_at}
@@ -69,11 +69,12 @@ starts_turn zero n i k h e = ap (slice_index (replicate n 1)) (let q : k ≡ i =
 starts_turn (suc a) n i zero h e = absurd (omega arith)
 starts_turn (suc a) n i (suc k) h e = starts_turn a n i k h (omega arith)
 
-module _ {T : Type 0} where
-  pub map_somes : (xs : List T) → length (map (λ x. Some x) xs) ≡ length xs
-  map_somes [] = refl
-  map_somes (x ∷ xs) = ap suc (map_somes xs)
+-- what stands behind others
+past : {X : Type 0} (xs ys : List X) (i : ℕ) → get_elem? (xs ++ ys) (length xs + i) ≡ get_elem? ys i
+past [] ys i = ap (get_elem? ys) (let e : 0 + i ≡ i = omega arith in e)
+past (x ∷ xs) ys i = ap (get_elem? (x ∷ xs ++ ys)) (let e : length (x ∷ xs) + i ≡ suc (length xs + i) = omega arith in e) ∙ past xs ys i
 
+module _ {T : Type 0} where
   held_some : (slots : List (Option T)) (x : T) → held (slots ++ Some x ∷ []) ≡ held slots ++ x ∷ []
   held_some [] x = refl
   held_some (None ∷ slots) x = held_some slots x
@@ -84,37 +85,55 @@ module _ {T : Type 0} where
   held_none (None ∷ slots) = held_none slots
   held_none (Some y ∷ slots) = ap (λ l. y ∷ l) (held_none slots)
 
+  -- what is put behind the slots in reverse stands before them all
+  pub turned_more : (x : T) (xs : List T) (slots : List (Option T)) → slots ≡ (reverse (spaced xs) ++ replicate 15 None) ++ Some x ∷ [] → slots ≡ reverse (spaced (x ∷ xs))
+  turned_more x xs slots is =
+      let block : List (Option T) = Some x ∷ replicate 15 None in
+      is ∙ append_assoc (reverse (spaced xs)) (replicate 15 None) (Some x ∷ []) ∙ sym (reverse-append block (spaced xs))
+
+  -- how many items slots hold, where one more is there
+  pub held_length : (slots : List (Option T)) (x : T) → length (held (slots ++ Some x ∷ [])) ≡ length (held slots) + 1
+  held_length slots x = ap length (held_some slots x) ∙ length-append (held slots) (x ∷ [])
+
   pub back_more : (slots : List (Option T)) (items : List T) (x : T) → held slots ++ reverse (items ++ x ∷ []) ≡ held (slots ++ Some x ∷ []) ++ reverse items
   back_more slots items x = ap (λ l. held slots ++ l) (reverse-append items (x ∷ [])) ∙ sym (append_assoc (held slots) (x ∷ []) (reverse items)) ∙ ap (λ l. l ++ reverse items) (sym (held_some slots x))
 
-  pub held_all : (xs : List T) → held (map (λ x. Some x) xs) ≡ xs
+  pub held_all : (xs : List T) → held (spaced xs) ≡ xs
   held_all [] = refl
   held_all (x ∷ xs) = ap (λ l. x ∷ l) (held_all xs)
 
-  homes_length : (xs : List T) → length (map some (map (λ x. Some x) xs)) ≡ length xs
+  homes_length : (xs : List T) → length (map some (spaced xs)) ≡ apart * length xs
   homes_length [] = refl
-  homes_length (x ∷ xs) = ap suc (homes_length xs)
+  homes_length (x ∷ xs) = let l = homes_length xs in omega arith
+
+  pub spaced_length : (xs : List T) → length (spaced xs) ≡ apart * length xs
+  spaced_length [] = refl
+  spaced_length (x ∷ xs) = let l = spaced_length xs in omega arith
 
   -- the item of a slot
-  at_home : (xs : List T) (i : ℕ) → i < length xs → (x : T) × (get_elem? (map some (map (λ x. Some x) xs)) i ≡ some (some (Some x))) × (slice_get xs i ≡ Some x)
+  at_home : (xs : List T) (i : ℕ) → i < length xs → (x : T) × (get_elem? (map some (spaced xs)) (apart * i) ≡ some (some (Some x))) × (slice_get xs i ≡ Some x)
   at_home [] i h = absurd (omega arith)
   at_home (x ∷ xs) zero h = (x, refl, refl)
-  at_home (x ∷ xs) (suc i) h = at_home xs i (omega arith)
+  at_home (x ∷ xs) (suc i) h =
+      let r = at_home xs i (omega arith) in
+      let block : List _ = map some (Some x ∷ replicate 15 None) in
+      let next : apart * suc i ≡ length block + apart * i = omega arith in
+      (r.0, ap (get_elem? (block ++ map some (spaced xs))) next ∙ past block (map some (spaced xs)) (apart * i) ∙ r.1, r.2)
 
 module _ {W T : Type 0} (list : W → List ℕ) (good : W → T → ℕ → Type 0) (posted : W → T → List (ℕ × ℕ)) where
   pub begins : (about : About W) (m : ℕ) (items : List T) → length (list about.world) ≡ m → AreFresh good posted about.world items
-      → IsBoard list good posted about (opening (replicate (m + m + 1) 0 ++ replicate (length items) 1) (map (λ x. Some x) items) (newcomer about about.seats))
+      → IsBoard list good posted about (opening (replicate (m + m + 1) 0 ++ replicate (apart * length items) 1) (spaced items) (newcomer about about.seats))
   begins about m items len fresh =
       let l = homes_length items in
-      let start : List ℕ = replicate (m + m + 1) 0 ++ replicate (length items) 1 in
+      let start : List ℕ = replicate (m + m + 1) 0 ++ replicate (apart * length items) 1 in
       record {
-        size = starts_length (m + m + 1) (length items) ∙ (let e = len in omega arith);
-        cells = λ k h. inl (starts_cell (m + m + 1) (length items) (length (list about.world) + k + 1) (let e = len in omega arith));
+        size = starts_length (m + m + 1) (apart * length items) ∙ (let e = len in omega arith);
+        cells = λ k h. inl (starts_cell (m + m + 1) (apart * length items) (length (list about.world) + k + 1) (let e = len in omega arith));
         told = λ id v e. only id v e (λ y. IsTold list good posted about start y) ((λ k w known. absurd known), (λ k has. absurd has), (λ k has. absurd has));
         mine = λ id v e. only id v e (λ y. (k : ℕ) → 0 < times k y.mine → (w : ℕ) × Knows y.seen k w) (λ k more. absurd (omega arith));
         once = λ k. omega arith;
         slots = λ i h. inl (let here = at_home items i (omega arith) in let f = fresh i here.0 here.2 in (
-          starts_turn (m + m + 1) (length items) i (length (list about.world) + length (list about.world) + i + 1) (omega arith) (let e = len in omega arith),
+          starts_turn (m + m + 1) (apart * length items) (apart * i) (length (list about.world) + length (list about.world) + apart * i + 1) (omega arith) (let e = len in omega arith),
           (here.0, here.1, f.0, λ k w known. absurd (subst (λ (ps : List (ℕ × ℕ)). Knows ps k w) f.1 known)),
         ));
         seats = omega arith;

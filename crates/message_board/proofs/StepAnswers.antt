@@ -1,5 +1,5 @@
 -- What the steps tell, as the calls answer it.
-use Rattle.std.proofs.Common.{◌≡◌, ◌⊎◌, ℕ, ◌+◌, ◌≢◌, List, [], ◌∷◌, length, ne_eqb, Option, Some, None, sym, refl, ap, ◌∙◌, subst, inl, inr, arith}
+use Rattle.std.proofs.Common.{◌≡◌, ◌⊎◌, ℕ, ◌+◌, ◌*◌, ◌≢◌, List, [], ◌∷◌, length, ne_eqb, Option, Some, None, sym, refl, ap, ◌∙◌, subst, inl, inr, arith}
 use Rattle.std.specs.Prelude.{IfSome, if◌then◌else◌}
 use Rattle.atomic_table.specs.Table.{Me}
 use Rattle.message_board.specs.declared.steps.About.{About}
@@ -8,7 +8,7 @@ use Rattle.message_board.specs.declared.cells.Posted.{Posted}
 use Rattle.message_board.specs.declared.cells.Posted.TheVariants.{Done, Occupied}
 use Rattle.message_board.specs.Pairs.{Knows, Has}
 use Rattle.message_board.specs.Rule.{posts, stores, unstores, finds, looks, takes_out}
-use Rattle.message_board.specs.Words.{posted_as, word_as}
+use Rattle.message_board.specs.Words.{apart, posted_as, word_as}
 
 posted_full : (n w : ℕ) → n ≡ 1 → posted_as n w ≡ Occupied w
 posted_full n w e = ap (λ b. if b then Done else Occupied w) (ne_eqb n 0 (λ z. omega arith))
@@ -51,14 +51,14 @@ if_map (Some w) f h = f w h
 module _ {W T : Type 0} (list : W → List ℕ) (good : W → T → ℕ → Type 0) (posted : W → T → List (ℕ × ℕ)) (about : About W) where
   abbrev OutTold : Me (Option T) (View W) → ℕ → ℕ → Me (Option T) (View W) → Type 0
   OutTold me i n me' =
-      ((n ≡ 1) × ((x : T) × good about.world x i × (me'.0 ≡ takes_out me.0 i (posted about.world x)) × (me'.1 ≡ (i, Some x) ∷ me.1)))
+      ((n ≡ 1) × ((x : T) × good about.world x i × (me'.0 ≡ takes_out me.0 i (posted about.world x)) × (me'.1 ≡ (apart * i, Some x) ∷ me.1)))
       ⊎ ((n ≡ 0) × (me'.0 ≡ looks me.0 (length (list about.world) + i)) × (me'.1 ≡ me.1) × (me.0.seats ≡ about.seats → Has me.0.out i))
 
   pub none_told : (me me' : Me (Option T) (View W)) (i n : ℕ) → OutTold me i n me' → n ≡ 0 → (me'.0 ≡ looks me.0 (length (list about.world) + i)) × (me'.1 ≡ me.1) × (me.0.seats ≡ about.seats → Has me.0.out i)
   none_told me me' i n (inl t) z = absurd (let a = t.0 in omega arith)
   none_told me me' i n (inr t) z = (t.1, t.2, t.3)
 
-  pub some_told : (me me' : Me (Option T) (View W)) (i n : ℕ) → OutTold me i n me' → n ≢ 0 → (x : T) × good about.world x i × (me'.0 ≡ takes_out me.0 i (posted about.world x)) × (me'.1 ≡ (i, Some x) ∷ me.1)
+  pub some_told : (me me' : Me (Option T) (View W)) (i n : ℕ) → OutTold me i n me' → n ≢ 0 → (x : T) × good about.world x i × (me'.0 ≡ takes_out me.0 i (posted about.world x)) × (me'.1 ≡ (apart * i, Some x) ∷ me.1)
   some_told me me' i n (inl t) z = t.1
   some_told me me' i n (inr t) z = absurd (z t.0)
 

@@ -1,7 +1,7 @@
 -- The rule of a board's table, and what its steps tell. Word 0 is the seats' word. Then come the value words of the
--- cells, then their full words, each 1 where the cell is full, else 0, and then a turn word for each slot, 1 where the
--- slot's item is at home, else 0.
-use Rattle.std.specs.Prelude.{◌≡◌, ℕ, ◌+◌, ◌-◌, ◌<◌, ◌≤◌, ◌⊎◌, List, [], ◌∷◌, ◌++◌, length, slice_index, Option, Some, None}
+-- cells, then their full words, each 1 where the cell is full, else 0, and then, apart from each other, a turn word for
+-- each slot, 1 where the slot's item is at home, else 0.
+use Rattle.std.specs.Prelude.{◌≡◌, ℕ, ◌+◌, ◌-◌, ◌*◌, ◌<◌, ◌≤◌, ◌⊎◌, List, [], ◌∷◌, ◌++◌, length, slice_index, Option, Some, None}
 use mathlib.Core.Option.{some}
 use lib.ListN.{get_elem?}
 use Rattle.atomic_table.specs.Table.{State, Me, Step, rest}
@@ -10,6 +10,7 @@ use Rattle.message_board.specs.declared.steps.View.{View}
 use Rattle.message_board.specs.declared.cells.Posted.{Posted}
 use Rattle.message_board.specs.declared.cells.Posted.TheVariants.{Done, Occupied}
 use Rattle.message_board.specs.Pairs.{Knows, Has, times, total_over}
+use Rattle.message_board.specs.Words.{apart}
 
 -- the words after the seats' word
 abbrev pub cell : List ℕ → ℕ → ℕ
@@ -85,7 +86,7 @@ module _ {W T : Type 0} (list : W → List ℕ) (good : W → T → ℕ → Type
   full_place about k = length (list about.world) + k
 
   abbrev pub turn : About W → ℕ → ℕ
-  turn about i = length (list about.world) + length (list about.world) + i
+  turn about i = length (list about.world) + length (list about.world) + apart * i
 
   -- each pair is a full cell and its word
   abbrev pub Stand : About W → List ℕ → List (ℕ × ℕ) → Type 0
@@ -104,7 +105,7 @@ module _ {W T : Type 0} (list : W → List ℕ) (good : W → T → ℕ → Type
   abbrev pub IsHome : About W → State (Option T) (View W) → ℕ → Type 0
   IsHome about s i =
       (cell s.words (turn about i) ≡ 1)
-      × ((x : T) × (get_elem? s.homes i ≡ some (some (Some x))) × good about.world x i
+      × ((x : T) × (get_elem? s.homes (apart * i) ≡ some (some (Some x))) × good about.world x i
       × Stand about s.words (posted about.world x))
 
   abbrev pub IsOut : About W → State (Option T) (View W) → ℕ → Type 0
@@ -127,7 +128,7 @@ module _ {W T : Type 0} (list : W → List ℕ) (good : W → T → ℕ → Type
     -- no number was posted twice
     pub once : (k : ℕ) → total_over (λ (v : View W). times k v.mine) s.views ≤ 1
     -- each slot has a good item, whose posts are there, or is out with a view
-    pub slots : (i : ℕ) → i < length s.homes → IsHome about s i ⊎ IsOut about s i
+    pub slots : (i : ℕ) → apart * i < length s.homes → IsHome about s i ⊎ IsOut about s i
     -- together the views stand for the seats made
     pub seats : total_over (λ (v : View W). v.seats) s.views ≡ about.seats
     -- a view that stands for no seat has no slot, and one that stands for some knows the board
@@ -169,7 +170,7 @@ module _ {W T : Type 0} (list : W → List ℕ) (good : W → T → ℕ → Type
   out_step st me n me' =
       (about : About W) (i : ℕ) → me.0.about ≡ Some about → st.word ≡ turn about i + 1
       → ((n ≡ 1) × ((x : T) × good about.world x i × (me'.0 ≡ takes_out me.0 i (posted about.world x))
-      × (me'.1 ≡ (i, Some x) ∷ me.1)))
+      × (me'.1 ≡ (apart * i, Some x) ∷ me.1)))
       ⊎ ((n ≡ 0) × (me'.0 ≡ looks me.0 (length (list about.world) + i)) × (me'.1 ≡ me.1)
       × (me.0.seats ≡ about.seats → Has me.0.out i))
 

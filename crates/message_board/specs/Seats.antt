@@ -1,5 +1,5 @@
 -- What clauses say of a board and its seats.
-use Rattle.std.specs.Prelude.{◌+◌, ◌⊎◌, length, ◌≡◌, ℕ, ◌<◌, ◌^◌, List, [], ◌∷◌}
+use Rattle.std.specs.Prelude.{◌+◌, ◌*◌, ◌/◌, ◌⊎◌, length, ◌≡◌, ℕ, ◌<◌, ◌^◌, List, [], ◌∷◌}
 use Rattle.std.specs.Prelude.{Option, Some, None, IfSome, slice_index, slice_get}
 use base.Stored.{Coded, coded×, coded_ℕ, coded_list, coded_via}
 use Rattle.std.specs.Coded.{coded_option}
@@ -10,7 +10,12 @@ use Rattle.message_board.specs.declared.cells.Posted.{Posted}
 use Rattle.message_board.specs.declared.cells.Posted.TheVariants.{Done, Occupied}
 use Rattle.message_board.specs.Pairs.{Knows, Has, times}
 use Rattle.message_board.specs.Plain.{plain_cell}
+use Rattle.message_board.specs.Words.{apart}
 use Rattle.message_board.specs.Rule.{newcomer, posts, takes, looks, takes_out}
+
+-- how many slots a table has
+abbrev pub slots_of : TableId → ℕ
+slots_of id = id.slots / apart
 
 -- a board: which table it is, and what it is about
 pub record BoardModel (W : Type 0) : Type 0 where
@@ -58,7 +63,8 @@ module _ {W : Type 0} where
 
   -- the board is about this world, with so many seats and slots
   abbrev pub IsBoardOf : W → ℕ → ℕ → BoardModel W → Type 0
-  IsBoardOf world seats slots board = (board.about ≡ record { world = world; seats = seats }) × (board.id.slots ≡ slots)
+  IsBoardOf world seats slots board =
+      (board.about ≡ record { world = world; seats = seats }) × (slots_of board.id ≡ slots)
 
   -- the seat is one of the board's
   abbrev pub IsSeatOf : BoardModel W → Sitting W → Type 0
@@ -95,8 +101,11 @@ module _ {W : Type 0} where
   times_by k (s ∷ ss) = times k s.view.mine + times_by k ss
 
 -- a table for so many cells
-abbrev pub IsTableFor : ℕ → TableId → Type 0
-IsTableFor count id = (id.words ≡ count + count + id.slots + 1) × (count < 2 ^ 32) × (id.slots < 2 ^ 32)
+pub record IsTableFor (count : ℕ) (id : TableId) : Type 0 where
+  pub words : id.words ≡ count + count + id.slots + 1
+  pub places : id.slots ≡ apart * slots_of id
+  pub few_cells : count < 2 ^ 32
+  pub few_slots : slots_of id < 2 ^ 32
 
 -- one cell for each word, which is empty or holds the word
 abbrev pub HasCells : List ℕ → List (Option ℕ) → Type 0

@@ -1,13 +1,13 @@
 //! Cells and slots that threads share. A cell is a value word and a full word: a post is a store of the value and then
 //! one compare-and-exchange of the full word, and a take is one load of the full word and, where that is 1, one of the
 //! value. A slot's turn word says whether its item is at home. No step waits for another thread.
-ghost use Rattle.std.specs.Prelude.{◌≡◌, ℕ, ◌+◌, ◌⊎◌, ◌<◌, ◌≤◌, ◌^◌, [], ◌∷◌, length, slice_get, Some};
+ghost use Rattle.std.specs.Prelude.{◌≡◌, ℕ, ◌+◌, ◌*◌, ◌/◌, ◌⊎◌, ◌<◌, ◌≤◌, ◌^◌, [], ◌∷◌, length, slice_get, Some};
 ghost use Rattle.std.specs.Prelude.{IfSome, IfNone, IfOk, IfErr, vec_len, vec_capacity};
 ghost use Rattle.message_board.specs.Words.{posted_as};
 
 use crate::cells::Posted;
 use crate::closed::ClosedBoard;
-use crate::room::{Room, fill, give_back, make_room, start_words};
+use crate::room::{APART, Room, fill, give_back, make_room, start_words};
 use crate::steps::{
     About, BoardRule, BringsHome, Finds, Posts, Promise, SlotItem, SplitSeats, Stores, Takes,
     TakesOut, View,
@@ -72,9 +72,10 @@ impl<W: Promise, T: SlotItem<W>> Board<W, T> {
     ghost use Rattle.atomic_table.specs.Table.{opening};
     ghost use Rattle.message_board.specs.Pairs.{Knows, Grows, times};
     ghost use Rattle.message_board.specs.Plain.{plain_cell};
+    ghost use Rattle.message_board.specs.Words.{apart};
     ghost use Rattle.message_board.specs.Rule.{IsBoard, posts, takes, brings_home, others, folds};
     ghost use Rattle.message_board.specs.Rule.{less_one, one_seat, newcomer};
-    ghost use Rattle.message_board.specs.Seats.{IsBoardOf, IsSeatOf, IsFreeSeatOf, IsPostAnswer};
+    ghost use Rattle.message_board.specs.Seats.{IsBoardOf, slots_of, IsSeatOf, IsFreeSeatOf, IsPostAnswer};
     ghost use Rattle.message_board.specs.Seats.{TookOut, FoundOut, AreFresh, AreSeatsOf, CanClose};
     ghost use Rattle.message_board.specs.Seats.{AreNewSeats, KnownBy, times_by, HasCells};
 
@@ -153,11 +154,12 @@ impl<W: Promise, T: SlotItem<W>> Board<W, T> {
         W: Drop,
         T: Drop,
         requires seats { 0 < about.seats }
-        requires few { (vec_len slots < 2 ^ 32) × (length (W.list about.world) < 2 ^ 32) }
+        requires few { (length (W.list about.world) < 2 ^ 32) × (vec_len slots / apart < 2 ^ 32) }
+        requires places { vec_len slots ≡ apart * (vec_len slots / apart) }
         requires words { vec_len start ≡ length (W.list about.world) + length (W.list about.world) + vec_len slots + 1 }
         requires rule { IsBoard W.list T.good T.posted about
             (opening start.items slots.items (newcomer about about.seats)) }
-        ensures board { IfOk result (λ r. (r.0.about ≡ about) × (r.0.id.slots ≡ vec_len slots)) }
+        ensures board { IfOk result (λ r. (r.0.about ≡ about) × (slots_of r.0.id ≡ vec_len slots / apart)) }
         ensures seat { IfOk result (λ r. IsSeatOf r.0 r.1 × (r.1.view ≡ newcomer about about.seats)) }
         ensures back { IfErr result (λ r. r.items ≡ slots.items) }
     {
@@ -250,16 +252,16 @@ impl<W: Promise, T: SlotItem<W>> Board<W, T> {
 
     /// How many slots there are, which are numbered from 0.
     pub fn slots(&self) -> u32
-        ensures { result ≡ self.now.id.slots }
+        ensures { result ≡ slots_of self.now.id }
     {
-        self.table.slot_count() as u32
+        (self.table.slot_count() / APART) as u32
     }
 
     /// The item of a slot, which the seat holds then, or nothing where the slot is out. Where the seat
     /// stands for all seats, it is out only with this seat.
     pub fn take_out(&self, seat: &mut BoardSeat<W, T>, slot: u32) -> Option<T>
         requires seat { IsSeatOf self.now seat.old }
-        requires inside { slot < self.now.id.slots }
+        requires inside { slot < slots_of self.now.id }
         ensures seat { IsSeatOf self.now seat.new }
         ensures found { IfSome result (TookOut T.good T.posted self.now.about.world seat.old seat.new slot) }
         ensures none { IfNone result (FoundOut W.list self.now seat.old seat.new slot) }
@@ -274,13 +276,13 @@ impl<W: Promise, T: SlotItem<W>> Board<W, T> {
         }
         self.table
             .shared
-            .exchange(&mut seat.seat, slot as usize, None)
+            .exchange(&mut seat.seat, APART * slot as usize, None)
     }
 
     /// Puts an item into the slot that the seat took last.
     pub fn bring_home(&self, seat: &mut BoardSeat<W, T>, slot: u32, item: T)
         requires seat { IsSeatOf self.now seat.old }
-        requires inside { slot < self.now.id.slots }
+        requires inside { slot < slots_of self.now.id }
         requires held { seat.old.view.out ≡ slot ∷ others seat.old.view.out }
         requires good { T.good self.now.about.world item slot }
         requires posts { Grows (T.posted self.now.about.world item) seat.old.view.seen }
@@ -291,7 +293,7 @@ impl<W: Promise, T: SlotItem<W>> Board<W, T> {
         let old = self
             .table
             .shared
-            .exchange(&mut seat.seat, slot as usize, Some(item));
+            .exchange(&mut seat.seat, APART * slot as usize, Some(item));
         let None = old else { unreachable!() };
         self.table
             .shared
@@ -357,9 +359,10 @@ impl<W: Promise, T: SlotItem<W>> Board<W, T> {
 
     // The place of a slot's turn word.
     fn turn_place(&self, slot: u32) -> usize
-        requires { slot < self.now.id.slots }
-        ensures { result ≡ length (W.list self.now.about.world) + length (W.list self.now.about.world) + slot + 1 }
+        requires { slot < slots_of self.now.id }
+        ensures { result
+            ≡ length (W.list self.now.about.world) + length (W.list self.now.about.world) + apart * slot + 1 }
     {
-        self.table.word_count() - self.table.slot_count() + slot as usize
+        self.table.word_count() - self.table.slot_count() + APART * slot as usize
     }
 }

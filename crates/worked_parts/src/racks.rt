@@ -1,6 +1,6 @@
 //! A rack of one item, for which two seats ask.
 ghost use Rattle.std.specs.Prelude.{◌≡◌, [], IfOk, IfSome};
-ghost use Rattle.message_board.specs.Seats.{AreNewSeats, IsSeatOf};
+ghost use Rattle.message_board.specs.Seats.{AreNewSeats, IsSeatOf, slots_of};
 
 use desk_rack::Rack;
 use message_board::{BoardSeat, Promise, SlotItem};
@@ -37,7 +37,7 @@ type ItemSeat = BoardSeat<NoWords, Item>;
 // A rack with the item 7 in its one slot, and its two seats.
 fn one_item(alloc: Global) -> Result<(ItemRack, Vec<ItemSeat>), Fail>
     ensures seats { IfOk result (λ r. AreNewSeats r.0 r.1.items) }
-    ensures slots { IfOk result (λ r. r.0.id.slots ≡ 1) }
+    ensures slots { IfOk result (λ r. slots_of r.0.id ≡ 1) }
 {
     let items = vec![in alloc; Item(7)]?;
     match Rack::make(alloc, NoWords, 0, 2, items) {
@@ -65,7 +65,7 @@ fn expect_one_holder(
 ) -> Result<(), Fail>
     requires first { IsSeatOf rack.now first.old }
     requires second { IsSeatOf rack.now second.old }
-    requires slots { rack.now.id.slots ≡ 1 }
+    requires slots { slots_of rack.now.id ≡ 1 }
 {
     let item = rack.take(first, 0).ok_or("the item is not at home")?;
     expect_same!(rt; item, Item(7));

@@ -1,11 +1,12 @@
 use Rattle.std.proofs.Common.{rules, ◌≡◌, ◌<◌, ◌≤◌, length, vec_len, vec_capacity, ap, sym, subst, ◌∙◌, arith}
 use Rattle.std.proofs.lemmas.List.{length-map}
 use Rattle.std.specs.Prelude.{slice_get}
+use Rattle.message_board.specs.Seats.{slots_of}
 use Rattle.message_board.specs.Pairs.{total_over}
 use Rattle.party_desk.specs.declared.desk.Desk.{Desk}
 use Rattle.party_desk.specs.Desks.{IsDesk}
 use Rattle.program_laws.specs.Lawful.{given_to}
-use Rattle.desk_laws.specs.Opening.{world_of_pieces}
+use Rattle.desk_laws.specs.Pieces.{world_of_pieces}
 use Rattle.desk_laws.proofs.OpenedDesks.{whole_is, new_desks}
 use Rattle.desk_workers.specs.Promises.{world_in}
 use Rattle.desk_workers.proofs.Boxes.{desk_in, desk_at}
@@ -50,7 +51,7 @@ returns-in-Ok-clause-ready c =
     let boxes : vec_len c.in_ok-items.items ≡ length c.in_ok-items.items.items = search rules in
     let many : vec_len c.in_ok-items.items ≡ length c.in_ok-opened.opened.items = boxes ∙ sym (length-map c.in_ok-items.items.items desk_in) ∙ ap length c.in_ok-items.ensures in
     let seats : length c.in-Ok.made.1.items ≡ c.args.workers = search rules in
-    let slots : c.in-Ok.made.0.id.slots ≡ vec_len c.in_ok-items.items = made.rack.1 in
+    let slots : slots_of c.in-Ok.made.0.id ≡ vec_len c.in_ok-items.items = made.rack.1 in
     let room : c.len.result ≤ vec_capacity c.in_ok-desks.desks = c.in_ok-desks.ensures.capacity in
     let asked : c.len.result ≡ vec_len c.in_ok-items.items = c.len.ensures in
     let last : 1 ≤ vec_capacity c.in_ok-last.last = c.in_ok-last.ensures.capacity in

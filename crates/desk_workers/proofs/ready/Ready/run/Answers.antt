@@ -1,6 +1,6 @@
 use Rattle.std.proofs.Common.{rules, ◌≡◌, ◌*◌, ◌<◌, ◌^◌, [], ◌∷◌, ◌++◌, length, ap, sym, subst, ◌∙◌, inl, arith}
 use Rattle.message_board.specs.Pairs.{total_over}
-use Rattle.message_board.specs.Seats.{KnownBy, AreSeatsOf, HasCells}
+use Rattle.message_board.specs.Seats.{KnownBy, AreSeatsOf, HasCells, slots_of}
 use Rattle.share_world.specs.Laws.{IsWhole}
 use Rattle.party_desk.specs.declared.desk.Desk.{Desk}
 use Rattle.desk_laws.specs.Pools.{AllEnded}
@@ -48,7 +48,7 @@ returns g c w same ready =
       whole = subst IsWhole (sym ready.world) ready.whole;
       slots = ready.slots ∙ ap (λ p. p.parties * length p.sessions) same;
     } in
-    let taken : length c.take_all-all.result.items ≡ board.id.slots = search rules in
+    let taken : length c.take_all-all.result.items ≡ slots_of board.id = search rules in
     subst (λ v. IsOver v o) ready.world
     (over c.args.plan.now board pool seen o
     (c.finish_all.ensures.count ∙ taken)

@@ -13,7 +13,7 @@ load-full-requires g c =
     let inside : c.args.number < length ws = subst (λ p. c.args.number < length (g.W.Promise.list p.about.world)) (sym c.self.view_is) c.requires.inside in
     let count : c.messages-messages.result ≡ length ws = c.messages-messages.ensures ∙ ap (λ p. length (g.W.Promise.list p.about.world)) (sym c.self.view_is) in (
       ap (λ s. s.id) c.seat.view_is ∙ c.requires.seat.0 ∙ sym (ap (λ p. p.id) c.self.view_is),
-      (let e = c.self.invariant.0 in omega arith),
+      (let e = c.self.invariant.words in omega arith),
       finds_keep_at _ _ _ _ _ _ _ _ c.seat.invariant.1 _ (ap (λ n. n + c.args.number + 1) count) inside,
     )
 
@@ -46,7 +46,7 @@ load-value-requires g c =
     let t = c.load-full.ensures.2 c.args.self.now.about c.args.number (ap (λ s. s.view.about) c.seat.view_is ∙ c.requires.seat.1) (ap (λ n. n + c.args.number + 1) c.messages-messages.ensures) in
     let e = full_some _ _ _ _ t.1 c.if-full-eq0.false in (
       c.load-full.ensures.0 ∙ ap (λ s. s.id) c.seat.view_is ∙ c.requires.seat.0 ∙ sym (ap (λ p. p.id) c.self.view_is),
-      (let z = c.self.invariant.0 in omega arith),
+      (let z = c.self.invariant.words in omega arith),
       takes_keep _ _ _ _ _ _ _ _ (subst (λ v. 0 < v.seats) (sym e) c.seat.invariant.1) (subst (λ v. Has v.full c.args.number) (sym e) (inl refl)),
     )
 
