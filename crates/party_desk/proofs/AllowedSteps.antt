@@ -14,8 +14,8 @@ use Rattle.party_program.specs.declared.program.Instruction.TheVariants.{Deal, P
 use Rattle.party_program.specs.Programs.{program, at}
 use Rattle.party_program.specs.States.{Given, State, slot_of, posted, state}
 use Rattle.party_program.specs.Proper.{Proper, IsGivenWord, HasInput, with_got}
-use Rattle.party_program.specs.Suiting.{Suits}
-use Rattle.party_program.specs.Standing.{IsPatternIn, IsProgram, StandsIn}
+use Rattle.party_program.specs.GivenData.{Suits}
+use Rattle.party_program.specs.ProgramPlaces.{IsPlace, IsProgram}
 use Rattle.party_program.proofs.StateReads.{state_same}
 use Rattle.program_laws.specs.WordsRead.{Carries, ReadsSummand}
 use Rattle.program_laws.proofs.SetWords.{reads_are_set}
@@ -80,8 +80,7 @@ goes_by l got d h same =
       session = h.session;
       own_program = h.own_program;
       instructions = h.instructions;
-      slot = h.slot;
-      pattern = h.pattern;
+      place = h.place;
       position = h.position;
       sent = h.sent;
       taken = h.taken;
@@ -114,18 +113,17 @@ module _ (l : Given) (d : Desk) (is_desk : IsDesk l d) where
     session = subst (λ z. z < length l.plan.sessions) (sym is_desk.session) suits.session;
     party = subst (λ z. z < l.plan.parties) (sym is_desk.party) suits.party;
     own_program = subst (λ z. IsProgram l.plan z d.session d.program) (sym is_desk.party) (subst (λ z. IsProgram l.plan l.party z d.program) (sym is_desk.session) is_desk.own_program);
-    slot = subst (λ z. StandsIn l.plan z d.session d.slot d.position) (sym is_desk.party) (subst (λ z. StandsIn l.plan l.party z d.slot d.position) (sym is_desk.session) is_desk.slot);
-    pattern = subst (λ z. IsPatternIn l.plan z d.slot d.pattern) (sym is_desk.session) is_desk.pattern;
+    place = subst (λ z. IsPlace l.plan z d.session d.place d.position) (sym is_desk.party) (subst (λ z. IsPlace l.plan l.party z d.place d.position) (sym is_desk.session) is_desk.place);
     position = (let a : d.position ≤ length (program l.plan l.party l.session) = is_desk.position in let b : length (program l.plan l.party l.session) < 4294967295 = program_is_short l.plan suits.sound l.party l.session in omega arith);
     sent = (let a : d.sent ≡ posts_before (program l.plan l.party l.session) d.position = is_desk.sent in let b = posts_few (program l.plan l.party l.session) d.position in omega arith);
     taken = (let a : d.taken ≡ takes_before (program l.plan l.party l.session) d.position = is_desk.taken in let b = takes_few (program l.plan l.party l.session) d.position in omega arith);
     fits = subst (λ z. IsMemoryOf l.plan z d.memory) (sym is_desk.session) is_desk.fits;
   }
 
-  names : (j : Instruction) → i ≡ j → NamesSlot l.plan j d.slot
-  names j e = names_slot l.plan suits.sound l.session l.party suits.session suits.party d.slot d.position is_desk.slot j e
+  names : (j : Instruction) → i ≡ j → NamesSlot l.plan j d.place.slot
+  names j e = names_slot l.plan suits.sound l.session l.party suits.session suits.party d.place.slot d.position is_desk.place.stands j e
 
-  pub names_own : NamesSlot l.plan i d.slot
+  pub names_own : NamesSlot l.plan i d.place.slot
   names_own = names i refl
 
   -- ---- the memory allows what the cells allow
@@ -230,13 +228,10 @@ module _ {C : Type 0} (cells : Meaning C) (plan : Plan) (c : C) (l : Given) (d :
       let h = may_stand.own_program in
       subst (λ z. IsProgram plan z d.program.session d.program) (sym h.of_party) (subst (λ z. IsProgram plan d.party z d.program) (sym h.of_session) h)
 
-  pub may_slot : StandsIn plan d.program.party d.program.session d.slot d.position
-  may_slot =
+  pub may_place : IsPlace plan d.program.party d.program.session d.place d.position
+  may_place =
       let h = may_stand.own_program in
-      subst (λ z. StandsIn plan z d.program.session d.slot d.position) (sym h.of_party) (subst (λ z. StandsIn plan d.party z d.slot d.position) (sym h.of_session) may_stand.slot)
+      subst (λ z. IsPlace plan z d.program.session d.place d.position) (sym h.of_party) (subst (λ z. IsPlace plan d.party z d.place d.position) (sym h.of_session) may_stand.place)
 
-  pub may_pattern : IsPatternIn plan d.program.session d.slot d.pattern
-  may_pattern = subst (λ z. IsPatternIn plan z d.slot d.pattern) (sym may_stand.own_program.of_session) may_stand.pattern
-
-  pub may_here : (j : Instruction) → j ≡ at (program plan d.program.party d.program.session) d.position → NamesSlot plan j d.slot
-  may_here j e = subst (λ z. NamesSlot z j d.slot) may.same (subst (λ z. NamesSlot l.plan z d.slot) (sym (own j e)) (names_own l d may.desk))
+  pub may_here : (j : Instruction) → j ≡ at (program plan d.program.party d.program.session) d.position → NamesSlot plan j d.place.slot
+  may_here j e = subst (λ z. NamesSlot z j d.place.slot) may.same (subst (λ z. NamesSlot l.plan z d.place.slot) (sym (own j e)) (names_own l d may.desk))

@@ -1,14 +1,13 @@
 -- A step keeps a desk where its program leaves it.
 use Rattle.std.proofs.Common.{◌≡◌, ℕ, suc, ◌+◌, ◌-◌, ◌*◌, ◌%◌, ◌<◌, ◌^◌, nat_eq, if◌then◌else◌, length, drop, refl, sym, ap, ap₂, ◌∙◌, subst, arith}
-use Rattle.std.specs.Prelude.{slice_index, Some}
+use Rattle.std.specs.Prelude.{slice_index}
 use Rattle.std.proofs.lemmas.List.{get_or-drop, drop-drop}
 use Rattle.std.proofs.lemmas.Bool.{cases_eq}
 use mathlib.Core.Logic.{inl, inr}
 use Rattle.circuit_model.specs.Circuits.{set_at}
-use Rattle.circuit_model.specs.declared.gate.Gate.{Gate}
-use Rattle.secret_sharing.specs.Sharing.{Scheme, dealt, own_product, local}
+use Rattle.secret_sharing.specs.Schemes.{Scheme, own_product}
 use Rattle.job_session.specs.Sessions.{Slot}
-use Rattle.job_plan.specs.Plans.{Plan, holds, scheme, session, slot}
+use Rattle.job_plan.specs.Plans.{session, slot}
 use Rattle.job_session.specs.Sessions.Slot.{Input, At_gate, Output}
 use Rattle.job_session.specs.KeptWires.{IsRowTable}
 use Rattle.std.specs.Arc.{arc_value}
@@ -17,10 +16,10 @@ use Rattle.list_laws.proofs.Totals.{total_eq}
 use Rattle.party_program.specs.declared.program.Instruction.{Instruction}
 use Rattle.party_program.specs.declared.program.Instruction.TheVariants.{Deal, Post, Take, Linear, Own, Sum, Deliver, End}
 use Rattle.party_desk.specs.declared.desk.Desk.{Desk}
-use Rattle.party_program.specs.Programs.{program, at}
+use Rattle.party_program.specs.Programs.{program}
 use Rattle.party_desk.specs.Rows.{row, SameRow, SameRows}
-use Rattle.party_program.specs.Standing.{IsPatternIn, IsProgram, StandsIn}
-use Rattle.party_program.specs.Suiting.{Suits}
+use Rattle.party_program.specs.ProgramPlaces.{IsPlace, IsProgram}
+use Rattle.party_program.specs.GivenData.{Suits}
 use Rattle.party_program.specs.States.{Given, State, slot_of, state, next, word_of, dealt_in, took_in}
 use Rattle.party_desk.specs.declared.memory.Memory.{Memory}
 use Rattle.party_desk.specs.Memories.{state_of, row_of, Alike, IsMemoryOf}
@@ -134,8 +133,7 @@ module _ (l : Given) (d e : Desk) (w : ℕ) (h : IsDesk l d) (proper : Proper l.
     session = a.session ∙ h.session;
     own_program = subst (IsProgram l.plan l.party l.session) (sym a.program) h.own_program;
     instructions = a.instructions ∙ h.instructions;
-    slot = subst (λ z. StandsIn l.plan z l.session e.slot e.position) h.party (subst (λ z. StandsIn l.plan d.party z e.slot e.position) h.session a.slot);
-    pattern = subst (λ z. IsPatternIn l.plan z e.slot e.pattern) h.session a.pattern;
+    place = subst (λ z. IsPlace l.plan z l.session e.place e.position) h.party (subst (λ z. IsPlace l.plan d.party z e.place e.position) h.session a.place);
     position = omega (arith, more, inside);
     sent = a.sent ∙ ap (λ x. x + posts_in i) h.sent ∙ ap (posts_before (program l.plan l.party l.session)) (sym more);
     taken = a.taken ∙ ap (λ x. x + takes_in i) h.taken ∙ ap (takes_before (program l.plan l.party l.session)) (sym more);

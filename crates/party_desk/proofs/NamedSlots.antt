@@ -1,8 +1,7 @@
 -- The slot in which an instruction stands is that of the message that it names.
-use Rattle.std.proofs.Common.{◌≡◌, ◌≢◌, ℕ, suc, ◌+◌, ◌<◌, ◌≤◌, length, refl, sym, ap, ◌∙◌, subst, arith}
+use Rattle.std.proofs.Common.{◌≡◌, ℕ, suc, ◌+◌, ◌<◌, ◌≤◌, length, sym, subst, arith}
 use Rattle.std.proofs.lemmas.Bool.{cases_eq, cases_lt}
 use mathlib.Core.Logic.{inl, inr}
-use Rattle.list_laws.specs.Lists.{joined}
 use Rattle.list_laws.proofs.JoinedLists.{length-joined}
 use Rattle.job_plan.specs.Plans.{Plan, slots}
 use Rattle.job_plan.specs.Numbers.{message}
@@ -10,8 +9,8 @@ use Rattle.job_plan.specs.Sound.{IsSound}
 use Rattle.party_program.specs.declared.program.Instruction.{Instruction}
 use Rattle.party_program.specs.declared.program.Instruction.TheVariants.{Deal, Post, Take, Linear, Own, Sum, Deliver, End}
 use Rattle.party_program.specs.Programs.{program, slot_program, at}
-use Rattle.party_program.specs.Standing.{StandsIn, instructions_before}
-use Rattle.party_program.proofs.ProgramPlaces.{before_more, before_rises}
+use Rattle.party_program.specs.ProgramPlaces.{StandsIn, instructions_before}
+use Rattle.party_program.proofs.ProgramPlaces.{before_rises}
 use Rattle.program_laws.specs.Once.{InSlot, StandsOnce}
 use Rattle.program_laws.proofs.OncePosted.{once}
 use Rattle.program_laws.proofs.ProperPrograms.{proper_at}

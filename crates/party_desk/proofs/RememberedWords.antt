@@ -1,5 +1,5 @@
 -- What a desk remembers after an instruction.
-use Rattle.std.proofs.Common.{◌≡◌, ℕ, zero, suc, ◌+◌, ◌-◌, ◌*◌, ◌%◌, ◌<◌, ◌≢◌, ◌^◌, true, false, nat_eq, if◌then◌else◌, length, refl, sym, ap, ap₂, ◌∙◌, subst, arith}
+use Rattle.std.proofs.Common.{◌≡◌, ℕ, zero, suc, ◌+◌, ◌*◌, ◌%◌, ◌<◌, ◌≢◌, ◌^◌, true, false, nat_eq, if◌then◌else◌, length, refl, sym, ap, ap₂, ◌∙◌, subst, arith}
 use Rattle.std.specs.Prelude.{slice_index, take, List, [], ◌∷◌, Some}
 use Rattle.std.specs.List.{list_any}
 use Rattle.std.proofs.lemmas.Bool.{cases_eq, cases_Bool, cond-true, cond-false, ne_eqb, both_ways}
@@ -12,7 +12,7 @@ use Rattle.circuit_model.specs.declared.gate.Gate.{Gate}
 use Rattle.circuit_model.specs.declared.gate.Operation.{Operation}
 use Rattle.circuit_model.specs.declared.gate.Operation.TheVariants.{Add, Sub, Neg, Mul, Xor, And, Inv, Eq, Eqw}
 use Rattle.mpc_ring.specs.Differences.{difference}
-use Rattle.secret_sharing.specs.Sharing.{Scheme, IsScheme, dealt, own_product, local}
+use Rattle.secret_sharing.specs.Schemes.{Scheme, IsScheme, dealt, own_product, local}
 use Rattle.job_session.specs.Sessions.{Session, Slot, output_wire}
 use Rattle.job_plan.specs.Plans.{IsPlan, Plan, holds, scheme, session, slot}
 use Rattle.job_session.specs.Sessions.Slot.{Input, At_gate, Output}

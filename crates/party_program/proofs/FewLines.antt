@@ -3,7 +3,7 @@ use Rattle.std.proofs.Common.{◌≡◌, ℕ, zero, suc, ◌+◌, ◌*◌, ◌�
 use Rattle.std.proofs.lemmas.Nat.{mul-le}
 use Rattle.list_laws.specs.Lists.{total, joined, only_if}
 use Rattle.list_laws.proofs.JoinedLists.{length-joined}
-use Rattle.secret_sharing.specs.Sharing.{has_pair}
+use Rattle.secret_sharing.specs.Schemes.{has_pair}
 use Rattle.party_set.specs.Parties.{has_party}
 use Rattle.job_plan.specs.declared.pattern.Line.{Line}
 use Rattle.job_plan.specs.declared.pattern.Pattern.{Pattern}

@@ -7,7 +7,7 @@ use Rattle.std.proofs.lemmas.List.{map-append, length-map, get_or-map}
 use mathlib.Core.Logic.{inl, inr}
 use Rattle.list_laws.specs.Lists.{only_if}
 use Rattle.circuit_model.specs.Circuits.{is_product}
-use Rattle.secret_sharing.specs.Sharing.{has_pair}
+use Rattle.secret_sharing.specs.Schemes.{has_pair}
 use Rattle.job_plan.specs.declared.key.Key.{Key}
 use Rattle.job_plan.specs.declared.pattern.Line.{Line}
 use Rattle.job_plan.specs.declared.pattern.Pattern.{Pattern}

@@ -1,7 +1,7 @@
 -- The patterns of a session's slots.
 use Rattle.std.proofs.Common.{◌≡◌, ℕ, ◌<◌, Bool, true, false, ◌&&◌, if◌then◌else◌, List, length, refl, sym, ap, ◌∙◌, subst}
 use Rattle.circuit_model.specs.Circuits.{is_product}
-use Rattle.secret_sharing.specs.Sharing.{has_pair}
+use Rattle.secret_sharing.specs.Schemes.{has_pair}
 use Rattle.job_plan.specs.declared.pattern.Pattern.{Pattern}
 use Rattle.job_plan.specs.declared.pattern.Pattern.TheVariants.{Silent, Multiplied}
 use Rattle.job_session.specs.Sessions.{Slot, gate}
@@ -13,7 +13,7 @@ use Rattle.job_session.proofs.SessionSlots.{slot_cases}
 use Rattle.party_program.specs.declared.step.Step.{Step}
 use Rattle.party_program.specs.declared.step_table.StepTable.{StepTable}
 use Rattle.party_program.specs.PartySteps.{deals_in_pattern, steps}
-use Rattle.party_program.specs.Standing.{AreSteps, OccursIn}
+use Rattle.party_program.specs.ProgramPlaces.{AreSteps, OccursIn}
 
 module _ (plan : Plan) (s : ℕ) where
   gate_occurs : (b : Bool) → Occurs plan (if b then Multiplied else Silent)

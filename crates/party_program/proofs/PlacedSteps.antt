@@ -5,7 +5,7 @@ use Rattle.std.specs.List.{AllByRecursion, filter, enumerate_from}
 use Rattle.std.proofs.lemmas.Bool.{cases_Bool, cond-true, cond-false}
 use mathlib.Core.Logic.{inl, inr}
 use Rattle.list_laws.proofs.JoinedLists.{every_append, every_only_if}
-use Rattle.secret_sharing.specs.Sharing.{has_pair}
+use Rattle.secret_sharing.specs.Schemes.{has_pair}
 use Rattle.party_set.specs.Parties.{has_party}
 use Rattle.job_plan.specs.declared.pattern.Line.{Line}
 use Rattle.job_plan.specs.declared.pattern.Pattern.{Pattern}

@@ -1,8 +1,8 @@
 -- What stands where in a program.
-use Rattle.std.proofs.Common.{true, false, nat_le, leb-true, leb-false, ◌^◌, ◌≡◌, ℕ, ◌+◌, ◌-◌, ◌<◌, ◌≤◌, List, length, sym, ap, ◌∙◌, subst, arith}
+use Rattle.std.proofs.Common.{true, false, nat_le, nat_lt, leb-true, leb-false, ◌^◌, ◌≡◌, ℕ, ◌+◌, ◌-◌, ◌<◌, ◌≤◌, List, length, sym, ap, ◌∙◌, subst, arith}
 use Rattle.std.specs.Prelude.{slice_index_or}
 use Rattle.std.specs.List.Sorted.{IsPartitionPoint, IsNonDecreasingBy}
-use Rattle.std.proofs.lemmas.Bool.{cases_eq, cases_lt}
+use Rattle.std.proofs.lemmas.Bool.{cases_eq, cases_lt, cond-true, cond-false, lt-ltb, le-ltb}
 use Rattle.std.proofs.lemmas.List.{length-map, get_or-map, get_or_past}
 use mathlib.Core.Logic.{inl, inr}
 use Rattle.list_laws.proofs.Totals.{total_more}
@@ -17,11 +17,12 @@ use Rattle.party_program.specs.declared.program.Instruction.{Instruction}
 use Rattle.party_program.specs.declared.program.Instruction.TheVariants.{End}
 use Rattle.party_program.specs.declared.starts.SlotStart.{SlotStart}
 use Rattle.party_program.specs.declared.program.Program.{Program}
+use Rattle.party_program.specs.declared.place.Place.{Place}
 use Rattle.party_program.specs.declared.step.Step.{Step}
 use Rattle.party_program.specs.declared.step.Step.TheVariants.{Deal, Own, Post, Take, Linear, Sum, Deliver}
 use Rattle.party_program.specs.Programs.{slot_program, program, at}
 use Rattle.party_program.specs.PartySteps.{steps, placed, IsPlaced}
-use Rattle.party_program.specs.Standing.{instructions_before, StandsIn, start_of, IsProgram}
+use Rattle.party_program.specs.ProgramPlaces.{instructions_before, count_in, StandsIn, start_of, IsPlace, IsProgram}
 use Rattle.party_program.proofs.FollowedPatterns.{slot_program_follows}
 use Rattle.party_program.proofs.FewLines.{few_lines}
 use Rattle.party_program.proofs.PlacedSteps.{steps_placed}
@@ -29,8 +30,8 @@ use Rattle.party_program.proofs.PlacedSteps.{steps_placed}
 placed_within : (n m : ℕ) (step : Step) → n ≤ m → IsPlaced n step → IsPlaced m step
 placed_within n m Deal l h = tt
 placed_within n m Own l h = tt
-placed_within n m (Post place share) l h = omega arith
-placed_within n m (Take place share) l h = omega arith
+placed_within n m (Post share place) l h = omega arith
+placed_within n m (Take share place) l h = omega arith
 placed_within n m Linear l h = tt
 placed_within n m Sum l h = tt
 placed_within n m Deliver l h = tt
@@ -89,6 +90,39 @@ module _ (plan : Plan) (p s : ℕ) where
         let before = first_within plan s k ls (omega arith) in
         let messages = sound.few_messages in
         placed_within _ _ (slice_index_or (steps_at k) i d) (omega arith) (steps_placed plan p (pattern_at plan s k) i d l)
+
+  -- how many instructions stand in a slot, and behind the last one
+  pub count_at : (k : ℕ) → k < slots plan s → count_in plan p s k ≡ length (slot_program plan p s k)
+  count_at k l = cond-true (nat_lt k (slots plan s)) (length (slot_program plan p s k)) 0 (lt-ltb k (slots plan s) l)
+
+  pub count_past : (k : ℕ) → slots plan s ≤ k → count_in plan p s k ≡ 0
+  count_past k l = cond-false (nat_lt k (slots plan s)) (length (slot_program plan p s k)) 0 (le-ltb k (slots plan s) l)
+
+  module _ (place : Place) (q : ℕ) (here : IsPlace plan p s place q) where
+    -- a place whose slot has steps left is in a slot
+    pub in_slot : place.done < place.count → place.slot < slots plan s
+    in_slot left = elim (cases_lt place.slot (slots plan s)) [
+      | inl l ↦ l
+      | inr past ↦ absurd (let none : place.count ≡ 0 = here.count ∙ count_past place.slot past in omega arith)
+    ]
+
+    -- how far into its slot the position stands
+    pub done_is : place.done ≡ q - instructions_before plan p s place.slot
+    done_is = let d : q ≡ instructions_before plan p s place.slot + place.done = here.done in omega arith
+
+    -- a place whose slot has none left is past all instructions
+    pub ends_there : place.count ≤ place.done → at (program plan p s) q ≡ End
+    ends_there none = elim (cases_lt place.slot (slots plan s)) [
+      | inl l ↦ absurd (
+          let within : q < instructions_before plan p s (place.slot + 1) = here.stands.within l in
+          let more = before_more place.slot in
+          let count : place.count ≡ length (slot_program plan p s place.slot) = here.count ∙ count_at place.slot l in
+          let d : q ≡ instructions_before plan p s place.slot + place.done = here.done in
+          omega arith)
+      | inr past ↦
+          let last : place.slot ≡ slots plan s = omega (arith, past, here.stands.slot) in
+          past_end q (subst (λ k. StandsIn plan p s k q) last here.stands)
+    ]
 
   -- what the table of starts has
   pub start_at : (program : Program) (k : ℕ) (d : SlotStart) → IsProgram plan p s program → k ≤ slots plan s → slice_index_or program.starts.items k d ≡ start_of plan p s k

@@ -15,7 +15,7 @@ use Rattle.job_plan.proofs.SlotMessages.{first_within}
 use Rattle.party_program.specs.declared.program.Instruction.{Instruction}
 use Rattle.party_program.specs.declared.program.Instruction.TheVariants.{Deal, Own, Linear, Sum, Deliver}
 use Rattle.party_program.specs.Programs.{opening, closing, posts, takes, slot_program, from, to, post, take_of}
-use Rattle.party_program.specs.Standing.{instructions_before}
+use Rattle.party_program.specs.ProgramPlaces.{instructions_before}
 
 only_short : (b : Bool) (xs : List Instruction) → length (only_if b xs) ≤ length xs
 only_short true xs = omega arith

@@ -2,7 +2,7 @@
 use Rattle.std.specs.Prelude.{ℕ, ◌+◌, ◌<◌, Bool, false, nat_eq, List, [], ◌∷◌, ◌++◌, map, filter}
 use Rattle.std.specs.List.{enumerate_from}
 use Rattle.list_laws.specs.Lists.{only_if}
-use Rattle.secret_sharing.specs.Sharing.{has_pair}
+use Rattle.secret_sharing.specs.Schemes.{has_pair}
 use Rattle.party_set.specs.Parties.{has_party}
 use Rattle.job_plan.specs.declared.pattern.Line.{Line}
 use Rattle.job_plan.specs.declared.pattern.Pattern.{Pattern}
@@ -30,11 +30,11 @@ deals_in_pattern plan p (Opened readers) = false
 
 -- the post of a line with its place in the pattern, and the take
 abbrev pub post_step : ℕ × Line → Step
-post_step entry = Post entry.0 entry.1.share
+post_step entry = Post entry.1.share entry.0
 
 -- the take of a line
 abbrev pub take_step : ℕ × Line → Step
-take_step entry = Take entry.0 entry.1.share
+take_step entry = Take entry.1.share entry.0
 
 -- whether p is the sender of the line, or its receiver
 abbrev pub is_from : ℕ → ℕ × Line → Bool
@@ -68,14 +68,14 @@ steps plan p pattern =
 abbrev pub placed : ℕ → ℕ → ℕ → Step → Instruction
 placed k first deals Deal = instruction.Deal k deals
 placed k first deals Own = instruction.Own k
-placed k first deals (Post place share) = instruction.Post (first + place) share
-placed k first deals (Take place share) = instruction.Take (first + place) share
+placed k first deals (Post share place) = instruction.Post (first + place) share
+placed k first deals (Take share place) = instruction.Take (first + place) share
 placed k first deals Linear = instruction.Linear k
 placed k first deals Sum = instruction.Sum k
 placed k first deals Deliver = instruction.Deliver k
 
 -- a message that the step names is one of so many
 abbrev pub IsPlaced : ℕ → Step → Type 0
-IsPlaced count (Post place share) = place < count
-IsPlaced count (Take place share) = place < count
+IsPlaced count (Post share place) = place < count
+IsPlaced count (Take share place) = place < count
 IsPlaced count _ = Unit {0}

@@ -1,10 +1,10 @@
 //! Where the instructions of each slot begin.
 ghost use Rattle.std.specs.Prelude.{◌≡◌, ℕ, ◌<◌, IfOk, length};
-ghost use Rattle.secret_sharing.specs.Sharing.{has_pair};
+ghost use Rattle.secret_sharing.specs.Schemes.{has_pair};
 ghost use Rattle.job_plan.specs.Plans as plans;
 ghost use Rattle.job_plan.specs.Plans.{scheme};
 ghost use Rattle.party_program.specs.PartySteps.{deals_in_pattern};
-ghost use Rattle.party_program.specs.Standing.{AreSteps, slot_starts};
+ghost use Rattle.party_program.specs.ProgramPlaces.{AreSteps, slot_starts};
 
 use crate::step_table::StepTable;
 use job_plan::{Pattern, Plan};
@@ -39,12 +39,12 @@ pub(crate) fn list_starts(
     };
     let multiplies = plan.multiplies(p);
     for k in 0..slots {
-        list.push(start)?;
+        list.push_reserved(start);
         let pattern = plan.pattern(s, k);
         start.instructions += steps.of(pattern).len() as u32;
         start.deals += u32::from(deals_in(pattern, p, multiplies));
     }
-    list.push(start)?;
+    list.push_reserved(start);
     Ok(list)
 }
 

@@ -9,9 +9,9 @@ pub enum Step {
     /// Forms the own product.
     Own,
     /// Posts the word of a message.
-    Post { place: u16, share: u8 },
+    Post { share: u8, place: u16 },
     /// Takes the word of a message.
-    Take { place: u16, share: u8 },
+    Take { share: u8, place: u16 },
     /// Computes a gate that needs no message.
     Linear,
     /// Moves the sums of a product to its wire.

@@ -5,7 +5,7 @@ ghost use Rattle.job_plan.specs.declared.pattern.Pattern.TheVariants.{Dealt, Ope
 ghost use Rattle.job_plan.specs.Plans.{slots};
 ghost use Rattle.job_plan.specs.Patterns.{pattern_at};
 ghost use Rattle.party_program.specs.PartySteps.{steps};
-ghost use Rattle.party_program.specs.Standing.{AreOpenings, HasOpening};
+ghost use Rattle.party_program.specs.ProgramPlaces.{AreOpenings, HasOpening};
 
 use crate::list_steps::list_steps;
 use crate::step::Step;
@@ -28,7 +28,7 @@ impl StepTable {
     ghost use Rattle.std.specs.Prelude.{◌≡◌, ℕ, ◌<◌, IfOk, length};
     ghost use Rattle.job_plan.specs.Plans as plans;
     ghost use Rattle.party_program.specs.PartySteps.{steps};
-    ghost use Rattle.party_program.specs.Standing.{AreSteps, OccursIn};
+    ghost use Rattle.party_program.specs.ProgramPlaces.{AreSteps, OccursIn};
 
     /// The steps of party `p` in session `s`.
     pub(crate) fn make(alloc: Global, plan: &Plan, p: u32, s: u32) -> Result<StepTable, AllocError>
@@ -59,6 +59,19 @@ impl StepTable {
             Pattern::Dealt(dealer) => self.dealt[dealer as usize].as_slice(),
             Pattern::Multiplied => self.multiplied.as_slice(),
             Pattern::Opened(readers) => self.opening(readers),
+        }
+    }
+
+    /// How many steps the party has in a slot of a gate; of another pattern it tells nothing.
+    pub(crate) fn gate_count(&self, pattern: Pattern) -> usize
+        requires { (plan : plans.Plan) × (p s : ℕ) × AreSteps plan p s self.now × OccursIn plan s pattern }
+        ensures { (plan : plans.Plan) (p s : ℕ) → AreSteps plan p s self.now → 0 < result
+            → result ≡ length (steps plan p pattern) }
+    {
+        match pattern {
+            Pattern::Silent => self.silent.as_slice().len(),
+            Pattern::Multiplied => self.multiplied.as_slice().len(),
+            Pattern::Dealt(_) | Pattern::Opened(_) => 0,
         }
     }
 

@@ -19,4 +19,4 @@ loop-place-preserved c =
     let none : Line = record { share = 0; sender = 0; receiver = 0 } in
     let line = slice_index_or c.lines-lines.result.now c.loop-place.place none in
     passing_step take_step (is_to c.args.p) c.lines-lines.result.now c.loop-place.place none c.args.list.now c.loop-place.list _ c.loop-place-test.true c.loop-place.invariant
-    (c.in_ok-push_if.ensures ∙ ap (λ n. c.loop-place.list ++ only_if (nat_eq n c.args.p) (Take c.loop-place.place line.share ∷ [])) c.from.ensures)
+    (c.in_ok-push_if.ensures ∙ ap (λ n. c.loop-place.list ++ only_if (nat_eq n c.args.p) (Take line.share c.loop-place.place ∷ [])) c.from.ensures)

@@ -1,11 +1,13 @@
-use Rattle.std.proofs.Common.{◌≡◌, Bool, true, false, refl, ◌+◌, ◌<◌, ◌≤◌, if◌then◌else◌, length, ap, ap₂, ◌∙◌, arith}
+use Rattle.std.proofs.Common.{rules, ◌≡◌, Bool, true, false, refl, ◌+◌, ◌<◌, ◌≤◌, if◌then◌else◌, length, ap, ap₂, ◌∙◌, arith}
 use Rattle.std.specs.Int.{from_bool}
+use Rattle.std.specs.Vec.{vec_len}
+use Rattle.list_laws.proofs.JoinedLists.{length-listed}
 use Rattle.list_laws.proofs.Totals.{total_more}
 use Rattle.job_plan.specs.Plans.{slot, slots, deals_in}
 use Rattle.job_plan.proofs.GrownLists.{listed_push}
 use Rattle.party_program.specs.declared.step.Step.{Step}
 use Rattle.party_program.specs.PartySteps.{deals_in_pattern}
-use Rattle.party_program.specs.Standing.{start_of}
+use Rattle.party_program.specs.ProgramPlaces.{start_of}
 use Rattle.party_program.proofs.OccurringPatterns.{steps_found, deals_by_pattern}
 use Rattle.party_program.proofs.ProgramPlaces.{before_more, length-slot}
 use Rattle.party_program.proofs.ShortPrograms.{few_instructions}
@@ -63,8 +65,24 @@ loop-k-preserved c =
     ∙ ap (λ b. if b then 1 else 0) (c.deals_in.ensures plan c.multiplies-multiplies.ensures ∙ ap (deals_in_pattern plan p) c.pattern-pattern.ensures.is ∙ deals_by_pattern plan s p (slot plan s k)) in
     let one = one_most (deals_in plan s p (slot plan s k)) in
     record {
-      starts = c.in_ok-push.ensures.items ∙ listed_push k (start_of plan p s) c.loop-k.list.items c.loop-k.start before.starts (ap₂ (λ n d. record { instructions = n; deals = d }) before.instructions before.deals);
+      starts = c.push_reserved.ensures.items ∙ listed_push k (start_of plan p s) c.loop-k.list.items c.loop-k.start before.starts (ap₂ (λ n d. record { instructions = n; deals = d }) before.instructions before.deals);
       instructions = omega arith;
       deals = omega arith;
       few = omega arith;
+      room = (let capacity = c.push_reserved.ensures.capacity in let room = before.room in omega arith);
     }
+
+pub push_reserved-requires : goal.push_reserved-requires
+push_reserved-requires c =
+    let kept = c.loop-k.invariant in
+    let all : vec_len c.loop-k.list ≡ length c.loop-k.list.items = search rules in
+    let long = ap length kept.starts ∙ length-listed c.loop-k.k (start_of c.args.plan.now c.args.p c.args.s) in
+    let lk : c.loop-k.k < slots c.args.plan.now c.args.s = omega (arith, c.slots-slots.ensures) in
+    omega (arith, kept.room)
+
+pub push_reserved-requires-2 : goal.push_reserved-requires-2
+push_reserved-requires-2 c =
+    let kept = c.loop-k.invariant in
+    let all : vec_len c.loop-k.list ≡ length c.loop-k.list.items = search rules in
+    let long = ap length kept.starts ∙ length-listed c.loop-k.k (start_of c.args.plan.now c.args.p c.args.s) in
+    omega (arith, kept.room, c.slots-slots.ensures)

@@ -1,7 +1,7 @@
 use Rattle.std.proofs.Common.{◌≡◌, ℕ, ◌<◌}
 use Rattle.job_plan.specs.declared.pattern.Pattern.TheVariants.{Opened}
 use Rattle.job_plan.specs.Patterns.{pattern_at}
-use Rattle.party_program.specs.Standing.{HasOpening, AreOpenings}
+use Rattle.party_program.specs.ProgramPlaces.{HasOpening, AreOpenings}
 use Rattle.party_program.proofs.step_table.openings_of_each.Given as goal
 
 -- the openings of the slots so far

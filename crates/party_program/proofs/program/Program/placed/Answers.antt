@@ -1,14 +1,23 @@
-use Rattle.std.proofs.Common.{◌-◌, ◌^◌, subst, arith}
-use Rattle.job_plan.specs.Firsts.{first}
-use Rattle.party_program.specs.PartySteps.{IsPlaced}
+use Rattle.std.proofs.Common.{rules, ◌≡◌, length, ap, ◌∙◌, sym, arith}
+use Rattle.std.specs.Vec.{vec_len}
+use Rattle.party_program.specs.declared.starts.SlotStart.{SlotStart}
+use Rattle.party_program.specs.declared.program.Instruction.TheVariants.{Deal}
+use Rattle.party_program.specs.PartySteps.{placed}
+use Rattle.job_plan.specs.Numbers.{deals_before}
+use Rattle.party_program.proofs.ProgramPlaces.{start_at, length-starts}
 use Rattle.party_program.proofs.program.Program.placed.Goals as goal
 
-pub overflow_add-result : goal.overflow_add-result
-overflow_add-result c =
-    let fits = subst (IsPlaced (2 ^ 32 - first c.args.plan.now c.args.self.now.session c.args.slot)) c.in-Post.is c.requires.place in
-    omega (arith, c.first.ensures.is)
+pub index-requires : goal.index-requires
+index-requires c =
+    let program = c.args.self.now in
+    let long = length-starts c.args.plan.now program.party program.session program c.requires.is in
+    let same : vec_len program.starts ≡ length program.starts.items = search rules in
+    omega (arith, c.requires.slot)
 
-pub overflow_add-result-in-Take : goal.overflow_add-result-in-Take
-overflow_add-result-in-Take c =
-    let fits = subst (IsPlaced (2 ^ 32 - first c.args.plan.now c.args.self.now.session c.args.slot)) c.in-Take.is c.requires.place in
-    omega (arith, c.first-in-Take.ensures.is)
+pub returns-in-Deal : goal.returns-in-Deal
+returns-in-Deal c =
+    let plan = c.args.plan.now in
+    let program = c.args.self.now in
+    let k = c.args.place.slot in
+    let start = ap (λ (x : SlotStart). x.deals) (c.index.ensures ∙ start_at plan program.party program.session program k c.index.result.now c.requires.is (omega (arith, c.requires.slot))) in
+    ap (Deal k) start ∙ ap (placed k c.args.place.first (deals_before plan program.party program.session k)) (sym c.in-Deal.is)

@@ -5,7 +5,7 @@ use Rattle.list_laws.proofs.JoinedLists.{length-listed, listed_at}
 use Rattle.job_plan.specs.declared.pattern.Pattern.TheVariants.{Dealt}
 use Rattle.job_plan.specs.Patterns.{Occurs}
 use Rattle.party_program.specs.PartySteps.{steps}
-use Rattle.party_program.specs.Standing.{OccursIn}
+use Rattle.party_program.specs.ProgramPlaces.{OccursIn}
 use Rattle.party_program.proofs.step_table.StepTable.of.Goals as goal
 
 pub index-requires : goal.index-requires

@@ -1,14 +1,16 @@
 -- Where the instructions of each slot stand in a program, and the tables that a program keeps in place of them.
-use Rattle.std.specs.Prelude.{◌≡◌, ℕ, ◌+◌, ◌<◌, ◌≤◌, nat_eq, List, length, Some}
+use Rattle.std.specs.Prelude.{◌≡◌, ℕ, ◌+◌, ◌<◌, ◌≤◌, nat_eq, nat_lt, if◌then◌else◌, List, length, Some}
 use Rattle.indexmap.specs.IndexMap.{IndexMap, get}
 use Rattle.list_laws.specs.Lists.{total, listed}
 use Rattle.job_plan.specs.declared.pattern.Pattern.{Pattern}
 use Rattle.job_plan.specs.declared.pattern.Pattern.TheVariants.{Silent, Dealt, Multiplied, Opened}
 use Rattle.job_plan.specs.Plans.{Plan, slots}
 use Rattle.job_plan.specs.Numbers.{deals_before}
+use Rattle.job_plan.specs.Firsts.{first}
 use Rattle.job_plan.specs.Patterns.{pattern_at, Occurs}
 use Rattle.job_plan.specs.Sound.{IsSound}
 use Rattle.party_program.specs.declared.program.Program.{Program}
+use Rattle.party_program.specs.declared.place.Place.{Place}
 use Rattle.party_program.specs.declared.starts.SlotStart.{SlotStart}
 use Rattle.party_program.specs.declared.step.Step.{Step}
 use Rattle.party_program.specs.declared.step_table.StepTable.{StepTable}
@@ -28,6 +30,18 @@ pub record StandsIn (plan : Plan) (p s k q : ℕ) : Type 0 where
 -- the pattern of slot k, where there is such a slot
 abbrev pub IsPatternIn : Plan → ℕ → ℕ → Pattern → Type 0
 IsPatternIn plan s k pattern = k < slots plan s → pattern ≡ pattern_at plan s k
+
+-- how many instructions of p stand in slot k, none past the last slot
+abbrev pub count_in : Plan → ℕ → ℕ → ℕ → ℕ
+count_in plan p s k = if nat_lt k (slots plan s) then length (slot_program plan p s k) else 0
+
+-- position q stands at this place
+pub record IsPlace (plan : Plan) (p s : ℕ) (place : Place) (q : ℕ) : Type 0 where
+  pub stands : StandsIn plan p s place.slot q
+  pub pattern : IsPatternIn plan s place.slot place.pattern
+  pub first : place.first ≡ first plan s place.slot
+  pub done : q ≡ instructions_before plan p s place.slot + place.done
+  pub count : place.count ≡ count_in plan p s place.slot
 
 -- a pattern of the plan that a slot of session s has
 pub record OccursIn (plan : Plan) (s : ℕ) (pattern : Pattern) : Type 0 where

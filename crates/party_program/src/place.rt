@@ -1,0 +1,33 @@
+//! Places in a program.
+ghost use Rattle.std.specs.Prelude.{◌≡◌};
+
+use job_plan::Pattern;
+
+/// Where an instruction stands in a program: its slot, and how many steps of that come before it. Who keeps it needs no
+/// search for the next instruction.
+#[derive(Clone, Copy)]
+pub struct Place {
+    pub(crate) slot: u32,
+    pub(crate) pattern: Pattern,
+    // The number of the slot's first message.
+    pub(crate) first: u32,
+    // How many steps of the slot are done, and how many it has. Past the last slot there are none.
+    pub(crate) done: u32,
+    pub(crate) count: u32,
+}
+
+impl Place {
+    /// The slot in which the instruction stands, and past all instructions the count of slots.
+    pub fn slot(self) -> u32
+        ensures { result ≡ self.slot }
+    {
+        self.slot
+    }
+
+    /// The pattern of that slot.
+    pub fn pattern(self) -> Pattern
+        ensures { result ≡ self.pattern }
+    {
+        self.pattern
+    }
+}
