@@ -1,6 +1,7 @@
 //! Tapes of random words, each of which is drawn once and spent.
 #![tactic(auto)]
 
+mod buffers;
 mod tape;
 mod word;
 

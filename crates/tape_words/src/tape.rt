@@ -4,11 +4,11 @@ ghost use Rattle.list_laws.specs.Lists.{listed};
 ghost use Rattle.tape_words.specs.Cuts.{cut, IsFirstOutside, IsSplitRefusal};
 ghost use Rattle.tape_words.specs.Seeds.{seed_word};
 
+use crate::buffers::{BUFFER, buffer_words};
 use crate::word::TapeWord;
 use mpc_ring::Ring;
 use rand_chacha::ChaCha20Rng;
 use rand_core::SeedableRng;
-use rand_core::utils::NextWord;
 use std::alloc::{AllocError, Global};
 use std::marker::Model;
 
@@ -74,10 +74,13 @@ impl Tape {
     {
         let mut generator = ChaCha20Rng::from_seed(*seed);
         generator.set_stream(u64::from(session));
-        let mut words = Vec::with_capacity(alloc, count as usize)?;
-        for _place in 0..count {
-            words.push(ring.reduce(u64::from(generator.next_word())))?;
+        let buffers = count.div_ceil(BUFFER);
+        let mut words = Vec::with_capacity(alloc, buffers as usize * BUFFER as usize)?;
+        for buffer in 0..buffers {
+            let rows = buffer_words(&mut generator, ring, buffer);
+            words.extend_from_slice(rows.as_flattened())?;
         }
+        words.truncate(count as usize);
         Ok(Tape { words, drawn: 0 })
     }
 
