@@ -10,7 +10,7 @@ use Rattle.program_laws.specs.Lawful.{given_in}
 use Rattle.core_world.specs.declared.world.World as code
 use Rattle.core_world.specs.States.{AllFull}
 use Rattle.desk_laws.specs.Pools.{AllEnded}
-use Rattle.core_world.specs.Running.{IsRunOf, IsMoment, IsFinish, desk_of}
+use Rattle.core_world.specs.Moments.{IsRunOf, IsMoment, IsFinish, desk_of}
 use Rattle.desk_laws.proofs.Elements.{element_there}
 use Rattle.desk_laws.proofs.StuckDesks.{quotient, remainder, beside, desk_there}
 use Rattle.core_world.proofs.StuckDesks.{desks}

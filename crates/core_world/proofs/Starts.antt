@@ -7,14 +7,14 @@ use Rattle.job_plan.specs.Sound.{IsSound}
 use Rattle.job_plan.specs.Messages.{messages}
 use Rattle.message_board.specs.Plain.{plain_cell}
 use Rattle.share_world.specs.Worlds.{World}
-use Rattle.desk_laws.specs.Opening.{world_of_pieces, ArePieces}
-use Rattle.desk_laws.specs.Opened.{AreNewDesks}
+use Rattle.desk_laws.specs.Pieces.{world_of_pieces, ArePieces}
+use Rattle.desk_laws.specs.NewDesks.{AreNewDesks}
 use Rattle.party_desk.specs.declared.desk.Desk.{Desk}
 use Rattle.desk_laws.proofs.Elements.{by_place}
 use Rattle.desk_laws.proofs.OpenedDesks.{new_desks, no_posts}
 use Rattle.core_world.specs.declared.world.World as code
 use Rattle.core_world.specs.States.{IsState}
-use Rattle.core_world.specs.Running.{IsStart}
+use Rattle.core_world.specs.Moments.{IsStart}
 
 module _ (plan : Plan) (sound : IsSound plan) (inputs : List (List (List ℕ))) (given' : AreInputs plan inputs) (pieces : List (List ℕ)) (h : ArePieces plan pieces) where
   abbrev w : World

@@ -29,7 +29,7 @@ use Rattle.message_board.specs.Plain.{answer}
 use Rattle.desk_laws.specs.InWorld.{Serves, MayStepIn, DoesIn, StepsIn}
 use Rattle.desk_laws.proofs.Elements.{element_there, stands_at, by_place, by_element}
 use Rattle.desk_laws.proofs.StepCounts.{left_set, waited, counts as desk_counts}
-use Rattle.core_world.proofs.CellPosts.{put_length, put_keeps, put_new, put_full}
+use Rattle.message_board.proofs.CellPosts.{put_length, put_keeps, put_new, put_full}
 
 -- the positions of desks
 pub position_at : (ds : List Desk) (k : ℕ) (d : Desk) → k < length ds → slice_get (map (λ z. z.position) ds) k ≡ Some (get_or ds k d).position

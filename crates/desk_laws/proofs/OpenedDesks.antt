@@ -20,8 +20,8 @@ use Rattle.party_desk.specs.declared.desk.Desk.{Desk}
 use Rattle.party_desk.specs.Desks.{IsDesk}
 use Rattle.share_world.specs.Laws.{IsWhole}
 use Rattle.program_laws.specs.Lawful.{given_to}
-use Rattle.desk_laws.specs.Opening.{piece_at, world_of_pieces, ArePieces}
-use Rattle.desk_laws.specs.Opened.{AreNewDesks}
+use Rattle.desk_laws.specs.Pieces.{piece_at, world_of_pieces, ArePieces}
+use Rattle.desk_laws.specs.NewDesks.{AreNewDesks}
 use Rattle.desk_laws.specs.Pools.{AreDesks, AllHavePosts}
 use Rattle.desk_laws.proofs.Elements.{stands_at}
 

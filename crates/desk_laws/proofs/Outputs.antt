@@ -22,53 +22,11 @@ use Rattle.party_program.specs.States.{Given, State, new_state, state, next, dea
 use Rattle.party_program.proofs.InstructionLists.{state_is, run_all}
 use Rattle.program_laws.specs.Lawful.{given_in}
 use Rattle.program_laws.proofs.LocalPrograms.{met}
+use Rattle.program_laws.proofs.OpenedOutputs.{opens_right}
 use Rattle.program_laws.proofs.LawfulWorlds.{lawful, suits_in}
 use Rattle.party_desk.specs.declared.desk.Desk.{Desk}
 use Rattle.party_desk.specs.Desks.{IsDesk, drawn_of, output_at}
 use Rattle.desk_laws.specs.InWorld.{IsRight, IsDeskDone, piece_of}
-
--- ---- at any moment
-
-dealt_outputs : (plan : Plan) (words : ℕ → ℕ) (input : ℕ) (z : Slot) (σ : State) → (dealt_in plan words input z σ).outputs ≡ σ.outputs
-dealt_outputs plan words input (Input v) σ = refl
-dealt_outputs plan words input (At_gate t) σ = refl
-dealt_outputs plan words input (Output o) σ = refl
-
-took_outputs : (q : ℕ) (z : Slot) (i x : ℕ) (σ : State) → (took_in q z i x σ).outputs ≡ σ.outputs
-took_outputs q (Input v) i x σ = refl
-took_outputs q (At_gate t) i x σ = refl
-took_outputs q (Output o) i x σ = refl
-
-module _ (w : World) (whole : IsWhole w) (s p : ℕ) (ls : s < length w.plan.sessions) (lp : p < w.plan.parties) where
-  abbrev l : Given
-  l = given_in w s p
-
-  -- p reads the output, and the word is what it opens by itself
-  abbrev Opens : ℕ → ℕ → Type 0
-  Opens o v = (reads w.plan p s o ≡ true) × (v ≡ local_output w (word w) p s o)
-
-  opens_next : (q o v : ℕ) (e : Instruction) → at (program w.plan p s) q ≡ e → ((o v : ℕ) → (state l q).outputs o ≡ Some v → Opens o v) → (next l e (state l q)).outputs o ≡ Some v → Opens o v
-  opens_next q o v (Deal k d) is before f = before o v (sym (ap (λ z. z o) (dealt_outputs w.plan _ _ (slot w.plan s k) (state l q))) ∙ f)
-  opens_next q o v (Take n i) is before f = before o v (sym (ap (λ z. z o) (took_outputs (2 ^ w.plan.bits) (slot_of w.plan s n) i _ (state l q))) ∙ f)
-  opens_next q o v (Deliver k) is before f =
-      let u : ℕ = output_in_slot (slot w.plan s k) in
-      let right = (lawful w whole).opens s p q k ls lp is in
-      elim (cases_eq o u) [
-        | inl e ↦
-            let same : Some (opened w.plan p ((state l q).rows (output_wire (session w.plan s) u)) (state l q).sums) ≡ Some v = sym (set_here (state l q).outputs u o _ e) ∙ f in
-            let word : v ≡ local_output w (word w) p s u = (let x : opened w.plan p ((state l q).rows (output_wire (session w.plan s) u)) (state l q).sums ≡ v = cc in sym x ∙ right.1) in
-            subst (λ z. Opens z v) (sym e) (right.0, word)
-        | inr ne ↦ before o v (sym (set_there (state l q).outputs u o _ ne) ∙ f)
-      ]
-  opens_next q o v (Post n i) is before f = before o v f
-  opens_next q o v (Linear k) is before f = before o v f
-  opens_next q o v (Own k) is before f = before o v f
-  opens_next q o v (Sum k) is before f = before o v f
-  opens_next q o v End is before f = before o v f
-
-  pub opens_right : (q o v : ℕ) → (state l q).outputs o ≡ Some v → Opens o v
-  opens_right zero o v e = absurd (let none : None ≡ Some v = e in cc)
-  opens_right (suc q) o v e = opens_next q o v (at (program w.plan p s) q) refl (opens_right q) e
 
 -- ---- the tape
 
@@ -111,7 +69,7 @@ module _ (w : World) (s p : ℕ) (d : Desk) (whole : IsWhole w) (h : IsDesk (giv
   pub right_now : IsRight w s p d
   right_now = record {
     delivered = λ o v e.
-        let a = opens_right w whole s p h.suits.session h.suits.party d.position o v (sym (h.memory.outputs o) ∙ e) in
+        let a = opens_right w (is_plan w whole) (word w) s p h.suits.session h.suits.party (λ k i. small_words w whole s p k i) d.position o v (sym (h.memory.outputs o) ∙ e) in
         (a.0, a.1 ∙ opened_are_plain w (is_world w whole) p s o);
     drawn = (let a = drawn_past in omega arith);
     left = h.tape ∙ drop_again past (piece_of w p s) ∙ ap (λ z. drop (z - (z - past)) (piece_of w p s)) (piece_is w whole s p h.suits.session h.suits.party) ∙ ap (λ z. drop z (piece_of w p s)) (sym drawn_past);

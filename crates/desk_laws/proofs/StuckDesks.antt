@@ -20,7 +20,7 @@ use Rattle.party_program.specs.Programs.{program, at}
 use Rattle.party_desk.specs.declared.desk.Desk.{Desk}
 use Rattle.party_desk.specs.Desks.{IsDesk}
 use Rattle.program_laws.specs.Lawful.{given_in, given_to, program_of}
-use Rattle.program_laws.specs.Moving.{CanMove}
+use Rattle.program_laws.specs.Moves.{CanMove}
 use Rattle.program_laws.proofs.Ranks.{one_moves, sender_within, posted_in, each_sender}
 use Rattle.desk_laws.specs.InWorld.{HasPosts}
 use Rattle.desk_laws.specs.Pools.{AreDesks, AllHavePosts, Stuck, AllStuck, AllEnded}

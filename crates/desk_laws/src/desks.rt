@@ -3,8 +3,8 @@ ghost use Rattle.std.specs.Prelude.{◌≡◌, ◌<◌, ◌^◌, All, IfOk, leng
 ghost use Rattle.job_plan.specs.Plans.{words};
 ghost use Rattle.job_plan.specs.InputWords.{AreInputs, given};
 ghost use Rattle.party_desk.specs.Desks.{IsNew};
-ghost use Rattle.desk_laws.specs.Opening.{ArePieces};
-ghost use Rattle.desk_laws.specs.Opened.{AreNewDesks};
+ghost use Rattle.desk_laws.specs.Pieces.{ArePieces};
+ghost use Rattle.desk_laws.specs.NewDesks.{AreNewDesks};
 
 use job_plan::{Inputs, Plan};
 use party_desk::Desk;

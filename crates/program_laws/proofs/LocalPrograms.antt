@@ -11,7 +11,7 @@ use Rattle.list_laws.specs.Lists.{total, joined, only_if}
 use Rattle.circuit_model.specs.Circuits.{is_product, set_at}
 use Rattle.circuit_model.specs.declared.gate.Gate.{Gate}
 use Rattle.secret_sharing.proofs.SummandSums.{dealt_eq, dealt_small}
-use Rattle.secret_sharing.specs.Sharing.{Run, dealt, own_product, own_value, has_pair, local, gate_summands, summands}
+use Rattle.secret_sharing.specs.Schemes.{Run, dealt, own_product, own_value, has_pair, local, gate_summands, summands}
 use Rattle.job_session.specs.Sessions.{readers, owners, Session, gate, output_wire}
 use Rattle.job_plan.specs.Plans.{Plan, scheme, session, slot, slots, holds, least_holder, deals_in, words, place, IsPlan, opens_to}
 use Rattle.job_plan.specs.declared.key.Key.{Key}

@@ -22,7 +22,7 @@ use Rattle.party_program.specs.declared.program.Instruction.{Instruction}
 use Rattle.party_program.specs.declared.program.Instruction.TheVariants.{Deal, Post, Take, Linear, Own, Sum, Deliver, End}
 use Rattle.party_program.specs.Programs.{program, at, from, to, post, take_of, opening, closing, posts, takes, slot_program}
 use Rattle.program_laws.specs.Once.{StandsOnce, IsOnce}
-use Rattle.program_laws.proofs.Standing.{Contains, contains_left, contains_right, contains_kept}
+use Rattle.program_laws.proofs.ContainedInstructions.{Contains, contains_left, contains_right, contains_kept}
 
 -- ---- the numbers that instructions name, of posts or else of takes
 

@@ -22,7 +22,7 @@ use Rattle.party_program.specs.declared.program.Instruction.TheVariants.{Deal, P
 use Rattle.party_program.specs.Programs.{program, at}
 use Rattle.party_program.specs.States.{Given, State, new_state, state, after, dealt_in, took_in, slot_of}
 use Rattle.party_program.specs.Proper.{Proper, CanDealIn, HasInput}
-use Rattle.party_program.specs.Suiting.{Suits, input_count}
+use Rattle.party_program.specs.GivenData.{Suits, input_count}
 use Rattle.party_program.proofs.InstructionLists.{along_at, state_is}
 use Rattle.program_laws.specs.Meets.{local_given, Goes, SmallTape}
 use Rattle.program_laws.proofs.LocalPrograms.{met}

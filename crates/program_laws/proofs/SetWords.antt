@@ -9,7 +9,7 @@ use Rattle.list_laws.specs.Lists.{joined, only_if}
 use Rattle.list_laws.proofs.JoinedLists.{every_append, every_joined, every_only_if}
 use Rattle.circuit_model.specs.Circuits.{is_product}
 use Rattle.circuit_model.specs.Netlists.{read_by}
-use Rattle.secret_sharing.specs.Sharing.{has_pair}
+use Rattle.secret_sharing.specs.Schemes.{has_pair}
 use Rattle.job_session.specs.Sessions.{owners, Slot, Session, gate, output_wire}
 use Rattle.job_plan.specs.Plans.{Plan, session, slot, slots, holds, least_holder, deals_in, scheme, IsPlan, gives, opens_to}
 use Rattle.job_session.specs.Sessions.Slot.{Input, At_gate, Output}
@@ -35,7 +35,7 @@ use Rattle.share_world.proofs.Settled.{is_one, of_one}
 use Rattle.program_laws.proofs.Ranks.{rank, is_plan, owned, ranks_rise, each, at_within}
 use Rattle.program_laws.proofs.SlotTakes.{Has}
 use Rattle.program_laws.proofs.SlotTallies.{Any, deal_any, any_number}
-use Rattle.program_laws.proofs.Standing.{Contains, contains_left, contains_right, contains_joined}
+use Rattle.program_laws.proofs.ContainedInstructions.{Contains, contains_left, contains_right, contains_joined}
 
 -- the slot that an instruction names
 abbrev pub named : Plan → Instruction → ℕ

@@ -1,5 +1,5 @@
 use Rattle.std.proofs.Common.{◌≡◌, ◌≤◌, length, drop}
-use Rattle.desk_laws.specs.Opened.{AreNewDesks}
+use Rattle.desk_laws.specs.NewDesks.{AreNewDesks}
 use Rattle.desk_laws.proofs.desks.open_desks.Given as goal
 
 -- a desk for each piece so far, and the pieces that are left

@@ -1,0 +1,278 @@
+-- Whatever runs broke off, what a party says and got is the world's.
+use Rattle.std.proofs.Common.{◌≡◌, ◌≢◌, ℕ, zero, suc, ◌+◌, ◌*◌, ◌<◌, ◌≤◌, ◌^◌, nat_eq, if◌then◌else◌, List, [], ◌++◌, take, drop, length, refl, sym, ap, ◌∙◌, subst, arith, append_assoc, length-append, ⊎_elim}
+use Rattle.std.specs.Prelude.{slice_index_or, Some}
+use Rattle.std.specs.List.{AllByRecursion}
+use Rattle.std.proofs.lemmas.Bool.{cases_eq, cases_lt, cond-true, cond-false, eq-eqb, ne_eqb}
+use Rattle.std.proofs.lemmas.List.{take-append-drop, length-take-le}
+use Rattle.std.proofs.Math.ListN.{get_or-append}
+use mathlib.Core.Logic.{inl as left', inr as right'}
+use Rattle.list_laws.specs.Lists.{joined}
+use Rattle.job_plan.specs.Plans.{Plan}
+use Rattle.job_plan.specs.declared.key.Key.{Key}
+use Rattle.job_plan.specs.Messages.{messages}
+use Rattle.job_plan.specs.Numbers.{message, no_key}
+use Rattle.job_plan.proofs.DistinctMessages.{every_place}
+use Rattle.share_world.specs.Worlds.{World, word}
+use Rattle.share_world.specs.Locals.{local_word}
+use Rattle.share_world.proofs.SmallWords.{small_word}
+use Rattle.party_program.specs.declared.program.Instruction.{Instruction}
+use Rattle.party_program.specs.declared.program.Instruction.TheVariants.{Take, End}
+use Rattle.party_program.specs.Programs.{program, at, slot_program}
+use Rattle.program_laws.specs.Parts.{IsPart}
+use Rattle.program_laws.proofs.OncePosted.{once}
+use Rattle.program_laws.proofs.PartLaws.{part_of}
+use Rattle.program_laws.proofs.RightWords.{own_words}
+use Rattle.std.proofs.lemmas.List.{get_or_past}
+use Rattle.outer_io.specs.Sink.{added, AddedPrefix}
+use Rattle.frame_code.specs.Frames.{hello, frame}
+use Rattle.frame_code.proofs.ReadFrames.{word_in, word_back, length-hello}
+use Rattle.node_talk.specs.Talks.{Node, acts, messages_between, frames, stream, talk, said, posts_to, post_to, place_of, IsRun, EndsBefore}
+use Rattle.node_talk.specs.PeerLinks.{out_to}
+use Rattle.node_talk.specs.Runs.{BrokeOff}
+use Rattle.node_talk.proofs.PassedLists.{every_from_places, take_place}
+use Rattle.node_talk.proofs.MessageOrder.{posts_are_all, gather_prefix}
+use Rattle.node_talk.proofs.Frames.{stream_length, strip, small_64}
+use Rattle.node_talk.proofs.ExpectedPlaces.{placed, Expected, expected_there, between_parties}
+use Rattle.node_talk.proofs.ActPlaces.{joined_within, before_session, at_act, within_acts, posted_there}
+use Rattle.node_talk.proofs.RightRuns.{is_of_world}
+use Rattle.network_laws.specs.Networks.{Network, node, RanThrough, IsNetwork, SaysWorld, IsRight}
+use Rattle.network_laws.proofs.RunsAsShort.{run_of_all, run_broke}
+use Rattle.network_laws.proofs.FirstParts.{frames_begin, cut_after, cut_frames, short_take, long_take, posted_before}
+
+module _ (net : Network) (h : IsNetwork net) where
+  abbrev w : World
+  w = net.world
+
+  abbrev plan : Plan
+  plan = net.world.plan
+
+  -- the messages from p to q
+  abbrev keys : ℕ → ℕ → List Key
+  keys p q = messages_between net.world.plan p q
+
+  abbrev key_at : ℕ → ℕ → ℕ → Key
+  key_at p q j = slice_index_or (messages_between net.world.plan p q) j no_key
+
+  part : (p : ℕ) → p < plan.parties → IsPart net.world p
+  part p lp = part_of w h.whole p lp
+
+  any_run : (p : ℕ) → p < plan.parties → (got : Key → ℕ) × BrokeOff (node net p) got (net.before p) (net.after p)
+  any_run p lp = ⊎_elim (λ (r : RanThrough net p). (r.got, run_broke (node net p) (part p lp) r.got (net.before p) (net.after p) r.talked)) (λ b. (b.got, b.broke)) (h.runs p lp)
+
+  got_of : (p : ℕ) → (got : Key → ℕ) × (p < plan.parties → BrokeOff (node net p) got (net.before p) (net.after p))
+  got_of p = elim (cases_lt p plan.parties) [
+    | left' lp ↦ let r = any_run p lp in (r.0, λ l. r.1)
+    | right' past ↦ (λ key. 0, λ l. absurd (omega arith))
+  ]
+
+  abbrev got : ℕ → Key → ℕ
+  got p = (got_of p).0
+
+  abbrev own : ℕ → Key → ℕ
+  own p = local_word net.world ((got_of p).0) p
+
+  broke : (p : ℕ) → p < plan.parties → BrokeOff (node net p) (got p) (net.before p) (net.after p)
+  broke p lp = (got_of p).1 lp
+
+  -- what p's outlet to q took
+  abbrev taken : (p q : ℕ) (lp : p < plan.parties) (lq : q < plan.parties) (ne : p ≢ q) → List ℕ
+  taken p q lp lq ne = (h.pipes p q lp lq ne).held ++ (h.pipes p q lp lq ne).lost
+
+  -- it is a first part of what it was to take
+  first_part : (p q : ℕ) (lp : p < plan.parties) (lq : q < plan.parties) (ne : p ≢ q) (text : List ℕ) → AddedPrefix (out_to (node net p) (net.before p) q).told text (out_to (node net p) (net.after p) q).told
+      → (x : ℕ) × (taken p q lp lq ne ≡ take x text)
+  first_part p q lp lq ne text a =
+      let pipe = h.pipes p q lp lq ne in
+      let same : Some (pipe.earlier ++ (pipe.held ++ pipe.lost)) ≡ Some (pipe.earlier ++ take a.0 text) = sym pipe.after ∙ a.1 ∙ ap (λ z. added z (take a.0 text)) pipe.before in
+      (a.0, strip pipe.earlier (pipe.held ++ pipe.lost) (take a.0 text) (some_same _ _ same))
+    where
+      some_same : (xs ys : List ℕ) → Some xs ≡ Some ys → xs ≡ ys
+      some_same xs ys e = cc
+
+  -- the frames that q holds of p are those of p's own words
+  same_as_own : (p q : ℕ) (lp : p < plan.parties) (lq : q < plan.parties) (ne : p ≢ q) (f : ℕ) (word' : Key → ℕ) → IsRun (node net q) p (h.pipes p q lp lq ne).held f word' → AllByRecursion (λ key. frame key (word' key) ≡ frame key (own p key)) (take f (keys p q))
+  same_as_own p q lp lq ne f word' run =
+      let pipe = h.pipes p q lp lq ne in
+      let start : List ℕ = hello p q net.digest in
+      let text : List ℕ = talk (node net p) q (own p) in
+      let t = first_part p q lp lq ne text ((broke p lp).told q (lq, λ e. ne (sym e))) in
+      let front : List ℕ = frames word' (take f (keys p q)) in
+      let whole : start ++ (front ++ (run.begins.0 ++ (pipe.lost ++ drop t.0 text))) ≡ start ++ frames (own p) (keys p q) =
+      sym (
+      ap (λ z. (z ++ pipe.lost) ++ drop t.0 text) run.begins.1
+      ∙ append_assoc ((start ++ front) ++ run.begins.0) pipe.lost (drop t.0 text)
+      ∙ append_assoc (start ++ front) run.begins.0 (pipe.lost ++ drop t.0 text)
+      ∙ append_assoc start front (run.begins.0 ++ (pipe.lost ++ drop t.0 text)))
+      ∙ ap (λ z. z ++ drop t.0 text) t.1 ∙ take-append-drop t.0 text in
+      frames_begin word' (own p) (keys p q) f (run.begins.0 ++ (pipe.lost ++ drop t.0 text)) run.count (strip start _ _ whole)
+
+  -- words in slots below this one are the world's wherever they are held
+  abbrev RightBelow : ℕ → Type 0
+  RightBelow N =
+      (p q : ℕ) (lp : p < plan.parties) (lq : q < plan.parties) (ne : p ≢ q) (f : ℕ) (word' : Key → ℕ) → IsRun (node net q) p (h.pipes p q lp lq ne).held f word' → (j : ℕ) → j < f → (key_at p q j).slot < N → word' (key_at p q j) ≡ word w (key_at p q j)
+
+  -- the messages posted before the take of message m in its session stand in no later slot of it
+  posts_earlier : (p q : ℕ) (lp : p < plan.parties) (m N : ℕ) (lm : m < length (messages plan)) → (message plan m).receiver ≡ p → (message plan m).slot < N
+      → (u : ℕ) → u ≡ (once plan m lm).taken.position → u ≤ length (program plan p (message plan m).session)
+      → AllByRecursion (λ key. key.session ≡ (message plan m).session → key.slot < N) (posts_to (node net p) q (before_session (node net p) (message plan m).session + u))
+  posts_earlier p q lp m N lm mine below u here lu =
+      let s : ℕ = (message plan m).session in
+      let o = once plan m lm in
+      posted_before (node net p) q s u (λ key. key.session ≡ s → key.slot < N) o.session_there lu (λ t v m' i' lt before e same.
+      let g = posted_there w p (part p lp) t lt v m' i' e in
+      let o' = once plan m' g.0 in
+      let a = o'.posted.alone p t v i' e in
+      let t_is : t ≡ s = a.1 ∙ same in
+      let less : v < u = ⊎_elim (λ b. absurd (omega arith)) (λ b. b.1) before in
+      let parts : ℕ → List Instruction = slot_program plan p s in
+      let from : length (joined (message plan m').slot parts) ≤ v =
+      subst (λ z. length (joined (message plan m').slot parts) ≤ z) (sym a.2) (subst (λ z. length (joined (message plan m').slot (slot_program plan p z)) ≤ o'.posted.position) same (subst (λ z. length (joined (message plan m').slot (slot_program plan z (message plan m').session)) ≤ o'.posted.position) (sym a.0) o'.posted.in_slot.0)) in
+      let to : u < length (joined (suc (message plan m).slot) parts) = subst (λ z. z < length (joined (suc (message plan m).slot) parts)) (sym here) (subst (λ z. o.taken.position < length (joined (suc (message plan m).slot) (slot_program plan z s))) mine o.taken.in_slot.1) in
+      elim (cases_lt (message plan m').slot N) [
+        | left' l ↦ l
+        | right' past ↦ absurd (let c = joined_within parts (suc (message plan m).slot) (message plan m').slot (omega arith) in omega arith)
+      ])
+
+  -- what was said before a take is shorter than a frame that is posted after it
+  too_late : (p q : ℕ) (lp : p < plan.parties) (lq : q < plan.parties) (ne : p ≢ q) (N j m : ℕ) (lm : m < length (messages plan)) → j < length (keys p q) → (key_at p q j).slot ≡ N → (key_at p q j).session ≡ (message plan m).session
+      → 38 + 18 * j < length (taken p q lp lq ne) → (message plan m).receiver ≡ p → (message plan m).slot < N
+      → (u : ℕ) → u ≡ (once plan m lm).taken.position → u ≤ length (program plan p (message plan m).session) → before_session (node net p) (message plan m).session + u < length (acts (node net p))
+      → AddedPrefix (out_to (node net p) (net.before p) q).told (said (node net p) q (own p) (before_session (node net p) (message plan m).session + u)) (out_to (node net p) (net.after p) q).told → ⊥
+  too_late p q lp lq ne N j m lm lj slot_is session_is long mine below u here lu lk cut =
+      let n : Node = node net p in
+      let k : ℕ = before_session n (message plan m).session + u in
+      let posts : List Key = posts_to n q k in
+      let text : List ℕ = said n q (own p) k in
+      let t = first_part p q lp lq ne text cut in
+      let most : length (taken p q lp lq ne) ≤ length text = subst (λ z. length z ≤ length text) (sym t.1) (short_take t.0 text) in
+      let count : length text ≡ 38 + 18 * length posts = stream_length net.digest p q (own p) posts h.digest in
+      let inside' : j < length posts = omega arith in
+      let r = gather_prefix (post_to plan q) (acts n) k (length (acts n)) (omega arith) in
+      let split : keys p q ≡ posts ++ r.0 = sym (posts_are_all n q) ∙ r.1 in
+      let place : slice_index_or posts j no_key ≡ key_at p q j = sym (ap (λ z. slice_index_or z j no_key) split ∙ get_or-append posts r.0 no_key j inside') in
+      let less : (slice_index_or posts j no_key).slot < N =
+      every_place (λ key. key.session ≡ (message plan m).session → key.slot < N) posts j no_key (posts_earlier p q lp m N lm mine below u here lu) inside' (ap (λ z. z.session) place ∙ session_is) in
+      absurd (let e : (slice_index_or posts j no_key).slot ≡ N = ap (λ z. z.slot) place ∙ slot_is in omega arith)
+
+  own_right : (N : ℕ) → RightBelow N → (p q : ℕ) (lp : p < plan.parties) (lq : q < plan.parties) (ne : p ≢ q) (j : ℕ) → j < length (keys p q) → (key_at p q j).slot ≡ N
+      → 38 + 18 * j < length (taken p q lp lq ne) → own p (key_at p q j) ≡ word w (key_at p q j)
+  own_right N below p q lp lq ne j lj slot_is long =
+      let x : Expected (node net q) p j = expected_there (node net q) p j lj in
+      let m : ℕ = x.number in
+      let is : message plan m ≡ key_at p q j = x.same in
+      let s : ℕ = (message plan m).session in
+      let bound : ℕ → ℕ = λ z. if nat_eq z s then N else 0 in
+      let earlier : AllByRecursion (λ key. key.receiver ≡ p → key.slot < bound key.session → got p key ≡ word w key) (messages plan) =
+      every_from_places (λ key. key.receiver ≡ p → key.slot < bound key.session → got p key ≡ word w key) (messages plan) no_key (λ m' lm' to before. got_before m' lm' m is to (within_bound (message plan m').session s (message plan m').slot before)) in
+      let right : own p (message plan m) ≡ word w (message plan m) =
+      every_place (λ key. key.sender ≡ p → key.slot ≤ bound key.session → local_word w (got p) p key ≡ word w key) (messages plan) m no_key (own_words w h.whole p lp (got p) bound earlier) x.there x.sender
+      (let b : bound s ≡ N = cond-true (nat_eq s s) N 0 (eq-eqb s s refl) in let e : (message plan m).slot ≡ N = ap (λ z. z.slot) is ∙ slot_is in omega arith) in
+      subst (λ z. own p z ≡ word w z) is right
+    where
+      within_bound : (a s x : ℕ) → x < (if nat_eq a s then N else 0) → (a ≡ s) × (x < N)
+      within_bound a s x l = elim (cases_eq a s) [
+        | left' e ↦ (e, subst (λ z. x < z) (cond-true (nat_eq a s) N 0 (eq-eqb a s e)) l)
+        | right' no' ↦ absurd (let f : x < 0 = subst (λ z. x < z) (cond-false (nat_eq a s) N 0 (ne_eqb a s no')) l in omega arith)
+      ]
+
+      got_before : (m' : ℕ) → m' < length (messages plan) → (m : ℕ) → message plan m ≡ key_at p q j → (message plan m').receiver ≡ p → ((message plan m').session ≡ (message plan m).session) × ((message plan m').slot < N) → got p (message plan m') ≡ word w (message plan m')
+      got_before m' lm' m is to early = elim (cases_eq (got p (message plan m')) (word w (message plan m'))) [
+        | left' e ↦ e
+        | right' wrong ↦ absurd (
+            let n : Node = node net p in
+            let key : Key = message plan m' in
+            let b = between_parties n (part p lp) m' lm' in
+            let r : ℕ = key.sender in
+            let apart : r ≢ p = (λ e. b.apart (e ∙ sym to)) in
+            let o = once plan m' lm' in
+            let u : ℕ = o.taken.position in
+            let takes' : at (program plan p key.session) u ≡ Take m' key.share = ap (λ z. at (program plan z key.session) u) (sym to) ∙ o.taken.stands in
+            let less : u < length (program plan p key.session) = inside u takes' in
+            let k : ℕ = before_session n key.session + u in
+            let lk : k < length (acts n) = (let a = within_acts n key.session (suc u) o.session_there (omega arith) in omega arith) in
+            let stands : at (acts n) k ≡ Take m' key.share = at_act n key.session u o.session_there less ∙ takes' in
+            let pipe = h.pipes r p b.sender lp apart in
+            let place = placed n m' lm' to in
+            let ends : EndsBefore n r pipe.held (suc (place_of n m')) = (λ word' run.
+            let heard_as : got p (key_at r p (place_of n m')) ≡ word' (key_at r p (place_of n m')) = (broke p lp).hears r (b.sender, apart) pipe.held pipe.inlet (suc (place_of n m')) word' run (place_of n m') (omega arith) in
+            let slot_below : (key_at r p (place_of n m')).slot < N = subst (λ z. z.slot < N) (sym place.1) early.1 in
+            let known = below r p b.sender lp apart (suc (place_of n m')) word' run (place_of n m') (omega arith) slot_below in
+            wrong (subst (λ z. got p z ≡ word w z) place.1 (heard_as ∙ known))) in
+            too_late p q lp lq ne N j m' lm' lj slot_is (sym (ap (λ z. z.session) is) ∙ sym early.0) long to early.1 u refl (omega arith) lk
+            ((broke p lp).waits r q m' key.share k (b.sender, apart) (lq, λ e. ne (sym e)) lk stands refl pipe.held pipe.inlet ends)
+            )
+      ]
+        where
+          inside : (u : ℕ) → at (program plan p (message plan m').session) u ≡ Take m' (message plan m').share → u < length (program plan p (message plan m').session)
+          inside u is' = elim (cases_lt u (length (program plan p (message plan m').session))) [
+            | left' l ↦ l
+            | right' past ↦ absurd (let f : End ≡ Take m' (message plan m').share = sym (get_or_past (program plan p (message plan m').session) u End past) ∙ is' in cc)
+          ]
+
+  -- so many bytes are held where a run of f frames is
+  long_enough : (p q : ℕ) (lp : p < plan.parties) (lq : q < plan.parties) (ne : p ≢ q) (f : ℕ) (word' : Key → ℕ) → IsRun (node net q) p (h.pipes p q lp lq ne).held f word' → 38 + 18 * f ≤ length (taken p q lp lq ne)
+  long_enough p q lp lq ne f word' run =
+      let pipe = h.pipes p q lp lq ne in
+      let first : List Key = take f (keys p q) in
+      let few : length first ≡ f = length-take-le f (keys p q) run.count in
+      let all : length pipe.held ≡ 38 + 18 * length first + length run.begins.0 =
+      ap length run.begins.1 ∙ length-append (stream net.digest p q word' first) run.begins.0 ∙ ap (λ z. z + length run.begins.0) (stream_length net.digest p q word' first h.digest) in
+      let sum = length-append pipe.held pipe.lost in
+      omega arith
+
+  right_below : (N : ℕ) → RightBelow N
+  right_below zero p q lp lq ne f word' run j lf less = absurd (omega arith)
+  right_below (suc N) p q lp lq ne f word' run j lf less =
+      let key : Key = key_at p q j in
+      let lj : j < length (keys p q) = (let c = run.count in omega arith) in
+      elim (cases_eq key.slot N) [
+        | left' e ↦
+            let o = own_right N (right_below N) p q lp lq ne j lj e (let l = long_enough p q lp lq ne f word' run in omega arith) in
+            let few : length (take f (keys p q)) ≡ f = length-take-le f (keys p q) run.count in
+            let place : slice_index_or (take f (keys p q)) j no_key ≡ key = take_place (keys p q) f j no_key lf in
+            let same : frame key (word' key) ≡ frame key (own p key) = subst (λ z. frame z (word' z) ≡ frame z (own p z)) place (every_place (λ z. frame z (word' z) ≡ frame z (own p z)) (take f (keys p q)) j no_key (same_as_own p q lp lq ne f word' run) (omega arith)) in
+            let small : word' key < 2 ^ plan.bits = subst (λ z. word' z < 2 ^ plan.bits) place (every_place (λ z. word' z < 2 ^ plan.bits) (take f (keys p q)) j no_key run.small (omega arith)) in
+            sym (word_back key (word' key) [] (small_64 plan.bits (word' key) h.whole.sound.bits small)) ∙ ap (λ z. word_in (z ++ [])) same
+            ∙ word_back key (own p key) [] (small_64 plan.bits (own p key) h.whole.sound.bits (subst (λ z. z < 2 ^ plan.bits) (sym o) (small_word w h.whole key))) ∙ o
+        | right' other ↦ right_below N p q lp lq ne f word' run j lf (omega arith)
+      ]
+
+  -- ---- what an outlet took begins what its party says in the world
+
+  own_said : (p q : ℕ) (lp : p < plan.parties) (lq : q < plan.parties) (ne : p ≢ q) (j : ℕ) → j < length (keys p q) → 38 + 18 * j < length (taken p q lp lq ne) → own p (key_at p q j) ≡ word w (key_at p q j)
+  own_said p q lp lq ne j lj long = let N : ℕ = (key_at p q j).slot in own_right N (right_below N) p q lp lq ne j lj refl long
+
+  pub says_world : SaysWorld net
+  says_world p q lp lq ne =
+      let pipe = h.pipes p q lp lq ne in
+      let start : List ℕ = hello p q net.digest in
+      let text : List ℕ = talk (node net p) q (own p) in
+      let t = first_part p q lp lq ne text ((broke p lp).told q (lq, λ e. ne (sym e))) in
+      let count : length text ≡ 38 + 18 * length (keys p q) = stream_length net.digest p q (own p) (keys p q) h.digest in
+      let same : take t.0 text ≡ take t.0 (talk (node net p) q (word w)) =
+      cut_after start (frames (own p) (keys p q)) (frames (word w) (keys p q)) t.0 (λ n is.
+      cut_frames (own p) (word w) (keys p q) n (λ j lj less. own_said p q lp lq ne j lj (long_take (taken p q lp lq ne) text t.0 (38 + 18 * j) t.1 (let l = length-hello p q net.digest h.digest in omega arith) (omega arith)))) in (
+        t.0,
+        pipe.after ∙ ap (λ z. Some (pipe.earlier ++ z)) (t.1 ∙ same) ∙ sym (ap (λ z. added z (take t.0 (talk (node net p) q (word w)))) pipe.before),
+      )
+
+  -- ---- a party that ran to its end
+
+  module _ (p : ℕ) (lp : p < net.world.plan.parties) (run : RanThrough net p) where
+    pub heard_right : (q : ℕ) → q < plan.parties → q ≢ p → (j : ℕ) → j < length (keys q p) → run.got (key_at q p j) ≡ word w (key_at q p j)
+    heard_right q lq ne j lj =
+        let pipe = h.pipes q p lq lp ne in
+        let all = run_of_all (node net p) (part p lp) run.got (net.before p) (net.after p) run.talked q (lq, ne) pipe.held pipe.inlet (length (keys q p)) (omega arith) in
+        right_below (suc (key_at q p j).slot) q p lq lp ne (length (keys q p)) run.got all j lj (omega arith)
+
+    got_right : (m : ℕ) → m < length (messages plan) → (message plan m).receiver ≡ p → run.got (message plan m) ≡ word w (message plan m)
+    got_right m lm to =
+        let b = between_parties (node net p) (part p lp) m lm in
+        let place = placed (node net p) m lm to in
+        subst (λ z. run.got z ≡ word w z) place.1 (heard_right (message plan m).sender b.sender (λ e. b.apart (e ∙ sym to)) (place_of (node net p) m) place.0)
+
+    pub is_right : IsRight net p
+    is_right = record {
+      words = λ m lm to. run.done.words m lm to ∙ ap Some (got_right m lm to);
+      of_world = is_of_world (node net p) h.whole lp run.got got_right (net.results p) (net.before p) (net.after p) run.done run.talked;
+    }

@@ -1,0 +1,4 @@
+mod RunsAsShort
+mod FirstParts
+mod CutTalks
+mod GroupViews

@@ -1,0 +1,111 @@
+-- The instructions of a party by their place in all, and the messages that they name.
+use Rattle.std.proofs.Common.{◌≡◌, ◌≢◌, ℕ, zero, suc, ◌+◌, ◌-◌, ◌<◌, ◌≤◌, [], ◌++◌, length, List, refl, sym, ap, ◌∙◌, subst, arith, length-append}
+use Rattle.std.proofs.lemmas.Bool.{cases_lt, cases_eq}
+use Rattle.std.proofs.lemmas.List.{get_or-append-add}
+use Rattle.std.proofs.Math.ListN.{get_or-append}
+use mathlib.Core.Logic.{inl, inr}
+use Rattle.list_laws.specs.Lists.{joined}
+use Rattle.job_plan.specs.Plans.{Plan}
+use Rattle.job_plan.specs.declared.key.Key.{Key}
+use Rattle.job_plan.specs.Messages.{messages}
+use Rattle.job_plan.specs.Numbers.{message}
+use Rattle.share_world.specs.Worlds.{World}
+use Rattle.party_program.specs.declared.program.Instruction.{Instruction}
+use Rattle.party_program.specs.declared.program.Instruction.TheVariants.{Post, Take, End}
+use Rattle.party_program.specs.Programs.{program, at}
+use Rattle.party_program.specs.Proper.{Proper}
+use Rattle.program_laws.specs.Meets.{local_given}
+use Rattle.program_laws.specs.Parts.{IsPart}
+use Rattle.program_laws.proofs.OncePosted.{once}
+use Rattle.program_laws.proofs.ProperPrograms.{is_proper}
+use Rattle.program_laws.proofs.PartLaws.{part_suits}
+use Rattle.node_talk.specs.Talks.{Node, acts}
+
+-- ---- joined lists
+
+pub joined_within : (f : ℕ → List Instruction) (a b : ℕ) → a ≤ b → length (joined a f) ≤ length (joined b f)
+joined_within f a zero le = let same : a ≡ 0 = omega arith in subst (λ z. length (joined z f) ≤ 0) (sym same) (omega arith)
+joined_within f a (suc b) le = elim (cases_eq a (suc b)) [
+  | inl e ↦ subst (λ z. length (joined z f) ≤ length (joined b f ++ f b)) (sym e) (omega arith)
+  | inr ne ↦ omega (arith, joined_within f a b (omega arith), length-append (joined b f) (f b))
+]
+
+at_joined : (f : ℕ → List Instruction) (n s q : ℕ) → s < n → q < length (f s) → at (joined n f) (length (joined s f) + q) ≡ at (f s) q
+at_joined f zero s q ls lq = absurd (omega arith)
+at_joined f (suc n) s q ls lq = elim (cases_eq s n) [
+  | inl e ↦ subst (λ z. at (joined n f ++ f n) (length (joined z f) + q) ≡ at (f z) q) (sym e) (get_or-append-add (joined n f) (f n) q End)
+  | inr ne ↦ get_or-append (joined n f) (f n) End (length (joined s f) + q) (let a = joined_within f (suc s) n (omega arith) in omega (arith, a, length-append (joined s f) (f s))) ∙ at_joined f n s q (omega arith) lq
+]
+
+-- where an instruction of joined lists stands
+record Stands (f : ℕ → List Instruction) (n k : ℕ) : Type 0 where
+  pub part : ℕ
+  pub position : ℕ
+  pub part_there : part < n
+  pub within : position < length (f part)
+  pub is : k ≡ length (joined part f) + position
+
+stands_in : (f : ℕ → List Instruction) (n k : ℕ) → k < length (joined n f) → Stands f n k
+stands_in f zero k l = absurd (omega arith)
+stands_in f (suc n) k l = elim (cases_lt k (length (joined n f))) [
+  | inl before ↦ let r = stands_in f n k before in record { part = r.part; position = r.position; part_there = (let a = r.part_there in omega arith); within = r.within; is = r.is }
+  | inr past ↦ record { part = n; position = k - length (joined n f); part_there = omega arith; within = omega (arith, l, past, length-append (joined n f) (f n)); is = omega arith }
+]
+
+-- ---- all that a party does
+
+-- how many instructions stand before session s
+abbrev pub before_session : Node → ℕ → ℕ
+before_session n s = length (joined s (program n.world.plan n.me))
+
+pub next_session : (n : Node) (s : ℕ) → before_session n (suc s) ≡ before_session n s + length (program n.world.plan n.me s)
+next_session n s = length-append (joined s (program n.world.plan n.me)) (program n.world.plan n.me s)
+
+pub at_act : (n : Node) (s q : ℕ) → s < length n.world.plan.sessions → q < length (program n.world.plan n.me s) → at (acts n) (before_session n s + q) ≡ at (program n.world.plan n.me s) q
+at_act n s q ls lq = at_joined (program n.world.plan n.me) (length n.world.plan.sessions) s q ls lq
+
+pub within_acts : (n : Node) (s q : ℕ) → s < length n.world.plan.sessions → q ≤ length (program n.world.plan n.me s) → before_session n s + q ≤ length (acts n)
+within_acts n s q ls lq = let a = joined_within (program n.world.plan n.me) (suc s) (length n.world.plan.sessions) (omega arith) in omega (arith, a, next_session n s, lq)
+
+-- the instruction at a place of all, by its session and its position there
+pub record Act (n : Node) (k : ℕ) : Type 0 where
+  pub session : ℕ
+  pub position : ℕ
+  pub session_there : session < length n.world.plan.sessions
+  pub within : position < length (program n.world.plan n.me session)
+  pub place : k ≡ before_session n session + position
+  pub same : at (acts n) k ≡ at (program n.world.plan n.me session) position
+
+pub act_there : (n : Node) (k : ℕ) → k < length (acts n) → Act n k
+act_there n k l =
+    let r = stands_in (program n.world.plan n.me) (length n.world.plan.sessions) k l in
+    record {
+      session = r.part;
+      position = r.position;
+      session_there = r.part_there;
+      within = r.within;
+      place = r.is;
+      same = ap (at (acts n)) r.is ∙ at_act n r.part r.position r.part_there r.within;
+    }
+
+-- ---- the messages that instructions name
+
+module _ (w : World) (p : ℕ) (part : IsPart w p) (s : ℕ) (ls : s < length w.plan.sessions) (q m i : ℕ) where
+  proper_here : Proper w.plan s (at (program w.plan p s) q)
+  proper_here = is_proper (local_given w (λ key. 0) s p) (part_suits w p part (λ key. 0) s ls) q
+
+  pub posted_there : at (program w.plan p s) q ≡ Post m i → (m < length (messages w.plan)) × ((message w.plan m).sender ≡ p)
+  posted_there e =
+      let g = subst (Proper w.plan s) e proper_here in
+      (g.number, sym ((once w.plan m g.number).posted.alone p s q i e).0)
+
+  pub taken_there : at (program w.plan p s) q ≡ Take m i → (m < length (messages w.plan)) × ((message w.plan m).receiver ≡ p)
+  taken_there e =
+      let g = subst (Proper w.plan s) e proper_here in
+      (g.number, sym ((once w.plan m g.number).taken.alone p s q i e).0)
+
+-- the message of a take
+pub taken_by : (n : Node) → IsPart n.world n.me → (k m i : ℕ) → k < length (acts n) → at (acts n) k ≡ Take m i → (m < length (messages n.world.plan)) × ((message n.world.plan m).receiver ≡ n.me)
+taken_by n part k m i l is =
+    let a = act_there n k l in
+    taken_there n.world n.me part a.session a.session_there a.position m i (sym a.same ∙ is)

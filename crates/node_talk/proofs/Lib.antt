@@ -1,0 +1,7 @@
+pub mod PassedLists
+pub mod MessageOrder
+pub mod Frames
+pub mod ExpectedPlaces
+pub mod RightRuns
+pub mod NoCauses
+pub mod ActPlaces

@@ -1,0 +1,76 @@
+-- Where each inlet holds all that is expected, and nothing failed, there is no cause of a fault.
+use Rattle.std.proofs.Common.{◌≡◌, ℕ, ◌<◌, ◌^◌, List, [], ◌∷◌, ◌++◌, take, length, refl, sym, ap, ◌∙◌, subst, arith, append_assoc, length-append, ⊎_elim, Option, Some, None}
+use Rattle.std.specs.List.{AllByRecursion}
+use Rattle.std.proofs.lemmas.List.{take_all, length-take-le}
+use Rattle.job_plan.specs.declared.key.Key.{Key}
+use Rattle.job_plan.specs.Numbers.{no_key}
+use Rattle.job_plan.proofs.DistinctMessages.{every_place}
+use Rattle.outer_io.specs.Count.{Rose}
+use Rattle.outer_io.specs.Inlet.{ahead, IsAtEnd}
+use Rattle.outer_io.specs.Links.{LinksReading}
+use Rattle.frame_code.specs.Frames.{hello, frame}
+use Rattle.frame_code.proofs.ReadFrames.{length-frame, length-hello}
+use Rattle.node_talk.specs.declared.fault.NodeFault.{NodeFault}
+use Rattle.node_talk.specs.declared.fault.NodeFault.TheVariants.{Link, Closed, BadFrame, OtherJob, NoThread}
+use Rattle.node_talk.specs.Talks.{Node, expected, expected_at, frames, stream, heard, IsRun}
+use Rattle.node_talk.specs.PeerLinks.{in_from}
+use Rattle.node_talk.specs.Causes.{Cause}
+use Rattle.node_talk.specs.Runs.{HearsAll, NoneRose}
+use Rattle.node_talk.proofs.Frames.{stream_length, frames_at, same_split}
+
+left_of : (bytes front piece : List ℕ) (told : Option (List ℕ)) → Some bytes ≡ ahead front (ahead piece told) → (left : List ℕ) × (told ≡ Some left) × (bytes ≡ front ++ (piece ++ left))
+left_of bytes front piece None e = absurd (let f : Some bytes ≡ None = e in cc)
+left_of bytes front piece (Some left) e = (left, refl, (let f : Some bytes ≡ Some (front ++ (piece ++ left)) = e in cc))
+
+module _ (n : Node) (before after : LinksReading) (refused refused' : ℕ) (long : length n.digest ≡ 32) where
+  -- the bytes are the hello, all frames, and what is left
+  all_of : (q : ℕ) (bytes : List ℕ) (word : Key → ℕ) → IsRun n q bytes (length (expected n q)) word → (rest : List ℕ) × (bytes ≡ heard n q word ++ rest)
+  all_of q bytes word run = (run.begins.0, run.begins.1 ∙ ap (λ z. stream n.digest q n.me word z ++ run.begins.0) (take_all (length (expected n q)) (expected n q) (omega arith)))
+
+  module _ (hears : HearsAll n before) (none : NoneRose n before after) (no_refusal : Rose refused refused' → ⊥) where
+    by_fault : (fault : NodeFault) → Cause n before after refused refused' fault → ⊥
+    by_fault (Link q) c = ⊎_elim (λ a. (none q c.0).0 a) (λ b. (none q c.0).1 b) c.1
+    by_fault (Closed q at) c =
+        let x = hears q c.0 in
+        let a = all_of q x.0 x.1 x.3 in
+        let l = left_of x.0 c.1.came.front [] (in_from n after q).told (sym x.2 ∙ c.1.came.told) in
+        let nothing : l.0 ≡ [] = subst IsAtEnd l.1 c.1.none_left in
+        let size : length x.0 ≡ length c.1.came.front = ap length (l.2 ∙ ap (λ z. c.1.came.front ++ z) nothing) ∙ length-append c.1.came.front [] ∙ omega arith in
+        absurd (let p = c.1.came.place in let s = c.1.few in omega (arith, size, p, s, ap length a.1, length-append (heard n q x.1) a.0, stream_length n.digest q n.me x.1 (expected n q) long))
+    by_fault (BadFrame q at bytes) c =
+        let f : ℕ = c.1.frame in
+        let x = hears q c.0 in
+        let word : Key → ℕ = x.1 in
+        let a = all_of q x.0 x.1 x.3 in
+        let key : Key = expected_at n q f in
+        let t = frames_at word (expected n q) f c.1.within in
+        let l = left_of x.0 c.1.came.front bytes (in_from n after q).told (sym x.2 ∙ c.1.came.told) in
+        let first : List ℕ = frames word (take f (expected n q)) in
+        let mine : x.0 ≡ stream n.digest q n.me word (take f (expected n q)) ++ (frame key (word key) ++ (t.0 ++ a.0)) =
+        a.1
+        ∙ append_assoc (hello q n.me n.digest) (frames word (expected n q)) a.0
+        ∙ ap (λ z. hello q n.me n.digest ++ (z ++ a.0)) t.1
+        ∙ ap (λ z. hello q n.me n.digest ++ z) (append_assoc first (frame key (word key) ++ t.0) a.0 ∙ ap (λ z. first ++ z) (append_assoc (frame key (word key)) t.0 a.0))
+        ∙ sym (append_assoc (hello q n.me n.digest) first (frame key (word key) ++ (t.0 ++ a.0))) in
+        let front_long : length c.1.came.front ≡ length (stream n.digest q n.me word (take f (expected n q))) =
+        (let p = c.1.came.place in let s = c.1.place in omega (arith, p, s, stream_length n.digest q n.me word (take f (expected n q)) long, length-take-le f (expected n q) (let b = c.1.within in omega arith))) in
+        let split = same_split c.1.came.front _ (bytes ++ l.0) _ front_long (sym l.2 ∙ mine) in
+        let second = same_split bytes (frame key (word key)) l.0 _ (c.1.long ∙ sym (length-frame key (word key))) split.1 in
+        let small = every_place (λ k. word k < 2 ^ n.world.plan.bits) (expected n q) f no_key (subst (AllByRecursion (λ k. word k < 2 ^ n.world.plan.bits)) (take_all (length (expected n q)) (expected n q) (omega arith)) x.3.small) c.1.within in
+        c.1.no_frame (word key) small second.0
+    by_fault (OtherJob q ours theirs) c =
+        let x = hears q c.0 in
+        let a = all_of q x.0 x.1 x.3 in
+        let l = left_of x.0 c.1.came.front theirs (in_from n after q).told (sym x.2 ∙ c.1.came.told) in
+        let none' : c.1.came.front ≡ [] = empty c.1.came.front c.1.came.place in
+        let both : theirs ++ l.0 ≡ hello q n.me n.digest ++ (frames x.1 (expected n q) ++ a.0) =
+        sym (l.2 ∙ ap (λ z. z ++ (theirs ++ l.0)) none') ∙ a.1 ∙ append_assoc (hello q n.me n.digest) (frames x.1 (expected n q)) a.0 in
+        c.1.differ ((same_split theirs (hello q n.me n.digest) l.0 _ (c.1.long ∙ sym (length-hello q n.me n.digest long)) both).0 ∙ sym c.1.expected)
+      where
+        empty : (xs : List ℕ) → length xs ≡ 0 → xs ≡ []
+        empty [] e = refl
+        empty (x ∷ xs) e = absurd (omega arith)
+    by_fault (NoThread q) c = no_refusal c.1
+
+  pub no_cause : HearsAll n before → NoneRose n before after → (Rose refused refused' → ⊥) → (fault : NodeFault) → Cause n before after refused refused' fault → ⊥
+  no_cause hears none no_refusal fault = by_fault hears none no_refusal fault

@@ -1,0 +1,4 @@
+pub mod Talks
+pub mod PeerLinks
+pub mod Causes
+pub mod Runs

@@ -1,0 +1,31 @@
+//! Why a node stopped.
+
+/// The fault that ended a node's run.
+#[derive(Clone, Copy, Debug, PartialEq, Eq)]
+pub enum NodeFault {
+    /// The outside failed at this peer's inlet or outlet.
+    Link {
+        peer: u32,
+    },
+    /// This peer's bytes ended after so many, with bytes missing.
+    Closed {
+        peer: u32,
+        at: u64,
+    },
+    /// The bytes from a place on are not the frame of the message that is expected there, with a word of the ring.
+    BadFrame {
+        peer: u32,
+        at: u64,
+        bytes: [u8; 18],
+    },
+    /// The first bytes are not the hello that is expected.
+    OtherJob {
+        peer: u32,
+        ours: [u8; 38],
+        theirs: [u8; 38],
+    },
+    /// The reader of this peer couldn't be started.
+    NoThread {
+        peer: u32,
+    },
+}

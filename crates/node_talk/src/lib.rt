@@ -1,0 +1,11 @@
+//! One party of a job run by itself: what it says to each other party and hears from it, and why it stops.
+#![tactic(auto)]
+
+mod fault;
+mod laws;
+
+pub use fault::NodeFault;
+pub use laws::{
+    a_talk_is_said, messages_stand_at_their_places, no_cause_where_all_is_heard,
+    nodes_among_a_world_are_of_it, what_peers_say_is_all_that_is_expected,
+};

@@ -1,0 +1,68 @@
+-- A party opens only the outputs that it reads, and as it computes them by itself, whatever words it got.
+use Rattle.std.proofs.Common.{◌≡◌, ℕ, zero, suc, ◌<◌, ◌^◌, true, length, refl, sym, ap, ◌∙◌, subst, Some, None}
+use Rattle.std.proofs.lemmas.Bool.{cases_eq, cases_lt}
+use Rattle.std.proofs.lemmas.List.{get_or_past}
+use mathlib.Core.Logic.{inl, inr}
+use Rattle.circuit_model.proofs.SetAt.{set_here, set_there}
+use Rattle.job_session.specs.Sessions.{Slot, output_wire}
+use Rattle.job_session.specs.Sessions.Slot.{Input, At_gate, Output}
+use Rattle.job_plan.specs.Plans.{Plan, IsPlan, session, reads, slot}
+use Rattle.job_plan.specs.declared.key.Key.{Key}
+use Rattle.share_world.specs.Worlds.{World}
+use Rattle.share_world.specs.Locals.{local_output}
+use Rattle.party_program.specs.declared.program.Instruction.{Instruction}
+use Rattle.party_program.specs.declared.program.Instruction.TheVariants.{Deal, Post, Take, Linear, Own, Sum, Deliver, End}
+use Rattle.party_program.specs.Programs.{program, at}
+use Rattle.party_program.specs.States.{Given, State, new_state, state, next, dealt_in, took_in, opened, slot_of, output_in_slot}
+use Rattle.party_program.proofs.InstructionLists.{along_at, state_is}
+use Rattle.program_laws.specs.Meets.{local_given, Goes, SmallTape}
+use Rattle.program_laws.proofs.LocalPrograms.{met}
+
+dealt_outputs : (plan : Plan) (words : ℕ → ℕ) (input : ℕ) (z : Slot) (σ : State) → (dealt_in plan words input z σ).outputs ≡ σ.outputs
+dealt_outputs plan words input (Input v) σ = refl
+dealt_outputs plan words input (At_gate t) σ = refl
+dealt_outputs plan words input (Output o) σ = refl
+
+took_outputs : (q : ℕ) (z : Slot) (i x : ℕ) (σ : State) → (took_in q z i x σ).outputs ≡ σ.outputs
+took_outputs q (Input v) i x σ = refl
+took_outputs q (At_gate t) i x σ = refl
+took_outputs q (Output o) i x σ = refl
+
+module _ (w : World) (valid : IsPlan w.plan) (got : Key → ℕ) (s p : ℕ) (ls : s < length w.plan.sessions) (lp : p < w.plan.parties) (small : SmallTape w s p) where
+  abbrev l : Given
+  l = local_given w got s p
+
+  pub goes : (q : ℕ) (e : Instruction) → at (program w.plan p s) q ≡ e → (e ≡ End → ⊥) → Goes w got s p e (state (local_given w got s p) q)
+  goes q e is ne = elim (cases_lt q (length (program w.plan p s))) [
+    | inl b ↦
+        let along = along_at (Goes w got s p) l (program w.plan p s) new_state q b (met w valid got s p ls lp small).0 in
+        subst (λ z. Goes w got s p z (state l q)) is (subst (Goes w got s p (at (program w.plan p s) q)) (sym (state_is l q)) along)
+    | inr past ↦ absurd (ne (sym is ∙ get_or_past (program w.plan p s) q End past))
+  ]
+
+  -- p reads the output, and the word is what it computes
+  abbrev Opens : ℕ → ℕ → Type 0
+  Opens o v = (reads w.plan p s o ≡ true) × (v ≡ local_output w got p s o)
+
+  opens_next : (q o v : ℕ) (e : Instruction) → at (program w.plan p s) q ≡ e → ((o v : ℕ) → (state l q).outputs o ≡ Some v → Opens o v) → (next l e (state l q)).outputs o ≡ Some v → Opens o v
+  opens_next q o v (Deal k d) is before f = before o v (sym (ap (λ z. z o) (dealt_outputs w.plan _ _ (slot w.plan s k) (state l q))) ∙ f)
+  opens_next q o v (Take n i) is before f = before o v (sym (ap (λ z. z o) (took_outputs (2 ^ w.plan.bits) (slot_of w.plan s n) i _ (state l q))) ∙ f)
+  opens_next q o v (Deliver k) is before f =
+      let u : ℕ = output_in_slot (slot w.plan s k) in
+      let right = (goes q (Deliver k) is (λ e. cc)).1 in
+      elim (cases_eq o u) [
+        | inl e ↦
+            let same : Some (opened w.plan p ((state l q).rows (output_wire (session w.plan s) u)) (state l q).sums) ≡ Some v = sym (set_here (state l q).outputs u o _ e) ∙ f in
+            let word : v ≡ local_output w got p s u = (let x : opened w.plan p ((state l q).rows (output_wire (session w.plan s) u)) (state l q).sums ≡ v = cc in sym x ∙ right.1) in
+            subst (λ z. Opens z v) (sym e) (right.0, word)
+        | inr ne ↦ before o v (sym (set_there (state l q).outputs u o _ ne) ∙ f)
+      ]
+  opens_next q o v (Post n i) is before f = before o v f
+  opens_next q o v (Linear k) is before f = before o v f
+  opens_next q o v (Own k) is before f = before o v f
+  opens_next q o v (Sum k) is before f = before o v f
+  opens_next q o v End is before f = before o v f
+
+  pub opens_right : (q o v : ℕ) → (state (local_given w got s p) q).outputs o ≡ Some v → (reads w.plan p s o ≡ true) × (v ≡ local_output w got p s o)
+  opens_right zero o v e = absurd (let none : None ≡ Some v = e in cc)
+  opens_right (suc q) o v e = opens_next q o v (at (program w.plan p s) q) refl (opens_right q) e
