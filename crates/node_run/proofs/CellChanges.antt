@@ -1,0 +1,304 @@
+-- What posts and takes change, and that all stays as it must be.
+use Rattle.std.proofs.Common.{◌≡◌, ◌≢◌, ℕ, zero, suc, ◌+◌, ◌%◌, ◌<◌, ◌^◌, Bool, true, false, List, [], ◌∷◌, length, get_or, set, map, Option, Some, None, Result, Ok, Err, refl, sym, ap, ap₂, ◌∙◌, subst, arith, inl, inr, ⊎_elim}
+use Rattle.std.specs.Prelude.{slice_index, slice_index_or, is_err, ◌==◌}
+use Rattle.std.proofs.lemmas.Bool.{cases_eq, cases_Bool, cond-true, cond-false, false≢true}
+use Rattle.std.proofs.lemmas.Bool.Decides.{nat_tests}
+use Rattle.std.proofs.Math.ListN.{length-set, length-map}
+use mathlib.Core.Logic.{inl as left', inr as right'}
+use Rattle.message_board.specs.Pairs.{Knows}
+use Rattle.message_board.specs.Plain.{CellContents, plain_cell, plain_put}
+use Rattle.message_board.proofs.CellPosts.{put_length, put_keeps, put_new, put_full}
+use Rattle.inbox_board.specs.declared.steps.View.{View}
+use Rattle.inbox_board.specs.Rule.{notes}
+use Rattle.inbox_board.specs.Seats.{Looks, mark_as}
+use Rattle.job_plan.specs.Plans.{Plan, IsPlan}
+use Rattle.job_plan.specs.Sound.{IsSound}
+use Rattle.job_plan.specs.declared.key.Key.{Key}
+use Rattle.job_plan.specs.Messages.{messages}
+use Rattle.job_plan.specs.Numbers.{message}
+use Rattle.program_laws.specs.Once.{IsBetweenParties}
+use Rattle.program_laws.proofs.MessageParties.{between}
+use Rattle.program_laws.proofs.OncePosted.{once}
+use Rattle.program_laws.proofs.ProperPrograms.{proper_at}
+use Rattle.party_program.specs.Proper.{Proper}
+use Rattle.frame_code.specs.Frames.{FitsFrame}
+use Rattle.outer_io.specs.Sink.{SinkReading, Writes}
+use Rattle.outer_io.specs.declared.sink.Failed.{Failed}
+use Rattle.node_talk.specs.PeerLinks.{place_among, no_outlet}
+use Rattle.node_run.specs.Mail.{Mail, BoxModel, no_box, box_of, IsRead, IsMail, SentTo, failed_after, MayTake, Takes, Looked, LookedAtMark}
+
+-- ---- places
+
+pub places_differ : (p q r : ℕ) → q ≢ p → r ≢ p → r ≢ q → place_among p r ≢ place_among p q
+places_differ p q r nq nr ne = grind (arith, nat_tests)
+
+pub place_within : (p q parties n : ℕ) → q < parties → q ≢ p → p < parties → n + 1 ≡ parties → place_among p q < n
+place_within p q parties n lq nq lp is = grind (arith, nat_tests)
+
+module _ {A R : Type 0} (f : A → R) where
+  set_here : (xs : List A) (j : ℕ) (x : A) (d : R) → j < length xs → slice_index_or (map f (set xs j x)) j d ≡ f x
+  set_here [] j x d l = absurd (omega arith)
+  set_here (y ∷ xs) zero x d l = refl
+  set_here (y ∷ xs) (suc j) x d l = set_here xs j x d (omega arith)
+
+  set_there : (xs : List A) (j k : ℕ) (x : A) (d : R) → k ≢ j → slice_index_or (map f (set xs j x)) k d ≡ slice_index_or (map f xs) k d
+  set_there [] j k x d ne = refl
+  set_there (y ∷ xs) zero zero x d ne = absurd (ne refl)
+  set_there (y ∷ xs) zero (suc k) x d ne = refl
+  set_there (y ∷ xs) (suc j) zero x d ne = refl
+  set_there (y ∷ xs) (suc j) (suc k) x d ne = set_there xs j k x d (λ e. ne (ap suc e))
+
+  pub read_here : (xs : List A) (j : ℕ) (a : A) (d : R) → j < length xs → slice_index_or (map f xs) j d ≡ f (get_or xs j a)
+  read_here [] j a d l = absurd (omega arith)
+  read_here (y ∷ xs) zero a d l = refl
+  read_here (y ∷ xs) (suc j) a d l = read_here xs j a d (omega arith)
+
+  -- an element that shows the same
+  set_same : (xs : List A) (j : ℕ) (x a : A) → f x ≡ f (get_or xs j a) → map f (set xs j x) ≡ map f xs
+  set_same [] j x a e = refl
+  set_same (y ∷ xs) zero x a e = ap (λ z. z ∷ map f xs) e
+  set_same (y ∷ xs) (suc j) x a e = ap (λ z. f y ∷ z) (set_same xs j x a e)
+
+box_here : (xs : List BoxModel) (j : ℕ) (x d : BoxModel) → j < length xs → slice_index_or (set xs j x) j d ≡ x
+box_here [] j x d l = absurd (omega arith)
+box_here (y ∷ xs) zero x d l = refl
+box_here (y ∷ xs) (suc j) x d l = box_here xs j x d (omega arith)
+
+box_there : (xs : List BoxModel) (j k : ℕ) (x d : BoxModel) → k ≢ j → slice_index_or (set xs j x) k d ≡ slice_index_or xs k d
+box_there [] j k x d ne = refl
+box_there (y ∷ xs) zero zero x d ne = absurd (ne refl)
+box_there (y ∷ xs) zero (suc k) x d ne = refl
+box_there (y ∷ xs) (suc j) zero x d ne = refl
+box_there (y ∷ xs) (suc j) (suc k) x d ne = box_there xs j k x d (λ e. ne (ap suc e))
+
+box_read : (xs : List BoxModel) (j : ℕ) (a d : BoxModel) → j < length xs → slice_index_or xs j d ≡ get_or xs j a
+box_read [] j a d l = absurd (omega arith)
+box_read (y ∷ xs) zero a d l = refl
+box_read (y ∷ xs) (suc j) a d l = box_read xs j a d (omega arith)
+
+-- ---- messages
+
+plan_of : (plan : Plan) → IsSound plan → IsPlan plan
+plan_of plan h = record { bits = h.some_bits; groups = h.some_groups; q2 = h.q2 }
+
+pub parties_of : (plan : Plan) → IsSound plan → (m : ℕ) → m < length (messages plan) → IsBetweenParties plan (message plan m)
+parties_of plan h m lm = between plan m (plan_of plan h) (λ s v ls lv. (h.sessions s ls).owned v lv) lm
+
+-- a frame has room for the name of each message
+pub fits : (plan : Plan) → IsSound plan → (m : ℕ) → m < length (messages plan) → FitsFrame (message plan m)
+fits plan h m lm =
+    let key : Key = message plan m in
+    let o = once plan m lm in
+    let b = parties_of plan h m lm in
+    let p = subst (Proper plan key.session) o.posted.stands (proper_at plan h key.session key.sender o.session_there b.sender o.posted.position) in
+    let x = (h.sessions key.session o.session_there).wired in
+    record {
+      session = (let a = o.session_there in let c = h.few_sessions in omega arith);
+      slot = (let a = o.slot_there in let c = x.wires in let d = x.gates in let e = x.input_wires in let f = x.output_wires in omega arith);
+      share = (let a = p.share in let c = h.groups in omega arith);
+      sender = (let a = b.sender in let c = h.parties in omega arith);
+      receiver = (let a = b.receiver in let c = h.parties in omega arith);
+    }
+
+pub other_sender : (c : Mail) → IsMail c → (m : ℕ) → MayTake c m → (message c.plan m).sender ≢ c.me
+other_sender c mail m may e = (parties_of c.plan mail.sound m may.there).apart (e ∙ sym may.receiver)
+
+-- ---- a send
+
+module _ (c : Mail) (mail : IsMail c) where
+  pub with_outlets : (xs : List SinkReading) (o : Option ℕ) → length xs ≡ length c.outlets → IsMail (record c { outlets = xs; failed = o })
+  with_outlets xs o same = record {
+    sound = mail.sound;
+    me = mail.me;
+    outlets = ap (λ z. z + 1) same ∙ mail.outlets;
+    boxes = mail.boxes;
+    cells = mail.cells;
+    bits = mail.bits;
+    places = mail.places;
+    room = mail.room;
+    read = λ m v e. let r = mail.read m v e in record { there = r.there; receiver = r.receiver; found = r.found; known = r.known; reduced = r.reduced };
+  }
+
+  module _ {O : Type 0} (f : O → SinkReading) (outs : List O) (shows : c.outlets ≡ map f outs) (j : ℕ) (x : O) where
+    pub same_count : length (map f (set outs j x)) ≡ length c.outlets
+    same_count = length-map (set outs j x) f ∙ length-set outs j x ∙ sym (length-map outs f) ∙ sym (ap length shows)
+
+    pub sent_to : (q : ℕ) → q < c.plan.parties → q ≢ c.me → j ≡ place_among c.me q → (old : O) → old ≡ get_or outs j old → (bytes : List ℕ) (r : Result (Unit {0}) Failed) → Writes bytes (f old) (f x) r
+        → (o : Option ℕ) → o ≡ failed_after q r c.failed → SentTo q bytes c (record c { outlets = map f (set outs j x); failed = o })
+    sent_to q lq nq at old is bytes r w o kept =
+        let within : j < length outs = (let a = place_within c.me q c.plan.parties (length c.outlets) lq nq mail.me mail.outlets in let b : length c.outlets ≡ length outs = ap length shows ∙ length-map outs f in omega arith) in
+        record {
+          result = r;
+          writes =
+              subst (λ z. Writes bytes z (slice_index_or (map f (set outs j x)) (place_among c.me q) no_outlet) r) (sym (ap₂ (λ xs k. slice_index_or xs k no_outlet) shows (sym at) ∙ read_here f outs j old no_outlet within ∙ ap f (sym is)))
+              (subst (λ z. Writes bytes (f old) z r) (sym (ap (λ k. slice_index_or (map f (set outs j x)) k no_outlet) (sym at) ∙ set_here f outs j x no_outlet within)) w);
+          others = λ p lp np ne. set_there f outs j (place_among c.me p) x no_outlet (λ e. places_differ c.me q p nq np ne (e ∙ at)) ∙ ap (λ xs. slice_index_or xs (place_among c.me p) no_outlet) (sym shows);
+          rest = ap (λ z. record c { outlets = map f (set outs j x); failed = z }) kept;
+        }
+
+pub kept_err : (q : ℕ) (r : Result (Unit {0}) Failed) (before : Option ℕ) → is_err r ≡ true → Some q ≡ failed_after q r before
+kept_err q (Ok u) before e = absurd (false≢true e)
+kept_err q (Err f) before e = refl
+
+pub kept_ok : (q : ℕ) (r : Result (Unit {0}) Failed) (before : Option ℕ) → is_err r ≡ false → before ≡ failed_after q r before
+kept_ok q (Ok u) before e = refl
+kept_ok q (Err f) before e = absurd (false≢true (sym e))
+
+-- ---- a look into an inbox
+
+pub looks_grow : (v u : View) (place : ℕ) (r : Option ℕ) → Looks v place r u → (p w : ℕ) → Knows v.seen p w → Knows u.seen p w
+looks_grow v u place None h p w k = subst (λ (z : View). Knows z.seen p w) (sym h.2) k
+looks_grow v u place (Some x) h p w k = subst (λ (z : View). Knows z.seen p w) (sym h.2) (inr k)
+
+pub looks_found : (v u : View) (place : ℕ) (w : ℕ) (r : Option ℕ) → r ≡ Some w → Looks v place r u → Knows u.seen place w
+looks_found v u place w None e h = absurd (let f : None ≡ Some w = e in cc)
+looks_found v u place w (Some x) e h = let same : x ≡ w = cc in subst (λ (z : View). Knows z.seen place w) (sym h.2) (inl (refl, same))
+
+pub looks_noted : (v u : View) (place : ℕ) (r : Option ℕ) → Looks v place r u → u.noted ≡ v.noted
+looks_noted v u place None h = ap (λ (z : View). z.noted) h.2
+looks_noted v u place (Some x) h = ap (λ (z : View). z.noted) h.2
+
+pub notes_grow : (v u : View) (mark : ℕ) → u ≡ notes v mark → (p w : ℕ) → Knows v.seen p w → Knows u.seen p w
+notes_grow v u mark is p w k = subst (λ (z : View). Knows z.seen p w) (sym is) k
+
+module _ (c : Mail) (mail : IsMail c) (m : ℕ) (may : MayTake c m) (j : ℕ) (at : j ≡ place_among c.me (message c.plan m).sender) (b b' : BoxModel) (is : b ≡ get_or c.boxes j b) (same : b' ≡ record b { view = b'.view })
+    (grows : (p w : ℕ) → Knows b.view.seen p w → Knows b'.view.seen p w) where
+  within_boxes : j < length c.boxes
+  within_boxes = let p = parties_of c.plan mail.sound m may.there in let a = place_within c.me (message c.plan m).sender c.plan.parties (length c.boxes) p.sender (other_sender c mail m may) mail.me mail.boxes in omega arith
+
+  abbrev now : Mail
+  now = record c { boxes = set c.boxes j b' }
+
+  pub sender_box : box_of (record c { boxes = set c.boxes j b' }) (message c.plan m).sender ≡ b'
+  sender_box = ap (λ z. slice_index_or (set c.boxes j b') z no_box) (sym at) ∙ box_here c.boxes j b' no_box within_boxes
+
+  -- each box has as many places as before, and knows at least as much
+  box_grows : (q : ℕ) → ((box_of now q).places ≡ (box_of c q).places) × ((p w : ℕ) → Knows (box_of c q).view.seen p w → Knows (box_of now q).view.seen p w)
+  box_grows q = elim (cases_eq (place_among c.me q) j) [
+    | left' e ↦
+        let new : box_of now q ≡ b' = ap (λ z. slice_index_or (set c.boxes j b') z no_box) e ∙ box_here c.boxes j b' no_box within_boxes in
+        let old : box_of c q ≡ b = ap (λ z. slice_index_or c.boxes z no_box) e ∙ box_read c.boxes j b no_box within_boxes ∙ sym is in (
+          ap (λ (z : BoxModel). z.places) new ∙ ap (λ (z : BoxModel). z.places) same ∙ sym (ap (λ (z : BoxModel). z.places) old),
+          λ p w k. subst (λ (z : BoxModel). Knows z.view.seen p w) (sym new) (grows p w (subst (λ (z : BoxModel). Knows z.view.seen p w) old k)),
+        )
+    | right' ne ↦
+        let alike : box_of now q ≡ box_of c q = box_there c.boxes j (place_among c.me q) b' no_box ne in
+        (ap (λ (z : BoxModel). z.places) alike, λ p w k. subst (λ (z : BoxModel). Knows z.view.seen p w) (sym alike) k)
+  ]
+
+  pub same_ids : map (λ (z : BoxModel). z.id) (set c.boxes j b') ≡ map (λ (z : BoxModel). z.id) c.boxes
+  same_ids = set_same (λ (z : BoxModel). z.id) c.boxes j b' b (ap (λ (z : BoxModel). z.id) same ∙ ap (λ (z : BoxModel). z.id) is)
+
+  pub with_boxes : IsMail (record c { boxes = set c.boxes j b' })
+  with_boxes = record {
+    sound = mail.sound;
+    me = mail.me;
+    outlets = mail.outlets;
+    boxes = ap (λ z. z + 1) (length-set c.boxes j b') ∙ mail.boxes;
+    cells = mail.cells;
+    bits = mail.bits;
+    places = mail.places;
+    room = λ r lr to. (let a = mail.room r lr to in let e = (box_grows (message c.plan r).sender).0 in omega arith);
+    read = λ r v e. let x = mail.read r v e in record { there = x.there; receiver = x.receiver; found = x.found; known = (box_grows (message c.plan r).sender).1 (slice_index c.places r) x.found x.known; reduced = x.reduced };
+  }
+
+  same_marks : b'.view.noted ≡ b.view.noted → (q : ℕ) → (box_of now q).view.noted ≡ (box_of c q).view.noted
+  same_marks noted q = elim (cases_eq (place_among c.me q) j) [
+    | left' e ↦
+        ap (λ (z : BoxModel). z.view.noted) (ap (λ z. slice_index_or (set c.boxes j b') z no_box) e ∙ box_here c.boxes j b' no_box within_boxes) ∙ noted
+        ∙ ap (λ (z : BoxModel). z.view.noted) (sym (ap (λ z. slice_index_or c.boxes z no_box) e ∙ box_read c.boxes j b no_box within_boxes ∙ sym is))
+    | right' ne ↦ ap (λ (z : BoxModel). z.view.noted) (box_there c.boxes j (place_among c.me q) b' no_box ne)
+  ]
+
+  pub looked : b'.view.noted ≡ b.view.noted → (answer : Option ℕ) → ((w : ℕ) → answer ≡ Some w → Knows b'.view.seen (slice_index c.places m) w) → Looked c m answer (record c { boxes = set c.boxes j b' })
+  looked noted answer found = record { rest = refl; ids = same_ids; marks = same_marks noted; known = λ w e. subst (λ (z : BoxModel). Knows z.view.seen (slice_index c.places m) w) (sym sender_box) (found w e) }
+
+  pub looked_at_mark : (answer : Option Bool) → answer ≡ mark_as b'.view.noted → LookedAtMark c m answer (record c { boxes = set c.boxes j b' })
+  looked_at_mark answer told = record { rest = refl; ids = same_ids; fault = λ e. ap (λ (z : BoxModel). z.view.noted) sender_box ∙ fault_is b'.view.noted (sym told ∙ e) }
+    where
+      fault_is : (x : ℕ) → mark_as x ≡ Some true → x ≡ 2
+      fault_is x e = elim (cases_Bool (x == 0)) [
+        | left' zero' ↦ absurd (let f : None ≡ Some true = sym (cond-true (x == 0) None (Some (x == 2)) zero') ∙ e in cc)
+        | right' some ↦ is_two x (some_same (x == 2) true (sym (cond-false (x == 0) None (Some (x == 2)) some) ∙ e))
+      ]
+        where
+          some_same : (a b : Bool) → Some a ≡ Some b → a ≡ b
+          some_same a b f = cc
+
+          is_two : (x : ℕ) → (x == 2) ≡ true → x ≡ 2
+          is_two x f = grind (arith, nat_tests)
+
+-- ---- a word that is kept
+
+module _ (c : Mail) (mail : IsMail c) (m found v : ℕ) (may : MayTake c m) (known : Knows (box_of c (message c.plan m).sender).view.seen (slice_index c.places m) found) (is : v ≡ found % 2 ^ c.plan.bits) (now : CellContents)
+    (put : now ≡ record c.words { cells = plain_put c.words.cells m v }) where
+  lm : m < length c.words.cells
+  lm = let a = may.there in let b = mail.cells in omega arith
+
+  cells_are : now.cells ≡ plain_put c.words.cells m v
+  cells_are = ap (λ z. z.cells) put
+
+  pub word_count : length now.cells ≡ length c.words.cells
+  word_count = ap length cells_are ∙ put_length c.words.cells m v lm
+
+  pub with_word : IsMail (record c { words = now })
+  with_word = record {
+    sound = mail.sound;
+    me = mail.me;
+    outlets = mail.outlets;
+    boxes = mail.boxes;
+    cells = word_count ∙ mail.cells;
+    bits = ap (λ z. z.bits) put ∙ mail.bits;
+    places = mail.places;
+    room = mail.room;
+    read = λ r x e. ⊎_elim
+        (λ old. let y = mail.read r x old in record { there = y.there; receiver = y.receiver; found = y.found; known = y.known; reduced = y.reduced })
+        (λ (new : (r ≡ m) × (x ≡ v)). subst (λ z. IsRead (record c { words = now }) z x) (sym new.0) (record { there = may.there; receiver = may.receiver; found = found; known = known; reduced = new.1 ∙ is }))
+        (put_new c.words.cells m v r x lm (ap (λ z. plain_cell z r) (sym cells_are) ∙ e));
+  }
+
+  pub word_kept : plain_cell c.words.cells m ≡ None → plain_cell now.cells m ≡ Some v
+  word_kept empty = ap (λ z. plain_cell z m) cells_are ∙ put_full c.words.cells m v lm (λ x e. absurd (let f : None ≡ Some x = sym empty ∙ e in cc))
+
+  pub words_stay : (r x : ℕ) → plain_cell c.words.cells r ≡ Some x → plain_cell now.cells r ≡ Some x
+  words_stay r x e = ap (λ z. plain_cell z r) cells_are ∙ put_keeps c.words.cells m v r x lm e
+
+-- ---- tables
+
+any_default : (xs : List ℕ) (k d : ℕ) → k < length xs → slice_index_or xs k d ≡ slice_index xs k
+any_default [] k d l = absurd (omega arith)
+any_default (x ∷ xs) zero d l = refl
+any_default (x ∷ xs) (suc k) d l = any_default xs k d (omega arith)
+
+pub place_there : (c : Mail) → IsMail c → (m : ℕ) → MayTake c m → (x : ℕ) → x ≡ slice_index_or c.places m x → x ≡ slice_index c.places m
+place_there c mail m may x is = is ∙ any_default c.places m x (let a = may.there in let b = mail.places in omega arith)
+
+-- ---- takes
+
+pub takes_known : (c : Mail) (m v : ℕ) → plain_cell c.words.cells m ≡ Some v → Takes c m (Some v) c
+takes_known c m v e = record { rest = refl; answers = e; count = refl; ids = refl }
+
+pub takes_nothing : (c d : Mail) (m : ℕ) → Looked c m None d → Takes c m None d
+takes_nothing c d m h = record { rest = h.rest ∙ ap (λ z. record c { words = z; boxes = d.boxes }) (sym (ap (λ z. z.words) h.rest)); answers = ap (λ z. z.words.cells) h.rest; count = ap (λ z. length z.words.cells) h.rest; ids = h.ids }
+
+pub takes_found : (c d : Mail) (m found v : ℕ) (kept : CellContents) → Looked c m (Some found) d → length kept.cells ≡ length d.words.cells → plain_cell kept.cells m ≡ Some v → Takes c m (Some v) (record d { words = kept })
+takes_found c d m found v kept h count is = record {
+  rest = ap (λ (z : Mail). record z { words = kept }) h.rest;
+  answers = is;
+  count = count ∙ ap (λ (z : Mail). length z.words.cells) h.rest;
+  ids = h.ids;
+}
+
+-- what holds of what was before, under another name
+pub before_as : (P : Mail → Mail → Type 0) (a b d : Mail) → a ≡ b → P a d → P b d
+before_as P a b d e h = subst (λ (z : Mail). P z d) e h
+
+pub no_word : (o : Option ℕ) → ((v : ℕ) → o ≡ Some v → ⊥) → o ≡ None
+no_word None h = refl
+no_word (Some v) h = absurd (h v refl)
+
+pub looked_may : (c d : Mail) (m : ℕ) (a : Option ℕ) → Looked c m a d → MayTake c m → MayTake d m
+looked_may c d m a h may = subst (λ (z : Mail). MayTake z m) (sym h.rest) (record { there = may.there; receiver = may.receiver })
+
+pub looked_known : (c d : Mail) (m w : ℕ) → Looked c m (Some w) d → Knows (box_of d (message d.plan m).sender).view.seen (slice_index d.places m) w
+looked_known c d m w h = subst (λ (z : Mail). Knows (box_of d (message z.plan m).sender).view.seen (slice_index z.places m) w) (sym h.rest) (h.known w refl)

@@ -1,0 +1,137 @@
+-- A node at the end of all its sessions is done.
+use Rattle.std.proofs.Common.{◌≡◌, ◌≢◌, ℕ, zero, suc, ◌+◌, ◌<◌, List, [], ◌∷◌, length, map, get_or, refl, sym, ap, ◌∙◌, subst, arith, Option, Some, None}
+use Rattle.std.specs.Prelude.{slice_index, slice_index_or}
+use Rattle.std.proofs.lemmas.Bool.{cases_lt}
+use Rattle.std.proofs.lemmas.List.{get_or_past}
+use Rattle.std.proofs.Math.ListN.{length-map}
+use mathlib.Core.Logic.{inl, inr}
+use Rattle.job_plan.specs.declared.key.Key.{Key}
+use Rattle.job_plan.specs.Messages.{messages}
+use Rattle.job_plan.specs.Numbers.{message}
+use Rattle.message_board.specs.Plain.{plain_cell}
+use Rattle.party_program.specs.declared.program.Instruction.{Instruction}
+use Rattle.party_program.specs.declared.program.Instruction.TheVariants.{Take, End}
+use Rattle.party_program.specs.Programs.{program, at}
+use Rattle.party_program.specs.States.{new_state, state}
+use Rattle.party_program.proofs.InstructionLists.{state_is, run_all}
+use Rattle.party_desk.specs.declared.desk.Desk.{Desk}
+use Rattle.party_desk.specs.Desks.{IsDesk, output_at}
+use Rattle.program_laws.specs.Meets.{local_given}
+use Rattle.program_laws.specs.Parts.{IsPart}
+use Rattle.program_laws.proofs.LocalPrograms.{met}
+use Rattle.program_laws.proofs.OncePosted.{once}
+use Rattle.program_laws.proofs.OpenedOutputs.{opens_right}
+use Rattle.program_laws.proofs.PartLaws.{part_plan, part_words}
+use Rattle.outer_io.specs.Links.{LinksReading}
+use Rattle.outer_io.specs.Sink.{added}
+use Rattle.node_talk.specs.Talks.{Node, acts, IsPeer, own_word, expected, place_of}
+use Rattle.node_talk.specs.PeerLinks.{place_among, no_outlet, out_to}
+use Rattle.node_talk.specs.Runs.{Results, IsDone, TalkedThrough, word_read, output_of}
+use Rattle.node_talk.proofs.MessageOrder.{talk_is_said}
+use Rattle.node_talk.proofs.ExpectedPlaces.{Expected, expected_there}
+use Rattle.node_talk.proofs.ActPlaces.{at_act, within_acts}
+use Rattle.link_reader.specs.NodeReaders.{HasFirstWords}
+use Rattle.link_reader.proofs.Runs.{talks_through}
+use Rattle.node_run.specs.Mail.{Mail, outlet_to}
+use Rattle.node_run.specs.Progress.{Begin, Agrees, before_session}
+use Rattle.node_run.specs.ShortRuns.{RanToEnd}
+use Rattle.node_run.proofs.KnownWords.{known, agrees_known}
+
+cell_is : (cells : List (Option ℕ)) (m : ℕ) → slice_index_or cells m None ≡ plain_cell cells m
+cell_is [] m = refl
+cell_is (None ∷ cells) zero = refl
+cell_is (Some v ∷ cells) zero = refl
+cell_is (x ∷ cells) (suc m) = cell_is cells m
+
+element : {A B : Type 0} (f : A → B) (xs : List A) (j : ℕ) (e : B) → j < length xs → (a : A) × ((d : A) → get_or xs j d ≡ a) × (slice_index_or (map f xs) j e ≡ f a)
+element f [] j e l = absurd (omega arith)
+element f (x ∷ xs) zero e l = (x, (λ d. refl), refl)
+element f (x ∷ xs) (suc j) e l = element f xs j e (omega arith)
+
+module _ (n : Node) (start : Begin) (after : LinksReading) (ds : List Desk) (now : Mail) (r : Results) (h : RanToEnd n start after ds now r) where
+  part : IsPart n.world n.me
+  part = h.order.going.own.part
+
+  abbrev cells : List (Option ℕ)
+  cells = now.words.cells
+
+  abbrev got : Key → ℕ
+  got = known n now.words.cells
+
+  agrees : Agrees n now.words.cells (known n now.words.cells)
+  agrees = agrees_known n now.words.cells h.order.going.own.cells
+
+  found : (m : ℕ) → m < length (messages n.world.plan) → (message n.world.plan m).receiver ≡ n.me → (v : ℕ) × (plain_cell now.words.cells m ≡ Some v)
+  found m lm to =
+      let key : Key = message n.world.plan m in
+      let o = once n.world.plan m lm in
+      let takes' : at (program n.world.plan n.me key.session) o.taken.position ≡ Take m key.share = ap (λ z. at (program n.world.plan z key.session) o.taken.position) (sym to) ∙ o.taken.stands in
+      let less : o.taken.position < length (program n.world.plan n.me key.session) = inside (program n.world.plan n.me key.session) o.taken.position m key.share takes' in
+      let lk : before_session n key.session + o.taken.position < length (acts n) = (let a = within_acts n key.session (suc o.taken.position) o.session_there (omega arith) in omega arith) in
+      h.order.going.taken (before_session n key.session + o.taken.position) m key.share lk (at_act n key.session o.taken.position o.session_there less ∙ takes')
+    where
+      inside : (es : List Instruction) (q m i : ℕ) → at es q ≡ Take m i → q < length es
+      inside es q m i is = elim (cases_lt q (length es)) [
+        | inl l ↦ l
+        | inr past ↦ absurd (let f : End ≡ Take m i = sym (get_or_past es q End past) ∙ is in cc)
+      ]
+
+  first_words : (q : ℕ) → IsPeer n q → HasFirstWords n q (known n now.words.cells) (length (expected n q)) (h.words q)
+  first_words q peer = (
+    (let a = (h.read q peer).1 in omega arith),
+    λ place l.
+        let x : Expected n q place = expected_there n q place l in
+        let v = found x.number x.there x.receiver in
+        let e = h.heard x.number v.0 v.1 in
+        ap (known n now.words.cells) (sym x.same) ∙ agrees x.number v.0 v.1 ∙ e.3 ∙ ap (λ z. slice_index (h.words z) (place_of n x.number)) x.sender ∙ ap (slice_index (h.words q)) x.place_is,
+  )
+
+  talked : TalkedThrough n (known n now.words.cells) start.links after
+  talked = talks_through n (known n now.words.cells) start.links after (record {
+    told = λ q peer.
+        let same : out_to n after q ≡ outlet_to now q = ap (λ z. slice_index_or z (place_among n.me q) no_outlet) h.outlets ∙ ap (λ z. slice_index_or now.outlets (place_among z q) no_outlet) (sym h.order.going.own.me) in
+        ap (λ z. z.told) same ∙ h.order.going.sent (known n now.words.cells) agrees q peer ∙ ap (added (out_to n start.links q).told) (talk_is_said n q (own_word n (known n now.words.cells)));
+    words = h.words;
+    read = h.read;
+    agrees = first_words;
+  })
+
+  -- ---- outputs
+
+  output_is : (s o : ℕ) → s < length n.world.plan.sessions → (d : Desk) × ((e : Desk) → get_or ds s e ≡ d) × (output_of r s o ≡ output_at d o)
+  output_is s o ls =
+      let x = element (λ (d : Desk). d.memory.outputs.items) ds s [] (let a = h.order.many in omega arith) in
+      (x.0, x.1, ap (λ z. slice_index_or (slice_index_or z s []) o None) h.kept_outputs ∙ ap (λ z. slice_index_or z o None) x.2)
+
+  desk_there : (s : ℕ) (d : Desk) → s < length n.world.plan.sessions → ((e : Desk) → get_or ds s e ≡ d) → IsDesk (local_given n.world (known n now.words.cells) s n.me) d
+  desk_there s d ls is = subst (IsDesk (local_given n.world (known n now.words.cells) s n.me)) (is d) (h.order.done (known n now.words.cells) agrees s d ls)
+
+  pub done : IsDone n (known n now.words.cells) r
+  done = record {
+    message_count = ap length h.kept_words ∙ h.order.going.own.cells;
+    session_count = ap length h.kept_outputs ∙ length-map ds (λ (d : Desk). d.memory.outputs.items) ∙ h.order.many;
+    words = λ m lm to. let v = found m lm to in read_is m ∙ v.1 ∙ ap Some (sym (agrees m v.0 v.1));
+    outputs = λ s o ls lo read.
+        let x = output_is s o ls in
+        let desk = desk_there s x.0 ls x.1 in
+        let end : x.0.position ≡ length (program n.world.plan n.me s) = ap (λ (z : Desk). z.position) (sym (x.1 x.0)) ∙ h.order.ended s x.0 ls in
+        let l = local_given n.world (known n now.words.cells) s n.me in
+        let es = program n.world.plan n.me s in
+        x.2 ∙ desk.memory.outputs o ∙ ap (λ q. (state l q).outputs o) end ∙ ap (λ σ. σ.outputs o) (state_is l (length es) ∙ run_all l es new_state)
+        ∙ (met n.world (part_plan n.world n.me part) (known n now.words.cells) s n.me ls part.party (part_words n.world n.me part s)).1.outputs o lo read;
+    no_word = λ m ne. read_is m ∙ none_there (plain_cell now.words.cells m) m refl ne;
+    no_output = λ s o v ls e.
+        let x = output_is s o ls in
+        let desk = desk_there s x.0 ls x.1 in
+        (opens_right n.world (part_plan n.world n.me part) (known n now.words.cells) s n.me ls part.party (part_words n.world n.me part s) x.0.position o v (sym (desk.memory.outputs o) ∙ sym x.2 ∙ e)).0;
+  }
+    where
+      read_is : (m : ℕ) → word_read r m ≡ plain_cell now.words.cells m
+      read_is m = ap (λ z. slice_index_or z m None) h.kept_words ∙ cell_is now.words.cells m
+
+      none_there : (o : Option ℕ) (m : ℕ) → plain_cell now.words.cells m ≡ o → (message n.world.plan m).receiver ≢ n.me → o ≡ None
+      none_there None m is ne = refl
+      none_there (Some v) m is ne = absurd (ne (h.heard m v is).1)
+
+  pub is_done : (got : Key → ℕ) × IsDone n got r × TalkedThrough n got start.links after
+  is_done = (known n now.words.cells, done, talked)

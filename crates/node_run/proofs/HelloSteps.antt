@@ -1,0 +1,125 @@
+-- Hello after hello.
+use Rattle.std.proofs.Common.{◌≡◌, ◌≢◌, ℕ, ◌+◌, ◌<◌, Bool, true, false, not, List, refl, sym, ap, ◌∙◌, subst, arith, Option, Some, None, Result, Ok, Err}
+use Rattle.std.specs.Option.{is_some}
+use Rattle.std.proofs.lemmas.Bool.{cases_eq, cases_lt}
+use Rattle.std.proofs.lemmas.List.{append-nil}
+use mathlib.Core.Logic.{inl, inr}
+use Rattle.job_plan.specs.declared.key.Key.{Key}
+use Rattle.message_board.specs.Plain.{plain_cell}
+use Rattle.outer_io.specs.Count.{Rose}
+use Rattle.outer_io.specs.Sink.{Writes, added, AddedPrefix}
+use Rattle.outer_io.specs.declared.sink.Failed.{Failed}
+use Rattle.outer_io.proofs.WrittenPieces.{prefix_first, added-nil}
+use Rattle.frame_code.specs.Frames.{hello}
+use Rattle.node_talk.specs.Talks.{Node, IsPeer, own_word, said}
+use Rattle.node_talk.specs.PeerLinks.{out_to}
+use Rattle.node_talk.proofs.Frames.{said_prefix}
+use Rattle.node_run.specs.Mail.{Mail, SentTo, failed_after, outlet_to}
+use Rattle.node_run.specs.Progress.{Begin, IsOf, Going, StopsBy, Halted, Greeted}
+use Rattle.node_run.proofs.SessionSteps.{whole_prefix}
+
+pub not_some : (o : Option ℕ) (b : Bool) → is_some o ≡ not b → b ≡ true → o ≡ None
+not_some None b e f = refl
+not_some (Some x) b e f = absurd (let g : true ≡ false = e ∙ ap not f in cc)
+
+pub not_none : (o : Option ℕ) (b : Bool) → is_some o ≡ not b → b ≡ false → o ≢ None
+not_none None b e f none = (let g : false ≡ true = e ∙ ap not f in cc)
+not_none (Some x) b e f none = (let g : Some x ≡ None = none in cc)
+
+-- what a party says first is its hello
+said_nothing : (n : Node) (q : ℕ) (word : Key → ℕ) → said n q word 0 ≡ hello n.me q n.digest
+said_nothing n q word = append-nil (hello n.me q n.digest)
+
+module _ (n : Node) (q : ℕ) (start : Begin) (c : Mail) (h : Greeted n q start c) where
+  pub skipped : q ≡ n.me → Greeted n (q + 1) start c
+  skipped same = record {
+    own = h.own;
+    words = h.words;
+    sent = λ r peer l. h.sent r peer (let ne : r ≢ q = (λ e. peer.1 (e ∙ same)) in less r q l ne);
+    calm = h.calm;
+    others = λ r peer l. h.others r peer (omega arith);
+    quiet = h.quiet;
+  }
+    where
+      less : (r q : ℕ) → r < q + 1 → r ≢ q → r < q
+      less r q l ne = omega arith
+
+  module _ (lq : q < n.world.plan.parties) (other : q ≢ n.me) (d : Mail) (sent : SentTo q (hello n.me q n.digest) c d) where
+    own' : IsOf n start d
+    own' = subst (IsOf n start) (sym sent.rest) (record { part = h.own.part; digest = h.own.digest; plan = h.own.plan; me = h.own.me; ids = h.own.ids; cells = h.own.cells })
+
+    words' : (m : ℕ) → plain_cell d.words.cells m ≡ None
+    words' m = ap (λ (z : Mail). plain_cell z.words.cells m) sent.rest ∙ h.words m
+
+    there : (r : ℕ) → IsPeer n r → r ≢ q → outlet_to d r ≡ outlet_to c r
+    there r peer ne = sent.others r (subst (λ z. r < z.parties) (sym h.own.plan) peer.0) (λ f. peer.1 (f ∙ h.own.me)) ne
+
+    by_result : (r : Result (Unit {0}) Failed) → Writes (hello n.me q n.digest) (outlet_to c q) (outlet_to d q) r → d.failed ≡ failed_after q r c.failed
+        → (d.failed ≡ None → ((outlet_to d q).told ≡ added (outlet_to c q).told (hello n.me q n.digest)) × ((outlet_to d q).faults ≡ (outlet_to c q).faults))
+        × (d.failed ≢ None → AddedPrefix (outlet_to c q).told (hello n.me q n.digest) (outlet_to d q).told × Rose (outlet_to c q).faults (outlet_to d q).faults × (d.failed ≡ Some q))
+    by_result (Ok u) w kept = (λ quiet. (w.ok, w.quiet), λ some. absurd (some (kept ∙ h.quiet)))
+    by_result (Err f) w kept = (λ quiet. absurd (let g : Some q ≡ None = sym kept ∙ quiet in cc), λ some. (w.err, w.failed, kept))
+
+    written : (d.failed ≡ None → ((outlet_to d q).told ≡ added (outlet_to c q).told (hello n.me q n.digest)) × ((outlet_to d q).faults ≡ (outlet_to c q).faults))
+        × (d.failed ≢ None → AddedPrefix (outlet_to c q).told (hello n.me q n.digest) (outlet_to d q).told × Rose (outlet_to c q).faults (outlet_to d q).faults × (d.failed ≡ Some q))
+    written = by_result sent.result sent.writes (ap (λ (z : Mail). z.failed) sent.rest)
+
+    fresh : outlet_to c q ≡ out_to n start.links q
+    fresh = h.others q (lq, other) (omega arith)
+
+    pub greeted : d.failed ≡ None → Greeted n (q + 1) start d
+    greeted quiet = record {
+      own = own';
+      words = words';
+      sent = λ r peer l. elim (cases_eq r q) [
+        | inl e ↦ subst (λ z. (outlet_to d z).told ≡ added (out_to n start.links z).told (hello n.me z n.digest)) (sym e) ((written.0 quiet).0 ∙ ap (λ z. added z.told (hello n.me q n.digest)) fresh)
+        | inr ne ↦ ap (λ z. z.told) (there r peer ne) ∙ h.sent r peer (omega arith)
+      ];
+      calm = λ r peer. elim (cases_eq r q) [
+        | inl e ↦ subst (λ z. (outlet_to d z).faults ≡ (out_to n start.links z).faults) (sym e) ((written.0 quiet).1 ∙ ap (λ z. z.faults) fresh)
+        | inr ne ↦ ap (λ z. z.faults) (there r peer ne) ∙ h.calm r peer
+      ];
+      others = λ r peer l. there r peer (λ e. absurd (omega arith)) ∙ h.others r peer (omega arith);
+      quiet = quiet;
+    }
+
+    -- a first part of a hello is a first part of what is said by the first instruction
+    in_said : (r : ℕ) (word : Key → ℕ) (told told' : Option (List ℕ)) → AddedPrefix told (hello n.me r n.digest) told' → AddedPrefix told (said n r word 1) told'
+    in_said r word told told' p =
+        let s = said_prefix n r word 0 1 (omega arith) in
+        subst (λ z. AddedPrefix told z told') (sym s.1) (prefix_first (said n r word 0) s.0 told told' (subst (λ z. AddedPrefix told z told') (sym (said_nothing n r word)) p))
+
+    nothing_said : (r : ℕ) (told : Option (List ℕ)) → AddedPrefix told (hello n.me r n.digest) told
+    nothing_said r told = (0, added-nil told)
+
+    pub hello_failed : d.failed ≢ None → Halted n start d
+    hello_failed some = record {
+      stopped = record {
+        own = own';
+        k = 0;
+        within = omega arith;
+        taken = λ j m i l e. absurd (omega arith);
+        sent = λ got ag r peer. in_said r (own_word n got) _ _ (elim (cases_eq r q) [
+          | inl e ↦ subst (λ z. AddedPrefix (out_to n start.links z).told (hello n.me z n.digest) (outlet_to d z).told) (sym e) (subst (λ z. AddedPrefix z.told (hello n.me q n.digest) (outlet_to d q).told) fresh (written.1 some).0)
+          | inr ne ↦ subst (λ z. AddedPrefix (out_to n start.links r).told (hello n.me r n.digest) z.told) (sym (there r peer ne)) (before_here r peer)
+        ]);
+      };
+      why = subst (StopsBy n start d) (sym (written.1 some).2) ((lq, other), subst (λ z. Rose z (outlet_to d q).faults) (h.calm q (lq, other)) (written.1 some).1);
+    }
+      where
+        before_here : (r : ℕ) → IsPeer n r → AddedPrefix (out_to n start.links r).told (hello n.me r n.digest) (outlet_to c r).told
+        before_here r peer = elim (cases_lt r q) [
+          | inl less ↦ whole_prefix (hello n.me r n.digest) _ _ (h.sent r peer less)
+          | inr past ↦ subst (λ z. AddedPrefix (out_to n start.links r).told (hello n.me r n.digest) z.told) (sym (h.others r peer (omega arith))) (nothing_said r (out_to n start.links r).told)
+        ]
+
+-- all peers were greeted: no instruction is done yet
+pub all_greeted : (n : Node) (start : Begin) (c : Mail) → Greeted n n.world.plan.parties start c → Going n 0 start c
+all_greeted n start c h = record {
+  own = h.own;
+  within = omega arith;
+  taken = λ j m i l e. absurd (omega arith);
+  sent = λ got ag q peer. h.sent q peer peer.0 ∙ ap (added (out_to n start.links q).told) (sym (said_nothing n q (own_word n got)));
+  calm = h.calm;
+  quiet = h.quiet;
+}

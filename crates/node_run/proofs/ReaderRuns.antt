@@ -1,0 +1,196 @@
+-- How a run with its readers is put together.
+use Rattle.std.proofs.Common.{◌≡◌, true, ◌⊎◌, ℕ, zero, suc, ◌+◌, ◌-◌, ◌<◌, List, [], ◌∷◌, ◌++◌, length, get_or, take, refl, sym, ap, ◌∙◌, subst, arith, Option, Some, None}
+use Rattle.std.specs.Prelude.{◌==◌, slice_index_or, is_err, Result, Ok, Err, remove}
+use Rattle.std.proofs.lemmas.List.{length-take-le}
+use Rattle.std.proofs.lemmas.Bool.Decides.{nat_tests}
+use Rattle.std.proofs.Math.ListN.{length-map}
+use mathlib.Core.Logic.{inl, inr}
+use Rattle.atomic_table.specs.Seated.{TableId}
+use Rattle.inbox_board.specs.Rule.{newcomer, ends}
+use Rattle.inbox_board.specs.Seats.{mark_of}
+use Rattle.inbox_board.specs.Folds.{pushed, GotWhatWasPushed}
+use Rattle.party_desk.specs.declared.desk.Desk.{Desk}
+use Rattle.outer_io.specs.Count.{Rose}
+use Rattle.outer_io.specs.Inlet.{InletReading}
+use Rattle.outer_io.specs.Jobs.{SpawnerReading, Starts}
+use Rattle.node_talk.specs.declared.fault.NodeFault.{NodeFault}
+use Rattle.node_talk.specs.Talks.{Node, IsPeer}
+use Rattle.link_reader.specs.ReadWords.{Reads, ReaderModel, HasRead, Works, WorksFrom}
+use Rattle.link_reader.specs.NodeReaders.{incoming}
+use Rattle.node_run.specs.Mail.{Mail, BoxModel, no_box}
+use Rattle.node_run.specs.Progress.{Begin, IsOf, Going, InOrder, Halted, ids_of}
+use Rattle.node_run.specs.Remains.{ReaderPartsModel, RemainsModel, party_at, IsFor, MayRun, PeerEnd, first_of, after_outcome, EndsAs, Remained}
+
+-- ---- lists
+
+module _ {A : Type 0} where
+  pub first_of_rest : (xs : List A) (x : A) → 0 < length xs → x ≡ slice_index_or xs 0 x → xs ≡ x ∷ remove xs 0
+  first_of_rest [] x l e = absurd (omega arith)
+  first_of_rest (y ∷ xs) x l e = ap (λ z. z ∷ xs) (sym e)
+
+  take_first : (n : ℕ) (xs : List A) → take n (take (suc n) xs) ≡ take n xs
+  take_first zero xs = refl
+  take_first (suc n) [] = refl
+  take_first (suc n) (x ∷ xs) = ap (λ l. x ∷ l) (take_first n xs)
+
+  in_first : (n k : ℕ) (xs : List A) (d : A) → k < n → slice_index_or (take n xs) k d ≡ slice_index_or xs k d
+  in_first zero k xs d l = absurd (omega arith)
+  in_first (suc n) k [] d l = refl
+  in_first (suc n) zero (x ∷ xs) d l = refl
+  in_first (suc n) (suc k) (x ∷ xs) d l = in_first n k xs d (omega arith)
+
+  pub whole_first : (xs ys : List A) (k : ℕ) → length xs ≡ k → take k (xs ++ ys) ≡ xs
+  whole_first [] ys zero e = refl
+  whole_first [] ys (suc k) e = absurd (omega (arith, e))
+  whole_first (x ∷ xs) ys zero e = absurd (omega (arith, e))
+  whole_first (x ∷ xs) ys (suc k) e = ap (λ l. x ∷ l) (whole_first xs ys k (omega (arith, e)))
+
+pub none_left : (n : ℕ) → (n == 0) ≡ true → n ≡ 0
+none_left zero e = refl
+none_left (suc n) e = grind (arith, nat_tests)
+
+id_of : (xs : List BoxModel) (k : ℕ) → (slice_index_or xs k no_box).id ≡ slice_index_or (ids_of xs) k no_box.id
+id_of [] zero = refl
+id_of [] (suc k) = refl
+id_of (x ∷ xs) zero = refl
+id_of (x ∷ xs) (suc k) = id_of xs k
+
+-- ---- before the sessions
+
+-- the first reader is for the peer at this place, and the others may run after it
+pub next_readers : (n : Node) (start : Begin) (place : ℕ) (readers : List ReaderPartsModel) (x : ReaderPartsModel) (desks : List Desk) (now : Mail)
+    → 0 < length readers → x ≡ slice_index_or readers 0 x → MayRun n start place readers desks now
+    → (place < length start.ids) × IsFor n start place x × MayRun n start (suc place) (remove readers 0) desks now
+next_readers n start place [] x desks now l e h = absurd (omega arith)
+next_readers n start place (y ∷ readers) x desks now l e h =
+    let c = h.count in
+    let at : place + 0 ≡ place = omega arith in
+    let first : IsFor n start place y = subst (λ z. IsFor n start z y) at (h.parts 0 y (omega arith)) in
+    let rest : MayRun n start (suc place) readers desks now = record {
+      order = h.order;
+      empty = h.empty;
+      ids = h.ids;
+      count = omega (arith, c);
+      parts = λ k d l. (let on : place + suc k ≡ suc place + k = omega arith in subst (λ z. IsFor n start z (get_or readers k d)) on (h.parts (suc k) d (omega arith)));
+    } in
+    (omega (arith, c), subst (IsFor n start place) (sym e) first, rest)
+
+-- no reader is left to be started, and the sessions ran to their end or stopped
+pub all_ran : (n : Node) (start : Begin) (place : ℕ) (readers : List ReaderPartsModel) (desks desks' : List Desk) (was now : Mail)
+    (before : List InletReading) (refusals : ℕ) (r : RemainsModel)
+    → MayRun n start place readers desks was → length readers ≡ 0 → length before ≡ 0
+    → InOrder n (length n.world.plan.sessions) start desks' now ⊎ Halted n start now
+    → r ≡ record { outlets = now.outlets; words = now.words; boxes = take (length now.boxes - 0) now.boxes; desks = desks'; failed = now.failed; refused = None; fault = None }
+    → Remained n start place before before refusals refusals r
+all_ran n start place readers desks desks' was now [] refusals r h none short ran e =
+    let own : IsOf n start now = elim ran [ inl x ↦ x.going.own | inr x ↦ x.stopped.own ] in
+    let many : length now.boxes ≡ length start.ids = sym (length-map now.boxes (λ (b : BoxModel). b.id)) ∙ ap (λ (z : List TableId). length z) own.ids in
+    let c = h.count in
+    let at : length now.boxes - 0 ≡ place = omega (arith, many, c, none) in
+    subst (Remained n start place [] [] refusals refusals) (sym e)
+    (record { now = now; own = own; outlets = refl; words = refl; failed = refl; boxes = ap (λ k. take k now.boxes) at; count = refl; ends = (ran, refl) })
+all_ran n start place readers desks desks' was now (x ∷ before) refusals r h none short ran e = absurd (omega (arith, short))
+
+peer_at : (n : Node) (place : ℕ) → place + 1 < n.world.plan.parties → IsPeer n (party_at n.me place)
+peer_at n place l = grind (arith, nat_tests)
+
+-- the start of the reader at this place was refused, and nothing was done
+pub was_refused : (n : Node) (start : Begin) (place : ℕ) (readers : List ReaderPartsModel) (desks : List Desk) (now : Mail)
+    (before after : List InletReading) (refusals refusals' peer waiting : ℕ) (r : RemainsModel)
+    → MayRun n start place readers desks now → 0 < length readers → waiting ≡ length readers → peer ≡ party_at n.me place → length after ≡ length before → Rose refusals refusals'
+    → r ≡ record { outlets = now.outlets; words = now.words; boxes = take (length now.boxes - waiting) now.boxes; desks = desks; failed = now.failed; refused = Some peer; fault = None }
+    → Remained n start place before after refusals refusals' r
+was_refused n start place readers desks now before after refusals refusals' peer waiting r h some left is count rose e =
+    let going : Going n 0 start now = h.order.going in
+    let many : length now.boxes ≡ length start.ids = sym (length-map now.boxes (λ (b : BoxModel). b.id)) ∙ ap (λ (z : List TableId). length z) going.own.ids in
+    let c = h.count in
+    let i = h.ids in
+    let at : length now.boxes - waiting ≡ place = omega (arith, many, c, left) in
+    let one : IsPeer n peer = subst (IsPeer n) (sym is) (peer_at n place (omega (arith, c, i, some))) in
+    subst (Remained n start place before after refusals refusals') (sym e)
+    (record { now = now; own = going.own; outlets = refl; words = refl; failed = refl; boxes = ap (λ k. take k now.boxes) at; count = count; ends = (one, going, h.empty, rose) })
+
+-- ---- starts
+
+-- a job that was started ends as its work left it, and the start refused nothing
+pub has_read : {S : Type 0} (may_end : S → ReaderModel → Type 0) (before after : SpawnerReading) (reader end : ReaderModel) (result : Result S ReaderModel) (s : S)
+    → result ≡ Ok s → Starts Works may_end reader before after result → reader.outcome ≡ None → may_end s end
+    → HasRead reader end × (after.refusals ≡ before.refusals)
+has_read {S} may_end before after reader end result s is h new ended =
+    let g : Starts Works may_end reader before after (Ok s) = subst (Starts Works may_end reader before after) is h in
+    let worked : Works reader end = g.started end ended in
+    (subst (λ o. WorksFrom o reader end) new worked, g.quiet)
+
+pub has_refused : {S : Type 0} (may_end : S → ReaderModel → Type 0) (before after : SpawnerReading) (reader back : ReaderModel) (result : Result S ReaderModel)
+    → result ≡ Err back → Starts Works may_end reader before after result → Rose before.refusals after.refusals
+has_refused {S} may_end before after reader back result is h =
+    let g : Starts Works may_end reader before after (Err back) = subst (Starts Works may_end reader before after) is h in
+    g.refused
+
+-- ---- after the sessions
+
+last_box : (n : Node) (start : Begin) (place : ℕ) (befores afters : List InletReading) (was is : ℕ) (r : RemainsModel)
+    → place < length start.ids → (h : Remained n start (suc place) befores afters was is r)
+    → (length r.boxes ≡ suc place) × (slice_index_or r.boxes (length r.boxes - 1) no_box ≡ slice_index_or h.now.boxes place no_box)
+last_box n start place befores afters was is r l h =
+    let many : length h.now.boxes ≡ length start.ids = sym (length-map h.now.boxes (λ (b : BoxModel). b.id)) ∙ ap (λ (z : List TableId). length z) h.own.ids in
+    let left : length r.boxes ≡ suc place = ap (λ (z : List BoxModel). length z) h.boxes ∙ length-take-le (suc place) h.now.boxes (omega (arith, many)) in
+    let at : length r.boxes - 1 ≡ place = omega (arith, left) in
+    (left, ap (λ k. slice_index_or r.boxes k no_box) at ∙ ap (λ (z : List BoxModel). slice_index_or z place no_box) h.boxes ∙ in_first (suc place) place h.now.boxes no_box (omega arith))
+
+pub some_box : (n : Node) (start : Begin) (place : ℕ) (befores afters : List InletReading) (was is : ℕ) (r : RemainsModel)
+    → place < length start.ids → Remained n start (suc place) befores afters was is r → 0 < length r.boxes
+some_box n start place befores afters was is r l h = let b = (last_box n start place befores afters was is r l h).0 in omega (arith, b)
+
+-- a seat in the inbox at the place is one in the last that is left
+pub in_last : (n : Node) (start : Begin) (place : ℕ) (befores afters : List InletReading) (was is : ℕ) (r : RemainsModel) (id : TableId)
+    → place < length start.ids → Remained n start (suc place) befores afters was is r → id ≡ slice_index_or start.ids place no_box.id
+    → id ≡ (slice_index_or r.boxes (length r.boxes - 1) no_box).id
+in_last n start place befores afters was is r id l h e =
+    e ∙ ap (λ (z : List TableId). slice_index_or z place no_box.id) (sym h.own.ids) ∙ sym (id_of h.now.boxes place) ∙ ap (λ (b : BoxModel). b.id) (sym (last_box n start place befores afters was is r l h).1)
+
+ends_more : (n : Node) (start : Begin) (place : ℕ) (befores afters : List InletReading) (b a : InletReading) (old was is : ℕ) (r : RemainsModel) (bs : List BoxModel) (now : Mail)
+    (result : Result (Unit {0}) NodeFault) → PeerEnd n now place b a result → was ≡ old
+    → (o : Option ℕ) → EndsAs n start (suc place) befores afters was is r now o
+    → EndsAs n start place (b ∷ befores) (a ∷ afters) old is (record r { boxes = bs; fault = first_of result r.fault }) now o
+ends_more n start place befores afters b a old was is r bs now result p q None e = (e.0, (result, p, (r.fault, e.1, refl)))
+ends_more n start place befores afters b a old was is r bs now result p q (Some x) e = (e.0, e.1, e.2, subst (λ z. Rose z is) q e.3)
+
+-- the reader at this place ended before the later ones, and its seat was folded into its inbox
+pub one_more : (n : Node) (start : Begin) (place : ℕ) (befores afters : List InletReading) (b a : InletReading) (old was is later : ℕ) (r r' : RemainsModel)
+    (outcome : Option (Result (Unit {0}) NodeFault)) (reader end : ReaderModel) (olds news : List InletReading)
+    → olds ≡ b ∷ befores → news ≡ a ∷ afters
+    → place < length start.ids → reader.talk ≡ incoming n (party_at n.me place) → reader.inlet ≡ b → HasRead reader end → a ≡ end.inlet → outcome ≡ end.outcome
+    → was ≡ old → later ≡ is → Remained n start (suc place) befores afters was is r
+    → ((words : List ℕ) (mark : ℕ) → end.seat.view ≡ ends (pushed (newcomer 1) words) mark → GotWhatWasPushed words mark (slice_index_or r.boxes (length r.boxes - 1) no_box).view)
+    → r' ≡ record r { boxes = take (length r.boxes - 1) r.boxes; fault = after_outcome outcome r.fault }
+    → Remained n start place olds news old later r'
+one_more n start place befores afters b a old was is later r r' outcome reader end olds news is_b is_a l talk inlet read shows out q q' h got e =
+    let o : outcome ≡ Some read.outcome = out ∙ ap (λ (z : ReaderModel). z.outcome) read.leaves in
+    let view : end.seat.view ≡ ends (pushed (newcomer 1) read.words) (mark_of (is_err read.outcome)) = ap (λ (z : ReaderModel). z.seat.view) read.leaves in
+    let last = last_box n start place befores afters was is r l h in
+    let many = last.0 in
+    let at : length r.boxes - 1 ≡ place = omega (arith, many) in
+    let p : PeerEnd n h.now place b a read.outcome = record {
+      words = read.words;
+      reads = subst (λ z. Reads z read.words b a read.outcome) talk
+          (subst (λ z. Reads reader.talk read.words z a read.outcome) inlet
+          (subst (λ z. Reads reader.talk read.words reader.inlet z read.outcome) (sym shows) read.reads));
+      got = subst (λ (z : BoxModel). GotWhatWasPushed read.words (mark_of (is_err read.outcome)) z.view) last.1 (got read.words (mark_of (is_err read.outcome)) view);
+    } in
+    let left : r' ≡ record r { boxes = take (length r.boxes - 1) r.boxes; fault = first_of read.outcome r.fault } =
+    e ∙ ap (λ (z : Option (Result (Unit {0}) NodeFault)). record r { boxes = take (length r.boxes - 1) r.boxes; fault = after_outcome z r.fault }) o in
+    subst (λ z. Remained n start place z news old later r') (sym is_b)
+    (subst (λ z. Remained n start place (b ∷ befores) z old later r') (sym is_a)
+    (subst (λ z. Remained n start place (b ∷ befores) (a ∷ afters) old z r') (sym q')
+    (subst (Remained n start place (b ∷ befores) (a ∷ afters) old is) (sym left)
+    (record {
+      now = h.now;
+      own = h.own;
+      outlets = h.outlets;
+      words = h.words;
+      failed = h.failed;
+      boxes = ap (λ k. take k r.boxes) at ∙ ap (λ (z : List BoxModel). take place z) h.boxes ∙ take_first place h.now.boxes;
+      count = ap suc h.count;
+      ends = ends_more n start place befores afters b a old was is r (take (length r.boxes - 1) r.boxes) h.now read.outcome p q r.refused h.ends;
+    }))))

@@ -1,0 +1,5 @@
+pub mod Mail
+pub mod Progress
+pub mod Turns
+pub mod ShortRuns
+pub mod Remains

@@ -1,0 +1,121 @@
+-- What a node keeps while it runs its sessions: its outlets, the words that it read, and the inboxes of its peers.
+use Rattle.std.specs.Prelude.{◌≡◌, ◌≢◌, ℕ, ◌+◌, ◌%◌, ◌<◌, ◌^◌, Bool, true, [], List, map, length, slice_index, slice_index_or, Option, None, Some, Result, Ok, Err}
+use Rattle.atomic_table.specs.Seated.{TableId}
+use Rattle.message_board.specs.Pairs.{Knows}
+use Rattle.message_board.specs.Plain.{CellContents, plain_cell}
+use Rattle.inbox_board.specs.declared.steps.View.{View}
+use Rattle.inbox_board.specs.Rule.{newcomer}
+use Rattle.job_plan.specs.Plans.{Plan}
+use Rattle.job_plan.specs.Sound.{IsSound}
+use Rattle.job_plan.specs.Messages.{messages}
+use Rattle.job_plan.specs.Numbers.{message}
+use Rattle.outer_io.specs.Sink.{SinkReading, Writes}
+use Rattle.outer_io.specs.declared.sink.Failed.{Failed}
+use Rattle.node_talk.specs.PeerLinks.{place_among, no_outlet}
+
+-- a peer's inbox: which it is, how many places it has, and what the party's seat knows
+pub record BoxModel : Type 0 where
+  pub id : TableId
+  pub places : ℕ
+  pub view : View
+
+-- the outlets and inboxes stand in the order of the peers, words and places by the numbers of messages
+pub record Mail : Type 0 where
+  pub plan : Plan
+  pub me : ℕ
+  pub outlets : List SinkReading
+  pub words : CellContents
+  pub boxes : List BoxModel
+  -- where each message to the party stands in its sender's inbox
+  pub places : List ℕ
+  -- the peer to which a send failed
+  pub failed : Option ℕ
+
+-- the outlet to q
+abbrev pub outlet_to : Mail → ℕ → SinkReading
+outlet_to x q = slice_index_or x.outlets (place_among x.me q) no_outlet
+
+-- what stands for an inbox that isn't there
+abbrev pub no_box : BoxModel
+no_box = record {
+  id = record { words = 0; slots = 0; views_name = 0; atom = 0; block = 0; offset = 0; slot_names = [] };
+  places = 0;
+  view = newcomer 0;
+}
+
+-- the inbox of q
+abbrev pub box_of : Mail → ℕ → BoxModel
+box_of x q = slice_index_or x.boxes (place_among x.me q) no_box
+
+-- a word that was read: it is that at its place in the sender's inbox, as a number of the ring
+pub record IsRead (x : Mail) (m v : ℕ) : Type 0 where
+  pub there : m < length (messages x.plan)
+  pub receiver : (message x.plan m).receiver ≡ x.me
+  pub found : ℕ
+  pub known : Knows (box_of x (message x.plan m).sender).view.seen (slice_index x.places m) found
+  pub reduced : v ≡ found % 2 ^ x.plan.bits
+
+-- there is an outlet and an inbox for each peer and a cell for each message, each message to the party has its place, and
+-- each word was read there
+pub record IsMail (x : Mail) : Type 0 where
+  pub sound : IsSound x.plan
+  pub me : x.me < x.plan.parties
+  pub outlets : length x.outlets + 1 ≡ x.plan.parties
+  pub boxes : length x.boxes + 1 ≡ x.plan.parties
+  pub cells : length x.words.cells ≡ length (messages x.plan)
+  pub bits : x.words.bits ≡ x.plan.bits
+  pub places : length x.places ≡ length (messages x.plan)
+  pub room : (m : ℕ) → m < length (messages x.plan) → (message x.plan m).receiver ≡ x.me
+      → slice_index x.places m < (box_of x (message x.plan m).sender).places
+  pub read : (m v : ℕ) → plain_cell x.words.cells m ≡ Some v → IsRead x m v
+
+-- ---- what posts and takes do
+
+-- the peer that is kept after a send to q
+abbrev pub failed_after : ℕ → Result (Unit {0}) Failed → Option ℕ → Option ℕ
+failed_after q (Ok _) before = before
+failed_after q (Err _) before = Some q
+
+-- the outlet to q was given these bytes
+pub record SentTo (q : ℕ) (bytes : List ℕ) (before after : Mail) : Type 0 where
+  pub result : Result (Unit {0}) Failed
+  pub writes : Writes bytes (outlet_to before q) (outlet_to after q) result
+  pub others : (r : ℕ) → r < before.plan.parties → r ≢ before.me → r ≢ q → outlet_to after r ≡ outlet_to before r
+  pub rest : after ≡ record before { outlets = after.outlets; failed = failed_after q result before.failed }
+
+-- the party sends message m, and this is a word of the ring
+pub record MayPost (x : Mail) (m word : ℕ) : Type 0 where
+  pub there : m < length (messages x.plan)
+  pub sender : (message x.plan m).sender ≡ x.me
+  pub small : word < 2 ^ x.plan.bits
+
+-- message m goes to the party
+pub record MayTake (x : Mail) (m : ℕ) : Type 0 where
+  pub there : m < length (messages x.plan)
+  pub receiver : (message x.plan m).receiver ≡ x.me
+
+-- what an answer says of the words: the message has that word now, or nothing changed
+abbrev pub AnswersAs : ℕ → Option ℕ → List (Option ℕ) → List (Option ℕ) → Type 0
+AnswersAs m None before after = after ≡ before
+AnswersAs m (Some v) before after = plain_cell after m ≡ Some v
+
+-- a take of message m read its word, or found its place empty
+pub record Takes (before : Mail) (m : ℕ) (answer : Option ℕ) (after : Mail) : Type 0 where
+  pub rest : after ≡ record before { words = after.words; boxes = after.boxes }
+  pub answers : AnswersAs m answer before.words.cells after.words.cells
+  pub count : length after.words.cells ≡ length before.words.cells
+  pub ids : map (λ (b : BoxModel). b.id) after.boxes ≡ map (λ (b : BoxModel). b.id) before.boxes
+
+-- a look into the sender's inbox for message m found this word, or nothing
+pub record Looked (before : Mail) (m : ℕ) (answer : Option ℕ) (after : Mail) : Type 0 where
+  pub rest : after ≡ record before { boxes = after.boxes }
+  pub ids : map (λ (b : BoxModel). b.id) after.boxes ≡ map (λ (b : BoxModel). b.id) before.boxes
+  pub marks : (q : ℕ) → (box_of after q).view.noted ≡ (box_of before q).view.noted
+  pub known : (w : ℕ) → answer ≡ Some w
+      → Knows (box_of after (message before.plan m).sender).view.seen (slice_index before.places m) w
+
+-- a look at the mark of message m's sender found that its reader ended, by a fault or not
+pub record LookedAtMark (before : Mail) (m : ℕ) (answer : Option Bool) (after : Mail) : Type 0 where
+  pub rest : after ≡ record before { boxes = after.boxes }
+  pub ids : map (λ (b : BoxModel). b.id) after.boxes ≡ map (λ (b : BoxModel). b.id) before.boxes
+  pub fault : answer ≡ Some true → (box_of after (message before.plan m).sender).view.noted ≡ 2

@@ -1,0 +1,114 @@
+-- How far a node has come.
+use Rattle.std.specs.Prelude.{◌≡◌, ℕ, suc, ◌+◌, ◌<◌, ◌≤◌, List, length, map, get_or, Option, None, Some}
+use Rattle.message_board.specs.Plain.{plain_cell}
+use Rattle.job_plan.specs.declared.key.Key.{Key}
+use Rattle.job_plan.specs.Messages.{messages}
+use Rattle.job_plan.specs.Numbers.{message}
+use Rattle.party_program.specs.declared.program.Instruction.TheVariants.{Take}
+use Rattle.party_program.specs.Programs.{program, at}
+use Rattle.party_desk.specs.declared.desk.Desk.{Desk}
+use Rattle.party_desk.specs.Desks.{IsDesk}
+use Rattle.program_laws.specs.Meets.{local_given}
+use Rattle.program_laws.specs.Parts.{IsPart}
+use Rattle.outer_io.specs.Count.{Rose}
+use Rattle.outer_io.specs.Links.{LinksReading}
+use Rattle.outer_io.specs.Sink.{added, AddedPrefix}
+use Rattle.frame_code.specs.Frames.{hello}
+use Rattle.node_talk.specs.Talks.{Node, acts, IsPeer, own_word, said}
+use Rattle.node_talk.specs.PeerLinks.{out_to}
+use Rattle.list_laws.specs.Lists.{joined}
+use Rattle.atomic_table.specs.Seated.{TableId}
+use Rattle.node_run.specs.Mail.{Mail, BoxModel, outlet_to, box_of}
+
+-- how many instructions stand before session s
+abbrev pub before_session : Node → ℕ → ℕ
+before_session n s = length (joined s (program n.world.plan n.me))
+
+-- the words that were read are so
+abbrev pub Agrees : Node → List (Option ℕ) → (Key → ℕ) → Type 0
+Agrees n cells got = (m v : ℕ) → plain_cell cells m ≡ Some v → got (message n.world.plan m) ≡ v
+
+-- the word of each take among the first k instructions was read
+abbrev pub HasTaken : Node → ℕ → List (Option ℕ) → Type 0
+HasTaken n k cells = (j m i : ℕ) → j < k → at (acts n) j ≡ Take m i → (v : ℕ) × (plain_cell cells m ≡ Some v)
+
+-- no word is lost
+abbrev pub KeepsWords : Mail → Mail → Type 0
+KeepsWords before after = (m v : ℕ) → plain_cell before.words.cells m ≡ Some v → plain_cell after.words.cells m ≡ Some v
+
+-- what a run begins with: what the links show, and which inboxes there are
+pub record Begin : Type 0 where
+  pub links : LinksReading
+  pub ids : List TableId
+
+-- which inboxes these are
+abbrev pub ids_of : List BoxModel → List TableId
+ids_of boxes = map (λ (b : BoxModel). b.id) boxes
+
+-- what is kept is of this party, with the inboxes of the begin
+pub record IsOf (n : Node) (start : Begin) (now : Mail) : Type 0 where
+  pub part : IsPart n.world n.me
+  pub digest : length n.digest ≡ 32
+  pub plan : now.plan ≡ n.world.plan
+  pub me : now.me ≡ n.me
+  pub ids : ids_of now.boxes ≡ start.ids
+  pub cells : length now.words.cells ≡ length (messages n.world.plan)
+
+-- the first k instructions are done, and nothing failed
+pub record Going (n : Node) (k : ℕ) (start : Begin) (now : Mail) : Type 0 where
+  pub own : IsOf n start now
+  pub within : k ≤ length (acts n)
+  pub taken : HasTaken n k now.words.cells
+  pub sent : (got : Key → ℕ) → Agrees n now.words.cells got → (q : ℕ) → IsPeer n q
+      → (outlet_to now q).told ≡ added (out_to n start.links q).told (said n q (own_word n got) k)
+  pub calm : (q : ℕ) → IsPeer n q → (outlet_to now q).faults ≡ (out_to n start.links q).faults
+  pub quiet : now.failed ≡ None
+
+-- k instructions are done, and of the posts up to the next one a first part was sent
+pub record Stopped (n : Node) (start : Begin) (now : Mail) : Type 0 where
+  pub own : IsOf n start now
+  pub k : ℕ
+  pub within : k ≤ length (acts n)
+  pub taken : HasTaken n k now.words.cells
+  pub sent : (got : Key → ℕ) → Agrees n now.words.cells got → (q : ℕ) → IsPeer n q
+      → AddedPrefix (out_to n start.links q).told (said n q (own_word n got) (suc k)) (outlet_to now q).told
+
+-- a send to a peer failed, or the reader of a peer ended by a fault
+abbrev pub StopsBy : Node → Begin → Mail → Option ℕ → Type 0
+StopsBy n start now (Some q) = IsPeer n q × Rose (out_to n start.links q).faults (outlet_to now q).faults
+StopsBy n start now None = (q : ℕ) × IsPeer n q × ((box_of now q).view.noted ≡ 2)
+
+pub record Halted (n : Node) (start : Begin) (now : Mail) : Type 0 where
+  pub stopped : Stopped n start now
+  pub why : StopsBy n start now now.failed
+
+-- ---- hellos
+
+-- the peers below q were sent their hello, nothing failed, and no word is known
+pub record Greeted (n : Node) (q : ℕ) (start : Begin) (now : Mail) : Type 0 where
+  pub own : IsOf n start now
+  pub words : (m : ℕ) → plain_cell now.words.cells m ≡ None
+  pub sent : (r : ℕ) → IsPeer n r → r < q
+      → (outlet_to now r).told ≡ added (out_to n start.links r).told (hello n.me r n.digest)
+  pub calm : (r : ℕ) → IsPeer n r → (outlet_to now r).faults ≡ (out_to n start.links r).faults
+  pub others : (r : ℕ) → IsPeer n r → q ≤ r → outlet_to now r ≡ out_to n start.links r
+  pub quiet : now.failed ≡ None
+
+-- ---- sessions
+
+-- a desk of session s, which stands where its program leaves it whatever words are still to come
+pub record InSession (n : Node) (s : ℕ) (start : Begin) (d : Desk) (now : Mail) : Type 0 where
+  pub session : s < length n.world.plan.sessions
+  pub desk : (got : Key → ℕ) → Agrees n now.words.cells got → IsDesk (local_given n.world got s n.me) d
+  pub going : Going n (before_session n s + d.position) start now
+
+-- the sessions before s are done, the others are new
+pub record InOrder (n : Node) (s : ℕ) (start : Begin) (ds : List Desk) (now : Mail) : Type 0 where
+  pub many : length ds ≡ length n.world.plan.sessions
+  pub done : (got : Key → ℕ) → Agrees n now.words.cells got → (t : ℕ) (d : Desk) → t < s
+      → IsDesk (local_given n.world got t n.me) (get_or ds t d)
+  pub ended : (t : ℕ) (d : Desk) → t < s → (get_or ds t d).position ≡ length (program n.world.plan n.me t)
+  pub new : (got : Key → ℕ) (t : ℕ) (d : Desk) → s ≤ t → t < length ds
+      → IsDesk (local_given n.world got t n.me) (get_or ds t d)
+  pub still : (t : ℕ) (d : Desk) → s ≤ t → t < length ds → (get_or ds t d).position ≡ 0
+  pub going : Going n (before_session n s) start now

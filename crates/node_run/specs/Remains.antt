@@ -1,0 +1,95 @@
+-- A run with its readers, and what it leaves.
+use Rattle.std.specs.Prelude.{◌≡◌, ◌⊎◌, ℕ, suc, ◌+◌, ◌<◌, nat_lt, if◌then◌else◌, is_err, List, [], ◌∷◌, length, take, get_or, slice_index_or, Option, None, Some, Result, Ok, Err}
+use Rattle.atomic_table.specs.Seated.{TableId}
+use Rattle.message_board.specs.Plain.{CellContents, plain_cell}
+use Rattle.inbox_board.specs.Seats.{mark_of}
+use Rattle.inbox_board.specs.Folds.{GotWhatWasPushed}
+use Rattle.party_desk.specs.declared.desk.Desk.{Desk}
+use Rattle.outer_io.specs.Count.{Rose}
+use Rattle.outer_io.specs.Inlet.{InletReading}
+use Rattle.outer_io.specs.Sink.{SinkReading}
+use Rattle.node_talk.specs.declared.fault.NodeFault.{NodeFault}
+use Rattle.node_talk.specs.Talks.{Node, IsPeer}
+use Rattle.link_reader.specs.Expected.{TalkModel}
+use Rattle.link_reader.specs.ReadWords.{Reads}
+use Rattle.link_reader.specs.NodeReaders.{incoming}
+use Rattle.node_run.specs.Mail.{Mail, BoxModel, no_box}
+use Rattle.node_run.specs.Progress.{Begin, IsOf, Going, InOrder, Halted}
+
+-- a reader but for its inlet: what it expects, and the inbox that it fills
+pub record ReaderPartsModel : Type 0 where
+  pub talk : TalkModel
+  pub id : TableId
+
+-- what a run leaves: the peer to which a send failed, the one whose reader wasn't started, and the first reader's fault
+pub record RemainsModel : Type 0 where
+  pub outlets : List SinkReading
+  pub words : CellContents
+  pub boxes : List BoxModel
+  pub desks : List Desk
+  pub failed : Option ℕ
+  pub refused : Option ℕ
+  pub fault : Option NodeFault
+
+-- the peer of party p that stands at this place
+abbrev pub party_at : ℕ → ℕ → ℕ
+party_at p place = if nat_lt place p then place else suc place
+
+-- the parts of the reader of the peer at a place
+pub record IsFor (n : Node) (start : Begin) (place : ℕ) (parts : ReaderPartsModel) : Type 0 where
+  pub talk : parts.talk ≡ incoming n (party_at n.me place)
+  pub id : parts.id ≡ slice_index_or start.ids place no_box.id
+
+-- all readers from this place on are still to be started, and nothing is done
+pub record MayRun (n : Node) (start : Begin) (place : ℕ) (readers : List ReaderPartsModel) (desks : List Desk)
+    (now : Mail) : Type 0 where
+  pub order : InOrder n 0 start desks now
+  pub empty : (m : ℕ) → plain_cell now.words.cells m ≡ None
+  pub ids : length start.ids + 1 ≡ n.world.plan.parties
+  pub count : place + length readers ≡ length start.ids
+  pub parts : (k : ℕ) (d : ReaderPartsModel) → k < length readers → IsFor n start (place + k) (get_or readers k d)
+
+-- how a reader ended: what it read, and that the party got no other words and no other mark of its inbox
+pub record PeerEnd (n : Node) (now : Mail) (place : ℕ) (before after : InletReading)
+    (result : Result (Unit {0}) NodeFault) : Type 0 where
+  pub words : List ℕ
+  pub reads : Reads (incoming n (party_at n.me place)) words before after result
+  pub got : GotWhatWasPushed words (mark_of (is_err result)) (slice_index_or now.boxes place no_box).view
+
+-- the fault of this reader, else that of the later ones
+abbrev pub first_of : Result (Unit {0}) NodeFault → Option NodeFault → Option NodeFault
+first_of (Ok _) later = later
+first_of (Err fault) later = Some fault
+
+-- the fault that is kept where a reader ended so, before the later ones
+abbrev pub after_outcome : Option (Result (Unit {0}) NodeFault) → Option NodeFault → Option NodeFault
+after_outcome None later = later
+after_outcome (Some result) later = first_of result later
+
+-- all readers from this place on ended, and this is the first fault of one
+abbrev pub AllEnd : Node → Mail → ℕ → List InletReading → List InletReading → Option NodeFault → Type 0
+AllEnd n now place [] [] fault = fault ≡ None
+AllEnd n now place (before ∷ befores) (after ∷ afters) fault =
+    (result : Result (Unit {0}) NodeFault) × PeerEnd n now place before after result
+    × ((later : Option NodeFault) × AllEnd n now (suc place) befores afters later × (fault ≡ first_of result later))
+AllEnd n now place _ _ fault = ⊥
+
+-- all readers were started, and the sessions ran to their end or stopped; or a start was refused, and nothing was done
+abbrev pub EndsAs : Node → Begin → ℕ → List InletReading → List InletReading → ℕ → ℕ → RemainsModel → Mail
+    → Option ℕ → Type 0
+EndsAs n start place before after refusals refusals' r now None =
+    (InOrder n (length n.world.plan.sessions) start r.desks now ⊎ Halted n start now)
+    × AllEnd n now place before after r.fault
+EndsAs n start place before after refusals refusals' r now (Some q) =
+    IsPeer n q × Going n 0 start now × ((m : ℕ) → plain_cell now.words.cells m ≡ None) × Rose refusals refusals'
+
+pub record Remained (n : Node) (start : Begin) (place : ℕ) (before after : List InletReading) (refusals refusals' : ℕ)
+    (r : RemainsModel) : Type 0 where
+  pub now : Mail
+  pub own : IsOf n start now
+  pub outlets : r.outlets ≡ now.outlets
+  pub words : r.words ≡ now.words
+  pub failed : r.failed ≡ now.failed
+  pub boxes : r.boxes ≡ take place now.boxes
+  pub count : length after ≡ length before
+  pub ends : EndsAs n start place before after refusals refusals' r now r.refused

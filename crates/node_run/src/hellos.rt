@@ -1,0 +1,43 @@
+// The hellos of a node.
+ghost use Rattle.std.specs.Prelude.{◌≡◌, ◌≢◌, ◌+◌, ◌<◌, ℕ, None, true, false};
+ghost use Rattle.node_talk.specs.Talks.{Node};
+ghost use Rattle.node_run.specs.Progress.{Begin, Greeted, Halted};
+
+use crate::cells::NodeCells;
+use frame_code::hello;
+use outer_io::Outlet;
+
+// Sends its hello to party q, if that is a peer. It answers whether the sends may go on.
+fn greet_one<'p, O: Outlet>(cells: &mut NodeCells<'p, O>, q: u32, digest: &[u8; 32]) -> bool
+    requires { (n : Node) × (start : Begin) × (n.digest ≡ digest.now) × (q < n.world.plan.parties)
+        × Greeted n q start cells.old }
+    ensures on { (n : Node) (start : Begin) → n.digest ≡ digest.now → q < n.world.plan.parties
+        → Greeted n q start cells.old
+        → result ≡ true → Greeted n (q + 1) start cells.new }
+    ensures halted { (n : Node) (start : Begin) → n.digest ≡ digest.now → q < n.world.plan.parties
+        → Greeted n q start cells.old
+        → result ≡ false → Halted n start cells.new × (cells.new.failed ≢ None) }
+{
+    if q == cells.me {
+        return true;
+    }
+    let hello = hello(cells.me, q, digest);
+    cells.send(q, &hello);
+    cells.failed.is_none()
+}
+
+/// Sends its hello to each peer in turn, up to the first failure, and answers whether none failed.
+pub fn greet<'p, O: Outlet>(cells: &mut NodeCells<'p, O>, digest: &[u8; 32]) -> bool
+    requires { (n : Node) × (start : Begin) × (n.digest ≡ digest.now) × Greeted n 0 start cells.old }
+    ensures on { (n : Node) (start : Begin) → n.digest ≡ digest.now → Greeted n 0 start cells.old
+        → result ≡ true → Greeted n n.world.plan.parties start cells.new }
+    ensures halted { (n : Node) (start : Begin) → n.digest ≡ digest.now → Greeted n 0 start cells.old
+        → result ≡ false → Halted n start cells.new × (cells.new.failed ≢ None) }
+{
+    for q in 0..cells.plan.parties() {
+        if !greet_one(cells, q, digest) {
+            return false;
+        }
+    }
+    true
+}

@@ -1,0 +1,128 @@
+// The sessions of a node.
+ghost use Rattle.std.specs.Prelude.{◌≡◌, ℕ, ◌<◌, length, true, false};
+ghost use Rattle.party_program.specs.Programs.{program};
+ghost use Rattle.node_talk.specs.Talks.{Node};
+ghost use Rattle.job_plan.specs.Numbers.{message};
+ghost use Rattle.node_run.specs.Mail.{MayTake, box_of};
+ghost use Rattle.node_run.specs.Progress.{Begin, InSession, InOrder, Halted, KeepsWords, ids_of};
+ghost use Rattle.node_run.specs.Turns.{Turns};
+
+use crate::cells::NodeCells;
+use crossbeam_utils::sync::Parker;
+use job_plan::Plan;
+use outer_io::Outlet;
+use party_desk::{Desk, Stepped};
+use std::sync::Wait;
+
+// What one turn of a desk came to.
+#[derive(Clone, Copy, Debug, PartialEq, Eq)]
+enum Turn {
+    // It moved.
+    Moved,
+    // It waits for the word of this message.
+    Waits(u32),
+    // It is at its end.
+    Ended,
+    // A send failed.
+    Failed,
+}
+
+// Does one instruction.
+fn advance<'p, O: Outlet>(plan: &Plan, desk: &mut Desk, cells: &mut NodeCells<'p, O>) -> Turn
+    requires { (n : Node) × (s : ℕ) × (start : Begin) × (n.world.plan ≡ plan.now)
+        × InSession n s start desk.old cells.old }
+    ensures turns { (n : Node) (s : ℕ) (start : Begin) → n.world.plan ≡ plan.now
+        → InSession n s start desk.old cells.old
+        → Turns n s start desk.new cells.new result }
+    ensures keeps { KeepsWords cells.old cells.new }
+{
+    match desk.step(plan, cells) {
+        Stepped::Moved => {
+            if cells.failed.is_some() {
+                return Turn::Failed;
+            }
+            return Turn::Moved;
+        }
+        Stepped::NotYet(number) => return Turn::Waits(number),
+        Stepped::Ended => return Turn::Ended,
+    }
+}
+
+// Waits for the word of this message, and answers whether it may still come: not where the reader of its sender ended by
+// a fault without it.
+fn wait_for<'p, O: Outlet, R: Wait>(
+    rt: &R,
+    cells: &mut NodeCells<'p, O>,
+    parker: &Parker,
+    number: u32,
+) -> bool
+    requires { MayTake cells.old number }
+    ensures rest { cells.new ≡ record cells.old { boxes = cells.new.boxes } }
+    ensures ids { ids_of cells.new.boxes ≡ ids_of cells.old.boxes }
+    ensures stops { result ≡ false → (box_of cells.new (message cells.old.plan number).sender).view.noted ≡ 2 }
+{
+    match cells.mark(number) {
+        None => {
+            parker.park(rt);
+            true
+        }
+        Some(false) => true,
+        Some(true) => cells.look(number).is_some(),
+    }
+}
+
+// Steps the desk to its end, and answers whether it came there. Where it waits, it parks until a reader wakes it.
+fn walk<'p, O: Outlet, R: Wait>(
+    rt: &R,
+    plan: &Plan,
+    desk: &mut Desk,
+    cells: &mut NodeCells<'p, O>,
+    parker: &Parker,
+) -> bool
+    requires { (n : Node) × (s : ℕ) × (start : Begin) × (n.world.plan ≡ plan.now)
+        × InSession n s start desk.old cells.old }
+    ensures ended { (n : Node) (s : ℕ) (start : Begin) → n.world.plan ≡ plan.now
+        → InSession n s start desk.old cells.old
+        → result ≡ true → InSession n s start desk.new cells.new
+        × (desk.new.position ≡ length (program n.world.plan n.me s)) }
+    ensures halted { (n : Node) (s : ℕ) (start : Begin) → n.world.plan ≡ plan.now
+        → InSession n s start desk.old cells.old
+        → result ≡ false → Halted n start cells.new }
+    ensures keeps { KeepsWords cells.old cells.new }
+{
+    for _ in rt.forever() {
+        match advance(plan, desk, cells) {
+            Turn::Moved => (),
+            Turn::Waits(number) => {
+                if !wait_for(rt, cells, parker, number) {
+                    return false;
+                }
+            }
+            Turn::Ended => return true,
+            Turn::Failed => return false,
+        }
+    }
+    unreachable!()
+}
+
+/// Steps all desks to their end in turn, and answers whether they came there.
+pub fn run_sessions<'p, O: Outlet, R: Wait>(
+    rt: &R,
+    plan: &Plan,
+    desks: &mut [Desk],
+    cells: &mut NodeCells<'p, O>,
+    parker: &Parker,
+) -> bool
+    requires { (n : Node) × (start : Begin) × (n.world.plan ≡ plan.now) × InOrder n 0 start desks.old cells.old }
+    ensures ended { (n : Node) (start : Begin) → n.world.plan ≡ plan.now → InOrder n 0 start desks.old cells.old
+        → result ≡ true → InOrder n (length desks.old) start desks.new cells.new }
+    ensures halted { (n : Node) (start : Begin) → n.world.plan ≡ plan.now → InOrder n 0 start desks.old cells.old
+        → result ≡ false → Halted n start cells.new }
+{
+    for s in 0..desks.len() {
+        if !walk(rt, plan, &mut desks[s], cells, parker) {
+            return false;
+        }
+    }
+    true
+}
