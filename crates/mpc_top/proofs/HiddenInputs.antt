@@ -16,7 +16,7 @@ use Rattle.mpc_top.specs.declared.plan.Planned as code
 use Rattle.mpc_top.specs.Verdict.{accepted}
 use Rattle.mpc_top.specs.JobOf.{WholeJob, JobAt}
 use Rattle.mpc_top.specs.Reads.{ReadsAs}
-use Rattle.mpc_top.specs.Hiding.{AreAlike, Hides, CommandHides}
+use Rattle.mpc_top.specs.HiddenInputs.{AreAlike, Hides, CommandHides}
 use Rattle.mpc_top.proofs.Jobs.{job_seen}
 
 module _ (Written : List ℕ → Type 0) where

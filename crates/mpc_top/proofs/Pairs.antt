@@ -16,7 +16,7 @@ use Rattle.mpc_top.specs.JobOf.{PairedJob, paired_job, second_of, hidden_of, Pla
 use Rattle.mpc_top.specs.Seen.{planned_view, parties_view}
 use Rattle.mpc_top.specs.Reads.{ReadsAs, WalksAs}
 use Rattle.mpc_top.specs.Due.{TextOf}
-use Rattle.mpc_top.specs.Hiding.{same_seen, HidesPair, CommandHides}
+use Rattle.mpc_top.specs.HiddenInputs.{same_seen, HidesPair, CommandHides}
 use Rattle.mpc_top.proofs.Steps.{reads_stop, reads_then, reads_walk, reads_end}
 use Rattle.mpc_top.proofs.Jobs.{job_seen, job_stops, job_stops_later, job_read}
 

@@ -18,7 +18,7 @@ use Rattle.mpc_top.specs.JobOf.{WholeJob, PlanAt, PartiesAfter}
 use Rattle.mpc_top.specs.Seen.{planned_view, parties_view}
 use Rattle.mpc_top.specs.Reads.{KeepsFiles, ReadsAs, StopsAt}
 use Rattle.mpc_top.specs.Due.{TextOf}
-use Rattle.mpc_top.specs.Hiding.{CommandHides}
+use Rattle.mpc_top.specs.HiddenInputs.{CommandHides}
 use Rattle.mpc_top.specs.Stops.{HasCause, Runs}
 use Rattle.mpc_top.proofs.Steps.{reads_stop, reads_then, reads_end}
 use Rattle.mpc_top.proofs.Jobs.{job_seen, job_stops, job_stops_later, job_read}

@@ -8,7 +8,7 @@ use Rattle.mpc_top.specs.declared.stop.Stop.{Stop}
 use Rattle.mpc_top.specs.Verdict.{Verdict, accepted, missing, refused}
 use Rattle.mpc_top.specs.Reads.{KeepsFiles}
 use Rattle.mpc_top.specs.Due.{IsDue, status_due, text_due}
-use Rattle.mpc_top.specs.Hiding.{CommandHides}
+use Rattle.mpc_top.specs.HiddenInputs.{CommandHides}
 use Rattle.mpc_top.specs.Stops.{HasCause, IsDone, Tells}
 
 -- ---- the outside of a call

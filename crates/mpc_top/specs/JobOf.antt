@@ -7,7 +7,7 @@ use Rattle.group_formula.specs.Formulas.{IsFormula, IsFault}
 use Rattle.group_formula.specs.declared.fault.FormulaFault.{FormulaFault}
 use Rattle.group_formula.specs.Trees.{is_tolerated}
 use Rattle.maximal_groups.specs.Families.{maximal_structure, is_tolerated_by}
-use Rattle.q2_test.specs.Covering.{IsFirstCovering}
+use Rattle.q2_test.specs.CoveringPairs.{IsFirstCovering}
 use Rattle.circuit_model.specs.Netlists.{Netlist}
 use Rattle.circuit_file.specs.CircuitFiles.{circuit_in}
 use Rattle.job_session.specs.Sessions.{Session}
@@ -218,7 +218,7 @@ pub record PairedJob : Type 0 where
 abbrev pub second_of : PairedJob → World
 second_of job = second_world job.first job.other job.group
 
--- the mask of a group, where one is asked for
+-- the mask of a group; where none is asked for it is the empty group, of mask 0
 abbrev pub mask_of : Option Members → ℕ
 mask_of None = 0
 mask_of (Some group) = group.mask

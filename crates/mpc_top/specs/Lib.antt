@@ -3,7 +3,7 @@ pub mod Texts
 pub mod Verdict
 pub mod JobOf
 pub mod Due
-pub mod Hiding
+pub mod HiddenInputs
 pub mod Stops
 pub mod Reads
 pub mod Seen

@@ -11,7 +11,7 @@ use Rattle.mpc_top.specs.Texts.{files_fault_line, out_fault_line, usage_text}
 use Rattle.mpc_top.specs.Verdict.{Verdict, accepted, missing, refused}
 use Rattle.mpc_top.specs.Reads.{KeepsFiles}
 use Rattle.mpc_top.specs.Due.{IsDue}
-use Rattle.mpc_top.specs.Hiding.{CommandHides}
+use Rattle.mpc_top.specs.HiddenInputs.{CommandHides}
 
 abbrev pub status_of : Stop → ℕ
 status_of Words = 2

@@ -8,7 +8,7 @@ use crate::Stop;
 use desk_workers::prepare;
 use outer_io::{Files, Pace, Sink};
 use output_text::write_sample;
-use party_set::{Names, read_names};
+use party_set::{Names, NamesFault, read_names};
 use sample_maker::{Sample, make_sample};
 use std::alloc::{AllocError, Global};
 use std::thread::Threads;
@@ -41,7 +41,7 @@ pub(crate) fn run_sample<F: Files, O: Sink, P: Pace, R: Threads + Sync>(
     Ok(write_sample(out, &names, &plan, &done, count)?)
 }
 
-// The names of the parties. They have no fault, so there is no refusal but for want of memory.
+// The names of the parties, if there is memory.
 fn three_names(alloc: Global) -> Result<Names, AllocError>
     ensures { IfOk result (λ names. names ≡ sample_names) }
 {
@@ -51,6 +51,9 @@ fn three_names(alloc: Global) -> Result<Names, AllocError>
     let texts = vec![in alloc; first, second, third]?;
     match read_names(alloc, &texts) {
         Ok(names) => Ok(names),
-        Err(_) => Err(AllocError),
+        Err(NamesFault::Memory) => Err(AllocError),
+        Err(NamesFault::BadName { .. }) => unreachable!(),
+        Err(NamesFault::TwiceNamed { .. }) => unreachable!(),
+        Err(NamesFault::PartyCount { .. }) => unreachable!(),
     }
 }

@@ -10,7 +10,7 @@ use Rattle.circuit_model.specs.declared.fault.CircuitFault.TheVariants.{OutputNo
 use Rattle.circuit_model.specs.declared.gate.Operation.{Operation}
 use Rattle.circuit_model.specs.Checks.{Gives}
 use Rattle.circuit_model.specs.Netlists.{Netlist, sets}
-use Rattle.circuit_model.specs.Building.{Draft, header_checks, no_gates_yet, start_of, after_gate, answer_of, Becomes, unset_output, circuit_of}
+use Rattle.circuit_model.specs.DraftSteps.{Draft, header_checks, no_gates_yet, start_of, after_gate, answer_of, Becomes, unset_output, circuit_of}
 use Rattle.circuit_model.proofs.SetWires.{find_next, find_end}
 use Rattle.sample_maker.specs.Drafts.{first_gates, sample_draft}
 use Rattle.sample_maker.specs.Samples.{first_operand, second_operand, sample_operation}

@@ -11,7 +11,7 @@ use Rattle.circuit_model.specs.declared.gate.Operation.{Operation}
 use Rattle.circuit_model.specs.declared.gate.Operation.TheVariants.{Add, Sub, Neg, Mul}
 use Rattle.circuit_model.specs.declared.fault.CircuitFault.{CircuitFault}
 use Rattle.circuit_model.specs.Netlists.{arity, is_set, sets}
-use Rattle.circuit_model.specs.Building.{gate_checks, gate_of, next_gate, take_gate, after_gate}
+use Rattle.circuit_model.specs.DraftSteps.{gate_checks, gate_of, next_gate, take_gate, after_gate}
 use Rattle.circuit_model.proofs.SetWires.{lt_or_not, set_next}
 use Rattle.sample_maker.specs.Samples.{first_operand, second_operand, sample_gate, sample_operation}
 use Rattle.sample_maker.specs.Drafts.{first_gates, sample_draft}

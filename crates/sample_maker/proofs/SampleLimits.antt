@@ -6,7 +6,7 @@ use Rattle.list_laws.specs.Lists.{total, listed}
 use Rattle.list_laws.proofs.JoinedLists.{length-listed}
 use Rattle.circuit_model.specs.declared.gate.Gate.{Gate}
 use Rattle.circuit_model.specs.Circuits.{is_product}
-use Rattle.secret_sharing.specs.Sharing.{has_pair}
+use Rattle.secret_sharing.specs.Schemes.{has_pair}
 use Rattle.job_session.specs.Counts.{owned, products}
 use Rattle.job_session.specs.Sessions.{owners}
 use Rattle.job_plan.specs.Plans.{Plan, scheme, session}

@@ -6,7 +6,7 @@ use Rattle.std.proofs.lemmas.List.Elements.{All-from_recursion}
 use Rattle.list_laws.proofs.JoinedLists.{length-listed, listed_at, every_listed}
 use Rattle.job_plan.specs.Plans.{words}
 use Rattle.tape_words.specs.Seeds.{seed_word}
-use Rattle.desk_laws.specs.Opening.{ArePieces, piece_at}
+use Rattle.desk_laws.specs.Pieces.{ArePieces, piece_at}
 use Rattle.sample_maker.specs.Samples.{sample_piece, sample_pieces, sample_plan, sample_seed}
 
 -- there are three, as long as the parties draw, and each word is a remainder

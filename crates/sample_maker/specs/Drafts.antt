@@ -2,7 +2,7 @@
 use Rattle.std.specs.Prelude.{ℕ, ◌+◌, None, [], ◌∷◌}
 use Rattle.list_laws.specs.Lists.{listed}
 use Rattle.circuit_model.specs.Netlists.{Netlist}
-use Rattle.circuit_model.specs.Building.{Draft}
+use Rattle.circuit_model.specs.DraftSteps.{Draft}
 use Rattle.sample_maker.specs.Samples.{sample_gate}
 
 -- the first j gates of sample n, over all of its wires

@@ -11,7 +11,7 @@ use Rattle.job_plan.specs.Multiply.{three_parties}
 use Rattle.job_plan.specs.Plans.{Plan, plan_of, words}
 use Rattle.tape_words.specs.Seeds.{seed_word}
 use Rattle.share_world.specs.Worlds.{World}
-use Rattle.desk_laws.specs.Opening.{world_of_pieces}
+use Rattle.desk_laws.specs.Pieces.{world_of_pieces}
 
 -- the operation of gate j
 abbrev pub sample_operation : ℕ → ℕ → Operation
@@ -80,6 +80,10 @@ sample_pieces n = listed 3 (sample_piece (sample_plan n))
 abbrev pub sample_names : List (List ℕ)
 sample_names = codes "a" ∷ codes "b" ∷ codes "c" ∷ []
 
--- the world of sample n
+-- the world of sample n over pieces of tape
+abbrev pub sample_world : ℕ → List (List ℕ) → World
+sample_world n = world_of_pieces (sample_plan n) (sample_inputs n)
+
+-- the world of sample n, over the pieces of its own seeds
 abbrev pub sample_job : ℕ → World
-sample_job n = world_of_pieces (sample_plan n) (sample_inputs n) (sample_pieces n)
+sample_job n = sample_world n (sample_pieces n)

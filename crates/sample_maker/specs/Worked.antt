@@ -5,15 +5,10 @@ use Rattle.job_session.specs.Counts.{products}
 use Rattle.job_session.specs.KeptWires.{live}
 use Rattle.job_plan.specs.Plans.{words}
 use Rattle.job_plan.specs.Messages.{messages}
-use Rattle.share_world.specs.Worlds.{World, plain}
-use Rattle.desk_laws.specs.Opening.{world_of_pieces}
-use Rattle.sample_maker.specs.Samples.{sample_inputs, sample_plan, sample_session}
+use Rattle.share_world.specs.Worlds.{plain}
+use Rattle.sample_maker.specs.Samples.{sample_plan, sample_session, sample_world}
 
--- the world of sample n, with any pieces of tape
-abbrev pub sample_world : ℕ → List (List ℕ) → World
-sample_world n = world_of_pieces (sample_plan n) (sample_inputs n)
-
--- the words that the gates of sample n set in the clear
+-- the words that the gates of sample n set in the clear, whatever the pieces of tape
 abbrev pub gate_words : ℕ → List (List ℕ) → List ℕ
 gate_words n pieces = listed n (λ j. plain (sample_world n pieces) 0 (4 + j))
 

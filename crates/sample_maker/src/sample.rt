@@ -1,7 +1,7 @@
 //! Samples.
 ghost use Rattle.std.specs.Prelude.{◌≡◌, ◌<◌, ◌≤◌, IfOk};
 ghost use Rattle.job_plan.specs.InputWords.{AreInputs};
-ghost use Rattle.desk_laws.specs.Opening.{ArePieces};
+ghost use Rattle.desk_laws.specs.Pieces.{ArePieces};
 ghost use Rattle.sample_maker.specs.Samples.{sample_inputs, sample_pieces, sample_plan};
 
 use crate::inputs::sample_inputs;

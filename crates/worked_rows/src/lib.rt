@@ -30,6 +30,8 @@ mod product;
 #[cfg(test)]
 mod row;
 #[cfg(test)]
+mod sample_worlds;
+#[cfg(test)]
 mod samples;
 #[cfg(test)]
 mod tests;

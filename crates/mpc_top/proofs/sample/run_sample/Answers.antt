@@ -4,7 +4,7 @@ use Rattle.outer_io.specs.Sink.{SinkReading, Writes}
 use Rattle.outer_io.specs.declared.sink.Failed.{Failed}
 use Rattle.job_plan.specs.Plans.{Plan}
 use Rattle.share_world.specs.Worlds.{World}
-use Rattle.desk_laws.specs.Opening.{world_of_pieces}
+use Rattle.desk_laws.specs.Pieces.{world_of_pieces}
 use Rattle.command_words.specs.Commands.{sample}
 use Rattle.output_text.specs.SampleText.{sample_text}
 use Rattle.sample_maker.specs.Samples.{sample_names, sample_plan, sample_inputs, sample_pieces, sample_job}

@@ -1,5 +1,5 @@
 use Rattle.std.proofs.Common.{◌+◌, ◌<◌, [], ◌∷◌, length, ap, ap₂, ◌∙◌, sym, subst, arith}
-use Rattle.circuit_model.specs.Building.{Draft}
+use Rattle.circuit_model.specs.DraftSteps.{Draft}
 use Rattle.list_laws.proofs.JoinedLists.{length-listed}
 use Rattle.sample_maker.specs.Samples.{sample_gate}
 use Rattle.sample_maker.proofs.SampleGates.{taken}
