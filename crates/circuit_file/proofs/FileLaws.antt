@@ -9,7 +9,7 @@ use Rattle.list_laws.proofs.FirstFaults.{none_failed}
 use Rattle.gate_lines.specs.Rows.{Row, rows_of}
 use Rattle.circuit_model.specs.Netlists.{Netlist, AllGatesFit, IsCircuit}
 use Rattle.list_laws.specs.Checks.{first_fault, then_fault}
-use Rattle.circuit_model.specs.Building.{unset_output}
+use Rattle.circuit_model.specs.DraftSteps.{unset_output}
 use Rattle.circuit_file.specs.Answers.{◌>>=◌}
 use Rattle.circuit_file.specs.Header.{counts_in, widths_in}
 use Rattle.circuit_file.specs.CircuitFiles.{next_row, gates_in, ended, no_gates, header_in, lines_in, is_bristol, text_checks, circuit_in}

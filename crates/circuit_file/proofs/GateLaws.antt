@@ -16,7 +16,7 @@ use Rattle.circuit_model.specs.declared.gate.Operation.TheVariants.{Add, Sub, Ne
 use Rattle.circuit_model.specs.declared.fault.CircuitFault.{CircuitFault}
 use Rattle.circuit_model.specs.Netlists.{Netlist, GateFits, arity, is_constant, read_by, sets}
 use Rattle.list_laws.specs.Checks.{first_fault}
-use Rattle.circuit_model.specs.Building.{gate_checks, gate_of, next_gate}
+use Rattle.circuit_model.specs.DraftSteps.{gate_checks, gate_of, next_gate}
 use Rattle.circuit_file.specs.Tokens.{token, tokens_after, is_number, number_in, all_numbers}
 use Rattle.circuit_file.specs.GateLines.{operation_of, input_count, output_count, wire_count, operation_in, form_checks, wires_in, gate_line_of, gate_line_in, GateLine}
 use Rattle.circuit_file.specs.CircuitFiles.{gate_in}

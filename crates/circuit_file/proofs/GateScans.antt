@@ -13,7 +13,7 @@ use Rattle.circuit_model.specs.declared.fault.CircuitFault.{CircuitFault}
 use Rattle.circuit_model.specs.declared.fault.CircuitFault.TheVariants.{WrongArity}
 use Rattle.list_laws.specs.Checks.{first_fault, or_fault}
 use Rattle.circuit_model.specs.Netlists.{Netlist, arity}
-use Rattle.circuit_model.specs.Building.{Draft, gate_checks, next_gate}
+use Rattle.circuit_model.specs.DraftSteps.{Draft, gate_checks, next_gate}
 use Rattle.circuit_file.specs.Tokens.{token, tokens_after, number_in, all_numbers, numbers_in}
 use Rattle.circuit_file.specs.GateLines.{operation_of, form_checks, form_of, gate_line_of, wires_in}
 use Rattle.circuit_file.specs.CircuitFiles.{gate_in, gates_in}

@@ -13,7 +13,7 @@ use Rattle.circuit_model.specs.declared.fault.CircuitFault.TheVariants.{NotUtf8,
 use Rattle.list_laws.specs.Checks.{first_fault, or_fault}
 use Rattle.circuit_model.specs.Checks.{Gives}
 use Rattle.circuit_model.specs.Netlists.{Netlist}
-use Rattle.circuit_model.specs.Building.{Draft, header_checks, start_of, no_gates_yet, next_gate, add_gate, take_gate, after_gate, answer_of, circuit_of, Becomes}
+use Rattle.circuit_model.specs.DraftSteps.{Draft, header_checks, start_of, no_gates_yet, next_gate, add_gate, take_gate, after_gate, answer_of, circuit_of, Becomes}
 use Rattle.circuit_file.specs.Tokens.{numbers_in}
 use Rattle.circuit_file.specs.Header.{counts_in, widths_in}
 use Rattle.circuit_file.specs.GateLines.{form_checks, form_of, gate_line_of, gate_line_in}

@@ -8,7 +8,7 @@ use Rattle.gate_lines.specs.Rows.{Row}
 use Rattle.circuit_model.specs.declared.gate.Gate.{Gate}
 use Rattle.circuit_model.specs.declared.fault.CircuitFault.TheVariants.{OutputNotSet}
 use Rattle.circuit_model.specs.Netlists.{Netlist, GateFits, AllGatesFit, no_gate, output_wires, sets}
-use Rattle.circuit_model.specs.Building.{add_gate, unset_output}
+use Rattle.circuit_model.specs.DraftSteps.{add_gate, unset_output}
 use Rattle.circuit_model.proofs.PassedChecks.{next_fits}
 use Rattle.circuit_model.proofs.SetWires.{all_fit_next, find_next, none_found}
 use Rattle.circuit_file.specs.GateLines.{gate_line_of}

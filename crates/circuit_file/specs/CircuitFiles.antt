@@ -5,7 +5,7 @@ use Rattle.std.specs.Str.Lossy.{utf8_valid_len}
 use Rattle.gate_lines.specs.Rows.{Row, rows_of}
 use Rattle.list_laws.specs.Checks.{◌answers◌, first_fault, or_fault, then_fault}
 use Rattle.circuit_model.specs.Netlists.{Netlist}
-use Rattle.circuit_model.specs.Building.{next_gate, add_gate, unset_output}
+use Rattle.circuit_model.specs.DraftSteps.{next_gate, add_gate, unset_output}
 use Rattle.circuit_model.specs.declared.gate.Gate.{Gate}
 use Rattle.circuit_model.specs.declared.fault.CircuitFault.{CircuitFault}
 use Rattle.circuit_model.specs.declared.fault.CircuitFault.TheVariants.{NotUtf8, FewLines, ExtraLine, OutputNotSet, WrongRing}

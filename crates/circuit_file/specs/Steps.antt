@@ -3,7 +3,7 @@ use Rattle.std.specs.Prelude.{◌≡◌, ℕ, suc, ◌≤◌, List, [], ◌∷�
 use Rattle.gate_lines.specs.Rows.{Row}
 use Rattle.gate_lines.specs.Places.{Place}
 use Rattle.list_laws.specs.Checks.{first_fault, or_fault}
-use Rattle.circuit_model.specs.Building.{Draft, add_gate}
+use Rattle.circuit_model.specs.DraftSteps.{Draft, add_gate}
 use Rattle.circuit_model.specs.declared.gate.Gate.{Gate}
 use Rattle.circuit_model.specs.declared.fault.CircuitFault.{CircuitFault}
 use Rattle.circuit_file.specs.Answers.{Fails}

@@ -12,7 +12,7 @@ use Rattle.circuit_model.specs.declared.fault.CircuitFault.TheVariants.{OutputNo
 use Rattle.circuit_model.specs.Checks.{Gives}
 use Rattle.circuit_model.specs.Netlists.{Netlist, IsCircuit, GateFits, sets, input_wires, output_wires}
 use Rattle.list_laws.specs.Checks.{first_fault, or_fault, then_fault}
-use Rattle.circuit_model.specs.Building.{Draft, header_checks, gate_checks, gate_of, next_gate, take_gate, after_gate, no_gates_yet, start_of, unset_output, circuit_of}
+use Rattle.circuit_model.specs.DraftSteps.{Draft, header_checks, gate_checks, gate_of, next_gate, take_gate, after_gate, no_gates_yet, start_of, unset_output, circuit_of}
 use Rattle.circuit_model.specs.Drafts.{IsDraft}
 use Rattle.list_laws.proofs.FirstFaults.{or_fault-ok}
 use Rattle.circuit_model.proofs.PassedChecks.{IsSmall, header_small, fault_moves}

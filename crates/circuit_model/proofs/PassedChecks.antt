@@ -13,7 +13,7 @@ use Rattle.circuit_model.specs.declared.fault.CircuitFault.TheVariants.{Memory}
 use Rattle.circuit_model.specs.Checks.{Gives}
 use Rattle.circuit_model.specs.Netlists.{Netlist, arity, is_constant, inputs_read, read_by, sets, GateFits}
 use Rattle.list_laws.specs.Checks.{first_fault, or_fault}
-use Rattle.circuit_model.specs.Building.{header_checks, gate_checks, gate_of, next_gate}
+use Rattle.circuit_model.specs.DraftSteps.{header_checks, gate_checks, gate_of, next_gate}
 
 -- the same fault, whatever value it stands for
 pub fault_moves : {A B : Type 0} (o : Option CircuitFault) (a : A) (b : B) (f : CircuitFault) → Err f ≡ or_fault o a → Gives (Err f) (or_fault o b)

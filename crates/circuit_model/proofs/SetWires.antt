@@ -11,7 +11,7 @@ use Rattle.std.proofs.lemmas.Bool.{lt-ltb, le-ltb, ltb-true, ltb-false}
 use Rattle.list_laws.proofs.Tests.{or_true, or_false}
 use Rattle.circuit_model.specs.declared.gate.Gate.{Gate}
 use Rattle.circuit_model.specs.Netlists.{Netlist, no_gate, is_set, GateFits, AllGatesFit}
-use Rattle.circuit_model.specs.Building.{add_gate}
+use Rattle.circuit_model.specs.DraftSteps.{add_gate}
 
 pub funext : {A B : Type 0} (f g : A → B) → ((x : A) → f x ≡ g x) → f ≡ g
 funext f g h = λ i x. h x i

@@ -1,7 +1,7 @@
 -- What a builder keeps.
 use Rattle.std.specs.Prelude.{◌≡◌, ℕ, ◌≤◌, Bool, false, List, length, slice_index_or}
 use Rattle.circuit_model.specs.Netlists.{IsWithin, AllGatesFit, sets}
-use Rattle.circuit_model.specs.Building.{Draft}
+use Rattle.circuit_model.specs.DraftSteps.{Draft}
 
 -- all but the output wires is as in a circuit, no more gates are there than announced, and the list tells which wires
 -- are set

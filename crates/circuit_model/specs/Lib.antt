@@ -2,6 +2,6 @@ pub mod Circuits
 pub mod FaultTexts
 pub mod Checks
 pub mod Netlists
-pub mod Building
+pub mod DraftSteps
 pub mod Drafts
 pub mod Equations

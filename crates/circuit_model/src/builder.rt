@@ -25,7 +25,7 @@ pub struct Builder {
 
 impl Model for Builder {
     ghost use Rattle.std.specs.Prelude.{length};
-    ghost use Rattle.circuit_model.specs.Building.{Draft};
+    ghost use Rattle.circuit_model.specs.DraftSteps.{Draft};
     ghost use Rattle.circuit_model.specs.Drafts.{IsDraft};
 
     ghost Value = { Draft };
@@ -58,7 +58,7 @@ impl Model for Builder {
 impl Builder {
     ghost use Rattle.std.specs.Prelude.{◌≡◌, ◌<◌, nat_le, length};
     ghost use Rattle.circuit_model.specs.Checks.{Gives};
-    ghost use Rattle.circuit_model.specs.Building.{start_of, after_gate, answer_of, circuit_of, Becomes};
+    ghost use Rattle.circuit_model.specs.DraftSteps.{start_of, after_gate, answer_of, circuit_of, Becomes};
 
     /// A circuit without gates yet, of so many gates to come, over so many wires, with values of these widths. `lines`
     /// has the numbers of the three header lines, for faults. Nothing is reserved for counts over the limits.

@@ -3,7 +3,7 @@ ghost use Rattle.std.specs.Prelude.{◌≡◌, ◌^◌, ◌≤◌, ◌<◌, Resu
 ghost use Rattle.std.specs.List.{list_all};
 ghost use Rattle.list_laws.specs.Checks.{or_fault, first_fault};
 ghost use Rattle.circuit_model.specs.Netlists.{arity, is_constant, inputs_read};
-ghost use Rattle.circuit_model.specs.Building.{header_checks, gate_checks, gate_of};
+ghost use Rattle.circuit_model.specs.DraftSteps.{header_checks, gate_checks, gate_of};
 
 use crate::fault::CircuitFault;
 use crate::gate::{Gate, Operation};
@@ -44,7 +44,7 @@ fn is_long(widths: &[u64]) -> bool
 }
 
 /// The first fault of the counts in a header, whose three lines have these numbers.
-#[tactic(auto, unfolding(crate::specs::Building::header_checks))]
+#[tactic(auto, unfolding(crate::specs::DraftSteps::header_checks))]
 pub(crate) fn check_header(
     gates: u64,
     wires: u64,
@@ -143,7 +143,7 @@ fn are_set(set: &[bool], read: &[u64]) -> bool
 }
 
 /// The gate, or the first of its faults.
-#[tactic(auto, unfolding(crate::specs::Building::gate_checks))]
+#[tactic(auto, unfolding(crate::specs::DraftSteps::gate_checks))]
 pub(crate) fn check_gate(
     ring: Ring,
     set: &[bool],

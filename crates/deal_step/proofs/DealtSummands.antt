@@ -9,7 +9,7 @@ use Rattle.std.proofs.Math.Nat.{mod-eq_of_lt, mod-lt}
 use mathlib.Core.Logic.{inl, inr}
 use Rattle.list_laws.specs.Lists.{total}
 use Rattle.mpc_ring.specs.Differences.{difference}
-use Rattle.secret_sharing.specs.Sharing.{Scheme, dealt}
+use Rattle.secret_sharing.specs.Schemes.{Scheme, dealt}
 
 -- what is taken away may be taken modulo q before
 difference_mod : (q a b : ℕ) → 0 < q → difference q a (b % q) ≡ difference q a b

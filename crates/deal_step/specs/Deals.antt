@@ -1,6 +1,6 @@
 -- What is dealt of a value.
 use Rattle.std.specs.Prelude.{◌≡◌, ℕ, ◌<◌, List, slice_index}
-use Rattle.secret_sharing.specs.Sharing.{Scheme, dealt}
+use Rattle.secret_sharing.specs.Schemes.{Scheme, dealt}
 
 -- these are the summands of the value, dealt with the first of the words
 abbrev pub IsDealt : Scheme → ℕ → List ℕ → List ℕ → Type 0

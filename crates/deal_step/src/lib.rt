@@ -3,7 +3,7 @@
 #![tactic(auto)]
 
 ghost use Rattle.std.specs.Prelude.{◌≡◌, ℕ, ◌+◌, ◌-◌, ◌^◌, ◌<◌, ◌≤◌, All, length, slice_index, drop};
-ghost use Rattle.secret_sharing.specs.Sharing.{Scheme};
+ghost use Rattle.secret_sharing.specs.Schemes.{Scheme};
 ghost use Rattle.deal_step.specs.Deals.{IsDealt};
 
 use mpc_ring::Ring;

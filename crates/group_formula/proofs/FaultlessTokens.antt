@@ -20,7 +20,7 @@ use Rattle.group_formula.specs.Machine.Pending.{plain, listed}
 use Rattle.group_formula.specs.Machine.MachineState.{want, want_of, want_open, have}
 use Rattle.group_formula.specs.Kept.{Kept, kept_of, joined_out, frames_of, frame_of, Advances}
 use Rattle.group_formula.specs.Faults.{is_open, is_close, IsShallow, IsSmall, IsFine, AreFine, bare, StopsAt, EndsAt}
-use Rattle.group_formula.specs.Parsing.{IsParsed}
+use Rattle.group_formula.specs.Parsed.{IsParsed}
 use Rattle.group_formula.proofs.MachineSteps.{goes_on, run}
 use Rattle.group_formula.proofs.MachineRuns.{goes_append, run_viable, stuck_no, formula_read, run_formula, have_expr}
 use Rattle.group_formula.proofs.ParserStates.{joined_code}

@@ -22,7 +22,7 @@ use Rattle.group_formula.specs.Grammar.Factor.{named, grouped, counted}
 use Rattle.group_formula.specs.Grammar.Parts.{one_part, more_parts}
 use Rattle.group_formula.specs.Faults.{bare}
 use Rattle.group_formula.specs.Formulas.{Reading, or_else, bad_name, bad_count, bad, some_bad}
-use Rattle.group_formula.specs.Resolving.{fault_place, earlier, bad_node, least}
+use Rattle.group_formula.specs.Resolved.{fault_place, earlier, bad_node, least}
 
 -- the places of the names and numbers rise
 abbrev pub Rises : ℕ → List Token → ℕ → Type 0

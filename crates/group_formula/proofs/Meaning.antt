@@ -24,9 +24,9 @@ use Rattle.group_formula.specs.Grammar.Factor.{named, grouped, counted}
 use Rattle.group_formula.specs.Grammar.Parts.{one_part, more_parts}
 use Rattle.group_formula.proofs.WrittenTrees.{tree_of-postfix}
 use Rattle.group_formula.specs.Faults.{IsFine, bare}
-use Rattle.group_formula.specs.Parsing.{IsParsed}
+use Rattle.group_formula.specs.Parsed.{IsParsed}
 use Rattle.group_formula.specs.Formulas.{Reading, reading, name_in_text, resolved, all_resolved, or_else, bad_count, bad, some_bad}
-use Rattle.group_formula.specs.Resolving.{resolved_node, least}
+use Rattle.group_formula.specs.Resolved.{resolved_node, least}
 use Rattle.group_formula.proofs.FaultlessTokens.{one_if}
 use Rattle.group_formula.proofs.FirstNodeFault.{Rises, rises, tells_expr}
 

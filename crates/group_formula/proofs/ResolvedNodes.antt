@@ -6,7 +6,7 @@ use Rattle.std.proofs.lemmas.List.{take_more, take_all, drop_all, drop-drop, dro
 use Rattle.group_formula.specs.declared.node.Node.{Node}
 use Rattle.group_formula.specs.declared.fault.FormulaFault.{FormulaFault}
 use Rattle.group_formula.specs.Formulas.{Reading}
-use Rattle.group_formula.specs.Resolving.{earlier, bad_node, resolved_node, unless, meaning, least}
+use Rattle.group_formula.specs.Resolved.{earlier, bad_node, resolved_node, unless, meaning, least}
 use Rattle.group_formula.proofs.FirstNodeFault.{least_append, least_one, earlier_none}
 
 least_more : (r : Reading) (ns : List Node) (i : ℕ) (d : Node) → i < length ns → least r (take (i + 1) ns) ≡ earlier (least r (take i ns)) (bad_node r (get_or ns i d))

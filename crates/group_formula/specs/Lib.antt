@@ -4,8 +4,8 @@ pub mod Grammar
 pub mod Machine
 pub mod Kept
 pub mod Faults
-pub mod Parsing
+pub mod Parsed
 pub mod Formulas
-pub mod Resolving
+pub mod Resolved
 pub mod Values
 pub mod Laws

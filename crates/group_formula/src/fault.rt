@@ -1,6 +1,6 @@
 //! Why a text is no formula.
 ghost use Rattle.std.specs.Prelude.{◌≡◌};
-ghost use Rattle.group_formula.specs.Resolving.{fault_place};
+ghost use Rattle.group_formula.specs.Resolved.{fault_place};
 
 use std::alloc::AllocError;
 

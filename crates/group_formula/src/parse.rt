@@ -2,7 +2,7 @@
 ghost use Rattle.std.specs.Prelude.{◌≡◌, MatchResult, ◌≤◌, length};
 ghost use Rattle.group_formula.specs.Grammar.{Expr, shape};
 ghost use Rattle.group_formula.specs.Faults.{Parses, IsFirstFault};
-ghost use Rattle.group_formula.specs.Parsing.{IsParsed, StopsParsing};
+ghost use Rattle.group_formula.specs.Parsed.{IsParsed, StopsParsing};
 
 use crate::fault::FormulaFault;
 use crate::node::Node;

@@ -3,8 +3,8 @@ ghost use Rattle.std.specs.Prelude.{◌≡◌, ℕ, ◌≤◌, ◌+◌, ◌*◌,
 ghost use Rattle.std.specs.List.{take_while};
 ghost use Rattle.group_formula.specs.Tokens.{has_byte};
 ghost use Rattle.group_formula.specs.Formulas.{number_in_text, reading, IsFormula, IsSecondFault};
-ghost use Rattle.group_formula.specs.Resolving.{good_count, meaning, earlier, least, resolved_node};
-ghost use Rattle.group_formula.specs.Parsing.{IsParsed};
+ghost use Rattle.group_formula.specs.Resolved.{good_count, meaning, earlier, least, resolved_node};
+ghost use Rattle.group_formula.specs.Parsed.{IsParsed};
 
 use crate::fault::FormulaFault;
 use crate::formula::Formula;

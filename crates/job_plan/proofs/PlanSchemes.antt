@@ -5,7 +5,7 @@ use Rattle.std.proofs.lemmas.Nat.{pow_below}
 use Rattle.std.proofs.lemmas.List.FromFn.{length-range_with_len, get_or-range_with_len}
 use Rattle.std.proofs.lemmas.List.Sums.{fails_before_first, passes_at_first}
 use mathlib.Core.Logic.{inl, inr}
-use Rattle.secret_sharing.specs.Sharing.{IsScheme}
+use Rattle.secret_sharing.specs.Schemes.{IsScheme}
 use Rattle.product_duty.proofs.PairDuties.{duty_holds}
 use Rattle.job_plan.specs.Plans.{Plan, structure, holds, duty, scheme, least_party, least_holder, Q2, IsPlan}
 use Rattle.std.specs.List.{range_with_len}

@@ -11,7 +11,7 @@ use Rattle.list_laws.proofs.Totals.{total_eq, total_zero, total_add, total_mul_l
 use Rattle.list_laws.proofs.JoinedLists.{length-joined, joined_more}
 use Rattle.circuit_model.specs.declared.gate.Gate.{Gate}
 use Rattle.circuit_model.specs.Circuits.{is_product}
-use Rattle.secret_sharing.specs.Sharing.{has_pair}
+use Rattle.secret_sharing.specs.Schemes.{has_pair}
 use Rattle.party_set.specs.Parties.{has_party}
 use Rattle.job_session.specs.Sessions.{Session, Slot, owners, readers, gate, no_gate, session_slot, session_slots}
 use Rattle.job_plan.specs.Plans.{Plan, session, slot, slots, scheme, deals_in, holds, least_holder, opens_to}

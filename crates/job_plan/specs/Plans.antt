@@ -2,7 +2,7 @@
 use Rattle.std.specs.Prelude.{◌≡◌, ℕ, ◌+◌, ◌-◌, ◌<◌, Bool, false, ◌&&◌, nat_eq, if◌then◌else◌, List, ◌++◌, length, slice_index, slice_index_or}
 use Rattle.list_laws.specs.Lists.{total, listed}
 use Rattle.circuit_model.specs.Circuits.{is_product}
-use Rattle.secret_sharing.specs.Sharing.{Scheme, has_pair}
+use Rattle.secret_sharing.specs.Schemes.{Scheme, has_pair}
 use Rattle.party_set.specs.Parties.{Structure, IsQ2, has_party}
 use Rattle.job_session.specs.Sessions.{Session, Slot, owners, readers, gate, no_session, session_slot, session_slots}
 use Rattle.job_session.specs.Sessions.Slot.{Input, At_gate, Output}

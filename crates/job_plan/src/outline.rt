@@ -31,7 +31,7 @@ impl Model for Outline {
 
 impl Outline {
     ghost use Rattle.std.specs.Prelude.{◌≡◌, ◌<◌, ◌≤◌, All, length};
-    ghost use Rattle.secret_sharing.specs.Sharing.{has_pair};
+    ghost use Rattle.secret_sharing.specs.Schemes.{has_pair};
     ghost use Rattle.job_plan.specs.Plans.{structure, scheme, session, slots, plan_of, holds, least_holder};
     ghost use Rattle.job_plan.specs.Patterns.{pattern_at, Occurs};
     ghost use Rattle.job_session.specs.SoundSessions.{IsSoundSession};

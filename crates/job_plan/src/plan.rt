@@ -49,7 +49,7 @@ impl Plan {
     ghost use Rattle.list_laws.specs.Lists.{total};
     ghost use Rattle.job_session.specs.KeptWires.{IsRows, live};
     ghost use Rattle.job_plan.specs.Plans.{plan_of, structure, scheme, session, slot, slots, words, place};
-    ghost use Rattle.secret_sharing.specs.Sharing.{has_pair};
+    ghost use Rattle.secret_sharing.specs.Schemes.{has_pair};
     ghost use Rattle.job_plan.specs.Messages.{messages, slot_messages};
     ghost use Rattle.job_plan.specs.Patterns.{named, lines, pattern_at, Occurs};
     ghost use Rattle.job_plan.specs.Numbers.{message, number, opens, deals, deals_before, deal_place};

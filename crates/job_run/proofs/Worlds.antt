@@ -16,7 +16,7 @@ use Rattle.job_plan.specs.InputWords.{AreInputs, given}
 use Rattle.party_file.specs.Table.{PartyForm}
 use Rattle.party_file.specs.Forms.{FitsPlan, form_of}
 use Rattle.party_file.specs.declared.data.PartyData.{PartyData}
-use Rattle.desk_laws.specs.Opening.{ArePieces, piece_at, world_of_pieces}
+use Rattle.desk_laws.specs.Pieces.{ArePieces, piece_at, world_of_pieces}
 use Rattle.job_run.specs.Parties.{AllFit, world_of}
 use Rattle.job_run.specs.Pieces.{pieces_in}
 

@@ -1,7 +1,7 @@
 //! The search for the maximal tolerated groups.
 ghost use Rattle.std.specs.Prelude.{◌≡◌, ◌-◌, ◌<◌, ◌≤◌, ◌^◌, ℕ, Bool, true, [], ◌∷◌};
 ghost use Rattle.maximal_groups.specs.Families.{is_maximal, maximal_structure, IsClosed, TellsTolerated};
-ghost use Rattle.maximal_groups.specs.Finding.{Finds};
+ghost use Rattle.maximal_groups.specs.Found.{Finds};
 
 use crate::family::Family;
 use party_set::{Group, Groups};

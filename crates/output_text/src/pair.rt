@@ -1,7 +1,7 @@
 //! The text of a pair of runs.
 ghost use Rattle.std.specs.Prelude.{◌≡◌, ◌<◌, ◌++◌, [], codes, length, slice_index_or};
 ghost use Rattle.outer_io.specs.Sink.{Writes};
-ghost use Rattle.outer_io.specs.Gathering.{Adds};
+ghost use Rattle.outer_io.specs.Blocks.{Adds};
 ghost use Rattle.job_plan.specs.InputWords.{session_words};
 ghost use Rattle.desk_workers.specs.Runs.{IsRunOver, OfItsWorld};
 ghost use Rattle.text_parts.specs.Parts.{words_text};

@@ -1,7 +1,7 @@
 //! The text of a sample.
 ghost use Rattle.std.specs.Prelude.{◌≡◌, ◌<◌, length};
 ghost use Rattle.outer_io.specs.Sink.{Writes};
-ghost use Rattle.outer_io.specs.Gathering.{Adds};
+ghost use Rattle.outer_io.specs.Blocks.{Adds};
 ghost use Rattle.desk_workers.specs.Runs.{IsRunOver, OfItsWorld};
 ghost use Rattle.output_text.specs.SampleText.{sample_text};
 

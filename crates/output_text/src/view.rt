@@ -1,6 +1,6 @@
 //! The text of what a group sees of a run.
 ghost use Rattle.std.specs.Prelude.{◌≡◌, ◌<◌, ◌∷◌, ◌++◌, [], length, codes};
-ghost use Rattle.outer_io.specs.Gathering.{Adds};
+ghost use Rattle.outer_io.specs.Blocks.{Adds};
 ghost use Rattle.job_plan.specs.Messages.{messages};
 ghost use Rattle.job_plan.specs.Plans.{slots};
 ghost use Rattle.job_plan.specs.Sound.{IsSound};

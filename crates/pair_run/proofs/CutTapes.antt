@@ -10,8 +10,8 @@ use Rattle.job_plan.specs.Plans.{Plan, words, place}
 use Rattle.job_plan.proofs.SlotMessages.{joined_place}
 use Rattle.share_world.specs.Laws.{AreTapes}
 use Rattle.wire_tables.proofs.ListedRows.{listed_of}
-use Rattle.tape_map.proofs.Changing.{small_all}
-use Rattle.desk_laws.specs.Opening.{ArePieces, piece_at}
+use Rattle.tape_map.proofs.ChangedPieces.{small_all}
+use Rattle.desk_laws.specs.Pieces.{ArePieces, piece_at}
 use Rattle.pair_run.specs.Pairs.{tapes_in}
 
 -- what is cut off party p's tape for session s

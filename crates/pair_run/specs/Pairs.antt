@@ -5,7 +5,7 @@ use Rattle.job_plan.specs.InputWords.{session_words}
 use Rattle.share_world.specs.Worlds.{World}
 use Rattle.tape_map.specs.TapeMaps.{second_world}
 use Rattle.tape_map.specs.Laws.{CanHide}
-use Rattle.desk_laws.specs.Opening.{world_of_pieces}
+use Rattle.desk_laws.specs.Pieces.{world_of_pieces}
 use Rattle.desk_workers.specs.Runs.{IsReady}
 use Rattle.pair_run.specs.declared.pair.Pair.{Pair}
 

@@ -4,7 +4,7 @@ ghost use Rattle.job_plan.specs.InputWords.{session_words};
 ghost use Rattle.job_plan.specs.Plans.{place, words};
 ghost use Rattle.job_plan.specs.Tallies.{tape_length};
 ghost use Rattle.share_world.specs.Laws.{AreTapes};
-ghost use Rattle.desk_laws.specs.Opening.{ArePieces};
+ghost use Rattle.desk_laws.specs.Pieces.{ArePieces};
 ghost use Rattle.pair_run.specs.Pairs.{tapes_in};
 
 use job_plan::Plan;

@@ -8,7 +8,7 @@ use Rattle.std.proofs.Math.Pow.{pow-lt}
 use Rattle.list_laws.proofs.JoinedLists.{joined_eq, joined_more}
 use Rattle.list_laws.specs.Lists.{only_if}
 use Rattle.list_laws.proofs.Totals.{total_eq, total_zero, total_pick}
-use Rattle.secret_sharing.specs.Sharing.{has_pair, IsScheme}
+use Rattle.secret_sharing.specs.Schemes.{has_pair, IsScheme}
 use Rattle.party_set.specs.Parties.{Structure, Members, IsAntichain, IsQ2, IsUnion, IsLeastOutside, has_party, is_all, covers}
 use Rattle.party_set.proofs.EveryNumber.{every_from, every_at, every_not}
 use Rattle.share_layout.specs.Layouts.{holds, IsLeastParty}

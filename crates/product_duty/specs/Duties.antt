@@ -1,7 +1,7 @@
 -- Which party multiplies which pair of summands (Maurer 2006).
 use Rattle.std.specs.Prelude.{◌≡◌, ℕ, ◌+◌, ◌*◌, ◌^◌, ◌<◌, ◌&&◌, nat_eq, if◌then◌else◌, List, [], ◌∷◌, length, slice_index, slice_index_or, count_by}
 use Rattle.list_laws.specs.Lists.{total, joined, only_if}
-use Rattle.secret_sharing.specs.Sharing.{Scheme}
+use Rattle.secret_sharing.specs.Schemes.{Scheme}
 use Rattle.party_set.specs.Parties.{Structure, IsAntichain, IsQ2}
 use Rattle.share_layout.specs.Layouts.{holds, least_party, IsLeastParty}
 

@@ -1,6 +1,6 @@
 //! Whose duty a pair of summands is.
 ghost use Rattle.std.specs.Prelude.{◌≡◌, ℕ, ◌+◌, ◌*◌, ◌<◌, ◌≤◌, ◌&&◌, IfOk, length, slice_index, true};
-ghost use Rattle.secret_sharing.specs.Sharing.{has_pair, IsScheme};
+ghost use Rattle.secret_sharing.specs.Schemes.{has_pair, IsScheme};
 ghost use Rattle.party_set.specs.Parties.{IsAntichain, IsQ2, Structure};
 ghost use Rattle.share_layout.specs.Layouts.{holds};
 ghost use Rattle.product_duty.specs.Duties.{duty, pairs_of, pairs_where, scheme_of, EachIsDuty};

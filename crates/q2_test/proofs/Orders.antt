@@ -4,7 +4,7 @@ use Rattle.std.specs.Prelude.{slice_index}
 use Rattle.std.proofs.lemmas.Bool.{cases_lt}
 use Rattle.party_set.specs.Parties.{Structure, IsQ2, every_below, has_party, covers}
 use Rattle.party_set.proofs.EveryNumber.{every_from, every_at}
-use Rattle.q2_test.specs.Covering.{IsFirstCovering, StartsWithAll}
+use Rattle.q2_test.specs.CoveringPairs.{IsFirstCovering, StartsWithAll}
 
 every_eq : (n : ℕ) (f g : ℕ → Bool) → ((p : ℕ) → f p ≡ g p) → every_below n f ≡ every_below n g
 every_eq zero f g h = refl

@@ -1,1 +1,1 @@
-pub mod Covering
+pub mod CoveringPairs

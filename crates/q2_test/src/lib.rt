@@ -3,7 +3,7 @@
 
 ghost use Rattle.std.specs.Prelude.{◌≡◌, ℕ, MatchOption};
 ghost use Rattle.party_set.specs.Parties.{IsQ2, Structure};
-ghost use Rattle.q2_test.specs.Covering.{IsFirstCovering, StartsWithAll};
+ghost use Rattle.q2_test.specs.CoveringPairs.{IsFirstCovering, StartsWithAll};
 
 use party_set::Groups;
 

@@ -8,7 +8,7 @@ use Rattle.list_laws.specs.Lists.{total, joined, only_if}
 use Rattle.mpc_ring.proofs.Remainders.{same_refl, same_trans, same_add, same_mod, mods_of_same}
 use Rattle.list_laws.proofs.Totals.{total_eq}
 use Rattle.party_set.specs.Parties.{Structure}
-use Rattle.secret_sharing.specs.Sharing.{own_product}
+use Rattle.secret_sharing.specs.Schemes.{own_product}
 use Rattle.product_duty.specs.Duties.{duty, pairs_of, pairs_where, scheme_of}
 
 -- the numbers of each pair are below n and below m

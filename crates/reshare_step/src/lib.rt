@@ -5,7 +5,7 @@
 
 ghost use Rattle.std.specs.Prelude.{◌≡◌, ℕ, ◌+◌, ◌%◌, ◌^◌, ◌<◌, All, length, slice_index};
 ghost use Rattle.circuit_model.specs.Circuits.{set_at};
-ghost use Rattle.secret_sharing.specs.Sharing.{own_product};
+ghost use Rattle.secret_sharing.specs.Schemes.{own_product};
 ghost use Rattle.product_duty.specs.Duties.{scheme_of};
 
 mod local;

@@ -1,6 +1,6 @@
 //! What a gate that each party computes alone makes of a summand.
 ghost use Rattle.std.specs.Prelude.{◌≡◌, ℕ, ◌^◌, ◌<◌, nat_eq};
-ghost use Rattle.secret_sharing.specs.Sharing.{local};
+ghost use Rattle.secret_sharing.specs.Schemes.{local};
 
 use circuit_model::Operation;
 use mpc_ring::Ring;

@@ -1,6 +1,6 @@
 //! Own products of the rows of a table.
 ghost use Rattle.std.specs.Prelude.{◌≡◌, ◌^◌, ◌<◌, All, length, slice_index};
-ghost use Rattle.secret_sharing.specs.Sharing.{own_product};
+ghost use Rattle.secret_sharing.specs.Schemes.{own_product};
 ghost use Rattle.product_duty.specs.Duties.{scheme_of};
 
 use mpc_ring::Ring;

@@ -3,7 +3,7 @@ use Rattle.std.proofs.Common.{◌≡◌, ℕ, zero, suc, ◌*◌, ◌%◌, ◌<�
 use Rattle.std.proofs.lemmas.Bool.{cases_Bool, cond-true, cond-false, eqb-true}
 use mathlib.Core.Logic.{inl, inr}
 use Rattle.circuit_model.specs.Circuits.{is_product}
-use Rattle.secret_sharing.specs.Sharing.{Scheme, Run, own_product, has_pair, product_summand, local, gate_summands, summands}
+use Rattle.secret_sharing.specs.Schemes.{Scheme, Run, own_product, has_pair, product_summand, local, gate_summands, summands}
 use Rattle.mpc_ring.proofs.Remainders.{Same, same_refl, same_trans, mods_of_same}
 use Rattle.list_laws.proofs.Totals.{total_eq}
 use Rattle.mpc_ring.proofs.Totals.{total_same}

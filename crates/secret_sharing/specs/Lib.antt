@@ -1,1 +1,1 @@
-pub mod Sharing
+pub mod Schemes

@@ -4,7 +4,7 @@
 #![tactic(auto)]
 
 ghost use Rattle.std.specs.Prelude.{◌≡◌, ℕ};
-ghost use Rattle.secret_sharing.specs.Sharing.{Scheme, IsScheme, Run, IsRun, DealtAddUp, SumIsPlain};
+ghost use Rattle.secret_sharing.specs.Schemes.{Scheme, IsScheme, Run, IsRun, DealtAddUp, SumIsPlain};
 
 /// What is dealt adds up to the value that is dealt, whatever the tape words are.
 pub fn dealt_add_up()

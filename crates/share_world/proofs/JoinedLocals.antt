@@ -4,7 +4,7 @@ use Rattle.std.specs.Prelude.{slice_index}
 use Rattle.std.specs.List.{AllByRecursion}
 use Rattle.std.proofs.lemmas.Bool.{cases_eq, cases_lt, cond-true, cond-false, and_from, not_from_false, eq-eqb, ne_eqb, lt-ltb, le-ltb}
 use mathlib.Core.Logic.{inl, inr}
-use Rattle.secret_sharing.specs.Sharing.{Run, dealt, own_product, own_value, summands}
+use Rattle.secret_sharing.specs.Schemes.{Run, dealt, own_product, own_value, summands}
 use Rattle.job_session.specs.Sessions.{owners, gate}
 use Rattle.job_plan.specs.Plans.{scheme, session, holds, slot, slots, deals_in, IsPlan}
 use Rattle.job_plan.specs.declared.key.Key.{Key}

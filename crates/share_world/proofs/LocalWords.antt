@@ -4,7 +4,7 @@ use Rattle.std.specs.Prelude.{slice_index}
 use Rattle.std.proofs.lemmas.Bool.{cases_eq, cases_lt, cases_Bool, cond-true, cond-false, eq-eqb, ne_eqb, ltb-true, le-ltb}
 use mathlib.Core.Logic.{inl, inr}
 use Rattle.circuit_model.specs.Circuits.{is_product}
-use Rattle.secret_sharing.specs.Sharing.{dealt, own_product, own_value, summands}
+use Rattle.secret_sharing.specs.Schemes.{dealt, own_product, own_value, summands}
 use Rattle.job_session.specs.Sessions.{owners, gate}
 use Rattle.job_plan.specs.Plans.{Plan, scheme, session, holds, IsPlan, gives}
 use Rattle.job_plan.specs.declared.key.Key.{Key}

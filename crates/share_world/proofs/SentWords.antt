@@ -6,7 +6,7 @@ use Rattle.std.proofs.lemmas.Bool.{cases_Bool, cond-true, cond-false}
 use mathlib.Core.Logic.{inl, inr}
 use Rattle.list_laws.proofs.JoinedLists.{every_joined, every_only_if}
 use Rattle.list_laws.proofs.Totals.{total_eq}
-use Rattle.secret_sharing.specs.Sharing.{dealt, summands}
+use Rattle.secret_sharing.specs.Schemes.{dealt, summands}
 use Rattle.job_plan.specs.declared.key.Key.{Key}
 use Rattle.job_plan.specs.Messages.{messages, slot_messages}
 use Rattle.job_plan.specs.Numbers.{no_key}

@@ -4,7 +4,7 @@ use Rattle.std.specs.Prelude.{slice_index}
 use Rattle.std.proofs.lemmas.Bool.{cond_both}
 use Rattle.std.proofs.lemmas.Nat.{pow_pos}
 use Rattle.std.proofs.Math.Nat.{mod-lt}
-use Rattle.secret_sharing.specs.Sharing.{summands}
+use Rattle.secret_sharing.specs.Schemes.{summands}
 use Rattle.secret_sharing.proofs.SummandSums.{dealt_small, summands_below}
 use Rattle.job_plan.specs.declared.key.Key.{Key}
 use Rattle.job_session.specs.Sessions.{Slot, owners}

@@ -6,7 +6,7 @@ use mathlib.Core.Logic.{inl, inr}
 use Rattle.circuit_model.specs.declared.gate.Operation.{Operation}
 use Rattle.circuit_model.specs.Circuits.{is_product}
 use Rattle.circuit_model.specs.declared.gate.Operation.TheVariants.{Add, Sub, Neg, Mul, Xor, And, Inv, Eq, Eqw}
-use Rattle.secret_sharing.specs.Sharing.{dealt, local, own_product, own_value, has_pair, gate_summands, summands}
+use Rattle.secret_sharing.specs.Schemes.{dealt, local, own_product, own_value, has_pair, gate_summands, summands}
 use Rattle.job_session.specs.Sessions.{owners, Session, gate}
 use Rattle.job_plan.specs.Plans.{scheme, session, slot, slots, deals_in}
 use Rattle.job_session.specs.Sessions.Slot.{Input, At_gate}

@@ -5,7 +5,7 @@ use Rattle.std.proofs.lemmas.Bool.{cases_Bool, cond-true, cond-false}
 use Rattle.std.proofs.lemmas.Nat.{pow_pos}
 use Rattle.std.proofs.Math.Nat.{mod-eq_of_lt}
 use mathlib.Core.Logic.{inl, inr}
-use Rattle.secret_sharing.specs.Sharing.{IsRun, AddUp, dealt}
+use Rattle.secret_sharing.specs.Schemes.{IsRun, AddUp, dealt}
 use Rattle.job_session.specs.Sessions.{owners}
 use Rattle.job_plan.specs.Plans.{scheme, session, IsPlan}
 use Rattle.share_world.specs.Worlds.{World, run_of, first_summands, first_values, input_of, tape_word}

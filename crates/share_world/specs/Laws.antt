@@ -1,7 +1,7 @@
 -- What a valid world is, the law of sums, and the law of local runs.
 use Rattle.std.specs.Prelude.{◌≡◌, ℕ, ◌%◌, ◌^◌, ◌<◌, true, List, [], length, slice_index, slice_index_or}
 use Rattle.list_laws.specs.Lists.{total}
-use Rattle.secret_sharing.specs.Sharing.{summands}
+use Rattle.secret_sharing.specs.Schemes.{summands}
 use Rattle.job_session.specs.Sessions.{output_wire}
 use Rattle.job_plan.specs.Plans.{Plan, IsPlan, holds, session}
 use Rattle.job_plan.specs.Sound.{IsSound}

@@ -2,7 +2,7 @@
 use Rattle.std.specs.List.{AllByRecursion}
 use Rattle.std.specs.Prelude.{◌≡◌, ℕ, ◌<◌, ◌≤◌, ◌+◌, ◌%◌, ◌^◌, nat_eq, nat_lt, if◌then◌else◌, length, slice_index}
 use Rattle.list_laws.specs.Lists.{total}
-use Rattle.secret_sharing.specs.Sharing.{Run, dealt, product_summand, own_value, summands}
+use Rattle.secret_sharing.specs.Schemes.{Run, dealt, product_summand, own_value, summands}
 use Rattle.job_plan.specs.declared.key.Key.{Key}
 use Rattle.job_session.specs.Sessions.{owners, gate, Slot}
 use Rattle.job_plan.specs.Plans.{holds, least_holder, scheme, session, slot, gives}

@@ -4,7 +4,7 @@ use Rattle.list_laws.specs.Lists.{total}
 use Rattle.circuit_model.specs.declared.gate.Operation.{Operation}
 use Rattle.circuit_model.specs.Circuits.{is_product}
 use Rattle.circuit_model.specs.declared.gate.Operation.TheVariants.{Neg, Inv, Eq, Eqw}
-use Rattle.secret_sharing.specs.Sharing.{dealt, local, own_product, has_pair, summands}
+use Rattle.secret_sharing.specs.Schemes.{dealt, local, own_product, has_pair, summands}
 use Rattle.job_session.specs.Sessions.{owners, Session, gate}
 use Rattle.job_plan.specs.Plans.{scheme, session, slot, slots, deals_in}
 use Rattle.share_world.specs.Worlds.{World, run_of, input_of, tape_word, deal_of}

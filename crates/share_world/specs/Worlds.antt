@@ -2,7 +2,7 @@
 use Rattle.std.specs.Prelude.{ℕ, ◌+◌, ◌^◌, Bool, ◌||◌, nat_eq, nat_lt, if◌then◌else◌, List, [], map, length, slice_index, slice_index_or, filter}
 use Rattle.list_laws.specs.Lists.{total}
 use Rattle.circuit_model.specs.Circuits.{values}
-use Rattle.secret_sharing.specs.Sharing.{Run, dealt, product_summand, own_value, summands}
+use Rattle.secret_sharing.specs.Schemes.{Run, dealt, product_summand, own_value, summands}
 use Rattle.job_session.specs.Sessions.{owners, output_wire, Slot, gate}
 use Rattle.job_plan.specs.Plans.{Plan, scheme, session, slot, place}
 use Rattle.job_plan.specs.declared.key.Key.{Key}

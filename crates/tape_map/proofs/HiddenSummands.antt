@@ -9,7 +9,7 @@ use Rattle.list_laws.proofs.Totals.{total_one}
 use Rattle.mpc_ring.specs.Differences.{difference}
 use Rattle.mpc_ring.proofs.Remainders.{Same, same_refl, same_add, same_sym, same_trans, same_mul, same_cancel}
 use Rattle.circuit_model.specs.Circuits.{is_product}
-use Rattle.secret_sharing.specs.Sharing.{IsScheme, AddUp, dealt, own_value, has_pair, summands}
+use Rattle.secret_sharing.specs.Schemes.{IsScheme, AddUp, dealt, own_value, has_pair, summands}
 use Rattle.secret_sharing.proofs.SummandSums.{sum_is_plain, adds_same, dealt_eq}
 use Rattle.secret_sharing.proofs.Agreement.{own_same, runs_agree, product_agrees}
 use Rattle.party_set.specs.Parties.{has_party}

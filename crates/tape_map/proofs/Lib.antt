@@ -7,4 +7,4 @@ pub mod ReadWires
 pub mod WorkedChange
 pub mod Recipients
 pub mod NoFaults
-pub mod Changing
+pub mod ChangedPieces

@@ -7,7 +7,7 @@ use Rattle.list_laws.specs.Lists.{total}
 use Rattle.list_laws.proofs.Totals.{total_one}
 use Rattle.mpc_ring.specs.Differences.{difference}
 use Rattle.mpc_ring.proofs.Remainders.{Same, same_refl, same_add, same_sym, same_trans, same_mod, same_difference, same_cancel, mods_of_same}
-use Rattle.secret_sharing.specs.Sharing.{Scheme, IsScheme, dealt, own_product}
+use Rattle.secret_sharing.specs.Schemes.{Scheme, IsScheme, dealt, own_product}
 use Rattle.secret_sharing.proofs.SummandSums.{dealt_word, dealt_last}
 use Rattle.secret_sharing.proofs.Agreement.{own_same}
 use Rattle.tape_map.specs.TapeMaps.{raised}

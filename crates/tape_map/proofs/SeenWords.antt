@@ -6,7 +6,7 @@ use Rattle.std.proofs.lemmas.Bool.{and_parts, or_cases, both_ways}
 use mathlib.Core.Logic.{inl, inr}
 use Rattle.list_laws.proofs.JoinedLists.{every_joined, every_only_if, every_weaker, map_filter_eq}
 use Rattle.circuit_model.specs.Circuits.{is_product}
-use Rattle.secret_sharing.specs.Sharing.{has_pair}
+use Rattle.secret_sharing.specs.Schemes.{has_pair}
 use Rattle.party_set.specs.Parties.{has_party}
 use Rattle.job_plan.specs.declared.key.Key.{Key}
 use Rattle.job_plan.specs.Messages.{messages, slot_messages, deal_messages}

@@ -3,7 +3,7 @@ use Rattle.std.specs.Prelude.{◌≡◌, ℕ, ◌+◌, ◌^◌, ◌<◌, if◌th
 use Rattle.std.specs.Prelude.{slice_index, slice_index_or}
 use Rattle.list_laws.specs.Lists.{joined, listed}
 use Rattle.mpc_ring.specs.Differences.{difference}
-use Rattle.secret_sharing.specs.Sharing.{own_product}
+use Rattle.secret_sharing.specs.Schemes.{own_product}
 use Rattle.party_set.specs.Parties.{has_party}
 use Rattle.job_session.specs.Sessions.{Slot, gate}
 use Rattle.job_plan.specs.Plans.{Plan, scheme, session, slot, slots, words_in, place}

@@ -3,7 +3,7 @@ use Rattle.std.specs.Prelude.{◌≡◌, ◌≢◌, ℕ, ◌^◌, ◌<◌, true,
 use Rattle.std.specs.List.{Contains}
 use Rattle.mpc_ring.specs.Differences.{difference}
 use Rattle.circuit_model.specs.Netlists.{read_by}
-use Rattle.secret_sharing.specs.Sharing.{summands}
+use Rattle.secret_sharing.specs.Schemes.{summands}
 use Rattle.party_set.specs.Parties.{has_party}
 use Rattle.maximal_groups.specs.Families.{LiesWithin}
 use Rattle.job_plan.specs.InputWords.{AreInputs}

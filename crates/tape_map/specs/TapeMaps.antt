@@ -4,7 +4,7 @@ use Rattle.std.specs.Prelude.{ℕ, ◌+◌, ◌%◌, ◌^◌, nat_eq, if◌then�
 use Rattle.std.specs.List.{position_or_len}
 use Rattle.list_laws.specs.Lists.{joined, listed}
 use Rattle.mpc_ring.specs.Differences.{difference}
-use Rattle.secret_sharing.specs.Sharing.{own_product, summands}
+use Rattle.secret_sharing.specs.Schemes.{own_product, summands}
 use Rattle.party_set.specs.Parties.{has_party, within}
 use Rattle.job_session.specs.Sessions.{Slot, gate}
 use Rattle.job_plan.specs.Plans.{Plan, scheme, session, slot, slots, words_in}

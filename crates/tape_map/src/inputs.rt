@@ -5,7 +5,7 @@ ghost use Rattle.list_laws.specs.Checks.{first_fault};
 ghost use Rattle.job_plan.specs.InputWords.{AreInputs};
 ghost use Rattle.tape_map.specs.MapFaults.{input_checks};
 
-use crate::differing::differ;
+use crate::differences::differ;
 use crate::fault::MapFault;
 use job_plan::{Inputs, Plan};
 use party_set::Group;

@@ -17,10 +17,10 @@ ghost use Rattle.tape_map.specs.Multiply.{CanHideFromA, HiddenFromA, SecondPlain
 ghost use Rattle.tape_map.specs.Multiply.{HiddenFromNobody, HiddenFromC, SeenByBoth};
 
 mod change;
-mod differing;
+mod differences;
 mod fault;
 mod fault_law;
-mod hiding;
+mod hidden_summand;
 mod inputs;
 mod map;
 mod outputs;

@@ -13,7 +13,7 @@ ghost use Rattle.tape_map.specs.declared.fault.MapFault.TheVariants.{Memory};
 
 use crate::change::Change;
 use crate::fault::MapFault;
-use crate::hiding::hidden_summand;
+use crate::hidden_summand::hidden_summand;
 use crate::inputs::input_fault;
 use crate::outputs::output_fault;
 use job_plan::{Inputs, Plan};

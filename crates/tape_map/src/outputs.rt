@@ -7,7 +7,7 @@ ghost use Rattle.job_session.specs.Sessions.{readers};
 ghost use Rattle.job_plan.specs.Plans.{session};
 ghost use Rattle.tape_map.specs.MapFaults.{output_check, output_checks, value_checks};
 
-use crate::differing::{read_differ, reads};
+use crate::differences::{read_differ, reads};
 use crate::fault::MapFault;
 use job_plan::{Inputs, Plan};
 use party_set::Group;

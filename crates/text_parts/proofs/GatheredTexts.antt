@@ -2,7 +2,7 @@
 use Rattle.std.proofs.Common.{◌≡◌, ℕ, ◌+◌, List, ◌++◌, sym, ap, ◌∙◌, subst}
 use Rattle.list_laws.specs.Lists.{joined}
 use Rattle.list_laws.proofs.JoinedLists.{joined_more}
-use Rattle.outer_io.specs.Gathering.{Gathering, Adds}
+use Rattle.outer_io.specs.Blocks.{Gathering, Adds}
 use Rattle.outer_io.proofs.GatheredTexts.{adds_then}
 
 -- the same piece, told otherwise

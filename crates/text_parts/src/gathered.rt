@@ -1,7 +1,7 @@
 //! Numbers and groups as pieces of a text that is gathered.
 ghost use Rattle.std.specs.Prelude.{◌≡◌, ◌<◌, ◌++◌, codes, decimal, length};
 ghost use Rattle.list_laws.specs.Lists.{only_if};
-ghost use Rattle.outer_io.specs.Gathering.{Adds};
+ghost use Rattle.outer_io.specs.Blocks.{Adds};
 ghost use Rattle.text_parts.specs.Parts.{group_text, member_text};
 
 use itoa::Buffer;

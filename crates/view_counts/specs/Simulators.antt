@@ -3,7 +3,7 @@
 use Rattle.std.specs.Prelude.{ℕ, ◌^◌, ◌&&◌, Bool, if◌then◌else◌, List, [], map, count_by, length, slice_index, slice_index_or, replicate, filter}
 use Rattle.list_laws.specs.Lists.{total, listed, some_below}
 use Rattle.mpc_ring.specs.Differences.{difference}
-use Rattle.secret_sharing.specs.Sharing.{summands}
+use Rattle.secret_sharing.specs.Schemes.{summands}
 use Rattle.party_set.specs.Parties.{has_party}
 use Rattle.job_plan.specs.declared.key.Key.{Key}
 use Rattle.job_plan.specs.Messages.{messages}

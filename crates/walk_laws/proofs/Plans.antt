@@ -4,7 +4,7 @@ use Rattle.std.specs.Prelude.{slice_index}
 use Rattle.std.proofs.lemmas.Bool.{false≢true, cases_order}
 use Rattle.party_set.specs.Parties.{Structure, IsQ2, covers}
 use Rattle.group_formula.proofs.OneAnswer.{one_answer}
-use Rattle.q2_test.specs.Covering.{IsFirstCovering}
+use Rattle.q2_test.specs.CoveringPairs.{IsFirstCovering}
 use Rattle.job_plan.specs.Plans.{Plan}
 use Rattle.job_plan.specs.Tallies.{tape_length}
 use Rattle.job_plan.specs.Limits.{IsPlanWithin, IsPlanRefusal, IsFirstOverdrawn}

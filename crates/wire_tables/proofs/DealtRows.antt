@@ -9,7 +9,7 @@ use Rattle.list_laws.specs.Lists.{total, listed}
 use Rattle.list_laws.proofs.Totals.{total_eq, total_more}
 use Rattle.list_laws.proofs.JoinedLists.{length-listed, listed_at}
 use Rattle.mpc_ring.specs.Differences.{difference}
-use Rattle.secret_sharing.specs.Sharing.{Scheme, dealt}
+use Rattle.secret_sharing.specs.Schemes.{Scheme, dealt}
 use Rattle.secret_sharing.proofs.SummandSums.{dealt_word, dealt_last}
 use Rattle.wire_tables.proofs.ListedRows.{listed_of}
 

@@ -4,7 +4,7 @@ use Rattle.std.specs.Prelude.{slice_index}
 use Rattle.std.specs.List.{AllByRecursion}
 use Rattle.list_laws.proofs.JoinedLists.{every_joined, every_only_if}
 use Rattle.circuit_model.specs.Circuits.{is_product}
-use Rattle.secret_sharing.specs.Sharing.{dealt, own_product, own_value, summands}
+use Rattle.secret_sharing.specs.Schemes.{dealt, own_product, own_value, summands}
 use Rattle.job_session.specs.Sessions.{Session, Slot, owners, gate, session_slot, session_slots}
 use Rattle.job_plan.specs.Plans.{Plan, scheme, session, slot, slots, deals_in}
 use Rattle.job_session.specs.Sessions.Slot.{Input, At_gate, Output}

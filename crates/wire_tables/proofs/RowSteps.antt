@@ -10,7 +10,7 @@ use Rattle.mpc_ring.proofs.Remainders.{same_refl}
 use Rattle.circuit_model.specs.declared.gate.Gate.{Gate}
 use Rattle.circuit_model.specs.Circuits.{is_product}
 use Rattle.circuit_model.proofs.SetAt.{set_here, set_there}
-use Rattle.secret_sharing.specs.Sharing.{dealt, local, own_product, gate_summands, summands}
+use Rattle.secret_sharing.specs.Schemes.{dealt, local, own_product, gate_summands, summands}
 use Rattle.secret_sharing.proofs.Agreement.{own_same, product_agrees}
 use Rattle.job_session.specs.Sessions.{owners, gate}
 use Rattle.job_plan.specs.Plans.{scheme, session}

@@ -5,7 +5,7 @@ use Rattle.std.proofs.lemmas.Bool.{and_parts}
 use Rattle.list_laws.proofs.JoinedLists.{length-listed, listed_at}
 use Rattle.circuit_model.specs.declared.gate.Gate.{Gate}
 use Rattle.circuit_model.specs.Circuits.{is_product}
-use Rattle.secret_sharing.specs.Sharing.{dealt, own_product, summands}
+use Rattle.secret_sharing.specs.Schemes.{dealt, own_product, summands}
 use Rattle.job_plan.specs.declared.key.Key.{Key}
 use Rattle.job_session.specs.Sessions.{Session, Slot, gate, output_wire, owners, readers, session_slot}
 use Rattle.job_plan.specs.Plans.{scheme, session, slot, slots, deals_in}

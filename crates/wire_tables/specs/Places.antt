@@ -1,6 +1,6 @@
 -- Where the parties' next deals begin on their tapes.
 use Rattle.std.specs.Prelude.{◌≡◌, ℕ, ◌+◌, ◌-◌, ◌^◌, ◌<◌, ◌≤◌, List, [], length, slice_index, slice_index_or}
-use Rattle.secret_sharing.specs.Sharing.{Scheme, dealt}
+use Rattle.secret_sharing.specs.Schemes.{Scheme, dealt}
 use Rattle.job_plan.specs.Plans.{Plan, place}
 
 -- each party's next deal begins where its deal of slot k of session s does

@@ -1,7 +1,7 @@
 -- The rows of a table on the way through the gates.
 use Rattle.std.specs.Prelude.{◌≡◌, ℕ, ◌<◌, List, [], length, slice_index, slice_index_or}
 use Rattle.std.specs.Global.{Vec}
-use Rattle.secret_sharing.specs.Sharing.{summands}
+use Rattle.secret_sharing.specs.Schemes.{summands}
 use Rattle.job_plan.specs.Plans.{session}
 use Rattle.job_plan.specs.InputWords.{session_words}
 use Rattle.share_world.specs.Worlds.{World, run_of}

@@ -4,7 +4,7 @@ use Rattle.std.specs.Global.{Vec}
 use Rattle.list_laws.specs.Lists.{listed}
 use Rattle.circuit_model.specs.declared.gate.Gate.{Gate}
 use Rattle.circuit_model.specs.Circuits.{is_product}
-use Rattle.secret_sharing.specs.Sharing.{Scheme, local, product_summand, summands}
+use Rattle.secret_sharing.specs.Schemes.{Scheme, local, product_summand, summands}
 use Rattle.job_session.specs.Sessions.{owners}
 use Rattle.job_plan.specs.Plans.{Plan, session}
 use Rattle.job_plan.specs.InputWords.{session_words}

@@ -3,7 +3,7 @@ ghost use Rattle.std.specs.Prelude.{◌≡◌, ℕ, ◌+◌, ◌%◌, ◌^◌, �
 ghost use Rattle.std.specs.Prelude.{slice_index, take, drop, replicate};
 ghost use Rattle.list_laws.specs.Lists.{listed};
 ghost use Rattle.circuit_model.specs.Circuits.{is_product};
-ghost use Rattle.secret_sharing.specs.Sharing.{has_pair, local, product_summand};
+ghost use Rattle.secret_sharing.specs.Schemes.{has_pair, local, product_summand};
 ghost use Rattle.job_plan.specs.Plans.{scheme};
 ghost use Rattle.job_plan.specs.InputWords.{session_words};
 ghost use Rattle.wire_tables.specs.Places.{HasDealWords, dealt_at};

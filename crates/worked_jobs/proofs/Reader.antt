@@ -9,7 +9,7 @@ use Rattle.share_world.specs.Multiply.{multiply_world, MultiplyWhole}
 use Rattle.program_laws.specs.Lawful.{given_in}
 use Rattle.party_desk.specs.declared.desk.Desk.{Desk}
 use Rattle.party_desk.specs.Desks.{IsDesk, IsNew}
-use Rattle.worked_jobs.specs.Recording.{HasWords}
+use Rattle.worked_jobs.specs.RecordedWords.{HasWords}
 
 -- by computation, its inputs and its piece of tape are what the world gives
 pub reads_product : (plan : Plan) (tape : List ℕ) (d : Desk) → plan ≡ multiply_plan 8 → tape ≡ 5 ∷ 6 ∷ [] → IsNew plan 2 0 [] tape d → IsDesk (given_in multiply_world 0 2) d

@@ -20,7 +20,7 @@ use Rattle.party_desk.specs.Desks.{IsDesk, Waits, instruction_at}
 use Rattle.program_laws.specs.Lawful.{given_in, Lawful}
 use Rattle.desk_laws.specs.Words.{NextIs}
 use Rattle.desk_laws.specs.InWorld.{Serves, MayStepIn, DoesIn, StepsIn}
-use Rattle.worked_jobs.specs.Recording.{HasWords}
+use Rattle.worked_jobs.specs.RecordedWords.{HasWords}
 
 -- what a recorder means
 abbrev pub recorder : Meaning (List ℕ)

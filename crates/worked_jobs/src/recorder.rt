@@ -6,7 +6,7 @@ ghost use Rattle.share_world.specs.Multiply.{multiply_world};
 ghost use Rattle.program_laws.specs.Lawful.{given_in};
 ghost use Rattle.party_desk.specs.Desks.{IsDesk};
 ghost use Rattle.desk_laws.specs.InWorld.{IsDeskDone};
-ghost use Rattle.worked_jobs.specs.Recording.{HasWords};
+ghost use Rattle.worked_jobs.specs.RecordedWords.{HasWords};
 
 use crate::product_plan::{MESSAGES, multiply_plan};
 use desk_laws::{ended_desks_are_done, next_instructions_are_served, step_in_world};

@@ -1,6 +1,6 @@
 use Rattle.std.proofs.Common.{◌≡◌, suc, ◌+◌, ◌-◌, length, sym, ◌∙◌, ap, arith}
 use Rattle.std.proofs.lemmas.List.{length_push}
-use Rattle.circuit_model.specs.Building.{Draft}
+use Rattle.circuit_model.specs.DraftSteps.{Draft}
 use Rattle.circuit_file.specs.CircuitFiles.{gates_in}
 use Rattle.circuit_file.specs.Steps.{AddsAll}
 use Rattle.circuit_file.proofs.ReaderSteps.{sent, fails_so, gate_goes, gates_end}

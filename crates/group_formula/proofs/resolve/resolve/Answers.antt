@@ -2,7 +2,7 @@ use Rattle.std.proofs.Common.{◌≡◌, ℕ, List, length, take, drop, ◌++◌
 use Rattle.group_formula.specs.declared.node.Node.{Node}
 use Rattle.group_formula.specs.Trees.{IsSoundTree, postfix, tree_of, Meaning}
 use Rattle.group_formula.specs.Formulas.{reading}
-use Rattle.group_formula.specs.Resolving.{resolved_node, least}
+use Rattle.group_formula.specs.Resolved.{resolved_node, least}
 use Rattle.group_formula.proofs.ResolvedNodes.{lent}
 use Rattle.group_formula.proofs.Meaning.{least_is, few_nodes, tree_is, writes_back, is_sound}
 use Rattle.group_formula.proofs.resolve.resolve.Goals as goal

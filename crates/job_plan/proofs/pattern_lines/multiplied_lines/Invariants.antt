@@ -1,6 +1,6 @@
 use Rattle.std.proofs.Common.{◌≡◌}
 use Rattle.list_laws.specs.Lists.{joined, only_if}
-use Rattle.secret_sharing.specs.Sharing.{has_pair}
+use Rattle.secret_sharing.specs.Schemes.{has_pair}
 use Rattle.job_plan.specs.Plans.{scheme}
 use Rattle.job_plan.specs.Patterns.{deal_lines}
 use Rattle.job_plan.proofs.pattern_lines.multiplied_lines.Given as goal

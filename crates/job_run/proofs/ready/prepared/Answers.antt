@@ -1,7 +1,7 @@
 use Rattle.std.proofs.Common.{◌≡◌, ap₂, sym, subst, ◌∙◌, length, List, ℕ, All}
 use Rattle.std.specs.Prelude.{IfOk}
 use Rattle.job_plan.specs.InputWords.{AreInputs}
-use Rattle.desk_laws.specs.Opening.{ArePieces, world_of_pieces}
+use Rattle.desk_laws.specs.Pieces.{ArePieces, world_of_pieces}
 use Rattle.desk_workers.specs.Runs.{IsReady}
 use Rattle.job_run.specs.Pieces.{pieces_in, tape_words}
 use Rattle.job_run.proofs.Worlds.{are_inputs, are_pieces, sessions_each, world_same}

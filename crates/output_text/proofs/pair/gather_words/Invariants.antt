@@ -1,7 +1,7 @@
 use Rattle.std.proofs.Common.{◌++◌}
 use Rattle.std.specs.Prelude.{codes, decimal, slice_index}
 use Rattle.list_laws.specs.Lists.{joined}
-use Rattle.outer_io.specs.Gathering.{Adds}
+use Rattle.outer_io.specs.Blocks.{Adds}
 use Rattle.output_text.proofs.pair.gather_words.Given as goal
 
 abbrev pub invariant-loop-i : goal.invariant-loop-i

@@ -1,5 +1,5 @@
 use Rattle.std.proofs.Common.{sym, subst}
-use Rattle.outer_io.specs.Gathering.{Adds}
+use Rattle.outer_io.specs.Blocks.{Adds}
 use Rattle.outer_io.proofs.GatheredTexts.{adds_then}
 use Rattle.party_set.specs.Parties.{Members}
 use Rattle.std.specs.Prelude.{Option}

@@ -1,6 +1,6 @@
 use Rattle.std.proofs.Common.{◌≡◌}
 use Rattle.list_laws.specs.Lists.{joined}
-use Rattle.outer_io.specs.Gathering.{Adds}
+use Rattle.outer_io.specs.Blocks.{Adds}
 use Rattle.share_world.specs.Worlds.{World}
 use Rattle.desk_workers.specs.Runs.{IsOver}
 use Rattle.output_text.specs.Seen.{session_seen}

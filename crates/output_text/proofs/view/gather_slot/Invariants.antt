@@ -1,7 +1,7 @@
 use Rattle.std.proofs.Common.{◌≡◌, [], ◌∷◌}
 use Rattle.std.specs.Prelude.{slice_index_or}
 use Rattle.list_laws.specs.Lists.{joined}
-use Rattle.outer_io.specs.Gathering.{Adds}
+use Rattle.outer_io.specs.Blocks.{Adds}
 use Rattle.job_plan.specs.Patterns.{named}
 use Rattle.job_plan.proofs.RankSearch.{no_line}
 use Rattle.share_world.specs.Worlds.{World}

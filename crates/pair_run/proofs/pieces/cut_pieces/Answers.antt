@@ -6,8 +6,8 @@ use Rattle.list_laws.specs.Lists.{joined}
 use Rattle.job_plan.specs.Plans.{words, place}
 use Rattle.job_plan.specs.InputWords.{session_words}
 use Rattle.wire_tables.proofs.ListedRows.{row_read}
-use Rattle.tape_map.proofs.Changing.{small_all}
-use Rattle.desk_laws.specs.Opening.{ArePieces}
+use Rattle.tape_map.proofs.ChangedPieces.{small_all}
+use Rattle.desk_laws.specs.Pieces.{ArePieces}
 use Rattle.pair_run.specs.Pairs.{tapes_in}
 use Rattle.pair_run.proofs.CutTapes.{cut_piece, cut_row, piece_more, are_pieces, tapes_same}
 use Rattle.pair_run.proofs.pieces.cut_pieces.Goals as goal

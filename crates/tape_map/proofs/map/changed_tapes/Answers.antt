@@ -10,7 +10,7 @@ use Rattle.share_world.specs.Worlds.{World}
 use Rattle.wire_tables.specs.WireTables.{world_given}
 use Rattle.wire_tables.proofs.ListedRows.{listed_of}
 use Rattle.tape_map.specs.TapeMaps.{piece_map, tape_map}
-use Rattle.tape_map.proofs.Changing.{change_fits, piece_grown, pieces_long}
+use Rattle.tape_map.proofs.ChangedPieces.{change_fits, piece_grown, pieces_long}
 use Rattle.tape_map.proofs.map.changed_tapes.Goals as goal
 
 pub push_pieces-requires-clause-fits : goal.push_pieces-requires-clause-fits

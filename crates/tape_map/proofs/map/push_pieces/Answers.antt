@@ -8,7 +8,7 @@ use Rattle.job_plan.specs.InputWords.{session_words}
 use Rattle.job_plan.specs.Plans.{words}
 use Rattle.wire_tables.proofs.ListedRows.{words_of, row_read}
 use Rattle.tape_map.specs.Changes.{grown_piece}
-use Rattle.tape_map.proofs.Changing.{small_all}
+use Rattle.tape_map.proofs.ChangedPieces.{small_all}
 use Rattle.tape_map.proofs.map.push_pieces.Goals as goal
 
 pub push_piece-requires-clause-tape : goal.push_piece-requires-clause-tape

@@ -1,5 +1,5 @@
 use Rattle.list_laws.specs.Lists.{joined}
-use Rattle.outer_io.specs.Gathering.{Adds}
+use Rattle.outer_io.specs.Blocks.{Adds}
 use Rattle.text_parts.specs.Parts.{member_text}
 use Rattle.text_parts.proofs.gathered.gather_group.Given as goal
 

@@ -1,7 +1,7 @@
 use Rattle.std.proofs.Common.{◌≡◌, ◌^◌}
 use Rattle.std.specs.Prelude.{slice_index}
 use Rattle.list_laws.specs.Lists.{listed}
-use Rattle.secret_sharing.specs.Sharing.{local}
+use Rattle.secret_sharing.specs.Schemes.{local}
 use Rattle.wire_tables.proofs.rows.linear_row.Given as goal
 
 abbrev pub invariant-loop-i : goal.invariant-loop-i

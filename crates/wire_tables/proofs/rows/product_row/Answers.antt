@@ -6,7 +6,7 @@ use Rattle.std.proofs.lemmas.Bool.{cond-true}
 use Rattle.list_laws.specs.Lists.{total, listed}
 use Rattle.list_laws.proofs.JoinedLists.{length-listed, listed_at}
 use Rattle.mpc_ring.proofs.Totals.{total_step_alone}
-use Rattle.secret_sharing.specs.Sharing.{has_pair, own_product}
+use Rattle.secret_sharing.specs.Schemes.{has_pair, own_product}
 use Rattle.secret_sharing.proofs.SummandSums.{dealt_small}
 use Rattle.party_set.specs.Parties.{Structure}
 use Rattle.product_duty.specs.Duties.{scheme_of}

@@ -1,7 +1,7 @@
 use Rattle.std.proofs.Common.{◌≡◌, ℕ, ◌%◌, ◌^◌, ◌<◌, if◌then◌else◌, All, length}
 use Rattle.std.specs.Prelude.{slice_index}
 use Rattle.list_laws.specs.Lists.{total}
-use Rattle.secret_sharing.specs.Sharing.{has_pair, own_product}
+use Rattle.secret_sharing.specs.Schemes.{has_pair, own_product}
 use Rattle.job_plan.specs.Plans.{scheme}
 use Rattle.job_plan.specs.InputWords.{session_words}
 use Rattle.wire_tables.specs.Places.{dealt_at}

@@ -6,7 +6,7 @@ use Rattle.std.proofs.lemmas.List.{map-append}
 use Rattle.std.proofs.lemmas.Grind.{common_steps, get_or_default_zero}
 use Rattle.list_laws.specs.Lists.{listed}
 use Rattle.list_laws.proofs.JoinedLists.{length-listed, listed_at, listed_eq}
-use Rattle.secret_sharing.specs.Sharing.{dealt}
+use Rattle.secret_sharing.specs.Schemes.{dealt}
 use Rattle.job_plan.specs.InputWords.{session_words}
 use Rattle.job_session.specs.Sessions.{Session, owners}
 use Rattle.job_plan.specs.Plans.{session, scheme, slot, deals_in}

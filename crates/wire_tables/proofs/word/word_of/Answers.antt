@@ -6,7 +6,7 @@ use Rattle.list_laws.proofs.JoinedLists.{length-listed, listed_at}
 use Rattle.circuit_model.specs.declared.gate.Gate.{Gate}
 use Rattle.party_set.specs.Parties.{Structure}
 use Rattle.product_duty.specs.Duties.{scheme_of}
-use Rattle.secret_sharing.specs.Sharing.{dealt, own_product, summands}
+use Rattle.secret_sharing.specs.Schemes.{dealt, own_product, summands}
 use Rattle.job_session.specs.Sessions.{Session, session_slots}
 use Rattle.job_plan.specs.Plans.{scheme, session}
 use Rattle.job_session.specs.SoundSessions.{IsSoundSession}

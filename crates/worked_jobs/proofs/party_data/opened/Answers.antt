@@ -1,7 +1,7 @@
 use Rattle.std.proofs.Common.{ap, sym, subst, refl, ◌∙◌, arith}
 use Rattle.job_plan.specs.InputWords.{AreInputs}
-use Rattle.desk_laws.specs.Opening.{ArePieces}
-use Rattle.core_world.specs.Running.{IsRunOfPlan}
+use Rattle.desk_laws.specs.Pieces.{ArePieces}
+use Rattle.core_world.specs.Moments.{IsRunOfPlan}
 use Rattle.job_run.specs.Pieces.{pieces_in}
 use Rattle.job_run.proofs.Worlds.{are_inputs, are_pieces, sessions_each}
 use Rattle.worked_jobs.proofs.FirstParts.{tapes_of, ok_then}

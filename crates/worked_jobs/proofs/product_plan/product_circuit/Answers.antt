@@ -1,5 +1,5 @@
 use Rattle.std.proofs.Common.{◌≡◌, length, ◌<◌, sym, subst, arith, rules, replicate}
-use Rattle.circuit_model.specs.Building.{Draft}
+use Rattle.circuit_model.specs.DraftSteps.{Draft}
 use Rattle.worked_jobs.proofs.ProductCircuit.{empty_draft, started, added, finished}
 use Rattle.worked_jobs.proofs.product_plan.product_circuit.Goals as goal
 

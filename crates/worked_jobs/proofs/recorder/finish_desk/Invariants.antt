@@ -1,6 +1,6 @@
 use Rattle.std.proofs.Common.{ℕ}
 use Rattle.share_world.specs.Worlds.{World}
-use Rattle.worked_jobs.specs.Recording.{HasWords}
+use Rattle.worked_jobs.specs.RecordedWords.{HasWords}
 use Rattle.worked_jobs.proofs.RecordedDesks.{left}
 use Rattle.worked_jobs.proofs.recorder.finish_desk.Given as goal
 

@@ -1,6 +1,6 @@
 use Rattle.std.proofs.Common.{◌≡◌, arith, refl, sym, ◌∙◌, ap, subst, length, sum, Ok, Err}
 use Rattle.circuit_model.specs.declared.fault.CircuitFault.TheVariants.{OutputNotSet}
-use Rattle.circuit_model.specs.Building.{Draft, circuit_of}
+use Rattle.circuit_model.specs.DraftSteps.{Draft, circuit_of}
 use Rattle.circuit_model.specs.Netlists.{IsCircuit}
 use Rattle.circuit_model.proofs.DraftLaws.{end_refused, end_unset, end_done, end_valid}
 use Rattle.circuit_model.proofs.builder.Builder.finish.Goals as goal

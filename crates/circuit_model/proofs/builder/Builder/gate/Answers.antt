@@ -1,6 +1,6 @@
 use Rattle.std.proofs.Common.{◌≡◌, ◌<◌, arith, refl, sym, ◌∙◌, ap, length, subst, set, true, length-set, ◌++◌, ◌∷◌, [], Some, inl}
 use Rattle.std.proofs.lemmas.Grind.{common_steps}
-use Rattle.circuit_model.specs.Building.{Draft, after_gate, Becomes}
+use Rattle.circuit_model.specs.DraftSteps.{Draft, after_gate, Becomes}
 use Rattle.circuit_model.specs.Netlists.{GateFits}
 use Rattle.circuit_model.proofs.PassedChecks.{next_fits}
 use Rattle.circuit_model.proofs.DraftLaws.{next_seen, more_sound, after_fault, after_more}

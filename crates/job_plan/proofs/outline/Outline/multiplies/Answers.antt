@@ -1,5 +1,5 @@
 use Rattle.std.proofs.Common.{ap, ◌∙◌}
-use Rattle.secret_sharing.specs.Sharing.{has_pair}
+use Rattle.secret_sharing.specs.Schemes.{has_pair}
 use Rattle.product_duty.specs.Duties.{scheme_of}
 use Rattle.job_plan.specs.Plans.{scheme}
 use Rattle.job_plan.proofs.outline.Outline.multiplies.Goals as goal

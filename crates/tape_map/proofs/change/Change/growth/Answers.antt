@@ -5,7 +5,7 @@ use Rattle.mpc_ring.specs.Differences.{difference}
 use Rattle.circuit_model.specs.declared.gate.Gate.{Gate}
 use Rattle.party_set.specs.Parties.{Structure, has_party}
 use Rattle.product_duty.specs.Duties.{scheme_of}
-use Rattle.secret_sharing.specs.Sharing.{own_product}
+use Rattle.secret_sharing.specs.Schemes.{own_product}
 use Rattle.job_plan.specs.InputWords.{session_words}
 use Rattle.job_session.specs.Sessions.{Session, gate}
 use Rattle.std.specs.Global.{Vec}
@@ -16,7 +16,7 @@ use Rattle.job_session.specs.SoundSessions.{Inside, slot_of_kind}
 use Rattle.wire_tables.proofs.ListedRows.{row_read}
 use Rattle.tape_map.specs.declared.change.Change.{Change}
 use Rattle.tape_map.specs.Changes.{growth, Fits}
-use Rattle.tape_map.proofs.Changing.{small_all}
+use Rattle.tape_map.proofs.ChangedPieces.{small_all}
 use Rattle.tape_map.proofs.change.Change.growth.Goals as goal
 
 module _ (plan : Plan) (change : Change) (fits : Fits plan change) where

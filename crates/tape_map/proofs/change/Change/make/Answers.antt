@@ -1,6 +1,6 @@
 use Rattle.std.proofs.Common.{◌≡◌, ℕ, ◌^◌, ◌<◌, All, List, length, refl, sym, ap, ◌∙◌, subst}
 use Rattle.list_laws.proofs.JoinedLists.{length-listed}
-use Rattle.secret_sharing.specs.Sharing.{summands}
+use Rattle.secret_sharing.specs.Schemes.{summands}
 use Rattle.job_session.specs.Sessions.{Session}
 use Rattle.job_plan.specs.Plans.{session}
 use Rattle.share_world.specs.Laws.{IsWorld}
@@ -9,7 +9,7 @@ use Rattle.share_world.proofs.SmallWords.{is_world, is_plan, small_run}
 use Rattle.wire_tables.specs.WireTables.{world_given, value_list, summand_row, summand_rows}
 use Rattle.wire_tables.proofs.DealtRows.{all_listed}
 use Rattle.tape_map.specs.TapeMaps.{with_inputs}
-use Rattle.tape_map.proofs.Changing.{all_of, moved_is, small_plain}
+use Rattle.tape_map.proofs.ChangedPieces.{all_of, moved_is, small_plain}
 use Rattle.tape_map.proofs.change.Change.make.Goals as goal
 
 pub moved_rows-requires : goal.moved_rows-requires

@@ -9,7 +9,7 @@ use Rattle.job_plan.specs.Plans.{slot, slots, words_in, place, deals_in}
 use Rattle.job_session.specs.SoundSessions.{slot_of_kind}
 use Rattle.tape_map.specs.TapeMaps.{raised}
 use Rattle.tape_map.specs.Changes.{growth, grown_words}
-use Rattle.tape_map.proofs.Changing.{grown_long}
+use Rattle.tape_map.proofs.ChangedPieces.{grown_long}
 use Rattle.tape_map.proofs.change.Change.push_piece.Goals as goal
 use Rattle.tape_map.proofs.change.Change.push_piece.Goals.{then-deals_in+in_ok-push_deal, else-deals_in}
 

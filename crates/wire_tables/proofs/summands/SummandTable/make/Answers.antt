@@ -5,7 +5,7 @@ use Rattle.std.proofs.lemmas.List.{with_items_is}
 use Rattle.list_laws.proofs.JoinedLists.{length-listed, listed_at}
 use Rattle.circuit_model.specs.declared.gate.Gate.{Gate}
 use Rattle.circuit_model.specs.Circuits.{is_product}
-use Rattle.secret_sharing.specs.Sharing.{gate_summands, summands, has_pair}
+use Rattle.secret_sharing.specs.Schemes.{gate_summands, summands, has_pair}
 use Rattle.job_plan.specs.InputWords.{session_words}
 use Rattle.job_session.specs.Sessions.{Session, owners, gate}
 use Rattle.job_plan.specs.Plans.{session, scheme, slot, deals_in}

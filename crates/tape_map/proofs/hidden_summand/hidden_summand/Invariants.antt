@@ -1,7 +1,7 @@
 use Rattle.std.proofs.Common.{◌≡◌, ℕ, ◌<◌, false}
 use Rattle.std.specs.Prelude.{slice_index}
 use Rattle.party_set.specs.Parties.{within}
-use Rattle.tape_map.proofs.hiding.hidden_summand.Given as goal
+use Rattle.tape_map.proofs.hidden_summand.hidden_summand.Given as goal
 
 -- the group lies in none of the groups so far
 abbrev pub invariant-loop-i : goal.invariant-loop-i

@@ -12,7 +12,7 @@ use Rattle.list_laws.proofs.JoinedLists.{length-joined, length-listed, listed_at
 use Rattle.mpc_ring.specs.Differences.{difference}
 use Rattle.circuit_model.specs.Circuits.{is_product}
 use Rattle.circuit_model.proofs.SetAt.{set_there}
-use Rattle.secret_sharing.specs.Sharing.{summands}
+use Rattle.secret_sharing.specs.Schemes.{summands}
 use Rattle.party_set.specs.Parties.{has_party}
 use Rattle.job_session.specs.Sessions.{Session, owners, gate}
 use Rattle.job_plan.specs.Plans.{Plan, session, slot, slots, words, words_in, place, deals_in}

@@ -4,7 +4,7 @@ use Rattle.std.specs.List.{position_or_len}
 use Rattle.std.proofs.lemmas.Bool.{both_ways}
 use Rattle.std.proofs.lemmas.List.Sums.{position_or_len_is, passes_at_first}
 use Rattle.party_set.specs.Parties.{Members, within}
-use Rattle.tape_map.proofs.hiding.hidden_summand.Goals as goal
+use Rattle.tape_map.proofs.hidden_summand.hidden_summand.Goals as goal
 
 pub returns-then-within : goal.returns-then-within
 returns-then-within c =
