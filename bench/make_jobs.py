@@ -2,8 +2,8 @@
 """Makes jobs of several sizes, each in a folder of its own: make_jobs.py FOLDER [limits]
 
 Ring circuits of 4,096 to 65,536 gates, a quarter of them products, a circuit of bits with as many gates of each kind as a
-circuit of AES-128 has, and one of products alone that eight sessions compute. With 'limits', in their place, jobs as large as the
-program takes: the most products, the deepest circuit (each gate squares what the one before it set) and the widest (all wires are
+circuit of AES-128 has, one of products alone that eight sessions compute, another for five parties, and the job that 'mpc sample 65536'
+makes. With 'limits', in their place, jobs as large as the program takes: the most products, the deepest circuit (each gate squares what the one before it set) and the widest (all wires are
 inputs or outputs). Each folder gets the job, its circuit, three party files with seeds, and 'expected', the text that 'mpc run' must
 write, computed from the plain circuit. The same call always makes the same files.
 
@@ -11,23 +11,21 @@ A list of the folders, with a line 'NAME GATES PRODUCTS MESSAGES' for each, goes
 """
 
 import hashlib
+import math
 import os
 import sys
 
-PARTIES = ['a', 'b', 'c']
 RING_SIZES = [4096, 8192, 16384, 32768, 65536]
 INPUT_WIRES = 16
 SESSION_PRODUCTS = 4096
+FIVE_PARTIES_PRODUCTS = 1024
+SAMPLE_GATES = 65536
 
 # Gates of the circuit of bits.
 BITS = {'AND': 6400, 'XOR': 28176, 'INV': 2087}
 BIT_INPUTS = [128, 128]
 BIT_OUTPUTS = 128
 
-# With three parties and '2 of', a value has three summands, each held by two parties. A deal sends each summand to its holders
-# but the dealer, who holds two: 4 messages. A product is dealt by all three parties; a reader lacks one summand.
-DEAL_MESSAGES = 4
-PRODUCT_MESSAGES = 3 * DEAL_MESSAGES
 MOST_MESSAGES = 1048576
 MOST_GATES = 65536
 MOST_VALUES = 1024
@@ -43,6 +41,25 @@ OPERATE = {
     'AND': lambda x, y: x * y,
     'INV': lambda x: x + 1,
 }
+
+
+class Sharing:
+    """So many parties, of which so many together may know everything. A value has a summand for each group of one party less, and
+    who isn't in the group holds it."""
+
+    def __init__(self, count, qualified):
+        self.parties = ['a', 'b', 'c', 'd', 'e'][:count]
+        self.formula = f'{qualified} of ({", ".join(self.parties)})'
+        summands = math.comb(count, qualified - 1)
+        held = math.comb(count - 1, qualified - 1)
+        # Each summand goes to its holders but the dealer. A product is dealt by each party.
+        self.deal_messages = summands * (count - qualified + 1) - held
+        self.product_messages = count * self.deal_messages
+        self.output_messages = count * (summands - held)
+
+
+THREE = Sharing(3, 2)
+FIVE = Sharing(5, 3)
 
 
 class Numbers:
@@ -81,36 +98,41 @@ def negate_an_input(operation, wire, numbers):
     return [wire - MOST_GATES]
 
 
-def write(folder, name, layout, bits, widths, outputs, operations, numbers, sessions=1, choose=operands):
+def write(folder, name, layout, bits, widths, outputs, operations, numbers, sessions=1, choose=operands, known=None, seeds=None, sharing=THREE):
     """Writes one job: the inputs are given by a, b, .. in turn, the last wires are the output values of these widths, which all read.
-    All sessions have the same circuit, and inputs of their own."""
+    All sessions have the same circuit, and inputs of their own. The words of the input wires and the parties' seeds are 'known' and
+    'seeds', where they are there."""
     path = os.path.join(folder, name)
     os.makedirs(path)
+    parties = sharing.parties
     wires = sum(widths)
     gates = []
     for operation in operations:
         gates.append((operation, choose(operation, wires, numbers)))
         wires += 1
-    owners = [PARTIES[i % len(PARTIES)] for i in range(len(widths))]
-    inputs = {party: [] for party in PARTIES}
+    owners = [parties[i % len(parties)] for i in range(len(widths))]
+    inputs = {party: [] for party in parties}
     expected = ''
     for session in range(sessions):
         values = []
-        given = {party: [] for party in PARTIES}
+        given = {party: [] for party in parties}
         for owner, width in zip(owners, widths):
-            words = [numbers.below(min(2**bits, 2**31)) for _ in range(width)]
+            if known:
+                words = known[len(values):len(values) + width]
+            else:
+                words = [numbers.below(min(2**bits, 2**31)) for _ in range(width)]
             given[owner] += words
             values += words
-        for party in PARTIES:
+        for party in parties:
             inputs[party].append(' '.join(map(str, given[party])))
         words = evaluate(values, gates, 2**bits)[wires - sum(outputs):]
         for output, width in enumerate(outputs):
             first = sum(outputs[:output])
             value = ' '.join(map(str, words[first:first + width]))
-            expected += ''.join(f'out {session} {output} {party} {value}\n' for party in PARTIES)
+            expected += ''.join(f'out {session} {output} {party} {value}\n' for party in parties)
 
     products = sessions * sum(operation in ('MUL', 'AND') for operation in operations)
-    messages = sessions * (sum(widths) * DEAL_MESSAGES + sum(outputs) * len(PARTIES)) + products * PRODUCT_MESSAGES
+    messages = sessions * (sum(widths) * sharing.deal_messages + sum(outputs) * sharing.output_messages) + products * sharing.product_messages
     if messages > MOST_MESSAGES or len(gates) > MOST_GATES or wires > MOST_WIRES:
         sys.exit(f'make_jobs.py: {name} is past the limits of the program')
 
@@ -121,16 +143,16 @@ def write(folder, name, layout, bits, widths, outputs, operations, numbers, sess
     if len(circuit) > MOST_BYTES:
         sys.exit(f'make_jobs.py: the circuit of {name} is longer than the program takes')
     texts = lambda items: '[' + ', '.join(f'"{item}"' for item in items) + ']'
-    readers = '[' + ', '.join([texts(PARTIES)] * len(outputs)) + ']'
+    readers = '[' + ', '.join([texts(parties)] * len(outputs)) + ']'
     session = (f'[[session]]\ncircuit = "circuit.txt"\nlayout = "{layout}"\nowners = {texts(owners)}\n'
                f'readers = {readers}\n')
     files = {
         'circuit.txt': circuit,
-        'job.toml': f'version = 1\nring_bits = {bits}\nparties = {texts(PARTIES)}\nformula = "2 of (a, b, c)"\n' + sessions * session,
+        'job.toml': f'version = 1\nring_bits = {bits}\nparties = {texts(parties)}\nformula = "{sharing.formula}"\n' + sessions * session,
         'expected': expected,
     }
-    for party in PARTIES:
-        seed = hashlib.sha256(f'{name} {party}'.encode()).hexdigest()
+    for party in parties:
+        seed = seeds[party] if seeds else hashlib.sha256(f'{name} {party}'.encode()).hexdigest()
         files[f'party_{party}.toml'] = f'version = 1\ninputs = {texts(inputs[party])}\nseed = "{seed}"\n'
     for file, text in files.items():
         with open(os.path.join(path, file), 'w', newline='\n') as out:
@@ -138,10 +160,24 @@ def write(folder, name, layout, bits, widths, outputs, operations, numbers, sess
     print(name, sessions * len(gates), products, messages)
 
 
+def write_sample(folder, gates):
+    """Writes the job that 'mpc sample' makes of this number: its circuit, inputs and seeds."""
+    def both(operation, wire, numbers):
+        gate = wire - 4
+        wires = [(7 * gate + gates) % wire, (11 * gate + 3) % wire]
+        return wires[:1] if operation == 'NEG' else wires
+
+    operations = [['MUL', 'ADD', 'SUB', 'NEG'][(gate + gates) % 4] for gate in range(gates)]
+    known = [gates * (wire + 1) for wire in range(4)]
+    seeds = {party: f'{number + 1:02x}' * 32 for number, party in enumerate(THREE.parties)}
+    write(folder, f'sample_{gates}', 'ring', 32, [2, 2], [1], operations, None, choose=both, known=known, seeds=seeds)
+
+
 def write_bench(folder):
     for size in RING_SIZES:
         operations = [['MUL', 'ADD', 'SUB', 'NEG'][i % 4] for i in range(size)]
         write(folder, f'ring_{size}', 'ring', 32, [1] * INPUT_WIRES, [1], operations, Numbers(size))
+    write_sample(folder, SAMPLE_GATES)
     # The kinds of gates in a random order.
     numbers = Numbers(128)
     operations = [operation for operation, count in BITS.items() for _ in range(count)]
@@ -151,6 +187,8 @@ def write_bench(folder):
     write(folder, 'bits_aes', 'bristol', 1, BIT_INPUTS, [BIT_OUTPUTS], operations, numbers)
     operations = ['MUL'] * SESSION_PRODUCTS
     write(folder, 'eight_sessions', 'ring', 32, [1] * INPUT_WIRES, [1], operations, Numbers(8), sessions=8)
+    operations = ['MUL'] * FIVE_PARTIES_PRODUCTS
+    write(folder, 'five_parties', 'ring', 32, [1] * INPUT_WIRES, [1], operations, Numbers(5), sessions=8, sharing=FIVE)
 
 
 def write_limits(folder):

@@ -29,11 +29,15 @@ class Job:
         self.seconds = float('inf')
         self.peak = 0
 
+    def command(self, program, options):
+        """The words of a run."""
+        return [program, 'run', self.folder, *options]
+
     def run(self, program, options):
         """One run."""
         with tempfile.TemporaryFile() as out:
             begin = time.perf_counter()
-            process = subprocess.Popen([program, 'run', self.folder, *options], stdin=subprocess.DEVNULL, stdout=out)
+            process = subprocess.Popen(self.command(program, options), stdin=subprocess.DEVNULL, stdout=out)
             _, status, usage = os.wait4(process.pid, 0)
             seconds = time.perf_counter() - begin
             process.returncode = os.waitstatus_to_exitcode(status)

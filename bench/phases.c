@@ -2,7 +2,7 @@
    names, in nanoseconds: when the program began, when its workers began, when the last of them had ended, and when the
    program ended. With several workers these are the first thread that is made and the last that is waited for. One worker
    makes no thread; but a run takes no memory and gives none back, so the longest time without a request for memory is the
-   workers'. Built and used by phases.py. */
+   workers'. Built by phases.py, and used by samples.py too. */
 #define _GNU_SOURCE
 #include <dlfcn.h>
 #include <errno.h>

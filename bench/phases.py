@@ -16,14 +16,20 @@ import tempfile
 WORKERS = [1, 2, 4]
 
 
-def run(program, folder, workers, library, told):
+def build(folder):
+    """The library of phases.c, built in this folder."""
+    here = os.path.dirname(os.path.abspath(__file__))
+    library = os.path.join(folder, 'phases.so')
+    subprocess.run(['cc', '-O2', '-shared', '-fPIC', '-o', library, os.path.join(here, 'phases.c')], check=True)
+    return library
+
+
+def run(command, expected, library, told):
     """One run: the milliseconds before the workers, those of the workers, and those after them."""
     environment = {**os.environ, 'LD_PRELOAD': library, 'PHASES': told}
-    command = [program, 'run', folder, '--workers', str(workers)]
     ran = subprocess.run(command, stdin=subprocess.DEVNULL, capture_output=True, env=environment)
-    with open(os.path.join(folder, 'expected'), 'rb') as file:
-        if ran.returncode != 0 or ran.stdout != file.read():
-            sys.exit(f'phases.py: {folder} by {workers} workers did not write what its file "expected" says')
+    if ran.returncode != 0 or ran.stdout != expected:
+        sys.exit(f'phases.py: {" ".join(command)} did not write what it must')
     with open(told) as file:
         moments = [int(word) / 1e6 for word in file.read().split()]
     return [after - before for before, after in zip(moments, moments[1:])]
@@ -35,13 +41,15 @@ def main(words):
     program, job = os.path.abspath(words[1]), (words[2:] or ['eight_sessions'])[0]
     here = os.path.dirname(os.path.abspath(__file__))
     with tempfile.TemporaryDirectory() as folder:
-        library, told = os.path.join(folder, 'phases.so'), os.path.join(folder, 'told')
-        subprocess.run(['cc', '-O2', '-shared', '-fPIC', '-o', library, os.path.join(here, 'phases.c')], check=True)
+        library, told = build(folder), os.path.join(folder, 'told')
         subprocess.run([sys.executable, os.path.join(here, 'make_jobs.py'), folder], check=True, stdout=subprocess.DEVNULL)
+        path = os.path.join(folder, job)
+        with open(os.path.join(path, 'expected'), 'rb') as file:
+            expected = file.read()
         parts = {workers: [] for workers in WORKERS}
         for _ in range(int(os.environ.get('ROUNDS', '50'))):
             for workers, runs in parts.items():
-                runs.append(run(program, os.path.join(folder, job), workers, library, told))
+                runs.append(run([program, 'run', path, '--workers', str(workers)], expected, library, told))
     print('| Workers | Before, ms | Workers, ms | After, ms | Part of one worker\'s |')
     print('|---|---|---|---|---|')
     least = {workers: [min(part) for part in zip(*runs)] for workers, runs in parts.items()}

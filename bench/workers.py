@@ -1,7 +1,7 @@
 #!/usr/bin/env python3
-"""Tells what more workers gain: workers.py PROGRAM
+"""Tells what more workers gain: workers.py PROGRAM [JOB]
 
-Makes the jobs of make_jobs.py, and runs the one of eight sessions by 1, 2 and 4 workers in turn, ROUNDS times (50, where the environment
+Makes the jobs of make_jobs.py, and runs one of them (five_parties, where none is named) by 1, 2 and 4 workers in turn, ROUNDS times (50, where the environment
 doesn't say). Prints the least time for each number of workers, and what part it is of the time for one. For comparison it runs as many programs
 of one worker at the same time, and prints what part of one after the other they take together: this is the least part that the machine gives
 to programs that share nothing. Ends with status 1 where a run doesn't write what the plain circuit gives.
@@ -15,7 +15,6 @@ import time
 
 from measure import Job, Wrong
 
-JOB = 'eight_sessions'
 WORKERS = [1, 2, 4]
 
 
@@ -29,13 +28,15 @@ def together(program, job, count):
 
 
 def main(words):
-    if len(words) != 2:
-        sys.exit('usage: workers.py PROGRAM')
-    program = os.path.abspath(words[1])
+    if len(words) not in (2, 3):
+        sys.exit('usage: workers.py PROGRAM [JOB]')
+    program, name = os.path.abspath(words[1]), (words[2:] or ['five_parties'])[0]
     with tempfile.TemporaryDirectory() as folder:
         here = os.path.dirname(os.path.abspath(__file__))
         listed = subprocess.run([sys.executable, os.path.join(here, 'make_jobs.py'), folder], check=True, capture_output=True, text=True)
-        line = next(line for line in listed.stdout.splitlines() if line.startswith(JOB + ' '))
+        line = next((line for line in listed.stdout.splitlines() if line.startswith(name + ' ')), None)
+        if line is None:
+            sys.exit(f'workers.py: there is no job {name}')
         jobs = {workers: Job(folder, line) for workers in WORKERS}
         apart = {count: float('inf') for count in WORKERS}
         try:
