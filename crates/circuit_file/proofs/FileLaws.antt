@@ -138,7 +138,7 @@ file_related layout bits bytes c s =
 no_gate_fits : (c : Netlist) → c.gates ≡ [] → AllGatesFit c
 no_gate_fits c e = λ t l. absurd (omega (arith, l, ap length e))
 
-stands : (layout : CircuitLayout) (bits : ℕ) (bytes : List ℕ) (h : ℕ × Netlist × List Row) (c : Netlist) → 0 < bits → bits ≤ 32 → (layout ≡ Bristol → bits ≡ 1) → IsUtf8 bytes
+stands : (layout : CircuitLayout) (bits : ℕ) (bytes : List ℕ) (h : ℕ × Netlist × List Row) (c : Netlist) → 0 < bits → bits ≤ 64 → (layout ≡ Bristol → bits ≡ 1) → IsUtf8 bytes
     → IsHeader bits (rows_of bytes) h → Walked layout h.0 h.1 h.2 c → unset_output c ≡ None → StandsFor layout bits bytes c
 stands layout bits bytes h c some few boolean text i w last =
     let full : Netlist = record { bits = bits; gates = w.gates; wires = i.wires; inputs = i.inputs; outputs = i.outputs } in
@@ -173,7 +173,7 @@ stands layout bits bytes h c some few boolean text i w last =
       };
     })
 
-lines_grounded : (layout : CircuitLayout) (bits : ℕ) (bytes : List ℕ) (c : Netlist) → 0 < bits → bits ≤ 32 → (layout ≡ Bristol → bits ≡ 1) → IsUtf8 bytes → lines_in layout bits (rows_of bytes) ≡ Ok c
+lines_grounded : (layout : CircuitLayout) (bits : ℕ) (bytes : List ℕ) (c : Netlist) → 0 < bits → bits ≤ 64 → (layout ≡ Bristol → bits ≡ 1) → IsUtf8 bytes → lines_in layout bits (rows_of bytes) ≡ Ok c
     → StandsFor layout bits bytes c
 unfolding lines_in
 lines_grounded layout bits bytes c some few boolean text e =
@@ -185,7 +185,7 @@ lines_grounded layout bits bytes c some few boolean text e =
     let w : Walked layout a.0.0 a.0.1 a.0.2 c = walk_grounded layout a.0.0 3 a.0.1 a.0.2 c read (no_gate_fits a.0.1 (ap (λ (x : Netlist). x.gates) i.begin)) in
     stands layout bits bytes a.0 c some few boolean text i w (subst (λ (x : Netlist). unset_output x ≡ None) f.1 f.2)
 
-pub file_grounded : (layout : CircuitLayout) (bits : ℕ) (bytes : List ℕ) (c : Netlist) → 0 < bits → bits ≤ 32 → circuit_in layout bits bytes ≡ Ok c → StandsFor layout bits bytes c
+pub file_grounded : (layout : CircuitLayout) (bits : ℕ) (bytes : List ℕ) (c : Netlist) → 0 < bits → bits ≤ 64 → circuit_in layout bits bytes ≡ Ok c → StandsFor layout bits bytes c
 unfolding circuit_in
 file_grounded layout bits bytes c some few e =
     let a = then_ok (first_fault (text_checks layout bits bytes)) (lines_in layout bits (rows_of bytes)) c e in

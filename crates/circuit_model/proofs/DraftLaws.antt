@@ -43,7 +43,7 @@ started bits gates wires n inputs outputs lines list e same none =
 pub small : (gates wires : ℕ) (inputs outputs lines : List ℕ) → Passes gates wires inputs outputs lines → IsSmall gates wires inputs outputs
 small gates wires inputs outputs lines e = header_small gates wires inputs outputs lines (or_fault-ok {A = Unit {0}} (first_fault (header_checks gates wires inputs outputs lines)) tt tt e).0
 
-pub start_sound : (bits gates wires n : ℕ) (inputs outputs : List ℕ) (list : List Gate) (xs : List Bool) → 0 < bits → bits ≤ 32 → IsSmall gates wires inputs outputs → n ≡ wires → list ≡ []
+pub start_sound : (bits gates wires n : ℕ) (inputs outputs : List ℕ) (list : List Gate) (xs : List Bool) → 0 < bits → bits ≤ 64 → IsSmall gates wires inputs outputs → n ≡ wires → list ≡ []
     → Told (record { bits = bits; gates = []; wires = wires; inputs = inputs; outputs = outputs }) xs
     → IsDraft (record (no_gates_yet bits gates wires inputs outputs) { circuit = record { bits = bits; gates = list; wires = n; inputs = inputs; outputs = outputs } }) xs
 start_sound bits gates wires n inputs outputs list xs some few s same none t =

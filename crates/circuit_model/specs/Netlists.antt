@@ -85,7 +85,7 @@ AllGatesFit c = (t : ℕ) → t < length c.gates → GateFits c (take t c.gates)
 -- the circuit is within the limits
 pub record IsWithin (c : Netlist) : Type 0 where
   pub some_bits : 0 < c.bits
-  pub bits : c.bits ≤ 32
+  pub bits : c.bits ≤ 64
   pub gates : length c.gates ≤ 65536
   pub wires : c.wires ≤ 131072
   pub inputs : length c.inputs ≤ 1024

@@ -11,7 +11,7 @@ use Rattle.job_plan.specs.Firsts.{starts_of, deal_starts_of}
 -- a sharing in which products can be computed, and all is within the limits but for the messages and the tape words
 pub record IsOutline (plan : Plan) : Type 0 where
   pub some_bits : 0 < plan.bits
-  pub bits : plan.bits ≤ 32
+  pub bits : plan.bits ≤ 64
   pub some_parties : 0 < plan.parties
   pub parties : plan.parties ≤ 12
   pub some_groups : 0 < length plan.groups
@@ -24,7 +24,7 @@ pub record IsOutline (plan : Plan) : Type 0 where
 -- tape words of a party
 pub record IsSound (plan : Plan) : Type 0 where
   pub some_bits : 0 < plan.bits
-  pub bits : plan.bits ≤ 32
+  pub bits : plan.bits ≤ 64
   pub some_parties : 0 < plan.parties
   pub parties : plan.parties ≤ 12
   pub some_groups : 0 < length plan.groups

@@ -63,8 +63,8 @@ frames_at word (k ∷ ks) (suc f) l =
     let r = frames_at word ks f (omega arith) in
     (r.0, ap (λ z. frame k (word k) ++ z) r.1 ∙ sym (append_assoc (frame k (word k)) (frames word (take f ks)) _))
 
--- a word of a ring of at most 32 bits fits 64
-pub small_64 : (bits word : ℕ) → bits ≤ 32 → word < 2 ^ bits → word < 2 ^ 64
+-- a word of a ring of at most 64 bits fits 64
+pub small_64 : (bits word : ℕ) → bits ≤ 64 → word < 2 ^ bits → word < 2 ^ 64
 small_64 bits word few small = let more : 2 ^ bits ≤ 2 ^ 64 = pow_mono {i = bits} {j = 64} (omega arith) in omega arith
 
 -- told bytes that began with a front

@@ -102,12 +102,12 @@ file-none plan p bytes d = ap (party_in_fields plan p) d
 
 -- the words of a seed that stands in the file
 pub random_by_seed : (plan : Plan) (p : ℕ) (fields : Members) (text : List ℕ) (tapes : List (List ℕ)) → has_field (codes "seed") fields ≡ true → text ≡ text_at (codes "seed") fields
-    → first_fault (seed_checks text) ≡ None → tapes ≡ listed (length plan.sessions) (λ s. listed (words plan p s) (seed_word (2 ^ plan.bits) (seed_in text) s))
+    → first_fault (seed_checks text) ≡ None → tapes ≡ listed (length plan.sessions) (λ s. listed (words plan p s) (seed_word plan.bits (seed_in text) s))
     → (first_fault (random_checks plan p fields) ≡ None) × (tapes ≡ tapes_of plan p fields)
 unfolding random_checks tapes_of
 random_by_seed plan p fields text tapes there is none t = (
   ap (λ b. first_fault (if b then seed_checks (text_at (codes "seed") fields) else tape_checks plan.bits (sum (word_counts plan p)) (text_at (codes "tape") fields))) there
       ∙ ap (λ u. first_fault (seed_checks u)) (sym is) ∙ none,
-  t ∙ ap (λ (u : List ℕ). listed (length plan.sessions) (λ s. listed (words plan p s) (seed_word (2 ^ plan.bits) (seed_in u) s))) is
-      ∙ sym (ap (λ (b : Bool). if b then listed (length plan.sessions) (λ s. listed (words plan p s) (seed_word (2 ^ plan.bits) (seed_in (text_at (codes "seed") fields)) s)) else cut (word_counts plan p) (numbers_in (text_at (codes "tape") fields))) there),
+  t ∙ ap (λ (u : List ℕ). listed (length plan.sessions) (λ s. listed (words plan p s) (seed_word plan.bits (seed_in u) s))) is
+      ∙ sym (ap (λ (b : Bool). if b then listed (length plan.sessions) (λ s. listed (words plan p s) (seed_word plan.bits (seed_in (text_at (codes "seed") fields)) s)) else cut (word_counts plan p) (numbers_in (text_at (codes "tape") fields))) there),
 )

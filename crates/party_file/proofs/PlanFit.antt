@@ -12,6 +12,7 @@ use Rattle.list_laws.specs.Lists.{total, listed}
 use Rattle.list_laws.proofs.JoinedLists.{length-listed, listed_at}
 use Rattle.tape_words.specs.Cuts.{cut}
 use Rattle.tape_words.specs.Seeds.{seed_word}
+use Rattle.tape_words.proofs.SeedLists.{stream_words-inside}
 use Rattle.toml_fields.specs.Fields.{has_field, text_at, texts_at}
 use Rattle.job_session.specs.Sessions.{owners}
 use Rattle.job_plan.specs.Plans.{Plan, session, words, gives}
@@ -102,10 +103,10 @@ record AreTapes (plan : Plan) (p : ℕ) (tapes : List (List ℕ)) : Type 0 where
   lengths : (s : ℕ) → s < length plan.sessions → length (slice_index_or tapes s []) ≡ words plan p s
   drawn : (s : ℕ) → InRing plan.bits (slice_index_or tapes s [])
 
-seed_tapes_fit : (plan : Plan) (p : ℕ) (seed : List ℕ) → AreTapes plan p (listed (length plan.sessions) (λ s. listed (words plan p s) (seed_word (2 ^ plan.bits) seed s)))
+seed_tapes_fit : (plan : Plan) (p : ℕ) (seed : List ℕ) → AreTapes plan p (listed (length plan.sessions) (λ s. listed (words plan p s) (seed_word plan.bits seed s)))
 seed_tapes_fit plan p seed = record {
   count = length-listed (length plan.sessions) tape;
-  lengths = λ s l. ap length (at s l) ∙ length-listed (words plan p s) (seed_word (2 ^ plan.bits) seed s);
+  lengths = λ s l. ap length (at s l) ∙ length-listed (words plan p s) (seed_word plan.bits seed s);
   drawn = λ s. elim (cases_lt s (length plan.sessions)) [
     | inl l ↦ subst (InRing plan.bits) (sym (at s l)) (drawn_of s)
     | inr past ↦ subst (InRing plan.bits) (sym (get_or_past (listed (length plan.sessions) tape) s [] (omega (arith, past, length-listed (length plan.sessions) tape)))) (in_ring-none plan.bits)
@@ -113,15 +114,13 @@ seed_tapes_fit plan p seed = record {
 }
   where
     tape : ℕ → List ℕ
-    tape s = listed (words plan p s) (seed_word (2 ^ plan.bits) seed s)
+    tape s = listed (words plan p s) (seed_word plan.bits seed s)
 
     at : (s : ℕ) → s < length plan.sessions → slice_index_or (listed (length plan.sessions) tape) s [] ≡ tape s
     at s l = listed_at (length plan.sessions) tape s [] l
 
     drawn_of : (s : ℕ) → InRing plan.bits (tape s)
-    drawn_of s = λ k d l.
-        let within : k < words plan p s = omega (arith, l, length-listed (words plan p s) (seed_word (2 ^ plan.bits) seed s)) in
-        subst (λ w. w < 2 ^ plan.bits) (sym (listed_at (words plan p s) (seed_word (2 ^ plan.bits) seed s) k d within)) (mod-lt _ (pow_pos plan.bits))
+    drawn_of s = stream_words-inside (words plan p s) plan.bits _ s
 
 cut_tapes_fit : (plan : Plan) (p : ℕ) (text : List ℕ) → first_fault (tape_checks plan.bits (sum (word_counts plan p)) text) ≡ None → AreTapes plan p (cut (word_counts plan p) (numbers_in text))
 unfolding word_counts
@@ -138,7 +137,7 @@ unfolding random_checks tapes_of
 tapes_fit plan p fields e = go (has_field (codes "seed") fields) e
   where
     go : (b : Bool) → first_fault (if b then seed_checks (text_at (codes "seed") fields) else tape_checks plan.bits (sum (word_counts plan p)) (text_at (codes "tape") fields)) ≡ None
-        → AreTapes plan p (if b then listed (length plan.sessions) (λ s. listed (words plan p s) (seed_word (2 ^ plan.bits) (seed_in (text_at (codes "seed") fields)) s)) else cut (word_counts plan p) (numbers_in (text_at (codes "tape") fields)))
+        → AreTapes plan p (if b then listed (length plan.sessions) (λ s. listed (words plan p s) (seed_word plan.bits (seed_in (text_at (codes "seed") fields)) s)) else cut (word_counts plan p) (numbers_in (text_at (codes "tape") fields)))
     go true h = seed_tapes_fit plan p (seed_in (text_at (codes "seed") fields))
     go false h = cut_tapes_fit plan p (text_at (codes "tape") fields) h
 

@@ -144,7 +144,7 @@ unfoldable pub tapes_of : Plan → ℕ → Members → List (List ℕ)
 tapes_of plan p fields =
     if has_field (codes "seed") fields
     then listed (length plan.sessions) (λ s. listed (words plan p s)
-    (seed_word (2 ^ plan.bits) (seed_in (text_at (codes "seed") fields)) s))
+    (seed_word plan.bits (seed_in (text_at (codes "seed") fields)) s))
     else cut (word_counts plan p) (numbers_in (text_at (codes "tape") fields))
 
 -- ---- the file

@@ -89,7 +89,7 @@ fn seed_tapes(
     requires { party < plan.now.parties }
     ensures { IfOk result (λ tapes. tapes.items
         ≡ listed (length plan.now.sessions) (λ s. listed (words plan.now party s)
-        (seed_word (2 ^ plan.now.bits) seed.now s))) }
+        (seed_word plan.now.bits seed.now s))) }
 {
     let mut tapes = Vec::new(alloc);
     for session in 0..plan.sessions() {
@@ -104,7 +104,7 @@ fn read_seed(alloc: Global, plan: &Plan, party: u32, text: &str) -> Result<Vec<T
     requires { party < plan.now.parties }
     ensures passed { IfOk result (λ tapes. (first_fault (seed_checks text.now) ≡ None)
         × (tapes.items ≡ listed (length plan.now.sessions)
-        (λ s. listed (words plan.now party s) (seed_word (2 ^ plan.now.bits) (seed_in text.now) s)))) }
+        (λ s. listed (words plan.now party s) (seed_word plan.now.bits (seed_in text.now) s)))) }
     ensures fault { IfErr result (λ fault. (fault ≡ Memory) ⊎ (first_fault (seed_checks text.now) ≡ Some fault)) }
 {
     match <[u8; 32]>::from_hex(text) {

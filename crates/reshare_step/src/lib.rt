@@ -9,12 +9,10 @@ ghost use Rattle.secret_sharing.specs.Schemes.{own_product};
 ghost use Rattle.product_duty.specs.Duties.{scheme_of};
 
 mod local;
-mod rows;
 
 pub use local::local_summand;
 use mpc_ring::Ring;
 use product_duty::Duty;
-pub use rows::own_products_of_rows;
 
 /// The sum of the products that are party `p`'s duty, for the summands `x` of one value and `y` of another. Of summands
 /// that `p` doesn't hold nothing is read.

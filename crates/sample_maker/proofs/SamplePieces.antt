@@ -6,6 +6,7 @@ use Rattle.std.proofs.lemmas.List.Elements.{All-from_recursion}
 use Rattle.list_laws.proofs.JoinedLists.{length-listed, listed_at, every_listed}
 use Rattle.job_plan.specs.Plans.{words}
 use Rattle.tape_words.specs.Seeds.{seed_word}
+use Rattle.tape_words.proofs.SeedLists.{stream_words-inside}
 use Rattle.desk_laws.specs.Pieces.{ArePieces, piece_at}
 use Rattle.sample_maker.specs.Samples.{sample_piece, sample_pieces, sample_plan, sample_seed}
 
@@ -22,11 +23,8 @@ pieces_fit n = record {
         let place : 0 + p ≡ p = omega arith in
         ap (λ k. length (slice_index_or (sample_pieces n) k [])) place
         ∙ ap length (listed_at 3 (sample_piece (sample_plan n)) p [] lp)
-        ∙ length-listed (words (sample_plan n) p 0) (seed_word (2 ^ 32) (sample_seed p) 0)
+        ∙ length-listed (words (sample_plan n) p 0) (seed_word 32 (sample_seed p) 0)
     lengths p (suc s) lp ls = absurd (omega arith)
 
-    word_below : (p k : ℕ) → seed_word (2 ^ 32) (sample_seed p) 0 k < 2 ^ 32
-    word_below p k = mod-lt _ {m = 2 ^ 32} (omega arith)
-
     below : (p : ℕ) → All (λ word. word < 2 ^ 32) (sample_piece (sample_plan n) p)
-    below p = All-from_recursion (λ word. word < 2 ^ 32) (sample_piece (sample_plan n) p) (every_listed (λ word. word < 2 ^ 32) (words (sample_plan n) p 0) (seed_word (2 ^ 32) (sample_seed p) 0) (word_below p))
+    below p = stream_words-inside (words (sample_plan n) p 0) 32 _ 0

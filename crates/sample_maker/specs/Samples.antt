@@ -70,7 +70,7 @@ sample_seed p = replicate 32 (p + 1)
 
 -- as many words of party p's seed as it draws in the session
 abbrev pub sample_piece : Plan → ℕ → List ℕ
-sample_piece plan p = listed (words plan p 0) (seed_word (2 ^ plan.bits) (sample_seed p) 0)
+sample_piece plan p = listed (words plan p 0) (seed_word plan.bits (sample_seed p) 0)
 
 -- the piece of each party
 abbrev pub sample_pieces : ℕ → List (List ℕ)

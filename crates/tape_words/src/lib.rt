@@ -4,6 +4,7 @@
 mod buffers;
 mod tape;
 mod word;
+mod word_pairs;
 
 pub use tape::{SplitFault, Tape, TapeFault};
 pub use word::TapeWord;

@@ -4,8 +4,9 @@ ghost use Rattle.list_laws.specs.Lists.{listed};
 ghost use Rattle.tape_words.specs.Cuts.{cut, IsFirstOutside, IsSplitRefusal};
 ghost use Rattle.tape_words.specs.Seeds.{seed_word};
 
-use crate::buffers::{BUFFER, buffer_words};
+use crate::buffers::short_words;
 use crate::word::TapeWord;
+use crate::word_pairs::long_words;
 use mpc_ring::Ring;
 use rand_chacha::ChaCha20Rng;
 use rand_core::SeedableRng;
@@ -61,7 +62,8 @@ impl Tape {
     }
 
     /// The tape of the first words of ChaCha20 (Bernstein 2008) under this seed, with the session's number as the
-    /// nonce. Each word is taken modulo the ring's modulus.
+    /// nonce. Above 32 bits each takes two words of the stream, the low half first. Each is taken modulo the ring's
+    /// modulus.
     pub fn from_seed(
         alloc: Global,
         ring: Ring,
@@ -69,18 +71,16 @@ impl Tape {
         session: u32,
         count: u32,
     ) -> Result<Tape, AllocError>
-        ensures words { IfOk result (λ tape. tape ≡ listed count (seed_word (2 ^ ring) seed.now session)) }
+        ensures words { IfOk result (λ tape. tape ≡ listed count (seed_word ring seed.now session)) }
         ensures inside { IfOk result (λ tape. All (λ word. word < 2 ^ ring) tape) }
     {
         let mut generator = ChaCha20Rng::from_seed(*seed);
         generator.set_stream(u64::from(session));
-        let buffers = count.div_ceil(BUFFER);
-        let mut words = Vec::with_capacity(alloc, buffers as usize * BUFFER as usize)?;
-        for buffer in 0..buffers {
-            let rows = buffer_words(&mut generator, ring, buffer);
-            words.extend_from_slice(rows.as_flattened())?;
-        }
-        words.truncate(count as usize);
+        let words = if ring.bits() <= 32 {
+            short_words(alloc, &mut generator, ring, count)?
+        } else {
+            long_words(alloc, &mut generator, ring, count)?
+        };
         Ok(Tape { words, drawn: 0 })
     }
 

@@ -10,7 +10,7 @@ returns-in_ok-seed_tapes-in-Ok-clause-passed c =
     let read = seed-ok c.args.text.now c.in-Ok.seed c.in-Ok.ensures in (
       read.0,
       c.in_ok-seed_tapes-in-Ok.ensures
-          ∙ ap (λ (seed : List ℕ). listed (length c.args.plan.now.sessions) (λ s. listed (words c.args.plan.now c.args.party s) (seed_word (2 ^ c.args.plan.now.bits) seed s))) read.1,
+          ∙ ap (λ (seed : List ℕ). listed (length c.args.plan.now.sessions) (λ s. listed (words c.args.plan.now c.args.party s) (seed_word c.args.plan.now.bits seed s))) read.1,
     )
 
 pub returns-in-Err-clause-fault : goal.returns-in-Err-clause-fault

@@ -5,4 +5,4 @@ use Rattle.job_plan.specs.Plans.{words}
 use Rattle.party_file.proofs.tapes.seed_tapes.Given as goal
 
 abbrev pub invariant-loop-session : goal.invariant-loop-session
-invariant-loop-session l = l.tapes.items ≡ listed l.session (λ s. listed (words l.plan l.party s) (seed_word (2 ^ l.plan.bits) l.seed s))
+invariant-loop-session l = l.tapes.items ≡ listed l.session (λ s. listed (words l.plan l.party s) (seed_word l.plan.bits l.seed s))

@@ -8,5 +8,5 @@ use Rattle.sample_maker.proofs.tapes.sample_tape.Goals as goal
 pub returns : goal.returns
 returns c =
     subst (λ (words : List ℕ). IfOk c.from_seed.result (λ tape. tape ≡ words))
-    (ap₂ (λ a b. listed a (seed_word (2 ^ b) (sample_seed c.args.party) 0)) c.words.ensures c.ring-ring.ensures.is)
+    (ap₂ (λ a b. listed a (seed_word b (sample_seed c.args.party) 0)) c.words.ensures c.ring-ring.ensures.is)
     c.from_seed.ensures.words

@@ -1,9 +1,8 @@
-use Rattle.std.proofs.Common.{arith, ◌≡◌, ℕ, ◌+◌, ◌*◌, ◌%◌, ◌^◌, ◌<◌, List, ap, ap₂, refl, ◌∙◌}
-use Rattle.std.proofs.Math.Nat.{mod-eq_of_lt}
+use Rattle.std.proofs.Common.{arith, ◌≡◌, ℕ, ◌+◌, ◌*◌, List, ap, refl, ◌∙◌}
 use Rattle.list_laws.specs.Lists.{listed}
 use Rattle.rand_chacha.specs.ChaCha.{ChaCha}
-use Rattle.tape_words.specs.Seeds.{stream_word}
-use Rattle.tape_words.proofs.SeedLists.{listed-joined}
+use Rattle.tape_words.specs.Seeds.{short_word}
+use Rattle.tape_words.proofs.SeedLists.{listed-joined, buffer_place}
 use Rattle.tape_words.proofs.buffers.buffer_words.Goals as goal
 
 -- the generator, moved on by eight words
@@ -14,22 +13,17 @@ moved g = record g { word_pos = g.word_pos + 8 }
 abbrev placed : ChaCha → ℕ → ChaCha
 placed g place = record g { word_pos = place }
 
--- eight words of ring q from a generator
+-- eight words of so many bits from a generator
 abbrev row_of : ℕ → ChaCha → List ℕ
-row_of q g = listed 8 (λ i. stream_word q g.key g.stream (g.word_pos + i))
-
-place_is : (buffers a b : ℕ) → buffers < 2 ^ 32 → a ≡ buffers → b ≡ 64 → a * b % 2 ^ 68 ≡ 64 * buffers
-place_is buffers a b few ea eb =
-    let same : a * b ≡ 64 * buffers = ap₂ (λ x y. x * y) ea eb ∙ omega arith in
-    ap (λ z. z % 2 ^ 68) same ∙ mod-eq_of_lt (omega (arith, few))
+row_of bits g = listed 8 (λ i. short_word bits g.key g.stream (g.word_pos + i))
 
 -- where it stands before the first row
 begun : (c : goal.After-row_words-8) → c.set_word_pos.new.self ≡ placed c.args.generator.now (64 * c.args.buffers)
-begun c = c.set_word_pos.ensures ∙ ap (placed c.args.generator.now) (place_is c.args.buffers _ _ c.ranges.buffers.fits c.from.ensures c.from-2.ensures)
+begun c = c.set_word_pos.ensures ∙ ap (placed c.args.generator.now) (buffer_place c.args.buffers _ _ c.ranges.buffers.fits c.from.ensures c.from-2.ensures)
 
 pub returns-clause-words : goal.returns-clause-words
 returns-clause-words c =
-    let q = 2 ^ c.args.ring in
+    let bits = c.args.ring in
     let g = c.args.generator.now in
     let m = 64 * c.args.buffers in
     let s1 = begun c in
@@ -40,16 +34,16 @@ returns-clause-words c =
     let s6 = c.row_words-5.ensures.after ∙ ap moved s5 in
     let s7 = c.row_words-6.ensures.after ∙ ap moved s6 in
     let s8 = c.row_words-7.ensures.after ∙ ap moved s7 in
-    let f = stream_word q g.key g.stream in
+    let f = short_word bits g.key g.stream in
     let joined = listed-joined f in
-    joined m 8 56 _ _ (c.row_words.ensures.words ∙ ap (row_of q) s1)
-    (joined (m + 8) 8 48 _ _ (c.row_words-2.ensures.words ∙ ap (row_of q) s2)
-    (joined (m + 8 + 8) 8 40 _ _ (c.row_words-3.ensures.words ∙ ap (row_of q) s3)
-    (joined (m + 8 + 8 + 8) 8 32 _ _ (c.row_words-4.ensures.words ∙ ap (row_of q) s4)
-    (joined (m + 8 + 8 + 8 + 8) 8 24 _ _ (c.row_words-5.ensures.words ∙ ap (row_of q) s5)
-    (joined (m + 8 + 8 + 8 + 8 + 8) 8 16 _ _ (c.row_words-6.ensures.words ∙ ap (row_of q) s6)
-    (joined (m + 8 + 8 + 8 + 8 + 8 + 8) 8 8 _ _ (c.row_words-7.ensures.words ∙ ap (row_of q) s7)
-    (joined (m + 8 + 8 + 8 + 8 + 8 + 8 + 8) 8 0 _ _ (c.row_words-8.ensures.words ∙ ap (row_of q) s8) refl)))))))
+    joined m 8 56 _ _ (c.row_words.ensures.words ∙ ap (row_of bits) s1)
+    (joined (m + 8) 8 48 _ _ (c.row_words-2.ensures.words ∙ ap (row_of bits) s2)
+    (joined (m + 8 + 8) 8 40 _ _ (c.row_words-3.ensures.words ∙ ap (row_of bits) s3)
+    (joined (m + 8 + 8 + 8) 8 32 _ _ (c.row_words-4.ensures.words ∙ ap (row_of bits) s4)
+    (joined (m + 8 + 8 + 8 + 8) 8 24 _ _ (c.row_words-5.ensures.words ∙ ap (row_of bits) s5)
+    (joined (m + 8 + 8 + 8 + 8 + 8) 8 16 _ _ (c.row_words-6.ensures.words ∙ ap (row_of bits) s6)
+    (joined (m + 8 + 8 + 8 + 8 + 8 + 8) 8 8 _ _ (c.row_words-7.ensures.words ∙ ap (row_of bits) s7)
+    (joined (m + 8 + 8 + 8 + 8 + 8 + 8 + 8) 8 0 _ _ (c.row_words-8.ensures.words ∙ ap (row_of bits) s8) refl)))))))
 
 pub returns-clause-after : goal.returns-clause-after
 returns-clause-after c =
