@@ -67,7 +67,7 @@ module _ (n : Node) (part : IsPart n.world n.me) (long : length n.digest ≡ 32)
   abbrev plan : Plan
   plan = n.world.plan
 
-  few_bits : plan.bits ≤ 32
+  few_bits : plan.bits ≤ 64
   few_bits = part.sound.bits
 
   -- the word of a run stands at its place

@@ -8,12 +8,13 @@ use Rattle.job_plan.specs.Numbers.{no_key}
 use Rattle.outer_io.specs.Inlet.{InletReading, ahead}
 use Rattle.frame_code.specs.Frames.{hello, frame}
 use Rattle.node_talk.specs.declared.fault.NodeFault.{NodeFault}
-use Rattle.node_talk.specs.Talks.{Node, expected, frames, stream}
+use Rattle.node_talk.specs.Talks.{Node, expected, heard, frames, stream}
+use Rattle.outer_io.specs.Links.{LinksReading}
 use Rattle.node_talk.specs.PeerLinks.{in_from}
 use Rattle.node_talk.proofs.Frames.{begins_with}
 use Rattle.link_reader.specs.Expected.{TalkModel}
 use Rattle.link_reader.specs.ReadWords.{framed, Came, CameShort, Reads}
-use Rattle.link_reader.specs.NodeReaders.{incoming, ReadsARun, TalksThrough}
+use Rattle.link_reader.specs.NodeReaders.{incoming, ReadsFrom, HasFirstWords, ReadsARun, TalksThrough}
 
 -- the frames of more words begin with those of the first ones
 first_frames : (got : Key → ℕ) (keys : List Key) (words : List ℕ) (c : ℕ) → c ≤ length keys → c ≤ length words → ((f : ℕ) → f < c → got (slice_index_or keys f no_key) ≡ slice_index words f) → (more : List ℕ) × (framed keys words ≡ frames got (take c keys) ++ more)
@@ -64,14 +65,17 @@ framed_frames got [] words e h = refl
 framed_frames got (key ∷ keys) [] e h = absurd (omega arith)
 framed_frames got (key ∷ keys) (word ∷ words) e h = ap₂ (λ w z. frame key w ++ z) (sym (h 0 (omega arith))) (framed_frames got keys words (omega arith) (λ f l. h (suc f) (omega arith)))
 
+-- an inlet that was read whole gave the hello and all expected frames
+pub whole_words : (n : Node) (q : ℕ) (got : Key → ℕ) (words : List ℕ) (before after : LinksReading) → ReadsFrom n q words before after (Ok tt) → HasFirstWords n q got (length (expected n q)) words
+    → ((in_from n before q).told ≡ ahead (heard n q got) (in_from n after q).told) × AllByRecursion (λ key. got key < 2 ^ n.world.plan.bits) (expected n q)
+whole_words n q got words before after r a = (
+  r.0.told ∙ ap (λ z. ahead (hello q n.me n.digest ++ z) (in_from n after q).told) (framed_frames got (expected n q) words r.1 a.1),
+  subst (AllByRecursion (λ key. got key < 2 ^ n.world.plan.bits)) (take-length (expected n q)) (small_words n.world.plan.bits got (expected n q) words (length (expected n q)) (omega arith) a.0 a.1 r.0.small),
+)
+
 pub talks_through : (n : Node) → TalksThrough n
 talks_through n got before after h = record {
   told = h.told;
-  heard = λ q peer.
-      let r = h.read q peer in
-      r.0.told ∙ ap (λ z. ahead (hello q n.me n.digest ++ z) (in_from n after q).told) (framed_frames got (expected n q) (h.words q) r.1 (h.agrees q peer).1);
-  small = λ q peer.
-      let r = h.read q peer in
-      let a = h.agrees q peer in
-      subst (AllByRecursion (λ key. got key < 2 ^ n.world.plan.bits)) (take-length (expected n q)) (small_words n.world.plan.bits got (expected n q) (h.words q) (length (expected n q)) (omega arith) a.0 a.1 r.0.small);
+  heard = λ q peer. (whole_words n q got (h.words q) before after (h.read q peer) (h.agrees q peer)).0;
+  small = λ q peer. (whole_words n q got (h.words q) before after (h.read q peer) (h.agrees q peer)).1;
 }

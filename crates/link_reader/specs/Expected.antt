@@ -27,7 +27,7 @@ AllFitFrames keys = (place : ℕ) → place < length keys → FitsFrame (slice_i
 pub record FitsTalk (talk : TalkModel) : Type 0 where
   pub peer : talk.peer < 256
   pub me : talk.me < 256
-  pub bits : talk.bits ≤ 32
+  pub bits : talk.bits ≤ 64
   pub few : length talk.keys < 2 ^ 32
   pub frames : AllFitFrames talk.keys
 

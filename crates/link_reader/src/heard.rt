@@ -59,7 +59,7 @@ pub fn hear<I: Inlet>(inlet: &mut I, talk: &IncomingTalk, place: usize) -> Resul
 // The word of a frame of this message, if it is one with a word of the ring.
 fn word_of(bytes: &[u8; 18], ring: Ring, key: Key) -> Option<u64>
     requires key { FitsFrame key }
-    requires ring { ring ≤ 32 }
+    requires ring { ring ≤ 64 }
     ensures { IsWordOf bytes.now ring key result }
 {
     let (found, word) = read_frame(bytes)?;

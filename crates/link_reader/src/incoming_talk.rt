@@ -1,5 +1,5 @@
 //! What a party expects of a peer.
-ghost use Rattle.std.specs.Prelude.{◌≡◌, ◌<◌, ◌^◌, vec_len};
+ghost use Rattle.std.specs.Prelude.{◌≡◌, ◌<◌, ◌^◌, length, vec_len};
 
 use job_plan::Key;
 use mpc_ring::Ring;
@@ -44,5 +44,19 @@ impl IncomingTalk {
             ring,
             keys,
         }
+    }
+
+    /// The party of which it is expected.
+    pub fn peer(&self) -> u32
+        ensures { result ≡ self.now.peer }
+    {
+        self.peer
+    }
+
+    /// How many messages are expected.
+    pub fn messages(&self) -> u32
+        ensures { result ≡ length self.now.keys }
+    {
+        self.keys.len() as u32
     }
 }

@@ -11,20 +11,11 @@ use Rattle.message_board.proofs.CellPosts.{put_length, put_keeps, put_new, put_f
 use Rattle.inbox_board.specs.declared.steps.View.{View}
 use Rattle.inbox_board.specs.Rule.{notes}
 use Rattle.inbox_board.specs.Seats.{Looks, mark_as}
-use Rattle.job_plan.specs.Plans.{Plan, IsPlan}
-use Rattle.job_plan.specs.Sound.{IsSound}
-use Rattle.job_plan.specs.declared.key.Key.{Key}
-use Rattle.job_plan.specs.Messages.{messages}
 use Rattle.job_plan.specs.Numbers.{message}
-use Rattle.program_laws.specs.Once.{IsBetweenParties}
-use Rattle.program_laws.proofs.MessageParties.{between}
-use Rattle.program_laws.proofs.OncePosted.{once}
-use Rattle.program_laws.proofs.ProperPrograms.{proper_at}
-use Rattle.party_program.specs.Proper.{Proper}
-use Rattle.frame_code.specs.Frames.{FitsFrame}
 use Rattle.outer_io.specs.Sink.{SinkReading, Writes}
 use Rattle.outer_io.specs.declared.sink.Failed.{Failed}
 use Rattle.node_talk.specs.PeerLinks.{place_among, no_outlet}
+use Rattle.link_reader.proofs.ExpectedMessages.{between_parties}
 use Rattle.node_run.specs.Mail.{Mail, BoxModel, no_box, box_of, IsRead, IsMail, SentTo, failed_after, MayTake, Takes, Looked, LookedAtMark}
 
 -- ---- places
@@ -78,30 +69,8 @@ box_read (y ∷ xs) (suc j) a d l = box_read xs j a d (omega arith)
 
 -- ---- messages
 
-plan_of : (plan : Plan) → IsSound plan → IsPlan plan
-plan_of plan h = record { bits = h.some_bits; groups = h.some_groups; q2 = h.q2 }
-
-pub parties_of : (plan : Plan) → IsSound plan → (m : ℕ) → m < length (messages plan) → IsBetweenParties plan (message plan m)
-parties_of plan h m lm = between plan m (plan_of plan h) (λ s v ls lv. (h.sessions s ls).owned v lv) lm
-
--- a frame has room for the name of each message
-pub fits : (plan : Plan) → IsSound plan → (m : ℕ) → m < length (messages plan) → FitsFrame (message plan m)
-fits plan h m lm =
-    let key : Key = message plan m in
-    let o = once plan m lm in
-    let b = parties_of plan h m lm in
-    let p = subst (Proper plan key.session) o.posted.stands (proper_at plan h key.session key.sender o.session_there b.sender o.posted.position) in
-    let x = (h.sessions key.session o.session_there).wired in
-    record {
-      session = (let a = o.session_there in let c = h.few_sessions in omega arith);
-      slot = (let a = o.slot_there in let c = x.wires in let d = x.gates in let e = x.input_wires in let f = x.output_wires in omega arith);
-      share = (let a = p.share in let c = h.groups in omega arith);
-      sender = (let a = b.sender in let c = h.parties in omega arith);
-      receiver = (let a = b.receiver in let c = h.parties in omega arith);
-    }
-
 pub other_sender : (c : Mail) → IsMail c → (m : ℕ) → MayTake c m → (message c.plan m).sender ≢ c.me
-other_sender c mail m may e = (parties_of c.plan mail.sound m may.there).apart (e ∙ sym may.receiver)
+other_sender c mail m may e = (between_parties c.plan mail.sound m may.there).apart (e ∙ sym may.receiver)
 
 -- ---- a send
 
@@ -115,6 +84,7 @@ module _ (c : Mail) (mail : IsMail c) where
     cells = mail.cells;
     bits = mail.bits;
     places = mail.places;
+    placed = mail.placed;
     room = mail.room;
     read = λ m v e. let r = mail.read m v e in record { there = r.there; receiver = r.receiver; found = r.found; known = r.known; reduced = r.reduced };
   }
@@ -164,7 +134,7 @@ notes_grow v u mark is p w k = subst (λ (z : View). Knows z.seen p w) (sym is) 
 module _ (c : Mail) (mail : IsMail c) (m : ℕ) (may : MayTake c m) (j : ℕ) (at : j ≡ place_among c.me (message c.plan m).sender) (b b' : BoxModel) (is : b ≡ get_or c.boxes j b) (same : b' ≡ record b { view = b'.view })
     (grows : (p w : ℕ) → Knows b.view.seen p w → Knows b'.view.seen p w) where
   within_boxes : j < length c.boxes
-  within_boxes = let p = parties_of c.plan mail.sound m may.there in let a = place_within c.me (message c.plan m).sender c.plan.parties (length c.boxes) p.sender (other_sender c mail m may) mail.me mail.boxes in omega arith
+  within_boxes = let p = between_parties c.plan mail.sound m may.there in let a = place_within c.me (message c.plan m).sender c.plan.parties (length c.boxes) p.sender (other_sender c mail m may) mail.me mail.boxes in omega arith
 
   abbrev now : Mail
   now = record c { boxes = set c.boxes j b' }
@@ -198,6 +168,7 @@ module _ (c : Mail) (mail : IsMail c) (m : ℕ) (may : MayTake c m) (j : ℕ) (a
     cells = mail.cells;
     bits = mail.bits;
     places = mail.places;
+    placed = mail.placed;
     room = λ r lr to. (let a = mail.room r lr to in let e = (box_grows (message c.plan r).sender).0 in omega arith);
     read = λ r v e. let x = mail.read r v e in record { there = x.there; receiver = x.receiver; found = x.found; known = (box_grows (message c.plan r).sender).1 (slice_index c.places r) x.found x.known; reduced = x.reduced };
   }
@@ -250,6 +221,7 @@ module _ (c : Mail) (mail : IsMail c) (m found v : ℕ) (may : MayTake c m) (kno
     cells = word_count ∙ mail.cells;
     bits = ap (λ z. z.bits) put ∙ mail.bits;
     places = mail.places;
+    placed = mail.placed;
     room = mail.room;
     read = λ r x e. ⊎_elim
         (λ old. let y = mail.read r x old in record { there = y.there; receiver = y.receiver; found = y.found; known = y.known; reduced = y.reduced })

@@ -1,6 +1,6 @@
 -- A node at the end of all its sessions is done.
 use Rattle.std.proofs.Common.{◌≡◌, ◌≢◌, ℕ, zero, suc, ◌+◌, ◌<◌, List, [], ◌∷◌, length, map, get_or, refl, sym, ap, ◌∙◌, subst, arith, Option, Some, None}
-use Rattle.std.specs.Prelude.{slice_index, slice_index_or}
+use Rattle.std.specs.Prelude.{slice_index, slice_index_or, Ok}
 use Rattle.std.proofs.lemmas.Bool.{cases_lt}
 use Rattle.std.proofs.lemmas.List.{get_or_past}
 use Rattle.std.proofs.Math.ListN.{length-map}
@@ -30,12 +30,26 @@ use Rattle.node_talk.specs.Runs.{Results, IsDone, TalkedThrough, word_read, outp
 use Rattle.node_talk.proofs.MessageOrder.{talk_is_said}
 use Rattle.node_talk.proofs.ExpectedPlaces.{Expected, expected_there}
 use Rattle.node_talk.proofs.ActPlaces.{at_act, within_acts}
-use Rattle.link_reader.specs.NodeReaders.{HasFirstWords}
+use Rattle.link_reader.specs.NodeReaders.{ReadsFrom, HasFirstWords}
 use Rattle.link_reader.proofs.Runs.{talks_through}
 use Rattle.node_run.specs.Mail.{Mail, outlet_to}
-use Rattle.node_run.specs.Progress.{Begin, Agrees, before_session}
-use Rattle.node_run.specs.ShortRuns.{RanToEnd}
+use Rattle.node_run.specs.Progress.{Begin, Agrees, InOrder, before_session}
 use Rattle.node_run.proofs.KnownWords.{known, agrees_known}
+
+-- all sessions are done, all that is expected was read, each word that is kept was heard, and these are the words and the
+-- outputs of all desks
+pub record RanToEnd (n : Node) (start : Begin) (after : LinksReading) (ds : List Desk) (now : Mail) (r : Results)
+    : Type 0 where
+  pub order : InOrder n (length n.world.plan.sessions) start ds now
+  pub outlets : after.outlets ≡ now.outlets
+  pub words : ℕ → List ℕ
+  pub read : (q : ℕ) → IsPeer n q → ReadsFrom n q (words q) start.links after (Ok tt)
+  pub heard : (m v : ℕ) → plain_cell now.words.cells m ≡ Some v
+      → (m < length (messages n.world.plan)) × ((message n.world.plan m).receiver ≡ n.me)
+      × (place_of n m < length (words (message n.world.plan m).sender))
+      × (v ≡ slice_index (words (message n.world.plan m).sender) (place_of n m))
+  pub kept_words : r.words ≡ now.words.cells
+  pub kept_outputs : r.outputs ≡ map (λ (d : Desk). d.memory.outputs.items) ds
 
 cell_is : (cells : List (Option ℕ)) (m : ℕ) → slice_index_or cells m None ≡ plain_cell cells m
 cell_is [] m = refl

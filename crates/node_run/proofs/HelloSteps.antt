@@ -11,12 +11,14 @@ use Rattle.outer_io.specs.Sink.{Writes, added, AddedPrefix}
 use Rattle.outer_io.specs.declared.sink.Failed.{Failed}
 use Rattle.outer_io.proofs.WrittenPieces.{prefix_first, added-nil}
 use Rattle.frame_code.specs.Frames.{hello}
+use Rattle.frame_code.proofs.ReadFrames.{length-hello}
 use Rattle.node_talk.specs.Talks.{Node, IsPeer, own_word, said}
 use Rattle.node_talk.specs.PeerLinks.{out_to}
 use Rattle.node_talk.proofs.Frames.{said_prefix}
 use Rattle.node_run.specs.Mail.{Mail, SentTo, failed_after, outlet_to}
-use Rattle.node_run.specs.Progress.{Begin, IsOf, Going, StopsBy, Halted, Greeted}
+use Rattle.node_run.specs.Progress.{Begin, IsOf, Going, KeepsRoom, OutletStays, StopsBy, Halted, Greeted, Ungreeted}
 use Rattle.node_run.proofs.SessionSteps.{whole_prefix}
+use Rattle.node_run.proofs.OutletSteps.{room_kept, room_at, Sent, Unsent, sent_ok, sent_err, other_stays, failed_stays}
 
 pub not_some : (o : Option ℕ) (b : Bool) → is_some o ≡ not b → b ≡ true → o ≡ None
 not_some None b e f = refl
@@ -37,6 +39,7 @@ module _ (n : Node) (q : ℕ) (start : Begin) (c : Mail) (h : Greeted n q start 
     words = h.words;
     sent = λ r peer l. h.sent r peer (let ne : r ≢ q = (λ e. peer.1 (e ∙ same)) in less r q l ne);
     calm = h.calm;
+    room = λ r peer l. h.room r peer (let ne : r ≢ q = (λ e. peer.1 (e ∙ same)) in less r q l ne);
     others = λ r peer l. h.others r peer (omega arith);
     quiet = h.quiet;
   }
@@ -54,14 +57,19 @@ module _ (n : Node) (q : ℕ) (start : Begin) (c : Mail) (h : Greeted n q start 
     there : (r : ℕ) → IsPeer n r → r ≢ q → outlet_to d r ≡ outlet_to c r
     there r peer ne = sent.others r (subst (λ z. r < z.parties) (sym h.own.plan) peer.0) (λ f. peer.1 (f ∙ h.own.me)) ne
 
-    by_result : (r : Result (Unit {0}) Failed) → Writes (hello n.me q n.digest) (outlet_to c q) (outlet_to d q) r → d.failed ≡ failed_after q r c.failed
-        → (d.failed ≡ None → ((outlet_to d q).told ≡ added (outlet_to c q).told (hello n.me q n.digest)) × ((outlet_to d q).faults ≡ (outlet_to c q).faults))
-        × (d.failed ≢ None → AddedPrefix (outlet_to c q).told (hello n.me q n.digest) (outlet_to d q).told × Rose (outlet_to c q).faults (outlet_to d q).faults × (d.failed ≡ Some q))
-    by_result (Ok u) w kept = (λ quiet. (w.ok, w.quiet), λ some. absurd (some (kept ∙ h.quiet)))
-    by_result (Err f) w kept = (λ quiet. absurd (let g : Some q ≡ None = sym kept ∙ quiet in cc), λ some. (w.err, w.failed, kept))
+    -- all of the hello, or a first part of it
+    abbrev Writ : Type 0
+    Writ =
+        (d.failed ≡ None → ((outlet_to d q).told ≡ added (outlet_to c q).told (hello n.me q n.digest)) × Sent (hello n.me q n.digest) (outlet_to c q) (outlet_to d q))
+        × (d.failed ≢ None → AddedPrefix (outlet_to c q).told (hello n.me q n.digest) (outlet_to d q).told × Rose (outlet_to c q).faults (outlet_to d q).faults × (d.failed ≡ Some q)
+        × Unsent (hello n.me q n.digest) (outlet_to c q) (outlet_to d q))
 
-    written : (d.failed ≡ None → ((outlet_to d q).told ≡ added (outlet_to c q).told (hello n.me q n.digest)) × ((outlet_to d q).faults ≡ (outlet_to c q).faults))
-        × (d.failed ≢ None → AddedPrefix (outlet_to c q).told (hello n.me q n.digest) (outlet_to d q).told × Rose (outlet_to c q).faults (outlet_to d q).faults × (d.failed ≡ Some q))
+    by_result : (r : Result (Unit {0}) Failed) → Writes (hello n.me q n.digest) (outlet_to c q) (outlet_to d q) r → d.failed ≡ failed_after q r c.failed
+        → Writ
+    by_result (Ok u) w kept = (λ quiet. (w.ok, sent_ok (hello n.me q n.digest) _ _ u w), λ some. absurd (some (kept ∙ h.quiet)))
+    by_result (Err f) w kept = (λ quiet. absurd (let g : Some q ≡ None = sym kept ∙ quiet in cc), λ some. (w.err, w.failed, kept, sent_err (hello n.me q n.digest) _ _ f w))
+
+    written : Writ
     written = by_result sent.result sent.writes (ap (λ (z : Mail). z.failed) sent.rest)
 
     fresh : outlet_to c q ≡ out_to n start.links q
@@ -76,8 +84,12 @@ module _ (n : Node) (q : ℕ) (start : Begin) (c : Mail) (h : Greeted n q start 
         | inr ne ↦ ap (λ z. z.told) (there r peer ne) ∙ h.sent r peer (omega arith)
       ];
       calm = λ r peer. elim (cases_eq r q) [
-        | inl e ↦ subst (λ z. (outlet_to d z).faults ≡ (out_to n start.links z).faults) (sym e) ((written.0 quiet).1 ∙ ap (λ z. z.faults) fresh)
+        | inl e ↦ subst (λ z. (outlet_to d z).faults ≡ (out_to n start.links z).faults) (sym e) ((written.0 quiet).1.faults ∙ ap (λ z. z.faults) fresh)
         | inr ne ↦ ap (λ z. z.faults) (there r peer ne) ∙ h.calm r peer
+      ];
+      room = λ r peer l. elim (cases_eq r q) [
+        | inl e ↦ subst (λ z. KeepsRoom 38 (out_to n start.links z) (outlet_to d z)) (sym e) (subst (λ z. KeepsRoom 38 z (outlet_to d q)) fresh (room_at _ 38 _ _ (length-hello n.me q n.digest h.own.digest) (written.0 quiet).1.room))
+        | inr ne ↦ subst (KeepsRoom 38 (out_to n start.links r)) (sym (there r peer ne)) (h.room r peer (omega arith))
       ];
       others = λ r peer l. there r peer (λ e. absurd (omega arith)) ∙ h.others r peer (omega arith);
       quiet = quiet;
@@ -92,8 +104,8 @@ module _ (n : Node) (q : ℕ) (start : Begin) (c : Mail) (h : Greeted n q start 
     nothing_said : (r : ℕ) (told : Option (List ℕ)) → AddedPrefix told (hello n.me r n.digest) told
     nothing_said r told = (0, added-nil told)
 
-    pub hello_failed : d.failed ≢ None → Halted n start d
-    hello_failed some = record {
+    halted : d.failed ≢ None → Halted n start d
+    halted some = record {
       stopped = record {
         own = own';
         k = 0;
@@ -105,13 +117,28 @@ module _ (n : Node) (q : ℕ) (start : Begin) (c : Mail) (h : Greeted n q start 
         ]);
       };
       why = subst (StopsBy n start d) (sym (written.1 some).2) ((lq, other), subst (λ z. Rose z (outlet_to d q).faults) (h.calm q (lq, other)) (written.1 some).1);
+      outlets = λ r peer. elim (cases_eq q r) [
+        | inl e ↦ subst (λ z. OutletStays n z d.failed (out_to n start.links z) (outlet_to d z)) e
+            (failed_stays n q d.failed 0 (hello n.me q n.digest) _ (outlet_to c q) _ (written.1 some).2 (h.calm q (lq, other)) (subst (λ z. KeepsRoom 0 z (outlet_to c q)) fresh (room_kept (outlet_to c q)))
+            (let a = length-hello n.me q n.digest h.own.digest in omega (arith, a)) (written.1 some).3)
+        | inr ne ↦ let room = room_so_far r peer (λ e. ne (sym e)) in other_stays n r q d.failed room.0 _ _ (written.1 some).2 ne (ap (λ z. z.faults) (there r peer (λ e. ne (sym e))) ∙ h.calm r peer) room.1
+      ];
     }
       where
+        room_so_far : (r : ℕ) → IsPeer n r → r ≢ q → (bytes : ℕ) × KeepsRoom bytes (out_to n start.links r) (outlet_to d r)
+        room_so_far r peer ne = elim (cases_lt r q) [
+          | inl less ↦ (38, subst (KeepsRoom 38 (out_to n start.links r)) (sym (there r peer ne)) (h.room r peer less))
+          | inr past ↦ (0, subst (KeepsRoom 0 (out_to n start.links r)) (sym (there r peer ne ∙ h.others r peer (omega arith))) (room_kept (out_to n start.links r)))
+        ]
+
         before_here : (r : ℕ) → IsPeer n r → AddedPrefix (out_to n start.links r).told (hello n.me r n.digest) (outlet_to c r).told
         before_here r peer = elim (cases_lt r q) [
           | inl less ↦ whole_prefix (hello n.me r n.digest) _ _ (h.sent r peer less)
           | inr past ↦ subst (λ z. AddedPrefix (out_to n start.links r).told (hello n.me r n.digest) z.told) (sym (h.others r peer (omega arith))) (nothing_said r (out_to n start.links r).told)
         ]
+
+    pub hello_failed : d.failed ≢ None → Ungreeted n start d
+    hello_failed some = record { halted = halted some; some = some; words = words' }
 
 -- all peers were greeted: no instruction is done yet
 pub all_greeted : (n : Node) (start : Begin) (c : Mail) → Greeted n n.world.plan.parties start c → Going n 0 start c
@@ -121,5 +148,6 @@ all_greeted n start c h = record {
   taken = λ j m i l e. absurd (omega arith);
   sent = λ got ag q peer. h.sent q peer peer.0 ∙ ap (added (out_to n start.links q).told) (sym (said_nothing n q (own_word n got)));
   calm = h.calm;
+  room = λ q peer. h.room q peer peer.0;
   quiet = h.quiet;
 }

@@ -1,8 +1,13 @@
 mod KnownWords
 mod CellChanges
+mod OutletSteps
 mod SessionSteps
 mod SessionOrder
 mod HelloSteps
-mod ShortRuns
 mod DoneRuns
 pub mod ReaderRuns
+mod PeerEnds
+mod NodeRuns
+mod RunBegins
+mod Shares
+mod ReadyKept

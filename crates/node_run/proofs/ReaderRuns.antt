@@ -1,7 +1,8 @@
 -- How a run with its readers is put together.
-use Rattle.std.proofs.Common.{◌≡◌, true, ◌⊎◌, ℕ, zero, suc, ◌+◌, ◌-◌, ◌<◌, List, [], ◌∷◌, ◌++◌, length, get_or, take, refl, sym, ap, ◌∙◌, subst, arith, Option, Some, None}
-use Rattle.std.specs.Prelude.{◌==◌, slice_index_or, is_err, Result, Ok, Err, remove}
+use Rattle.std.proofs.Common.{◌≡◌, true, ◌⊎◌, ℕ, zero, suc, ◌+◌, ◌-◌, ◌<◌, List, [], ◌∷◌, ◌++◌, length, get_or, take, refl, sym, ap, ◌∙◌, subst, arith, Option, Some, None, ⊎_elim}
+use Rattle.std.specs.Prelude.{◌==◌, slice_index_or, is_err, IsOk, Result, Ok, Err, remove}
 use Rattle.std.proofs.lemmas.List.{length-take-le}
+use Rattle.std.proofs.lemmas.Bool.{false≢true}
 use Rattle.std.proofs.lemmas.Bool.Decides.{nat_tests}
 use Rattle.std.proofs.Math.ListN.{length-map}
 use mathlib.Core.Logic.{inl, inr}
@@ -16,10 +17,11 @@ use Rattle.outer_io.specs.Jobs.{SpawnerReading, Starts}
 use Rattle.node_talk.specs.declared.fault.NodeFault.{NodeFault}
 use Rattle.node_talk.specs.Talks.{Node, IsPeer}
 use Rattle.link_reader.specs.ReadWords.{Reads, ReaderModel, HasRead, Works, WorksFrom}
+use Rattle.link_reader.specs.Heard.{StaysSteady}
 use Rattle.link_reader.specs.NodeReaders.{incoming}
-use Rattle.node_run.specs.Mail.{Mail, BoxModel, no_box}
+use Rattle.node_run.specs.Mail.{Mail, IsMail, BoxModel, no_box}
 use Rattle.node_run.specs.Progress.{Begin, IsOf, Going, InOrder, Halted, ids_of}
-use Rattle.node_run.specs.Remains.{ReaderPartsModel, RemainsModel, party_at, IsFor, MayRun, PeerEnd, first_of, after_outcome, EndsAs, Remained}
+use Rattle.node_run.specs.Remains.{ReaderPartsModel, RemainsModel, party_at, IsFor, MayRun, PeerEnd, first_of, after_outcome, AllStaySteady, SpawnerStays, EndsAs, Remained}
 
 -- ---- lists
 
@@ -49,7 +51,7 @@ pub none_left : (n : ℕ) → (n == 0) ≡ true → n ≡ 0
 none_left zero e = refl
 none_left (suc n) e = grind (arith, nat_tests)
 
-id_of : (xs : List BoxModel) (k : ℕ) → (slice_index_or xs k no_box).id ≡ slice_index_or (ids_of xs) k no_box.id
+pub id_of : (xs : List BoxModel) (k : ℕ) → (slice_index_or xs k no_box).id ≡ slice_index_or (ids_of xs) k no_box.id
 id_of [] zero = refl
 id_of [] (suc k) = refl
 id_of (x ∷ xs) zero = refl
@@ -75,61 +77,118 @@ next_readers n start place (y ∷ readers) x desks now l e h =
     } in
     (omega (arith, c), subst (IsFor n start place) (sym e) first, rest)
 
+-- ---- what is steady
+
+pub stays_steady : (x : InletReading) → StaysSteady x x
+stays_steady x = record { faults_grow = omega arith; steady = λ s. (s, refl) }
+
+pub all_stay : (xs : List InletReading) → AllStaySteady xs xs
+all_stay [] = tt
+all_stay (x ∷ xs) = (stays_steady x, all_stay xs)
+
+pub spawner_rests : (x : SpawnerReading) → SpawnerStays x x
+spawner_rests x = record { refusals_grow = omega arith; steady = λ s. (s, refl) }
+
+spawner_then : (x y z : SpawnerReading) → SpawnerStays x y → SpawnerStays y z → SpawnerStays x z
+spawner_then x y z p q = record {
+  refusals_grow = (let a = p.refusals_grow in let b = q.refusals_grow in omega (arith, a, b));
+  steady = λ s. let a = p.steady s in let b = q.steady a.0 in (b.0, b.1 ∙ a.1);
+}
+
+-- ---- the end of the starts
+
 -- no reader is left to be started, and the sessions ran to their end or stopped
 pub all_ran : (n : Node) (start : Begin) (place : ℕ) (readers : List ReaderPartsModel) (desks desks' : List Desk) (was now : Mail)
-    (before : List InletReading) (refusals : ℕ) (r : RemainsModel)
+    (before : List InletReading) (spawner : SpawnerReading) (r : RemainsModel)
     → MayRun n start place readers desks was → length readers ≡ 0 → length before ≡ 0
     → InOrder n (length n.world.plan.sessions) start desks' now ⊎ Halted n start now
+    → IsMail now
     → r ≡ record { outlets = now.outlets; words = now.words; boxes = take (length now.boxes - 0) now.boxes; desks = desks'; failed = now.failed; refused = None; fault = None }
-    → Remained n start place before before refusals refusals r
-all_ran n start place readers desks desks' was now [] refusals r h none short ran e =
+    → Remained n start place before before spawner spawner r
+all_ran n start place readers desks desks' was now [] spawner r h none short ran mail e =
     let own : IsOf n start now = elim ran [ inl x ↦ x.going.own | inr x ↦ x.stopped.own ] in
     let many : length now.boxes ≡ length start.ids = sym (length-map now.boxes (λ (b : BoxModel). b.id)) ∙ ap (λ (z : List TableId). length z) own.ids in
     let c = h.count in
     let at : length now.boxes - 0 ≡ place = omega (arith, many, c, none) in
-    subst (Remained n start place [] [] refusals refusals) (sym e)
-    (record { now = now; own = own; outlets = refl; words = refl; failed = refl; boxes = ap (λ k. take k now.boxes) at; count = refl; ends = (ran, refl) })
-all_ran n start place readers desks desks' was now (x ∷ before) refusals r h none short ran e = absurd (omega (arith, short))
+    subst (Remained n start place [] [] spawner spawner) (sym e)
+    (record {
+      now = now;
+      mail = mail;
+      own = own;
+      outlets = refl;
+      words = refl;
+      failed = refl;
+      boxes = ap (λ k. take k now.boxes) at;
+      count = refl;
+      inlets = tt;
+      spawner_stays = spawner_rests spawner;
+      ends = (ran, refl, refl);
+    })
+all_ran n start place readers desks desks' was now (x ∷ before) spawner r h none short ran mail e = absurd (omega (arith, short))
 
-peer_at : (n : Node) (place : ℕ) → place + 1 < n.world.plan.parties → IsPeer n (party_at n.me place)
+pub peer_at : (n : Node) (place : ℕ) → place + 1 < n.world.plan.parties → IsPeer n (party_at n.me place)
 peer_at n place l = grind (arith, nat_tests)
 
 -- the start of the reader at this place was refused, and nothing was done
 pub was_refused : (n : Node) (start : Begin) (place : ℕ) (readers : List ReaderPartsModel) (desks : List Desk) (now : Mail)
-    (before after : List InletReading) (refusals refusals' peer waiting : ℕ) (r : RemainsModel)
-    → MayRun n start place readers desks now → 0 < length readers → waiting ≡ length readers → peer ≡ party_at n.me place → length after ≡ length before → Rose refusals refusals'
+    (before after : List InletReading) (spawner spawner' : SpawnerReading) (peer waiting : ℕ) (r : RemainsModel)
+    → MayRun n start place readers desks now → 0 < length readers → waiting ≡ length readers → peer ≡ party_at n.me place → length after ≡ length before
+    → AllStaySteady before after → Rose spawner.refusals spawner'.refusals × SpawnerStays spawner spawner' → IsMail now
     → r ≡ record { outlets = now.outlets; words = now.words; boxes = take (length now.boxes - waiting) now.boxes; desks = desks; failed = now.failed; refused = Some peer; fault = None }
-    → Remained n start place before after refusals refusals' r
-was_refused n start place readers desks now before after refusals refusals' peer waiting r h some left is count rose e =
+    → Remained n start place before after spawner spawner' r
+was_refused n start place readers desks now before after spawner spawner' peer waiting r h some left is count steady refused mail e =
     let going : Going n 0 start now = h.order.going in
     let many : length now.boxes ≡ length start.ids = sym (length-map now.boxes (λ (b : BoxModel). b.id)) ∙ ap (λ (z : List TableId). length z) going.own.ids in
     let c = h.count in
     let i = h.ids in
     let at : length now.boxes - waiting ≡ place = omega (arith, many, c, left) in
     let one : IsPeer n peer = subst (IsPeer n) (sym is) (peer_at n place (omega (arith, c, i, some))) in
-    subst (Remained n start place before after refusals refusals') (sym e)
-    (record { now = now; own = going.own; outlets = refl; words = refl; failed = refl; boxes = ap (λ k. take k now.boxes) at; count = count; ends = (one, going, h.empty, rose) })
+    subst (Remained n start place before after spawner spawner') (sym e)
+    (record {
+      now = now;
+      mail = mail;
+      own = going.own;
+      outlets = refl;
+      words = refl;
+      failed = refl;
+      boxes = ap (λ k. take k now.boxes) at;
+      count = count;
+      inlets = steady;
+      spawner_stays = refused.1;
+      ends = (one, going, h.empty, refused.0);
+    })
 
 -- ---- starts
 
 -- a job that was started ends as its work left it, and the start refused nothing
 pub has_read : {S : Type 0} (may_end : S → ReaderModel → Type 0) (before after : SpawnerReading) (reader end : ReaderModel) (result : Result S ReaderModel) (s : S)
     → result ≡ Ok s → Starts Works may_end reader before after result → reader.outcome ≡ None → may_end s end
-    → HasRead reader end × (after.refusals ≡ before.refusals)
+    → HasRead reader end × (after.refusals ≡ before.refusals) × SpawnerStays before after
 has_read {S} may_end before after reader end result s is h new ended =
     let g : Starts Works may_end reader before after (Ok s) = subst (Starts Works may_end reader before after) is h in
     let worked : Works reader end = g.started end ended in
-    (subst (λ o. WorksFrom o reader end) new worked, g.quiet)
+    (subst (λ o. WorksFrom o reader end) new worked, g.quiet, record { refusals_grow = g.refusals_grow; steady = λ s. (g.keeps_steady s, g.quiet) })
 
 pub has_refused : {S : Type 0} (may_end : S → ReaderModel → Type 0) (before after : SpawnerReading) (reader back : ReaderModel) (result : Result S ReaderModel)
-    → result ≡ Err back → Starts Works may_end reader before after result → Rose before.refusals after.refusals
-has_refused {S} may_end before after reader back result is h =
+    → result ≡ Err back → Starts Works may_end reader before after result → reader.outcome ≡ None
+    → (Rose before.refusals after.refusals × SpawnerStays before after) × StaysSteady reader.inlet back.inlet
+has_refused {S} may_end before after reader back result is h new =
     let g : Starts Works may_end reader before after (Err back) = subst (Starts Works may_end reader before after) is h in
-    g.refused
+    let steady : StaysSteady reader.inlet back.inlet = ⊎_elim
+    (λ same. subst (λ (z : ReaderModel). StaysSteady reader.inlet z.inlet) (sym same) (stays_steady reader.inlet))
+    (λ worked. (read_steady reader back (subst (λ o. WorksFrom o reader back) new worked)))
+    g.handed_back in
+    ((g.refused, record { refusals_grow = g.refusals_grow; steady = λ s. absurd (not_ok back (g.by_itself s)) }), steady)
+  where
+    read_steady : (reader back : ReaderModel) → HasRead reader back → StaysSteady reader.inlet back.inlet
+    read_steady reader back h = h.steady
+
+    not_ok : (back : ReaderModel) → IsOk {T = S} {E = ReaderModel} (Err back) → ⊥
+    not_ok back e = false≢true e
 
 -- ---- after the sessions
 
-last_box : (n : Node) (start : Begin) (place : ℕ) (befores afters : List InletReading) (was is : ℕ) (r : RemainsModel)
+last_box : (n : Node) (start : Begin) (place : ℕ) (befores afters : List InletReading) (was is : SpawnerReading) (r : RemainsModel)
     → place < length start.ids → (h : Remained n start (suc place) befores afters was is r)
     → (length r.boxes ≡ suc place) × (slice_index_or r.boxes (length r.boxes - 1) no_box ≡ slice_index_or h.now.boxes place no_box)
 last_box n start place befores afters was is r l h =
@@ -138,12 +197,12 @@ last_box n start place befores afters was is r l h =
     let at : length r.boxes - 1 ≡ place = omega (arith, left) in
     (left, ap (λ k. slice_index_or r.boxes k no_box) at ∙ ap (λ (z : List BoxModel). slice_index_or z place no_box) h.boxes ∙ in_first (suc place) place h.now.boxes no_box (omega arith))
 
-pub some_box : (n : Node) (start : Begin) (place : ℕ) (befores afters : List InletReading) (was is : ℕ) (r : RemainsModel)
+pub some_box : (n : Node) (start : Begin) (place : ℕ) (befores afters : List InletReading) (was is : SpawnerReading) (r : RemainsModel)
     → place < length start.ids → Remained n start (suc place) befores afters was is r → 0 < length r.boxes
 some_box n start place befores afters was is r l h = let b = (last_box n start place befores afters was is r l h).0 in omega (arith, b)
 
 -- a seat in the inbox at the place is one in the last that is left
-pub in_last : (n : Node) (start : Begin) (place : ℕ) (befores afters : List InletReading) (was is : ℕ) (r : RemainsModel) (id : TableId)
+pub in_last : (n : Node) (start : Begin) (place : ℕ) (befores afters : List InletReading) (was is : SpawnerReading) (r : RemainsModel) (id : TableId)
     → place < length start.ids → Remained n start (suc place) befores afters was is r → id ≡ slice_index_or start.ids place no_box.id
     → id ≡ (slice_index_or r.boxes (length r.boxes - 1) no_box).id
 in_last n start place befores afters was is r id l h e =
@@ -153,19 +212,19 @@ ends_more : (n : Node) (start : Begin) (place : ℕ) (befores afters : List Inle
     (result : Result (Unit {0}) NodeFault) → PeerEnd n now place b a result → was ≡ old
     → (o : Option ℕ) → EndsAs n start (suc place) befores afters was is r now o
     → EndsAs n start place (b ∷ befores) (a ∷ afters) old is (record r { boxes = bs; fault = first_of result r.fault }) now o
-ends_more n start place befores afters b a old was is r bs now result p q None e = (e.0, (result, p, (r.fault, e.1, refl)))
+ends_more n start place befores afters b a old was is r bs now result p q None e = (e.0, (result, p, (r.fault, e.1, refl)), e.2 ∙ q)
 ends_more n start place befores afters b a old was is r bs now result p q (Some x) e = (e.0, e.1, e.2, subst (λ z. Rose z is) q e.3)
 
 -- the reader at this place ended before the later ones, and its seat was folded into its inbox
-pub one_more : (n : Node) (start : Begin) (place : ℕ) (befores afters : List InletReading) (b a : InletReading) (old was is later : ℕ) (r r' : RemainsModel)
+pub one_more : (n : Node) (start : Begin) (place : ℕ) (befores afters : List InletReading) (b a : InletReading) (old was is later : SpawnerReading) (r r' : RemainsModel)
     (outcome : Option (Result (Unit {0}) NodeFault)) (reader end : ReaderModel) (olds news : List InletReading)
     → olds ≡ b ∷ befores → news ≡ a ∷ afters
     → place < length start.ids → reader.talk ≡ incoming n (party_at n.me place) → reader.inlet ≡ b → HasRead reader end → a ≡ end.inlet → outcome ≡ end.outcome
-    → was ≡ old → later ≡ is → Remained n start (suc place) befores afters was is r
+    → was.refusals ≡ old.refusals → SpawnerStays old was → later ≡ is → Remained n start (suc place) befores afters was is r
     → ((words : List ℕ) (mark : ℕ) → end.seat.view ≡ ends (pushed (newcomer 1) words) mark → GotWhatWasPushed words mark (slice_index_or r.boxes (length r.boxes - 1) no_box).view)
     → r' ≡ record r { boxes = take (length r.boxes - 1) r.boxes; fault = after_outcome outcome r.fault }
     → Remained n start place olds news old later r'
-one_more n start place befores afters b a old was is later r r' outcome reader end olds news is_b is_a l talk inlet read shows out q q' h got e =
+one_more n start place befores afters b a old was is later r r' outcome reader end olds news is_b is_a l talk inlet read shows out q stays q' h got e =
     let o : outcome ≡ Some read.outcome = out ∙ ap (λ (z : ReaderModel). z.outcome) read.leaves in
     let view : end.seat.view ≡ ends (pushed (newcomer 1) read.words) (mark_of (is_err read.outcome)) = ap (λ (z : ReaderModel). z.seat.view) read.leaves in
     let last = last_box n start place befores afters was is r l h in
@@ -186,11 +245,17 @@ one_more n start place befores afters b a old was is later r r' outcome reader e
     (subst (Remained n start place (b ∷ befores) (a ∷ afters) old is) (sym left)
     (record {
       now = h.now;
+      mail = h.mail;
       own = h.own;
       outlets = h.outlets;
       words = h.words;
       failed = h.failed;
       boxes = ap (λ k. take k r.boxes) at ∙ ap (λ (z : List BoxModel). take place z) h.boxes ∙ take_first place h.now.boxes;
       count = ap suc h.count;
-      ends = ends_more n start place befores afters b a old was is r (take (length r.boxes - 1) r.boxes) h.now read.outcome p q r.refused h.ends;
+      inlets = (
+        subst (λ z. StaysSteady z a) inlet (subst (λ z. StaysSteady reader.inlet z) (sym shows) read.steady),
+        h.inlets,
+      );
+      spawner_stays = spawner_then old was is stays h.spawner_stays;
+      ends = ends_more n start place befores afters b a old.refusals was.refusals is.refusals r (take (length r.boxes - 1) r.boxes) h.now read.outcome p q r.refused h.ends;
     }))))

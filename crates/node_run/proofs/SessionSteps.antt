@@ -39,8 +39,9 @@ use Rattle.node_talk.proofs.Frames.{said_step, said_prefix}
 use Rattle.node_talk.proofs.ExpectedPlaces.{between_parties}
 use Rattle.node_talk.proofs.ActPlaces.{at_act, within_acts, taken_there}
 use Rattle.node_run.specs.Mail.{Mail, SentTo, MayPost, MayTake, Takes, failed_after, outlet_to, box_of}
-use Rattle.node_run.specs.Progress.{Begin, Agrees, HasTaken, IsOf, Going, Stopped, StopsBy, Halted, InSession, before_session, ids_of}
+use Rattle.node_run.specs.Progress.{Begin, Agrees, HasTaken, IsOf, Going, KeepsRoom, OutletStays, Stopped, StopsBy, Halted, InSession, before_session, ids_of, said_bytes}
 use Rattle.node_run.proofs.KnownWords.{known, agrees_known, later_taken}
+use Rattle.node_run.proofs.OutletSteps.{bytes_more, bytes_within, room_then, room_at, Sent, Unsent, sent_ok, sent_err, going_stays, other_stays, failed_stays}
 
 pub whole_prefix : (a : List ℕ) (told told' : Option (List ℕ)) → told' ≡ added told a → AddedPrefix told a told'
 whole_prefix a told told' is = (length a, is ∙ ap (added told) (sym (take_all (length a) a (omega arith))))
@@ -107,6 +108,7 @@ module _ (n : Node) (s : ℕ) (start : Begin) (d : Desk) (c : Mail) (h : InSessi
           taken = subst (HasTaken n (before_session n s + d.position)) (sym same) h.going.taken;
           sent = λ got ag q peer. ap (λ z. z.told) (outlet_same q) ∙ h.going.sent got (before' got ag) q peer;
           calm = λ q peer. ap (λ z. z.faults) (outlet_same q) ∙ h.going.calm q peer;
+          room = λ q peer. subst (KeepsRoom (said_bytes n q (before_session n s + d.position)) (out_to n start.links q)) (sym (outlet_same q)) (h.going.room q peer);
           quiet = ap (λ (z : Mail). z.failed) rest ∙ h.going.quiet;
         };
       }
@@ -126,6 +128,7 @@ stops_here n s start d c h m may c' rest ids noted =
     record {
       stopped = stopped_at n (before_session n s + d.position) start c' i.going;
       why = subst (StopsBy n start c') (sym i.going.quiet) ((message n.world.plan m).sender, (b.sender, λ e. b.apart (e ∙ sym to)), subst (λ z. (box_of c' (message z m).sender).view.noted ≡ 2) h.going.own.plan noted);
+      outlets = λ q peer. going_stays n (before_session n s + d.position) start c' i.going q peer;
     }
 
 module _ (cells : Meaning Mail) (are : AreNodeCells cells) (n : Node) (s : ℕ) (start : Begin) (d : Desk) (c : Mail) (h : InSession n s start d c) where
@@ -194,6 +197,9 @@ module _ (cells : Meaning Mail) (are : AreNodeCells cells) (n : Node) (s : ℕ) 
       outlet_same : (q : ℕ) → outlet_to c' q ≡ outlet_to c q
       outlet_same q = ap (λ z. slice_index_or z (place_among c'.me q) no_outlet) outlets ∙ ap (λ z. slice_index_or c.outlets (place_among z q) no_outlet) me
 
+      no_bytes : (q : ℕ) → said_bytes n q k ≡ said_bytes n q (suc k)
+      no_bytes q = let a = bytes_more n q k (λ (key : Key). 0) [] lk (ap (λ z. frames (λ (key : Key). 0) (post_to plan q z)) act_is ∙ no_post q (λ (key : Key). 0)) in omega (arith, a)
+
       pub goes_on : Going n (suc k) start c'
       goes_on = record {
         own = own;
@@ -202,6 +208,7 @@ module _ (cells : Meaning Mail) (are : AreNodeCells cells) (n : Node) (s : ℕ) 
         sent = λ got agrees q peer.
             ap (λ z. z.told) (outlet_same q) ∙ h.going.sent got (λ m v f. agrees m v (keeps m v f)) q peer ∙ ap (added (out_to n start.links q).told) (sym (said_same q (own_word n got) (no_post q (own_word n got))));
         calm = λ q peer. ap (λ z. z.faults) (outlet_same q) ∙ h.going.calm q peer;
+        room = λ q peer. subst (KeepsRoom (said_bytes n q (suc k)) (out_to n start.links q)) (sym (outlet_same q)) (room_at (said_bytes n q k) (said_bytes n q (suc k)) _ _ (no_bytes q) (h.going.room q peer));
         quiet = failed ∙ h.going.quiet;
       }
 
@@ -250,20 +257,33 @@ module _ (cells : Meaning Mail) (are : AreNodeCells cells) (n : Node) (s : ℕ) 
 
       -- all of a frame, or a first part of it
       abbrev All : List ℕ → Type 0
-      All xs = ((outlet_to c' to_q).told ≡ added (outlet_to c to_q).told xs) × ((outlet_to c' to_q).faults ≡ (outlet_to c to_q).faults)
+      All xs = ((outlet_to c' to_q).told ≡ added (outlet_to c to_q).told xs) × Sent xs (outlet_to c to_q) (outlet_to c' to_q)
 
       abbrev Part : List ℕ → Type 0
-      Part xs = AddedPrefix (outlet_to c to_q).told xs (outlet_to c' to_q).told × Rose (outlet_to c to_q).faults (outlet_to c' to_q).faults × (c'.failed ≡ Some to_q)
+      Part xs = AddedPrefix (outlet_to c to_q).told xs (outlet_to c' to_q).told × Rose (outlet_to c to_q).faults (outlet_to c' to_q).faults × (c'.failed ≡ Some to_q) × Unsent xs (outlet_to c to_q) (outlet_to c' to_q)
+
+      -- how many bytes a frame adds
+      bytes_here : (got : Key → ℕ) → said_bytes n to_q (suc k) ≡ said_bytes n to_q k + length (bytes got)
+      bytes_here got = bytes_more n to_q k (own_word n got) (bytes got) lk (ap (λ z. frames (own_word n got) (post_to plan to_q z)) (act_is ∙ is) ∙ post_here plan m i (own_word n got) to_q refl)
+
+      bytes_there : (q : ℕ) → to_q ≢ q → said_bytes n q k ≡ said_bytes n q (suc k)
+      bytes_there q ne = let a = bytes_more n q k (λ (key : Key). 0) [] lk (ap (λ z. frames (λ (key : Key). 0) (post_to plan q z)) (act_is ∙ is) ∙ post_there plan m i (λ (key : Key). 0) q ne) in omega (arith, a)
 
       by_result : (xs : List ℕ) (r : Result (Unit {0}) Failed) → Writes xs (outlet_to c to_q) (outlet_to c' to_q) r → c'.failed ≡ failed_after to_q r c.failed → (c'.failed ≡ None → All xs) × (c'.failed ≢ None → Part xs)
-      by_result xs (Ok u) w kept = (λ quiet. (w.ok, w.quiet), λ some. absurd (some (kept ∙ h.going.quiet)))
-      by_result xs (Err f) w kept = (λ quiet. absurd (let g : Some to_q ≡ None = sym kept ∙ quiet in cc), λ some. (w.err, w.failed, kept))
+      by_result xs (Ok u) w kept = (λ quiet. (w.ok, sent_ok xs _ _ u w), λ some. absurd (some (kept ∙ h.going.quiet)))
+      by_result xs (Err f) w kept = (λ quiet. absurd (let g : Some to_q ≡ None = sym kept ∙ quiet in cc), λ some. (w.err, w.failed, kept, sent_err xs _ _ f w))
 
       written : (got : Key → ℕ) → Agrees n c.words.cells got → (c'.failed ≡ None → All (bytes got)) × (c'.failed ≢ None → Part (bytes got))
       written got ag = let x = sents got ag in by_result (bytes got) x.result x.writes (ap (λ z. z.failed) x.rest)
 
       some_written : (c'.failed ≡ None → All (bytes (known n c.words.cells))) × (c'.failed ≢ None → Part (bytes (known n c.words.cells)))
       some_written = written (known n c.words.cells) (agrees_known n c.words.cells h.going.own.cells)
+
+      abbrev old_words : Key → ℕ
+      old_words = known n c.words.cells
+
+      there_room : (q : ℕ) → IsPeer n q → to_q ≢ q → KeepsRoom (said_bytes n q (suc k)) (out_to n start.links q) (outlet_to c' q)
+      there_room q peer ne = room_at (said_bytes n q k) (said_bytes n q (suc k)) _ _ (bytes_there q ne) (subst (KeepsRoom (said_bytes n q k) (out_to n start.links q)) (sym (outlet_there q peer ne)) (h.going.room q peer))
 
       posted_ok : c'.failed ≡ None → Going n (suc k) start c'
       posted_ok quiet = record {
@@ -278,8 +298,13 @@ module _ (cells : Meaning Mail) (are : AreNodeCells cells) (n : Node) (s : ℕ) 
               | right' ne ↦ ap (λ z. z.told) (outlet_there q peer ne) ∙ h.going.sent got before' q peer ∙ ap (added (out_to n start.links q).told) (sym (said_there got q ne))
             ];
         calm = λ q peer. elim (cases_eq to_q q) [
-          | left' eq ↦ subst (λ z. (outlet_to c' z).faults ≡ (out_to n start.links z).faults) eq ((some_written.0 quiet).1 ∙ h.going.calm to_q to_peer)
+          | left' eq ↦ subst (λ z. (outlet_to c' z).faults ≡ (out_to n start.links z).faults) eq ((some_written.0 quiet).1.faults ∙ h.going.calm to_q to_peer)
           | right' ne ↦ ap (λ z. z.faults) (outlet_there q peer ne) ∙ h.going.calm q peer
+        ];
+        room = λ q peer. elim (cases_eq to_q q) [
+          | left' eq ↦ subst (λ z. KeepsRoom (said_bytes n z (suc k)) (out_to n start.links z) (outlet_to c' z)) eq
+              (room_at _ (said_bytes n to_q (suc k)) _ _ (sym (bytes_here old_words)) (room_then (said_bytes n to_q k) (length (bytes old_words)) _ _ _ (h.going.room to_q to_peer) (some_written.0 quiet).1.room))
+          | right' ne ↦ there_room q peer ne
         ];
         quiet = quiet;
       }
@@ -300,6 +325,12 @@ module _ (cells : Meaning Mail) (are : AreNodeCells cells) (n : Node) (s : ℕ) 
               ];
         };
         why = subst (StopsBy n start c') (sym (some_written.1 some).2) (to_peer, subst (λ z. Rose z (outlet_to c' to_q).faults) (h.going.calm to_q to_peer) (some_written.1 some).1);
+        outlets = λ q peer. elim (cases_eq to_q q) [
+          | left' eq ↦ subst (λ z. OutletStays n z c'.failed (out_to n start.links z) (outlet_to c' z)) eq
+              (failed_stays n to_q c'.failed (said_bytes n to_q k) (bytes old_words) _ _ _ (some_written.1 some).2 (h.going.calm to_q to_peer) (h.going.room to_q to_peer)
+              (let a = bytes_within n to_q (suc k) (let b = lk in omega arith) in let e = bytes_here old_words in omega (arith, a, e)) (some_written.1 some).3)
+          | right' ne ↦ other_stays n q to_q c'.failed (said_bytes n q (suc k)) _ _ (some_written.1 some).2 ne (ap (λ z. z.faults) (outlet_there q peer ne) ∙ h.going.calm q peer) (there_room q peer ne)
+        ];
       }
 
       pub posted : (c'.failed ≡ None → Going n (suc k) start c') × (c'.failed ≢ None → Halted n start c')

@@ -1,5 +1,6 @@
 pub mod Mail
 pub mod Progress
 pub mod Turns
-pub mod ShortRuns
 pub mod Remains
+pub mod NodeRuns
+pub mod Ready

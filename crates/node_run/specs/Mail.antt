@@ -1,5 +1,5 @@
 -- What a node keeps while it runs its sessions: its outlets, the words that it read, and the inboxes of its peers.
-use Rattle.std.specs.Prelude.{◌≡◌, ◌≢◌, ℕ, ◌+◌, ◌%◌, ◌<◌, ◌^◌, Bool, true, [], List, map, length, slice_index, slice_index_or, Option, None, Some, Result, Ok, Err}
+use Rattle.std.specs.Prelude.{◌≡◌, ◌≢◌, ℕ, ◌+◌, ◌%◌, ◌<◌, ◌^◌, Bool, true, [], List, map, filter, length, take, slice_index, slice_index_or, Option, None, Some, Result, Ok, Err}
 use Rattle.atomic_table.specs.Seated.{TableId}
 use Rattle.message_board.specs.Pairs.{Knows}
 use Rattle.message_board.specs.Plain.{CellContents, plain_cell}
@@ -11,6 +11,7 @@ use Rattle.job_plan.specs.Messages.{messages}
 use Rattle.job_plan.specs.Numbers.{message}
 use Rattle.outer_io.specs.Sink.{SinkReading, Writes}
 use Rattle.outer_io.specs.declared.sink.Failed.{Failed}
+use Rattle.node_talk.specs.Talks.{goes}
 use Rattle.node_talk.specs.PeerLinks.{place_among, no_outlet}
 
 -- a peer's inbox: which it is, how many places it has, and what the party's seat knows
@@ -55,6 +56,10 @@ pub record IsRead (x : Mail) (m v : ℕ) : Type 0 where
   pub known : Knows (box_of x (message x.plan m).sender).view.seen (slice_index x.places m) found
   pub reduced : v ≡ found % 2 ^ x.plan.bits
 
+-- where message m stands among those that its sender sends to party p
+abbrev pub place_to : Plan → ℕ → ℕ → ℕ
+place_to plan p m = length (filter (goes (message plan m).sender p) (take m (messages plan)))
+
 -- there is an outlet and an inbox for each peer and a cell for each message, each message to the party has its place, and
 -- each word was read there
 pub record IsMail (x : Mail) : Type 0 where
@@ -65,6 +70,8 @@ pub record IsMail (x : Mail) : Type 0 where
   pub cells : length x.words.cells ≡ length (messages x.plan)
   pub bits : x.words.bits ≡ x.plan.bits
   pub places : length x.places ≡ length (messages x.plan)
+  pub placed : (m : ℕ) → m < length (messages x.plan) → (message x.plan m).receiver ≡ x.me
+      → slice_index x.places m ≡ place_to x.plan x.me m
   pub room : (m : ℕ) → m < length (messages x.plan) → (message x.plan m).receiver ≡ x.me
       → slice_index x.places m < (box_of x (message x.plan m).sender).places
   pub read : (m v : ℕ) → plain_cell x.words.cells m ≡ Some v → IsRead x m v

@@ -1,5 +1,5 @@
 -- How far a node has come.
-use Rattle.std.specs.Prelude.{◌≡◌, ℕ, suc, ◌+◌, ◌<◌, ◌≤◌, List, length, map, get_or, Option, None, Some}
+use Rattle.std.specs.Prelude.{◌≡◌, ◌≢◌, ℕ, suc, ◌+◌, ◌-◌, ◌*◌, ◌<◌, ◌≤◌, IsTrue, List, length, map, get_or, Option, None, Some}
 use Rattle.message_board.specs.Plain.{plain_cell}
 use Rattle.job_plan.specs.declared.key.Key.{Key}
 use Rattle.job_plan.specs.Messages.{messages}
@@ -12,9 +12,9 @@ use Rattle.program_laws.specs.Meets.{local_given}
 use Rattle.program_laws.specs.Parts.{IsPart}
 use Rattle.outer_io.specs.Count.{Rose}
 use Rattle.outer_io.specs.Links.{LinksReading}
-use Rattle.outer_io.specs.Sink.{added, AddedPrefix}
+use Rattle.outer_io.specs.Sink.{SinkReading, added, AddedPrefix}
 use Rattle.frame_code.specs.Frames.{hello}
-use Rattle.node_talk.specs.Talks.{Node, acts, IsPeer, own_word, said}
+use Rattle.node_talk.specs.Talks.{Node, acts, IsPeer, own_word, messages_between, posts_to, said}
 use Rattle.node_talk.specs.PeerLinks.{out_to}
 use Rattle.list_laws.specs.Lists.{joined}
 use Rattle.atomic_table.specs.Seated.{TableId}
@@ -45,6 +45,26 @@ pub record Begin : Type 0 where
 abbrev pub ids_of : List BoxModel → List TableId
 ids_of boxes = map (λ (b : BoxModel). b.id) boxes
 
+-- how many bytes the party says to q, and by its first k instructions, whatever the words are
+abbrev pub talk_bytes : Node → ℕ → ℕ
+talk_bytes n q = 38 + 18 * length (messages_between n.world.plan n.me q)
+
+abbrev pub said_bytes : Node → ℕ → ℕ → ℕ
+said_bytes n q k = 38 + 18 * length (posts_to n q k)
+
+-- a steady outlet that took so many bytes is steady, with room for so many less
+pub record KeepsRoom (bytes : ℕ) (before after : SinkReading) : Type 0 where
+  pub steady : IsTrue before.steady → IsTrue after.steady
+  pub room : IsTrue before.steady → after.room ≡ before.room - bytes
+
+-- what sends leave of the outlet to q: its count of faults never falls, and stays unless a send to q failed; a steady one
+-- stays steady, and with room for the talk no send to q fails
+pub record OutletStays (n : Node) (q : ℕ) (failed : Option ℕ) (before after : SinkReading) : Type 0 where
+  pub grows : before.faults ≤ after.faults
+  pub calm : failed ≢ Some q → after.faults ≡ before.faults
+  pub steady : IsTrue before.steady → IsTrue after.steady
+  pub room : IsTrue before.steady → talk_bytes n q ≤ before.room → failed ≢ Some q
+
 -- what is kept is of this party, with the inboxes of the begin
 pub record IsOf (n : Node) (start : Begin) (now : Mail) : Type 0 where
   pub part : IsPart n.world n.me
@@ -62,6 +82,7 @@ pub record Going (n : Node) (k : ℕ) (start : Begin) (now : Mail) : Type 0 wher
   pub sent : (got : Key → ℕ) → Agrees n now.words.cells got → (q : ℕ) → IsPeer n q
       → (outlet_to now q).told ≡ added (out_to n start.links q).told (said n q (own_word n got) k)
   pub calm : (q : ℕ) → IsPeer n q → (outlet_to now q).faults ≡ (out_to n start.links q).faults
+  pub room : (q : ℕ) → IsPeer n q → KeepsRoom (said_bytes n q k) (out_to n start.links q) (outlet_to now q)
   pub quiet : now.failed ≡ None
 
 -- k instructions are done, and of the posts up to the next one a first part was sent
@@ -81,6 +102,7 @@ StopsBy n start now None = (q : ℕ) × IsPeer n q × ((box_of now q).view.noted
 pub record Halted (n : Node) (start : Begin) (now : Mail) : Type 0 where
   pub stopped : Stopped n start now
   pub why : StopsBy n start now now.failed
+  pub outlets : (q : ℕ) → IsPeer n q → OutletStays n q now.failed (out_to n start.links q) (outlet_to now q)
 
 -- ---- hellos
 
@@ -91,8 +113,15 @@ pub record Greeted (n : Node) (q : ℕ) (start : Begin) (now : Mail) : Type 0 wh
   pub sent : (r : ℕ) → IsPeer n r → r < q
       → (outlet_to now r).told ≡ added (out_to n start.links r).told (hello n.me r n.digest)
   pub calm : (r : ℕ) → IsPeer n r → (outlet_to now r).faults ≡ (out_to n start.links r).faults
+  pub room : (r : ℕ) → IsPeer n r → r < q → KeepsRoom 38 (out_to n start.links r) (outlet_to now r)
   pub others : (r : ℕ) → IsPeer n r → q ≤ r → outlet_to now r ≡ out_to n start.links r
   pub quiet : now.failed ≡ None
+
+-- a hello failed, and no word is known
+pub record Ungreeted (n : Node) (start : Begin) (now : Mail) : Type 0 where
+  pub halted : Halted n start now
+  pub some : now.failed ≢ None
+  pub words : (m : ℕ) → plain_cell now.words.cells m ≡ None
 
 -- ---- sessions
 

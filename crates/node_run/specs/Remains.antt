@@ -1,5 +1,5 @@
 -- A run with its readers, and what it leaves.
-use Rattle.std.specs.Prelude.{◌≡◌, ◌⊎◌, ℕ, suc, ◌+◌, ◌<◌, nat_lt, if◌then◌else◌, is_err, List, [], ◌∷◌, length, take, get_or, slice_index_or, Option, None, Some, Result, Ok, Err}
+use Rattle.std.specs.Prelude.{◌≡◌, ◌⊎◌, ℕ, suc, ◌+◌, ◌<◌, ◌≤◌, nat_lt, if◌then◌else◌, is_err, IsTrue, List, [], ◌∷◌, length, take, get_or, slice_index_or, Option, None, Some, Result, Ok, Err}
 use Rattle.atomic_table.specs.Seated.{TableId}
 use Rattle.message_board.specs.Plain.{CellContents, plain_cell}
 use Rattle.inbox_board.specs.Seats.{mark_of}
@@ -7,13 +7,17 @@ use Rattle.inbox_board.specs.Folds.{GotWhatWasPushed}
 use Rattle.party_desk.specs.declared.desk.Desk.{Desk}
 use Rattle.outer_io.specs.Count.{Rose}
 use Rattle.outer_io.specs.Inlet.{InletReading}
+use Rattle.outer_io.specs.Jobs.{SpawnerReading}
 use Rattle.outer_io.specs.Sink.{SinkReading}
 use Rattle.node_talk.specs.declared.fault.NodeFault.{NodeFault}
+use Rattle.node_talk.specs.declared.fault.NodeFault.TheVariants.{Link, NoThread}
+use Rattle.node_talk.specs.Runs.{Results}
 use Rattle.node_talk.specs.Talks.{Node, IsPeer}
 use Rattle.link_reader.specs.Expected.{TalkModel}
+use Rattle.link_reader.specs.Heard.{StaysSteady}
 use Rattle.link_reader.specs.ReadWords.{Reads}
 use Rattle.link_reader.specs.NodeReaders.{incoming}
-use Rattle.node_run.specs.Mail.{Mail, BoxModel, no_box}
+use Rattle.node_run.specs.Mail.{Mail, IsMail, BoxModel, no_box}
 use Rattle.node_run.specs.Progress.{Begin, IsOf, Going, InOrder, Halted}
 
 -- a reader but for its inlet: what it expects, and the inbox that it fills
@@ -30,6 +34,17 @@ pub record RemainsModel : Type 0 where
   pub failed : Option ℕ
   pub refused : Option ℕ
   pub fault : Option NodeFault
+
+-- the fault that is told: that of a send that failed, of a start that was refused, or the first of a reader
+abbrev pub fault_told : Option ℕ → Option ℕ → Option NodeFault → Option NodeFault
+fault_told (Some q) refused fault = Some (Link q)
+fault_told None (Some q) fault = Some (NoThread q)
+fault_told None None fault = fault
+
+-- the answer of a run that told this fault, or else has these results
+abbrev pub answer : Option NodeFault → Results → Result Results NodeFault
+answer None r = Ok r
+answer (Some fault) r = Err fault
 
 -- the peer of party p that stands at this place
 abbrev pub party_at : ℕ → ℕ → ℕ
@@ -74,22 +89,36 @@ AllEnd n now place (before ∷ befores) (after ∷ afters) fault =
     × ((later : Option NodeFault) × AllEnd n now (suc place) befores afters later × (fault ≡ first_of result later))
 AllEnd n now place _ _ fault = ⊥
 
+-- each inlet stayed steady where it was
+abbrev pub AllStaySteady : List InletReading → List InletReading → Type 0
+AllStaySteady [] [] = Unit {0}
+AllStaySteady (before ∷ befores) (after ∷ afters) = StaysSteady before after × AllStaySteady befores afters
+AllStaySteady _ _ = ⊥
+
+-- the count of refusals never falls, and a steady spawner stays steady and refuses nothing
+pub record SpawnerStays (before after : SpawnerReading) : Type 0 where
+  pub refusals_grow : before.refusals ≤ after.refusals
+  pub steady : IsTrue before.steady → IsTrue after.steady × (after.refusals ≡ before.refusals)
+
 -- all readers were started, and the sessions ran to their end or stopped; or a start was refused, and nothing was done
 abbrev pub EndsAs : Node → Begin → ℕ → List InletReading → List InletReading → ℕ → ℕ → RemainsModel → Mail
     → Option ℕ → Type 0
 EndsAs n start place before after refusals refusals' r now None =
     (InOrder n (length n.world.plan.sessions) start r.desks now ⊎ Halted n start now)
-    × AllEnd n now place before after r.fault
+    × AllEnd n now place before after r.fault × (refusals' ≡ refusals)
 EndsAs n start place before after refusals refusals' r now (Some q) =
     IsPeer n q × Going n 0 start now × ((m : ℕ) → plain_cell now.words.cells m ≡ None) × Rose refusals refusals'
 
-pub record Remained (n : Node) (start : Begin) (place : ℕ) (before after : List InletReading) (refusals refusals' : ℕ)
-    (r : RemainsModel) : Type 0 where
+pub record Remained (n : Node) (start : Begin) (place : ℕ) (before after : List InletReading)
+    (spawner spawner' : SpawnerReading) (r : RemainsModel) : Type 0 where
   pub now : Mail
+  pub mail : IsMail now
   pub own : IsOf n start now
   pub outlets : r.outlets ≡ now.outlets
   pub words : r.words ≡ now.words
   pub failed : r.failed ≡ now.failed
   pub boxes : r.boxes ≡ take place now.boxes
   pub count : length after ≡ length before
-  pub ends : EndsAs n start place before after refusals refusals' r now r.refused
+  pub inlets : AllStaySteady before after
+  pub spawner_stays : SpawnerStays spawner spawner'
+  pub ends : EndsAs n start place before after spawner.refusals spawner'.refusals r now r.refused

@@ -1,7 +1,7 @@
 // The hellos of a node.
-ghost use Rattle.std.specs.Prelude.{◌≡◌, ◌≢◌, ◌+◌, ◌<◌, ℕ, None, true, false};
+ghost use Rattle.std.specs.Prelude.{◌≡◌, ◌+◌, ◌<◌, ℕ, true, false};
 ghost use Rattle.node_talk.specs.Talks.{Node};
-ghost use Rattle.node_run.specs.Progress.{Begin, Greeted, Halted};
+ghost use Rattle.node_run.specs.Progress.{Begin, Greeted, Ungreeted};
 
 use crate::cells::NodeCells;
 use frame_code::hello;
@@ -16,7 +16,7 @@ fn greet_one<'p, O: Outlet>(cells: &mut NodeCells<'p, O>, q: u32, digest: &[u8; 
         → result ≡ true → Greeted n (q + 1) start cells.new }
     ensures halted { (n : Node) (start : Begin) → n.digest ≡ digest.now → q < n.world.plan.parties
         → Greeted n q start cells.old
-        → result ≡ false → Halted n start cells.new × (cells.new.failed ≢ None) }
+        → result ≡ false → Ungreeted n start cells.new }
 {
     if q == cells.me {
         return true;
@@ -32,7 +32,7 @@ pub fn greet<'p, O: Outlet>(cells: &mut NodeCells<'p, O>, digest: &[u8; 32]) -> 
     ensures on { (n : Node) (start : Begin) → n.digest ≡ digest.now → Greeted n 0 start cells.old
         → result ≡ true → Greeted n n.world.plan.parties start cells.new }
     ensures halted { (n : Node) (start : Begin) → n.digest ≡ digest.now → Greeted n 0 start cells.old
-        → result ≡ false → Halted n start cells.new × (cells.new.failed ≢ None) }
+        → result ≡ false → Ungreeted n start cells.new }
 {
     for q in 0..cells.plan.parties() {
         if !greet_one(cells, q, digest) {

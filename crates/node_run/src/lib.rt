@@ -2,10 +2,15 @@
 #![tactic(auto)]
 
 mod cells;
+mod done;
 mod hellos;
 mod laws;
 mod mailbox;
 mod readers;
+mod ready;
+mod run;
 mod sessions;
 
-pub use laws::{nodes_at_their_end_are_done, nodes_that_stopped_broke_off};
+pub use done::NodeDone;
+pub use laws::every_share_is_of_a_world;
+pub use ready::NodeReady;

@@ -22,7 +22,6 @@ use std::sync::{Arc, Wait};
 /// A reader but for its inlet.
 #[derive(Drop)]
 pub struct ReaderParts {
-    peer: u32,
     talk: IncomingTalk,
     inbox: Arc<Inbox, Global>,
     seat: InboxSeat,
@@ -39,20 +38,41 @@ impl Model for ReaderParts {
 
     ghost view = { λ p. record { talk = p.talk; id = (arc_value p.inbox).id } };
 
-    ghost invariant = { λ p. (p.peer ≡ p.talk.peer) × (p.seat.id ≡ (arc_value p.inbox).id) × (p.seat.view ≡ newcomer 1)
+    ghost invariant = { λ p. (p.seat.id ≡ (arc_value p.inbox).id) × (p.seat.view ≡ newcomer 1)
         × (length p.talk.keys ≡ (arc_value p.inbox).places) };
 }
 
 impl ReaderParts {
-    ghost use Rattle.std.specs.Prelude.{◌≡◌, None};
+    ghost use Rattle.std.specs.Prelude.{◌≡◌, None, length};
+    ghost use Rattle.std.specs.Arc.{arc_value};
     ghost use Rattle.inbox_board.specs.Rule.{newcomer};
     ghost use Rattle.link_reader.specs.ReadWords.{ReaderModel};
+
+    /// The parts of a reader that fills this inbox, with the seat that writes there.
+    pub fn new(
+        talk: IncomingTalk,
+        inbox: Arc<Inbox, Global>,
+        seat: InboxSeat,
+        waker: Unparker,
+    ) -> ReaderParts
+        requires seat { seat.id ≡ (arc_value inbox).id }
+        requires new { seat.view ≡ newcomer 1 }
+        requires places { length talk.keys ≡ (arc_value inbox).places }
+        ensures { result ≡ record { talk = talk; id = (arc_value inbox).id } }
+    {
+        ReaderParts {
+            talk,
+            inbox,
+            seat,
+            waker,
+        }
+    }
 
     // The peer that is to be read.
     fn peer(&self) -> u32
         ensures { result ≡ self.now.talk.peer }
     {
-        self.peer
+        self.talk.peer()
     }
 
     // The reader of this inlet.
@@ -103,16 +123,16 @@ impl<O: Outlet> Leaves for Remains<O> {
 
 impl<O: Outlet> Remains<O> {
     ghost use Rattle.std.specs.Prelude.{◌≡◌, ◌-◌, length, take, None};
-    ghost use Rattle.node_run.specs.Mail.{Mail};
+    ghost use Rattle.node_run.specs.Mail.{Mail, IsMail};
 
-    // What these cells and desks leave, but for as many of the last inboxes as have no reader yet.
-    fn of<'p>(
+    /// What these cells and desks leave, but for as many of the last inboxes as have no reader yet.
+    pub fn of<'p>(
         cells: NodeCells<'p, O>,
         desks: Vec<Desk>,
         waiting: usize,
         refused: Option<u32>,
     ) -> Remains<O>
-        ensures { ⟦<Remains<O> as Leaves>⟧.left result ≡ record {
+        ensures left { ⟦<Remains<O> as Leaves>⟧.left result ≡ record {
           outlets = cells.entry.outlets;
           words = cells.entry.words;
           boxes = take (length cells.entry.boxes - waiting) cells.entry.boxes;
@@ -121,6 +141,7 @@ impl<O: Outlet> Remains<O> {
           refused = refused;
           fault = None;
         } }
+        ensures mail { IsMail cells.entry }
     {
         let NodeCells {
             outlets,
@@ -202,7 +223,7 @@ pub fn read_peers<'p, I: Inlet + Drop, O: Outlet, W: Spawner<LinkReader<I>>, R: 
     ensures remained { (n : Node) (start : Begin) (place : ℕ) → n.world.plan ≡ plan.now
         → MayRun n start place readers.items desks.items cells.entry
         → Remained n start place (map I.reading inlets.old.items) (map I.reading inlets.new.items)
-        (W.reading spawner.old).refusals (W.reading spawner.new).refusals
+        (W.reading spawner.old) (W.reading spawner.new)
         (⟦<Remains<O> as Leaves>⟧.left result) }
     ensures len { vec_len inlets.new ≡ vec_len inlets.old }
     ensures capacity { vec_capacity inlets.new ≡ vec_capacity inlets.old }

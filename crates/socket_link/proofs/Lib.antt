@@ -1,1 +1,1 @@
-mod UnusedLinks
+pub mod UnusedLinks

@@ -17,4 +17,4 @@ returns-clause-halted g c = λ n start digest lq h no.
     let other : c.args.q ≢ n.me = λ e. c.if-q-cells.false (e ∙ sym me) in
     let sent = subst (λ z. SentTo c.args.q z c.args.cells.now c.send.new.self) (c.hello-hello.ensures ∙ ap (λ z. hello z c.args.q c.args.digest.now) me ∙ ap (λ z. hello n.me c.args.q z) (sym digest)) c.send.ensures in
     let some : c.send.new.self.failed ≢ None = λ f. not_none c.cells-2.inside.failed c.is_none.result c.is_none.ensures no (ap (λ (z : Mail). z.failed) c.cells-2.view_is ∙ f) in
-    (hello_failed n c.args.q start c.args.cells.now h lq other c.send.new.self sent some, some)
+    hello_failed n c.args.q start c.args.cells.now h lq other c.send.new.self sent some

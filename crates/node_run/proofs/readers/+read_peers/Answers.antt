@@ -6,13 +6,13 @@ use mathlib.Core.Logic.{inl, inr}
 use Rattle.inbox_board.specs.Rule.{newcomer}
 use Rattle.inbox_board.specs.Seats.{SeatModel}
 use Rattle.inbox_board.proofs.PushedWords.{pushed_pens}
-use Rattle.outer_io.specs.Jobs.{SpawnerReading}
 use Rattle.link_reader.specs.Expected.{TalkModel}
 use Rattle.link_reader.specs.ReadWords.{ReaderModel}
 use Rattle.party_desk.specs.declared.desk.Desk.{Desk}
 use Rattle.node_run.specs.Progress.{InOrder, Halted}
-use Rattle.node_run.specs.Remains.{MayRun}
-use Rattle.node_run.proofs.ReaderRuns.{none_left, whole_first, first_of_rest, next_readers, all_ran, was_refused, has_read, has_refused, some_box, in_last, one_more}
+use Rattle.node_run.specs.Remains.{MayRun, AllStaySteady}
+use Rattle.link_reader.specs.Heard.{StaysSteady}
+use Rattle.node_run.proofs.ReaderRuns.{none_left, whole_first, first_of_rest, all_stay, next_readers, all_ran, was_refused, has_read, has_refused, some_box, in_last, one_more}
 use Rattle.node_run.proofs.readers.+read_peers.Goals as goal
 
 pub returns-then-is_empty-clause-remained : goal.returns-then-is_empty-clause-remained
@@ -33,7 +33,7 @@ returns-then-is_empty-clause-remained g t c = λ n start place e h.
     let whole = whole_first c.run_sessions.new.desks (drop (length c.run_sessions.new.desks) c.args.desks.items) (vec_len c.args.desks) long in
     let kept = subst (λ z. InOrder n (length n.world.plan.sessions) start z c.run_sessions.new.cells ⊎ Halted n start c.run_sessions.new.cells) (sym whole) ran in
     all_ran n start place c.args.readers.items c.args.desks.items _ c.args.cells c.run_sessions.new.cells before
-    (g.W.Spawner.reading c.args.spawner.now).refusals _ h none short kept c.of.ensures
+    (g.W.Spawner.reading c.args.spawner.now) _ h none short kept c.of.ensures.mail c.of.ensures.left
 
 pub read_peers-remains-requires : goal.read_peers-remains-requires
 read_peers-remains-requires g t c κs within =
@@ -94,9 +94,16 @@ returns-in-Err-clause-remained g t c = λ n start place e h.
     let afters = map g.I.Inlet.reading c.put_first.new.inlets.items in
     let count : length afters ≡ length befores =
     omega (arith, length-map c.args.inlets.now.items g.I.Inlet.reading, length-map c.put_first.new.inlets.items g.I.Inlet.reading, c.put_first.ensures.len, c.remove.ensures.len) in
-    let rose = has_refused g.W.Spawner.may_end _ _ c.with-reader.result c.in-Err.back _ c.in-Err.is c.start.ensures in
+    let refused = has_refused g.W.Spawner.may_end _ _ c.with-reader.result c.in-Err.back _ c.in-Err.is c.start.ensures c.with-reader.ensures.outcome in
+    let more : 0 < length c.args.inlets.now.items = omega (arith, c.requires.same, some) in
+    let was : map g.I.Inlet.reading c.args.inlets.now.items ≡ g.I.Inlet.reading c.remove.result ∷ map g.I.Inlet.reading c.remove.new.self.items =
+    ap (map g.I.Inlet.reading) (first_of_rest c.args.inlets.now.items c.remove.result more c.remove.ensures.value ∙ ap (λ z. c.remove.result ∷ z) (sym c.remove.ensures.items)) in
+    let now : map g.I.Inlet.reading c.put_first.new.inlets.items ≡ g.I.Inlet.reading c.into_parts-inlet.result.0 ∷ map g.I.Inlet.reading c.remove.new.self.items =
+    ap (map g.I.Inlet.reading) c.put_first.ensures.items in
+    let steady : AllStaySteady befores afters = subst (λ z. AllStaySteady z afters) (sym was) (subst (AllStaySteady (g.I.Inlet.reading c.remove.result ∷ map g.I.Inlet.reading c.remove.new.self.items)) (sym now)
+    (subst (λ z. StaysSteady z (g.I.Inlet.reading c.into_parts-inlet.result.0)) c.with-reader.ensures.inlet (subst (λ z. StaysSteady c.with-reader.result.inlet z) (sym c.into_parts-inlet.ensures.inlet) refused.1), all_stay _)) in
     was_refused n start place c.args.readers.items c.args.desks.items c.args.cells befores afters _ _ c.peer-peer.result _ _ h some (omega (arith, c.len-waiting.ensures))
-    (c.peer-peer.ensures ∙ ap (λ (z : TalkModel). z.peer) next.1.talk) count rose c.of-in-Err.ensures
+    (c.peer-peer.ensures ∙ ap (λ (z : TalkModel). z.peer) next.1.talk) count steady refused.0 c.of-in-Err.ensures.mail c.of-in-Err.ensures.left
 
 pub returns-in-Ok-clause-remained : goal.returns-in-Ok-clause-remained
 returns-in-Ok-clause-remained g t c = λ n start place e h.
@@ -112,8 +119,8 @@ returns-in-Ok-clause-remained g t c = λ n start place e h.
     ap (map g.I.Inlet.reading) c.put_first-in-Ok.ensures.items in
     one_more n start place (map g.I.Inlet.reading c.remove.new.self.items) (map g.I.Inlet.reading c.read_peers-remains.new.inlets.items)
     (g.I.Inlet.reading c.remove.result) (g.I.Inlet.reading c.into_parts-inlet-in-Ok.result.0)
-    (g.W.Spawner.reading c.args.spawner.now).refusals (g.W.Spawner.reading c.start.new.self).refusals (g.W.Spawner.reading c.read_peers-remains.new.spawner).refusals (g.W.Spawner.reading c.finish.new.self).refusals
+    (g.W.Spawner.reading c.args.spawner.now) (g.W.Spawner.reading c.start.new.self) (g.W.Spawner.reading c.read_peers-remains.new.spawner) (g.W.Spawner.reading c.finish.new.self)
     _ _ c.into_parts-inlet-in-Ok.result.2 c.with-reader.result c.finish.result _ _ was now
     next.0 (c.with-reader.ensures.talk ∙ next.1.talk) c.with-reader.ensures.inlet both.0 c.into_parts-inlet-in-Ok.ensures.inlet c.into_parts-inlet-in-Ok.ensures.outcome
-    both.1 (ap (λ (z : SpawnerReading). z.refusals) c.finish.ensures.same) (c.read_peers-remains.ensures.remained n start (suc place) e may)
+    both.1 both.2 c.finish.ensures.same (c.read_peers-remains.ensures.remained n start (suc place) e may)
     (λ words mark v. c.close.ensures.got words mark (ap (λ (z : SeatModel). z.view) c.into_parts-inlet-in-Ok.ensures.seat ∙ v)) c.close.ensures.rest

@@ -2,22 +2,22 @@ use Rattle.std.proofs.Common.{◌<◌, ap, sym, ◌∙◌, subst}
 use Rattle.job_plan.specs.declared.key.Key.{Key}
 use Rattle.frame_code.specs.Frames.{FitsFrame}
 use Rattle.node_run.specs.Mail.{Mail, MayPost}
-use Rattle.node_run.proofs.CellChanges.{fits, parties_of}
+use Rattle.link_reader.proofs.ExpectedMessages.{between_parties, fits_frame}
 use Rattle.node_run.proofs.cells.NodeCellsCells.post.Goals as goal
 
 pub frame-requires : goal.frame-requires
 frame-requires g c =
     let may = subst (λ (z : Mail). MayPost z c.args.number c.args.word) (sym c.self.view_is) c.requires in
-    subst (λ (z : Key). FitsFrame z) (sym c.message-key.ensures.is) (fits c.self.inside.plan.now c.self.invariant.sound c.args.number may.there)
+    subst (λ (z : Key). FitsFrame z) (sym c.message-key.ensures.is) (fits_frame c.self.inside.plan.now c.self.invariant.sound c.args.number may.there)
 
 pub send-requires-clause-party : goal.send-requires-clause-party
 send-requires-clause-party g c =
     let may = subst (λ (z : Mail). MayPost z c.args.number c.args.word) (sym c.self.view_is) c.requires in
     subst (λ (z : Mail). c.message-key.result.receiver < z.plan.parties) c.self.view_is
-    (subst (λ (z : Key). z.receiver < c.self.inside.plan.now.parties) (sym c.message-key.ensures.is) (parties_of c.self.inside.plan.now c.self.invariant.sound c.args.number may.there).receiver)
+    (subst (λ (z : Key). z.receiver < c.self.inside.plan.now.parties) (sym c.message-key.ensures.is) (between_parties c.self.inside.plan.now c.self.invariant.sound c.args.number may.there).receiver)
 
 pub send-requires-clause-other : goal.send-requires-clause-other
 send-requires-clause-other g c = λ e.
     let may = subst (λ (z : Mail). MayPost z c.args.number c.args.word) (sym c.self.view_is) c.requires in
-    (parties_of c.self.inside.plan.now c.self.invariant.sound c.args.number may.there).apart
+    (between_parties c.self.inside.plan.now c.self.invariant.sound c.args.number may.there).apart
     (may.sender ∙ sym (sym (ap (λ (z : Key). z.receiver) c.message-key.ensures.is) ∙ e ∙ ap (λ (z : Mail). z.me) (sym c.self.view_is)))

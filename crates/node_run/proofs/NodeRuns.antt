@@ -1,0 +1,372 @@
+-- What a run leaves has the clauses of a node's run.
+use Rattle.std.proofs.Common.{◌≡◌, ◌⊎◌, ℕ, suc, ◌+◌, ◌-◌, ◌<◌, false, List, [], length, map, refl, sym, ap, ◌∙◌, subst, arith, Option, Some, None, Result, Ok, Err, inl, inr, ⊎_elim}
+use Rattle.std.specs.Prelude.{slice_index_or, is_err}
+use Rattle.std.proofs.lemmas.Bool.{cases_eq, false≢true}
+use Rattle.std.proofs.lemmas.List.{append-nil}
+use mathlib.Core.Logic.{inl as left', inr as right'}
+use Rattle.job_plan.specs.declared.key.Key.{Key}
+use Rattle.job_plan.specs.Numbers.{message}
+use Rattle.message_board.specs.Plain.{plain_cell}
+use Rattle.party_desk.specs.declared.desk.Desk.{Desk}
+use Rattle.inbox_board.specs.Seats.{mark_of}
+use Rattle.outer_io.specs.Count.{Rose}
+use Rattle.outer_io.specs.Inlet.{InletReading}
+use Rattle.outer_io.specs.Jobs.{SpawnerReading}
+use Rattle.outer_io.specs.Links.{LinksReading, HasPeers}
+use Rattle.outer_io.specs.Sink.{added, AddedPrefix}
+use Rattle.frame_code.specs.Frames.{hello}
+use Rattle.node_talk.specs.declared.fault.NodeFault.{NodeFault}
+use Rattle.node_talk.specs.declared.fault.NodeFault.TheVariants.{Link, Closed, BadFrame, OtherJob, NoThread}
+use Rattle.node_talk.specs.Talks.{Node, IsPeer, own_word, said, place_of}
+use Rattle.node_talk.specs.PeerLinks.{place_among, no_inlet, no_outlet, in_from, out_to}
+use Rattle.node_talk.specs.Causes.{Cause}
+use Rattle.node_talk.specs.Runs.{Results, IsDone, TalkedThrough, BrokeOff}
+use Rattle.node_talk.proofs.NoCauses.{no_cause}
+use Rattle.node_talk.proofs.RightRuns.{joins}
+use Rattle.node_talk.proofs.ExpectedPlaces.{placed}
+use Rattle.link_reader.specs.NodeReaders.{incoming, ReadsFrom, HasReadWords}
+use Rattle.link_reader.proofs.BrokenOffRuns.{breaks_off}
+use Rattle.link_reader.specs.ReadWords.{Reads, CameShort}
+use Rattle.link_reader.specs.Expected.{TalkModel}
+use Rattle.link_reader.proofs.ToldCauses.{tells_cause}
+use Rattle.node_run.specs.Mail.{Mail, IsMail, outlet_to, box_of}
+use Rattle.node_run.specs.Progress.{Begin, Agrees, IsOf, Stopped, StopsBy, Halted, Ungreeted, InOrder, OutletStays, before_session}
+use Rattle.node_run.specs.Remains.{RemainsModel, SpawnerStays, AllStaySteady, PeerEnd, AllEnd, EndsAs, Remained, party_at, fault_told, answer}
+use Rattle.node_run.specs.NodeRuns.{Runs, GaveAll, GaveAllBelow, IsFirst, NothingSaid, TellsSends, TellsRefusals, KeepsOutlet, StaySteady}
+use Rattle.node_run.proofs.KnownWords.{known, agrees_known}
+use Rattle.node_run.proofs.OutletSteps.{going_stays}
+use Rattle.node_run.proofs.SessionSteps.{stopped_at}
+use Rattle.node_run.proofs.DoneRuns.{is_done}
+use Rattle.node_run.proofs.CellChanges.{place_within}
+use Rattle.node_run.proofs.ReaderRuns.{peer_at, all_stay, spawner_rests}
+use Rattle.node_run.proofs.PeerEnds.{place_there, place_less, words_of, end_at, FirstEnd, first_end, stays_at, PeerRead, peer_read, WordRead, word_read, there, receiver, sender, gave_all}
+
+-- ---- the clauses, by the answer
+
+module _ (n : Node) (before after : LinksReading) (spawner spawner' : SpawnerReading) where
+  pub fault_runs : (fault : NodeFault) → length n.digest ≡ 32 → HasPeers (n.world.plan.parties - 1) after → (got : Key → ℕ) × BrokeOff n got before after
+      → Cause n before after spawner.refusals spawner'.refusals fault → IsFirst n before after fault → TellsSends n before after (Err fault) → TellsRefusals spawner.refusals spawner'.refusals (Err fault)
+      → NothingSaid n before after fault → StaySteady n before after spawner spawner' → Runs n before after spawner spawner' (Err fault)
+  fault_runs fault long peers broke cause first sends starts unsaid steady = record {
+    peers = peers;
+    done = tt;
+    broke = broke;
+    cause = cause;
+    least = first;
+    sends = sends;
+    starts = starts;
+    unsaid = unsaid;
+    completes = λ hears none quiet. absurd (no_cause n before after spawner.refusals spawner'.refusals long hears none quiet fault cause);
+    joins = λ whole hears. tt;
+    steady = steady;
+  }
+
+  pub done_runs : (r : Results) → n.me < n.world.plan.parties → HasPeers (n.world.plan.parties - 1) after → (got : Key → ℕ) × IsDone n got r × TalkedThrough n got before after
+      → TellsSends n before after (Ok r) → TellsRefusals spawner.refusals spawner'.refusals (Ok r) → StaySteady n before after spawner spawner' → Runs n before after spawner spawner' (Ok r)
+  done_runs r party peers done sends starts steady = record {
+    peers = peers;
+    done = done;
+    broke = tt;
+    cause = tt;
+    least = tt;
+    sends = sends;
+    starts = starts;
+    unsaid = tt;
+    completes = λ hears none quiet. refl;
+    joins = λ whole hears. joins n whole party done.0 before after done.2 hears r done.1;
+    steady = steady;
+  }
+
+-- ---- what is left of the links
+
+module _ (n : Node) (start : Begin) (after : LinksReading) (now : Mail) (own : IsOf n start now) (mail : IsMail now) (inlets : length after.inlets ≡ length start.links.inlets) (outlets : after.outlets ≡ now.outlets)
+    (were : HasPeers (n.world.plan.parties - 1) start.links) where
+  pub outlet_same : (q : ℕ) → out_to n after q ≡ outlet_to now q
+  outlet_same q = ap (λ z. slice_index_or z (place_among n.me q) no_outlet) outlets ∙ ap (λ z. slice_index_or now.outlets (place_among z q) no_outlet) (sym own.me)
+
+  pub has_peers : HasPeers (n.world.plan.parties - 1) after
+  has_peers = record {
+    inlets = inlets ∙ were.inlets;
+    outlets = (let a = mail.outlets in let b = ap (λ z. z.parties) own.plan in let c = ap (λ z. length z) outlets in omega (arith, a, b, c));
+  }
+
+  module _ (stays : (q : ℕ) → IsPeer n q → OutletStays n q now.failed (out_to n start.links q) (outlet_to now q)) where
+    pub keeps_outlet : (q : ℕ) → IsPeer n q → KeepsOutlet n q (out_to n start.links q) (out_to n after q)
+    keeps_outlet q peer = subst (KeepsOutlet n q (out_to n start.links q)) (sym (outlet_same q)) (record {
+      faults_grow = (stays q peer).grows;
+      steady = (stays q peer).steady;
+      room = λ s fits. (stays q peer).calm ((stays q peer).room s fits);
+    })
+
+    -- an outlet whose count changed is the one to which a send failed
+    pub tells_sends : (result : Result Results NodeFault) → ((q : ℕ) → now.failed ≡ Some q → result ≡ Err (Link q)) → TellsSends n start.links after result
+    tells_sends result told q peer changed = by_failed now.failed refl
+      where
+        by_failed : (failed : Option ℕ) → now.failed ≡ failed → result ≡ Err (Link q)
+        by_failed None e = absurd (changed (ap (λ z. z.faults) (outlet_same q) ∙ (stays q peer).calm (λ f. (let x : None ≡ Some q = sym e ∙ f in cc))))
+        by_failed (Some p) e = elim (cases_eq p q) [
+          | left' same ↦ told q (e ∙ ap Some same)
+          | right' ne ↦ absurd (changed (ap (λ z. z.faults) (outlet_same q) ∙ (stays q peer).calm (λ f. ne (let x : Some p ≡ Some q = sym e ∙ f in cc))))
+        ]
+
+  -- ---- a run that was broken off
+
+  -- where no word was taken
+  pub broke_silent : ((m : ℕ) → plain_cell now.words.cells m ≡ None) → Stopped n start now → (got : Key → ℕ) × BrokeOff n got start.links after
+  broke_silent none s = breaks_off n own.part own.digest start.links after (record {
+    k = s.k;
+    within = s.within;
+    words = λ q. [];
+    read = λ q peer. inl refl;
+    taken = λ j m i l e. let v = s.taken j m i l e in absurd (let f : None ≡ Some v.0 = sym (none m) ∙ v.1 in cc);
+    sent = λ got has q peer. subst (AddedPrefix (out_to n start.links q).told (said n q (own_word n got) (suc s.k))) (sym (ap (λ z. z.told) (outlet_same q)))
+        (s.sent got (λ m v e. absurd (let f : None ≡ Some v = sym (none m) ∙ e in cc)) q peer);
+  })
+
+  module _ (fault : Option NodeFault) (h : AllEnd n now 0 start.links.inlets after.inlets fault) where
+    abbrev words : ℕ → List ℕ
+    words q = slice_index_or (words_of n now 0 start.links.inlets after.inlets fault h) (place_among n.me q) []
+
+    within : (q : ℕ) → IsPeer n q → place_among n.me q < length start.links.inlets
+    within q peer = place_within n.me q n.world.plan.parties (length start.links.inlets) peer.0 peer.1 own.part.party (let a = were.inlets in let b = own.part.party in omega (arith, a, b))
+
+    -- what was read of a peer
+    pub read : (q : ℕ) → IsPeer n q → (result : Result (Unit {0}) NodeFault)
+        × PeerRead n now start.links after q (slice_index_or (words_of n now 0 start.links.inlets after.inlets fault h) (place_among n.me q) []) result × (fault ≡ None → is_err result ≡ false)
+    read q peer =
+        let e = end_at n now 0 start.links.inlets after.inlets fault h (place_among n.me q) (place_among n.me q) (within q peer) (omega arith) in
+        (e.result, subst (λ z. PeerRead n now start.links after q z e.result) e.same (peer_read n now start.links after q e.result own.me peer.1 e.end), e.none)
+
+    taken_word : (m v : ℕ) → plain_cell now.words.cells m ≡ Some v → WordRead n m v (words (message n.world.plan m).sender)
+    taken_word m v is =
+        let r = read (message n.world.plan m).sender (sender n start now own mail m v is) in
+        word_read n start now own mail m v is start.links after (words (message n.world.plan m).sender) r.0 r.1
+
+    agrees : (got : Key → ℕ) → HasReadWords n got words → Agrees n now.words.cells got
+    agrees got has m v is =
+        let w = taken_word m v is in
+        let p = placed n m (there n start now own mail m v is) (receiver n start now own mail m v is) in
+        ap got (sym p.1) ∙ (has (message n.world.plan m).sender (sender n start now own mail m v is)).1 (place_of n m) w.within ∙ sym w.word
+
+    pub broke_while_read : Stopped n start now → (got : Key → ℕ) × BrokeOff n got start.links after
+    broke_while_read s = breaks_off n own.part own.digest start.links after (record {
+      k = s.k;
+      within = s.within;
+      words = words;
+      read = λ q peer. let r = read q peer in inr (r.0, r.1.reads);
+      taken = λ j m i l e. let v = s.taken j m i l e in (taken_word m v.0 v.1).within;
+      sent = λ got has q peer. subst (AddedPrefix (out_to n start.links q).told (said n q (own_word n got) (suc s.k))) (sym (ap (λ z. z.told) (outlet_same q))) (s.sent got (agrees got has) q peer);
+    })
+
+    -- ---- the first fault of a reader
+
+    pub first_fault : (x : NodeFault) → fault ≡ Some x → (q : ℕ) × IsPeer n q × ((words : List ℕ) × ReadsFrom n q words start.links after (Err x)) × GaveAllBelow n start.links after q
+    first_fault x is =
+        let f = first_end n now 0 start.links.inlets after.inlets fault x h is in
+        let less : f.k + 1 < n.world.plan.parties = (let a = f.within in let b = were.inlets in omega (arith, a, b)) in
+        let q : ℕ = party_at n.me f.k in
+        let peer : IsPeer n q = peer_at n f.k less in
+        let at : place_among n.me q ≡ f.k = place_there n.me f.k in
+        let e = subst (λ z. PeerEnd n now z (slice_index_or start.links.inlets z no_inlet) (slice_index_or after.inlets z no_inlet) (Err x)) (sym at) (f.end f.k (omega arith)) in
+        let p = peer_read n now start.links after q (Err x) own.me peer.1 e in
+        (q, peer, (e.words, p.reads), λ r other l. below f q at peer r other l)
+      where
+        below : (f : FirstEnd n now 0 start.links.inlets after.inlets x) (q : ℕ) → place_among n.me q ≡ f.k → IsPeer n q → (r : ℕ) → IsPeer n r → r < q → GaveAll n start.links after r
+        below f q at peer r other l =
+            let less : place_among n.me r < f.k = (let a = place_less n.me q r peer.1 other.1 l in omega (arith, a, at)) in
+            let e = f.whole (place_among n.me r) (place_among n.me r) less (omega arith) in
+            gave_all n r e.words start.links after (peer_read n now start.links after r (Ok tt) own.me other.1 e).reads
+
+    -- ---- a run to its end
+
+    -- no reader ended by a fault
+    whole_reads : (q : ℕ) (words : List ℕ) (result : Result (Unit {0}) NodeFault) → is_err result ≡ false → ReadsFrom n q words start.links after result → ReadsFrom n q words start.links after (Ok tt)
+    whole_reads q words (Ok u) e reads = reads
+    whole_reads q words (Err x) e reads = absurd (false≢true (sym e))
+
+    pub ran : fault ≡ None → (ds : List Desk) (r : Results) → InOrder n (length n.world.plan.sessions) start ds now → r ≡ record { words = now.words.cells; outputs = map (λ (d : Desk). d.memory.outputs.items) ds }
+        → (got : Key → ℕ) × IsDone n got r × TalkedThrough n got start.links after
+    ran none ds r order is = is_done n start after ds now r (record {
+      order = order;
+      outlets = outlets;
+      words = words;
+      read = λ q peer. let r = read q peer in whole_reads q (words q) r.0 (r.2 none) r.1.reads;
+      heard = λ m v e. let w = taken_word m v e in (there n start now own mail m v e, receiver n start now own mail m v e, w.within, w.word);
+      kept_words = ap (λ z. z.words) is;
+      kept_outputs = ap (λ z. z.outputs) is;
+    })
+
+    -- a party doesn't stop for a reader that ended by a fault, where none did
+    pub no_stop : fault ≡ None → StopsBy n start now None → ⊥
+    no_stop none s =
+        let r = read s.0 s.1 in
+        not_whole r.0 (r.2 none) (let n : (box_of now s.0).view.noted ≡ 2 = s.2 in sym n ∙ r.1.got.mark (λ z. absurd (omega (arith, n, z))))
+      where
+        not_whole : (result : Result (Unit {0}) NodeFault) → is_err result ≡ false → 2 ≡ mark_of (is_err result) → ⊥
+        not_whole (Ok u) e f = omega (arith, f)
+        not_whole (Err x) e f = false≢true (sym e)
+
+-- ---- the peer of a fault
+
+abbrev peer_of : NodeFault → ℕ
+peer_of (Link q) = q
+peer_of (Closed q at) = q
+peer_of (BadFrame q at bytes) = q
+peer_of (OtherJob q ours theirs) = q
+peer_of (NoThread q) = q
+
+of_reader : (talk : TalkModel) (words : List ℕ) (before after : InletReading) (x : NodeFault) → Reads talk words before after (Err x) → peer_of x ≡ talk.peer
+of_reader talk words before after (Link q) h = ⊎_elim (λ none. none.1.0) (λ (s : CameShort talk words before after (Link q)). s.no_frame.0) h
+of_reader talk words before after (Closed q at) h = ⊎_elim (λ none. none.1.0) (λ (s : CameShort talk words before after (Closed q at)). s.no_frame.0) h
+of_reader talk words before after (BadFrame q at bytes) h = ⊎_elim (λ none. absurd none.1) (λ (s : CameShort talk words before after (BadFrame q at bytes)). s.no_frame.0) h
+of_reader talk words before after (OtherJob q ours theirs) h = ⊎_elim (λ none. none.1.0) (λ (s : CameShort talk words before after (OtherJob q ours theirs)). absurd s.no_frame) h
+of_reader talk words before after (NoThread q) h = ⊎_elim (λ none. absurd none.1) (λ (s : CameShort talk words before after (NoThread q)). absurd s.no_frame) h
+
+is_first : (n : Node) (before after : LinksReading) (x : NodeFault) (q : ℕ) → peer_of x ≡ q → GaveAllBelow n before after q → IsFirst n before after x
+is_first n before after (Link p) q e h = inr (subst (GaveAllBelow n before after) (sym e) h)
+is_first n before after (Closed p at) q e h = subst (GaveAllBelow n before after) (sym e) h
+is_first n before after (BadFrame p at bytes) q e h = subst (GaveAllBelow n before after) (sym e) h
+is_first n before after (OtherJob p ours theirs) q e h = subst (GaveAllBelow n before after) (sym e) h
+is_first n before after (NoThread p) q e h = tt
+
+-- a reader doesn't tell that it wasn't started
+nothing_unsaid : (n : Node) (before after : LinksReading) (x : NodeFault) (talk : TalkModel) (words : List ℕ) (b a : InletReading) → Reads talk words b a (Err x) → NothingSaid n before after x
+nothing_unsaid n before after (Link p) talk words b a h = tt
+nothing_unsaid n before after (Closed p at) talk words b a h = tt
+nothing_unsaid n before after (BadFrame p at bytes) talk words b a h = tt
+nothing_unsaid n before after (OtherJob p ours theirs) talk words b a h = tt
+nothing_unsaid n before after (NoThread p) talk words b a h = absurd (⊎_elim (λ none. none.1) (λ (s : CameShort talk words b a (NoThread p)). s.no_frame) h)
+
+-- ---- the run of a node
+
+module _ (n : Node) (start : Begin) (after : LinksReading) (spawner spawner' : SpawnerReading) (were : HasPeers (n.world.plan.parties - 1) start.links) where
+  -- what stays steady
+  steady_links : (now : Mail) → IsOf n start now → IsMail now → length after.inlets ≡ length start.links.inlets → after.outlets ≡ now.outlets → AllStaySteady start.links.inlets after.inlets → SpawnerStays spawner spawner'
+      → ((q : ℕ) → IsPeer n q → OutletStays n q now.failed (out_to n start.links q) (outlet_to now q)) → StaySteady n start.links after spawner spawner'
+  steady_links now own mail inlets outlets all spawners stays = record {
+    inlets = λ q peer. stays_at start.links.inlets after.inlets (place_among n.me q) all;
+    outlets = keeps_outlet n start after now own mail inlets outlets were stays;
+    spawner_stays = spawners;
+  }
+
+  -- a send failed
+  send_failed : (now : Mail) → IsMail now → (h : Halted n start now) (q : ℕ) → now.failed ≡ Some q → length after.inlets ≡ length start.links.inlets → after.outlets ≡ now.outlets → AllStaySteady start.links.inlets after.inlets → SpawnerStays spawner spawner'
+      → spawner'.refusals ≡ spawner.refusals → (got : Key → ℕ) × BrokeOff n got start.links after → Runs n start.links after spawner spawner' (Err (Link q))
+  send_failed now mail h q is inlets outlets all spawners quiet broke =
+      let own = h.stopped.own in
+      let why : StopsBy n start now (Some q) = subst (StopsBy n start now) is h.why in
+      let rose : Rose (out_to n start.links q).faults (out_to n after q).faults = subst (λ z. Rose (out_to n start.links q).faults z.faults) (sym (outlet_same n start after now own mail inlets outlets were q)) why.1 in
+      fault_runs n start.links after spawner spawner' (Link q) own.digest (has_peers n start after now own mail inlets outlets were) broke (why.0, inr rose) (inl rose)
+      (tells_sends n start after now own mail inlets outlets were h.outlets (Err (Link q)) (λ p e. ap (λ z. Err (Link z)) (let f : Some q ≡ Some p = sym is ∙ e in cc)))
+      (λ changed. absurd (changed quiet)) tt (steady_links now own mail inlets outlets all spawners h.outlets)
+
+  -- a hello failed
+  pub ungreeted_runs : (now : Mail) → IsMail now → Ungreeted n start now → after.inlets ≡ start.links.inlets → after.outlets ≡ now.outlets → spawner' ≡ spawner → (fault : Option NodeFault) (r : Results)
+      → Runs n start.links after spawner spawner' (answer (fault_told now.failed None fault) r)
+  ungreeted_runs now mail u inlets outlets rests fault r = by_failed now.failed refl
+    where
+      by_failed : (o : Option ℕ) → now.failed ≡ o → Runs n start.links after spawner spawner' (answer (fault_told now.failed None fault) r)
+      by_failed None is = absurd (u.some is)
+      by_failed (Some q) is =
+          let many = ap (λ (z : List InletReading). length z) inlets in
+          subst (λ z. Runs n start.links after spawner spawner' (answer (fault_told z None fault) r)) (sym is)
+          (send_failed now mail u.halted q is many outlets (subst (AllStaySteady start.links.inlets) (sym inlets) (all_stay start.links.inlets)) (subst (SpawnerStays spawner) (sym rests) (spawner_rests spawner))
+          (ap (λ z. z.refusals) rests) (broke_silent n start after now u.halted.stopped.own mail many outlets were u.words u.halted.stopped))
+
+  -- the readers were started, or a start was refused
+  module _ (r : RemainsModel) (h : Remained n start 0 start.links.inlets after.inlets spawner spawner' r) (outs : after.outlets ≡ r.outlets) where
+    abbrev now : Mail
+    now = h.now
+
+    abbrev results : Results
+    results = record { words = r.words.cells; outputs = map (λ (d : Desk). d.memory.outputs.items) r.desks }
+
+    outlets' : after.outlets ≡ h.now.outlets
+    outlets' = outs ∙ h.outlets
+
+    abbrev Answers : Option NodeFault → Type 0
+    Answers told = Runs n start.links after spawner spawner' (answer told results)
+
+    peers' : HasPeers (n.world.plan.parties - 1) after
+    peers' = has_peers n start after h.now h.own h.mail h.count outlets' were
+
+    -- a reader wasn't started
+    refused_runs : (p : ℕ) → r.refused ≡ Some p → EndsAs n start 0 start.links.inlets after.inlets spawner.refusals spawner'.refusals r h.now (Some p) → Answers (fault_told r.failed r.refused r.fault)
+    refused_runs p is e =
+        let none : r.failed ≡ None = h.failed ∙ e.1.quiet in
+        let stays = going_stays n 0 start h.now e.1 in
+        let same = outlet_same n start after h.now h.own h.mail h.count outlets' were in
+        subst (λ z. Answers (fault_told z r.refused r.fault)) (sym none) (subst (λ z. Answers (fault_told None z r.fault)) (sym is)
+        (fault_runs n start.links after spawner spawner' (NoThread p) h.own.digest peers' (broke_silent n start after h.now h.own h.mail h.count outlets' were e.2 (stopped_at n 0 start h.now e.1)) (e.0, e.3) tt
+        (tells_sends n start after h.now h.own h.mail h.count outlets' were stays (Err (NoThread p)) (λ q f. absurd (let x : None ≡ Some q = sym e.1.quiet ∙ f in cc)))
+        (λ changed. (p, refl))
+        (λ q peer. ap (λ z. z.told) (same q) ∙ e.1.sent (known n h.now.words.cells) (agrees_known n h.now.words.cells h.own.cells) q peer ∙ ap (added (out_to n start.links q).told) (append-nil (hello n.me q n.digest)))
+        (steady_links h.now h.own h.mail h.count outlets' h.inlets h.spawner_stays stays)))
+
+    module _ (unrefused : r.refused ≡ None) (ends : InOrder n (length n.world.plan.sessions) start r.desks h.now ⊎ Halted n start h.now) (all : AllEnd n h.now 0 start.links.inlets after.inlets r.fault) (quiet : spawner'.refusals ≡ spawner.refusals) where
+      told_is : (failed : Option ℕ) → h.now.failed ≡ failed → fault_told failed None r.fault ≡ fault_told r.failed r.refused r.fault
+      told_is failed is = ap (λ z. fault_told z None r.fault) (sym is ∙ sym h.failed) ∙ ap (λ z. fault_told r.failed z r.fault) (sym unrefused)
+
+      stopped : Stopped n start h.now
+      stopped = elim ends [
+        | left' order ↦ stopped_at n (before_session n (length n.world.plan.sessions)) start h.now order.going
+        | right' halted ↦ halted.stopped
+      ]
+
+      stays' : (q : ℕ) → IsPeer n q → OutletStays n q h.now.failed (out_to n start.links q) (outlet_to h.now q)
+      stays' = elim ends [
+        | left' order ↦ going_stays n (before_session n (length n.world.plan.sessions)) start h.now order.going
+        | right' halted ↦ halted.outlets
+      ]
+
+      broke : (got : Key → ℕ) × BrokeOff n got start.links after
+      broke = broke_while_read n start after h.now h.own h.mail h.count outlets' were r.fault all stopped
+
+      steady' : StaySteady n start.links after spawner spawner'
+      steady' = steady_links h.now h.own h.mail h.count outlets' h.inlets h.spawner_stays stays'
+
+      -- a send failed in the sessions
+      sends_failed : (q : ℕ) → h.now.failed ≡ Some q → Answers (Some (Link q))
+      sends_failed q is = elim ends [
+        | left' order ↦ absurd (let f : None ≡ Some q = sym order.going.quiet ∙ is in cc)
+        | right' halted ↦ send_failed h.now h.mail halted q is h.count outlets' h.inlets h.spawner_stays quiet broke
+      ]
+
+      module _ (calm : h.now.failed ≡ None) where
+        sends' : (result : Result Results NodeFault) → TellsSends n start.links after result
+        sends' result = tells_sends n start after h.now h.own h.mail h.count outlets' were stays' result (λ q f. absurd (let x : None ≡ Some q = sym calm ∙ f in cc))
+
+        -- a reader ended by a fault
+        reader_failed : (x : NodeFault) → r.fault ≡ Some x → Answers (Some x)
+        reader_failed x is =
+            let f = first_fault n start after h.now h.own h.mail h.count outlets' were r.fault all x is in
+            fault_runs n start.links after spawner spawner' x h.own.digest peers' broke
+            (tells_cause n f.0 h.own.digest f.1 f.2.0 start.links after spawner.refusals spawner'.refusals x f.2.1)
+            (is_first n start.links after x f.0 (of_reader (incoming n f.0) f.2.0 (in_from n start.links f.0) (in_from n after f.0) x f.2.1) f.3)
+            (sends' (Err x)) (λ changed. absurd (changed quiet))
+            (nothing_unsaid n start.links after x (incoming n f.0) f.2.0 (in_from n start.links f.0) (in_from n after f.0) f.2.1) steady'
+
+        -- nothing failed
+        all_done : r.fault ≡ None → Answers None
+        all_done none = elim ends [
+          | left' order ↦
+              done_runs n start.links after spawner spawner' results h.own.part.party peers'
+              (ran n start after h.now h.own h.mail h.count outlets' were r.fault all none r.desks results order (ap (λ z. record { words = z.cells; outputs = map (λ (d : Desk). d.memory.outputs.items) r.desks }) h.words))
+              (sends' (Ok results)) (λ changed. absurd (changed quiet)) steady'
+          | right' halted ↦ absurd (no_stop n start after h.now h.own h.mail h.count outlets' were r.fault all none (subst (StopsBy n start h.now) calm halted.why))
+        ]
+
+        by_fault : (fault : Option NodeFault) → r.fault ≡ fault → Answers r.fault
+        by_fault None is = subst Answers (sym is) (all_done is)
+        by_fault (Some x) is = subst Answers (sym is) (reader_failed x is)
+
+      by_failed : (failed : Option ℕ) → h.now.failed ≡ failed → Answers (fault_told r.failed r.refused r.fault)
+      by_failed None is = subst Answers (told_is None is) (by_fault is r.fault refl)
+      by_failed (Some q) is = subst Answers (told_is (Some q) is) (sends_failed q is)
+
+    by_refused : (o : Option ℕ) → r.refused ≡ o → EndsAs n start 0 start.links.inlets after.inlets spawner.refusals spawner'.refusals r h.now o → Answers (fault_told r.failed r.refused r.fault)
+    by_refused None is e = by_failed is e.0 e.1 e.2 h.now.failed refl
+    by_refused (Some p) is e = refused_runs p is e
+
+    pub remained_runs : Runs n start.links after spawner spawner' (answer (fault_told r.failed r.refused r.fault) (record { words = r.words.cells; outputs = map (λ (d : Desk). d.memory.outputs.items) r.desks }))
+    remained_runs = by_refused r.refused refl h.ends

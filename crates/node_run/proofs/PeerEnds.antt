@@ -1,0 +1,194 @@
+-- What each reader read, from the end of all of them.
+use Rattle.std.proofs.Common.{◌≡◌, ◌≢◌, ℕ, zero, suc, ◌+◌, ◌%◌, ◌<◌, ◌^◌, false, List, [], ◌∷◌, length, refl, sym, ap, ◌∙◌, subst, arith, Option, Some, None, Result, Ok, Err, mod-eq_of_lt, pow_pos}
+use Rattle.std.specs.Prelude.{slice_index, slice_index_or, is_err}
+use Rattle.std.proofs.lemmas.Bool.Decides.{nat_tests}
+use Rattle.list_laws.proofs.JoinedLists.{every_at}
+use Rattle.message_board.specs.Pairs.{Knows}
+use Rattle.message_board.specs.Plain.{plain_cell}
+use Rattle.inbox_board.specs.Seats.{mark_of}
+use Rattle.inbox_board.specs.Folds.{GotWhatWasPushed}
+use Rattle.job_plan.specs.declared.key.Key.{Key}
+use Rattle.job_plan.specs.Messages.{messages}
+use Rattle.job_plan.specs.Numbers.{message, number}
+use Rattle.job_plan.proofs.DistinctMessages.{numbers_are_inverse}
+use Rattle.outer_io.specs.Inlet.{InletReading}
+use Rattle.outer_io.specs.Links.{LinksReading}
+use Rattle.node_talk.specs.declared.fault.NodeFault.{NodeFault}
+use Rattle.node_talk.specs.Talks.{Node, IsPeer, expected, expected_at, place_of}
+use Rattle.node_talk.specs.PeerLinks.{place_among, no_inlet, in_from}
+use Rattle.node_talk.proofs.ExpectedPlaces.{between_parties, Expected, expected_there}
+use Rattle.link_reader.specs.Heard.{StaysSteady}
+use Rattle.link_reader.specs.NodeReaders.{incoming, ReadsFrom}
+use Rattle.link_reader.specs.ReadWords.{Reads}
+use Rattle.link_reader.proofs.Runs.{came_so_far, whole_words}
+use Rattle.node_run.specs.Mail.{Mail, IsRead, IsMail, place_to, no_box, box_of}
+use Rattle.node_run.specs.Progress.{Begin, IsOf}
+use Rattle.node_run.specs.Remains.{party_at, PeerEnd, first_of, AllEnd, AllStaySteady}
+use Rattle.node_run.specs.NodeRuns.{GaveAll}
+use Rattle.node_run.proofs.ReaderRuns.{stays_steady}
+
+-- ---- places of peers
+
+pub party_there : (p q : ℕ) → q ≢ p → party_at p (place_among p q) ≡ q
+party_there p q ne = grind (arith, nat_tests)
+
+pub place_there : (p place : ℕ) → place_among p (party_at p place) ≡ place
+place_there p place = grind (arith, nat_tests)
+
+pub place_less : (p q r : ℕ) → q ≢ p → r ≢ p → r < q → place_among p r < place_among p q
+place_less p q r nq nr l = grind (arith, nat_tests)
+
+-- ---- reader after reader
+
+-- the words that each reader read
+pub words_of : (n : Node) (now : Mail) (place : ℕ) (befores afters : List InletReading) (fault : Option NodeFault) → AllEnd n now place befores afters fault → List (List ℕ)
+words_of n now place [] [] fault h = []
+words_of n now place [] (a ∷ afters) fault h = absurd h
+words_of n now place (b ∷ befores) [] fault h = absurd h
+words_of n now place (b ∷ befores) (a ∷ afters) fault h = h.1.words ∷ words_of n now (suc place) befores afters h.2.0 h.2.1
+
+-- how the reader at a place ended
+pub record EndAt (n : Node) (now : Mail) (place : ℕ) (before after : InletReading) (words : List ℕ) (fault : Option NodeFault) : Type 0 where
+  pub result : Result (Unit {0}) NodeFault
+  pub end : PeerEnd n now place before after result
+  pub same : end.words ≡ words
+  pub none : fault ≡ None → is_err result ≡ false
+
+no_first : (result : Result (Unit {0}) NodeFault) (fault later : Option NodeFault) → fault ≡ first_of result later → fault ≡ None → (is_err result ≡ false) × (later ≡ None)
+no_first (Ok u) fault later e none = (refl, sym e ∙ none)
+no_first (Err x) fault later e none = absurd (let f : Some x ≡ None = sym e ∙ none in cc)
+
+pub end_at : (n : Node) (now : Mail) (place : ℕ) (befores afters : List InletReading) (fault : Option NodeFault) (h : AllEnd n now place befores afters fault) (k p : ℕ) → k < length befores → p ≡ place + k
+    → EndAt n now p (slice_index_or befores k no_inlet) (slice_index_or afters k no_inlet) (slice_index_or (words_of n now place befores afters fault h) k []) fault
+unfolding words_of
+end_at n now place [] afters fault h k p l e = absurd (omega arith)
+end_at n now place (b ∷ befores) [] fault h k p l e = absurd h
+end_at n now place (b ∷ befores) (a ∷ afters) fault h zero p l e = subst (λ z. EndAt n now z b a h.1.words fault) (let x : place ≡ p = omega arith in x) (record {
+  result = h.0;
+  end = h.1;
+  same = refl;
+  none = λ none. (no_first h.0 fault h.2.0 h.2.2 none).0;
+})
+end_at n now place (b ∷ befores) (a ∷ afters) fault h (suc k) p l e =
+    let r = end_at n now (suc place) befores afters h.2.0 h.2.1 k p (omega arith) (omega arith) in
+    record { result = r.result; end = r.end; same = r.same; none = λ none. r.none (no_first h.0 fault h.2.0 h.2.2 none).1 }
+
+-- the first reader that ended by a fault
+pub record FirstEnd (n : Node) (now : Mail) (place : ℕ) (befores afters : List InletReading) (fault : NodeFault) : Type 0 where
+  pub k : ℕ
+  pub within : k < length befores
+  pub end : (p : ℕ) → p ≡ place + k → PeerEnd n now p (slice_index_or befores k no_inlet) (slice_index_or afters k no_inlet) (Err fault)
+  pub whole : (j p : ℕ) → j < k → p ≡ place + j → PeerEnd n now p (slice_index_or befores j no_inlet) (slice_index_or afters j no_inlet) (Ok tt)
+
+whole_end : (n : Node) (now : Mail) (place : ℕ) (b a : InletReading) (u : Unit {0}) → PeerEnd n now place b a (Ok u) → PeerEnd n now place b a (Ok tt)
+whole_end n now place b a u h = record { words = h.words; reads = h.reads; got = h.got }
+
+first_by : (n : Node) (now : Mail) (place : ℕ) (b a : InletReading) (befores afters : List InletReading) (result : Result (Unit {0}) NodeFault) (fault : NodeFault) (later : Option NodeFault)
+    → PeerEnd n now place b a result → Some fault ≡ first_of result later → (later ≡ Some fault → FirstEnd n now (suc place) befores afters fault) → FirstEnd n now place (b ∷ befores) (a ∷ afters) fault
+first_by n now place b a befores afters (Ok u) fault later h e more =
+    let r = more (sym e) in
+    record {
+      k = suc r.k;
+      within = (let w = r.within in omega arith);
+      end = λ p at. r.end p (omega arith);
+      whole = λ j p l at. whole_at r j p l at;
+    }
+  where
+    whole_at : (r : FirstEnd n now (suc place) befores afters fault) (j p : ℕ) → j < suc r.k → p ≡ place + j → PeerEnd n now p (slice_index_or (b ∷ befores) j no_inlet) (slice_index_or (a ∷ afters) j no_inlet) (Ok tt)
+    whole_at r zero p l at = subst (λ z. PeerEnd n now z b a (Ok tt)) (let x : place ≡ p = omega arith in x) (whole_end n now place b a u h)
+    whole_at r (suc j) p l at = r.whole j p (omega arith) (omega arith)
+first_by n now place b a befores afters (Err x) fault later h e more =
+    let same : x ≡ fault = (let f : Some fault ≡ Some x = e in cc) in
+    record {
+      k = 0;
+      within = omega arith;
+      end = λ p at. subst (λ z. PeerEnd n now z b a (Err fault)) (let y : place ≡ p = omega arith in y) (subst (λ z. PeerEnd n now place b a (Err z)) same h);
+      whole = λ j p l at. absurd (omega arith);
+    }
+
+pub first_end : (n : Node) (now : Mail) (place : ℕ) (befores afters : List InletReading) (fault : Option NodeFault) (x : NodeFault) → AllEnd n now place befores afters fault → fault ≡ Some x → FirstEnd n now place befores afters x
+first_end n now place [] [] fault x h e = absurd (let f : None ≡ Some x = sym h ∙ e in cc)
+first_end n now place [] (a ∷ afters) fault x h e = absurd h
+first_end n now place (b ∷ befores) [] fault x h e = absurd h
+first_end n now place (b ∷ befores) (a ∷ afters) fault x h e =
+    first_by n now place b a befores afters h.0 x h.2.0 h.1 (sym e ∙ h.2.2) (λ more. first_end n now (suc place) befores afters h.2.0 x h.2.1 more)
+
+-- each inlet stayed steady
+pub stays_at : (befores afters : List InletReading) (k : ℕ) → AllStaySteady befores afters → StaysSteady (slice_index_or befores k no_inlet) (slice_index_or afters k no_inlet)
+stays_at [] [] k h = stays_steady no_inlet
+stays_at [] (a ∷ afters) k h = absurd h
+stays_at (b ∷ befores) [] k h = absurd h
+stays_at (b ∷ befores) (a ∷ afters) zero h = h.0
+stays_at (b ∷ befores) (a ∷ afters) (suc k) h = stays_at befores afters k h.1
+
+-- ---- peer by peer
+
+-- what was read of q, and that the party got no other words and no other mark of its inbox
+pub record PeerRead (n : Node) (now : Mail) (before after : LinksReading) (q : ℕ) (words : List ℕ) (result : Result (Unit {0}) NodeFault) : Type 0 where
+  pub reads : ReadsFrom n q words before after result
+  pub got : GotWhatWasPushed words (mark_of (is_err result)) (box_of now q).view
+
+pub peer_read : (n : Node) (now : Mail) (before after : LinksReading) (q : ℕ) (result : Result (Unit {0}) NodeFault) → now.me ≡ n.me → q ≢ n.me
+    → (h : PeerEnd n now (place_among n.me q) (slice_index_or before.inlets (place_among n.me q) no_inlet) (slice_index_or after.inlets (place_among n.me q) no_inlet) result)
+    → PeerRead n now before after q h.words result
+peer_read n now before after q result me other h = record {
+  reads = subst (λ z. Reads (incoming n z) h.words (in_from n before q) (in_from n after q) result) (party_there n.me q other) h.reads;
+  got = subst (λ z. GotWhatWasPushed h.words (mark_of (is_err result)) (slice_index_or now.boxes (place_among z q) no_box).view) (sym me) h.got;
+}
+
+-- ---- words that were taken
+
+-- a word that is kept is the one that its sender's reader read, at the message's place
+pub record WordRead (n : Node) (m v : ℕ) (words : List ℕ) : Type 0 where
+  pub within : place_of n m < length words
+  pub word : v ≡ slice_index words (place_of n m)
+
+small_word : (n : Node) (q : ℕ) (words : List ℕ) (before after : LinksReading) (result : Result (Unit {0}) NodeFault) (place : ℕ) → place < length words → ReadsFrom n q words before after result → slice_index words place < 2 ^ n.world.plan.bits
+small_word n q words before after result place l reads =
+    let c = came_so_far (incoming n q) words (in_from n before q) (in_from n after q) result (omega arith) reads in
+    every_at (λ w. w < 2 ^ n.world.plan.bits) words place (pow_pos n.world.plan.bits) c.1.small
+
+module _ (n : Node) (start : Begin) (now : Mail) (own : IsOf n start now) (mail : IsMail now) (m v : ℕ) (is : plain_cell now.words.cells m ≡ Some v) where
+  r : IsRead now m v
+  r = mail.read m v is
+
+  pub there : m < length (messages n.world.plan)
+  there = subst (λ z. m < length (messages z)) own.plan (mail.read m v is).there
+
+  pub receiver : (message n.world.plan m).receiver ≡ n.me
+  receiver = subst (λ z. (message z m).receiver ≡ n.me) own.plan ((mail.read m v is).receiver ∙ own.me)
+
+  pub sender : IsPeer n (message n.world.plan m).sender
+  sender =
+      let b = between_parties n own.part m (subst (λ z. m < length (messages z)) own.plan (mail.read m v is).there) in
+      (b.sender, λ e. b.apart (e ∙ sym (subst (λ z. (message z m).receiver ≡ n.me) own.plan ((mail.read m v is).receiver ∙ own.me))))
+
+  pub word_read : (before after : LinksReading) (words : List ℕ) (result : Result (Unit {0}) NodeFault) → PeerRead n now before after (message n.world.plan m).sender words result → WordRead n m v words
+  word_read before after words result p =
+      let x = mail.read m v is in
+      let place : slice_index now.places m ≡ place_of n m = mail.placed m x.there x.receiver ∙ ap (λ z. place_to z now.me m) own.plan ∙ ap (λ z. place_to n.world.plan z m) own.me in
+      let known : Knows (box_of now (message n.world.plan m).sender).view.seen (place_of n m) x.found =
+      subst (λ z. Knows (box_of now (message n.world.plan m).sender).view.seen z x.found) place (subst (λ z. Knows (box_of now (message z m).sender).view.seen (slice_index now.places m) x.found) own.plan x.known) in
+      let k = p.got.known (place_of n m) x.found known in
+      let small : x.found < 2 ^ n.world.plan.bits = subst (λ z. z < 2 ^ n.world.plan.bits) k.1 (small_word n (message n.world.plan m).sender words before after result (place_of n m) k.0 p.reads) in
+      record {
+        within = k.0;
+        word = x.reduced ∙ ap (λ z. x.found % 2 ^ z.bits) own.plan ∙ mod-eq_of_lt small ∙ sym k.1;
+      }
+
+-- ---- words as a function of messages
+
+-- the word that stands among these at the place of a message
+abbrev pub word_at : Node → List ℕ → Key → ℕ
+word_at n words key = slice_index words (place_of n (number n.world.plan key))
+
+pub word_at_place : (n : Node) (q : ℕ) (words : List ℕ) (place : ℕ) → place < length (expected n q) → word_at n words (expected_at n q place) ≡ slice_index words place
+word_at_place n q words place l =
+    let x : Expected n q place = expected_there n q place l in
+    ap (word_at n words) (sym x.same) ∙ ap (λ z. slice_index words (place_of n z)) ((numbers_are_inverse n.world.plan).0 x.number x.there) ∙ ap (slice_index words) x.place_is
+
+-- a reader that read all that is expected gave all
+pub gave_all : (n : Node) (q : ℕ) (words : List ℕ) (before after : LinksReading) → ReadsFrom n q words before after (Ok tt) → GaveAll n before after q
+gave_all n q words before after reads =
+    let w = whole_words n q (word_at n words) words before after reads (let l = reads.1 in omega (arith, l), λ place l. word_at_place n q words place l) in
+    (word_at n words, w.1, w.0)

@@ -1,0 +1,160 @@
+-- How a run begins: with what was kept ready, nothing is done yet.
+use Rattle.std.proofs.Common.{◌≡◌, ◌≢◌, ℕ, ◌+◌, ◌-◌, ◌<◌, List, [], length, get_or, refl, sym, ap, ◌∙◌, subst, arith, Some, None}
+use Rattle.std.specs.Prelude.{slice_index_or}
+use Rattle.std.proofs.Math.ListN.{length-map}
+use Rattle.job_plan.specs.Plans.{Plan}
+use Rattle.job_plan.specs.Messages.{messages}
+use Rattle.job_plan.specs.Numbers.{message}
+use Rattle.program_laws.specs.Parts.{IsPart}
+use Rattle.desk_laws.proofs.Elements.{element_there, stands_at}
+use Rattle.outer_io.specs.Links.{LinksReading, HasPeers}
+use Rattle.outer_io.specs.Sink.{SinkReading}
+use Rattle.node_talk.specs.Talks.{Node, messages_between}
+use Rattle.node_talk.specs.PeerLinks.{place_among, no_outlet, out_to}
+use Rattle.node_talk.proofs.ExpectedPlaces.{placed}
+use Rattle.link_reader.specs.Expected.{HasPlaces, TalkModel}
+use Rattle.node_run.specs.Mail.{Mail, BoxModel, IsMail, no_box, outlet_to}
+use Rattle.node_run.specs.Progress.{Begin, Greeted, ids_of}
+use Rattle.node_run.specs.Remains.{ReaderPartsModel, party_at, IsFor, MayRun}
+use Rattle.node_run.specs.Ready.{Share, IsNodeOf, Kept, IsReady, ArePeersReady, IsPeerReady}
+use Rattle.node_run.proofs.CellChanges.{place_within}
+use Rattle.link_reader.proofs.ExpectedMessages.{between_parties}
+use Rattle.node_run.proofs.HelloSteps.{all_greeted}
+use Rattle.node_run.proofs.PeerEnds.{party_there}
+use Rattle.node_run.proofs.ReaderRuns.{id_of}
+use Rattle.node_run.proofs.Shares.{is_part, new_desk, new_position}
+
+-- what is kept when a run begins, over these outlets
+abbrev pub first_mail : Share → Kept → List SinkReading → Mail
+first_mail share kept outlets =
+    record {
+      plan = share.plan;
+      me = share.me;
+      outlets = outlets;
+      words = kept.words;
+      boxes = kept.boxes;
+      places = kept.places;
+      failed = None;
+    }
+
+-- the peer at a place is ready
+pub ready_at : (plan : Plan) (me : ℕ) (digest : List ℕ) (count : ℕ) (boxes : List BoxModel) (readers : List ReaderPartsModel) → ArePeersReady plan me digest count boxes readers → (place : ℕ) (d : ReaderPartsModel) → place < length readers
+    → IsPeerReady plan me digest (party_at me place) (slice_index_or boxes place no_box) (get_or readers place d)
+ready_at plan me digest count boxes readers h place d l =
+    let x = element_there readers place l in
+    subst (IsPeerReady plan me digest (party_at me place) (slice_index_or boxes place no_box)) (sym (stands_at readers place x.0 d x.1).1) (h.each place x.0 x.1)
+
+-- what is expected of the peer at a place, by equal parts
+abbrev talk_at : Plan → ℕ → List ℕ → ℕ → TalkModel
+talk_at plan me digest k =
+    record { peer = party_at me k; me = me; digest = digest; bits = plan.bits; keys = messages_between plan (party_at me k) me }
+
+talk_of : (plan plan' : Plan) (me me' : ℕ) (digest digest' : List ℕ) (k : ℕ) → plan ≡ plan' → me ≡ me' → digest ≡ digest' → talk_at plan me digest k ≡ talk_at plan' me' digest' k
+talk_of plan plan' me me' digest digest' k p q r = ap (λ z. talk_at z me digest k) p ∙ ap (λ z. talk_at plan' z digest k) q ∙ ap (λ z. talk_at plan' me' z k) r
+
+module _ (share : Share) (kept : Kept) (h : IsReady share kept) where
+  -- some party of the plan
+  some : Node
+  some = record { world = record { plan = share.plan; inputs = []; tapes = [] }; me = share.me; digest = [] }
+
+  pub is_mail : (outlets : List SinkReading) → length outlets ≡ share.plan.parties - 1 → IsMail (first_mail share kept outlets)
+  unfolding some
+  is_mail outlets many =
+      let party = h.fits.party in
+      let p : HasPlaces some kept.places = h.places some refl refl in
+      record {
+        sound = h.fits.sound;
+        me = party;
+        outlets = omega (arith, many, party);
+        boxes = (let b = h.peers.box_count in omega (arith, b, party));
+        cells = h.words.count;
+        bits = h.words.bits;
+        places = p.count;
+        placed = λ m lm to. p.each m lm;
+        room = λ m lm to.
+            let b = between_parties share.plan h.fits.sound m lm in
+            let q : ℕ = (message share.plan m).sender in
+            let other : q ≢ share.me = λ e. b.apart (e ∙ sym to) in
+            let less : place_among share.me q < length kept.readers =
+            place_within share.me q share.plan.parties (length kept.readers) b.sender other party (let r = h.peers.reader_count in omega (arith, r, party)) in
+            let x = element_there kept.readers (place_among share.me q) less in
+            let ready = h.peers.each (place_among share.me q) x.0 x.1 in
+            let places : (slice_index_or kept.boxes (place_among share.me q) no_box).places ≡ length (messages_between share.plan q share.me) =
+            ready.places ∙ ap (λ z. length (messages_between share.plan z share.me)) (party_there share.me q other) in
+            let at = p.each m lm in
+            let within = (placed some m lm to).0 in
+            omega (arith, places, at, within);
+        read = λ m v e. absurd (let f : None ≡ Some v = sym (h.words.empty m) ∙ e in cc);
+      }
+
+  -- over an equal plan
+  pub is_mail_at : (plan : Plan) → plan ≡ share.plan → (outlets : List SinkReading) → length outlets ≡ share.plan.parties - 1
+      → IsMail (record { plan = plan; me = share.me; outlets = outlets; words = kept.words; boxes = kept.boxes; places = kept.places; failed = None })
+  is_mail_at plan same outlets many =
+      subst (λ z. IsMail (record { plan = z; me = share.me; outlets = outlets; words = kept.words; boxes = kept.boxes; places = kept.places; failed = None })) (sym same) (is_mail outlets many)
+
+  module _ (n : Node) (of : IsNodeOf share n) (before : LinksReading) (peers : HasPeers (share.plan.parties - 1) before) where
+    part : IsPart n.world n.me
+    part = is_part share h.fits n of
+
+    -- what the run begins with
+    abbrev begin : Begin
+    begin = record { links = before; ids = ids_of kept.boxes }
+
+    -- no hello is sent yet
+    pub greeted : Greeted n 0 (record { links = before; ids = ids_of kept.boxes }) (first_mail share kept before.outlets)
+    greeted = record {
+      own = record {
+        part = is_part share h.fits n of;
+        digest = ap (λ z. length z) of.digest ∙ h.fits.digest;
+        plan = sym of.plan;
+        me = sym of.me;
+        ids = refl;
+        cells = h.words.count ∙ ap (λ z. length (messages z)) (sym of.plan);
+      };
+      words = h.words.empty;
+      sent = λ r peer l. absurd (omega arith);
+      calm = λ r peer. ap (λ z. z.faults) (same r);
+      room = λ r peer l. absurd (omega arith);
+      others = λ r peer l. same r;
+      quiet = refl;
+    }
+      where
+        same : (r : ℕ) → outlet_to (first_mail share kept before.outlets) r ≡ out_to n before r
+        same r = ap (λ z. slice_index_or before.outlets (place_among z r) no_outlet) (sym of.me)
+
+    pub greeted_at : (plan : Plan) → plan ≡ share.plan → Greeted n 0 (record { links = before; ids = ids_of kept.boxes })
+        (record { plan = plan; me = share.me; outlets = before.outlets; words = kept.words; boxes = kept.boxes; places = kept.places; failed = None })
+    greeted_at plan same =
+        subst (λ z. Greeted n 0 (record { links = before; ids = ids_of kept.boxes }) (record { plan = z; me = share.me; outlets = before.outlets; words = kept.words; boxes = kept.boxes; places = kept.places; failed = None })) (sym same) greeted
+
+    pub had_peers : HasPeers (n.world.plan.parties - 1) before
+    had_peers = subst (λ z. HasPeers (z.parties - 1) before) (sym of.plan) peers
+
+    -- all hellos are sent, and the readers may be started
+    pub may_run : (now : Mail) → Greeted n n.world.plan.parties (record { links = before; ids = ids_of kept.boxes }) now → MayRun n (record { links = before; ids = ids_of kept.boxes }) 0 kept.readers kept.desks now
+    may_run now g = record {
+      order = record {
+        many = h.desks.count ∙ ap (λ z. length z.sessions) (sym of.plan);
+        done = λ got ag t d l. absurd (omega arith);
+        ended = λ t d l. absurd (omega arith);
+        new = λ got t d l lt. new_desk share h.fits n of kept.desks h.desks got t d lt;
+        still = λ t d l lt. new_position share h.fits n of kept.desks h.desks t d lt;
+        going = all_greeted n (record { links = before; ids = ids_of kept.boxes }) now g;
+      };
+      empty = g.words;
+      ids = (let a = boxes in let b = h.peers.box_count in let c = h.fits.party in let d = ap (λ z. z.parties) of.plan in omega (arith, a, b, c, d));
+      count = (let a = boxes in let b = h.peers.box_count in let c = h.peers.reader_count in omega (arith, a, b, c));
+      parts = λ k d l. subst (λ z. IsFor n (record { links = before; ids = ids_of kept.boxes }) z (get_or kept.readers k d)) (let at : k ≡ 0 + k = omega arith in at) (is_for k d l);
+    }
+      where
+        boxes : length (ids_of kept.boxes) ≡ length kept.boxes
+        boxes = length-map kept.boxes (λ (b : BoxModel). b.id)
+
+        is_for : (k : ℕ) (d : ReaderPartsModel) → k < length kept.readers → IsFor n (record { links = before; ids = ids_of kept.boxes }) k (get_or kept.readers k d)
+        is_for k d l =
+            let r = ready_at share.plan share.me share.digest (share.plan.parties - 1) kept.boxes kept.readers h.peers k d l in
+            record {
+              talk = r.talk ∙ talk_of share.plan n.world.plan share.me n.me share.digest n.digest k (sym of.plan) (sym of.me) (sym of.digest);
+              id = r.id ∙ id_of kept.boxes k;
+            }

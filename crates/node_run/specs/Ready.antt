@@ -1,0 +1,96 @@
+-- What a party runs with, and what is kept ready for its run.
+use Rattle.std.specs.Prelude.{◌≡◌, ℕ, ◌-◌, ◌<◌, List, [], length, map, slice_get, slice_index_or, None, Some}
+use Rattle.std.specs.Global.{Vec}
+use Rattle.std.specs.List.{concat}
+use Rattle.inbox_board.specs.Rule.{newcomer}
+use Rattle.message_board.specs.Plain.{CellContents, plain_cell}
+use Rattle.job_plan.specs.Plans.{Plan}
+use Rattle.job_plan.specs.Sound.{IsSound}
+use Rattle.job_plan.specs.Messages.{messages}
+use Rattle.job_plan.specs.InputWords.{session_words}
+use Rattle.party_file.specs.Table.{PartyForm}
+use Rattle.party_file.specs.Forms.{FitsPlan}
+use Rattle.party_desk.specs.declared.desk.Desk.{Desk}
+use Rattle.party_desk.specs.Desks.{IsNew}
+use Rattle.node_talk.specs.Talks.{Node, messages_between}
+use Rattle.link_reader.specs.Expected.{HasPlaces}
+use Rattle.node_run.specs.Mail.{BoxModel, no_box}
+use Rattle.node_run.specs.Remains.{ReaderPartsModel, party_at}
+
+-- the plan, which party, its inputs and the pieces of its tape by session, and the job's digest
+pub record Share : Type 0 where
+  pub plan : Plan
+  pub me : ℕ
+  pub given : PartyForm
+  pub digest : List ℕ
+
+-- these inputs and these pieces of tape, by session
+abbrev pub given_words : List (Vec ℕ) → List (List ℕ) → PartyForm
+given_words inputs tapes = record { inputs = session_words inputs; tapes = tapes }
+
+-- the inputs that desks have, and the words that are left of their tapes
+abbrev pub given_to : List Desk → PartyForm
+given_to desks = record {
+  inputs = map (λ (d : Desk). d.memory.inputs.items) desks;
+  tapes = map (λ (d : Desk). d.memory.tape) desks;
+}
+
+-- a party of a world in which it has this share
+pub record IsNodeOf (share : Share) (n : Node) : Type 0 where
+  pub plan : n.world.plan ≡ share.plan
+  pub me : n.me ≡ share.me
+  pub inputs : slice_index_or n.world.inputs share.me [] ≡ share.given.inputs
+  pub tape : slice_index_or n.world.tapes share.me [] ≡ concat share.given.tapes
+  pub digest : n.digest ≡ share.digest
+
+-- a plan within the limits, a party of it, what it gives fits the plan, and a digest of 32 bytes
+pub record IsShare (share : Share) : Type 0 where
+  pub sound : IsSound share.plan
+  pub party : share.me < share.plan.parties
+  pub fits : FitsPlan share.plan share.me share.given
+  pub digest : length share.digest ≡ 32
+
+-- what is kept ready: desks, cells, inboxes, where each message stands in its sender's inbox, and readers
+pub record Kept : Type 0 where
+  pub desks : List Desk
+  pub words : CellContents
+  pub boxes : List BoxModel
+  pub places : List ℕ
+  pub readers : List ReaderPartsModel
+
+-- a new desk for each session, with its inputs and its piece of tape
+pub record AreOpened (plan : Plan) (me : ℕ) (given : PartyForm) (desks : List Desk) : Type 0 where
+  pub count : length desks ≡ length plan.sessions
+  pub each : (s : ℕ) (d : Desk) → slice_get desks s ≡ Some d
+      → IsNew plan me s (slice_index_or given.inputs s []) (slice_index_or given.tapes s []) d
+
+-- an empty cell for each message, for words of the ring
+pub record AreEmptyCells (plan : Plan) (words : CellContents) : Type 0 where
+  pub count : length words.cells ≡ length (messages plan)
+  pub empty : (m : ℕ) → plain_cell words.cells m ≡ None
+  pub bits : words.bits ≡ plan.bits
+
+-- an empty inbox with a place for each message from q, and the reader that fills it
+pub record IsPeerReady (plan : Plan) (me : ℕ) (digest : List ℕ) (q : ℕ) (box : BoxModel) (reader : ReaderPartsModel)
+    : Type 0 where
+  pub places : box.places ≡ length (messages_between plan q me)
+  pub view : box.view ≡ newcomer 0
+  pub talk : reader.talk
+      ≡ record { peer = q; me = me; digest = digest; bits = plan.bits; keys = messages_between plan q me }
+  pub id : reader.id ≡ box.id
+
+-- these for each of the first peers, as many as are counted
+pub record ArePeersReady (plan : Plan) (me : ℕ) (digest : List ℕ) (count : ℕ) (boxes : List BoxModel)
+    (readers : List ReaderPartsModel) : Type 0 where
+  pub box_count : length boxes ≡ count
+  pub reader_count : length readers ≡ count
+  pub each : (place : ℕ) (reader : ReaderPartsModel) → slice_get readers place ≡ Some reader
+      → IsPeerReady plan me digest (party_at me place) (slice_index_or boxes place no_box) reader
+
+-- all is ready for the run of this share, and nothing is done yet
+pub record IsReady (share : Share) (kept : Kept) : Type 0 where
+  pub fits : IsShare share
+  pub desks : AreOpened share.plan share.me share.given kept.desks
+  pub words : AreEmptyCells share.plan kept.words
+  pub peers : ArePeersReady share.plan share.me share.digest (share.plan.parties - 1) kept.boxes kept.readers
+  pub places : (n : Node) → n.world.plan ≡ share.plan → n.me ≡ share.me → HasPlaces n kept.places
