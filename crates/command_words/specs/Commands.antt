@@ -3,19 +3,21 @@ use Rattle.std.specs.Prelude.{ℕ, ◌<◌, ◌≤◌, ◌==◌, ◌&&◌, nat_l
 use Rattle.std.specs.Str.{bytes_eq}
 use Rattle.text_tokens.specs.Numbers.{number_written}
 use Rattle.command_words.specs.declared.command.Command.{Command}
-use Rattle.command_words.specs.declared.command.Command.TheVariants.{Run, Check, Pair, Sample}
+use Rattle.command_words.specs.declared.command.Command.TheVariants.{Run, Check, Pair, Node, Sample}
 
 -- a command, with the bytes of its words; a run may ask for the view of a group
 pub data CommandForm : Type 0 where
   run : (dir : List ℕ) → (workers : ℕ) → (view : Option (List ℕ)) → CommandForm
   check : (dir : List ℕ) → CommandForm
   pair : (dir : List ℕ) → (group : List ℕ) → CommandForm
+  node : (dir : List ℕ) → (name : List ℕ) → CommandForm
   sample : (count : ℕ) → CommandForm
 
 abbrev pub form_of : Command → CommandForm
 form_of (Run dir workers view) = run dir.now workers (option_map (λ group. group.now) view)
 form_of (Check dir) = check dir.now
 form_of (Pair dir group) = pair dir.now group.now
+form_of (Node dir name) = node dir.now name.now
 form_of (Sample count) = sample count
 
 -- a run has 1 to 16 workers, and a sample 1 to 65,536 gates
@@ -23,9 +25,10 @@ abbrev pub IsInRange : Command → Type 0
 IsInRange (Run dir workers view) = (0 < workers) × (workers ≤ 16)
 IsInRange (Check dir) = Unit
 IsInRange (Pair dir group) = Unit
+IsInRange (Node dir name) = Unit
 IsInRange (Sample count) = (0 < count) × (count ≤ 65536)
 
--- a word that can be a folder or a group: not empty, and not beginning with `-`
+-- a word that can be a folder, a group or a party: not empty, and not beginning with `-`
 abbrev pub is_plain : List ℕ → Bool
 is_plain [] = false
 is_plain (c ∷ cs) = not (c == 45)
@@ -84,6 +87,13 @@ pair_asked dir (option ∷ group ∷ []) =
     if bytes_eq option (codes "--group") && is_plain group then Some (pair dir group) else None
 pair_asked dir options = None
 
+-- ---- a node
+
+-- a node of a folder, after which the name of its party stands
+abbrev pub node_asked : List ℕ → List (List ℕ) → Option CommandForm
+node_asked dir (name ∷ []) = if is_plain name then Some (node dir name) else None
+node_asked dir options = None
+
 -- ---- a sample
 
 -- a sample of as many gates as a word tells, after which no word stands
@@ -93,13 +103,17 @@ sample_asked word options = None
 
 -- ---- a command
 
--- the command of some words, of which the first is the program's name; none where they are none of the forms
-abbrev pub command_of : List (List ℕ) → Option CommandForm
-command_of (program ∷ verb ∷ dir ∷ options) =
-    if not (is_plain dir) then None
-    else if bytes_eq verb (codes "run") then run_asked dir options
+-- what a verb asks for in a folder, after which these words stand
+abbrev pub asked : List ℕ → List ℕ → List (List ℕ) → Option CommandForm
+asked verb dir options =
+    if bytes_eq verb (codes "run") then run_asked dir options
     else if bytes_eq verb (codes "check") then check_asked dir options
     else if bytes_eq verb (codes "pair") then pair_asked dir options
+    else if bytes_eq verb (codes "node") then node_asked dir options
     else if bytes_eq verb (codes "sample") then sample_asked dir options
     else None
+
+-- the command of some words, of which the first is the program's name; none where they are none of the forms
+abbrev pub command_of : List (List ℕ) → Option CommandForm
+command_of (program ∷ verb ∷ dir ∷ options) = if is_plain dir then asked verb dir options else None
 command_of words = None

@@ -1,7 +1,7 @@
 //! Commands, and the words that ask for them.
 ghost use Rattle.std.specs.Prelude.{◌≡◌, map, Some, None, IfOk, IfSome, OnErr, [], ◌∷◌, option_map, string_bytes};
 ghost use Rattle.command_words.specs.Commands.{is_plain, count_up_to, is_workers, is_view, run_by, run_seen, run_by_seen};
-ghost use Rattle.command_words.specs.Commands.{run_asked, pair_asked, sample_asked, command_of, form_of, IsInRange};
+ghost use Rattle.command_words.specs.Commands.{run_asked, check_asked, pair_asked, node_asked, sample_asked, asked, command_of, form_of, IsInRange};
 
 use text_tokens::number;
 
@@ -24,6 +24,11 @@ pub enum Command<'w> {
     Pair {
         dir: &'w str,
         group: &'w str,
+    },
+    /// `node DIR NAME`: runs the party of this name, by itself, in the job of the folder.
+    Node {
+        dir: &'w str,
+        name: &'w str,
     },
     /// `sample N`: makes a job of so many gates, 1 to 65,536, and runs it.
     Sample {
@@ -169,6 +174,18 @@ fn run_asked<'w>(dir: &'w str, options: &'w [String]) -> Option<Command<'w>>
     }
 }
 
+/// A check of a folder, after which these words stand.
+fn check_asked<'w>(dir: &'w str, options: &[String]) -> Option<Command<'w>>
+    ensures form { option_map form_of result ≡ check_asked dir.now (map string_bytes options.now) }
+    ensures range { IfSome result IsInRange }
+{
+    if options.is_empty() {
+        Some(Command::Check { dir })
+    } else {
+        None
+    }
+}
+
 /// A pair of runs of a folder, after which these words stand.
 fn pair_asked<'w>(dir: &'w str, options: &'w [String]) -> Option<Command<'w>>
     ensures form { option_map form_of result ≡ pair_asked dir.now (map string_bytes options.now) }
@@ -180,6 +197,22 @@ fn pair_asked<'w>(dir: &'w str, options: &'w [String]) -> Option<Command<'w>>
     let group = options[1].as_str();
     if options[0].as_str() == "--group" && is_plain(group) {
         Some(Command::Pair { dir, group })
+    } else {
+        None
+    }
+}
+
+/// A node of a folder, after which these words stand.
+fn node_asked<'w>(dir: &'w str, options: &'w [String]) -> Option<Command<'w>>
+    ensures form { option_map form_of result ≡ node_asked dir.now (map string_bytes options.now) }
+    ensures range { IfSome result IsInRange }
+{
+    if options.len() != 1 {
+        return None;
+    }
+    let name = options[0].as_str();
+    if is_plain(name) {
+        Some(Command::Node { dir, name })
     } else {
         None
     }
@@ -197,6 +230,26 @@ fn sample_asked<'w>(word: &str, options: &[String]) -> Option<Command<'w>>
     Some(Command::Sample { count })
 }
 
+/// What a verb asks for in a folder, after which these words stand.
+fn asked<'w>(verb: &str, dir: &'w str, options: &'w [String]) -> Option<Command<'w>>
+    ensures form { option_map form_of result ≡ asked verb.now dir.now (map string_bytes options.now) }
+    ensures range { IfSome result IsInRange }
+{
+    if verb == "run" {
+        run_asked(dir, options)
+    } else if verb == "check" {
+        check_asked(dir, options)
+    } else if verb == "pair" {
+        pair_asked(dir, options)
+    } else if verb == "node" {
+        node_asked(dir, options)
+    } else if verb == "sample" {
+        sample_asked(dir, options)
+    } else {
+        None
+    }
+}
+
 fn command_of(words: &[String]) -> Option<Command<'_>>
     ensures form { option_map form_of result ≡ command_of (map string_bytes words.now) }
     ensures range { IfSome result IsInRange }
@@ -205,19 +258,8 @@ fn command_of(words: &[String]) -> Option<Command<'_>>
         return None;
     }
     let dir = words[2].as_str();
-    if !is_plain(dir) {
-        return None;
-    }
-    let verb = words[1].as_str();
-    let options = &words[3..];
-    if verb == "run" {
-        run_asked(dir, options)
-    } else if verb == "check" && options.is_empty() {
-        Some(Command::Check { dir })
-    } else if verb == "pair" {
-        pair_asked(dir, options)
-    } else if verb == "sample" {
-        sample_asked(dir, options)
+    if is_plain(dir) {
+        asked(words[1].as_str(), dir, &words[3..])
     } else {
         None
     }
@@ -228,9 +270,9 @@ fn command_of(words: &[String]) -> Option<Command<'_>>
 /// # Errors
 ///
 /// `Refused` where the words, after the first, are none of the forms `run DIR [--workers W] [--view GROUP]`,
-/// `check DIR`, `pair DIR --group GROUP` and `sample N`. The two options of `run` stand in either order, each at most
-/// once. DIR and GROUP aren't empty and don't begin with `-`. W is one or more digits with a value from 1 to 16, and N
-/// with one from 1 to 65,536.
+/// `check DIR`, `pair DIR --group GROUP`, `node DIR NAME` and `sample N`. The two options of `run` stand in either order,
+/// each at most once. DIR, GROUP and NAME aren't empty and don't begin with `-`. W is one or more digits with a value
+/// from 1 to 16, and N with one from 1 to 65,536.
 pub fn read_command(words: &[String]) -> Result<Command<'_>, Refused>
     ensures taken { IfOk result (λ command. command_of (map string_bytes words.now) ≡ Some (form_of command)) }
     ensures range { IfOk result IsInRange }

@@ -87,7 +87,7 @@ fields_fault node fields = first_fault
     ∷ [])
 
 unfoldable pub ring_fault : Members → Option JobFault
-ring_fault fields = not (is_within (pos 1) (pos 32) (integer RingBits fields)) answers BadRing (integer RingBits fields)
+ring_fault fields = not (is_within (pos 1) (pos 64) (integer RingBits fields)) answers BadRing (integer RingBits fields)
 
 unfoldable pub parties_fault : Members → Option JobFault
 parties_fault fields = option_map (λ fault. Names fault) (names_fault (texts Parties fields))

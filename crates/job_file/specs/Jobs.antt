@@ -25,7 +25,7 @@ job_view job = record {
   bits = job.ring;
   names = job.names;
   adversary = adversary_view job.adversary;
-  hosts = job.hosts.items;
+  hosts = job.hosts;
   port = job.port;
   sessions = map session_view job.sessions.items;
 }
@@ -43,7 +43,7 @@ HasParties parties (Tolerated groups) =
 
 pub record IsJob (job : Job) : Type 0 where
   pub some_bits : 0 < job.ring
-  pub few_bits : job.ring ≤ 32
+  pub few_bits : job.ring ≤ 64
   pub names : AreNames job.names
   pub adversary : HasParties (length job.names) job.adversary
   pub some_sessions : 1 ≤ length job.sessions.items

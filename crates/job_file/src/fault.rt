@@ -31,7 +31,7 @@ pub enum JobFault {
         session: Option<u32>,
         field: Field,
     },
-    /// The bits of the ring are not 1 to 32.
+    /// The bits of the ring are not 1 to 64.
     BadRing {
         bits: i64,
     },

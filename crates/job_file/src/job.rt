@@ -1,6 +1,7 @@
 //! Jobs.
 use circuit_model::CircuitLayout;
 use mpc_ring::Ring;
+use outer_io::Hosts;
 use party_set::{Group, NameText, Names};
 
 /// What tells which groups are tolerated: the text of a formula, which is false for them, or a list of groups, in which
@@ -29,7 +30,7 @@ pub struct Job {
     pub ring: Ring,
     pub names: Names,
     pub adversary: Adversary,
-    pub hosts: Vec<NameText>,
+    pub hosts: Hosts,
     pub port: u16,
     pub sessions: Vec<JobSession>,
 }

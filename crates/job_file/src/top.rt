@@ -47,13 +47,13 @@ pub fn check_fields(table: &Table, node: bool) -> Result<(), JobFault>
     check_required(table, None, Field::Session)
 }
 
-/// Checks the number of ring bits, 1 to 32.
+/// Checks the number of ring bits, 1 to 64.
 #[tactic(auto, unfolding(crate::specs::Faults::ring_fault))]
 pub fn check_ring(table: &Table) -> Result<(), JobFault>
     ensures { TellsFault result (ring_fault (table_view table.now)) }
 {
     let bits = integer_at(table, Field::RingBits.text());
-    check(bits < 1 || bits > 32, JobFault::BadRing { bits })
+    check(bits < 1 || bits > 64, JobFault::BadRing { bits })
 }
 
 /// The names of the parties.

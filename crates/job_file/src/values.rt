@@ -15,6 +15,7 @@ use crate::session::fields_or;
 use crate::texts::layout_of;
 use circuit_model::CircuitLayout;
 use mpc_ring::Ring;
+use outer_io::Hosts;
 use party_set::{Group, NameText, Names};
 use std::alloc::{AllocError, Global};
 use toml::{Table, Value};
@@ -122,14 +123,15 @@ fn sessions_of(
     Ok(sessions)
 }
 
-fn hosts_of(alloc: Global, hosts: &[Value]) -> Result<Vec<NameText>, AllocError>
-    ensures { IfOk result (λ texts. texts.items ≡ map text_of (map view hosts.now)) }
+fn hosts_of(alloc: Global, hosts: &[Value]) -> Result<Hosts, AllocError>
+    ensures { IfOk result (λ texts. texts ≡ map text_of (map view hosts.now)) }
 {
     let mut texts = Vec::new(alloc);
     for host in hosts {
-        texts.push(copy_of(alloc, text_of(host))?)?;
+        let text = String::from_str(alloc, text_of(host))?;
+        texts.push(text)?;
     }
-    Ok(texts)
+    Ok(Hosts::of(texts))
 }
 
 #[tactic(auto, unfolding(crate::specs::Faults::ring_fault))]
@@ -137,7 +139,7 @@ fn ring_of(table: &Table) -> Ring
     requires { ring_fault (table_view table.now) ≡ None }
     ensures is { result ≡ nat_abs (integer RingBits (table_view table.now)) }
     ensures some { 0 < result }
-    ensures few { result ≤ 32 }
+    ensures few { result ≤ 64 }
 {
     let bits = integer_at(table, Field::RingBits.text());
     Ring::new(bits as u32).unwrap()

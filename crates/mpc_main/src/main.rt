@@ -1,8 +1,9 @@
-//! The program `mpc`: the top call over the real files and streams.
+//! The program `mpc`: the top call over the real files, streams, sockets and threads.
 #![tactic(auto)]
 
 use mpc_top::command;
 use outer_io::{NoPace, StdFiles, StdSink};
+use socket_link::{TcpNet, ThreadSpawner};
 use std::alloc::{AllocError, Global};
 use std::env;
 use std::io::ErrorKind;
@@ -35,6 +36,8 @@ fn main(rt: HostRuntime) -> ExitCode {
     let mut files = StdFiles::new(&rt);
     let mut out = StdSink::new(rt.stdout());
     let mut err = StdSink::new(rt.stderr());
+    let mut net = TcpNet::new(&rt);
+    let mut spawner = ThreadSpawner::new(&rt, rt.alloc());
     let status = command(
         &rt,
         rt.alloc(),
@@ -42,6 +45,8 @@ fn main(rt: HostRuntime) -> ExitCode {
         &mut files,
         &mut out,
         &mut err,
+        &mut net,
+        &mut spawner,
         &NoPace,
     );
     ExitCode::from(status)

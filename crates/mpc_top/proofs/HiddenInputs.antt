@@ -1,22 +1,21 @@
 -- That the view of a tolerated group hides the inputs of all others.
-use Rattle.std.proofs.Common.{ℕ, List, [], ◌++◌, Option, None, Some, Ok, Vec, sym, subst}
+use Rattle.std.proofs.Common.{ℕ, List, ◌++◌, Option, None, Some, Ok, Vec, sym, subst}
 use Rattle.std.specs.Prelude.{IfSome}
 use Rattle.std.specs.declared.alloc.Global.{Global}
 use Rattle.outer_io.specs.Files.{FilesReading, Told}
 use Rattle.command_words.specs.Commands.{run}
 use Rattle.party_set.specs.Parties.{Members}
 use Rattle.party_file.specs.declared.data.PartyData.{PartyData}
-use Rattle.share_world.specs.Worlds.{World, view}
+use Rattle.share_world.specs.Worlds.{World}
 use Rattle.share_world.specs.Laws.{IsWhole}
-use Rattle.tape_map.specs.TapeMaps.{second_world}
 use Rattle.tape_map.proofs.SeenWords.{same_view}
 use Rattle.output_text.specs.OutText.{out_text}
 use Rattle.output_text.specs.ViewText.{view_text, run_text}
-use Rattle.mpc_top.specs.declared.plan.Planned as code
-use Rattle.mpc_top.specs.Verdict.{accepted}
-use Rattle.mpc_top.specs.JobOf.{WholeJob, JobAt}
-use Rattle.mpc_top.specs.Reads.{ReadsAs}
-use Rattle.mpc_top.specs.HiddenInputs.{AreAlike, Hides, CommandHides}
+use Rattle.job_walk.specs.declared.plan.Planned as code
+use Rattle.job_walk.specs.Verdict.{accepted}
+use Rattle.mpc_top.specs.WholeJobs.{WholeJob, JobAt}
+use Rattle.job_walk.specs.Reads.{ReadsAs}
+use Rattle.mpc_top.specs.HiddenInputs.{Hides, CommandHides}
 use Rattle.mpc_top.proofs.Jobs.{job_seen}
 
 module _ (Written : List ℕ → Type 0) where

@@ -3,12 +3,14 @@ use Rattle.std.proofs.Common.{ℕ, List, [], Option, Ok, Err, Vec}
 use Rattle.std.specs.declared.alloc.Global.{Global}
 use Rattle.outer_io.specs.Files.{FilesReading}
 use Rattle.party_file.specs.declared.data.PartyData.{PartyData}
-use Rattle.mpc_top.specs.declared.plan.Planned as code
-use Rattle.mpc_top.specs.declared.stop.Stop.{Stop}
-use Rattle.mpc_top.specs.JobOf.{WholeJob, whole_job, PlanAt, PartiesAfter, JobAt}
-use Rattle.mpc_top.specs.Seen.{planned_view, parties_view}
-use Rattle.mpc_top.specs.Reads.{ReadsAs}
-use Rattle.mpc_top.proofs.Steps.{reads_stop, reads_then, reads_end}
+use Rattle.job_walk.specs.declared.plan.Planned as code
+use Rattle.job_walk.specs.declared.stop.Stop.{Stop}
+use Rattle.job_walk.specs.JobOf.{PlanAt, PartiesAfter}
+use Rattle.mpc_top.specs.WholeJobs.{WholeJob, whole_job, JobAt}
+use Rattle.job_walk.specs.Seen.{planned_view}
+use Rattle.mpc_top.specs.Seen.{parties_view}
+use Rattle.job_walk.specs.Reads.{ReadsAs}
+use Rattle.job_walk.proofs.Steps.{reads_stop, reads_then, reads_end}
 
 -- the job of a plan and of what the parties give
 abbrev pub job_seen : code.Planned → Vec PartyData Global → WholeJob

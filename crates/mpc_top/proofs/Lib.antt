@@ -1,9 +1,9 @@
-mod Equal
-mod FileEnds
 mod HiddenInputs
 mod Jobs
-mod Loops
+mod LinkTalks
+mod NodeRuns
 mod Pairs
+mod PartyLoops
 mod Runs
 mod Statuses
-mod Steps
+mod SteadyTalks

@@ -1,5 +1,5 @@
 -- A pair of runs that was read, step by step, and that it hides what it is to hide.
-use Rattle.std.proofs.Common.{◌≡◌, ℕ, List, [], Option, None, Some, Result, Ok, Err, Vec, sym, subst}
+use Rattle.std.proofs.Common.{◌≡◌, ℕ, List, [], None, Some, Result, Ok, Err, Vec, subst}
 use Rattle.std.specs.Prelude.{IfSome}
 use Rattle.std.specs.declared.alloc.Global.{Global}
 use Rattle.outer_io.specs.Files.{FilesReading, Told}
@@ -9,31 +9,31 @@ use Rattle.share_world.specs.Worlds.{view}
 use Rattle.tape_map.specs.Laws.{CanHide}
 use Rattle.tape_map.proofs.SeenWords.{same_view}
 use Rattle.output_text.specs.PairText.{pair_text, pair_seen}
-use Rattle.mpc_top.specs.declared.plan.Planned as code
-use Rattle.mpc_top.specs.declared.stop.Stop.{Stop}
-use Rattle.mpc_top.specs.Verdict.{Ends, accepted}
-use Rattle.mpc_top.specs.JobOf.{PairedJob, paired_job, second_of, hidden_of, PlanAt, PartiesAfter, JobAt, OtherAt, PairAt}
-use Rattle.mpc_top.specs.Seen.{planned_view, parties_view}
-use Rattle.mpc_top.specs.Reads.{ReadsAs, WalksAs}
-use Rattle.mpc_top.specs.Due.{TextOf}
+use Rattle.job_walk.specs.declared.plan.Planned as code
+use Rattle.job_walk.specs.declared.stop.Stop.{Stop}
+use Rattle.job_walk.specs.Verdict.{Ends, accepted}
+use Rattle.job_walk.specs.JobOf.{PlanAt, PartiesAfter}
+use Rattle.mpc_top.specs.WholeJobs.{PairedJob, paired_job, second_of, hidden_of, OtherAt, PairAt}
+use Rattle.job_walk.specs.Seen.{planned_view}
+use Rattle.mpc_top.specs.Seen.{parties_view}
+use Rattle.job_walk.specs.Reads.{ReadsAs, WalksAs}
+use Rattle.mpc_top.specs.Due.{DueOf}
 use Rattle.mpc_top.specs.HiddenInputs.{same_seen, HidesPair, CommandHides}
-use Rattle.mpc_top.proofs.Steps.{reads_stop, reads_then, reads_walk, reads_end}
+use Rattle.job_walk.proofs.Steps.{reads_stop, reads_then, reads_walk, reads_end}
+use Rattle.mpc_top.proofs.Runs.{as_text}
 use Rattle.mpc_top.proofs.Jobs.{job_seen, job_stops, job_stops_later, job_read}
-
-abbrev own : List ℕ → List ℕ
-own text = text
 
 abbrev paired : PairedJob → PairedJob
 paired job = job
 
 module _ (dir group : List ℕ) where
   -- no pair could be read
-  pair_stops : (before after : FilesReading) (stop : Stop) → ReadsAs paired (λ m. PairAt m dir group) before after (Err stop) → ReadsAs own (TextOf (pair dir group)) before after (Err stop)
-  unfolding TextOf
-  pair_stops before after stop r = reads_stop _ _ paired own before after stop r
+  pair_stops : (before after : FilesReading) (stop : Stop) → ReadsAs paired (λ m. PairAt m dir group) before after (Err stop) → ReadsAs as_text (DueOf (pair dir group)) before after (Err stop)
+  unfolding DueOf
+  pair_stops before after stop r = reads_stop _ _ paired as_text before after stop r
 
   -- the plan could not be read
-  pub plan_stops : (before after : FilesReading) (stop : Stop) → ReadsAs {C = code.Planned} planned_view (λ m. PlanAt m dir (Some group)) before after (Err stop) → ReadsAs own (TextOf (pair dir group)) before after (Err stop)
+  pub plan_stops : (before after : FilesReading) (stop : Stop) → ReadsAs {C = code.Planned} planned_view (λ m. PlanAt m dir (Some group)) before after (Err stop) → ReadsAs as_text (DueOf (pair dir group)) before after (Err stop)
   unfolding PairAt
   plan_stops before after stop r = pair_stops before after stop (reads_stop _ _ (λ job. job) paired before after stop (job_stops dir (Some group) before after stop r))
 
@@ -42,7 +42,7 @@ module _ (dir group : List ℕ) where
     NamedParties after result = ReadsAs parties_view (λ m. PartiesAfter m dir planned.plan [] planned.names) mid after result
 
     -- a party's file could not be read
-    pub parties_stop : (after : FilesReading) (stop : Stop) → NamedParties after (Err stop) → ReadsAs own (TextOf (pair dir group)) before after (Err stop)
+    pub parties_stop : (after : FilesReading) (stop : Stop) → NamedParties after (Err stop) → ReadsAs as_text (DueOf (pair dir group)) before after (Err stop)
     unfolding PairAt
     parties_stop after stop r = pair_stops before after stop (reads_stop _ _ (job_seen planned) paired before after stop (job_stops_later dir (Some group) planned before mid after read stop r))
 
@@ -55,7 +55,7 @@ module _ (dir group : List ℕ) where
       own_inputs last result r = subst (λ given. ReadsAs (λ (other : List (List (List ℕ))). other) (λ m. OtherAt m dir planned.plan planned.names given) after last result) are r
 
       -- the other inputs could not be read
-      pub other_stops : (last : FilesReading) (stop : Stop) → ReadsOther last (Err stop) → ReadsAs own (TextOf (pair dir group)) before last (Err stop)
+      pub other_stops : (last : FilesReading) (stop : Stop) → ReadsOther last (Err stop) → ReadsAs as_text (DueOf (pair dir group)) before last (Err stop)
       unfolding PairAt
       other_stops last stop r =
           pair_stops before last stop (reads_then _ _ (job_seen planned) paired before after last parties (Err stop) (job_read dir (Some group) planned before mid after read parties given)
@@ -74,17 +74,17 @@ module _ (dir group : List ℕ) where
               (reads_then _ _ (λ other. other) (λ (c : C). job) after last last other result (own_inputs last (Ok other) others)
               (reads_walk (λ (c : C). job) (Ends (hidden_of (job_seen planned parties) other)) last result w))
 
-          pub hiding_stops : (stop : Stop) → WalksAs (λ (c : C). job) (Ends (hidden_of (job_seen planned parties) other)) (Err stop) → ReadsAs own (TextOf (pair dir group)) before last (Err stop)
-          unfolding TextOf
-          hiding_stops stop w = reads_stop _ _ (λ (c : C). job) own before last stop (pair_read (Err stop) w)
+          pub hiding_stops : (stop : Stop) → WalksAs (λ (c : C). job) (Ends (hidden_of (job_seen planned parties) other)) (Err stop) → ReadsAs as_text (DueOf (pair dir group)) before last (Err stop)
+          unfolding DueOf
+          hiding_stops stop w = reads_stop _ _ (λ (c : C). job) as_text before last stop (pair_read (Err stop) w)
 
           -- the text of a pair that was read
           pub text_read : (c : C) → WalksAs (λ (c : C). job) (Ends (hidden_of (job_seen planned parties) other)) (Ok c)
-              → ReadsAs own (TextOf (pair dir group)) before last (Ok (pair_text job.names job.first (second_of job) job.group))
-          unfolding TextOf
+              → ReadsAs as_text (DueOf (pair dir group)) before last (Ok (pair_text job.names job.first (second_of job) job.group))
+          unfolding DueOf
           text_read c w =
               let text = pair_text job.names job.first (second_of job) job.group in
-              reads_then _ _ (λ (c : C). job) own before last last c (Ok text) (pair_read (Ok c) w) (reads_end own last text)
+              reads_then _ _ (λ (c : C). job) as_text before last last c (Ok text) (pair_read (Ok c) w) (reads_end as_text last text)
 
 module _ (Written : List ℕ → Type 0) where
   -- the group sees the same twice
@@ -94,8 +94,8 @@ module _ (Written : List ℕ → Type 0) where
       subst (λ seen. Written (pair_seen job.names job.first (second_of job) job.group (view job.first job.group) seen)) (same_view job.first job.other job.group can) text
 
   told_hides : (dir group : List ℕ) (job : PairedJob) (told : Told) → IfSome told (λ m. PairAt m dir group (accepted job)) → HidesPair job Written → CommandHides (Some (pair dir group)) told Written
-  told_hides dir group job None is hides = tt
-  told_hides dir group job (Some files) is hides = (job, is, hides)
+  told_hides dir group paired None is hides = tt
+  told_hides dir group paired (Some files) is hides = (paired, is, hides)
 
   pub pair_hides : {C : Type 0} (dir group : List ℕ) (job : PairedJob) (before after : FilesReading) (c : C) → ReadsAs (λ (c : C). job) (λ m. PairAt m dir group) before after (Ok c)
       → CanHide job.first job.other job.group → Written (pair_text job.names job.first (second_of job) job.group) → CommandHides (Some (pair dir group)) before.told Written

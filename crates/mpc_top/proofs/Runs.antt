@@ -1,83 +1,126 @@
 -- Commands that read all that their text is made of, and then write it.
-use Rattle.std.proofs.Common.{◌≡◌, List, [], ℕ, Result, Ok, Err, refl}
+use Rattle.std.proofs.Common.{◌≡◌, List, [], ℕ, Result, Ok, Err, refl, sym, subst, arith}
 use Rattle.std.specs.Prelude.{Option, None, Some, IsErrAnd, Vec}
 use Rattle.std.specs.declared.alloc.Global.{Global}
 use Rattle.std.proofs.lemmas.Result.{err_from_is_err_and}
 use Rattle.outer_io.specs.Files.{FilesReading}
+use Rattle.outer_io.specs.Jobs.{SpawnerReading}
+use Rattle.outer_io.specs.Links.{NetReading}
 use Rattle.outer_io.specs.Sink.{SinkReading, Writes}
 use Rattle.outer_io.specs.declared.sink.Failed.{Failed}
-use Rattle.command_words.specs.Commands.{CommandForm, run, check}
+use Rattle.command_words.specs.declared.command.Command.{Command}
+use Rattle.command_words.specs.Commands.{CommandForm, form_of, run, check}
 use Rattle.party_file.specs.declared.data.PartyData.{PartyData}
 use Rattle.job_run.specs.Parties.{world_of}
 use Rattle.output_text.specs.CheckText.{check_text}
 use Rattle.output_text.specs.ViewText.{run_text}
-use Rattle.mpc_top.specs.declared.plan.Planned as code
-use Rattle.mpc_top.specs.declared.stop.Stop.{Stop}
-use Rattle.mpc_top.specs.declared.stop.Stop.TheVariants.{Memory, Words, Out, Files, Refused, Covering}
-use Rattle.mpc_top.specs.JobOf.{WholeJob, PlanAt, PartiesAfter}
-use Rattle.mpc_top.specs.Seen.{planned_view, parties_view}
-use Rattle.mpc_top.specs.Reads.{KeepsFiles, ReadsAs, StopsAt}
-use Rattle.mpc_top.specs.Due.{TextOf}
+use Rattle.job_walk.specs.declared.plan.Planned as code
+use Rattle.job_walk.specs.declared.stop.Stop.{Stop}
+use Rattle.job_walk.specs.declared.stop.Stop.TheVariants.{Memory, Words, Out, Net, Peer, Files, Refused, Covering}
+use Rattle.job_walk.specs.JobOf.{PlanAt, PartiesAfter}
+use Rattle.mpc_top.specs.WholeJobs.{WholeJob}
+use Rattle.job_walk.specs.Seen.{planned_view}
+use Rattle.mpc_top.specs.Seen.{parties_view}
+use Rattle.job_walk.specs.Reads.{KeepsFiles, ReadsAs, StopsAt}
+use Rattle.mpc_top.specs.Outside.{Outside, KeepsNet, KeepsSpawner}
+use Rattle.mpc_top.specs.Due.{Due, text, DueOf}
 use Rattle.mpc_top.specs.HiddenInputs.{CommandHides}
-use Rattle.mpc_top.specs.Stops.{HasCause, Runs}
-use Rattle.mpc_top.proofs.Steps.{reads_stop, reads_then, reads_end}
+use Rattle.mpc_top.specs.Stops.{HasCause, Runs, RunsAlone}
+use Rattle.job_walk.proofs.Steps.{reads_stop, reads_then, reads_end}
 use Rattle.mpc_top.proofs.Jobs.{job_seen, job_stops, job_stops_later, job_read}
+
+-- a text that is due
+abbrev pub as_text : List ℕ → Due
+as_text due = text due
+
+net_kept : (net : NetReading) → KeepsNet net net
+net_kept net = record { faults_grow = omega arith; keeps_steady = λ steady. steady }
+
+pub spawner_kept : (spawner : SpawnerReading) → KeepsSpawner spawner spawner
+spawner_kept spawner = record { refusals_grow = omega arith; keeps_steady = λ steady. steady }
 
 module _ (command : CommandForm) (files files' : FilesReading) (out out' : SinkReading) where
   abbrev RunsAs : Result Unit Stop → Type 0
-  RunsAs result = Runs (Some command) files files' out out' result
+  RunsAs result = RunsAlone (Some command) files files' out out' result
 
-  cause_of : (stop : Stop) → out' ≡ out → StopsAt (TextOf command) files files' stop → HasCause (Some command) files files' out out' stop
-  cause_of Memory same cause = (refl, cause, same)
-  cause_of Words same cause = absurd cause
-  cause_of Out same cause = absurd cause
-  cause_of (Files name) same cause = (record { asked = refl; rose = cause.0; is_missing = cause.1 }, same)
-  cause_of (Refused line) same cause = ((cause.1, cause.0), same)
-  cause_of (Covering line) same cause = ((cause.1, cause.0), same)
+  module _ (err err' : SinkReading) (net : NetReading) (spawner : SpawnerReading) where
+    abbrev at_start : Outside
+    at_start = record { files = files; out = out; err = err; net = net; spawner = spawner }
+
+    abbrev at_end : Outside
+    at_end = record { files = files'; out = out'; err = err'; net = net; spawner = spawner }
+
+    cause_of : (stop : Stop) → out' ≡ out → StopsAt (DueOf command) files files' stop → HasCause (Some command) at_start at_end stop
+    cause_of Memory same cause = (refl, record { files = cause; out = same; net = refl; same_kept = refl; same_spawner = refl })
+    cause_of Words same cause = absurd cause
+    cause_of Out same cause = absurd cause
+    cause_of Net same cause = absurd cause
+    cause_of (Peer names fault) same cause = absurd cause
+    cause_of (Files name) same cause = (record { asked = refl; rose = cause.0; is_missing = cause.1 }, (same, (refl, refl)))
+    cause_of (Refused line) same cause = ((cause.1, tt, cause.0), (same, (refl, refl)))
+    cause_of (Covering line) same cause = ((cause.1, tt, cause.0), (same, (refl, refl)))
 
   -- a reading that stops, with nothing written
-  pub runs_stop : {C : Type 0} (seen : C → List ℕ) (stop : Stop) (result : Result Unit Stop) → IsErrAnd result (λ e. e ≡ stop) → out' ≡ out
-      → ReadsAs seen (TextOf command) files files' (Err stop) → RunsAs result
-  runs_stop seen stop result is same r = let p = err_from_is_err_and result is in rw (p.1, p.2) (record { ok = tt; hides = tt; stop = cause_of stop same r.stop; keeps = r.keeps })
+  pub runs_stop : {C : Type 0} (seen : C → Due) (stop : Stop) (result : Result Unit Stop) → IsErrAnd result (λ e. e ≡ stop) → out' ≡ out
+      → ReadsAs seen (DueOf command) files files' (Err stop) → RunsAs result
+  runs_stop seen stop result is same r = λ err err' net spawner.
+      let p = err_from_is_err_and result is in rw (p.1, p.2) (record { ok = tt; hides = tt; stop = cause_of err err' net spawner stop same r.stop; keeps = r.keeps; keeps_net = net_kept net; keeps_spawner = spawner_kept spawner })
 
   -- memory ran out after the reading
   pub runs_memory : (result : Result Unit Stop) → IsErrAnd result (λ e. e ≡ Memory) → out' ≡ out → files'.faults ≡ files.faults → KeepsFiles files files' → RunsAs result
-  runs_memory result is same quiet keeps = let p = err_from_is_err_and result is in rw (p.1, p.2) (record { ok = tt; hides = tt; stop = (refl, quiet, same); keeps = keeps })
+  runs_memory result is same quiet keeps = λ err err' net spawner.
+      let p = err_from_is_err_and result is in rw (p.1, p.2) (record {
+        ok = tt;
+        hides = tt;
+        stop = (refl, record { files = quiet; out = same; net = refl; same_kept = refl; same_spawner = refl });
+        keeps = keeps;
+        keeps_net = net_kept net;
+        keeps_spawner = spawner_kept spawner;
+      })
 
   -- a text that was read, and then written
-  pub runs_written : (text : List ℕ) (u : Unit {0}) → ReadsAs (λ (t : List ℕ). t) (TextOf command) files files' (Ok text) → Writes text out out' (Ok u)
+  pub runs_written : (due : List ℕ) (u : Unit {0}) → ReadsAs as_text (DueOf command) files files' (Ok due) → Writes due out out' (Ok u)
       → CommandHides (Some command) files.told (λ text. Writes text out out' (Ok tt)) → RunsAs (Ok u)
-  runs_written text u r w hides = record { ok = (text, (r.ok, r.quiet), w); hides = hides; stop = tt; keeps = r.keeps }
+  runs_written due u r w hides = λ err err' net spawner. record { ok = (text due, (r.ok, tt, r.quiet), (w, (refl, refl))); hides = hides; stop = tt; keeps = r.keeps; keeps_net = net_kept net; keeps_spawner = spawner_kept spawner }
 
   -- a text that was read, and could not be written
-  pub runs_cut : (text : List ℕ) (failed : Failed) (result : Result Unit Stop) → IsErrAnd result (λ e. e ≡ Out)
-      → ReadsAs (λ (t : List ℕ). t) (TextOf command) files files' (Ok text) → Writes text out out' (Err failed) → RunsAs result
-  runs_cut text failed result is r w = let p = err_from_is_err_and result is in rw (p.1, p.2) (record { ok = tt; hides = tt; stop = (text, (r.ok, r.quiet), (failed, w)); keeps = r.keeps })
+  pub runs_cut : (due : List ℕ) (failed : Failed) (result : Result Unit Stop) → IsErrAnd result (λ e. e ≡ Out)
+      → ReadsAs as_text (DueOf command) files files' (Ok due) → Writes due out out' (Err failed) → RunsAs result
+  runs_cut due failed result is r w = λ err err' net spawner.
+      let p = err_from_is_err_and result is in rw (p.1, p.2) (record { ok = tt; hides = tt; stop = (text due, (r.ok, tt, r.quiet), ((failed, w), (refl, refl))); keeps = r.keeps; keeps_net = net_kept net; keeps_spawner = spawner_kept spawner })
 
 -- ---- what is read for each command
 
 module _ (dir : List ℕ) (workers : ℕ) (view : Option (List ℕ)) (planned : code.Planned) (before mid after : FilesReading) (read : ReadsAs planned_view (λ m. PlanAt m dir view) before mid (Ok planned)) where
-  pub run_stops_later : (stop : Stop) → ReadsAs parties_view (λ m. PartiesAfter m dir planned.plan [] planned.names) mid after (Err stop) → ReadsAs (λ (t : List ℕ). t) (TextOf (run dir workers view)) before after (Err stop)
-  unfolding TextOf
-  run_stops_later stop r = reads_stop _ _ (job_seen planned) (λ (t : List ℕ). t) before after stop (job_stops_later dir view planned before mid after read stop r)
+  pub run_stops_later : (stop : Stop) → ReadsAs parties_view (λ m. PartiesAfter m dir planned.plan [] planned.names) mid after (Err stop) → ReadsAs as_text (DueOf (run dir workers view)) before after (Err stop)
+  unfolding DueOf
+  run_stops_later stop r = reads_stop _ _ (job_seen planned) as_text before after stop (job_stops_later dir view planned before mid after read stop r)
 
   pub run_read : (parties : Vec PartyData Global) → ReadsAs parties_view (λ m. PartiesAfter m dir planned.plan [] planned.names) mid after (Ok parties)
-      → ReadsAs (λ (t : List ℕ). t) (TextOf (run dir workers view)) before after (Ok (run_text planned.names (world_of planned.plan (parties_view parties)) planned.group))
-  unfolding TextOf
+      → ReadsAs as_text (DueOf (run dir workers view)) before after (Ok (run_text planned.names (world_of planned.plan (parties_view parties)) planned.group))
+  unfolding DueOf
   run_read parties r =
-      let text = run_text planned.names (world_of planned.plan (parties_view parties)) planned.group in
-      reads_then _ _ (job_seen planned) (λ (t : List ℕ). t) before after after parties (Ok text) (job_read dir view planned before mid after read parties r) (reads_end (λ (t : List ℕ). t) after text)
+      let due = run_text planned.names (world_of planned.plan (parties_view parties)) planned.group in
+      reads_then _ _ (job_seen planned) as_text before after after parties (Ok due) (job_read dir view planned before mid after read parties r) (reads_end as_text after due)
 
 module _ (dir : List ℕ) (before after : FilesReading) where
   pub run_stops : (workers : ℕ) (view : Option (List ℕ)) (stop : Stop) → ReadsAs {C = code.Planned} planned_view (λ m. PlanAt m dir view) before after (Err stop)
-      → ReadsAs (λ (t : List ℕ). t) (TextOf (run dir workers view)) before after (Err stop)
-  unfolding TextOf
-  run_stops workers view stop r = reads_stop _ _ (λ (job : WholeJob). job) (λ (t : List ℕ). t) before after stop (job_stops dir view before after stop r)
+      → ReadsAs as_text (DueOf (run dir workers view)) before after (Err stop)
+  unfolding DueOf
+  run_stops workers view stop r = reads_stop _ _ (λ (job : WholeJob). job) as_text before after stop (job_stops dir view before after stop r)
 
-  pub check_stops : (stop : Stop) → ReadsAs {C = code.Planned} planned_view (λ m. PlanAt m dir None) before after (Err stop) → ReadsAs (λ (t : List ℕ). t) (TextOf (check dir)) before after (Err stop)
-  unfolding TextOf
-  check_stops stop r = reads_stop _ _ planned_view (λ (t : List ℕ). t) before after stop r
+  pub check_stops : (stop : Stop) → ReadsAs {C = code.Planned} planned_view (λ m. PlanAt m dir None) before after (Err stop) → ReadsAs as_text (DueOf (check dir)) before after (Err stop)
+  unfolding DueOf
+  check_stops stop r = reads_stop _ _ planned_view as_text before after stop r
 
-  pub check_read : (planned : code.Planned) → ReadsAs planned_view (λ m. PlanAt m dir None) before after (Ok planned) → ReadsAs (λ (t : List ℕ). t) (TextOf (check dir)) before after (Ok (check_text planned.names planned.plan))
-  unfolding TextOf
-  check_read planned r = reads_then _ _ planned_view (λ (t : List ℕ). t) before after after planned (Ok (check_text planned.names planned.plan)) r (reads_end (λ (t : List ℕ). t) after (check_text planned.names planned.plan))
+  pub check_read : (planned : code.Planned) → ReadsAs planned_view (λ m. PlanAt m dir None) before after (Ok planned) → ReadsAs as_text (DueOf (check dir)) before after (Ok (check_text planned.names planned.plan))
+  unfolding DueOf
+  check_read planned r = reads_then _ _ planned_view as_text before after after planned (Ok (check_text planned.names planned.plan)) r (reads_end as_text after (check_text planned.names planned.plan))
+
+-- a run of a command, told otherwise
+pub of_command : (command other : Command) (before after : Outside) (result : Result Unit Stop) → command ≡ other → Runs (Some (form_of other)) before after result → Runs (Some (form_of command)) before after result
+of_command command other before after result is r = subst (λ c. Runs (Some (form_of c)) before after result) (sym is) r
+
+-- a run of words that ask for a command
+pub of_words : (command other : Option CommandForm) (before after : Outside) (result : Result Unit Stop) → command ≡ other → Runs other before after result → Runs command before after result
+of_words command other before after result is r = subst (λ c. Runs c before after result) (sym is) r

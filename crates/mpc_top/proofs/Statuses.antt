@@ -2,17 +2,23 @@
 use Rattle.std.proofs.Common.{◌≡◌, ◌≢◌, ◌⊎◌, inl, inr, ℕ, ◌≤◌, List, length, Option, None, Ok, Err, Result, refl, sym, subst, arith}
 use Rattle.std.specs.Prelude.{IsTrue}
 use Rattle.std.proofs.lemmas.Bool.{false≢true}
-use Rattle.outer_io.specs.Files.{FilesReading, Told}
+use Rattle.outer_io.specs.Count.{Rose}
+use Rattle.outer_io.specs.Files.{Told}
 use Rattle.outer_io.specs.Sink.{SinkReading, Writes, FailsToWrite}
 use Rattle.outer_io.specs.declared.sink.Failed.{Failed}
 use Rattle.command_words.specs.Commands.{CommandForm, command_of}
-use Rattle.mpc_top.specs.declared.stop.Stop.{Stop}
-use Rattle.mpc_top.specs.declared.stop.Stop.TheVariants.{Memory, Words, Out, Files, Refused, Covering}
+use Rattle.job_walk.specs.declared.stop.Stop.{Stop}
+use Rattle.job_walk.specs.declared.stop.Stop.TheVariants.{Memory, Words, Out, Net, Peer, Files, Refused, Covering}
 use Rattle.mpc_top.specs.Texts.{files_fault_line, usage_text}
-use Rattle.mpc_top.specs.Verdict.{accepted, missing, refused}
-use Rattle.mpc_top.specs.Due.{IsDue}
-use Rattle.mpc_top.specs.Stops.{status_of, text_of, HasCause, Runs, Tells}
-use Rattle.mpc_top.specs.Command.{Outside, KeepsSink, GivesDue, Answers}
+use Rattle.job_walk.specs.Verdict.{accepted, missing, refused}
+use Rattle.mpc_top.specs.Outside.{Outside}
+use Rattle.mpc_top.specs.Due.{Due, text, talk, IsDue}
+use Rattle.mpc_top.specs.NodeTalks.{lines_of}
+use Rattle.job_walk.specs.Stops.{status_of}
+use Rattle.mpc_top.specs.Stops.{text_of, Fulfils, CutShort, HasCause, Runs, Tells}
+use Rattle.mpc_top.specs.Command.{KeepsSink, HasRoom, GivesDue, Answers}
+use Rattle.mpc_top.proofs.NodeRuns.{quiet_talk}
+use Rattle.mpc_top.proofs.SteadyTalks.{steady_talk}
 
 -- ---- what is due
 
@@ -20,68 +26,94 @@ none_due : (command : Option CommandForm) (told : Told) → command ≡ None →
 none_due command told is = subst (λ c. IsDue c told (refused 2 usage_text)) (sym is) refl
 
 -- a steady sink with room for a text takes it
-never_fails : (text : List ℕ) (sink sink' : SinkReading) → IsTrue sink.steady → FailsToWrite text sink sink' → length text ≤ sink.room → ⊥
-never_fails text sink sink' steady (failed, w) room = false≢true ((w.by_itself steady).1 room)
+never_fails : (line : List ℕ) (sink sink' : SinkReading) → IsTrue sink.steady → FailsToWrite line sink sink' → length line ≤ sink.room → ⊥
+never_fails line sink sink' steady (failed, w) room = false≢true ((w.by_itself steady).1 room)
 
 -- ---- what sinks keep
 
-keeps_written : (text : List ℕ) (sink sink' : SinkReading) (result : Result Unit Failed) → Writes text sink sink' result → KeepsSink sink sink'
-keeps_written text sink sink' result w = record { faults_grow = w.faults_grow; keeps_steady = w.keeps_steady }
+keeps_written : (line : List ℕ) (sink sink' : SinkReading) (result : Result Unit Failed) → Writes line sink sink' result → KeepsSink sink sink'
+keeps_written line sink sink' result w = record { faults_grow = w.faults_grow; keeps_steady = w.keeps_steady }
 
 keeps_same : (sink sink' : SinkReading) → sink' ≡ sink → KeepsSink sink sink'
 keeps_same sink sink' same = subst (KeepsSink sink) (sym same) (record { faults_grow = omega arith; keeps_steady = λ steady. steady })
 
-module _ (words : List (List ℕ)) (files files' : FilesReading) (out out' err err' : SinkReading) where
-  abbrev before : Outside
-  before = record { files = files; out = out; err = err }
-
-  abbrev after : Outside
-  after = record { files = files'; out = out'; err = err' }
-
+module _ (words : List (List ℕ)) (before after : Outside) where
   abbrev RunsTo : Result Unit Stop → Type 0
-  RunsTo result = Runs (command_of words) files files' out out' result
+  RunsTo result = Runs (command_of words) before after result
 
   abbrev Caused : Stop → Type 0
-  Caused = HasCause (command_of words) files files' out out'
+  Caused = HasCause (command_of words) before after
 
   -- ---- what stops keep
 
-  out_kept : (stop : Stop) → Caused stop → KeepsSink out out'
-  out_kept Memory cause = keeps_same out out' cause.2
-  out_kept Words cause = keeps_same out out' cause.2
-  out_kept Out cause = keeps_written cause.0 out out' _ cause.2.1
-  out_kept (Files name) cause = keeps_same out out' cause.1
-  out_kept (Refused line) cause = keeps_same out out' cause.1
-  out_kept (Covering line) cause = keeps_same out out' cause.1
+  cut_kept : (due : Due) → CutShort due before after → KeepsSink before.out after.out
+  cut_kept (text due) cut = keeps_written due before.out after.out _ cut.0.1
+  cut_kept (talk job) cut = keeps_written (lines_of job cut.0) before.out after.out _ cut.2.1
 
-  text_kept : (status due : ℕ) (text : List ℕ) → ((status ≡ due) × Writes text err err' (Ok tt)) ⊎ ((status ≡ 5) × FailsToWrite text err err') → KeepsSink err err'
-  text_kept status due text (inl w) = keeps_written text err err' _ w.1
-  text_kept status due text (inr w) = keeps_written text err err' _ w.1.1
+  done_kept : (due : Due) → Fulfils due before after → KeepsSink before.out after.out
+  done_kept (text due) done = keeps_written due before.out after.out _ done.0
+  done_kept (talk job) done = keeps_written (lines_of job done.0) before.out after.out _ done.2
 
-  err_kept : (stop : Stop) (status : ℕ) → Tells err err' stop status → KeepsSink err err'
-  err_kept Memory status tells = keeps_same err err' tells.1
+  out_kept : (stop : Stop) → Caused stop → KeepsSink before.out after.out
+  out_kept Memory cause = keeps_same before.out after.out cause.1.out
+  out_kept Words cause = keeps_same before.out after.out cause.2.0
+  out_kept Out cause = cut_kept cause.0 cause.2
+  out_kept Net cause = keeps_same before.out after.out cause.3
+  out_kept (Peer names fault) cause = keeps_same before.out after.out cause.4
+  out_kept (Files name) cause = keeps_same before.out after.out cause.1.0
+  out_kept (Refused line) cause = keeps_same before.out after.out cause.1.0
+  out_kept (Covering line) cause = keeps_same before.out after.out cause.1.0
+
+  text_kept : (status due : ℕ) (line : List ℕ) → ((status ≡ due) × Writes line before.err after.err (Ok tt)) ⊎ ((status ≡ 5) × FailsToWrite line before.err after.err) → KeepsSink before.err after.err
+  text_kept status due line (inl w) = keeps_written line before.err after.err _ w.1
+  text_kept status due line (inr w) = keeps_written line before.err after.err _ w.1.1
+
+  err_kept : (stop : Stop) (status : ℕ) → Tells before.err after.err stop status → KeepsSink before.err after.err
+  err_kept Memory status tells = keeps_same before.err after.err tells.1
   err_kept Words status tells = text_kept _ _ _ tells
   err_kept Out status tells = text_kept _ _ _ tells
+  err_kept Net status tells = text_kept _ _ _ tells
+  err_kept (Peer names fault) status tells = text_kept _ _ _ tells
   err_kept (Files name) status tells = text_kept _ _ _ tells
   err_kept (Refused line) status tells = text_kept _ _ _ tells
   err_kept (Covering line) status tells = text_kept _ _ _ tells
 
   -- ---- what is due is given
 
-  refusal_given : (due status : ℕ) (line : List ℕ) → IsDue (command_of words) files.told (refused due line)
-      → ((status ≡ due) × Writes line err err' (Ok tt)) ⊎ ((status ≡ 5) × FailsToWrite line err err') → GivesDue words before after status
-  refusal_given due status line is (inl w) = record { quiet = λ none. (refused due line, is, w); steady = λ s. (refused due line, is, λ room. w) }
+  refusal_given : (due status : ℕ) (line : List ℕ) → IsDue (command_of words) before.files.told (refused due line)
+      → ((status ≡ due) × Writes line before.err after.err (Ok tt)) ⊎ ((status ≡ 5) × FailsToWrite line before.err after.err) → GivesDue words before after status
+  refusal_given due status line is (inl w) = record { quiet = λ none. (refused due line, is, λ quiet. w); steady = λ s. (refused due line, is, λ room. w) }
   refusal_given due status line is (inr w) = record {
     quiet = λ none. absurd (none (inr (inr w.1.1.failed)));
-    steady = λ s. (refused due line, is, λ room. absurd (never_fails line err err' s.err w.1 room));
+    steady = λ s. (refused due line, is, λ room. absurd (never_fails line before.err after.err s.err w.1 room));
   }
 
-  given : (stop : Stop) (status : ℕ) → Caused stop → Tells err err' stop status → ¬ (status ≡ 6) → GivesDue words before after status
+  -- `out` rose, and had no room
+  cut_rose : (due : Due) → CutShort due before after → Rose before.out.faults after.out.faults
+  cut_rose (text due) cut = cut.0.1.failed
+  cut_rose (talk job) cut = cut.2.1.failed
+
+  cut_room : (due : Due) → CutShort due before after → IsTrue before.out.steady → HasRoom before (accepted due) → ⊥
+  cut_room (text due) cut steady room = never_fails due before.out after.out steady cut.0 room
+  cut_room (talk job) cut steady room =
+      let n = cut.1.someone in
+      let done = (cut.1.run n.0 n.1).done in
+      never_fails (lines_of job cut.0) before.out after.out steady cut.2 (room.lines n.0 done.0 cut.0 n.1 done.1)
+
+  given : (stop : Stop) (status : ℕ) → Caused stop → Tells before.err after.err stop status → ¬ (status ≡ 6) → GivesDue words before after status
   given Memory status cause tells not = absurd (not tells.0)
-  given Words status cause tells not = refusal_given 2 status usage_text (none_due (command_of words) files.told cause.0) tells
+  given Words status cause tells not = refusal_given 2 status usage_text (none_due (command_of words) before.files.told cause.0) tells
   given Out status cause tells not = record {
-    quiet = λ none. absurd (none (inr (inl cause.2.1.failed)));
-    steady = λ s. (accepted cause.0, cause.1.0, λ room. absurd (never_fails cause.0 out out' s.out cause.2 room));
+    quiet = λ none. absurd (none (inr (inl (cut_rose cause.0 cause.2))));
+    steady = λ s. (accepted cause.0, cause.1.0, λ room. absurd (cut_room cause.0 cause.2 s.out room));
+  }
+  given Net status cause tells not = record {
+    quiet = λ none. (accepted (talk cause.0), cause.1.0, λ quiet. absurd (quiet.net cause.2.rose));
+    steady = λ s. (accepted (talk cause.0), cause.1.0, λ room. absurd (cause.2.unexpected room.net room.expects));
+  }
+  given (Peer names fault) status cause tells not = record {
+    quiet = λ none. (accepted (talk cause.0), cause.1.0, λ quiet. absurd (quiet_talk cause.0 before after fault cause.3 quiet));
+    steady = λ s. (accepted (talk cause.0), cause.1.0, λ room. absurd (steady_talk cause.0 before after fault cause.3 room));
   }
   given (Files name) status cause tells not = record {
     quiet = λ none. absurd (none (inl cause.0.rose));
@@ -90,7 +122,7 @@ module _ (words : List (List ℕ)) (files files' : FilesReading) (out out' err e
       cause.0.is_missing s.files,
       λ room. elim tells [
         | inl w ↦ w
-        | inr w ↦ absurd (never_fails (files_fault_line name.items) err err' s.err w.1 room)
+        | inr w ↦ absurd (never_fails (files_fault_line name.items) before.err after.err s.err w.1 room)
       ],
     );
   }
@@ -99,55 +131,61 @@ module _ (words : List (List ℕ)) (files files' : FilesReading) (out out' err e
 
   -- ---- the answer
 
-  pub done : (u : Unit {0}) → err' ≡ err → RunsTo (Ok u) → Answers words before after 0
+  pub done : (u : Unit {0}) → after.err ≡ before.err → RunsTo (Ok u) → Answers words before after 0
   done u same r = record {
     done = λ _. (r.ok, same);
     hides = λ _. r.hides;
     stopped = λ not. absurd (not refl);
     due = λ _. record {
-      quiet = λ none. (accepted r.ok.0, r.ok.1.0, (refl, r.ok.2));
+      quiet = λ none. (accepted r.ok.0, r.ok.1.0, λ quiet. (refl, r.ok.2));
       steady = λ s. (accepted r.ok.0, r.ok.1.0, λ room. (refl, r.ok.2));
     };
-    keeps = record { files = r.keeps; out = keeps_written r.ok.0 out out' _ r.ok.2; err = keeps_same err err' same };
+    keeps = record { files = r.keeps; out = done_kept r.ok.0 r.ok.2; err = keeps_same before.err after.err same; net = r.keeps_net; spawner = r.keeps_spawner };
   }
 
-  stopped : (stop : Stop) (status : ℕ) → RunsTo (Err stop) → Tells err err' stop status → ¬ (status ≡ 0) → Answers words before after status
+  stopped : (stop : Stop) (status : ℕ) → RunsTo (Err stop) → Tells before.err after.err stop status → ¬ (status ≡ 0) → Answers words before after status
   stopped stop status r tells some = record {
     done = λ is. absurd (some is);
     hides = λ is. absurd (some is);
     stopped = λ _. (stop, r.stop, tells);
     due = given stop status r.stop tells;
-    keeps = record { files = r.keeps; out = out_kept stop r.stop; err = err_kept stop status tells };
+    keeps = record { files = r.keeps; out = out_kept stop r.stop; err = err_kept stop status tells; net = r.keeps_net; spawner = r.keeps_spawner };
   }
 
   some_status : (stop : Stop) → ¬ (status_of stop ≡ 0)
   some_status Memory is = absurd (omega arith)
   some_status Words is = absurd (omega arith)
   some_status Out is = absurd (omega arith)
+  some_status Net is = absurd (omega arith)
+  some_status (Peer names fault) is = absurd (omega arith)
   some_status (Files name) is = absurd (omega arith)
   some_status (Refused line) is = absurd (omega arith)
   some_status (Covering line) is = absurd (omega arith)
 
-  told_by : (stop : Stop) → (stop ≡ Memory → err' ≡ err) → (u : Unit {0}) → Writes (text_of stop) err err' (Ok u) → Tells err err' stop (status_of stop)
+  told_by : (stop : Stop) → (stop ≡ Memory → after.err ≡ before.err) → (u : Unit {0}) → Writes (text_of stop) before.err after.err (Ok u) → Tells before.err after.err stop (status_of stop)
   told_by Memory same u w = (refl, same refl)
   told_by Words same u w = inl (refl, w)
   told_by Out same u w = inl (refl, w)
+  told_by Net same u w = inl (refl, w)
+  told_by (Peer names fault) same u w = inl (refl, w)
   told_by (Files name) same u w = inl (refl, w)
   told_by (Refused line) same u w = inl (refl, w)
   told_by (Covering line) same u w = inl (refl, w)
 
   -- `err` took the text of the cause
-  pub told : (stop : Stop) → (stop ≡ Memory → err' ≡ err) → (u : Unit {0}) → RunsTo (Err stop) → Writes (text_of stop) err err' (Ok u) → Answers words before after (status_of stop)
+  pub told : (stop : Stop) → (stop ≡ Memory → after.err ≡ before.err) → (u : Unit {0}) → RunsTo (Err stop) → Writes (text_of stop) before.err after.err (Ok u) → Answers words before after (status_of stop)
   told stop same u r w = stopped stop (status_of stop) r (told_by stop same u w) (some_status stop)
 
-  cut_by : (stop : Stop) → stop ≢ Memory → FailsToWrite (text_of stop) err err' → Tells err err' stop 5
+  cut_by : (stop : Stop) → stop ≢ Memory → FailsToWrite (text_of stop) before.err after.err → Tells before.err after.err stop 5
   cut_by Memory not w = absurd (not refl)
   cut_by Words not w = inr (refl, w)
   cut_by Out not w = inr (refl, w)
+  cut_by Net not w = inr (refl, w)
+  cut_by (Peer names fault) not w = inr (refl, w)
   cut_by (Files name) not w = inr (refl, w)
   cut_by (Refused line) not w = inr (refl, w)
   cut_by (Covering line) not w = inr (refl, w)
 
   -- `err` failed to take it
-  pub failed : (stop : Stop) → stop ≢ Memory → (e : Failed) → RunsTo (Err stop) → Writes (text_of stop) err err' (Err e) → Answers words before after 5
+  pub failed : (stop : Stop) → stop ≢ Memory → (e : Failed) → RunsTo (Err stop) → Writes (text_of stop) before.err after.err (Err e) → Answers words before after 5
   failed stop not e r w = stopped stop 5 r (cut_by stop not (e, w)) (λ is. absurd (omega arith))

@@ -1,23 +1,19 @@
 -- The answer of the top call.
 use Rattle.std.specs.Prelude.{◌≡◌, ◌⊎◌, ℕ, ◌≤◌, IsTrue, List, length, Ok}
 use Rattle.outer_io.specs.Count.{Rose}
-use Rattle.outer_io.specs.Files.{FilesReading}
 use Rattle.outer_io.specs.Sink.{SinkReading, Writes}
 use Rattle.command_words.specs.Commands.{command_of}
-use Rattle.mpc_top.specs.declared.stop.Stop.{Stop}
-use Rattle.mpc_top.specs.Verdict.{Verdict, accepted, missing, refused}
-use Rattle.mpc_top.specs.Reads.{KeepsFiles}
-use Rattle.mpc_top.specs.Due.{IsDue, status_due, text_due}
+use Rattle.job_walk.specs.declared.stop.Stop.{Stop}
+use Rattle.job_walk.specs.Verdict.{Verdict, accepted, missing, refused}
+use Rattle.job_walk.specs.Reads.{KeepsFiles}
+use Rattle.mpc_top.specs.Texts.{files_fault_line}
+use Rattle.mpc_top.specs.Outside.{Outside, KeepsNet, KeepsSpawner}
+use Rattle.mpc_top.specs.Due.{Due, text, talk, IsDue}
+use Rattle.mpc_top.specs.NodeTalks.{HearsAllQuietly, LetsTalk}
 use Rattle.mpc_top.specs.HiddenInputs.{CommandHides}
-use Rattle.mpc_top.specs.Stops.{HasCause, IsDone, Tells}
+use Rattle.mpc_top.specs.Stops.{Fulfils, HasCause, IsDone, Tells}
 
 -- ---- the outside of a call
-
--- what the outside shows
-pub record Outside : Type 0 where
-  pub files : FilesReading
-  pub out : SinkReading
-  pub err : SinkReading
 
 -- no coming call of the outside fails by itself
 pub record IsSteady (outside : Outside) : Type 0 where
@@ -41,36 +37,43 @@ pub record Keeps (before after : Outside) : Type 0 where
   pub files : KeepsFiles before.files after.files
   pub out : KeepsSink before.out after.out
   pub err : KeepsSink before.err after.err
+  pub net : KeepsNet before.net after.net
+  pub spawner : KeepsSpawner before.spawner after.spawner
 
 -- ---- what is due is given
 
--- the sink that gets the text of a verdict
-abbrev pub sink_due : Verdict (List ℕ) → Outside → SinkReading
-sink_due (accepted text) outside = outside.out
-sink_due (missing name) outside = outside.err
-sink_due (refused status line) outside = outside.err
+-- what a talk needs to come to its end, where no count rose: that its peers say all that is expected of them
+abbrev pub IsQuiet : Outside → Outside → Verdict Due → Type 0
+IsQuiet before after (accepted (talk job)) = HearsAllQuietly job before after
+IsQuiet before after _ = Unit {0}
 
--- that sink has room for the text
-abbrev pub HasRoom : Outside → Verdict (List ℕ) → Type 0
-HasRoom before verdict = length (text_due verdict) ≤ (sink_due verdict before).room
+-- the sink that gets the text of the verdict has room for it, and a talk can come to its end
+abbrev pub HasRoom : Outside → Verdict Due → Type 0
+HasRoom before (accepted (text due)) = length due ≤ before.out.room
+HasRoom before (accepted (talk job)) = LetsTalk job before
+HasRoom before (missing name) = length (files_fault_line name) ≤ before.err.room
+HasRoom before (refused status line) = length line ≤ before.err.room
 
--- the text was written there, and the status is the verdict's
-abbrev pub IsGiven : Outside → Outside → ℕ → Verdict (List ℕ) → Type 0
-IsGiven before after status verdict =
-    (status ≡ status_due verdict)
-    × Writes (text_due verdict) (sink_due verdict before) (sink_due verdict after) (Ok tt)
+-- the status is the verdict's, and what it is due was given; `err` gets the text of a refusal
+abbrev pub IsGiven : Outside → Outside → ℕ → Verdict Due → Type 0
+IsGiven before after status (accepted due) = (status ≡ 0) × Fulfils due before after
+IsGiven before after status (missing name) =
+    (status ≡ 5) × Writes (files_fault_line name) before.err after.err (Ok tt)
+IsGiven before after status (refused due line) =
+    (status ≡ due) × Writes line before.err after.err (Ok tt)
 
 module _ (words : List (List ℕ)) (before after : Outside) (status : ℕ) where
   -- the words are due a verdict with this fact
-  abbrev pub AreDue : (Verdict (List ℕ) → Type 0) → Type 0
+  abbrev pub AreDue : (Verdict Due → Type 0) → Type 0
   AreDue Fact =
-      (verdict : Verdict (List ℕ))
+      (verdict : Verdict Due)
       × IsDue (command_of words) before.files.told verdict
       × Fact verdict
 
-  -- what is due is given where no count rose, and where the outside was steady and has room for the text
+  -- what is due is given where no count rose, and where the outside was steady and has room for what is due
   pub record GivesDue : Type 0 where
-    pub quiet : ¬ AnyRose before after → AreDue (IsGiven before after status)
+    pub quiet : ¬ AnyRose before after
+        → AreDue (λ verdict. IsQuiet before after verdict → IsGiven before after status verdict)
     pub steady : IsSteady before
         → AreDue (λ verdict. HasRoom before verdict → IsGiven before after status verdict)
 
@@ -78,9 +81,9 @@ module _ (words : List (List ℕ)) (before after : Outside) (status : ℕ) where
 
 -- The answer of the top call to its words, over an outside that showed `before` and shows `after`.
 pub record Answers (words : List (List ℕ)) (before after : Outside) (status : ℕ) : Type 0 where
-  -- At 0 the text that words and files are due was written to `out`, and nothing to `err`.
+  -- At 0 what words and files are due was given, and nothing was written to `err`.
   pub done : status ≡ 0
-      → IsDone (command_of words) before.files after.files before.out after.out
+      → IsDone (command_of words) before after
       × (after.err ≡ before.err)
   -- At 0, what was written of the view of a tolerated group is its view with any other inputs too that leave what its
   -- members give and read; and of a pair of runs it is the same twice.
@@ -89,7 +92,7 @@ pub record Answers (words : List (List ℕ)) (before after : Outside) (status : 
   -- At any other status there is a cause of the table, and `err` was told.
   pub stopped : ¬ (status ≡ 0)
       → (cause : Stop)
-      × HasCause (command_of words) before.files after.files before.out after.out cause
+      × HasCause (command_of words) before after cause
       × Tells before.err after.err cause status
   -- Unless memory ran out, what is due is given wherever the outside lets it.
   pub due : ¬ (status ≡ 6) → GivesDue words before after status

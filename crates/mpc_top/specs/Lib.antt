@@ -1,10 +1,10 @@
-pub mod Names
 pub mod Texts
-pub mod Verdict
-pub mod JobOf
+pub mod WholeJobs
+pub mod Outside
 pub mod Due
+pub mod NodeTalks
+pub mod LinkTalks
 pub mod HiddenInputs
 pub mod Stops
-pub mod Reads
 pub mod Seen
 pub mod Command

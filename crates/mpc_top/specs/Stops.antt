@@ -1,25 +1,25 @@
--- What a command comes to: it is done, or it stops. The table of causes: the status of each, its text for `err`, and
--- what it says of words, files and `out`.
-use Rattle.std.specs.Prelude.{◌≡◌, ◌⊎◌, ℕ, IsTrue, List, [], Option, None, IsSome, Result, Ok, OnOk, IfErr}
+-- What a command comes to: it is done, or it stops. The table of causes: the text of each for `err`, and what it says of
+-- words, files, `out`, the net and the spawner.
+use Rattle.std.specs.Prelude.{◌≡◌, ◌⊎◌, ℕ, IsTrue, List, [], Option, None, IsSome, Result, Ok, Err, OnOk, IfErr}
 use Rattle.outer_io.specs.Count.{Rose}
 use Rattle.outer_io.specs.Files.{FilesReading}
+use Rattle.outer_io.specs.Jobs.{SpawnerReading}
+use Rattle.outer_io.specs.Links.{NetReading}
 use Rattle.outer_io.specs.Sink.{SinkReading, Writes, FailsToWrite}
 use Rattle.command_words.specs.Commands.{CommandForm}
-use Rattle.mpc_top.specs.declared.stop.Stop.{Stop}
-use Rattle.mpc_top.specs.declared.stop.Stop.TheVariants.{Words, Refused, Covering, Files, Out, Memory}
-use Rattle.mpc_top.specs.Texts.{files_fault_line, out_fault_line, usage_text}
-use Rattle.mpc_top.specs.Verdict.{Verdict, accepted, missing, refused}
-use Rattle.mpc_top.specs.Reads.{KeepsFiles}
-use Rattle.mpc_top.specs.Due.{IsDue}
+use Rattle.fault_text.specs.FaultLines.{fault_line}
+use Rattle.node_talk.specs.Runs.{Results}
+use Rattle.job_walk.specs.declared.stop.Stop.{Stop}
+use Rattle.job_walk.specs.declared.stop.Stop.TheVariants.{Words, Refused, Covering, Files, Out, Net, Peer, Memory}
+use Rattle.job_walk.specs.Stops.{status_of}
+use Rattle.job_walk.specs.Verdict.{Verdict, accepted, missing, refused}
+use Rattle.job_walk.specs.NodeOf.{NodeForm}
+use Rattle.job_walk.specs.Reads.{KeepsFiles}
+use Rattle.mpc_top.specs.Texts.{files_fault_line, net_fault_line, out_fault_line, usage_text}
+use Rattle.mpc_top.specs.Outside.{Outside, LeavesNet, LeavesAll, KeepsNet, KeepsSpawner}
+use Rattle.mpc_top.specs.Due.{Due, text, talk, Suits, IsDue}
+use Rattle.mpc_top.specs.NodeTalks.{lines_of, Talks, MeetsNobody}
 use Rattle.mpc_top.specs.HiddenInputs.{CommandHides}
-
-abbrev pub status_of : Stop → ℕ
-status_of Words = 2
-status_of (Refused line) = 3
-status_of (Covering line) = 4
-status_of (Files name) = 5
-status_of Out = 5
-status_of Memory = 6
 
 abbrev pub text_of : Stop → List ℕ
 text_of Words = usage_text
@@ -27,38 +27,77 @@ text_of (Refused line) = line.items
 text_of (Covering line) = line.items
 text_of (Files name) = files_fault_line name.items
 text_of Out = out_fault_line
+text_of Net = net_fault_line
+text_of (Peer names fault) = fault_line names fault
 text_of Memory = []
 
-module _ (command : Option CommandForm) (files files_after : FilesReading) where
-  -- the verdict is due, and no file failed
-  abbrev pub Finds : Verdict (List ℕ) → Type 0
-  Finds verdict = IsDue command files.told verdict × (files_after.faults ≡ files.faults)
+-- what is due was given: its text was written to `out`, or it talked to the end, and its lines were written
+abbrev pub Fulfils : Due → Outside → Outside → Type 0
+Fulfils (text due) before after = Writes due before.out after.out (Ok tt) × LeavesNet before after
+Fulfils (talk job) before after =
+    (results : Results) × Talks job before after (Ok results)
+    × Writes (lines_of job results) before.out after.out (Ok tt)
+
+-- `out` failed to take its text
+abbrev pub CutShort : Due → Outside → Outside → Type 0
+CutShort (text due) before after = FailsToWrite due before.out after.out × LeavesNet before after
+CutShort (talk job) before after =
+    (results : Results) × Talks job before after (Ok results)
+    × FailsToWrite (lines_of job results) before.out after.out
+
+-- memory ran out: nothing went to `out`, and nothing was said to a peer
+pub record RunsOut (before after : Outside) : Type 0 where
+  pub files : after.files.faults ≡ before.files.faults
+  pub out : after.out ≡ before.out
+  pub net : after.net.faults ≡ before.net.faults
+  pub same_kept : after.net.kept ≡ before.net.kept
+  pub same_spawner : after.spawner ≡ before.spawner
+
+module _ (command : Option CommandForm) (before after : Outside) where
+  -- the verdict is due to such words, and no file failed
+  abbrev pub Finds : Verdict Due → Type 0
+  Finds verdict =
+      IsDue command before.files.told verdict × Suits command verdict
+      × (after.files.faults ≡ before.files.faults)
 
   -- the words ask for something, a file failed, and over steady files it is one that is missing
   pub record FailsAt (name : List ℕ) : Type 0 where
     pub asked : IsSome command
-    pub rose : Rose files.faults files_after.faults
-    pub is_missing : IsTrue files.steady → IsDue command files.told (missing name)
+    pub rose : Rose before.files.faults after.files.faults
+    pub is_missing : IsTrue before.files.steady → IsDue command before.files.told (missing name)
 
-  module _ (out out_after : SinkReading) where
-    abbrev pub HasCause : Stop → Type 0
-    HasCause Words = (command ≡ None) × (files_after ≡ files) × (out_after ≡ out)
-    HasCause (Refused line) = Finds (refused 3 line.items) × (out_after ≡ out)
-    HasCause (Covering line) = Finds (refused 4 line.items) × (out_after ≡ out)
-    HasCause (Files name) = FailsAt name.items × (out_after ≡ out)
-    HasCause Out = (text : List ℕ) × Finds (accepted text) × FailsToWrite text out out_after
-    HasCause Memory = IsSome command × (files_after.faults ≡ files.faults) × (out_after ≡ out)
+  abbrev pub HasCause : Stop → Type 0
+  HasCause Words = (command ≡ None) × (after.files ≡ before.files) × LeavesAll before after
+  HasCause (Refused line) = Finds (refused 3 line.items) × LeavesAll before after
+  HasCause (Covering line) = Finds (refused 4 line.items) × LeavesAll before after
+  HasCause (Files name) = FailsAt name.items × LeavesAll before after
+  HasCause Out = (due : Due) × Finds (accepted due) × CutShort due before after
+  HasCause Net = (job : NodeForm) × Finds (accepted (talk job)) × MeetsNobody job before after × (after.out ≡ before.out)
+  HasCause (Peer names fault) =
+      (job : NodeForm) × Finds (accepted (talk job)) × (names ≡ job.names)
+      × Talks job before after (Err fault)
+      × (after.out ≡ before.out)
+  HasCause Memory = IsSome command × RunsOut before after
 
-    -- the text that is due was written to `out`
-    abbrev pub IsDone : Type 0
-    IsDone = (text : List ℕ) × Finds (accepted text) × Writes text out out_after (Ok tt)
+  -- what is due was given
+  abbrev pub IsDone : Type 0
+  IsDone = (due : Due) × Finds (accepted due) × Fulfils due before after
 
-    -- a run of the words, before `err` is told
-    pub record Runs (result : Result Unit Stop) : Type 0 where
-      pub ok : OnOk result IsDone
-      pub hides : OnOk result (CommandHides command files.told (λ text. Writes text out out_after (Ok tt)))
-      pub stop : IfErr result HasCause
-      pub keeps : KeepsFiles files files_after
+  -- a run of the words, before `err` is told
+  pub record Runs (result : Result Unit Stop) : Type 0 where
+    pub ok : OnOk result IsDone
+    pub hides : OnOk result (CommandHides command before.files.told (λ text. Writes text before.out after.out (Ok tt)))
+    pub stop : IfErr result HasCause
+    pub keeps : KeepsFiles before.files after.files
+    pub keeps_net : KeepsNet before.net after.net
+    pub keeps_spawner : KeepsSpawner before.spawner after.spawner
+
+-- a run that knows of no net and no spawner: whatever these show, it leaves them as they are; nor does it look at `err`
+abbrev pub RunsAlone : Option CommandForm → FilesReading → FilesReading → SinkReading → SinkReading → Result Unit Stop → Type 0
+RunsAlone command files files' out out' result =
+    (err err' : SinkReading) (net : NetReading) (spawner : SpawnerReading)
+    → Runs command (record { files = files; out = out; err = err; net = net; spawner = spawner })
+    (record { files = files'; out = out'; err = err'; net = net; spawner = spawner }) result
 
 -- `err` got the text of the cause, and the status is the cause's; or it failed to take that text, and the status is 5.
 -- Where memory ran out it got nothing.

@@ -10,6 +10,10 @@ files_fault_line name = concat (codes "fault files file=" ∷ name ∷ codes "\n
 unfoldable pub out_fault_line : List ℕ
 out_fault_line = codes "fault out\n"
 
+-- the net, where it gave no links
+unfoldable pub net_fault_line : List ℕ
+net_fault_line = codes "fault net\n"
+
 -- words that are refused
 unfoldable pub usage_text : List ℕ
 usage_text =

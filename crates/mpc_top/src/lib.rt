@@ -2,18 +2,13 @@
 #![tactic(auto)]
 
 mod call;
-mod file;
-mod group;
-mod job;
+mod node;
 mod other;
 mod pair;
 mod parties;
-mod plan;
 mod run;
 mod sample;
-mod sessions;
-mod stop;
-mod structure;
+mod told;
 
 pub use call::command;
-pub use stop::Stop;
+pub use job_walk::Stop;

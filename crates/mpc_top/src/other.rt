@@ -3,14 +3,12 @@ ghost use Rattle.std.specs.Prelude.{◌≡◌, IfOk, length};
 ghost use Rattle.job_plan.specs.InputWords.{AreInputs};
 ghost use Rattle.other_file.specs.Table.{other_in};
 ghost use Rattle.refusal_text.specs.Lines.{other_line};
-ghost use Rattle.mpc_top.specs.Verdict.{Ends, verdict_of};
-ghost use Rattle.mpc_top.specs.JobOf.{OtherAt};
-ghost use Rattle.mpc_top.specs.Reads.{ReadsAs, WalksAs};
+ghost use Rattle.job_walk.specs.Verdict.{Ends, verdict_of};
+ghost use Rattle.mpc_top.specs.WholeJobs.{OtherAt};
+ghost use Rattle.job_walk.specs.Reads.{ReadsAs, WalksAs};
 
-use crate::Stop;
-use crate::file::read_file;
-use crate::stop::refusal;
 use job_plan::{Inputs, Plan};
+use job_walk::{Stop, read_file, refusal};
 use other_file::{OtherFault, read_other};
 use outer_io::Files;
 use party_set::Names;

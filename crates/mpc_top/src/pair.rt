@@ -10,18 +10,17 @@ ghost use Rattle.command_words.specs.Commands.{pair};
 ghost use Rattle.tape_map.specs.MapFaults.{HasRecipientBelow};
 ghost use Rattle.tape_map.specs.declared.fault.MapFault.TheVariants as map;
 ghost use Rattle.refusal_text.specs.Lines.{pair_line};
-ghost use Rattle.mpc_top.specs.Verdict.{Ends, refused};
-ghost use Rattle.mpc_top.specs.JobOf.{PairedJob, hidden_of, paired_job, whole_job};
-ghost use Rattle.mpc_top.specs.Reads.{WalksAs, StopsBy};
-ghost use Rattle.mpc_top.specs.Seen.{planned_view, parties_view};
-ghost use Rattle.mpc_top.specs.Stops.{Runs};
+ghost use Rattle.job_walk.specs.Verdict.{Ends, refused};
+ghost use Rattle.mpc_top.specs.WholeJobs.{PairedJob, hidden_of, paired_job, whole_job};
+ghost use Rattle.job_walk.specs.Reads.{WalksAs, StopsBy};
+ghost use Rattle.job_walk.specs.Seen.{planned_view};
+ghost use Rattle.mpc_top.specs.Seen.{parties_view};
+ghost use Rattle.mpc_top.specs.Stops.{RunsAlone};
 
-use crate::Stop;
 use crate::other::read_other_inputs;
 use crate::parties::read_parties;
-use crate::plan::{Planned, read_planned};
-use crate::stop::refusal;
 use job_plan::Inputs;
+use job_walk::{Planned, Stop, read_planned, refusal};
 use outer_io::{Files, Pace, Sink};
 use output_text::write_pair;
 use pair_run::{Pair, inputs_of, pair_of};
@@ -43,7 +42,7 @@ pub(crate) fn run_pair<F: Files, O: Sink, P: Pace, R: Threads + Sync>(
     dir: &str,
     group: &str,
 ) -> Result<(), Stop>
-    ensures { Runs (Some (pair dir.now group.now)) (F.reading files.old) (F.reading files.new)
+    ensures { RunsAlone (Some (pair dir.now group.now)) (F.reading files.old) (F.reading files.new)
         (O.reading out.old) (O.reading out.new) result }
 {
     let planned = read_planned(alloc, files, dir, Some(group))?;

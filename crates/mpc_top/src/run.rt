@@ -1,33 +1,60 @@
 //! The commands.
 ghost use Rattle.std.specs.Prelude.{Some, ◌<◌, ◌≤◌};
+ghost use Rattle.outer_io.specs.Sink.{SinkReading};
 ghost use Rattle.command_words.specs.Commands.{form_of, run, check, IsInRange};
-ghost use Rattle.mpc_top.specs.Seen.{text_view};
-ghost use Rattle.mpc_top.specs.Stops.{Runs};
+ghost use Rattle.job_walk.specs.Seen.{text_view};
+ghost use Rattle.mpc_top.specs.Stops.{Runs, RunsAlone};
 
-use crate::Stop;
+use crate::node::run_node;
 use crate::pair::run_pair;
 use crate::parties::read_parties;
-use crate::plan::read_planned;
 use crate::sample::run_sample;
 use command_words::Command;
 use job_run::prepared;
-use outer_io::{Files, Pace, Sink};
+use job_walk::{Stop, read_planned};
+use link_reader::LinkReader;
+use outer_io::{Files, Net, Pace, Sink, Spawner};
 use output_text::{write_check, write_run};
 use std::alloc::Global;
+use std::sync::Wait;
 use std::thread::Threads;
 
 /// Reads what a command is due, all of it, and then writes it.
-pub(crate) fn run_command<F: Files, O: Sink, P: Pace, R: Threads + Sync>(
+pub(crate) fn run_command<
+    F: Files,
+    O: Sink,
+    N: Net,
+    W: Spawner<LinkReader<N::In>>,
+    P: Pace,
+    R: Threads + Wait + Sync,
+>(
     rt: &R,
     alloc: Global,
     files: &mut F,
     out: &mut O,
+    net: &mut N,
+    spawner: &mut W,
     pace: &P,
     command: Command<'_>,
 ) -> Result<(), Stop>
+where
+    N::In: Drop,
     requires { IsInRange command }
-    ensures { Runs (Some (form_of command.entry)) (F.reading files.old) (F.reading files.new)
-        (O.reading out.old) (O.reading out.new) result }
+    ensures { (err err' : SinkReading) → Runs (Some (form_of command.entry))
+        (record {
+          files = F.reading files.old;
+          out = O.reading out.old;
+          err = err;
+          net = N.reading net.old;
+          spawner = W.reading spawner.old;
+        })
+        (record {
+          files = F.reading files.new;
+          out = O.reading out.new;
+          err = err';
+          net = N.reading net.new;
+          spawner = W.reading spawner.new;
+        }) result }
 {
     match command {
         Command::Run { dir, workers, view } => {
@@ -35,6 +62,7 @@ pub(crate) fn run_command<F: Files, O: Sink, P: Pace, R: Threads + Sync>(
         }
         Command::Check { dir } => check_job(alloc, files, out, dir),
         Command::Pair { dir, group } => run_pair(rt, alloc, files, out, pace, dir, group),
+        Command::Node { dir, name } => run_node(rt, alloc, files, out, net, spawner, dir, name),
         Command::Sample { count } => run_sample(rt, alloc, files, out, pace, count),
     }
 }
@@ -52,7 +80,7 @@ fn run_job<F: Files, O: Sink, P: Pace, R: Threads + Sync>(
     view: Option<&str>,
 ) -> Result<(), Stop>
     requires { (0 < workers) × (workers ≤ 16) }
-    ensures { Runs (Some (run dir.now workers (text_view view.entry))) (F.reading files.old) (F.reading files.new)
+    ensures { RunsAlone (Some (run dir.now workers (text_view view.entry))) (F.reading files.old) (F.reading files.new)
         (O.reading out.old) (O.reading out.new) result }
 {
     let planned = read_planned(alloc, files, dir, view)?;
@@ -69,7 +97,7 @@ fn check_job<F: Files, O: Sink>(
     out: &mut O,
     dir: &str,
 ) -> Result<(), Stop>
-    ensures { Runs (Some (check dir.now)) (F.reading files.old) (F.reading files.new)
+    ensures { RunsAlone (Some (check dir.now)) (F.reading files.old) (F.reading files.new)
         (O.reading out.old) (O.reading out.new) result }
 {
     let planned = read_planned(alloc, files, dir, None)?;

@@ -2,10 +2,10 @@
 ghost use Rattle.std.specs.Prelude.{◌≡◌, ◌<◌, ◌≤◌, Some, IfOk};
 ghost use Rattle.command_words.specs.Commands.{sample};
 ghost use Rattle.sample_maker.specs.Samples.{sample_names};
-ghost use Rattle.mpc_top.specs.Stops.{Runs};
+ghost use Rattle.mpc_top.specs.Stops.{RunsAlone};
 
-use crate::Stop;
 use desk_workers::prepare;
+use job_walk::Stop;
 use outer_io::{Files, Pace, Sink};
 use output_text::write_sample;
 use party_set::{Names, NamesFault, read_names};
@@ -25,7 +25,7 @@ pub(crate) fn run_sample<F: Files, O: Sink, P: Pace, R: Threads + Sync>(
     count: u32,
 ) -> Result<(), Stop>
     requires { (0 < count) × (count ≤ 65536) }
-    ensures { Runs (Some (sample count)) (F.reading files.old) (F.reading files.new)
+    ensures { RunsAlone (Some (sample count)) (F.reading files.old) (F.reading files.new)
         (O.reading out.old) (O.reading out.new) result }
 {
     let _ = files;

@@ -56,6 +56,10 @@ formula_line (formula.TooDeep at) = number_line (codes "formula") 4 (codes "TooD
 formula_line (formula.TooManyNodes at) = number_line (codes "formula") 5 (codes "TooManyNodes") (codes "at") at
 formula_line formula.Memory = []
 
+-- a name that is no party's
+unfoldable pub name_line : List ℕ
+name_line = line (codes "name") 1 (codes "UnknownParty") []
+
 -- a text that names no group
 unfoldable pub group_line : GroupFault → List ℕ
 group_line (group.BadGroup at) = number_line (codes "group") 1 (codes "BadGroup") (codes "at") at

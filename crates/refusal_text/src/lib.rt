@@ -20,4 +20,4 @@ pub use pair::pair_line;
 pub use party::party_line;
 pub use plan::plan_line;
 pub use session::session_line;
-pub use structure::{covering_line, formula_line, group_line, groups_line};
+pub use structure::{covering_line, formula_line, group_line, groups_line, name_line};

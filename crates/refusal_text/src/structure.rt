@@ -1,8 +1,8 @@
-//! Lines of formulas and of groups.
+//! Lines of formulas, of groups and of parties.
 ghost use Rattle.std.specs.Prelude.{◌≡◌, IfOk, length};
-ghost use Rattle.refusal_text.specs.Lines.{formula_line, group_line, groups_line, covering_line};
+ghost use Rattle.refusal_text.specs.Lines.{formula_line, name_line, group_line, groups_line, covering_line};
 
-use crate::line::number_line;
+use crate::line::{keyed_line, number_line};
 use group_formula::FormulaFault;
 use group_text::GroupFault;
 use party_set::{Group, Names};
@@ -36,6 +36,14 @@ pub fn formula_line(alloc: Global, fault: FormulaFault) -> Result<Vec<u8>, Alloc
         ),
         FormulaFault::Memory => Ok(Vec::new(alloc)),
     }
+}
+
+/// The line of a name that is no party's.
+#[tactic(auto, unfolding(crate::specs::Lines::name_line))]
+pub fn name_line(alloc: Global) -> Result<Vec<u8>, AllocError>
+    ensures { IfOk result (λ line. line.items ≡ name_line) }
+{
+    keyed_line(alloc, "name", 1, "UnknownParty", &[])
 }
 
 /// The line of a text that names no group.

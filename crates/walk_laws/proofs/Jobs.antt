@@ -1,14 +1,16 @@
 -- The whole walk ends once.
-use Rattle.std.proofs.Common.{ℕ, List, [], ◌∷◌, ◌++◌, length, Option, None, Some}
+use Rattle.std.proofs.Common.{ℕ, List, [], ◌∷◌, ◌++◌, length, Option, None, Some, Bool, true, false}
 use Rattle.party_set.specs.Parties.{Structure, Members}
 use Rattle.job_session.specs.Sessions.{Session}
 use Rattle.job_plan.specs.Plans.{Plan}
 use Rattle.job_file.specs.Forms.{JobForm, SessionForm}
 use Rattle.party_file.specs.Table.{PartyForm}
-use Rattle.command_words.specs.Commands.{CommandForm, run, check, pair, sample}
-use Rattle.mpc_top.specs.Verdict.{EndsOnce}
-use Rattle.mpc_top.specs.JobOf.{Contents, JobText, GroupOf, StructureOf, SessionAt, SessionsAfter, PlannedOf, PlanAt, PartyAt, PartiesAfter, JobAt, OtherAt, PairAt}
-use Rattle.mpc_top.specs.Due.{TextOf, IsDue}
+use Rattle.command_words.specs.Commands.{CommandForm, run, check, pair, node, sample}
+use Rattle.job_walk.specs.Verdict.{EndsOnce}
+use Rattle.job_walk.specs.JobOf.{Contents, JobText, GroupOf, StructureOf, SessionAt, SessionsAfter, PlannedOf, PlanAt, PartyAt, PartiesAfter}
+use Rattle.mpc_top.specs.WholeJobs.{JobAt, OtherAt, PairAt}
+use Rattle.job_walk.specs.NodeOf.{NodeAt}
+use Rattle.mpc_top.specs.Due.{DueOf, IsDue}
 use Rattle.walk_laws.proofs.Walks.{ends_once, then_once}
 use Rattle.walk_laws.proofs.Plans.{groups_once, q2_once, plan_once}
 
@@ -21,9 +23,9 @@ unfolding GroupOf
 group_once names None = ends_once _
 group_once names (Some text) = then_once _ _ (ends_once _) (λ group. ends_once _)
 
-text_once : (files : Contents) (dir : List ℕ) → EndsOnce (JobText files dir)
+text_once : (for_node : Bool) (files : Contents) (dir : List ℕ) → EndsOnce (JobText for_node files dir)
 unfolding JobText
-text_once files dir = then_once _ _ (ends_once _) (λ bytes. ends_once _)
+text_once for_node files dir = then_once _ _ (ends_once _) (λ bytes. ends_once _)
 
 session_once : (files : Contents) (dir : List ℕ) (job : JobForm) (s : ℕ) (form : SessionForm) → EndsOnce (SessionAt files dir job s form)
 unfolding SessionAt
@@ -41,7 +43,7 @@ planned_once files dir job group s = then_once _ _ (sessions_once files dir job 
 plan_at_once : (files : Contents) (dir : List ℕ) (asked : Option (List ℕ)) → EndsOnce (PlanAt files dir asked)
 unfolding PlanAt
 plan_at_once files dir asked =
-    then_once _ _ (text_once files dir) (λ job. then_once _ _ (group_once job.names asked) (λ group. then_once _ _ (structure_once job) (planned_once files dir job group)))
+    then_once _ _ (text_once false files dir) (λ job. then_once _ _ (group_once job.names asked) (λ group. then_once _ _ (structure_once job) (planned_once files dir job group)))
 
 party_once : (files : Contents) (dir : List ℕ) (plan : Plan) (p : ℕ) (name : List ℕ) → EndsOnce (PartyAt files dir plan p name)
 unfolding PartyAt
@@ -65,11 +67,19 @@ unfolding PairAt
 pair_once files dir asked =
     then_once _ _ (job_once files dir (Some asked)) (λ job. then_once _ _ (other_once files dir job.world.plan job.names job.world.inputs) (λ other. ends_once _))
 
-command_once : (command : CommandForm) (files : Contents) → EndsOnce (TextOf command files)
-unfolding TextOf
+node_once : (files : Contents) (dir name : List ℕ) → EndsOnce (NodeAt files dir name)
+unfolding NodeAt
+node_once files dir name =
+    then_once _ _ (text_once true files dir) (λ job. then_once _ _ (ends_once _) (λ me. then_once _ _ (structure_once job) (λ groups.
+    then_once _ _ (sessions_once files dir job [] job.sessions) (λ sessions. then_once _ _ (plan_once job _) (λ plan.
+    then_once _ _ (party_once files dir plan me name) (λ given. ends_once _))))))
+
+command_once : (command : CommandForm) (files : Contents) → EndsOnce (DueOf command files)
+unfolding DueOf
 command_once (run dir workers view) files = then_once _ _ (job_once files dir view) (λ job. ends_once _)
 command_once (check dir) files = then_once _ _ (plan_at_once files dir None) (λ planned. ends_once _)
 command_once (pair dir group) files = then_once _ _ (pair_once files dir group) (λ job. ends_once _)
+command_once (node dir name) files = then_once _ _ (node_once files dir name) (λ job. ends_once _)
 command_once (sample count) files = ends_once _
 
 pub due_once : (command : Option CommandForm) (files : Contents) → EndsOnce (IsDue command (Some files))

@@ -12,8 +12,8 @@ use Rattle.plan_faults.specs.declared.plan_fault.PlanFault.{PlanFault}
 use Rattle.plan_faults.specs.declared.plan_fault.PlanFault.TheVariants.{TooManyMessages, TooManyWords, Memory}
 use Rattle.job_file.specs.Forms.{JobForm, AdversaryForm, by_formula, by_list}
 use Rattle.refusal_text.specs.Lines.{formula_line, covering_line, plan_line}
-use Rattle.mpc_top.specs.Verdict.{accepted, missing, refused, EndsOnce}
-use Rattle.mpc_top.specs.JobOf.{FormulaOf, GroupsOf, Q2Of, PlanOf}
+use Rattle.job_walk.specs.Verdict.{accepted, missing, refused, EndsOnce}
+use Rattle.job_walk.specs.JobOf.{FormulaOf, GroupsOf, Q2Of, PlanOf}
 use Rattle.walk_laws.proofs.Walks.{ends_once, then_once}
 
 formula_once : (names : List (List ℕ)) (text : List ℕ) → EndsOnce (FormulaOf names text)

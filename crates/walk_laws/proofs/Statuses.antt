@@ -1,17 +1,19 @@
 -- What the statuses say, cause by cause.
 use Rattle.std.proofs.Common.{◌≡◌, ℕ, zero, suc, ◌⊎◌, inl, inr, List, [], ◌∷◌, Option, None, Some, Ok, refl, sym, ap, subst, ◌∙◌, lit<, arith}
 use Rattle.std.specs.Prelude.{Contains, IsSome}
+use Rattle.outer_io.specs.Count.{Rose}
 use Rattle.outer_io.specs.Files.{Told}
 use Rattle.outer_io.specs.Sink.{Writes}
 use Rattle.command_words.specs.Commands.{CommandForm, command_of}
-use Rattle.mpc_top.specs.declared.stop.Stop.{Stop}
-use Rattle.mpc_top.specs.declared.stop.Stop.TheVariants.{Memory, Words, Out, Files, Refused, Covering}
+use Rattle.job_walk.specs.declared.stop.Stop.{Stop}
+use Rattle.job_walk.specs.declared.stop.Stop.TheVariants.{Memory, Words, Out, Net, Peer, Files, Refused, Covering}
 use Rattle.mpc_top.specs.Texts.{usage_text}
-use Rattle.mpc_top.specs.Verdict.{refused}
-use Rattle.mpc_top.specs.Due.{IsDue, status_due}
-use Rattle.mpc_top.specs.Stops.{HasCause, Tells}
-use Rattle.mpc_top.specs.Command.{Outside, AnyRose, Answers}
-use Rattle.walk_laws.specs.Statuses.{SameCounts, StatusSays}
+use Rattle.job_walk.specs.Verdict.{refused}
+use Rattle.mpc_top.specs.Outside.{Outside}
+use Rattle.mpc_top.specs.Due.{Due, text, talk, IsDue}
+use Rattle.mpc_top.specs.Stops.{Fulfils, CutShort, HasCause, Tells}
+use Rattle.mpc_top.specs.Command.{AnyRose, IsQuiet, IsGiven, Answers}
+use Rattle.walk_laws.specs.Statuses.{SameCounts, FailsToTalk, StatusSays}
 
 pub zero_or_not : (n : ℕ) → (n ≡ 0) ⊎ ¬ (n ≡ 0)
 zero_or_not zero = inl refl
@@ -24,7 +26,7 @@ refusal_asks (Some command) told status line not is = refl
 
 module _ (words : List (List ℕ)) (before after : Outside) (status : ℕ) where
   abbrev Caused : Stop → Type 0
-  Caused = HasCause (command_of words) before.files after.files before.out after.out
+  Caused = HasCause (command_of words) before after
 
   abbrev Told_of : Stop → Type 0
   Told_of cause = Tells before.err after.err cause status
@@ -41,6 +43,10 @@ module _ (words : List (List ℕ)) (before after : Outside) (status : ℕ) where
   stop_listed Words (inr w) = listed 5 (4, lit< tt, refl) w.0
   stop_listed Out (inl w) = listed 5 (4, lit< tt, refl) w.0
   stop_listed Out (inr w) = listed 5 (4, lit< tt, refl) w.0
+  stop_listed Net (inl w) = listed 5 (4, lit< tt, refl) w.0
+  stop_listed Net (inr w) = listed 5 (4, lit< tt, refl) w.0
+  stop_listed (Peer names how) (inl w) = listed 5 (4, lit< tt, refl) w.0
+  stop_listed (Peer names how) (inr w) = listed 5 (4, lit< tt, refl) w.0
   stop_listed (Files name) (inl w) = listed 5 (4, lit< tt, refl) w.0
   stop_listed (Files name) (inr w) = listed 5 (4, lit< tt, refl) w.0
   stop_listed (Refused line) (inl w) = listed 3 (2, lit< tt, refl) w.0
@@ -60,9 +66,11 @@ module _ (words : List (List ℕ)) (before after : Outside) (status : ℕ) where
 
   usage : (stop : Stop) → Caused stop → Told_of stop → status ≡ 2 → Usage
   usage Memory cause tells is = absurd (omega (arith, tells.0, is))
-  usage Words cause (inl w) is = (cause.0, cause.2, w.1)
+  usage Words cause (inl w) is = (cause.0, cause.2.0, w.1)
   usage Words cause (inr w) is = absurd (omega (arith, w.0, is))
   usage Out cause tells is = elsewhere 5 2 tells is (λ e. absurd (omega arith)) (λ e. absurd (omega arith))
+  usage Net cause tells is = elsewhere 5 2 tells is (λ e. absurd (omega arith)) (λ e. absurd (omega arith))
+  usage (Peer names how) cause tells is = elsewhere 5 2 tells is (λ e. absurd (omega arith)) (λ e. absurd (omega arith))
   usage (Files name) cause tells is = elsewhere 5 2 tells is (λ e. absurd (omega arith)) (λ e. absurd (omega arith))
   usage (Refused line) cause tells is = elsewhere 3 2 tells is (λ e. absurd (omega arith)) (λ e. absurd (omega arith))
   usage (Covering line) cause tells is = elsewhere 4 2 tells is (λ e. absurd (omega arith)) (λ e. absurd (omega arith))
@@ -94,24 +102,33 @@ module _ (words : List (List ℕ)) (before after : Outside) (status : ℕ) where
   refusal Memory cause tells is = no_six tells.0 is
   refusal Words cause tells is = not_else 2 tells is (λ e. absurd (omega arith)) (λ e. absurd (omega arith))
   refusal Out cause tells is = not_else 5 tells is (λ e. absurd (omega arith)) (λ e. absurd (omega arith))
+  refusal Net cause tells is = not_else 5 tells is (λ e. absurd (omega arith)) (λ e. absurd (omega arith))
+  refusal (Peer names how) cause tells is = not_else 5 tells is (λ e. absurd (omega arith)) (λ e. absurd (omega arith))
   refusal (Files name) cause tells is = not_else 5 tells is (λ e. absurd (omega arith)) (λ e. absurd (omega arith))
-  refusal (Refused line) cause (inl w) is = refusal_of 3 line.items (λ e. absurd (omega arith)) w.0 cause.0.0 cause.1 w.1
+  refusal (Refused line) cause (inl w) is = refusal_of 3 line.items (λ e. absurd (omega arith)) w.0 cause.0.0 cause.1.0 w.1
   refusal (Refused line) cause (inr w) is = no_five w.0 is
-  refusal (Covering line) cause (inl w) is = refusal_of 4 line.items (λ e. absurd (omega arith)) w.0 cause.0.0 cause.1 w.1
+  refusal (Covering line) cause (inl w) is = refusal_of 4 line.items (λ e. absurd (omega arith)) w.0 cause.0.0 cause.1.0 w.1
   refusal (Covering line) cause (inr w) is = no_five w.0 is
 
   -- ---- 5
 
-  fault : (stop : Stop) → Caused stop → Told_of stop → status ≡ 5 → AnyRose before after
+  -- `out` failed to take the text of what is due
+  cut_rose : (due : Due) → CutShort due before after → Rose before.out.faults after.out.faults
+  cut_rose (text due) cut = cut.0.1.failed
+  cut_rose (talk job) cut = cut.2.1.failed
+
+  fault : (stop : Stop) → Caused stop → Told_of stop → status ≡ 5 → AnyRose before after ⊎ FailsToTalk (command_of words) before after
   fault Memory cause tells is = absurd (omega (arith, tells.0, is))
   fault Words cause (inl w) is = absurd (omega (arith, w.0, is))
-  fault Words cause (inr w) is = inr (inr w.1.1.failed)
-  fault Out cause tells is = inr (inl cause.2.1.failed)
-  fault (Files name) cause tells is = inl cause.0.rose
+  fault Words cause (inr w) is = inl (inr (inr w.1.1.failed))
+  fault Out cause tells is = inl (inr (inl (cut_rose cause.0 cause.2)))
+  fault Net cause tells is = inr (cause.0, cause.1.0, cause.1.1, inr cause.2)
+  fault (Peer names how) cause tells is = inr (cause.0, cause.1.0, cause.1.1, inl (how, cause.3))
+  fault (Files name) cause tells is = inl (inl cause.0.rose)
   fault (Refused line) cause (inl w) is = absurd (omega (arith, w.0, is))
-  fault (Refused line) cause (inr w) is = inr (inr w.1.1.failed)
+  fault (Refused line) cause (inr w) is = inl (inr (inr w.1.1.failed))
   fault (Covering line) cause (inl w) is = absurd (omega (arith, w.0, is))
-  fault (Covering line) cause (inr w) is = inr (inr w.1.1.failed)
+  fault (Covering line) cause (inr w) is = inl (inr (inr w.1.1.failed))
 
   -- ---- 6
 
@@ -119,9 +136,11 @@ module _ (words : List (List ℕ)) (before after : Outside) (status : ℕ) where
   Nothing = (after.out ≡ before.out) × (after.err ≡ before.err)
 
   memory : (stop : Stop) → Caused stop → Told_of stop → status ≡ 6 → Nothing
-  memory Memory cause tells is = (cause.2, tells.1)
+  memory Memory cause tells is = (cause.1.out, tells.1)
   memory Words cause tells is = elsewhere 2 6 tells is (λ e. absurd (omega arith)) (λ e. absurd (omega arith))
   memory Out cause tells is = elsewhere 5 6 tells is (λ e. absurd (omega arith)) (λ e. absurd (omega arith))
+  memory Net cause tells is = elsewhere 5 6 tells is (λ e. absurd (omega arith)) (λ e. absurd (omega arith))
+  memory (Peer names how) cause tells is = elsewhere 5 6 tells is (λ e. absurd (omega arith)) (λ e. absurd (omega arith))
   memory (Files name) cause tells is = elsewhere 5 6 tells is (λ e. absurd (omega arith)) (λ e. absurd (omega arith))
   memory (Refused line) cause tells is = elsewhere 3 6 tells is (λ e. absurd (omega arith)) (λ e. absurd (omega arith))
   memory (Covering line) cause tells is = elsewhere 4 6 tells is (λ e. absurd (omega arith)) (λ e. absurd (omega arith))
@@ -132,16 +151,20 @@ module _ (words : List (List ℕ)) (before after : Outside) (status : ℕ) where
   counts files same err = record { files = files; out = ap (λ o. o.faults) same; err = err }
 
   quiet : (stop : Stop) → Caused stop → Told_of stop → ¬ (status ≡ 5) → SameCounts before after
-  quiet Memory cause tells not = counts cause.1 cause.2 (ap (λ e. e.faults) tells.1)
-  quiet Words cause (inl w) not = counts (ap (λ f. f.faults) cause.1) cause.2 w.1.quiet
+  quiet Memory cause tells not = counts cause.1.files cause.1.out (ap (λ e. e.faults) tells.1)
+  quiet Words cause (inl w) not = counts (ap (λ f. f.faults) cause.1) cause.2.0 w.1.quiet
   quiet Words cause (inr w) not = absurd (not w.0)
   quiet Out cause (inl w) not = absurd (not w.0)
   quiet Out cause (inr w) not = absurd (not w.0)
+  quiet Net cause (inl w) not = absurd (not w.0)
+  quiet Net cause (inr w) not = absurd (not w.0)
+  quiet (Peer names how) cause (inl w) not = absurd (not w.0)
+  quiet (Peer names how) cause (inr w) not = absurd (not w.0)
   quiet (Files name) cause (inl w) not = absurd (not w.0)
   quiet (Files name) cause (inr w) not = absurd (not w.0)
-  quiet (Refused line) cause (inl w) not = counts cause.0.1 cause.1 w.1.quiet
+  quiet (Refused line) cause (inl w) not = counts cause.0.2 cause.1.0 w.1.quiet
   quiet (Refused line) cause (inr w) not = absurd (not w.0)
-  quiet (Covering line) cause (inl w) not = counts cause.0.1 cause.1 w.1.quiet
+  quiet (Covering line) cause (inl w) not = counts cause.0.2 cause.1.0 w.1.quiet
   quiet (Covering line) cause (inr w) not = absurd (not w.0)
 
   -- ---- all
@@ -150,7 +173,14 @@ module _ (words : List (List ℕ)) (before after : Outside) (status : ℕ) where
   words_refused a is none memory =
       let g = (a.due memory).quiet none in
       let verdict : g.0 ≡ refused 2 usage_text = subst (λ c. IsDue c before.files.told g.0) is g.1 in
-      g.2.0 ∙ ap status_due verdict
+      let given : IsQuiet before after (refused 2 usage_text) → IsGiven before after status (refused 2 usage_text) =
+      subst (λ v. IsQuiet before after v → IsGiven before after status v) verdict g.2 in
+      (given tt).0
+
+  -- `out` took the text of what is due
+  quiet_out : (due : Due) → Fulfils due before after → after.out.faults ≡ before.out.faults
+  quiet_out (text due) given = given.0.quiet
+  quiet_out (talk job) given = given.2.quiet
 
   at_zero : Answers words before after status → status ≡ 0 → StatusSays words before after status
   at_zero a is = record {
@@ -161,8 +191,8 @@ module _ (words : List (List ℕ)) (before after : Outside) (status : ℕ) where
     fault = λ five. absurd (omega (arith, is, five));
     memory = λ six. absurd (omega (arith, is, six));
     quiet = λ not. record {
-      files = (a.done is).0.1.1;
-      out = (a.done is).0.2.quiet;
+      files = (a.done is).0.1.2;
+      out = quiet_out (a.done is).0.0 (a.done is).0.2;
       err = ap (λ e. e.faults) (a.done is).1;
     };
   }

@@ -1,6 +1,6 @@
 -- Walks one after another end once where each does.
 use Rattle.std.proofs.Common.{◌≡◌, ℕ, List, inl, inr, refl, sym, ap, ap₂, ◌∙◌, subst}
-use Rattle.mpc_top.specs.Verdict.{Verdict, accepted, missing, refused, Ends, Then, EndsOnce}
+use Rattle.job_walk.specs.Verdict.{Verdict, accepted, missing, refused, Ends, Then, EndsOnce}
 
 pub ends_once : {A : Type 0} (verdict : Verdict A) → EndsOnce (Ends verdict)
 ends_once verdict v w e f = e ∙ sym f

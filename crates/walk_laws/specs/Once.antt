@@ -1,8 +1,8 @@
 -- That a walk ends with one verdict at most.
 use Rattle.std.specs.Prelude.{Option, Some}
 use Rattle.command_words.specs.Commands.{CommandForm}
-use Rattle.mpc_top.specs.Verdict.{EndsOnce}
-use Rattle.mpc_top.specs.JobOf.{Contents}
+use Rattle.job_walk.specs.Verdict.{EndsOnce}
+use Rattle.job_walk.specs.JobOf.{Contents}
 use Rattle.mpc_top.specs.Due.{IsDue}
 
 -- any words over any files that tell are due one verdict at most

@@ -1,17 +1,29 @@
 -- What single statuses say, as it follows from the answer of the top call.
-use Rattle.std.specs.Prelude.{◌≡◌, ◌⊎◌, ℕ, List, [], ◌∷◌, Contains, None, IsSome, Ok}
+use Rattle.std.specs.Prelude.{◌≡◌, ◌⊎◌, ℕ, List, [], ◌∷◌, Contains, Option, None, IsSome, Ok, Err}
 use Rattle.outer_io.specs.Sink.{Writes}
-use Rattle.command_words.specs.Commands.{command_of}
+use Rattle.node_talk.specs.declared.fault.NodeFault.{NodeFault}
+use Rattle.command_words.specs.Commands.{CommandForm, command_of}
 use Rattle.mpc_top.specs.Texts.{usage_text}
-use Rattle.mpc_top.specs.Verdict.{refused}
-use Rattle.mpc_top.specs.Due.{IsDue}
-use Rattle.mpc_top.specs.Command.{Outside, AnyRose, Answers}
+use Rattle.job_walk.specs.Verdict.{accepted, refused}
+use Rattle.job_walk.specs.NodeOf.{NodeForm}
+use Rattle.mpc_top.specs.Outside.{Outside}
+use Rattle.mpc_top.specs.Due.{talk, Suits, IsDue}
+use Rattle.mpc_top.specs.NodeTalks.{Talks, MeetsNobody}
+use Rattle.mpc_top.specs.Command.{AnyRose, Answers}
 
 -- no count of faults changed
 pub record SameCounts (before after : Outside) : Type 0 where
   pub files : after.files.faults ≡ before.files.faults
   pub out : after.out.faults ≡ before.out.faults
   pub err : after.err.faults ≡ before.err.faults
+
+-- a talk is due, and it ended with a fault, or the net gave no links for it
+abbrev pub FailsToTalk : Option CommandForm → Outside → Outside → Type 0
+FailsToTalk command before after =
+    (job : NodeForm)
+    × IsDue command before.files.told (accepted (talk job))
+    × Suits command (accepted (talk job))
+    × (((fault : NodeFault) × Talks job before after (Err fault)) ⊎ MeetsNobody job before after)
 
 pub record StatusSays (words : List (List ℕ)) (before after : Outside) (status : ℕ) : Type 0 where
   pub one_of : Contains (0 ∷ 2 ∷ 3 ∷ 4 ∷ 5 ∷ 6 ∷ []) status
@@ -29,8 +41,8 @@ pub record StatusSays (words : List (List ℕ)) (before after : Outside) (status
       × IsDue (command_of words) before.files.told (refused status line)
       × (after.out ≡ before.out)
       × Writes line before.err after.err (Ok tt)
-  -- 5: a count of faults rose
-  pub fault : status ≡ 5 → AnyRose before after
+  -- 5: a count of faults rose, or the talk of a node ended with a fault, or its net failed
+  pub fault : status ≡ 5 → AnyRose before after ⊎ FailsToTalk (command_of words) before after
   -- 6: nothing was written
   pub memory : status ≡ 6 → (after.out ≡ before.out) × (after.err ≡ before.err)
   -- at any status but 5 no count changed

@@ -1,10 +1,10 @@
 use Rattle.std.proofs.Common.{ℕ, List}
 use Rattle.other_file.specs.Table.{other_in}
 use Rattle.refusal_text.specs.Lines.{other_line}
-use Rattle.mpc_top.specs.Verdict.{Verdict, verdict_of}
-use Rattle.mpc_top.specs.JobOf.{OtherAt}
-use Rattle.mpc_top.proofs.Steps.{reads_exit, reads_then, reads_walk}
-use Rattle.mpc_top.proofs.Equal.{bytes_same}
+use Rattle.job_walk.specs.Verdict.{Verdict, verdict_of}
+use Rattle.mpc_top.specs.WholeJobs.{OtherAt}
+use Rattle.job_walk.proofs.Steps.{reads_exit, reads_then, reads_walk}
+use Rattle.job_walk.proofs.Equal.{bytes_same}
 use Rattle.mpc_top.proofs.other.read_other_inputs.Goals as goal
 
 pub returns-in_err-bytes-clause-reads : goal.returns-in_err-bytes-clause-reads

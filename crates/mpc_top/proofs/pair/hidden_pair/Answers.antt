@@ -7,10 +7,11 @@ use Rattle.tape_map.specs.declared.fault.MapFault.{MapFault}
 use Rattle.tape_map.proofs.NoFaults.{no_fault}
 use Rattle.tape_map.proofs.Recipients.{recipient_below}
 use Rattle.refusal_text.specs.Lines.{pair_line}
-use Rattle.mpc_top.specs.Verdict.{Verdict, Ends, unless}
-use Rattle.mpc_top.specs.JobOf.{PairedJob, WholeJob, mask_of, hidden_of, paired_job, whole_job}
-use Rattle.mpc_top.specs.Seen.{planned_view, parties_view}
-use Rattle.mpc_top.specs.Reads.{StopsBy}
+use Rattle.job_walk.specs.Verdict.{Verdict, Ends, unless}
+use Rattle.mpc_top.specs.WholeJobs.{PairedJob, WholeJob, mask_of, hidden_of, paired_job, whole_job}
+use Rattle.job_walk.specs.Seen.{planned_view}
+use Rattle.mpc_top.specs.Seen.{parties_view}
+use Rattle.job_walk.specs.Reads.{StopsBy}
 use Rattle.mpc_top.proofs.pair.hidden_pair.Goals as goal
 
 -- what the fault of a job's change of tapes decides

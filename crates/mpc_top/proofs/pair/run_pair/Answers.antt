@@ -1,4 +1,4 @@
-use Rattle.std.proofs.Common.{◌≡◌, ℕ, List, Option, None, Some, Result, Ok, refl, sym, ap, subst, ◌∙◌, length, map}
+use Rattle.std.proofs.Common.{◌≡◌, ℕ, List, Option, Some, Result, Ok, refl, sym, ap, subst, ◌∙◌, length, map}
 use Rattle.std.specs.Prelude.{IfSome}
 use Rattle.std.proofs.lemmas.List.{length-map}
 use Rattle.std.specs.Global.{Vec}
@@ -16,15 +16,12 @@ use Rattle.tape_map.specs.TapeMaps.{second_world}
 use Rattle.tape_map.specs.Laws.{CanHide}
 use Rattle.command_words.specs.Commands.{pair}
 use Rattle.output_text.specs.PairText.{pair_text}
-use Rattle.mpc_top.specs.JobOf.{mask_of}
+use Rattle.mpc_top.specs.WholeJobs.{mask_of}
 use Rattle.mpc_top.specs.Seen.{parties_view}
-use Rattle.mpc_top.proofs.Steps.{keeps_then}
-use Rattle.mpc_top.proofs.Runs.{runs_stop, runs_memory, runs_written, runs_cut}
+use Rattle.job_walk.proofs.Steps.{keeps_then}
+use Rattle.mpc_top.proofs.Runs.{as_text, runs_stop, runs_memory, runs_written, runs_cut}
 use Rattle.mpc_top.proofs.Pairs.{plan_stops, parties_stop, other_stops, hiding_stops, pair_read, text_read, pair_hides}
 use Rattle.mpc_top.proofs.pair.run_pair.Goals as goal
-
-abbrev own : List ℕ → List ℕ
-own text = text
 
 -- the text of a pair for the mask of the group that was asked for
 same_text : (names : List (List ℕ)) (w : World) (other : List (List (List ℕ))) (asked mask : ℕ) (before after : SinkReading) (result : Result Unit Failed) → asked ≡ mask
@@ -41,11 +38,11 @@ of_group asked group parties is there = subst (λ o. IfSome o (λ g. g.parties �
 
 pub returns-in_err-planned : goal.returns-in_err-planned
 returns-in_err-planned g c =
-    runs_stop (pair c.args.dir.now c.args.group.now) _ _ _ _ own _ _ c.from_residual.ensures.1 refl (plan_stops c.args.dir.now c.args.group.now _ _ _ c.in_err-planned.ensures.reads)
+    runs_stop (pair c.args.dir.now c.args.group.now) _ _ _ _ as_text _ _ c.from_residual.ensures.1 refl (plan_stops c.args.dir.now c.args.group.now _ _ _ c.in_err-planned.ensures.reads)
 
 pub returns-in_err-parties : goal.returns-in_err-parties
 returns-in_err-parties g c =
-    runs_stop (pair c.args.dir.now c.args.group.now) _ _ _ _ own _ _ c.from_residual-in_err-parties.ensures.1 refl
+    runs_stop (pair c.args.dir.now c.args.group.now) _ _ _ _ as_text _ _ c.from_residual-in_err-parties.ensures.1 refl
     (parties_stop c.args.dir.now c.args.group.now c.in_ok-planned.planned _ _ c.in_ok-planned.ensures.reads _ _ c.in_err-parties.ensures.reads)
 
 pub inputs_of-requires-clause-fit : goal.inputs_of-requires-clause-fit
@@ -58,7 +55,7 @@ returns-in_err-inputs g c =
 
 pub returns-in_err-other : goal.returns-in_err-other
 returns-in_err-other g c =
-    runs_stop (pair c.args.dir.now c.args.group.now) _ _ _ _ own _ _ c.from_residual-in_err-other.ensures.1 refl
+    runs_stop (pair c.args.dir.now c.args.group.now) _ _ _ _ as_text _ _ c.from_residual-in_err-other.ensures.1 refl
     (other_stops c.args.dir.now c.args.group.now c.in_ok-planned.planned _ _ c.in_ok-planned.ensures.reads _ c.in_ok-parties.parties c.in_ok-parties.ensures.reads
     _ (same_given c.in_ok-planned.planned.plan _ _ _ c.deref.ensures.value c.in_ok-inputs.ensures.same) _ _ c.in_err-other.ensures.reads)
 
@@ -67,7 +64,7 @@ hidden_pair-requires-clause-group g c = of_group _ _ _ c.group_of-group.ensures 
 
 pub returns-in_err-pair : goal.returns-in_err-pair
 returns-in_err-pair g c =
-    runs_stop (pair c.args.dir.now c.args.group.now) _ _ _ _ own _ _ c.from_residual-in_err-pair.ensures.1 refl
+    runs_stop (pair c.args.dir.now c.args.group.now) _ _ _ _ as_text _ _ c.from_residual-in_err-pair.ensures.1 refl
     (hiding_stops c.args.dir.now c.args.group.now c.in_ok-planned.planned _ _ c.in_ok-planned.ensures.reads _ c.in_ok-parties.parties c.in_ok-parties.ensures.reads
     _ (same_given c.in_ok-planned.planned.plan _ _ _ c.deref.ensures.value c.in_ok-inputs.ensures.same) _ c.in_ok-other.other c.in_ok-other.ensures.reads _ c.in_err-pair.ensures.walks)
 

@@ -1,12 +1,12 @@
 use Rattle.std.proofs.Common.{List, ℕ, ◌+◌, ◌∷◌, [], length, map, length-append, sym, ap, subst, ◌∙◌, arith}
 use Rattle.std.proofs.lemmas.Option.{get_or_from_slice_get}
 use Rattle.party_file.specs.Forms.{form_of}
-use Rattle.mpc_top.specs.JobOf.{PartiesAfter}
+use Rattle.job_walk.specs.JobOf.{PartiesAfter}
 use Rattle.mpc_top.specs.Seen.{parties_view}
-use Rattle.mpc_top.specs.Reads.{ReadsAs}
-use Rattle.mpc_top.proofs.Steps.{reads_memory}
+use Rattle.job_walk.specs.Reads.{ReadsAs}
+use Rattle.job_walk.proofs.Steps.{reads_memory}
 use Rattle.job_run.proofs.PartyForms.{fit_push}
-use Rattle.mpc_top.proofs.Loops.{party_next, party_stops, parties_end, parties_same, same_names, parties_push, length-forms, fit_none}
+use Rattle.mpc_top.proofs.PartyLoops.{party_next, party_stops, parties_end, parties_same, same_names, parties_push, length-forms, fit_none}
 use Rattle.mpc_top.proofs.parties.read_parties.Goals as goal
 
 pub returns-in_err-party-clause-reads : goal.returns-in_err-party-clause-reads

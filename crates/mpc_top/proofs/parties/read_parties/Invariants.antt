@@ -3,10 +3,10 @@ use Rattle.std.specs.declared.alloc.Global.{Global}
 use Rattle.outer_io.specs.Files.{FilesReading}
 use Rattle.party_file.specs.declared.data.PartyData.{PartyData}
 use Rattle.job_run.specs.Parties.{AllFit}
-use Rattle.mpc_top.specs.declared.stop.Stop.{Stop}
-use Rattle.mpc_top.specs.JobOf.{PartiesAfter}
+use Rattle.job_walk.specs.declared.stop.Stop.{Stop}
+use Rattle.job_walk.specs.JobOf.{PartiesAfter}
 use Rattle.mpc_top.specs.Seen.{parties_view}
-use Rattle.mpc_top.specs.Reads.{ReadsAs}
+use Rattle.job_walk.specs.Reads.{ReadsAs}
 use Rattle.mpc_top.proofs.parties.read_parties.Given as goal
 
 -- whatever reads the files that are left reads them all

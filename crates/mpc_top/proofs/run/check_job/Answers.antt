@@ -1,12 +1,12 @@
-use Rattle.std.proofs.Common.{List, ℕ, refl}
+use Rattle.std.proofs.Common.{refl}
 use Rattle.command_words.specs.Commands.{check}
 use Rattle.output_text.specs.CheckText.{check_text}
-use Rattle.mpc_top.proofs.Runs.{runs_stop, runs_written, runs_cut, check_stops, check_read}
+use Rattle.mpc_top.proofs.Runs.{as_text, runs_stop, runs_written, runs_cut, check_stops, check_read}
 use Rattle.mpc_top.proofs.run.check_job.Goals as goal
 
 pub returns-in_err-planned : goal.returns-in_err-planned
 returns-in_err-planned g c =
-    runs_stop (check c.args.dir.now) _ _ _ _ (λ (t : List ℕ). t) _ _ c.from_residual.ensures.1 refl (check_stops c.args.dir.now _ _ _ c.in_err-planned.ensures.reads)
+    runs_stop (check c.args.dir.now) _ _ _ _ as_text _ _ c.from_residual.ensures.1 refl (check_stops c.args.dir.now _ _ _ c.in_err-planned.ensures.reads)
 
 pub returns-in_err-write_check : goal.returns-in_err-write_check
 returns-in_err-write_check g c =

@@ -3,9 +3,10 @@ use Rattle.outer_io.specs.Sink.{Writes}
 use Rattle.job_run.specs.Parties.{world_of}
 use Rattle.command_words.specs.Commands.{run}
 use Rattle.output_text.specs.ViewText.{run_text}
-use Rattle.mpc_top.specs.Seen.{parties_view, text_view}
-use Rattle.mpc_top.proofs.Steps.{keeps_then}
-use Rattle.mpc_top.proofs.Runs.{runs_stop, runs_memory, runs_written, runs_cut, run_stops, run_stops_later, run_read}
+use Rattle.job_walk.specs.Seen.{text_view}
+use Rattle.mpc_top.specs.Seen.{parties_view}
+use Rattle.job_walk.proofs.Steps.{keeps_then}
+use Rattle.mpc_top.proofs.Runs.{as_text, runs_stop, runs_memory, runs_written, runs_cut, run_stops, run_stops_later, run_read}
 use Rattle.mpc_top.proofs.Jobs.{job_read}
 use Rattle.mpc_top.proofs.HiddenInputs.{run_hides}
 use Rattle.mpc_top.proofs.run.run_job.Goals as goal
@@ -13,13 +14,13 @@ use Rattle.mpc_top.proofs.run.run_job.Goals as goal
 pub returns-in_err-planned : goal.returns-in_err-planned
 returns-in_err-planned g c =
     let view = text_view c.args.view in
-    runs_stop (run c.args.dir.now c.args.workers view) _ _ _ _ (λ (t : List ℕ). t) _ _ c.from_residual.ensures.1 refl
+    runs_stop (run c.args.dir.now c.args.workers view) _ _ _ _ as_text _ _ c.from_residual.ensures.1 refl
     (run_stops c.args.dir.now _ _ c.args.workers view _ c.in_err-planned.ensures.reads)
 
 pub returns-in_err-parties : goal.returns-in_err-parties
 returns-in_err-parties g c =
     let view = text_view c.args.view in
-    runs_stop (run c.args.dir.now c.args.workers view) _ _ _ _ (λ (t : List ℕ). t) _ _ c.from_residual-in_err-parties.ensures.1 refl
+    runs_stop (run c.args.dir.now c.args.workers view) _ _ _ _ as_text _ _ c.from_residual-in_err-parties.ensures.1 refl
     (run_stops_later c.args.dir.now c.args.workers view c.in_ok-planned.planned _ _ _ c.in_ok-planned.ensures.reads _ c.in_err-parties.ensures.reads)
 
 pub returns-in_err-ready : goal.returns-in_err-ready

@@ -8,19 +8,16 @@ use Rattle.desk_laws.specs.Pieces.{world_of_pieces}
 use Rattle.command_words.specs.Commands.{sample}
 use Rattle.output_text.specs.SampleText.{sample_text}
 use Rattle.sample_maker.specs.Samples.{sample_names, sample_plan, sample_inputs, sample_pieces, sample_job}
-use Rattle.mpc_top.specs.Due.{TextOf}
-use Rattle.mpc_top.specs.Reads.{ReadsAs}
-use Rattle.mpc_top.proofs.Steps.{keeps_now, reads_end}
-use Rattle.mpc_top.proofs.Runs.{runs_memory, runs_written, runs_cut}
+use Rattle.mpc_top.specs.Due.{DueOf}
+use Rattle.job_walk.specs.Reads.{ReadsAs}
+use Rattle.job_walk.proofs.Steps.{keeps_now, reads_end}
+use Rattle.mpc_top.proofs.Runs.{as_text, runs_memory, runs_written, runs_cut}
 use Rattle.mpc_top.proofs.sample.run_sample.Goals as goal
 
-abbrev own : List ℕ → List ℕ
-own text = text
-
 -- a sample reads no file
-due : (count : ℕ) (now : FilesReading) → ReadsAs own (TextOf (sample count)) now now (Ok (sample_text sample_names (sample_job count) count))
-unfolding TextOf
-due count now = reads_end own now (sample_text sample_names (sample_job count) count)
+due : (count : ℕ) (now : FilesReading) → ReadsAs as_text (DueOf (sample count)) now now (Ok (sample_text sample_names (sample_job count) count))
+unfolding DueOf
+due count now = reads_end as_text now (sample_text sample_names (sample_job count) count)
 
 -- what was made is the job of the number
 is_job : (count : ℕ) (plan : Plan) (inputs : List (List (List ℕ))) (pieces : List (List ℕ)) → plan ≡ sample_plan count → inputs ≡ sample_inputs count → pieces ≡ sample_pieces count

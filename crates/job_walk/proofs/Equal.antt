@@ -1,0 +1,50 @@
+-- The same steps over equal names, bytes and lists.
+use Rattle.std.proofs.Common.{◌≡◌, ℕ, ◌<◌, ◌≤◌, ◌+◌, zero, suc, All, List, [], ◌∷◌, length, drop, map, get_or, Result, refl, ap, ap₂, ◌∙◌, subst, arith}
+use Rattle.std.proofs.lemmas.List.Elements.{All-head, All-tail}
+use Rattle.outer_io.specs.Files.{FilesReading}
+use Rattle.party_set.specs.Parties.{Members}
+use Rattle.plan_faults.specs.declared.part_fault.PartFault.{PartFault}
+use Rattle.circuit_model.specs.Netlists.{Netlist}
+use Rattle.job_session.specs.Sessions.{Session}
+use Rattle.job_walk.specs.declared.stop.Stop.{Stop}
+use Rattle.job_walk.specs.Verdict.{Verdict, Ends}
+use Rattle.job_walk.specs.JobOf.{file_at, groups_in, part_of}
+use Rattle.job_walk.specs.Reads.{ReadsAs, WalksAs}
+
+pub file_named : {C : Type 0} (seen : C → List ℕ) (dir name other : List ℕ) (before after : FilesReading) (result : Result C Stop) → name ≡ other
+    → ReadsAs seen (λ m. Ends (file_at m dir name)) before after result → ReadsAs seen (λ m. Ends (file_at m dir other)) before after result
+file_named seen dir name other before after result same r = subst (λ n. ReadsAs seen (λ m. Ends (file_at m dir n)) before after result) same r
+
+-- a verdict over these bytes
+pub bytes_same : {A C : Type 0} (seen : C → A) (verdict : List ℕ → Verdict A) (bytes other : List ℕ) (result : Result C Stop) → bytes ≡ other → WalksAs seen (Ends (verdict bytes)) result → WalksAs seen (Ends (verdict other)) result
+bytes_same seen verdict bytes other result same w = subst (λ b. WalksAs seen (Ends (verdict b)) result) same w
+
+-- the groups that these masks tell, where all are of so many parties
+pub groups_same : (parties : ℕ) (groups : List Members) → All (λ (g : Members). g.parties ≡ parties) groups → groups ≡ groups_in parties (map (λ (g : Members). g.mask) groups)
+groups_same parties [] all = refl
+groups_same parties (g ∷ gs) all =
+    let first : g ≡ record { parties = parties; mask = g.mask } = ap (λ n. record { parties = n; mask = g.mask }) (All-head (λ (g : Members). g.parties ≡ parties) g gs all) in
+    ap₂ (λ x xs. x ∷ xs) first (groups_same parties gs (All-tail (λ (g : Members). g.parties ≡ parties) g gs all))
+
+-- the session of a circuit whose groups of readers are told by masks
+pub part_same : (line : PartFault → List ℕ) (circuit : Netlist) (owners owners' : List ℕ) (parties : ℕ) (groups groups' : List Members) (result : Result Session Stop)
+    → owners ≡ owners' → groups ≡ groups' → All (λ (g : Members). g.parties ≡ parties) groups'
+    → WalksAs (λ part. part) (Ends (part_of line circuit owners groups)) result → WalksAs (λ part. part) (Ends (part_of line circuit owners' (groups_in parties (map (λ (g : Members). g.mask) groups')))) result
+part_same line circuit owners owners' parties groups groups' result same e all w =
+    subst (λ os. WalksAs (λ part. part) (Ends (part_of line circuit os (groups_in parties (map (λ (g : Members). g.mask) groups')))) result) same
+    (subst (λ gs. WalksAs (λ part. part) (Ends (part_of line circuit owners gs)) result) (e ∙ groups_same parties groups' all) w)
+
+-- what is left of a list before and after one more
+next_left : {A B : Type 0} (f : A → B) (xs : List A) (i : ℕ) (d : A) → i < length xs → drop i (map f xs) ≡ f (get_or xs i d) ∷ drop (suc i) (map f xs)
+next_left f [] i d l = absurd (omega arith)
+next_left f (x ∷ xs) zero d l = refl
+next_left f (x ∷ xs) (suc i) d l = next_left f xs i d (omega arith)
+
+pub left_of : {A B : Type 0} (f : A → B) (xs : List A) (i : ℕ) (d : A) → i < length xs → drop i (map f xs) ≡ f (get_or xs i d) ∷ drop (i + 1) (map f xs)
+left_of f xs i d l = let e : suc i ≡ i + 1 = omega arith in next_left f xs i d l ∙ ap (λ n. f (get_or xs i d) ∷ drop n (map f xs)) e
+
+pub none_left : {A B : Type 0} (f : A → B) (xs : List A) (i : ℕ) → length xs ≤ i → drop i (map f xs) ≡ []
+none_left f [] zero l = refl
+none_left f [] (suc i) l = refl
+none_left f (x ∷ xs) zero l = absurd (omega arith)
+none_left f (x ∷ xs) (suc i) l = none_left f xs i (omega arith)

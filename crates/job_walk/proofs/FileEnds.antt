@@ -1,0 +1,54 @@
+-- What a read of a file says of the walk.
+use Rattle.std.proofs.Common.{◌≡◌, ℕ, ◌<◌, ◌≤◌, List, length, Option, None, Some, Vec, Result, Err, refl, arith, ap, ◌∙◌, sym}
+use Rattle.std.specs.Prelude.{IfSome}
+use Rattle.std.specs.declared.alloc.Global.{Global}
+use Rattle.outer_io.specs.declared.files.ReadRefusal.{ReadRefusal}
+use Rattle.outer_io.specs.declared.files.ReadRefusal.TheVariants.{Failed, TooLong}
+use Rattle.outer_io.specs.Files.{FilesReading, Told, Reads, IsContent, IsLonger, IsThere}
+use Rattle.job_walk.specs.Names.{path_of}
+use Rattle.job_walk.specs.JobOf.{file_at, bytes_of, file_limit}
+use Rattle.job_walk.specs.Verdict.{accepted, missing, refused}
+use Rattle.job_walk.specs.Reads.{KeepsFiles}
+use Rattle.refusal_text.specs.Lines.{too_long_line}
+
+pub read_keeps : (name : List ℕ) (limit : ℕ) (before after : FilesReading) (result : Result (Vec ℕ Global) ReadRefusal) → Reads name limit before after result → KeepsFiles before after
+read_keeps name limit before after result r = record {
+  same_told = r.same_told;
+  faults_grow = r.faults_grow;
+  taken_grows = r.taken_grows;
+  keeps_steady = r.keeps_steady;
+}
+
+bytes_of-short : (bytes name : List ℕ) → length bytes ≤ file_limit → bytes_of (Some bytes) name ≡ accepted bytes
+unfolding bytes_of
+bytes_of-short bytes name h = grind arith
+
+bytes_of-long : (bytes name : List ℕ) → file_limit < length bytes → bytes_of (Some bytes) name ≡ refused 3 (too_long_line name)
+unfolding bytes_of
+bytes_of-long bytes name h = grind arith
+
+pub file_ok : (told : Told) (dir : List ℕ) (name : List ℕ) (path bytes : List ℕ) → path ≡ path_of dir name → IsContent told path bytes → length bytes ≤ file_limit
+    → IfSome told (λ m. accepted bytes ≡ file_at m dir name)
+unfolding file_at
+file_ok None dir name path bytes same is short = tt
+file_ok (Some m) dir name path bytes same is short = sym (ap (λ o. bytes_of o name) (ap m (sym same) ∙ is) ∙ bytes_of-short bytes name short)
+
+pub file_long : (told : Told) (dir : List ℕ) (name : List ℕ) (path : List ℕ) → path ≡ path_of dir name → IsLonger told path file_limit
+    → IfSome told (λ m. refused 3 (too_long_line name) ≡ file_at m dir name)
+unfolding file_at
+file_long None dir name path same is = tt
+file_long (Some m) dir name path same is = sym (ap (λ o. bytes_of o name) (ap m (sym same) ∙ is.1) ∙ bytes_of-long is.0 name is.2)
+
+missing_or : (o : Option (List ℕ)) (name : List ℕ) → ((bytes : List ℕ) × (o ≡ Some bytes) → ⊥) → bytes_of o name ≡ missing name
+unfolding bytes_of
+missing_or None name not = refl
+missing_or (Some bytes) name not = absurd (not (bytes, refl))
+
+pub file_missing : (told : Told) (dir : List ℕ) (name : List ℕ) (path : List ℕ) → path ≡ path_of dir name → (IsThere told path → ⊥)
+    → IfSome told (λ m. missing name ≡ file_at m dir name)
+unfolding file_at
+file_missing None dir name path same not = tt
+file_missing (Some m) dir name path same not = sym (missing_or (m (path_of dir name)) name (λ h. not (h.0, ap m same ∙ h.1)))
+
+pub long_is_no_fault : (result : Result (Vec ℕ Global) ReadRefusal) (refusal : ReadRefusal) → result ≡ Err refusal → refusal ≡ TooLong → result ≡ Err Failed → ⊥
+long_is_no_fault result refusal is long failed = cc

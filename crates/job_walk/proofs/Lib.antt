@@ -1,0 +1,5 @@
+pub mod Equal
+pub mod FileEnds
+pub mod Logs
+pub mod Loops
+pub mod Steps

@@ -1,0 +1,49 @@
+-- How the sessions are read one after another.
+use Rattle.std.proofs.Common.{◌≡◌, ℕ, ◌<◌, ◌≤◌, ◌+◌, List, [], ◌∷◌, ◌++◌, length, drop, map, get_or, Result, Ok, Err, Vec, suc, refl, sym, ap, ◌∙◌, subst}
+use Rattle.std.specs.Prelude.{IsErrAnd}
+use Rattle.std.specs.declared.alloc.Global.{Global}
+use Rattle.outer_io.specs.Files.{FilesReading}
+use Rattle.job_session.specs.Sessions.{Session}
+use Rattle.job_file.specs.Forms.{JobForm, SessionForm}
+use Rattle.job_file.specs.Jobs.{session_view}
+use Rattle.job_file.specs.declared.job.JobSession.{JobSession}
+use Rattle.job_walk.specs.declared.stop.Stop.{Stop}
+use Rattle.job_walk.specs.JobOf.{SessionAt, SessionsAfter}
+use Rattle.job_walk.specs.Reads.{ReadsAs}
+use Rattle.job_walk.proofs.Steps.{reads_exit, reads_then, reads_end}
+use Rattle.job_walk.proofs.Equal.{left_of, none_left}
+
+abbrev pub seen_parts : Vec Session Global → List Session
+seen_parts parts = parts.items
+
+module _ (dir : List ℕ) (job : JobForm) (sessions : List JobSession) (s : ℕ) (before : FilesReading) (result : Result (Vec Session Global) Stop) where
+  abbrev ReadsRest : List Session → ℕ → FilesReading → FilesReading → Type 0
+  ReadsRest parts s before after = ReadsAs seen_parts (λ m. SessionsAfter m dir job parts (drop s (map session_view sessions))) before after result
+
+  -- the same over an equal list
+  pub parts_same : (parts parts' : List Session) (k : ℕ) (mid after : FilesReading) → parts ≡ parts' → ReadsRest parts k mid after → ReadsRest parts' k mid after
+  parts_same parts parts' k mid after same r = subst (λ ps. ReadsRest ps k mid after) same r
+
+  module _ (session : JobSession) (is : session ≡ get_or sessions s session) (l : s < length sessions) (parts : List Session) (count : length parts ≡ s) where
+    abbrev form : SessionForm
+    form = session_view session
+
+    on_list : (after : FilesReading) → ReadsAs seen_parts (λ m. SessionsAfter m dir job parts (form ∷ drop (s + 1) (map session_view sessions))) before after result → ReadsRest parts s before after
+    on_list after r = subst (λ xs. ReadsAs seen_parts (λ m. SessionsAfter m dir job parts xs) before after result) (sym (left_of session_view sessions s session l ∙ ap (λ x. session_view x ∷ drop (s + 1) (map session_view sessions)) (sym is))) r
+
+    pub session_next : (mid after : FilesReading) (part : Session) → ReadsAs (λ (part : Session). part) (λ m. SessionAt m dir job s form) before mid (Ok part)
+        → ReadsRest (parts ++ part ∷ []) (s + 1) mid after → ReadsRest parts s before after
+    unfolding SessionsAfter
+    session_next mid after part r rest =
+        on_list after (reads_then _ _ _ _ before mid after part result (subst (λ k. ReadsAs (λ (part : Session). part) (λ m. SessionAt m dir job k form) before mid (Ok part)) (sym count) r) rest)
+
+    pub session_stops : (after : FilesReading) (stop : Stop) → IsErrAnd result (λ e. e ≡ stop) → ReadsAs {C = Session} (λ part. part) (λ m. SessionAt m dir job s form) before after (Err stop) → ReadsRest parts s before after
+    unfolding SessionsAfter
+    session_stops after stop err r =
+        on_list after (reads_exit _ _ _ _ before after stop result err (subst (λ k. ReadsAs {C = Session} (λ part. part) (λ m. SessionAt m dir job k form) before after (Err stop)) (sym count) r))
+
+pub sessions_end : (dir : List ℕ) (job : JobForm) (sessions : List JobSession) (s : ℕ) (now : FilesReading) (parts : Vec Session Global) → length sessions ≤ s
+    → ReadsAs seen_parts (λ m. SessionsAfter m dir job parts.items (drop s (map session_view sessions))) now now (Ok parts)
+unfolding SessionsAfter
+sessions_end dir job sessions s now parts all =
+    subst (λ xs. ReadsAs seen_parts (λ m. SessionsAfter m dir job parts.items xs) now now (Ok parts)) (sym (none_left session_view sessions s all)) (reads_end seen_parts now parts)

@@ -1,0 +1,178 @@
+-- The job that files stand for, where they tell what they hold: one walk, in which each file is judged before the next
+-- is read.
+use Rattle.std.specs.Prelude.{◌≡◌, ℕ, nat_le, Bool, if◌then◌else◌, false, List, [], ◌∷◌, ◌++◌, length, map, Option, None, Some, slice_index}
+use Rattle.party_set.specs.Parties.{Structure, Members, IsQ2}
+use Rattle.group_formula.specs.Trees.{Meaning}
+use Rattle.group_formula.specs.Formulas.{IsFormula, IsFault}
+use Rattle.group_formula.specs.declared.fault.FormulaFault.{FormulaFault}
+use Rattle.group_formula.specs.Trees.{is_tolerated}
+use Rattle.maximal_groups.specs.Families.{maximal_structure, is_tolerated_by}
+use Rattle.q2_test.specs.CoveringPairs.{IsFirstCovering}
+use Rattle.circuit_model.specs.Netlists.{Netlist}
+use Rattle.circuit_file.specs.CircuitFiles.{circuit_in}
+use Rattle.job_session.specs.Sessions.{Session}
+use Rattle.job_plan.specs.Plans.{Plan, plan_of}
+use Rattle.job_plan.specs.Limits.{IsPlanWithin, IsPlanRefusal}
+use Rattle.job_session.specs.Parts.{part_fault, session_of}
+use Rattle.plan_faults.specs.declared.part_fault.PartFault.{PartFault}
+use Rattle.plan_faults.specs.declared.plan_fault.PlanFault.{PlanFault}
+use Rattle.plan_faults.specs.declared.plan_fault.PlanFault.TheVariants as plan_fault
+use Rattle.job_file.specs.Forms.{JobForm, SessionForm, AdversaryForm, by_formula, by_list}
+use Rattle.job_file.specs.Faults.{job_in}
+use Rattle.group_text.specs.GroupTexts.{group_in}
+use Rattle.party_file.specs.Table.{PartyForm, party_in}
+use Rattle.refusal_text.specs.Lines.{too_long_line, job_line, group_line, formula_line, groups_line, covering_line, circuit_line, session_line, plan_line, party_line}
+use Rattle.job_walk.specs.Names as file_names
+use Rattle.job_walk.specs.Verdict.{Verdict, accepted, missing, refused, Ends, Then, verdict_of, unless}
+
+-- what files hold: for each path its bytes, or none where no file is there
+abbrev pub Contents : Type 0
+Contents = List ℕ → Option (List ℕ)
+
+-- ---- a file
+
+-- the most bytes that a file may have
+abbrev pub file_limit : ℕ
+file_limit = 16777216
+
+-- the bytes of a file, unless it is missing or too long
+unfoldable pub bytes_of : Option (List ℕ) → List ℕ → Verdict (List ℕ)
+bytes_of None name = missing name
+bytes_of (Some bytes) name =
+    if nat_le (length bytes) file_limit then accepted bytes else refused 3 (too_long_line name)
+
+unfoldable pub file_at : Contents → List ℕ → List ℕ → Verdict (List ℕ)
+file_at files dir name = bytes_of (files (file_names.path_of dir name)) name
+
+-- ---- the job's file
+
+-- read for a node or not
+unfoldable pub JobText : Bool → Contents → List ℕ → Verdict JobForm → Type 0
+JobText node files dir =
+    Then (Ends (file_at files dir file_names.job_file)) (λ bytes.
+    Ends (verdict_of job_line (job_in node bytes)))
+
+-- ---- the group
+
+-- the group of which is asked what it sees, if one is asked for
+unfoldable pub GroupOf : List (List ℕ) → Option (List ℕ) → Verdict (Option Members) → Type 0
+GroupOf names None = Ends (accepted None)
+GroupOf names (Some text) =
+    Then (Ends (verdict_of group_line (group_in names text))) (λ group. Ends (accepted (Some group)))
+
+-- ---- the structure
+
+-- the formula of the qualified groups
+unfoldable pub FormulaOf : List (List ℕ) → List ℕ → Verdict Meaning → Type 0
+FormulaOf names text (accepted formula) = IsFormula text names formula
+FormulaOf names text (missing name) = ⊥
+FormulaOf names text (refused status line) =
+    (fault : FormulaFault)
+    × IsFault text names fault
+    × (status ≡ 3)
+    × (line ≡ formula_line fault)
+
+-- at most 64 maximal tolerated groups
+unfoldable pub few_groups : Structure → Verdict Structure
+few_groups s = if nat_le (length s.groups) 64 then accepted s else refused 3 (groups_line 65)
+
+-- the maximal groups of n parties
+unfoldable pub groups_of : ℕ → (ℕ → Bool) → Verdict Structure
+groups_of n tolerated = few_groups (maximal_structure n tolerated)
+
+-- the maximal tolerated groups, which a formula or a list tells
+unfoldable pub GroupsOf : List (List ℕ) → AdversaryForm → Verdict Structure → Type 0
+GroupsOf names (by_formula text) =
+    Then (FormulaOf names text) (λ formula. Ends (groups_of formula.parties (is_tolerated formula)))
+GroupsOf names (by_list masks) =
+    Ends (groups_of (length names) (is_tolerated_by (length names) masks))
+
+-- no two groups that together are all parties
+unfoldable pub Q2Of : JobForm → Structure → Verdict Structure → Type 0
+Q2Of job s (accepted same) = (same ≡ s) × IsQ2 s
+Q2Of job s (missing name) = ⊥
+Q2Of job s (refused status line) =
+    (i : ℕ) × (j : ℕ)
+    × IsFirstCovering s i j
+    × (status ≡ 4)
+    × (line ≡ covering_line job.names (slice_index s.groups i) (slice_index s.groups j))
+
+unfoldable pub StructureOf : JobForm → Verdict Structure → Type 0
+StructureOf job = Then (GroupsOf job.names job.adversary) (Q2Of job)
+
+-- ---- the sessions
+
+-- the groups of so many parties that these masks tell
+abbrev pub groups_in : ℕ → List ℕ → List Members
+groups_in parties masks = map (λ mask. record { parties = parties; mask = mask }) masks
+
+-- the session of a circuit, where the counts of owners and readers are the circuit's
+abbrev pub part_of : (PartFault → List ℕ) → Netlist → List ℕ → List Members → Verdict Session
+part_of line circuit owners readers =
+    unless (part_fault circuit owners readers) line (session_of circuit owners readers)
+
+-- session s: its circuit's file, and its counts of owners and readers
+unfoldable pub SessionAt : Contents → List ℕ → JobForm → ℕ → SessionForm → Verdict Session → Type 0
+SessionAt files dir job s form =
+    Then (Ends (file_at files dir form.circuit)) (λ bytes.
+    Then (Ends (verdict_of (circuit_line form.circuit s)
+    (circuit_in form.layout job.bits bytes))) (λ circuit.
+    Ends (part_of (session_line s) circuit form.owners
+    (groups_in (length job.names) form.readers))))
+
+-- these sessions, after those that were read
+unfoldable pub SessionsAfter :
+    Contents → List ℕ → JobForm → List Session → List SessionForm → Verdict (List Session) → Type 0
+SessionsAfter files dir job before [] = Ends (accepted before)
+SessionsAfter files dir job before (form ∷ forms) =
+    Then (SessionAt files dir job (length before) form) (λ s.
+    SessionsAfter files dir job (before ++ (s ∷ [])) forms)
+
+-- ---- the plan
+
+-- a plan within the limits
+unfoldable pub PlanOf : JobForm → Plan → Verdict Plan → Type 0
+PlanOf job plan (accepted same) = (same ≡ plan) × IsPlanWithin plan
+PlanOf job plan (missing name) = ⊥
+PlanOf job plan (refused status line) =
+    (fault : PlanFault)
+    × IsPlanRefusal plan fault
+    × ¬ (fault ≡ plan_fault.Memory)
+    × (status ≡ 3)
+    × (line ≡ plan_line job.names fault)
+
+-- the names of the parties, the group that is asked for, and the plan
+pub record Planned : Type 0 where
+  pub names : List (List ℕ)
+  pub group : Option Members
+  pub plan : Plan
+
+unfoldable pub PlannedOf :
+    Contents → List ℕ → JobForm → Option Members → Structure → Verdict Planned → Type 0
+PlannedOf files dir job group s =
+    Then (SessionsAfter files dir job [] job.sessions) (λ sessions.
+    Then (PlanOf job (plan_of job.bits s sessions)) (λ plan.
+    Ends (accepted (record { names = job.names; group = group; plan = plan }))))
+
+-- the plan of a folder, for which no party's file is read, and the group that a text asks for
+unfoldable pub PlanAt : Contents → List ℕ → Option (List ℕ) → Verdict Planned → Type 0
+PlanAt files dir asked =
+    Then (JobText false files dir) (λ job.
+    Then (GroupOf job.names asked) (λ group.
+    Then (StructureOf job) (PlannedOf files dir job group)))
+
+-- ---- the parties
+
+-- what party p gives
+unfoldable pub PartyAt : Contents → List ℕ → Plan → ℕ → List ℕ → Verdict PartyForm → Type 0
+PartyAt files dir plan p name =
+    Then (Ends (file_at files dir (file_names.party_file name))) (λ bytes.
+    Ends (verdict_of (party_line (file_names.party_file name)) (party_in plan p bytes)))
+
+-- what the parties of these names give, after those whose files were read
+unfoldable pub PartiesAfter :
+    Contents → List ℕ → Plan → List PartyForm → List (List ℕ) → Verdict (List PartyForm) → Type 0
+PartiesAfter files dir plan before [] = Ends (accepted before)
+PartiesAfter files dir plan before (name ∷ more) =
+    Then (PartyAt files dir plan (length before) name) (λ party.
+    PartiesAfter files dir plan (before ++ (party ∷ [])) more)

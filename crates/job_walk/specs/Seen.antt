@@ -1,0 +1,27 @@
+-- What contracts see of what was read.
+use Rattle.std.specs.Prelude.{ℕ, List, Option}
+use Rattle.std.specs.Borrow.{Bor}
+use Rattle.std.specs.Option.{option_map}
+use Rattle.party_file.specs.Forms.{form_of}
+use Rattle.job_walk.specs.declared.plan.Planned as code
+use Rattle.job_walk.specs.declared.node.NodeJob.{NodeJob}
+use Rattle.job_walk.specs.JobOf.{Planned}
+use Rattle.job_walk.specs.NodeOf.{NodeForm}
+
+abbrev pub planned_view : code.Planned → Planned
+planned_view p = record { names = p.names; group = p.group; plan = p.plan }
+
+-- the bytes of a text, if there is one
+abbrev pub text_view : Option (Bor (List ℕ)) → Option (List ℕ)
+text_view text = option_map (λ bytes. bytes.now) text
+
+abbrev pub node_view : NodeJob → NodeForm
+node_view job = record {
+  names = job.names;
+  hosts = job.hosts;
+  port = job.port;
+  me = job.me;
+  plan = job.plan;
+  given = form_of job.given;
+  digest = job.digest;
+}

@@ -1,0 +1,84 @@
+//! One party of a job, by itself.
+ghost use Rattle.std.specs.Prelude.{◌≡◌, ◌<◌, IfOk, length};
+ghost use Rattle.party_set.specs.Names.{party_named};
+ghost use Rattle.party_file.specs.Forms.{form_of, FitsPlan};
+ghost use Rattle.job_walk.specs.Verdict.{Ends};
+ghost use Rattle.job_walk.specs.NodeOf.{party_of, NodeAt};
+ghost use Rattle.job_walk.specs.Reads.{ReadsAs, WalksAs};
+ghost use Rattle.job_walk.specs.Seen.{node_view};
+
+use crate::Stop;
+use crate::job::read_job_text;
+use crate::party::read_party_file;
+use crate::plan::make_plan;
+use crate::sessions::read_sessions;
+use crate::stop::refusal;
+use crate::structure::structure_of;
+use job_digest::JobDigest;
+use job_file::Job;
+use job_plan::Plan;
+use outer_io::{Files, Hosts};
+use party_file::PartyData;
+use party_set::Names;
+use refusal_text::name_line;
+use std::alloc::Global;
+
+/// What one party needs to run by itself: the names of all parties, where they are met, its number, the plan, its own
+/// inputs and tapes, and the digest of the job.
+#[derive(Drop)]
+pub struct NodeJob {
+    pub names: Names,
+    pub hosts: Hosts,
+    pub port: u16,
+    pub me: u32,
+    pub plan: Plan,
+    pub given: PartyData,
+    pub digest: [u8; 32],
+}
+
+/// Reads the job's file, the circuits' files, and the file of the party of this name.
+pub fn read_node<F: Files>(
+    alloc: Global,
+    files: &mut F,
+    dir: &str,
+    name: &str,
+) -> Result<NodeJob, Stop>
+    ensures reads { ReadsAs node_view (λ contents. NodeAt contents dir.now name.now)
+        (F.reading files.old) (F.reading files.new) result }
+    ensures names { IfOk result (λ job. length job.names ≡ job.plan.parties) }
+    ensures party { IfOk result (λ job. job.me < job.plan.parties) }
+    ensures fits { IfOk result (λ job. FitsPlan job.plan job.me (form_of job.given)) }
+{
+    let mut digest = JobDigest::new();
+    let job = read_job_text(alloc, files, &mut digest, dir, true)?;
+    let me = party_of(alloc, &job.names, name)?;
+    let groups = structure_of(alloc, &job)?;
+    let parts = read_sessions(alloc, files, &mut digest, dir, &job)?;
+    let plan = make_plan(alloc, &job, &groups, parts)?;
+    let given = read_party_file(alloc, files, dir, &plan, me, name)?;
+    let Job {
+        names,
+        hosts,
+        port,
+        ..
+    } = job;
+    Ok(NodeJob {
+        names,
+        hosts,
+        port,
+        me,
+        plan,
+        given,
+        digest: digest.finish(),
+    })
+}
+
+fn party_of(alloc: Global, names: &Names, name: &str) -> Result<u32, Stop>
+    ensures walks { WalksAs (λ me. me) (Ends (party_of (party_named names.now name.now))) result }
+    ensures party { IfOk result (λ me. me < length names.now) }
+{
+    match names.number(name) {
+        Some(me) => Ok(me),
+        None => Err(refusal(name_line(alloc))),
+    }
+}

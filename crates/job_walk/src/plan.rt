@@ -1,0 +1,90 @@
+//! The plan of a job.
+ghost use Rattle.std.specs.Prelude.{◌≡◌, ◌≤◌, All, IfOk, IfSome, length};
+ghost use Rattle.std.specs.Option.{is_some};
+ghost use Rattle.party_set.specs.Parties.{IsQ2};
+ghost use Rattle.job_plan.specs.Plans.{plan_of, structure};
+ghost use Rattle.job_session.specs.SoundSessions.{IsSoundSession};
+ghost use Rattle.job_file.specs.Jobs.{job_view};
+ghost use Rattle.job_walk.specs.JobOf.{PlanOf, PlanAt};
+ghost use Rattle.job_walk.specs.Seen.{planned_view, text_view};
+ghost use Rattle.job_walk.specs.Reads.{ReadsAs, WalksAs};
+
+use crate::Stop;
+use crate::file_log::NoLog;
+use crate::group::asked_group;
+use crate::job::read_job_text;
+use crate::sessions::read_sessions;
+use crate::stop::refusal;
+use crate::structure::structure_of;
+use job_file::Job;
+use job_plan::{Plan, SessionPart};
+use outer_io::Files;
+use party_set::{Group, Groups, Names};
+use plan_faults::PlanFault;
+use product_duty::Duty;
+use refusal_text::plan_line;
+use share_layout::Layout;
+use std::alloc::Global;
+
+/// What the job's file and the circuits' files give, and the group that is asked for.
+#[derive(Drop)]
+pub struct Planned {
+    pub names: Names,
+    pub group: Option<Group>,
+    pub groups: Groups,
+    pub plan: Plan,
+}
+
+/// Reads the job's file, the group that a text asks for, if there is a text, and the circuits' files.
+pub fn read_planned<F: Files>(
+    alloc: Global,
+    files: &mut F,
+    dir: &str,
+    asked: Option<&str>,
+) -> Result<Planned, Stop>
+    ensures reads { ReadsAs planned_view
+        (λ contents. PlanAt contents dir.now (text_view asked.entry))
+        (F.reading files.old) (F.reading files.new) result }
+    ensures names { IfOk result (λ planned. length planned.names ≡ planned.plan.parties) }
+    ensures group { IfOk result (λ planned. IfSome planned.group
+        (λ group. group.parties ≡ length planned.names)) }
+    ensures asked { IfOk result (λ planned. is_some planned.group ≡ is_some asked.entry) }
+    ensures groups { IfOk result (λ planned. planned.groups ≡ structure planned.plan) }
+{
+    let job = read_job_text(alloc, files, &mut NoLog, dir, false)?;
+    let group = asked_group(alloc, asked, &job.names)?;
+    let groups = structure_of(alloc, &job)?;
+    let parts = read_sessions(alloc, files, &mut NoLog, dir, &job)?;
+    let plan = make_plan(alloc, &job, &groups, parts)?;
+    let Job { names, .. } = job;
+    Ok(Planned {
+        names,
+        group,
+        groups,
+        plan,
+    })
+}
+
+#[tactic(auto, unfolding(crate::specs::JobOf::PlanOf))]
+pub(crate) fn make_plan(
+    alloc: Global,
+    job: &Job,
+    groups: &Groups,
+    parts: Vec<SessionPart>,
+) -> Result<Plan, Stop>
+    requires parties { groups.now.parties ≡ length job.now.names }
+    requires q2 { IsQ2 groups.now }
+    requires few { length parts.items ≤ 16 }
+    requires sound { All (IsSoundSession (length job.now.names)) parts.items }
+    ensures walks { WalksAs (λ plan. plan)
+        (PlanOf (job_view job.now) (plan_of job.now.ring groups.now parts.items)) result }
+    ensures is { IfOk result (λ plan. plan ≡ plan_of job.now.ring groups.now parts.items) }
+{
+    let layout = Layout::make(alloc, groups)?;
+    let duty = Duty::make(alloc, groups)?;
+    match Plan::make(alloc, job.ring, layout, duty, parts) {
+        Ok(plan) => Ok(plan),
+        Err(PlanFault::Memory) => Err(Stop::Memory),
+        Err(fault) => Err(refusal(plan_line(alloc, &job.names, fault))),
+    }
+}

@@ -1,0 +1,142 @@
+//! The sessions of a job: their circuits' files, and the counts of owners and readers.
+ghost use Rattle.std.specs.Prelude.{◌≡◌, ◌<◌, ◌≤◌, [], ◌∷◌, All, IfOk, OnOk, length};
+ghost use Rattle.circuit_model.specs.Checks.{Gives};
+ghost use Rattle.circuit_file.specs.CircuitFiles.{circuit_in};
+ghost use Rattle.job_session.specs.SoundSessions.{IsSoundSession};
+ghost use Rattle.job_file.specs.Jobs.{job_view, session_view, IsJob, IsSession};
+ghost use Rattle.refusal_text.specs.Lines.{circuit_line, session_line};
+ghost use Rattle.job_walk.specs.Verdict.{Ends, verdict_of};
+ghost use Rattle.job_walk.specs.JobOf.{part_of, SessionAt, SessionsAfter};
+ghost use Rattle.job_walk.specs.FileLogs.{Logs};
+ghost use Rattle.job_walk.specs.NodeOf.{circuit_files};
+ghost use Rattle.job_walk.specs.Reads.{ReadsAs, WalksAs};
+
+use crate::Stop;
+use crate::file::read_file;
+use crate::file_log::FileLog;
+use crate::stop::refusal;
+use circuit_model::{Circuit, CircuitFault, CircuitLayout};
+use job_file::{Job, JobSession};
+use job_plan::SessionPart;
+use mpc_ring::Ring;
+use outer_io::Files;
+use party_set::Group;
+use plan_faults::PartFault;
+use refusal_text::{circuit_line, session_line};
+use std::alloc::{AllocError, Global};
+
+/// Reads the circuits of the sessions.
+pub(crate) fn read_sessions<F: Files, L: FileLog>(
+    alloc: Global,
+    files: &mut F,
+    log: &mut L,
+    dir: &str,
+    job: &Job,
+) -> Result<Vec<SessionPart>, Stop>
+    requires { IsJob job.now }
+    ensures reads { ReadsAs (λ parts. parts.items)
+        (λ contents. SessionsAfter contents dir.now (job_view job.now) []
+        (job_view job.now).sessions)
+        (F.reading files.old) (F.reading files.new) result }
+    ensures count { IfOk result (λ parts. length parts.items ≤ 16) }
+    ensures sound { IfOk result (λ parts. All (IsSoundSession (length job.now.names)) parts.items) }
+    ensures log { OnOk result (Logs L.has (F.reading files.old).told dir.now (circuit_files (job_view job.now)) log.old log.new) }
+{
+    let mut parts = Vec::new(alloc);
+    for s in 0..job.sessions.len() {
+        let part = read_session(alloc, files, log, dir, job, &job.sessions[s], s as u32)?;
+        parts.push(part)?;
+    }
+    Ok(parts)
+}
+
+fn read_session<F: Files, L: FileLog>(
+    alloc: Global,
+    files: &mut F,
+    log: &mut L,
+    dir: &str,
+    job: &Job,
+    session: &JobSession,
+    s: u32,
+) -> Result<SessionPart, Stop>
+    requires job { IsJob job.now }
+    requires session { IsSession (length job.now.names) session.now }
+    ensures reads { ReadsAs (λ part. part)
+        (λ contents. SessionAt contents dir.now (job_view job.now) s (session_view session.now))
+        (F.reading files.old) (F.reading files.new) result }
+    ensures sound { IfOk result (IsSoundSession (length job.now.names)) }
+    ensures log { OnOk result
+        (Logs L.has (F.reading files.old).told dir.now (session.now.circuit ∷ []) log.old log.new) }
+{
+    let bytes = read_file(alloc, files, dir, session.circuit.as_str())?;
+    log.take(&bytes);
+    let circuit = circuit_of(alloc, &bytes, session, job.ring, s)?;
+    part_of(alloc, circuit, session, s, job)
+}
+
+fn read_circuit(
+    alloc: Global,
+    bytes: &[u8],
+    layout: CircuitLayout,
+    ring: Ring,
+) -> Result<Circuit, CircuitFault>
+    ensures { Gives result (circuit_in layout ring bytes.now) }
+{
+    match layout {
+        CircuitLayout::Bristol => bristol_reader::read(alloc, bytes, ring),
+        CircuitLayout::Ring => ring_reader::read(alloc, bytes, ring),
+    }
+}
+
+fn circuit_of(
+    alloc: Global,
+    bytes: &[u8],
+    session: &JobSession,
+    ring: Ring,
+    s: u32,
+) -> Result<Circuit, Stop>
+    ensures { WalksAs (λ circuit. circuit)
+        (Ends (verdict_of (circuit_line session.now.circuit s)
+        (circuit_in session.now.layout ring bytes.now))) result }
+{
+    match read_circuit(alloc, bytes, session.layout, ring) {
+        Ok(circuit) => Ok(circuit),
+        Err(CircuitFault::Memory) => Err(Stop::Memory),
+        Err(fault) => Err(refusal(circuit_line(alloc, session.circuit.as_str(), s, fault))),
+    }
+}
+
+fn part_of(
+    alloc: Global,
+    circuit: Circuit,
+    session: &JobSession,
+    s: u32,
+    job: &Job,
+) -> Result<SessionPart, Stop>
+    requires { IsSession (length job.now.names) session.now }
+    ensures walks { WalksAs (λ part. part)
+        (Ends (part_of (session_line s) circuit session.now.owners.items session.now.readers.items))
+        result }
+    ensures sound { IfOk result (IsSoundSession (length job.now.names)) }
+{
+    let _ = job;
+    let owners = owners_of(session)?;
+    let readers = readers_of(session)?;
+    match SessionPart::make(alloc, circuit, owners, readers) {
+        Ok(part) => Ok(part),
+        Err(PartFault::Memory) => Err(Stop::Memory),
+        Err(fault) => Err(refusal(session_line(alloc, s, fault))),
+    }
+}
+
+fn owners_of(session: &JobSession) -> Result<Vec<u32>, AllocError>
+    ensures { IfOk result (λ owners. owners.items ≡ session.now.owners.items) }
+{
+    session.owners.clone()
+}
+
+fn readers_of(session: &JobSession) -> Result<Vec<Group>, AllocError>
+    ensures { IfOk result (λ readers. readers.items ≡ session.now.readers.items) }
+{
+    session.readers.clone()
+}

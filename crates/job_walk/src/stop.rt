@@ -1,0 +1,89 @@
+//! Why a call stops.
+ghost use Rattle.std.specs.Prelude.{◌≡◌, MatchResult};
+
+use node_talk::NodeFault;
+use outer_io::Failed;
+use party_set::Names;
+use std::alloc::{AllocError, AllocFailed};
+
+/// Why a call stops before its end.
+#[derive(Drop)]
+pub enum Stop {
+    /// Memory ran out.
+    Memory,
+    /// The words are refused.
+    Words,
+    /// `out` failed.
+    Out,
+    /// The net failed, and gave no links.
+    Net,
+    /// A node's run ended with this fault. The names are those of the parties.
+    Peer { names: Names, fault: NodeFault },
+    /// The file of this name could not be read.
+    Files(Vec<u8>),
+    /// The job is refused, with this line.
+    Refused(Vec<u8>),
+    /// Two tolerated groups together are all parties, as this line tells.
+    Covering(Vec<u8>),
+}
+
+impl Stop {
+    ghost use Rattle.std.specs.Prelude.{◌≡◌};
+    ghost use Rattle.job_walk.specs.Stops.{status_of};
+
+    /// The exit status that it gives.
+    pub fn status(&self) -> u8
+        ensures { result ≡ status_of self.now }
+    {
+        match self {
+            Stop::Memory => 6,
+            Stop::Words => 2,
+            Stop::Out | Stop::Net | Stop::Peer { .. } | Stop::Files(_) => 5,
+            Stop::Refused(_) => 3,
+            Stop::Covering(_) => 4,
+        }
+    }
+}
+
+/// A refusal with this line.
+pub fn refusal(line: Result<Vec<u8>, AllocError>) -> Stop
+    ensures { MatchResult line (λ text. result ≡ Stop.Refused text) (λ _. result ≡ Stop.Memory) }
+{
+    match line {
+        Ok(line) => Stop::Refused(line),
+        Err(_) => Stop::Memory,
+    }
+}
+
+impl From<AllocError> for Stop {
+    ghost use Rattle.std.specs.Prelude.{◌≡◌};
+    ghost use Rattle.job_walk.specs.declared.stop.Stop.TheVariants.{Memory};
+
+    ghost from_gives = { λ _ stop. stop ≡ Memory };
+
+    fn from(_: AllocError) -> Self {
+        Stop::Memory
+    }
+}
+
+impl<T: Drop> From<AllocFailed<T>> for Stop {
+    ghost use Rattle.std.specs.Prelude.{◌≡◌};
+    ghost use Rattle.job_walk.specs.declared.stop.Stop.TheVariants.{Memory};
+
+    ghost from_gives = { λ _ stop. stop ≡ Memory };
+
+    fn from(_: AllocFailed<T>) -> Self {
+        Stop::Memory
+    }
+}
+
+impl From<Failed> for Stop {
+    ghost use Rattle.std.specs.Prelude.{◌≡◌};
+    ghost use Rattle.job_walk.specs.declared.stop.Stop.TheVariants.{Out};
+
+    ghost from_gives = { λ _ stop. stop ≡ Out };
+
+    fn from(_: Failed) -> Self {
+        Stop::Out
+    }
+}

@@ -1,0 +1,13 @@
+use Rattle.std.proofs.Common.{◌≡◌}
+use Rattle.list_laws.specs.Lists.{joined}
+use Rattle.outer_io.specs.Blocks.{Adds}
+use Rattle.job_plan.specs.Plans.{session}
+use Rattle.output_text.specs.OutText.{wires_before}
+use Rattle.node_text.specs.NodeText.{value_line}
+use Rattle.node_text.proofs.lines.gather_session.Given as goal
+
+abbrev pub invariant-loop-v : goal.invariant-loop-v
+invariant-loop-v g l = record {
+  first : l.first ≡ wires_before (session l.plan l.s) l.v;
+  text : Adds (joined l.v (value_line l.reader l.plan l.me l.done l.s)) (g.G.Gather.gathered l.fn.out) (g.G.Gather.gathered l.out);
+}

@@ -1,0 +1,29 @@
+-- The text of a node that is done: for each session and output value that its party reads, a line with the words of the
+-- value's wires.
+use Rattle.std.specs.Prelude.{ℕ, ◌+◌, List, [], length}
+use Rattle.std.specs.Option.{unwrap_or}
+use Rattle.list_laws.specs.Lists.{joined, listed, only_if}
+use Rattle.party_set.specs.Parties.{has_party}
+use Rattle.party_set.specs.Names.{name_at}
+use Rattle.job_plan.specs.Plans.{Plan, session}
+use Rattle.node_talk.specs.Runs.{Results, output_of}
+use Rattle.output_text.specs.OutText.{out_line, output_value, wires_before}
+
+-- the words of so many output wires of session s, from this one on
+abbrev pub output_words : Results → ℕ → ℕ → ℕ → List ℕ
+output_words r s first width = listed width (λ i. unwrap_or (output_of r s (first + i)) 0)
+
+-- the line of output value v of session s, where party me reads the value
+abbrev pub value_line : List ℕ → Plan → ℕ → Results → ℕ → ℕ → List ℕ
+value_line reader plan me r s v =
+    only_if (has_party (output_value (session plan s) v).readers.mask me)
+    (out_line s v reader
+    (output_words r s (wires_before (session plan s) v) (output_value (session plan s) v).width))
+
+abbrev pub session_lines : List ℕ → Plan → ℕ → Results → ℕ → List ℕ
+session_lines reader plan me r s =
+    joined (length (session plan s).outputs) (value_line reader plan me r s)
+
+unfoldable pub node_text : List (List ℕ) → Plan → ℕ → Results → List ℕ
+node_text names plan me r =
+    joined (length plan.sessions) (session_lines (name_at names me) plan me r)

@@ -1,0 +1,106 @@
+//! The lines of a node that is done.
+ghost use Rattle.std.specs.Prelude.{◌≡◌, ◌+◌, ◌<◌, ◌≤◌, length};
+ghost use Rattle.outer_io.specs.Sink.{Writes};
+ghost use Rattle.outer_io.specs.Blocks.{Adds};
+ghost use Rattle.job_plan.specs.Plans.{session};
+ghost use Rattle.job_plan.specs.Sound.{IsSound};
+ghost use Rattle.text_parts.specs.Parts.{words_text};
+ghost use Rattle.output_text.specs.OutText.{wires_before};
+ghost use Rattle.node_text.specs.NodeText.{node_text, session_lines, value_line, output_words};
+
+use job_plan::Plan;
+use node_run::NodeDone;
+use outer_io::{Blocks, Failed, Gather, Sink};
+use output_text::{gather_head, is_read, value_of};
+use party_set::Names;
+use text_parts::gather_word;
+
+/// Writes the lines of party `me`, which is done: `out SESSION VALUE READER` and the words of the value's wires, for each
+/// session and output value that it reads. It takes no memory.
+#[tactic(auto, unfolding(crate::specs::NodeText::node_text))]
+pub fn write_node<S: Sink>(
+    sink: &mut S,
+    names: &Names,
+    plan: &Plan,
+    me: u32,
+    done: &NodeDone,
+) -> Result<(), Failed>
+    requires party { me < length names.now }
+    requires done { length done.now.outputs ≡ length plan.now.sessions }
+    ensures { Writes (node_text names.now plan.now me done.now) (S.reading sink.old) (S.reading sink.new) result }
+{
+    let mut blocks = Blocks::new(sink);
+    gather_node(&mut blocks, names, plan, me, done);
+    blocks.finish()
+}
+
+fn gather_node<G: Gather>(out: &mut G, names: &Names, plan: &Plan, me: u32, done: &NodeDone)
+    requires party { me < length names.now }
+    requires done { length done.now.outputs ≡ length plan.now.sessions }
+    ensures { Adds (node_text names.now plan.now me done.now) (G.gathered out.old) (G.gathered out.new) }
+{
+    let _ = names.len();
+    let _ = plan.parties();
+    for s in 0..plan.sessions() {
+        gather_session(out, names.name(me), plan, me, done, s);
+    }
+}
+
+fn gather_session<G: Gather>(
+    out: &mut G,
+    reader: &str,
+    plan: &Plan,
+    me: u32,
+    done: &NodeDone,
+    s: u32,
+)
+    requires sound { IsSound plan.now }
+    requires party { me < 12 }
+    requires done { length done.now.outputs ≡ length plan.now.sessions }
+    requires session { s < length plan.now.sessions }
+    ensures { Adds (session_lines reader.now plan.now me done.now s) (G.gathered out.old) (G.gathered out.new) }
+{
+    let mut first = 0;
+    for v in 0..plan.part(s).outputs().len() {
+        gather_value(out, reader, plan, me, done, s, v, first);
+        first += value_of(plan, s, v).width;
+    }
+}
+
+// The line of value v, whose first wire this is, if the party reads the value.
+fn gather_value<G: Gather>(
+    out: &mut G,
+    reader: &str,
+    plan: &Plan,
+    me: u32,
+    done: &NodeDone,
+    s: u32,
+    v: usize,
+    first: u32,
+)
+    requires sound { IsSound plan.now }
+    requires party { me < 12 }
+    requires done { length done.now.outputs ≡ length plan.now.sessions }
+    requires session { s < length plan.now.sessions }
+    requires value { v < length (session plan.now s).outputs }
+    requires first { first ≡ wires_before (session plan.now s) v }
+    ensures { Adds (value_line reader.now plan.now me done.now s v) (G.gathered out.old) (G.gathered out.new) }
+{
+    if !is_read(plan, s, v, me) {
+        return;
+    }
+    gather_head(out, s, v, reader);
+    gather_words(out, done, s, first, value_of(plan, s, v).width);
+    out.push(b"\n");
+}
+
+// The words of so many output wires from this one on, each after a space.
+fn gather_words<G: Gather>(out: &mut G, done: &NodeDone, s: u32, first: u32, width: u32)
+    requires few { first + width ≤ 131072 }
+    requires session { s < length done.now.outputs }
+    ensures { Adds (words_text (output_words done.now s first width)) (G.gathered out.old) (G.gathered out.new) }
+{
+    for i in 0..width {
+        gather_word(out, done.delivered(s, first + i).unwrap_or(0));
+    }
+}
