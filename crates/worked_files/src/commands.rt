@@ -127,6 +127,25 @@ fn a_pair_takes_a_group(rt: HostRuntime) -> Result<(), Fail> {
     expect_pair(&rt, &words)
 }
 
+fn party_of(alloc: Global, texts: &[&str]) -> Result<Option<String>, AllocError> {
+    let words = words_of(alloc, texts)?;
+    match read_command(&words) {
+        Ok(Command::Node { dir: "d", name }) => Ok(Some(String::from_str(alloc, name)?)),
+        _ => Ok(None),
+    }
+}
+
+#[test]
+fn a_node_takes_a_name(rt: HostRuntime) -> Result<(), Fail> {
+    let alloc = rt.alloc();
+    let name = party_of(alloc, &["mpc", "node", "d", "anna"])?;
+    assert!(rt; name.is_some_and(|name| name.as_str() == "anna"));
+    assert!(rt; party_of(alloc, &["mpc", "node", "d"])?.is_none());
+    assert!(rt; party_of(alloc, &["mpc", "node", "d", "-a"])?.is_none());
+    assert!(rt; party_of(alloc, &["mpc", "node", "d", "a", "b"])?.is_none());
+    Ok(())
+}
+
 fn gates_of(alloc: Global, count: &str) -> Result<u32, AllocError> {
     let words = words_of(alloc, &["mpc", "sample", count])?;
     match read_command(&words) {

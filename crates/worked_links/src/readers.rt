@@ -19,89 +19,31 @@ const HELLO: [u8; 38] = [
     5, 5, 5, 5, 5, 5, 5, 5,
 ];
 
-const OTHER_HELLO: [u8; 38] = [
-    77, 80, 67, 49, 0, 2, 6, 5, 5, 5, 5, 5, 5, 5, 5, 5, 5, 5, 5, 5, 5, 5, 5, 5, 5, 5, 5, 5, 5, 5,
-    5, 5, 5, 5, 5, 5, 5, 5,
-];
-
 const FIRST: [u8; 18] = [1, 0, 0, 0, 0, 0, 3, 1, 0, 2, 0, 0, 0, 0, 0, 0, 0, 7];
 
 const SECOND: [u8; 18] = [1, 0, 1, 0, 0, 0, 4, 0, 0, 2, 0, 0, 0, 0, 0, 0, 0, 9];
 
-// The first frame of another share, and the second one with the word 256 + 9.
-const OTHER_SHARE: [u8; 18] = [1, 0, 0, 0, 0, 0, 3, 2, 0, 2, 0, 0, 0, 0, 0, 0, 0, 7];
-
-const OUTSIDE: [u8; 18] = [1, 0, 1, 0, 0, 0, 4, 0, 0, 2, 0, 0, 0, 0, 0, 0, 1, 9];
-
 // What the inlet holds, in parts, and how many bytes of it; then how the reader ends, and what the party finds.
-pub struct Row {
-    parts: [&'static [u8]; 3],
+#[derive(Clone, Copy)]
+pub struct Row<'b> {
+    parts: [&'b [u8]; 3],
     held: usize,
     outcome: Result<(), NodeFault>,
     words: [Option<u64>; 2],
 }
 
-pub const ROWS: [Row; 7] = [
-    Row {
-        parts: [&HELLO, &FIRST, &SECOND],
-        held: 74,
-        outcome: Ok(()),
-        words: [Some(7), Some(9)],
-    },
-    Row {
-        parts: [&HELLO, &FIRST, &SECOND],
-        held: 73,
-        outcome: Err(NodeFault::Closed { peer: 0, at: 73 }),
-        words: [Some(7), None],
-    },
-    Row {
-        parts: [&HELLO, &FIRST, &SECOND],
-        held: 38,
-        outcome: Err(NodeFault::Closed { peer: 0, at: 38 }),
-        words: [None, None],
-    },
-    Row {
-        parts: [&HELLO, &FIRST, &SECOND],
-        held: 20,
-        outcome: Err(NodeFault::Closed { peer: 0, at: 20 }),
-        words: [None, None],
-    },
-    Row {
-        parts: [&HELLO, &OTHER_SHARE, &SECOND],
-        held: 74,
-        outcome: Err(NodeFault::BadFrame {
-            peer: 0,
-            at: 38,
-            bytes: OTHER_SHARE,
-        }),
-        words: [None, None],
-    },
-    Row {
-        parts: [&HELLO, &FIRST, &OUTSIDE],
-        held: 74,
-        outcome: Err(NodeFault::BadFrame {
-            peer: 0,
-            at: 56,
-            bytes: OUTSIDE,
-        }),
-        words: [Some(7), None],
-    },
-    Row {
-        parts: [&OTHER_HELLO, &FIRST, &SECOND],
-        held: 74,
-        outcome: Err(NodeFault::OtherJob {
-            peer: 0,
-            ours: HELLO,
-            theirs: OTHER_HELLO,
-        }),
-        words: [None, None],
-    },
-];
+// The whole talk.
+pub const WHOLE: Row<'static> = Row {
+    parts: [&HELLO, &FIRST, &SECOND],
+    held: 74,
+    outcome: Ok(()),
+    words: [Some(7), Some(9)],
+};
 
 // An inlet that holds a row's bytes, and gives at most so many at a read. The reads of these numbers fail.
 pub fn inlet(
     alloc: Global,
-    row: &Row,
+    row: &Row<'_>,
     piece: usize,
     failing: &[u64],
 ) -> Result<ListInlet, AllocError> {
@@ -186,25 +128,118 @@ fn expect_read<R: Abort + Wait>(
     expect_same!(rt; found, Some(outcome));
 }
 
+// The lengths of pieces that an inlet gives.
+const PIECES: [usize; 4] = [1, 7, 18, 80];
+
+// That the reader of a row's bytes ends as it tells, whatever the pieces.
+fn expect_row<R: Abort + Wait>(rt: &R, alloc: Global, row: &Row<'_>) -> Result<(), Fail> {
+    for piece in PIECES {
+        let started = start(alloc, inlet(alloc, row, piece, &[])?)?;
+        expect_read(rt, started, row.outcome, row.words);
+    }
+    Ok(())
+}
+
+// The word, if it is there.
+fn word_if(is_there: bool, word: u64) -> Option<u64> {
+    if is_there { Some(word) } else { None }
+}
+
 #[test]
-fn a_reader_reads_up_to_the_first_fault(rt: HostRuntime) -> Result<(), Fail> {
-    for row in &ROWS {
-        for piece in [1, 7, 18, 80] {
-            let inlet = inlet(rt.alloc(), row, piece, &[])?;
-            let started = start(rt.alloc(), inlet)?;
-            expect_read(&rt, started, row.outcome, row.words);
+fn a_reader_tells_how_far_its_peer_came(rt: HostRuntime) -> Result<(), Fail> {
+    for held in 0..74 {
+        let row = Row {
+            parts: [&HELLO, &FIRST, &SECOND],
+            held,
+            outcome: Err(NodeFault::Closed {
+                peer: 0,
+                at: held as u64,
+            }),
+            words: [word_if(held >= 56, 7), None],
+        };
+        expect_row(&rt, rt.alloc(), &row)?;
+    }
+    Ok(())
+}
+
+// The row of a talk with another hello.
+fn other_hello(theirs: &[u8; 38]) -> Row<'_> {
+    Row {
+        parts: [theirs, &FIRST, &SECOND],
+        held: 74,
+        outcome: Err(NodeFault::OtherJob {
+            peer: 0,
+            ours: HELLO,
+            theirs: *theirs,
+        }),
+        words: [None, None],
+    }
+}
+
+#[test]
+fn a_reader_tells_of_each_other_byte_of_a_hello(rt: HostRuntime) -> Result<(), Fail> {
+    for place in 0..38 {
+        let mut theirs = HELLO;
+        theirs[place] ^= 1;
+        expect_row(&rt, rt.alloc(), &other_hello(&theirs))?;
+    }
+    Ok(())
+}
+
+// The row of a talk whose first or second frame is another one, which starts at byte `at`.
+fn other_frame(second: bool, bytes: &[u8; 18]) -> Row<'_> {
+    let at = if second { 56 } else { 38 };
+    Row {
+        parts: if second {
+            [&HELLO, &FIRST, bytes]
+        } else {
+            [&HELLO, bytes, &SECOND]
+        },
+        held: 74,
+        outcome: Err(NodeFault::BadFrame {
+            peer: 0,
+            at,
+            bytes: *bytes,
+        }),
+        words: [word_if(second, 7), None],
+    }
+}
+
+#[test]
+fn a_reader_tells_of_each_other_byte_of_a_frame(rt: HostRuntime) -> Result<(), Fail> {
+    for (second, frame) in [(false, FIRST), (true, SECOND)] {
+        for place in 0..17 {
+            let mut bytes = frame;
+            bytes[place] ^= 1;
+            expect_row(&rt, rt.alloc(), &other_frame(second, &bytes))?;
         }
     }
     Ok(())
 }
 
 #[test]
-fn a_reader_tells_of_a_read_that_failed(rt: HostRuntime) -> Result<(), Fail> {
+fn a_reader_takes_any_words_of_the_ring(rt: HostRuntime) -> Result<(), Fail> {
+    let (mut first, mut second) = (FIRST, SECOND);
+    first[17] ^= 1;
+    second[17] ^= 1;
+    let other_words = Row {
+        parts: [&HELLO, &first, &second],
+        held: 74,
+        outcome: Ok(()),
+        words: [Some(6), Some(8)],
+    };
+    expect_row(&rt, rt.alloc(), &other_words)
+}
+
+#[test]
+fn a_reader_tells_of_each_read_that_failed(rt: HostRuntime) -> Result<(), Fail> {
     let link = Err(NodeFault::Link { peer: 0 });
-    for (call, words) in [(0, [None, None]), (1, [None, None]), (2, [Some(7), None])] {
-        let inlet = inlet(rt.alloc(), &ROWS[0], 80, &[call])?;
-        let started = start(rt.alloc(), inlet)?;
-        expect_read(&rt, started, link, words);
+    for (piece, hello, frame) in [(1, 38, 18), (7, 6, 3), (18, 3, 1), (80, 1, 1)] {
+        for call in 0..hello + 2 * frame {
+            let inlet = inlet(rt.alloc(), &WHOLE, piece, &[call])?;
+            let words = [word_if(call >= hello + frame, 7), None];
+            expect_read(&rt, start(rt.alloc(), inlet)?, link, words);
+        }
     }
     Ok(())
 }

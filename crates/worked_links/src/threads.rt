@@ -1,7 +1,7 @@
 //! Two readers in threads of their own, of which the first can't go on before the second has read all.
 ghost use Rattle.std.specs.Prelude.{◌≡◌};
 
-use crate::readers::{ROWS, Started, inlet, start};
+use crate::readers::{Started, WHOLE, inlet, start};
 use link_reader::LinkReader;
 use outer_io::{Got, Inlet, ListInlet, Spawner};
 use socket_link::{ThreadJob, ThreadSpawner};
@@ -99,7 +99,7 @@ fn gated(
     opens_after: Option<usize>,
 ) -> Result<Started<GatedInlet>, Fail> {
     let inlet = GatedInlet {
-        inlet: inlet(alloc, &ROWS[0], 18, &[])?,
+        inlet: inlet(alloc, &WHOLE, 18, &[])?,
         gate: Arc::try_clone(gate)?,
         opens_after,
     };

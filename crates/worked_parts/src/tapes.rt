@@ -44,6 +44,23 @@ fn words_of_a_seed(rt: HostRuntime) -> Result<(), Fail> {
     Ok(())
 }
 
+/// The first two words of the seed of zeros in rings of more than 32 bits, of which each takes two words of the stream.
+const LONG_WORDS: [(u32, [u64; 2]); 2] = [
+    (64, [0x903d_f1a0_ade0_b876, 0x28bd_8653_e56a_5d40]),
+    (40, [0xa0_ade0_b876, 0x53_e56a_5d40]),
+];
+
+#[test]
+fn long_words_of_a_seed(rt: HostRuntime) -> Result<(), Fail> {
+    for (bits, words) in LONG_WORDS {
+        let ring = Ring::new(bits).ok_or("no ring")?;
+        let mut tape = Tape::from_seed(rt.alloc(), ring, &[0; 32], 0, 2)?;
+        assert_draws(&rt, &mut tape, &words);
+        assert_empty(&rt, &mut tape);
+    }
+    Ok(())
+}
+
 #[test]
 fn pieces_follow_each_other(rt: HostRuntime) -> Result<(), Fail> {
     let ring = Ring::new(8).ok_or("no ring")?;

@@ -15,14 +15,17 @@ pub const PRODUCTS_OF_TWO_SESSIONS: [Change<'static>; 7] = [
 ];
 
 /// A seed, which stands in place of a tape.
-const SEED: &str = "seed = \"0000000000000000000000000000000000000000000000000000000000000000\"";
+pub const SEED: &str =
+    "seed = \"0000000000000000000000000000000000000000000000000000000000000000\"";
 
-/// The tapes of the product.
-const TAPE_A: &str = "tape = \"10 20 1 2\"";
+/// The tape of a.
+pub const TAPE_A: &str = "tape = \"10 20 1 2\"";
 
-const TAPE_B: &str = "tape = \"30 40 3 4\"";
+/// That of b.
+pub const TAPE_B: &str = "tape = \"30 40 3 4\"";
 
-const TAPE_C: &str = "tape = \"5 6\"";
+/// That of c.
+pub const TAPE_C: &str = "tape = \"5 6\"";
 
 /// The file of a party without inputs.
 const NO_INPUTS: &[u8] =

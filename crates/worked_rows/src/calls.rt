@@ -1,42 +1,24 @@
-//! Calls over short outputs, and calls one after another over the same outputs.
+//! Calls one after another over the same outputs.
 
-use crate::expect::{expect_within, sink};
-use crate::failing_sinks::SHORT_OUT;
-use crate::row::{Change, RUN, Row, files, words};
-use mpc_top::command;
-use outer_io::{MapFiles, NoPace, VecSink};
-use std::alloc::{AllocError, Global};
+use crate::expect::{call, sink};
+use crate::row::{RUN, files};
+use outer_io::{MapFiles, VecSink};
+use std::alloc::Global;
 use std::process::Abort;
+use std::sync::Wait;
 use std::test::Fail;
 use std::thread::Threads;
 
-/// A refused run over a cut circuit whose `err` takes ten bytes.
-const CUT_CIRCUIT: Row<'static> = Row {
-    name: "a_refusal_of_a_cut_circuit",
-    words: &RUN,
-    changes: &[Change::Whole("mul.txt", b"1 3")],
-    status: 5,
-    out: "",
-    err: "refused ci",
-};
-
-#[test]
-fn a_failing_sink_has_a_prefix(rt: HostRuntime) -> Result<(), Fail> {
-    expect_within(&rt, rt.alloc(), &SHORT_OUT, 4, 300)?;
-    expect_within(&rt, rt.alloc(), &CUT_CIRCUIT, 100, 10)
-}
-
 /// That a run of the product over these outputs has this status.
-fn expect_run<R: Abort + Threads + Sync>(
+fn expect_run<R: Abort + Threads + Wait + Sync>(
     rt: &R,
     alloc: Global,
     files: &mut MapFiles,
     out: &mut VecSink,
     err: &mut VecSink,
     status: u8,
-) -> Result<(), AllocError> {
-    let run = words(alloc, &RUN)?;
-    let found = command(rt, alloc, &run, files, out, err, &NoPace);
+) -> Result<(), Fail> {
+    let found = call(rt, alloc, &RUN, files, out, err)?;
     assert!(rt; found == status, "the status is {found}");
     Ok(())
 }

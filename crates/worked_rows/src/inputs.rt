@@ -3,13 +3,15 @@
 use std::test::Fail;
 
 /// For each run its name, and the words on the input wires of each session.
-const INPUTS: [(&str, &[&[u64]]); 20] = [
+const INPUTS: [(&str, &[&[u64]]); 22] = [
     ("multiply", &[&[5, 7]]),
     ("blanks_between_words", &[&[5, 7]]),
     ("words_that_are_left_on_a_tape", &[&[5, 7]]),
     ("words_of_a_seed", &[&[5, 7]]),
     ("two_sessions", &[&[5, 7], &[2, 3]]),
     ("largest_words", &[&[4_294_967_295, 4_294_967_295]]),
+    ("largest_words_of_64_bits", &[&[u64::MAX, u64::MAX]]),
+    ("ring_of_33_bits", &[&[4_294_967_296, 7]]),
     ("anyone_is_qualified", &[&[5, 7]]),
     ("one_party_holds_everything", &[&[6, 7]]),
     ("sum_of_two_words", &[&[5, 7]]),

@@ -3,7 +3,7 @@
 use crate::row::{CHECK, Change, RUN, Row};
 
 /// A fault of the job, of its formula or of its structure.
-const JOB_FAULTS: [Row<'static>; 18] = [
+const JOB_FAULTS: [Row<'static>; 17] = [
     Row {
         name: "ten_bytes_of_a_job",
         words: &RUN,
@@ -49,14 +49,6 @@ const JOB_FAULTS: [Row<'static>; 18] = [
         status: 3,
         out: "",
         err: "refused job 4 Unknown name=formula\n",
-    },
-    Row {
-        name: "ring_of_33_bits",
-        words: &RUN,
-        changes: &[Change::Edit("job.toml", "8", "33")],
-        status: 3,
-        out: "",
-        err: "refused job 6 BadRing bits=33\n",
     },
     Row {
         name: "ring_of_65_bits",

@@ -10,7 +10,7 @@ mod circuit_faults;
 #[cfg(test)]
 mod expect;
 #[cfg(test)]
-mod failing_sinks;
+mod failing_calls;
 #[cfg(test)]
 mod in_the_clear;
 #[cfg(test)]
@@ -39,5 +39,7 @@ mod tests;
 mod tolerated;
 #[cfg(test)]
 mod views;
+#[cfg(test)]
+mod wide_rings;
 #[cfg(test)]
 mod workers;

@@ -8,7 +8,7 @@ const FROM_A: [&str; 5] = ["mpc", "pair", "d", "--group", "a"];
 const FROM_C: [&str; 5] = ["mpc", "pair", "d", "--group", "c"];
 
 /// b gives 9 in place of 7.
-const NINE_OF_B: [Change<'static>; 1] = [Change::Whole(
+pub const NINE_OF_B: [Change<'static>; 1] = [Change::Whole(
     "other.toml",
     b"version = 1\n[inputs]\nb = [\"9\"]\n",
 )];

@@ -68,8 +68,8 @@ fn insert(
     Ok(())
 }
 
-/// The files of the product with these changes, in the folder `d`.
-pub fn files(alloc: Global, changes: &[Change<'_>]) -> Result<MapFiles, Fail> {
+/// What the files of the product are with these changes, in the folder `d`.
+fn contents(alloc: Global, changes: &[Change<'_>]) -> Result<BTreeMap<String, Vec<u8>>, Fail> {
     let mut all: BTreeMap<String, Vec<u8>> = BTreeMap::new(alloc);
     for (file, text) in &PRODUCT {
         if let Some(bytes) = changed(alloc, file, text, changes)? {
@@ -81,7 +81,18 @@ pub fn files(alloc: Global, changes: &[Change<'_>]) -> Result<MapFiles, Fail> {
             insert(alloc, &mut all, file, Vec::from_slice(alloc, bytes)?)?;
         }
     }
-    Ok(MapFiles::new(all, Vec::new(alloc)))
+    Ok(all)
+}
+
+/// The files of the product with these changes, in the folder `d`.
+pub fn files(alloc: Global, changes: &[Change<'_>]) -> Result<MapFiles, Fail> {
+    Ok(MapFiles::new(contents(alloc, changes)?, Vec::new(alloc)))
+}
+
+/// The same files, where the read of this number fails, counted from 0.
+pub fn failing_files(alloc: Global, changes: &[Change<'_>], read: u64) -> Result<MapFiles, Fail> {
+    let failing = Vec::from_slice(alloc, &[read])?;
+    Ok(MapFiles::new(contents(alloc, changes)?, failing))
 }
 
 /// These words, the program's name first.

@@ -3,7 +3,7 @@ ghost use Rattle.std.specs.Prelude.{◌≡◌, ◌<◌, ◌≤◌, length};
 ghost use Rattle.share_world.specs.Worlds as worlds;
 ghost use Rattle.core_world.specs.Moments.{IsRunOf};
 
-use crate::expect::sink;
+use crate::expect::{inline, no_net, sink};
 use crate::row::{files, words};
 use core_world::World;
 use job_plan::Plan;
@@ -12,6 +12,7 @@ use outer_io::{NoPace, VecSink};
 use sample_maker::{Sample, make_sample};
 use std::alloc::{AllocError, Global};
 use std::process::Abort;
+use std::sync::Wait;
 use std::test::Fail;
 use std::thread::Threads;
 
@@ -59,13 +60,27 @@ fn world_text(alloc: Global, count: u32) -> Result<String, Fail>
 }
 
 /// What the program writes.
-fn written<R: Abort + Threads + Sync>(rt: &R, alloc: Global, count: u32) -> Result<VecSink, Fail> {
+fn written<R: Abort + Threads + Wait + Sync>(
+    rt: &R,
+    alloc: Global,
+    count: u32,
+) -> Result<VecSink, Fail> {
     let number = format!(in alloc; "{count}")?;
     let words = words(alloc, &["mpc", "sample", number.as_str()])?;
     let mut files = files(alloc, &[])?;
     let mut out = sink(alloc, 300)?;
     let mut err = sink(alloc, 300)?;
-    let status = command(rt, alloc, &words, &mut files, &mut out, &mut err, &NoPace);
+    let status = command(
+        rt,
+        alloc,
+        &words,
+        &mut files,
+        &mut out,
+        &mut err,
+        &mut no_net(alloc),
+        &mut inline(alloc),
+        &NoPace,
+    );
     assert!(rt; status == 0, "sample {count}: the status is {status}");
     Ok(out)
 }

@@ -1,7 +1,6 @@
 use crate::accepted::accepted;
 use crate::circuit_faults::{FRONTS, circuit_faults};
 use crate::expect::{expect_all, expect_within};
-use crate::failing_sinks::{SHORT_ERR, SHORT_OUT};
 use crate::in_the_clear::out_in_the_clear;
 use crate::inputs::inputs_of;
 use crate::job_faults::job_faults;
@@ -14,9 +13,11 @@ use crate::row::{CHECK, Change, RUN, Row};
 use crate::samples::samples;
 use crate::tolerated::tolerated;
 use crate::views::{other_groups, views};
+use crate::wide_rings::wide_rings;
 use mpc_ring::Ring;
 use std::alloc::Global;
 use std::process::Abort;
+use std::sync::Wait;
 use std::test::Fail;
 use std::thread::Threads;
 
@@ -24,6 +25,7 @@ use std::thread::Threads;
 fn each_row_has_its_answer(rt: HostRuntime) -> Result<(), Fail> {
     let alloc = rt.alloc();
     expect_all(&rt, alloc, accepted())?;
+    expect_all(&rt, alloc, wide_rings())?;
     expect_all(&rt, alloc, other_words())?;
     expect_all(&rt, alloc, job_faults())?;
     expect_all(&rt, alloc, circuit_faults())?;
@@ -56,7 +58,7 @@ fn each_pair_is_told(rt: HostRuntime) -> Result<(), Fail> {
 }
 
 /// That each run of these rows that writes outputs writes the values that its circuits have in the clear.
-fn expect_in_the_clear<R: Abort + Threads + Sync>(
+fn expect_in_the_clear<R: Abort + Threads + Wait + Sync>(
     rt: &R,
     alloc: Global,
     rows: &[Row<'_>],
@@ -82,18 +84,12 @@ fn expect_in_the_clear<R: Abort + Threads + Sync>(
 fn each_run_has_the_values_in_the_clear(rt: HostRuntime) -> Result<(), Fail> {
     let alloc = rt.alloc();
     expect_in_the_clear(&rt, alloc, accepted())?;
+    expect_in_the_clear(&rt, alloc, wide_rings())?;
     expect_in_the_clear(&rt, alloc, tolerated())
 }
 
-#[test]
-fn a_failing_sink_has_the_first_bytes(rt: HostRuntime) -> Result<(), Fail> {
-    let alloc = rt.alloc();
-    expect_within(&rt, alloc, &SHORT_OUT, 4, 300)?;
-    expect_within(&rt, alloc, &SHORT_ERR, 300, 10)
-}
-
 /// That a run over the product's files with these changes is refused with this line, or accepted where it is empty.
-fn expect_refusal<R: Abort + Threads + Sync>(
+fn expect_refusal<R: Abort + Threads + Wait + Sync>(
     rt: &R,
     alloc: Global,
     name: &str,
@@ -133,7 +129,7 @@ fn first_bytes_of_the_circuit(rt: HostRuntime) -> Result<(), Fail> {
     Ok(())
 }
 
-fn expect_formula<R: Abort + Threads + Sync>(
+fn expect_formula<R: Abort + Threads + Wait + Sync>(
     rt: &R,
     alloc: Global,
     name: &str,
@@ -191,15 +187,60 @@ fn seven_parties_and_1024_products(rt: HostRuntime) -> Result<(), Fail> {
 }
 
 #[test]
-fn rings_of_1_to_32_bits(rt: HostRuntime) {
+fn rings_of_1_to_64_bits(rt: HostRuntime) {
     assert!(rt; Ring::new(0).is_none());
     assert!(rt; Ring::new(1).is_some());
-    assert!(rt; Ring::new(32).is_some());
-    assert!(rt; Ring::new(33).is_none());
+    assert!(rt; Ring::new(64).is_some());
+    assert!(rt; Ring::new(65).is_none());
+}
+
+/// That a's word times b's is this line, in a ring of so many bits, where each word of a tape is a's.
+fn expect_product<'x, R: Abort + Threads + Wait + Sync>(
+    rt: &R,
+    alloc: Global,
+    bits: &'x str,
+    a: &'x str,
+    b: &'x str,
+    line: &'x str,
+) -> Result<(), Fail> {
+    let two = format!(in alloc; "{a} {a}")?;
+    let four = format!(in alloc; "{two} {two}")?;
+    let row = Row {
+        name: bits,
+        words: &RUN,
+        changes: &[
+            Change::Edit("job.toml", "8", bits),
+            Change::Edit("party_a.toml", "5", a),
+            Change::Edit("party_a.toml", "10 20 1 2", &four),
+            Change::Edit("party_b.toml", "7", b),
+            Change::Edit("party_b.toml", "30 40 3 4", &four),
+            Change::Edit("party_c.toml", "5 6", &two),
+        ],
+        status: 0,
+        out: line,
+        err: "",
+    };
+    expect_within(rt, alloc, &row, 300, 300)
+}
+
+#[test]
+fn the_largest_words_of_each_ring_are_multiplied(rt: HostRuntime) -> Result<(), Fail> {
+    let alloc = rt.alloc();
+    for bits in 1..65u32 {
+        let largest = u64::MAX >> (64 - bits);
+        let bits = format!(in alloc; "{bits}")?;
+        let word = format!(in alloc; "{largest}")?;
+        let square = largest.wrapping_mul(largest) & largest;
+        let line = format!(in alloc; "out 0 0 c {square}\n")?;
+        expect_product(&rt, alloc, &bits, &word, &word, &line)?;
+        let line = format!(in alloc; "out 0 0 c {largest}\n")?;
+        expect_product(&rt, alloc, &bits, &word, "1", &line)?;
+    }
+    Ok(())
 }
 
 /// That a list of so many groups is refused with this line.
-fn expect_long_list<R: Abort + Threads + Sync>(
+fn expect_long_list<R: Abort + Threads + Wait + Sync>(
     rt: &R,
     alloc: Global,
     lists: &str,

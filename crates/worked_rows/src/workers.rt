@@ -6,6 +6,7 @@ use crate::row::Row;
 use outer_io::Pace;
 use std::alloc::{AllocError, Global};
 use std::process::Abort;
+use std::sync::Wait;
 use std::sync::atomic::{AtomicU64, Ordering};
 use std::test::Fail;
 use std::thread::Threads;
@@ -161,7 +162,7 @@ impl Pace for Held {
 }
 
 /// That the row has its answer where workers are held so, and that none waited in vain.
-fn expect_together<R: Abort + Threads + Sync>(
+fn expect_together<R: Abort + Threads + Wait + Sync>(
     rt: &R,
     alloc: Global,
     hold: Hold,
