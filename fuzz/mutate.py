@@ -3,10 +3,11 @@
 
 Each of COUNT tries takes the files of an example, changes one to three things in one of them (lines and fields cut, doubled, exchanged
 or joined, bytes flipped, numbers at each limit and past it, other encodings, very long and very deep values), and runs 'check' or
-'run' over them, or 'pair' for one party where the example has other inputs. Whatever the files say, the program has to end within 2 seconds and 300 MB, with a status of its table: 0 with a text on standard
-output and nothing on standard error, or 2 to 5 with nothing on standard output and one line of printable characters on standard error.
-Try N is the same each time; FIRST is the number of the first, and 0 where it isn't given. Prints how often each status came, and ends with
-status 1, and keeps the files, where a try went wrong. It needs Linux.
+'run' over them, with workers or a view or without, or 'pair' for one party where the example has other inputs. Whatever the files say, the
+program has to end within 2 seconds of processor time and 10 of the clock, and within 300 MB, with a status of its table: 0 with a text on
+standard output and nothing on standard error, or 2 to 5 with nothing on standard output and one line of printable characters on standard
+error. Try N is the same each time; FIRST is the number of the first, and 0 where it isn't given. Prints how often each status came and the
+most processor time that a try took. Ends with status 1, and keeps the files, where a try went wrong. It needs Linux.
 """
 
 import collections
@@ -20,12 +21,25 @@ import tempfile
 
 EXAMPLES = os.path.join(os.path.dirname(os.path.abspath(__file__)), '..', 'examples')
 MOST_SECONDS = 2
+MOST_WAIT = 10
 MOST_BYTES = 300_000_000
 LONG = 16_777_216
 
 # At each limit of a file, and one past it.
-NUMBERS = [0, 1, 2, 11, 12, 13, 15, 16, 17, 31, 32, 33, 64, 65, 1023, 1024, 1025, 65535, 65536, 65537, 131071, 131072, 131073,
-           2**31, 2**32 - 1, 2**32, 2**63 - 1, 2**63, 2**64 - 1, 2**64, 10**19, 10**40, -1]
+NUMBERS = [0, 1, 2, 11, 12, 13, 15, 16, 17, 31, 32, 33, 64, 65, 255, 256, 1023, 1024, 1025, 4096, 4097, 65392, 65393, 65535, 65536, 65537,
+           131071, 131072, 131073, 1048576, 1048577, 2**31, 2**32 - 1, 2**32, 2**63 - 1, 2**63, 2**64 - 1, 2**64, 10**19, 10**40, -1]
+
+# The longest name, host, file name and seed, and one past each.
+LENGTHS = [0, 1, 16, 17, 63, 64, 65]
+
+# What may stand in some file, or in another version alone, or nowhere.
+LINES = [b'version = 1', b'version = 2', b'port = 65392', b'port = 0', b'hosts = ["h", "h", "h"]', b'tolerated = [[]]', b'tolerated = []',
+         b'formula = "1 of (a)"', b'[[session]]', b'[inputs]', b'products = "prepared"', b'readers = [[], []]', b'inputs = []', b'tape = ""',
+         b'seed = "' + b'0' * 64 + b'"', b'x = 1', b'"" = 1', b'a.b = 1', b'x = 1979-05-27', b'x = inf', b'x = """']
+
+# What stands very often in a swollen text, and what closes it.
+PARTS = [(b'(', b''), (b'(', b')'), (b'[', b''), (b'[', b']'), (b'{', b''), (b'{a=', b'}'), (b'9', b''), (b'0', b''), (b'\n', b''), (b' ', b''),
+         (b'a', b''), (b'"', b''), (b'#', b''), (b'a.', b''), (b'1 ', b''), (b'a|', b''), (b'[],', b''), (b'[[session]]\n', b''), (b'\xff', b'')]
 
 
 def cut(text, chance):
@@ -88,16 +102,31 @@ def reencode(text, chance):
     return text.decode('latin-1').encode(kind)
 
 
+def stretch(text, chance):
+    """A text in quotes of some length."""
+    parts = text.split(b'"')
+    parts[chance.randrange(len(parts))] = chance.choice([b'a', b'0', b'-', b' ', b'\xc3']) * chance.choice(LENGTHS)
+    return b'"'.join(parts)
+
+
+def add_a_line(text, chance):
+    lines = text.split(b'\n')
+    lines.insert(chance.randrange(len(lines) + 1), chance.choice(LINES))
+    return b'\n'.join(lines)
+
+
 def swell(text, chance):
     """A very long or very deep value, a quarter of the longest file to more than the longest."""
     size = chance.choice([LONG // 4, LONG - len(text), LONG, LONG + 1])
-    part = chance.choice([b'(', b')', b'[', b'{', b'9', b'0', b'\n', b' ', b'a', b'"', b'#', b'a.', b'1 ', b'[[session]]\n', b'\xff'])
-    place = chance.choice([0, len(text), chance.randrange(len(text) + 1)])
-    return text[:place] + (part * (size // len(part) + 1))[:max(size, 0)] + text[place:]
+    opening, closing = chance.choice(PARTS)
+    count = max(size, 0) // len(opening + closing) + 1
+    after = [place + 1 for place in range(len(text)) if text[place:place + 1] in (b'"', b'[', b'=', b'\n')]
+    place = chance.choice([0, len(text), chance.randrange(len(text) + 1), *after])
+    return text[:place] + (opening * count + closing * count)[:max(size, 0)] + text[place:]
 
 
 CHANGES = [cut, keep_the_first, double, flip, flip, put_byte, over_parts(b'\n'), over_parts(b'\n'), over_parts(b' '), over_parts(b','),
-           over_parts(b'"'), over_parts(b'='), change_a_number, change_a_number, change_a_number, reencode]
+           over_parts(b'"'), over_parts(b'='), change_a_number, change_a_number, change_a_number, stretch, add_a_line, reencode]
 
 
 def change_files(files, chance):
@@ -112,19 +141,27 @@ def change_files(files, chance):
         files[name] = swell(files[name], chance)
 
 
+def example_folders():
+    return sorted(folder for folder, _, files in os.walk(EXAMPLES) if 'job.toml' in files)
+
+
 def example_files(chance):
-    jobs = [name for name in sorted(os.listdir(EXAMPLES)) if os.path.exists(os.path.join(EXAMPLES, name, 'job.toml'))]
-    folder = os.path.join(EXAMPLES, chance.choice(jobs))
+    folder = chance.choice(example_folders())
     files = {}
-    for file in os.listdir(folder):
+    for file in sorted(os.listdir(folder)):
         if file in ('job.toml', 'other.toml') or file.startswith('party_') or file.endswith('.txt'):
             with open(os.path.join(folder, file), 'rb') as text:
                 files[file] = text.read()
     return files
 
 
-def limited():
-    resource.setrlimit(resource.RLIMIT_AS, (MOST_BYTES, MOST_BYTES))
+def some_command(files, chance):
+    """The words of a command that reads these files."""
+    party = chance.choice(sorted(name[len('party_'):-len('.toml')] for name in files if name.startswith('party_')))
+    commands = [['check'], ['run'], ['run', '--view', party], ['run', '--workers', '3']]
+    if 'other.toml' in files:
+        commands += [['pair', '--group', party], ['pair', '--group', party]]
+    return chance.choice(commands)
 
 
 def what_is_wrong(run):
@@ -141,40 +178,49 @@ def what_is_wrong(run):
     return None
 
 
+def processor_time():
+    """What the programs that have ended took, in seconds."""
+    usage = resource.getrusage(resource.RUSAGE_CHILDREN)
+    return usage.ru_utime + usage.ru_stime
+
+
 def attempt(program, number, folder):
-    """Try N: its status, or why it went wrong."""
+    """Try N: its status, what it took, and why it went wrong, or nothing."""
     chance = random.Random(number)
     files = example_files(chance)
-    commands = [['check'], ['run'], ['run'], ['run', '--workers', '3']]
-    if 'other.toml' in files:
-        party = chance.choice(sorted(name[len('party_'):-len('.toml')] for name in files if name.startswith('party_')))
-        commands += [['pair', '--group', party], ['pair', '--group', party]]
+    words = some_command(files, chance)
     change_files(files, chance)
     for name, text in files.items():
         with open(os.path.join(folder, name), 'wb') as file:
             file.write(text)
-    words = chance.choice(commands)
+    began = processor_time()
     try:
         run = subprocess.run([program, words[0], folder, *words[1:]], stdin=subprocess.DEVNULL, capture_output=True,
-                             timeout=MOST_SECONDS, preexec_fn=limited)
+                             timeout=MOST_WAIT)
     except subprocess.TimeoutExpired:
-        return None, f'more than {MOST_SECONDS} seconds'
-    return run.returncode, what_is_wrong(run)
+        return None, None, f'more than {MOST_WAIT} seconds of the clock'
+    took = processor_time() - began
+    if took > MOST_SECONDS:
+        return run.returncode, took, f'more than {MOST_SECONDS} seconds'
+    return run.returncode, took, what_is_wrong(run)
 
 
 def main(words):
     if len(words) not in (3, 4):
         sys.exit('usage: mutate.py PROGRAM COUNT [FIRST]')
     program, count, first = words[1], int(words[2]), int(words[3]) if len(words) == 4 else 0
-    statuses = collections.Counter()
+    resource.setrlimit(resource.RLIMIT_AS, (MOST_BYTES, MOST_BYTES))
+    statuses, longest = collections.Counter(), 0
     for number in range(first, first + count):
         folder = tempfile.mkdtemp(prefix='mutate-')
-        status, wrong = attempt(program, number, folder)
+        status, took, wrong = attempt(program, number, folder)
         if wrong:
             sys.exit(f'try {number} went wrong: {wrong}; its files are in {folder}')
+        longest = max(longest, took)
         statuses[status] += 1
         shutil.rmtree(folder)
-    print(f'{count} tries: ' + ', '.join(f'{statuses[status]} ended with status {status}' for status in sorted(statuses)))
+    print(f'{count} tries: ' + ', '.join(f'{statuses[status]} ended with status {status}' for status in sorted(statuses))
+          + f'; none took more than {longest:.2f} seconds')
 
 
 if __name__ == '__main__':
