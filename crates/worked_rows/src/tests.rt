@@ -194,30 +194,33 @@ fn rings_of_1_to_64_bits(rt: HostRuntime) {
     assert!(rt; Ring::new(65).is_none());
 }
 
-/// That a's word times b's is this line, in a ring of so many bits, where each word of a tape is a's.
-fn expect_product<'x, R: Abort + Threads + Wait + Sync>(
+/// The product of the negatives of two words, and the first of them.
+const NEGATIVES: &[u8] =
+    b"4 6\n2 1 1\n2 1 1\n1 1 0 2 NEG\n1 1 1 3 NEG\n2 1 2 3 4 MUL\n1 1 2 5 EQW\n";
+
+/// That the largest word of a ring of so many bits, which is the negative of 1, comes to these lines.
+fn expect_largest<R: Abort + Threads + Wait + Sync>(
     rt: &R,
     alloc: Global,
-    bits: &'x str,
-    a: &'x str,
-    b: &'x str,
-    line: &'x str,
+    bits: u32,
+    lines: &str,
 ) -> Result<(), Fail> {
-    let two = format!(in alloc; "{a} {a}")?;
-    let four = format!(in alloc; "{two} {two}")?;
+    let bits = format!(in alloc; "{bits}")?;
     let row = Row {
-        name: bits,
+        name: "the largest words of a ring",
         words: &RUN,
         changes: &[
-            Change::Edit("job.toml", "8", bits),
-            Change::Edit("party_a.toml", "5", a),
-            Change::Edit("party_a.toml", "10 20 1 2", &four),
-            Change::Edit("party_b.toml", "7", b),
-            Change::Edit("party_b.toml", "30 40 3 4", &four),
-            Change::Edit("party_c.toml", "5 6", &two),
+            Change::Edit("job.toml", "8", &bits),
+            Change::Edit("job.toml", "[[\"c\"]]", "[[\"c\"], [\"c\"]]"),
+            Change::Whole("mul.txt", NEGATIVES),
+            Change::Edit("party_a.toml", "5", "1"),
+            Change::Edit("party_a.toml", "10 20 1 2", "0 1 0 1"),
+            Change::Edit("party_b.toml", "7", "1"),
+            Change::Edit("party_b.toml", "30 40 3 4", "1 0 1 0"),
+            Change::Edit("party_c.toml", "5 6", "1 1"),
         ],
         status: 0,
-        out: line,
+        out: lines,
         err: "",
     };
     expect_within(rt, alloc, &row, 300, 300)
@@ -228,13 +231,8 @@ fn the_largest_words_of_each_ring_are_multiplied(rt: HostRuntime) -> Result<(), 
     let alloc = rt.alloc();
     for bits in 1..65u32 {
         let largest = u64::MAX >> (64 - bits);
-        let bits = format!(in alloc; "{bits}")?;
-        let word = format!(in alloc; "{largest}")?;
-        let square = largest.wrapping_mul(largest) & largest;
-        let line = format!(in alloc; "out 0 0 c {square}\n")?;
-        expect_product(&rt, alloc, &bits, &word, &word, &line)?;
-        let line = format!(in alloc; "out 0 0 c {largest}\n")?;
-        expect_product(&rt, alloc, &bits, &word, "1", &line)?;
+        let lines = format!(in alloc; "out 0 0 c 1\nout 0 1 c {largest}\n")?;
+        expect_largest(&rt, alloc, bits, &lines)?;
     }
     Ok(())
 }
