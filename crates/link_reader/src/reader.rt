@@ -101,6 +101,9 @@ impl<I: Inlet> Task for LinkReader<I> {
         );
         self.inbox.end(&mut self.seat, outcome.is_err());
         self.waker.unpark();
+        if outcome.is_err() {
+            self.inlet.close();
+        }
         self.outcome = Some(outcome);
     }
 }

@@ -45,7 +45,7 @@ module _ {A R : Type 0} (f : A → R) where
   read_here (y ∷ xs) (suc j) a d l = read_here xs j a d (omega arith)
 
   -- an element that shows the same
-  set_same : (xs : List A) (j : ℕ) (x a : A) → f x ≡ f (get_or xs j a) → map f (set xs j x) ≡ map f xs
+  pub set_same : (xs : List A) (j : ℕ) (x a : A) → f x ≡ f (get_or xs j a) → map f (set xs j x) ≡ map f xs
   set_same [] j x a e = refl
   set_same (y ∷ xs) zero x a e = ap (λ z. z ∷ map f xs) e
   set_same (y ∷ xs) (suc j) x a e = ap (λ z. f y ∷ z) (set_same xs j x a e)

@@ -1,8 +1,10 @@
 -- A node at the end of all its sessions is done.
-use Rattle.std.proofs.Common.{◌≡◌, ◌≢◌, ℕ, zero, suc, ◌+◌, ◌<◌, List, [], ◌∷◌, length, map, get_or, refl, sym, ap, ◌∙◌, subst, arith, Option, Some, None}
+use Rattle.std.proofs.Common.{◌≡◌, ◌≢◌, ℕ, zero, suc, ◌+◌, ◌<◌, List, [], ◌∷◌, length, map, get_or, refl, sym, ap, ◌∙◌, arith, Option, Some, None}
+use Rattle.std.specs.List.{slice_get}
 use Rattle.std.specs.Prelude.{slice_index, slice_index_or, Ok}
 use Rattle.std.proofs.lemmas.Bool.{cases_lt}
 use Rattle.std.proofs.lemmas.List.{get_or_past}
+use Rattle.std.proofs.lemmas.Option.{slice_get-get_or}
 use Rattle.std.proofs.Math.ListN.{length-map}
 use mathlib.Core.Logic.{inl, inr}
 use Rattle.job_plan.specs.declared.key.Key.{Key}
@@ -112,13 +114,13 @@ module _ (n : Node) (start : Begin) (after : LinksReading) (ds : List Desk) (now
 
   -- ---- outputs
 
-  output_is : (s o : ℕ) → s < length n.world.plan.sessions → (d : Desk) × ((e : Desk) → get_or ds s e ≡ d) × (output_of r s o ≡ output_at d o)
+  output_is : (s o : ℕ) → s < length n.world.plan.sessions → (d : Desk) × (slice_get ds s ≡ Some d) × (output_of r s o ≡ output_at d o)
   output_is s o ls =
       let x = element (λ (d : Desk). d.memory.outputs.items) ds s [] (let a = h.order.many in omega arith) in
-      (x.0, x.1, ap (λ z. slice_index_or (slice_index_or z s []) o None) h.kept_outputs ∙ ap (λ z. slice_index_or z o None) x.2)
+      (x.0, slice_get-get_or ds s x.0 (let a = h.order.many in omega arith) ∙ ap Some (x.1 x.0), ap (λ z. slice_index_or (slice_index_or z s []) o None) h.kept_outputs ∙ ap (λ z. slice_index_or z o None) x.2)
 
-  desk_there : (s : ℕ) (d : Desk) → s < length n.world.plan.sessions → ((e : Desk) → get_or ds s e ≡ d) → IsDesk (local_given n.world (known n now.words.cells) s n.me) d
-  desk_there s d ls is = subst (IsDesk (local_given n.world (known n now.words.cells) s n.me)) (is d) (h.order.done (known n now.words.cells) agrees s d ls)
+  desk_there : (s : ℕ) (d : Desk) → s < length n.world.plan.sessions → slice_get ds s ≡ Some d → IsDesk (local_given n.world (known n now.words.cells) s n.me) d
+  desk_there s d ls is = h.order.done (known n now.words.cells) agrees s d ls is
 
   pub done : IsDone n (known n now.words.cells) r
   done = record {
@@ -128,7 +130,7 @@ module _ (n : Node) (start : Begin) (after : LinksReading) (ds : List Desk) (now
     outputs = λ s o ls lo read.
         let x = output_is s o ls in
         let desk = desk_there s x.0 ls x.1 in
-        let end : x.0.position ≡ length (program n.world.plan n.me s) = ap (λ (z : Desk). z.position) (sym (x.1 x.0)) ∙ h.order.ended s x.0 ls in
+        let end : x.0.position ≡ length (program n.world.plan n.me s) = h.order.ended s x.0 ls x.1 in
         let l = local_given n.world (known n now.words.cells) s n.me in
         let es = program n.world.plan n.me s in
         x.2 ∙ desk.memory.outputs o ∙ ap (λ q. (state l q).outputs o) end ∙ ap (λ σ. σ.outputs o) (state_is l (length es) ∙ run_all l es new_state)

@@ -1,5 +1,5 @@
 -- How a run with its readers is put together.
-use Rattle.std.proofs.Common.{◌≡◌, true, ◌⊎◌, ℕ, zero, suc, ◌+◌, ◌-◌, ◌<◌, List, [], ◌∷◌, ◌++◌, length, get_or, take, refl, sym, ap, ◌∙◌, subst, arith, Option, Some, None, ⊎_elim}
+use Rattle.std.proofs.Common.{◌≡◌, true, ◌⊎◌, ℕ, zero, suc, ◌+◌, ◌-◌, ◌<◌, List, [], ◌∷◌, ◌++◌, length, take, refl, sym, ap, ◌∙◌, subst, arith, Option, Some, None, ⊎_elim}
 use Rattle.std.specs.Prelude.{◌==◌, slice_index_or, is_err, IsOk, Result, Ok, Err, remove}
 use Rattle.std.proofs.lemmas.List.{length-take-le}
 use Rattle.std.proofs.lemmas.Bool.{false≢true}
@@ -67,13 +67,13 @@ next_readers n start place [] x desks now l e h = absurd (omega arith)
 next_readers n start place (y ∷ readers) x desks now l e h =
     let c = h.count in
     let at : place + 0 ≡ place = omega arith in
-    let first : IsFor n start place y = subst (λ z. IsFor n start z y) at (h.parts 0 y (omega arith)) in
+    let first : IsFor n start place y = subst (λ z. IsFor n start z y) at (h.parts 0 y refl) in
     let rest : MayRun n start (suc place) readers desks now = record {
       order = h.order;
       empty = h.empty;
       ids = h.ids;
       count = omega (arith, c);
-      parts = λ k d l. (let on : place + suc k ≡ suc place + k = omega arith in subst (λ z. IsFor n start z (get_or readers k d)) on (h.parts (suc k) d (omega arith)));
+      parts = λ k d is. (let on : place + suc k ≡ suc place + k = omega arith in subst (λ z. IsFor n start z d) on (h.parts (suc k) d is));
     } in
     (omega (arith, c), subst (IsFor n start place) (sym e) first, rest)
 

@@ -1,5 +1,7 @@
 -- How a run begins: with what was kept ready, nothing is done yet.
 use Rattle.std.proofs.Common.{◌≡◌, ◌≢◌, ℕ, ◌+◌, ◌-◌, ◌<◌, List, [], length, get_or, refl, sym, ap, ◌∙◌, subst, arith, Some, None}
+use Rattle.std.specs.List.{slice_get}
+use Rattle.std.proofs.lemmas.Option.{slice_get_within, get_or_from_slice_get}
 use Rattle.std.specs.Prelude.{slice_index_or}
 use Rattle.std.proofs.Math.ListN.{length-map}
 use Rattle.job_plan.specs.Plans.{Plan}
@@ -136,25 +138,26 @@ module _ (share : Share) (kept : Kept) (h : IsReady share kept) where
     may_run now g = record {
       order = record {
         many = h.desks.count ∙ ap (λ z. length z.sessions) (sym of.plan);
-        done = λ got ag t d l. absurd (omega arith);
-        ended = λ t d l. absurd (omega arith);
-        new = λ got t d l lt. new_desk share h.fits n of kept.desks h.desks got t d lt;
-        still = λ t d l lt. new_position share h.fits n of kept.desks h.desks t d lt;
+        done = λ got ag t d l is. absurd (omega arith);
+        ended = λ t d l is. absurd (omega arith);
+        new = λ got t d l is. new_desk share h.fits n of kept.desks h.desks got t d is;
+        still = λ t d l is. new_position share h.fits n of kept.desks h.desks t d is;
         going = all_greeted n (record { links = before; ids = ids_of kept.boxes }) now g;
       };
       empty = g.words;
       ids = (let a = boxes in let b = h.peers.box_count in let c = h.fits.party in let d = ap (λ z. z.parties) of.plan in omega (arith, a, b, c, d));
       count = (let a = boxes in let b = h.peers.box_count in let c = h.peers.reader_count in omega (arith, a, b, c));
-      parts = λ k d l. subst (λ z. IsFor n (record { links = before; ids = ids_of kept.boxes }) z (get_or kept.readers k d)) (let at : k ≡ 0 + k = omega arith in at) (is_for k d l);
+      parts = λ k d is. subst (λ z. IsFor n (record { links = before; ids = ids_of kept.boxes }) z d) (let at : k ≡ 0 + k = omega arith in at) (is_for k d is);
     }
       where
         boxes : length (ids_of kept.boxes) ≡ length kept.boxes
         boxes = length-map kept.boxes (λ (b : BoxModel). b.id)
 
-        is_for : (k : ℕ) (d : ReaderPartsModel) → k < length kept.readers → IsFor n (record { links = before; ids = ids_of kept.boxes }) k (get_or kept.readers k d)
-        is_for k d l =
-            let r = ready_at share.plan share.me share.digest (share.plan.parties - 1) kept.boxes kept.readers h.peers k d l in
+        is_for : (k : ℕ) (d : ReaderPartsModel) → slice_get kept.readers k ≡ Some d → IsFor n (record { links = before; ids = ids_of kept.boxes }) k d
+        is_for k d is =
+            let there = get_or_from_slice_get kept.readers k d d is in
+            let r = ready_at share.plan share.me share.digest (share.plan.parties - 1) kept.boxes kept.readers h.peers k d (slice_get_within kept.readers k d is) in
             record {
-              talk = r.talk ∙ talk_of share.plan n.world.plan share.me n.me share.digest n.digest k (sym of.plan) (sym of.me) (sym of.digest);
-              id = r.id ∙ id_of kept.boxes k;
+              talk = ap (λ (x : ReaderPartsModel). x.talk) (sym there) ∙ r.talk ∙ talk_of share.plan n.world.plan share.me n.me share.digest n.digest k (sym of.plan) (sym of.me) (sym of.digest);
+              id = ap (λ (x : ReaderPartsModel). x.id) (sym there) ∙ r.id ∙ id_of kept.boxes k;
             }

@@ -1,10 +1,11 @@
 -- A share that fits its plan is that of a node of a world, and such a node has its part and its desks.
-use Rattle.std.proofs.Common.{◌≡◌, ℕ, zero, suc, ◌+◌, ◌<◌, ◌≤◌, ◌^◌, Bool, true, false, nat_eq, List, [], ◌∷◌, ◌++◌, length, take, drop, get_or, replicate, refl, sym, ap, ◌∙◌, subst, arith}
+use Rattle.std.proofs.Common.{◌≡◌, ℕ, zero, suc, ◌+◌, ◌<◌, ◌≤◌, ◌^◌, Bool, true, false, nat_eq, List, [], ◌∷◌, ◌++◌, length, take, drop, replicate, refl, sym, ap, ◌∙◌, subst, arith, Some}
 use Rattle.std.specs.Prelude.{if◌then◌else◌, slice_index, slice_index_or}
-use Rattle.std.specs.List.{concat}
+use Rattle.std.specs.List.{slice_get, concat}
 use Rattle.std.proofs.lemmas.Bool.{cases_eq, cases_lt, eqb-true, eq-eqb}
 use Rattle.std.proofs.lemmas.Nat.{pow_pos}
 use Rattle.std.proofs.lemmas.List.{append-nil, append_assoc, take-append-le, drop-append-le, length-drop, length-replicate, get_or-replicate, get_or_past}
+use Rattle.std.proofs.lemmas.Option.{slice_get_within, get_or_from_slice_get}
 use Rattle.std.proofs.lemmas.List.Elements.{recursion_from_All}
 use Rattle.std.proofs.Math.Seq.{take-length, drop-append_seam}
 use mathlib.Core.Logic.{inl, inr}
@@ -170,16 +171,19 @@ module _ (share : Share) (h : IsShare share) where
           }) (piece_is s ls)
 
     module _ (desks : List Desk) (opened : AreOpened share.plan share.me share.given desks) where
-      new_here : (s : ℕ) (d : Desk) → s < length desks → IsNew share.plan share.me s (slice_index_or share.given.inputs s []) (piece s) (get_or desks s d)
-      new_here = by_place (λ s d. IsNew share.plan share.me s (slice_index_or share.given.inputs s []) (piece s) d) desks opened.each
+      new_here : (s : ℕ) (d : Desk) → slice_get desks s ≡ Some d → IsNew share.plan share.me s (slice_index_or share.given.inputs s []) (piece s) d
+      new_here s d is =
+          subst (IsNew share.plan share.me s (slice_index_or share.given.inputs s []) (piece s)) (get_or_from_slice_get desks s d d is)
+          (by_place (λ s d. IsNew share.plan share.me s (slice_index_or share.given.inputs s []) (piece s) d) desks opened.each s d (slice_get_within desks s d is))
 
       -- a desk that was opened is one of the world, at its start
-      pub new_desk : (got : Key → ℕ) (s : ℕ) (d : Desk) → s < length desks → IsDesk (local_given n.world got s n.me) (get_or desks s d)
-      new_desk got s d ls =
-          subst (λ given. IsDesk given (get_or desks s d)) (sym (given_is got s (omega (arith, ls, opened.count)))) ((new_here s d ls).desk (λ m. got (message n.world.plan m)))
+      pub new_desk : (got : Key → ℕ) (s : ℕ) (d : Desk) → slice_get desks s ≡ Some d → IsDesk (local_given n.world got s n.me) d
+      new_desk got s d is =
+          let ls : s < length desks = slice_get_within desks s d is in
+          subst (λ given. IsDesk given d) (sym (given_is got s (omega (arith, ls, opened.count)))) ((new_here s d is).desk (λ m. got (message n.world.plan m)))
 
-      pub new_position : (s : ℕ) (d : Desk) → s < length desks → (get_or desks s d).position ≡ 0
-      new_position s d ls = (new_here s d ls).position
+      pub new_position : (s : ℕ) (d : Desk) → slice_get desks s ≡ Some d → d.position ≡ 0
+      new_position s d is = (new_here s d is).position
 
 -- ---- a world for a share
 

@@ -1,5 +1,5 @@
 -- How far a node has come.
-use Rattle.std.specs.Prelude.{◌≡◌, ◌≢◌, ℕ, suc, ◌+◌, ◌-◌, ◌*◌, ◌<◌, ◌≤◌, IsTrue, List, length, map, get_or, Option, None, Some}
+use Rattle.std.specs.Prelude.{◌≡◌, ◌≢◌, ℕ, suc, ◌+◌, ◌-◌, ◌*◌, ◌<◌, ◌≤◌, IsTrue, List, length, map, slice_get, Option, None, Some}
 use Rattle.message_board.specs.Plain.{plain_cell}
 use Rattle.job_plan.specs.declared.key.Key.{Key}
 use Rattle.job_plan.specs.Messages.{messages}
@@ -135,9 +135,10 @@ pub record InSession (n : Node) (s : ℕ) (start : Begin) (d : Desk) (now : Mail
 pub record InOrder (n : Node) (s : ℕ) (start : Begin) (ds : List Desk) (now : Mail) : Type 0 where
   pub many : length ds ≡ length n.world.plan.sessions
   pub done : (got : Key → ℕ) → Agrees n now.words.cells got → (t : ℕ) (d : Desk) → t < s
-      → IsDesk (local_given n.world got t n.me) (get_or ds t d)
-  pub ended : (t : ℕ) (d : Desk) → t < s → (get_or ds t d).position ≡ length (program n.world.plan n.me t)
-  pub new : (got : Key → ℕ) (t : ℕ) (d : Desk) → s ≤ t → t < length ds
-      → IsDesk (local_given n.world got t n.me) (get_or ds t d)
-  pub still : (t : ℕ) (d : Desk) → s ≤ t → t < length ds → (get_or ds t d).position ≡ 0
+      → slice_get ds t ≡ Some d → IsDesk (local_given n.world got t n.me) d
+  pub ended : (t : ℕ) (d : Desk) → t < s → slice_get ds t ≡ Some d
+      → d.position ≡ length (program n.world.plan n.me t)
+  pub new : (got : Key → ℕ) (t : ℕ) (d : Desk) → s ≤ t → slice_get ds t ≡ Some d
+      → IsDesk (local_given n.world got t n.me) d
+  pub still : (t : ℕ) (d : Desk) → s ≤ t → slice_get ds t ≡ Some d → d.position ≡ 0
   pub going : Going n (before_session n s) start now

@@ -1,5 +1,5 @@
 -- A run with its readers, and what it leaves.
-use Rattle.std.specs.Prelude.{◌≡◌, ◌⊎◌, ℕ, suc, ◌+◌, ◌<◌, ◌≤◌, nat_lt, if◌then◌else◌, is_err, IsTrue, List, [], ◌∷◌, length, take, get_or, slice_index_or, Option, None, Some, Result, Ok, Err}
+use Rattle.std.specs.Prelude.{◌≡◌, ◌⊎◌, ℕ, suc, ◌+◌, ◌≤◌, nat_lt, if◌then◌else◌, is_err, IsTrue, List, [], ◌∷◌, length, take, slice_get, slice_index_or, Option, None, Some, Result, Ok, Err}
 use Rattle.atomic_table.specs.Seated.{TableId}
 use Rattle.message_board.specs.Plain.{CellContents, plain_cell}
 use Rattle.inbox_board.specs.Seats.{mark_of}
@@ -62,7 +62,7 @@ pub record MayRun (n : Node) (start : Begin) (place : ℕ) (readers : List Reade
   pub empty : (m : ℕ) → plain_cell now.words.cells m ≡ None
   pub ids : length start.ids + 1 ≡ n.world.plan.parties
   pub count : place + length readers ≡ length start.ids
-  pub parts : (k : ℕ) (d : ReaderPartsModel) → k < length readers → IsFor n start (place + k) (get_or readers k d)
+  pub parts : (k : ℕ) (d : ReaderPartsModel) → slice_get readers k ≡ Some d → IsFor n start (place + k) d
 
 -- how a reader ended: what it read, and that the party got no other words and no other mark of its inbox
 pub record PeerEnd (n : Node) (now : Mail) (place : ℕ) (before after : InletReading)

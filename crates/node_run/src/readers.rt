@@ -87,6 +87,15 @@ impl ReaderParts {
     }
 }
 
+// Closes all outlets.
+fn close_all<O: Outlet>(outlets: &mut [O])
+    ensures { map O.reading outlets.new ≡ map O.reading outlets.old }
+{
+    for outlet in outlets.iter_mut() {
+        outlet.close();
+    }
+}
+
 /// What a run leaves.
 #[derive(Drop)]
 pub struct Remains<O: Outlet> {
@@ -125,7 +134,8 @@ impl<O: Outlet> Remains<O> {
     ghost use Rattle.std.specs.Prelude.{◌≡◌, ◌-◌, length, take, None};
     ghost use Rattle.node_run.specs.Mail.{Mail, IsMail};
 
-    /// What these cells and desks leave, but for as many of the last inboxes as have no reader yet.
+    /// What these cells and desks leave, but for as many of the last inboxes as have no reader yet. The outlets are
+    /// closed, so that no peer waits for more.
     pub fn of<'p>(
         cells: NodeCells<'p, O>,
         desks: Vec<Desk>,
@@ -144,12 +154,13 @@ impl<O: Outlet> Remains<O> {
         ensures mail { IsMail cells.entry }
     {
         let NodeCells {
-            outlets,
+            mut outlets,
             words,
             mut boxes,
             failed,
             ..
         } = cells;
+        close_all(outlets.as_mut_slice());
         boxes.truncate(boxes.len().saturating_sub(waiting));
         Remains {
             outlets,

@@ -38,6 +38,11 @@ pub trait Inlet {
     fn read(&mut self, into: &mut [u8]) -> Got
         requires { 0 < length into.old }
         ensures { ReadsInto into.new (reading self.old) (reading self.new) result };
+
+    /// Tells the other end that nothing more is read, so that nobody waits there for room. Where the inlet isn't steady, a
+    /// later read may fail.
+    fn close(&mut self)
+        ensures { reading self.new ≡ reading self.old };
 }
 
 /// Reads until all places have their bytes, in as many reads as it takes.

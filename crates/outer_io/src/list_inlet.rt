@@ -73,4 +73,6 @@ impl Inlet for ListInlet {
         self.taken += count;
         Got::Bytes(count)
     }
+
+    fn close(&mut self) {}
 }

@@ -45,4 +45,6 @@ impl Outlet for VecOutlet {
     fn send(&mut self, piece: &[u8]) -> Result<(), Failed> {
         self.sink.write(piece)
     }
+
+    fn close(&mut self) {}
 }

@@ -8,7 +8,8 @@ use std::net::TcpStream;
 /// The receiving end of a TCP connection. What comes over it is not told.
 #[derive(Drop)]
 pub struct TcpInlet {
-    stream: TcpStream,
+    // None once it is closed.
+    stream: Option<TcpStream>,
     faults: u64,
     ended: bool,
 }
@@ -21,7 +22,7 @@ impl TcpInlet {
         ensures { inlet_reading result ≡ unread }
     {
         TcpInlet {
-            stream,
+            stream: Some(stream),
             faults: 0,
             ended: false,
         }
@@ -34,16 +35,24 @@ impl Inlet for TcpInlet {
     ghost reading = { inlet_reading };
 
     fn read(&mut self, into: &mut [u8]) -> Got {
-        match self.stream.read(into) {
-            Ok(0) => {
+        let answer = match &mut self.stream {
+            Some(stream) => stream.read(into).ok(),
+            None => None,
+        };
+        match answer {
+            Some(0) => {
                 self.ended = true;
                 Got::End
             }
-            Ok(count) => Got::Bytes(count),
-            Err(_) => {
+            Some(count) => Got::Bytes(count),
+            None => {
                 self.faults = self.faults.saturating_add(1);
                 Got::Failed
             }
         }
+    }
+
+    fn close(&mut self) {
+        self.stream = None;
     }
 }

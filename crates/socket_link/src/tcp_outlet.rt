@@ -8,7 +8,8 @@ use std::net::TcpStream;
 /// The sending end of a TCP connection. What was sent over it is not told.
 #[derive(Drop)]
 pub struct TcpOutlet {
-    stream: TcpStream,
+    // None once it is closed.
+    stream: Option<TcpStream>,
     faults: u64,
 }
 
@@ -19,7 +20,10 @@ impl TcpOutlet {
     pub fn over(stream: TcpStream) -> TcpOutlet
         ensures { outlet_reading result ≡ unsent }
     {
-        TcpOutlet { stream, faults: 0 }
+        TcpOutlet {
+            stream: Some(stream),
+            faults: 0,
+        }
     }
 }
 
@@ -29,12 +33,16 @@ impl Outlet for TcpOutlet {
     ghost reading = { outlet_reading };
 
     fn send(&mut self, piece: &[u8]) -> Result<(), Failed> {
-        match self.stream.write_all(piece) {
-            Ok(()) => Ok(()),
-            Err(_) => {
-                self.faults = self.faults.saturating_add(1);
-                Err(Failed)
+        if let Some(stream) = &mut self.stream {
+            if stream.write_all(piece).is_ok() {
+                return Ok(());
             }
         }
+        self.faults = self.faults.saturating_add(1);
+        Err(Failed)
+    }
+
+    fn close(&mut self) {
+        self.stream = None;
     }
 }

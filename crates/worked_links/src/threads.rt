@@ -51,6 +51,10 @@ impl Inlet for GatedInlet {
         }
         got
     }
+
+    fn close(&mut self) {
+        self.inlet.close();
+    }
 }
 
 // Waits until the gate is open, but not forever.
