@@ -1,8 +1,8 @@
 -- What a log was told of the files that were read.
-use Rattle.std.proofs.Common.{◌≡◌, ℕ, ◌+◌, ◌<◌, ◌≤◌, List, [], ◌∷◌, ◌++◌, map, take, length, get_or, Option, None, Some, Result, Ok, Err, Bool, true, false, sym, subst, ap, ◌∙◌, refl, append_assoc}
+use Rattle.std.proofs.Common.{◌≡◌, ℕ, ◌+◌, ◌<◌, List, [], ◌∷◌, ◌++◌, map, take, length, get_or, Option, None, Some, Result, Ok, Err, Bool, true, false, sym, subst, ap, ◌∙◌, refl, append_assoc}
 use Rattle.std.specs.Prelude.{IfSome, OnOk, nat_le, if◌then◌else◌}
 use Rattle.std.specs.Option.{unwrap_or}
-use Rattle.std.proofs.lemmas.List.{append-nil, map-append, take_more, take_all}
+use Rattle.std.proofs.lemmas.List.{append-nil, map-append, take_more}
 use Rattle.outer_io.specs.Files.{Told}
 use Rattle.job_file.specs.Forms.{JobForm, SessionForm}
 use Rattle.job_file.specs.Jobs.{session_view}
@@ -12,7 +12,7 @@ use Rattle.job_digest.specs.Digests.{HasFiles, digest_of}
 use Rattle.job_walk.specs.declared.stop.Stop.{Stop}
 use Rattle.job_walk.specs.Names.{job_file, path_of}
 use Rattle.job_walk.specs.Verdict.{Verdict, accepted, missing, refused}
-use Rattle.job_walk.specs.JobOf.{Contents, bytes_of, file_at, file_limit}
+use Rattle.job_walk.specs.JobOf.{bytes_of, file_at, file_limit}
 use Rattle.job_walk.specs.FileLogs.{bytes_at, all_bytes_at, Logs}
 use Rattle.job_walk.specs.NodeOf.{NodeForm, circuit_files, job_digest}
 use Rattle.refusal_text.specs.Lines.{too_long_line}

@@ -1,5 +1,5 @@
 -- How the sessions are read one after another.
-use Rattle.std.proofs.Common.{◌≡◌, ℕ, ◌<◌, ◌≤◌, ◌+◌, List, [], ◌∷◌, ◌++◌, length, drop, map, get_or, Result, Ok, Err, Vec, suc, refl, sym, ap, ◌∙◌, subst}
+use Rattle.std.proofs.Common.{◌≡◌, ℕ, ◌<◌, ◌≤◌, ◌+◌, List, [], ◌∷◌, ◌++◌, length, drop, map, get_or, Result, Ok, Err, Vec, sym, ap, ◌∙◌, subst}
 use Rattle.std.specs.Prelude.{IsErrAnd}
 use Rattle.std.specs.declared.alloc.Global.{Global}
 use Rattle.outer_io.specs.Files.{FilesReading}

@@ -1,5 +1,5 @@
 -- The node that files stand for, where they tell what they hold: one party of a job, by itself.
-use Rattle.std.specs.Prelude.{◌≡◌, ℕ, true, List, [], ◌∷◌, length, map, Option, None, Some}
+use Rattle.std.specs.Prelude.{ℕ, true, List, [], ◌∷◌, map, Option, None, Some}
 use Rattle.party_set.specs.Names.{party_named}
 use Rattle.job_plan.specs.Plans.{Plan, plan_of}
 use Rattle.job_file.specs.Forms.{JobForm, SessionForm}

@@ -40,7 +40,8 @@ pub(crate) fn read_sessions<F: Files, L: FileLog>(
         (F.reading files.old) (F.reading files.new) result }
     ensures count { IfOk result (λ parts. length parts.items ≤ 16) }
     ensures sound { IfOk result (λ parts. All (IsSoundSession (length job.now.names)) parts.items) }
-    ensures log { OnOk result (Logs L.has (F.reading files.old).told dir.now (circuit_files (job_view job.now)) log.old log.new) }
+    ensures log { OnOk result
+        (Logs L.has (F.reading files.old).told dir.now (circuit_files (job_view job.now)) log.old log.new) }
 {
     let mut parts = Vec::new(alloc);
     for s in 0..job.sessions.len() {

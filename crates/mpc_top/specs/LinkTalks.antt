@@ -13,15 +13,16 @@ use Rattle.job_walk.specs.declared.stop.Stop.{Stop}
 use Rattle.job_walk.specs.declared.stop.Stop.TheVariants.{Out, Peer}
 
 -- its lines were written, or `out` failed to take them; where the talk ended with a fault, nothing was written
-abbrev pub Written : List (List ℕ) → Share → Result Results NodeFault → SinkReading → SinkReading → Result Unit Stop → Type 0
+abbrev pub Written : List (List ℕ) → Share → Result Results NodeFault → SinkReading → SinkReading
+    → Result Unit Stop → Type 0
 Written names share (Ok results) out out' (Ok _) = Writes (node_text names share.plan share.me results) out out' (Ok tt)
 Written names share (Ok results) out out' (Err stop) =
     (stop ≡ Out) × FailsToWrite (node_text names share.plan share.me results) out out'
 Written names share (Err fault) out out' (Ok _) = ⊥
 Written names share (Err fault) out out' (Err stop) = (stop ≡ Peer names fault) × (out' ≡ out)
 
--- The run of each node with this share, and there is one, came to the outcome over these links; the net has them back, and the
--- outcome was written.
+-- The run of each node with this share, and there is one, came to the outcome over these links; the net has them back,
+-- and the outcome was written.
 pub record TalkedOver (share : Share) (names : List (List ℕ)) (links : LinksReading) (net net' : NetReading)
     (spawner spawner' : SpawnerReading) (out out' : SinkReading) (result : Result Unit Stop) : Type 0 where
   pub outcome : Result Results NodeFault

@@ -12,6 +12,10 @@ pub record Outside : Type 0 where
   pub net : NetReading
   pub spawner : SpawnerReading
 
+-- these readings, of files, `out`, `err`, the net and the spawner
+abbrev pub outside_of : FilesReading → SinkReading → SinkReading → NetReading → SpawnerReading → Outside
+outside_of files out err net spawner = record { files = files; out = out; err = err; net = net; spawner = spawner }
+
 -- neither the net nor the spawner was asked for anything
 abbrev pub LeavesNet : Outside → Outside → Type 0
 LeavesNet before after = (after.net ≡ before.net) × (after.spawner ≡ before.spawner)

@@ -16,7 +16,7 @@ use Rattle.job_walk.specs.Verdict.{Verdict, accepted, missing, refused}
 use Rattle.job_walk.specs.NodeOf.{NodeForm}
 use Rattle.job_walk.specs.Reads.{KeepsFiles}
 use Rattle.mpc_top.specs.Texts.{files_fault_line, net_fault_line, out_fault_line, usage_text}
-use Rattle.mpc_top.specs.Outside.{Outside, LeavesNet, LeavesAll, KeepsNet, KeepsSpawner}
+use Rattle.mpc_top.specs.Outside.{Outside, outside_of, LeavesNet, LeavesAll, KeepsNet, KeepsSpawner}
 use Rattle.mpc_top.specs.Due.{Due, text, talk, Suits, IsDue}
 use Rattle.mpc_top.specs.NodeTalks.{lines_of, Talks, MeetsNobody}
 use Rattle.mpc_top.specs.HiddenInputs.{CommandHides}
@@ -72,7 +72,9 @@ module _ (command : Option CommandForm) (before after : Outside) where
   HasCause (Covering line) = Finds (refused 4 line.items) × LeavesAll before after
   HasCause (Files name) = FailsAt name.items × LeavesAll before after
   HasCause Out = (due : Due) × Finds (accepted due) × CutShort due before after
-  HasCause Net = (job : NodeForm) × Finds (accepted (talk job)) × MeetsNobody job before after × (after.out ≡ before.out)
+  HasCause Net =
+      (job : NodeForm) × Finds (accepted (talk job)) × MeetsNobody job before after
+      × (after.out ≡ before.out)
   HasCause (Peer names fault) =
       (job : NodeForm) × Finds (accepted (talk job)) × (names ≡ job.names)
       × Talks job before after (Err fault)
@@ -93,11 +95,11 @@ module _ (command : Option CommandForm) (before after : Outside) where
     pub keeps_spawner : KeepsSpawner before.spawner after.spawner
 
 -- a run that knows of no net and no spawner: whatever these show, it leaves them as they are; nor does it look at `err`
-abbrev pub RunsAlone : Option CommandForm → FilesReading → FilesReading → SinkReading → SinkReading → Result Unit Stop → Type 0
+abbrev pub RunsAlone : Option CommandForm → FilesReading → FilesReading → SinkReading → SinkReading
+    → Result Unit Stop → Type 0
 RunsAlone command files files' out out' result =
     (err err' : SinkReading) (net : NetReading) (spawner : SpawnerReading)
-    → Runs command (record { files = files; out = out; err = err; net = net; spawner = spawner })
-    (record { files = files'; out = out'; err = err'; net = net; spawner = spawner }) result
+    → Runs command (outside_of files out err net spawner) (outside_of files' out' err' net spawner) result
 
 -- `err` got the text of the cause, and the status is the cause's; or it failed to take that text, and the status is 5.
 -- Where memory ran out it got nothing.

@@ -3,6 +3,7 @@ ghost use Rattle.std.specs.Prelude.{◌≡◌};
 ghost use Rattle.outer_io.specs.Sink.{SinkReading};
 ghost use Rattle.command_words.specs.Commands.{command_of};
 ghost use Rattle.mpc_top.specs.Due.{words_view};
+ghost use Rattle.mpc_top.specs.Outside.{outside_of};
 ghost use Rattle.mpc_top.specs.Stops.{Runs};
 ghost use Rattle.mpc_top.specs.Command.{Answers};
 
@@ -30,20 +31,8 @@ fn run<F: Files, O: Sink, N: Net, W: Spawner<LinkReader<N::In>>, P: Pace, R: Thr
 where
     N::In: Drop,
     ensures { (err err' : SinkReading) → Runs (command_of (words_view words.now))
-        (record {
-          files = F.reading files.old;
-          out = O.reading out.old;
-          err = err;
-          net = N.reading net.old;
-          spawner = W.reading spawner.old;
-        })
-        (record {
-          files = F.reading files.new;
-          out = O.reading out.new;
-          err = err';
-          net = N.reading net.new;
-          spawner = W.reading spawner.new;
-        }) result }
+        (outside_of (F.reading files.old) (O.reading out.old) err (N.reading net.old) (W.reading spawner.old))
+        (outside_of (F.reading files.new) (O.reading out.new) err' (N.reading net.new) (W.reading spawner.new)) result }
 {
     let Ok(command) = read_command(words) else {
         return Err(Stop::Words);
@@ -77,20 +66,10 @@ pub fn command<
 where
     N::In: Drop,
     ensures { Answers (words_view words.now)
-        (record {
-          files = F.reading files.old;
-          out = O.reading out.old;
-          err = E.reading err.old;
-          net = N.reading net.old;
-          spawner = W.reading spawner.old;
-        })
-        (record {
-          files = F.reading files.new;
-          out = O.reading out.new;
-          err = E.reading err.new;
-          net = N.reading net.new;
-          spawner = W.reading spawner.new;
-        })
+        (outside_of (F.reading files.old) (O.reading out.old) (E.reading err.old)
+        (N.reading net.old) (W.reading spawner.old))
+        (outside_of (F.reading files.new) (O.reading out.new) (E.reading err.new)
+        (N.reading net.new) (W.reading spawner.new))
         result }
 {
     match run(rt, alloc, words, files, out, net, spawner, pace) {

@@ -5,6 +5,7 @@ ghost use Rattle.outer_io.specs.Sink.{SinkReading};
 ghost use Rattle.command_words.specs.Commands.{node};
 ghost use Rattle.node_run.specs.Ready.{IsShare};
 ghost use Rattle.mpc_top.specs.LinkTalks.{TalkedOver};
+ghost use Rattle.mpc_top.specs.Outside.{outside_of};
 ghost use Rattle.mpc_top.specs.Stops.{Runs};
 
 use job_plan::Plan;
@@ -37,8 +38,9 @@ where
     requires me { me ≡ ready.me }
     requires names { length names ≡ ready.plan.parties }
     requires peers { HasPeers (ready.plan.parties - 1) (links_reading N.In.reading N.Out.reading links) }
-    ensures { TalkedOver ready names (links_reading N.In.reading N.Out.reading links) (N.reading net.old) (N.reading net.new)
-        (W.reading spawner.old) (W.reading spawner.new) (O.reading out.old) (O.reading out.new) result }
+    ensures { TalkedOver ready names (links_reading N.In.reading N.Out.reading links)
+        (N.reading net.old) (N.reading net.new) (W.reading spawner.old) (W.reading spawner.new)
+        (O.reading out.old) (O.reading out.new) result }
 {
     every_share_is_of_a_world();
     let (result, links) = ready.run(rt, plan, links, spawner);
@@ -64,20 +66,8 @@ pub(crate) fn run_node<F: Files, O: Sink, N: Net, W: Spawner<LinkReader<N::In>>,
 where
     N::In: Drop,
     ensures { (err err' : SinkReading) → Runs (Some (node dir.now name.now))
-        (record {
-          files = F.reading files.old;
-          out = O.reading out.old;
-          err = err;
-          net = N.reading net.old;
-          spawner = W.reading spawner.old;
-        })
-        (record {
-          files = F.reading files.new;
-          out = O.reading out.new;
-          err = err';
-          net = N.reading net.new;
-          spawner = W.reading spawner.new;
-        }) result }
+        (outside_of (F.reading files.old) (O.reading out.old) err (N.reading net.old) (W.reading spawner.old))
+        (outside_of (F.reading files.new) (O.reading out.new) err' (N.reading net.new) (W.reading spawner.new)) result }
 {
     let job = read_node(alloc, files, dir, name)?;
     let NodeJob {

@@ -3,6 +3,7 @@ ghost use Rattle.std.specs.Prelude.{Some, ◌<◌, ◌≤◌};
 ghost use Rattle.outer_io.specs.Sink.{SinkReading};
 ghost use Rattle.command_words.specs.Commands.{form_of, run, check, IsInRange};
 ghost use Rattle.job_walk.specs.Seen.{text_view};
+ghost use Rattle.mpc_top.specs.Outside.{outside_of};
 ghost use Rattle.mpc_top.specs.Stops.{Runs, RunsAlone};
 
 use crate::node::run_node;
@@ -41,20 +42,8 @@ where
     N::In: Drop,
     requires { IsInRange command }
     ensures { (err err' : SinkReading) → Runs (Some (form_of command.entry))
-        (record {
-          files = F.reading files.old;
-          out = O.reading out.old;
-          err = err;
-          net = N.reading net.old;
-          spawner = W.reading spawner.old;
-        })
-        (record {
-          files = F.reading files.new;
-          out = O.reading out.new;
-          err = err';
-          net = N.reading net.new;
-          spawner = W.reading spawner.new;
-        }) result }
+        (outside_of (F.reading files.old) (O.reading out.old) err (N.reading net.old) (W.reading spawner.old))
+        (outside_of (F.reading files.new) (O.reading out.new) err' (N.reading net.new) (W.reading spawner.new)) result }
 {
     match command {
         Command::Run { dir, workers, view } => {

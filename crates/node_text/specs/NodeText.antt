@@ -1,6 +1,6 @@
 -- The text of a node that is done: for each session and output value that its party reads, a line with the words of the
 -- value's wires.
-use Rattle.std.specs.Prelude.{ℕ, ◌+◌, List, [], length}
+use Rattle.std.specs.Prelude.{ℕ, ◌+◌, List, length}
 use Rattle.std.specs.Option.{unwrap_or}
 use Rattle.list_laws.specs.Lists.{joined, listed, only_if}
 use Rattle.party_set.specs.Parties.{has_party}

@@ -1,10 +1,9 @@
-use Rattle.std.proofs.Common.{ℕ, List, Option, Some, None, Ok, Result, refl, sym, subst}
+use Rattle.std.proofs.Common.{ℕ, List, Option, None, Ok, refl, sym, subst}
 use Rattle.std.specs.Borrow.{Bor}
 use Rattle.party_set.specs.Parties.{Members}
 use Rattle.job_walk.specs.JobOf.{GroupOf}
 use Rattle.job_walk.specs.Reads.{WalksAs}
 use Rattle.job_walk.specs.Seen.{text_view}
-use Rattle.job_walk.specs.declared.stop.Stop.{Stop}
 use Rattle.job_walk.proofs.group.asked_group.Goals as goal
 
 pub returns-in-Some-clause-walks : goal.returns-in-Some-clause-walks

@@ -1,4 +1,4 @@
-use Rattle.std.proofs.Common.{List, ℕ, ◌++◌, ◌∷◌, [], subst}
+use Rattle.std.proofs.Common.{◌++◌, ◌∷◌, [], subst}
 use Rattle.job_file.specs.Faults.{job_in}
 use Rattle.refusal_text.specs.Lines.{job_line}
 use Rattle.job_walk.specs.Names.{job_file}

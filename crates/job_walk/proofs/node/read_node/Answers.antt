@@ -1,9 +1,9 @@
-use Rattle.std.proofs.Common.{◌∙◌, subst, ◌∷◌, []}
+use Rattle.std.proofs.Common.{◌∙◌, subst}
 use Rattle.job_digest.specs.Digests.{HasFiles}
 use Rattle.job_file.specs.Jobs.{job_view}
 use Rattle.party_file.specs.Forms.{form_of}
 use Rattle.job_walk.specs.FileLogs.{Logs}
-use Rattle.job_walk.specs.NodeOf.{NodeAt, NodeForm, circuit_files}
+use Rattle.job_walk.specs.NodeOf.{NodeAt, circuit_files}
 use Rattle.job_walk.specs.Seen.{node_view}
 use Rattle.job_walk.proofs.Logs.{digest_known, node_known}
 use Rattle.job_walk.proofs.Steps.{reads_exit, reads_then, reads_walk, reads_known}

@@ -5,9 +5,9 @@ use Rattle.text_parts.proofs.GatheredTexts.{adds_same}
 use Rattle.party_set.specs.Parties.{has_party}
 use Rattle.job_session.specs.declared.values.OutputValue.{OutputValue}
 use Rattle.job_plan.specs.Plans.{session}
-use Rattle.output_text.specs.OutText.{out_line, output_value, wires_before}
+use Rattle.output_text.specs.OutText.{out_line, output_value}
 use Rattle.output_text.proofs.OpenedOutputs.{few_wires}
-use Rattle.node_text.specs.NodeText.{output_words, value_line}
+use Rattle.node_text.specs.NodeText.{output_words}
 use Rattle.node_text.proofs.lines.gather_value.Goals as goal
 
 pub gather_words-requires-clause-few : goal.gather_words-requires-clause-few
