@@ -1,13 +1,13 @@
 //! Calls one after another over the same outputs.
 
 use crate::expect::{call, sink};
-use crate::row::{RUN, files};
 use outer_io::{MapFiles, VecSink};
 use std::alloc::Global;
 use std::process::Abort;
 use std::sync::Wait;
 use std::test::Fail;
 use std::thread::Threads;
+use worked_runs::{RUN, files};
 
 /// That a run of the product over these outputs has this status.
 fn expect_run<R: Abort + Threads + Wait + Sync>(

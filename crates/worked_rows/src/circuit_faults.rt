@@ -1,6 +1,6 @@
 //! Circuits that are refused.
 
-use crate::row::{Change, RUN, Row};
+use worked_runs::{Change, RUN, Row};
 
 /// A fault of the circuit.
 const CIRCUIT_FAULTS: [Row<'static>; 18] = [

@@ -1,6 +1,5 @@
 //! Rows that are called and compared.
 
-use crate::row::{Row, files, words};
 use mpc_top::command;
 use outer_io::{Hosts, InlineSpawner, Links, MapFiles, NoPace, Pace, PipeNet, VecSink};
 use std::alloc::{AllocError, Global};
@@ -8,6 +7,7 @@ use std::process::Abort;
 use std::sync::Wait;
 use std::test::Fail;
 use std::thread::Threads;
+use worked_runs::{Row, files, words};
 
 /// A sink that takes so many bytes.
 pub fn sink(alloc: Global, room: usize) -> Result<VecSink, AllocError> {

@@ -1,15 +1,14 @@
 //! Commands over files and outputs of which one call fails, and over outputs that take only the first bytes of a text.
 
-use crate::accepted::{SEED, TAPE_A, TAPE_B, TAPE_C};
 use crate::expect::{call, expect_within, failing_sink, sink};
 use crate::long_files::products;
 use crate::pairs::NINE_OF_B;
-use crate::row::{CHECK, Change, RUN, Row, failing_files, files};
 use std::alloc::Global;
 use std::process::Abort;
 use std::sync::Wait;
 use std::test::Fail;
 use std::thread::Threads;
+use worked_runs::{CHECK, Change, RUN, Row, SEED, TAPE_A, TAPE_B, TAPE_C, failing_files, files};
 
 /// Commands, and the files that each reads, in order.
 const FILES_READ: [(&[&str], &[&str]); 4] = [

@@ -1,6 +1,6 @@
 //! Jobs that are refused before their circuits.
 
-use crate::row::{CHECK, Change, RUN, Row};
+use worked_runs::{CHECK, Change, RUN, Row};
 
 /// A fault of the job, of its formula or of its structure.
 const JOB_FAULTS: [Row<'static>; 17] = [

@@ -2,8 +2,6 @@
 #![tactic(auto)]
 
 #[cfg(test)]
-mod accepted;
-#[cfg(test)]
 mod calls;
 #[cfg(test)]
 mod circuit_faults;
@@ -11,10 +9,6 @@ mod circuit_faults;
 mod expect;
 #[cfg(test)]
 mod failing_calls;
-#[cfg(test)]
-mod in_the_clear;
-#[cfg(test)]
-mod inputs;
 #[cfg(test)]
 mod job_faults;
 #[cfg(test)]
@@ -26,20 +20,12 @@ mod pairs;
 #[cfg(test)]
 mod party_faults;
 #[cfg(test)]
-mod product;
-#[cfg(test)]
-mod row;
-#[cfg(test)]
 mod sample_worlds;
 #[cfg(test)]
 mod samples;
 #[cfg(test)]
 mod tests;
 #[cfg(test)]
-mod tolerated;
-#[cfg(test)]
 mod views;
-#[cfg(test)]
-mod wide_rings;
 #[cfg(test)]
 mod workers;

@@ -1,6 +1,6 @@
 //! Words that are no command.
 
-use crate::row::Row;
+use worked_runs::Row;
 
 /// The text on `err` for each of them.
 pub const USAGE: &str = concat!(

@@ -1,7 +1,7 @@
 //! Pairs of runs, and the refusals of other inputs.
 
 use crate::other_words::USAGE;
-use crate::row::{Change, Row};
+use worked_runs::{Change, Row};
 
 const FROM_A: [&str; 5] = ["mpc", "pair", "d", "--group", "a"];
 

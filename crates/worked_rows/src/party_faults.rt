@@ -1,6 +1,6 @@
 //! Party files that are refused.
 
-use crate::row::{Change, RUN, Row};
+use worked_runs::{Change, RUN, Row};
 
 /// A fault of a party file.
 const PARTY_FAULTS: [Row<'static>; 8] = [

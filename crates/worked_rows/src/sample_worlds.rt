@@ -4,7 +4,6 @@ ghost use Rattle.share_world.specs.Worlds as worlds;
 ghost use Rattle.core_world.specs.Moments.{IsRunOf};
 
 use crate::expect::{inline, no_net, sink};
-use crate::row::{files, words};
 use core_world::World;
 use job_plan::Plan;
 use mpc_top::command;
@@ -15,6 +14,7 @@ use std::process::Abort;
 use std::sync::Wait;
 use std::test::Fail;
 use std::thread::Threads;
+use worked_runs::{files, words};
 
 /// The samples, by their number of gates.
 const COUNTS: [u32; 4] = [1, 5, 1_000, 65_536];

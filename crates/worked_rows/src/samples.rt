@@ -1,7 +1,7 @@
 //! Jobs made from a number.
 
 use crate::other_words::USAGE;
-use crate::row::Row;
+use worked_runs::Row;
 
 const OF_FIVE: &str = "sample 5\n\
     products 1\n\

@@ -1,25 +1,22 @@
-use crate::accepted::accepted;
 use crate::circuit_faults::{FRONTS, circuit_faults};
 use crate::expect::{expect_all, expect_within};
-use crate::in_the_clear::out_in_the_clear;
-use crate::inputs::inputs_of;
 use crate::job_faults::job_faults;
 use crate::long_files::{SEVEN_PARTIES, joined_names, parentheses, products};
 use crate::other_words::other_words;
 use crate::pairs::{other_faults, pair_faults, pairs};
 use crate::party_faults::party_faults;
-use crate::product::{CIRCUIT, SESSION, TWO_SESSIONS};
-use crate::row::{CHECK, Change, RUN, Row};
 use crate::samples::samples;
-use crate::tolerated::tolerated;
 use crate::views::{other_groups, views};
-use crate::wide_rings::wide_rings;
 use mpc_ring::Ring;
 use std::alloc::Global;
 use std::process::Abort;
 use std::sync::Wait;
 use std::test::Fail;
 use std::thread::Threads;
+use worked_runs::{
+    CHECK, CIRCUIT, Change, RUN, Row, SESSION, TWO_SESSIONS, accepted, inputs_of, out_in_the_clear,
+    tolerated, wide_rings,
+};
 
 #[test]
 fn each_row_has_its_answer(rt: HostRuntime) -> Result<(), Fail> {

@@ -1,7 +1,6 @@
 //! Runs after which the view of a group is told.
 
-use crate::accepted::{ALL_HELD_BY_ONE, CONSTANT_BIT, NO_GATES, PRODUCTS_OF_TWO_SESSIONS};
-use crate::row::{Change, Row};
+use worked_runs::{ALL_HELD_BY_ONE, CONSTANT_BIT, Change, NO_GATES, PRODUCTS_OF_TWO_SESSIONS, Row};
 
 const OF_C: [&str; 5] = ["mpc", "run", "d", "--view", "c"];
 

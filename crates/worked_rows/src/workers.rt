@@ -1,8 +1,6 @@
 //! Jobs that several workers run: each number of workers gives the same bytes, and they do run at the same time.
 
-use crate::accepted::PRODUCTS_OF_TWO_SESSIONS;
 use crate::expect::{expect_all, expect_paced};
-use crate::row::Row;
 use outer_io::Pace;
 use std::alloc::{AllocError, Global};
 use std::process::Abort;
@@ -10,6 +8,7 @@ use std::sync::Wait;
 use std::sync::atomic::{AtomicU64, Ordering};
 use std::test::Fail;
 use std::thread::Threads;
+use worked_runs::{PRODUCTS_OF_TWO_SESSIONS, Row};
 
 /// One product, run by workers of the number that the words ask for.
 const fn product<'w>(name: &'w str, words: &'w [&'w str]) -> Row<'w> {

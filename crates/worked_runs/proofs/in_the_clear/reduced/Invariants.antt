@@ -1,5 +1,5 @@
 use Rattle.std.proofs.Common.{◌^◌, ◌<◌, All}
-use Rattle.worked_rows.proofs.in_the_clear.reduced.Given as goal
+use Rattle.worked_runs.proofs.in_the_clear.reduced.Given as goal
 
 -- the words so far are in the ring
 abbrev pub invariant-loop-word : goal.invariant-loop-word

@@ -1,7 +1,7 @@
 //! What runs write, computed in the clear from the files and the words on the input wires.
 ghost use Rattle.std.specs.Prelude.{◌^◌, ◌<◌, All, IfOk};
 
-use crate::row::{Change, files};
+use crate::changed_files::{Change, files};
 use circuit_model::{Circuit, CircuitFault, CircuitLayout};
 use job_file::{Job, JobSession, read_job};
 use mpc_ring::Ring;

@@ -1,6 +1,6 @@
 //! Jobs that list their tolerated groups.
 
-use crate::row::{CHECK, Change, RUN, Row};
+use crate::changed_files::{CHECK, Change, RUN, Row};
 
 /// Jobs of version 2.
 const TOLERATED: [Row<'static>; 15] = [

@@ -1,7 +1,7 @@
 //! Jobs that are accepted.
 
+use crate::changed_files::{CHECK, Change, RUN, Row};
 use crate::product::{SESSION, TWO_SESSIONS};
-use crate::row::{CHECK, Change, RUN, Row};
 
 /// The changes that make of the product of 5 and 7 a second session with that of 2 and 3.
 pub const PRODUCTS_OF_TWO_SESSIONS: [Change<'static>; 7] = [

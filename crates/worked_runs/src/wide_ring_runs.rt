@@ -1,6 +1,6 @@
 //! Jobs in rings of more than 32 bits.
 
-use crate::row::{Change, RUN, Row};
+use crate::changed_files::{Change, RUN, Row};
 
 const WIDE_RINGS: [Row<'static>; 2] = [
     Row {

@@ -1,0 +1,105 @@
+//! A pipe for bytes between two threads.
+use outer_io::Failed;
+use rtrb::{Consumer, Producer, RingBuffer};
+use std::alloc::{AllocError, Global};
+use std::sync::Arc;
+use std::sync::atomic::{AtomicU64, Ordering};
+use std::thread;
+
+/// How many bytes a pipe has room for: those of a hello and of a frame, and a few more.
+const ROOM: usize = 60;
+
+/// How often an end looks whether the other one has done its part, before it gives up.
+const LOOKS: u64 = 10_000_000;
+
+/// How often an end of a pipe gave up.
+pub type InVain = Arc<AtomicU64, Global>;
+
+/// What is wrong with a pipe.
+#[derive(Clone, Copy)]
+pub enum Flaw {
+    /// It takes so many bytes, and then fails.
+    FailsAfter(u64),
+    /// It changes the byte that comes after so many others.
+    ChangesByte(u64),
+}
+
+/// The end of a pipe that sends. To drop it is to close it.
+#[derive(Drop)]
+pub struct Sender {
+    producer: Producer<u8>,
+    flaw: Option<Flaw>,
+    sent: u64,
+    in_vain: InVain,
+}
+
+/// The end of a pipe that receives. To drop it is to close it.
+#[derive(Drop)]
+pub struct Receiver {
+    consumer: Consumer<u8>,
+    in_vain: InVain,
+}
+
+/// Both ends of a pipe with this flaw.
+pub fn make_pipe(
+    alloc: Global,
+    flaw: Option<Flaw>,
+    in_vain: &InVain,
+) -> Result<(Sender, Receiver), AllocError> {
+    let (producer, consumer) = RingBuffer::new(alloc, ROOM)?;
+    let sender = Sender {
+        producer,
+        flaw,
+        sent: 0,
+        in_vain: Arc::try_clone(in_vain)?,
+    };
+    let receiver = Receiver {
+        consumer,
+        in_vain: Arc::try_clone(in_vain)?,
+    };
+    Ok((sender, receiver))
+}
+
+// A byte as the pipe takes it after so many others.
+fn flawed(flaw: Option<Flaw>, sent: u64, byte: u8) -> Result<u8, Failed> {
+    match flaw {
+        Some(Flaw::FailsAfter(most)) if sent >= most => Err(Failed),
+        Some(Flaw::ChangesByte(place)) if sent == place => Ok(byte ^ 2),
+        _ => Ok(byte),
+    }
+}
+
+impl Sender {
+    /// Sends a byte once there is room. It fails where the receiver was dropped.
+    pub fn send(&mut self, byte: u8) -> Result<(), Failed> {
+        let byte = flawed(self.flaw, self.sent, byte)?;
+        self.sent = self.sent.saturating_add(1);
+        for _ in 0..LOOKS {
+            if self.producer.is_abandoned() {
+                return Err(Failed);
+            }
+            if self.producer.push(byte).is_ok() {
+                return Ok(());
+            }
+            thread::yield_now();
+        }
+        self.in_vain.fetch_add(1, Ordering::SeqCst);
+        Err(Failed)
+    }
+}
+
+impl Receiver {
+    /// The next byte once it is there, or None where the sender was dropped and no byte is left.
+    pub fn next(&mut self) -> Result<Option<u8>, Failed> {
+        for _ in 0..LOOKS {
+            let no_more_comes = self.consumer.is_abandoned();
+            match self.consumer.pop() {
+                Ok(byte) => return Ok(Some(byte)),
+                Err(_) if no_more_comes => return Ok(None),
+                Err(_) => thread::yield_now(),
+            }
+        }
+        self.in_vain.fetch_add(1, Ordering::SeqCst);
+        Err(Failed)
+    }
+}
