@@ -1,18 +1,20 @@
 #!/usr/bin/env python3
 """Refuses each request for memory of a program in turn, and each of its threads: refuse_memory.py PROGRAM [WORD..]
 
-Runs 'PROGRAM WORD..', or without words each command of a list over examples/multiply, once with all its memory. Then it runs it once for
-each N with an allocator that refuses its Nth request. Each run must end with status 6 and write nothing, neither on standard output and
-standard error nor, as 'node', to a peer. Only where what was refused is the start of a thread it ends otherwise: without a worker the others
-do its work, with status 0 and the same text as before, and without the reader of a peer a node tells so, with status 5. It runs once more
-for each thread, which the system then refuses to start. No request may come after the first byte was written, nor, once a thread was asked
-for, any but those of threads. A thread's start asks once or twice, the second time in the C library, which may do with what an earlier
-thread left; so the count of these requests may differ from run to run. Prints the counts for each command, and ends with status 1 where a
-run did anything else. It needs Linux with the GNU C library, and a C compiler; for 'node' Python 3.11 or later.
+Runs 'PROGRAM WORD..', or without words each command of a list over examples/multiply, nodes of its parties among them, once with all its
+memory. Then it runs it once for each N with an allocator that refuses its Nth request. Each run must end with status 6 and write nothing,
+neither on standard output and standard error nor, as 'node', to a peer. Only where what was refused is the start of a thread it ends
+otherwise: without a worker the others do its work, with status 0 and the same text as before, and without the reader of a peer a node tells
+so, with status 5. It runs once more for each thread, which the system then refuses to start. No request may come after the first byte was
+written, nor, once a thread was asked for, any but those of threads. A thread's start asks once or twice, the second time in the C library,
+which may do with what an earlier thread left; so the count of these requests may differ from run to run. That of a node's reader asks once
+more before. Prints the counts for each command, and ends with status 1 where a run did anything else. It needs Linux with the GNU C
+library, and a C compiler; for 'node' Python 3.11 or later.
 """
 
 import collections
 import os
+import shutil
 import struct
 import subprocess
 import sys
@@ -42,6 +44,9 @@ LAYOUT = struct.Struct('5l')
 
 class Trial:
     """A command that is run with one thing refused."""
+
+    # How many requests a thread's start makes before the C library's own, which may make one more.
+    asked_for_a_thread = 1
 
     def __init__(self, command, library, file):
         self.command = command
@@ -76,20 +81,21 @@ class Trial:
         sys.exit(f'{self.name()}: {why}')
 
     def name(self):
-        return ' '.join(os.path.relpath(word, os.path.dirname(EXAMPLES)) if os.path.isdir(word) else word for word in self.command[1:])
+        return ' '.join(os.path.basename(word) if os.path.isdir(word) else word for word in self.command[1:])
 
     def refuse_all(self):
         """Refuses each request and each thread, and prints the counts."""
         counts = self.counts
         if self.whole[0] != 0:
             self.stop(f'status {self.whole[0]} with all memory: {self.whole[2][:80]!r}')
-        if counts.after_write != counts.requests + 1:
+        if counts.after_write != (counts.requests + 1 if any(self.whole[1:]) else 0):
             self.stop('memory was asked for after a byte was written')
         told = [self.tells_of_memory('REFUSE_REQUEST', number) for number in range(1, counts.requests + 1)]
         of_memory, of_threads = told.count(True), told.count(False)
-        if not counts.threads <= of_threads <= 2 * counts.threads or not all(told[:of_memory]):
+        most = (self.asked_for_a_thread + 1) * counts.threads
+        if not counts.threads <= of_threads <= most or not all(told[:of_memory]):
             self.stop(f'{of_threads} requests, not all of them the last, are told as those of {counts.threads} threads')
-        if counts.threads and counts.after_thread != of_memory + 2:
+        if counts.threads and counts.after_thread != of_memory + self.asked_for_a_thread + 1:
             self.stop('after the first thread something else asked for memory')
         if any(self.tells_of_memory('REFUSE_THREAD', number) for number in range(1, counts.threads + 1)):
             self.stop('the refusal of a thread was told as one of memory')
@@ -99,6 +105,8 @@ class Trial:
 
 class NodeTrial(Trial):
     """A node, to which this script is all its peers."""
+
+    asked_for_a_thread = 2
 
     def __init__(self, command, library, file):
         from peers import Peers
@@ -119,13 +127,26 @@ class NodeTrial(Trial):
         return ending[:2] == (5, b'') and ending[2].startswith(b'fault thread peer=')
 
 
+def for_nodes(folder):
+    """Copies the job into this folder, with a host and a port for its parties, which are three."""
+    shutil.copytree(JOB, folder)
+    path = os.path.join(folder, 'job.toml')
+    with open(path) as file:
+        text = file.read()
+    with open(path, 'w') as file:
+        file.write(text.replace('[[session]]', 'hosts = ["127.0.0.1", "127.0.0.1", "127.0.0.1"]\nport = 4700\n[[session]]', 1))
+    return folder
+
+
 def main(words):
     if len(words) < 2:
         sys.exit('usage: refuse_memory.py PROGRAM [WORD..]')
     with tempfile.TemporaryDirectory() as folder:
         library = os.path.join(folder, 'refuse_memory.so')
         subprocess.run(['cc', '-O2', '-shared', '-fPIC', '-o', library, os.path.join(HERE, 'refuse_memory.c')], check=True)
-        for command in [words[2:]] if len(words) > 2 else COMMANDS:
+        job = for_nodes(os.path.join(folder, 'multiply'))
+        nodes = [['node', job, name] for name in ('a', 'c')]
+        for command in [words[2:]] if len(words) > 2 else COMMANDS + nodes:
             trial = NodeTrial if command[0] == 'node' else Trial
             trial([words[1], *command], library, os.path.join(folder, 'counts')).refuse_all()
 
