@@ -5,9 +5,9 @@
     examples/network/nodes.py run JOB [PROGRAM]
 
 'split' writes a folder for each party, FOLDER/NAME, with the job's file, its circuits and that party's own file alone. With hosts, one
-for each party in order, and a port it adds these to a job that has none. 'run' splits the job into temporary folders, starts all nodes
-on this machine, and prints what each of them writes, in the order of the parties; it ends with status 0 where each node did. The
-program is ./mpc of this repository, or the one that is named.
+for each party in order, and a port it adds these to a job that has none. 'run' splits the job into temporary folders, with this machine
+as each host where the job has none, starts all nodes here, and prints what each of them writes, in the order of the parties; it ends
+with status 0 where each node did. The program is ./mpc of this repository, or the one that is named.
 """
 
 import os
@@ -17,6 +17,7 @@ import subprocess
 import sys
 import tempfile
 
+PORT = 26000
 TOP = os.path.dirname(os.path.dirname(os.path.dirname(os.path.abspath(__file__))))
 
 
@@ -56,8 +57,10 @@ def split(folder, target, hosts=None, port=None):
 
 def run(folder, program):
     """Starts a node for each party, and prints what they write."""
+    job = job_text(folder, None, None)
+    here = None if re.search(r'^hosts *=', job, re.M) else ['127.0.0.1'] * len(texts(r'^parties *= *\[(.*?)\]', job))
     with tempfile.TemporaryDirectory() as target:
-        names = split(folder, target)
+        names = split(folder, target, here, PORT)
         nodes = [subprocess.Popen([program, 'node', os.path.join(target, name), name], stdin=subprocess.DEVNULL,
                                   stdout=subprocess.PIPE, stderr=subprocess.PIPE, text=True) for name in names]
         status = 0
