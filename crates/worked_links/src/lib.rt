@@ -21,5 +21,3 @@ mod expected;
 mod inboxes;
 #[cfg(test)]
 mod readers;
-#[cfg(test)]
-mod threads;

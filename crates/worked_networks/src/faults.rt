@@ -1,6 +1,7 @@
 //! Jobs of three parties, of which one has another job, or can't send to another, or is heard wrong.
 use crate::Flaw;
-use crate::network::{FlawedPipe, Network, make_network, meeting, names_of, run_all, with_meeting};
+use crate::meeting::{changed_job, files_of_nodes, meeting, with_meeting};
+use crate::network::{FlawedPipe, Network, Pipes, SMALL_PIPES, make_network, run_all};
 use crate::node::Ended;
 use std::alloc::Global;
 use std::process::Abort;
@@ -10,14 +11,9 @@ use std::thread::Threads;
 use worked_runs::{Change, files};
 
 /// The nodes of a, b and c, over the product's files with these changes and hosts.
-fn three_nodes(
-    alloc: Global,
-    changes: &[Change<'_>],
-    flawed: Option<FlawedPipe>,
-) -> Result<Network, Fail> {
-    let text = meeting(alloc, 3, "host", 4000)?;
-    let changes = with_meeting(alloc, changes, &text)?;
-    make_network(alloc, &names_of(alloc, &changes)?, &changes, flawed)
+fn three_nodes(alloc: Global, changes: &[Change<'_>], pipes: Pipes) -> Result<Network, Fail> {
+    let names = changed_job(alloc, changes)?.names;
+    make_network(alloc, &names, files_of_nodes(alloc, changes, 3)?, pipes)
 }
 
 /// Whether this is one line that begins so.
@@ -61,7 +57,7 @@ fn run_with_odd<R: Threads + Wait + Sync>(
     change: Change<'_>,
 ) -> Result<Vec<Ended>, Fail> {
     let text = meeting(alloc, 3, "host", 4000)?;
-    let mut network = three_nodes(alloc, &[], None)?;
+    let mut network = three_nodes(alloc, &[], SMALL_PIPES)?;
     let linked = network.nodes.get_mut(odd).ok_or("no such node")?;
     linked.node.files = files(alloc, &with_meeting(alloc, &[change], &text)?)?;
     run_all(rt, alloc, network)
@@ -98,12 +94,13 @@ fn run_flawed<R: Threads + Wait + Sync>(
     changes: &[Change<'_>],
     flaw: Flaw,
 ) -> Result<Vec<Ended>, Fail> {
-    let pipe = FlawedPipe {
+    let mut pipes = SMALL_PIPES;
+    pipes.flawed = Some(FlawedPipe {
         from: 0,
         to: 2,
         flaw,
-    };
-    run_all(rt, alloc, three_nodes(alloc, changes, Some(pipe))?)
+    });
+    run_all(rt, alloc, three_nodes(alloc, changes, pipes)?)
 }
 
 /// After how many bytes from a to c the pipe fails, and how the lines of a, b and c begin. The bytes are a hello of 38, and

@@ -5,21 +5,27 @@
 #[cfg(test)]
 mod faults;
 #[cfg(test)]
+mod held;
+#[cfg(test)]
 mod loopback;
-#[cfg(test)]
+mod meeting;
 mod network;
-#[cfg(test)]
 mod node;
 mod pipe;
-#[cfg(test)]
 mod reader_threads;
 #[cfg(test)]
 mod runs;
 mod thread_inlet;
 mod thread_net;
 mod thread_outlet;
+mod written;
 
-pub use pipe::{Flaw, InVain, Receiver, Sender, make_pipe};
+pub use meeting::meeting;
+pub use network::{FlawedPipe, LinkedNode, Network, Pipes, SMALL_PIPES, make_network, run_all};
+pub use node::{Ended, Node};
+pub use pipe::{Flaw, Gate, InVain, Receiver, Sender, make_pipe};
+pub use reader_threads::ReaderThreads;
 pub use thread_inlet::ThreadInlet;
 pub use thread_net::{PipeEnds, ThreadNet};
 pub use thread_outlet::ThreadOutlet;
+pub use written::{check_ended, check_written};

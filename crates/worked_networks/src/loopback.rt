@@ -1,7 +1,7 @@
 //! The worked job, run by its nodes over TCP on this machine.
-use crate::network::{meeting, with_meeting};
+use crate::meeting::{meeting, with_meeting};
 use crate::node::{Ended, Node, make_node, run_node};
-use crate::runs::expect_ended;
+use crate::written::check_ended;
 use socket_link::{TcpNet, ThreadSpawner};
 use std::alloc::Global;
 use std::net::{Net as Sockets, TcpListener, TcpStream};
@@ -10,6 +10,7 @@ use std::test::Fail;
 use std::thread;
 use std::thread::Threads;
 use std::time::Clock;
+use worked_runs::files;
 
 /// The parties, and what the node of each writes.
 const WRITTEN: [(&str, &str); 3] = [("a", ""), ("b", ""), ("c", "out 0 0 c 35\n")];
@@ -20,7 +21,7 @@ fn nodes(alloc: Global) -> Result<Vec<Node>, Fail> {
     let changes = with_meeting(alloc, &[], &text)?;
     let mut nodes = Vec::new(alloc);
     for (name, _) in &WRITTEN {
-        nodes.push(make_node(alloc, &changes, name)?)?;
+        nodes.push(make_node(alloc, files(alloc, &changes)?, name)?)?;
     }
     Ok(nodes)
 }
@@ -40,7 +41,7 @@ fn nodes_meet_over_tcp(rt: HostRuntime) -> Result<(), Fail> {
     let ended = thread::map_vec(&rt, nodes(alloc)?, &|node| run_over_tcp(&rt, alloc, node))?;
     assert!(rt; ended.len() == 3, "{} nodes", ended.len());
     for (node, (name, out)) in ended.iter().zip(&WRITTEN) {
-        expect_ended(&rt, "loopback", name, node, 0, out, "");
+        check_ended("loopback", name, node, 0, out, "")?;
     }
     Ok(())
 }

@@ -2,8 +2,7 @@
 use crate::node::{Ended, Node, make_node, run_node};
 use crate::reader_threads::ReaderThreads;
 use crate::{Flaw, InVain, PipeEnds, ThreadNet, make_pipe};
-use job_file::read_job;
-use outer_io::Files;
+use outer_io::MapFiles;
 use party_set::Names;
 use std::alloc::{AllocError, Global};
 use std::sync::atomic::{AtomicU64, Ordering};
@@ -11,13 +10,12 @@ use std::sync::{Arc, Wait};
 use std::test::Fail;
 use std::thread;
 use std::thread::Threads;
-use worked_runs::{Change, files};
 
 /// A node, and a net that gives its links.
 #[derive(Drop)]
 pub struct LinkedNode {
     pub node: Node,
-    net: ThreadNet,
+    pub net: ThreadNet,
 }
 
 /// The nodes of all parties, and how often an end of their pipes gave up.
@@ -35,6 +33,19 @@ pub struct FlawedPipe {
     pub flaw: Flaw,
 }
 
+/// What the pipes are like: for how many bytes each has room, and which one has a flaw.
+#[derive(Clone, Copy)]
+pub struct Pipes {
+    pub room: usize,
+    pub flawed: Option<FlawedPipe>,
+}
+
+/// Pipes with room for a hello, a frame and a few bytes more, and without a flaw.
+pub const SMALL_PIPES: Pipes = Pipes {
+    room: 60,
+    flawed: None,
+};
+
 /// What is wrong with this pipe, where it is the flawed one.
 fn flaw_between(flawed: Option<FlawedPipe>, from: usize, to: usize) -> Option<Flaw> {
     match flawed {
@@ -47,14 +58,15 @@ fn flaw_between(flawed: Option<FlawedPipe>, from: usize, to: usize) -> Option<Fl
 fn connect(
     alloc: Global,
     from: usize,
-    flawed: Option<FlawedPipe>,
+    pipes: Pipes,
     in_vain: &InVain,
     all: &mut [PipeEnds],
 ) -> Result<(), AllocError> {
     let mut outgoing = Vec::new(alloc);
     for to in 0..all.len() {
         if to != from {
-            let (sender, receiver) = make_pipe(alloc, flaw_between(flawed, from, to), in_vain)?;
+            let flaw = flaw_between(pipes.flawed, from, to);
+            let (sender, receiver) = make_pipe(alloc, pipes.room, flaw, in_vain)?;
             outgoing.push(sender)?;
             all[to].incoming.push(receiver)?;
         }
@@ -69,7 +81,7 @@ fn connect(
 fn connect_all(
     alloc: Global,
     parties: u32,
-    flawed: Option<FlawedPipe>,
+    pipes: Pipes,
     in_vain: &InVain,
 ) -> Result<Vec<PipeEnds>, AllocError> {
     let mut all = Vec::new(alloc);
@@ -81,55 +93,24 @@ fn connect_all(
         })?;
     }
     for from in 0..all.len() {
-        connect(alloc, from, flawed, in_vain, all.as_mut_slice())?;
+        connect(alloc, from, pipes, in_vain, all.as_mut_slice())?;
     }
     Ok(all)
 }
 
-/// The names of the parties of the product's job with these changes.
-pub fn names_of(alloc: Global, changes: &[Change<'_>]) -> Result<Names, Fail> {
-    let mut files = files(alloc, changes)?;
-    let bytes = files.read(alloc, "d/job.toml", 10_000);
-    let bytes = bytes.ok().ok_or("no job.toml")?;
-    let job = read_job(alloc, &bytes, false).ok().ok_or("no job")?;
-    Ok(job.names)
-}
-
-/// The hosts of so many parties, all the same, and the port, before the first session.
-pub fn meeting(alloc: Global, parties: u32, host: &str, port: u16) -> Result<String, AllocError> {
-    let mut text = String::from_str(alloc, "hosts = [")?;
-    for _ in 0..parties {
-        text.push_str(&format!(in alloc; "\"{host}\", ")?)?;
-    }
-    text.push_str(&format!(in alloc; "]\nport = {port}\n[[session]]\n")?)?;
-    Ok(text)
-}
-
-/// These changes, and then that of the first session's head to this text.
-pub fn with_meeting<'c>(
-    alloc: Global,
-    changes: &[Change<'c>],
-    text: &'c str,
-) -> Result<Vec<Change<'c>>, AllocError> {
-    let mut all = Vec::from_slice(alloc, changes)?;
-    all.push(Change::Edit("job.toml", "[[session]]\n", text))?;
-    Ok(all)
-}
-
-/// The nodes of all parties, over the files with these changes.
+/// The nodes of all parties, each over its own files.
 pub fn make_network(
     alloc: Global,
     names: &Names,
-    changes: &[Change<'_>],
-    flawed: Option<FlawedPipe>,
+    files: Vec<MapFiles>,
+    pipes: Pipes,
 ) -> Result<Network, Fail> {
     let in_vain = Arc::new(alloc, AtomicU64::new(0))?;
-    let mut all = connect_all(alloc, names.len(), flawed, &in_vain)?.into_iter();
+    let all = connect_all(alloc, names.len(), pipes, &in_vain)?;
     let mut nodes = Vec::new(alloc);
-    for me in 0..names.len() {
-        let ends = all.next().ok_or("too few ends")?;
+    for (ends, files) in all.into_iter().zip(files) {
         nodes.push(LinkedNode {
-            node: make_node(alloc, changes, names.name(me))?,
+            node: make_node(alloc, files, names.name(ends.me))?,
             net: ThreadNet::new(ends),
         })?;
     }

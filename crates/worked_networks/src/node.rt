@@ -4,9 +4,8 @@ use mpc_top::command;
 use outer_io::{MapFiles, Net, NoPace, Spawner, VecSink};
 use std::alloc::{AllocError, Global};
 use std::sync::Wait;
-use std::test::Fail;
 use std::thread::Threads;
-use worked_runs::{Change, files, words};
+use worked_runs::words;
 
 /// One party of a job: the words that start its node, its files and its outputs.
 #[derive(Drop)]
@@ -30,11 +29,11 @@ fn sink(alloc: Global, room: usize) -> Result<VecSink, AllocError> {
     Ok(VecSink::new(Vec::with_capacity(alloc, room)?, room, Vec::new(alloc)))
 }
 
-/// The node of the party of this name, over the product's files with these changes.
-pub fn make_node(alloc: Global, changes: &[Change<'_>], name: &str) -> Result<Node, Fail> {
+/// The node of the party of this name, over the files of the folder `d`.
+pub fn make_node(alloc: Global, files: MapFiles, name: &str) -> Result<Node, AllocError> {
     Ok(Node {
         words: words(alloc, &["mpc", "node", "d", name])?,
-        files: files(alloc, changes)?,
+        files,
         out: sink(alloc, 300)?,
         err: sink(alloc, 300)?,
     })

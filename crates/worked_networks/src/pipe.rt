@@ -3,17 +3,31 @@ use outer_io::Failed;
 use rtrb::{Consumer, Producer, RingBuffer};
 use std::alloc::{AllocError, Global};
 use std::sync::Arc;
-use std::sync::atomic::{AtomicU64, Ordering};
+use std::sync::atomic::{AtomicBool, AtomicU64, Ordering};
 use std::thread;
-
-/// How many bytes a pipe has room for: those of a hello and of a frame, and a few more.
-const ROOM: usize = 60;
 
 /// How often an end looks whether the other one has done its part, before it gives up.
 const LOOKS: u64 = 10_000_000;
 
+/// How often an end looks whether a gate is open, before it gives up.
+const LOOKS_AT_GATE: u64 = 100_000_000;
+
 /// How often an end of a pipe gave up.
 pub type InVain = Arc<AtomicU64, Global>;
+
+/// A gate between two pipes, true once it is open.
+pub type Gate = Arc<AtomicBool, Global>;
+
+/// What the end of a pipe that receives has to do with a gate.
+#[derive(Drop)]
+enum Post {
+    /// Nothing.
+    Free,
+    /// It waits at the gate before it receives.
+    Behind(Gate),
+    /// It opens the gate once it has received so many bytes more.
+    Opens(Gate, u64),
+}
 
 /// What is wrong with a pipe.
 #[derive(Clone, Copy)]
@@ -37,16 +51,18 @@ pub struct Sender {
 #[derive(Drop)]
 pub struct Receiver {
     consumer: Consumer<u8>,
+    post: Post,
     in_vain: InVain,
 }
 
-/// Both ends of a pipe with this flaw.
+/// Both ends of a pipe that has room for so many bytes, with this flaw.
 pub fn make_pipe(
     alloc: Global,
+    room: usize,
     flaw: Option<Flaw>,
     in_vain: &InVain,
 ) -> Result<(Sender, Receiver), AllocError> {
-    let (producer, consumer) = RingBuffer::new(alloc, ROOM)?;
+    let (producer, consumer) = RingBuffer::new(alloc, room)?;
     let sender = Sender {
         producer,
         flaw,
@@ -55,6 +71,7 @@ pub fn make_pipe(
     };
     let receiver = Receiver {
         consumer,
+        post: Post::Free,
         in_vain: Arc::try_clone(in_vain)?,
     };
     Ok((sender, receiver))
@@ -88,9 +105,56 @@ impl Sender {
     }
 }
 
+// Waits until the gate is open.
+fn wait_at(gate: &Gate, in_vain: &InVain) -> Result<(), Failed> {
+    for _ in 0..LOOKS_AT_GATE {
+        if gate.load(Ordering::SeqCst) {
+            return Ok(());
+        }
+        thread::yield_now();
+    }
+    in_vain.fetch_add(1, Ordering::SeqCst);
+    Err(Failed)
+}
+
+// What is left to do with a gate once a byte more is received.
+fn after_a_byte(post: Post) -> Post {
+    match post {
+        Post::Opens(gate, left) if left <= 1 => {
+            gate.store(true, Ordering::SeqCst);
+            Post::Free
+        }
+        Post::Opens(gate, left) => Post::Opens(gate, left - 1),
+        other => other,
+    }
+}
+
 impl Receiver {
+    /// Receives nothing until this gate is open.
+    pub fn wait_behind(&mut self, gate: Gate) {
+        self.post = Post::Behind(gate);
+    }
+
+    /// Opens this gate once so many bytes more are received.
+    pub fn open_after(&mut self, bytes: u64, gate: Gate) {
+        self.post = Post::Opens(gate, bytes);
+    }
+
     /// The next byte once it is there, or None where the sender was dropped and no byte is left.
     pub fn next(&mut self) -> Result<Option<u8>, Failed> {
+        if let Post::Behind(gate) = &self.post {
+            wait_at(gate, &self.in_vain)?;
+        }
+        let next = self.receive()?;
+        if next.is_some() {
+            let post = std::mem::replace(&mut self.post, Post::Free);
+            self.post = after_a_byte(post);
+        }
+        Ok(next)
+    }
+
+    // The same, whatever the gate.
+    fn receive(&mut self) -> Result<Option<u8>, Failed> {
         for _ in 0..LOOKS {
             let no_more_comes = self.consumer.is_abandoned();
             match self.consumer.pop() {

@@ -36,6 +36,11 @@ impl ThreadNet {
             faults: 0,
         }
     }
+
+    /// The end of the pipe from this peer, while the net has its ends. Peers are counted from 0, the party left out.
+    pub fn receiver(&mut self, peer: usize) -> Option<&mut Receiver> {
+        self.ends.as_mut()?.incoming.get_mut(peer)
+    }
 }
 
 impl Net for ThreadNet {

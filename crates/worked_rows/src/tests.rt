@@ -14,8 +14,8 @@ use std::sync::Wait;
 use std::test::Fail;
 use std::thread::Threads;
 use worked_runs::{
-    CHECK, CIRCUIT, Change, RUN, Row, SESSION, TWO_SESSIONS, accepted, inputs_of, out_in_the_clear,
-    tolerated, wide_rings,
+    CHECK, CIRCUIT, Change, RUN, Row, SESSION, TWO_SESSIONS, accepted, files, inputs_of,
+    out_in_the_clear, tolerated, wide_rings,
 };
 
 #[test]
@@ -62,7 +62,8 @@ fn expect_in_the_clear<R: Abort + Threads + Wait + Sync>(
 ) -> Result<(), Fail> {
     for row in rows {
         if row.out.starts_with("out ") {
-            let out = out_in_the_clear(alloc, row.changes, inputs_of(row.name)?)?;
+            let mut files = files(alloc, row.changes)?;
+            let out = out_in_the_clear(alloc, &mut files, inputs_of(row.name)?)?;
             let in_the_clear = Row {
                 name: row.name,
                 words: row.words,

@@ -1,7 +1,6 @@
-//! What runs write, computed in the clear from the files and the words on the input wires.
+//! What runs write, computed in the clear from the job, the circuits and the words on the input wires.
 ghost use Rattle.std.specs.Prelude.{◌^◌, ◌<◌, All, IfOk};
 
-use crate::changed_files::{Change, files};
 use circuit_model::{Circuit, CircuitFault, CircuitLayout};
 use job_file::{Job, JobSession, read_job};
 use mpc_ring::Ring;
@@ -12,9 +11,12 @@ use std::alloc::{AllocError, Global};
 use std::slice::Iter;
 use std::test::Fail;
 
+/// How long a file may be.
+const MOST_BYTES: u64 = 100_000;
+
 fn read_file(alloc: Global, files: &mut MapFiles, name: &str) -> Result<Vec<u8>, Fail> {
     let path = format!(in alloc; "d/{name}")?;
-    let bytes = files.read(alloc, &path, 10_000);
+    let bytes = files.read(alloc, &path, MOST_BYTES);
     Ok(bytes.ok().ok_or("a file that is not there")?)
 }
 
@@ -107,9 +109,21 @@ fn push_lines(
     Ok(())
 }
 
-fn job_of(alloc: Global, files: &mut MapFiles) -> Result<Job, Fail> {
+/// The job of the folder `d`.
+pub fn job_of(alloc: Global, files: &mut MapFiles) -> Result<Job, Fail> {
     let bytes = read_file(alloc, files, "job.toml")?;
     Ok(read_job(alloc, &bytes, false).ok().ok_or("no job")?)
+}
+
+/// The circuit of a session.
+pub fn circuit_of(
+    alloc: Global,
+    files: &mut MapFiles,
+    job: &Job,
+    session: &JobSession,
+) -> Result<Circuit, Fail> {
+    let bytes = read_file(alloc, files, session.circuit.as_str())?;
+    Ok(read_circuit(alloc, &bytes, session.layout, job.ring)?)
 }
 
 /// Adds the lines of a session.
@@ -122,25 +136,22 @@ fn push_session(
     session: &JobSession,
     words: &[u64],
 ) -> Result<(), Fail> {
-    let bytes = read_file(alloc, files, session.circuit.as_str())?;
-    let circuit = read_circuit(alloc, &bytes, session.layout, job.ring)?;
+    let circuit = circuit_of(alloc, files, job, session)?;
     let values = values_of(alloc, &circuit, job.ring, words)?;
     push_lines(alloc, out, job, s, &session.readers, &circuit, &values)
 }
 
-/// What a run over the product's files with these changes is to write, from the words on the input wires of each
-/// session.
+/// What a run over the files of the folder `d` is to write, from the words on the input wires of each session.
 pub fn out_in_the_clear(
     alloc: Global,
-    changes: &[Change<'_>],
+    files: &mut MapFiles,
     inputs: &[&[u64]],
 ) -> Result<String, Fail> {
-    let mut files = files(alloc, changes)?;
-    let job = job_of(alloc, &mut files)?;
+    let job = job_of(alloc, files)?;
     let mut out = String::new(alloc);
     for (s, session) in job.sessions.iter().enumerate() {
         let words = *inputs.get(s).ok_or("a session without inputs")?;
-        push_session(alloc, &mut out, &mut files, &job, s, session, words)?;
+        push_session(alloc, &mut out, files, &job, s, session, words)?;
     }
     Ok(out)
 }
