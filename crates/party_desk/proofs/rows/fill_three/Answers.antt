@@ -13,17 +13,18 @@ pub returns-clause-filled : goal.returns-clause-filled
 returns-clause-filled c =
     let table = c.args.table.now in
     let gate = c.args.gate in
-    let before = row 3 table in
+    let m : ℕ = 3 in
+    let before = row m table in
     let summand : ℕ → ℕ → ℕ → ℕ = local (2 ^ c.args.ring) c.args.operation gate.constant in
     let new : ℕ → ℕ = λ i. summand i (before gate.first i) (before gate.second i) in
     let x = c.local_summand-first.result in
     let is = c.local_summand-first.ensures.is 0 refl
-    ∙ ap₂ (summand 0) (ap (slice_index table) (sym (at_start (gate.first * 3)))) (ap (slice_index table) (sym (at_start (gate.second * 3)))) in
-    let one = subst (λ n. SameRows 3 (row 3 (set table n x)) (filled_to before gate.output new 1)) (at_start (gate.output * 3))
-    (fill_step 3 table before gate.output new 0 x (fill_start 3 before gate.output new) (omega arith) (omega (arith, c.requires.rows.2)) is) in
-    let two = fill_step 3 _ before gate.output new 1 c.local_summand-second.result one (omega arith) (omega (arith, c.requires.rows.2, length-set table (gate.output * 3) x)) (c.local_summand-second.ensures.is 1 refl) in
+    ∙ ap₂ (summand 0) (ap (slice_index table) (sym (at_start (gate.first * m)))) (ap (slice_index table) (sym (at_start (gate.second * m)))) in
+    let one = subst (λ n. SameRows m (row m (set table n x)) (filled_to before gate.output new 1)) (at_start (gate.output * m))
+    (fill_step m table before gate.output new 0 x (fill_start m before gate.output new) (omega arith) (omega (arith, c.requires.rows.2)) is) in
+    let two = fill_step m _ before gate.output new 1 c.local_summand-second.result one (omega arith) (omega (arith, c.requires.rows.2, length-set table (gate.output * m) x)) (c.local_summand-second.ensures.is 1 refl) in
     let y = c.local_summand-second.result in
-    let long = length-set table (gate.output * 3) x in
-    let still_long = length-set (set table (gate.output * 3) x) (gate.output * 3 + 1) y in
-    let all = fill_step 3 _ before gate.output new 2 c.local_summand-third.result two (omega arith) (omega (arith, c.requires.rows.2)) (c.local_summand-third.ensures.is 2 refl) in
-    λ v i l. all v i l ∙ fill_end 3 before gate.output new v i l
+    let long = length-set table (gate.output * m) x in
+    let still_long = length-set (set table (gate.output * m) x) (gate.output * m + 1) y in
+    let all = fill_step m _ before gate.output new 2 c.local_summand-third.result two (omega arith) (omega (arith, c.requires.rows.2)) (c.local_summand-third.ensures.is 2 refl) in
+    λ v i l. all v i l ∙ fill_end m before gate.output new v i l
