@@ -37,6 +37,10 @@ fn read<R: rt::Files>(rt: &R, alloc: Global, path: &str) -> Result<Vec<u8>, Fail
     }
 }
 
+fn party_file(alloc: Global, name: &str) -> Result<String, AllocError> {
+    format!(in alloc; "party_{name}.toml")
+}
+
 impl<'f, R: rt::Files> Folder<'f, R> {
     /// Opens the folder of this path.
     pub fn open(rt: &'f R, alloc: Global, path: &'f str) -> Result<Folder<'f, R>, Fail> {
@@ -56,12 +60,8 @@ impl<'f, R: rt::Files> Folder<'f, R> {
         read(self.rt, alloc, &format!(in alloc; "{}/{name}", self.path)?)
     }
 
-    fn party_file(&self, alloc: Global, party: u32) -> Result<String, AllocError> {
-        format!(in alloc; "party_{}.toml", self.job.names.name(party))
-    }
-
-    /// The files of the node of a party, in the folder `d`: the job's, those of its circuits, and the party's own.
-    pub fn files_of(&self, alloc: Global, party: u32) -> Result<MapFiles, Fail> {
+    // The files that all parties have, in the folder `d`.
+    fn shared_files(&self, alloc: Global) -> Result<BTreeMap<String, Vec<u8>>, Fail> {
         let mut all: BTreeMap<String, Vec<u8>> = BTreeMap::new(alloc);
         let text = Vec::from_slice(alloc, self.text.as_bytes())?;
         all.insert(String::from_str(alloc, "d/job.toml")?, text)?;
@@ -69,14 +69,25 @@ impl<'f, R: rt::Files> Folder<'f, R> {
             let name = session.circuit.as_str();
             all.insert(format!(in alloc; "d/{name}")?, self.read(alloc, name)?)?;
         }
-        let name = self.party_file(alloc, party)?;
-        all.insert(format!(in alloc; "d/{name}")?, self.read(alloc, &name)?)?;
+        Ok(all)
+    }
+
+    /// The job and the circuits, in the folder `d`.
+    pub fn circuits(&self, alloc: Global) -> Result<MapFiles, Fail> {
+        Ok(MapFiles::new(self.shared_files(alloc)?, Vec::new(alloc)))
+    }
+
+    /// The files of the node of the party of this name, in the folder `d`: the job, the circuits, and the party's own file.
+    pub fn files_of(&self, alloc: Global, name: &str) -> Result<MapFiles, Fail> {
+        let mut all = self.shared_files(alloc)?;
+        let own = self.read(alloc, &party_file(alloc, name)?)?;
+        all.insert(format!(in alloc; "d/party_{name}.toml")?, own)?;
         Ok(MapFiles::new(all, Vec::new(alloc)))
     }
 
-    /// The texts of a party's inputs, one for each session.
-    pub fn inputs_of(&self, alloc: Global, party: u32) -> Result<Vec<String>, Fail> {
-        let bytes = self.read(alloc, &self.party_file(alloc, party)?)?;
+    /// The texts of the inputs of the party of this name, one for each session.
+    pub fn inputs_of(&self, alloc: Global, name: &str) -> Result<Vec<String>, Fail> {
+        let bytes = self.read(alloc, &party_file(alloc, name)?)?;
         let table = document(alloc, &bytes)?.ok_or("no TOML")?;
         Ok(texts_at(alloc, &table, "inputs")?)
     }

@@ -56,8 +56,9 @@ pub fn inputs<R: rt::Files>(
     files: &mut MapFiles,
 ) -> Result<Vec<Vec<u64>>, Fail> {
     let mut texts = Vec::new(alloc);
-    for party in 0..folder.job.names.len() {
-        texts.push(folder.inputs_of(alloc, party)?)?;
+    let names = &folder.job.names;
+    for party in 0..names.len() {
+        texts.push(folder.inputs_of(alloc, names.name(party))?)?;
     }
     let mut all = Vec::new(alloc);
     for (s, session) in folder.job.sessions.iter().enumerate() {

@@ -18,7 +18,7 @@ use worked_runs::out_in_the_clear;
 
 /// What the circuits of the job come to in the clear.
 fn in_the_clear<R: Files>(alloc: Global, folder: &Folder<'_, R>) -> Result<String, Fail> {
-    let mut files = folder.files_of(alloc, 0)?;
+    let mut files = folder.circuits(alloc)?;
     let inputs = inputs(alloc, folder, &mut files)?;
     let mut words = Vec::new(alloc);
     for session in &inputs {
@@ -37,7 +37,7 @@ fn run_folder<R: Files + Threads + Wait + Sync>(
     let names = &folder.job.names;
     let mut files = Vec::new(alloc);
     for party in 0..names.len() {
-        files.push(folder.files_of(alloc, party)?)?;
+        files.push(folder.files_of(alloc, names.name(party))?)?;
     }
     let ended = run_all(rt, alloc, make_network(alloc, names, files, SMALL_PIPES)?)?;
     let out = in_the_clear(alloc, &folder)?;

@@ -1,7 +1,7 @@
 //! A node that hears nothing of its first peer before the second one has said all.
 use crate::Gate;
-use crate::meeting::{changed_job, files_of_nodes};
 use crate::network::{Network, Pipes, make_network, run_all};
+use crate::node_files::{changed_job, files_of_nodes};
 use crate::written::check_written;
 use std::alloc::Global;
 use std::sync::Arc;

@@ -8,9 +8,9 @@ mod faults;
 mod held;
 #[cfg(test)]
 mod loopback;
-mod meeting;
 mod network;
 mod node;
+mod node_files;
 mod pipe;
 mod reader_threads;
 #[cfg(test)]
@@ -20,9 +20,9 @@ mod thread_net;
 mod thread_outlet;
 mod written;
 
-pub use meeting::meeting;
 pub use network::{FlawedPipe, LinkedNode, Network, Pipes, SMALL_PIPES, make_network, run_all};
 pub use node::{Ended, Node};
+pub use node_files::meeting;
 pub use pipe::{Flaw, Gate, InVain, Receiver, Sender, make_pipe};
 pub use reader_threads::ReaderThreads;
 pub use thread_inlet::ThreadInlet;

@@ -1,6 +1,6 @@
 //! The worked job, run by its nodes over TCP on this machine.
-use crate::meeting::{meeting, with_meeting};
 use crate::node::{Ended, Node, make_node, run_node};
+use crate::node_files::{meeting, with_meeting};
 use crate::written::check_ended;
 use socket_link::{TcpNet, ThreadSpawner};
 use std::alloc::Global;

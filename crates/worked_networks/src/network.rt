@@ -106,11 +106,14 @@ pub fn make_network(
     pipes: Pipes,
 ) -> Result<Network, Fail> {
     let in_vain = Arc::new(alloc, AtomicU64::new(0))?;
-    let all = connect_all(alloc, names.len(), pipes, &in_vain)?;
+    let mut all = connect_all(alloc, names.len(), pipes, &in_vain)?.into_iter();
+    let mut files = files.into_iter();
     let mut nodes = Vec::new(alloc);
-    for (ends, files) in all.into_iter().zip(files) {
+    for me in 0..names.len() {
+        let files = files.next().ok_or("too few files")?;
+        let ends = all.next().ok_or("too few ends")?;
         nodes.push(LinkedNode {
-            node: make_node(alloc, files, names.name(ends.me))?,
+            node: make_node(alloc, files, names.name(me))?,
             net: ThreadNet::new(ends),
         })?;
     }

@@ -1,6 +1,6 @@
 //! The accepted jobs, each run by the nodes of all its parties.
-use crate::meeting::{changed_job, files_of_nodes};
 use crate::network::{SMALL_PIPES, make_network, run_all};
+use crate::node_files::{changed_job, files_of_nodes};
 use crate::written::check_written;
 use std::alloc::Global;
 use std::process::Abort;
