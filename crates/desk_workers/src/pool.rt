@@ -5,7 +5,7 @@ ghost use Rattle.message_board.specs.Seats.{IsFreeSeatOf, slots_of};
 ghost use Rattle.desk_workers.specs.Pools.{IsPool, AllFree, SameSeatCounts};
 
 use crate::promised::Promised;
-use crate::steps::{Turn, has_ended, walk};
+use crate::steps::{Turn, walk};
 use desk_rack::Rack;
 use job_plan::Plan;
 use message_board::BoardSeat;
@@ -46,7 +46,7 @@ fn look_in<P: Pace>(
         };
     };
     let mut desk = desk;
-    let over = has_ended(&desk);
+    let over = desk.has_ended();
     let moves = walk(rack.board(), plan, pace, turn, seat, &mut desk);
     rack.put(seat, turn.desk, desk);
     Visit { moves, over }

@@ -1,5 +1,5 @@
 //! Steps of a desk on a board that other threads share.
-ghost use Rattle.std.specs.Prelude.{◌≡◌, ◌==◌, ◌<◌, ◌^◌, false, length, if◌then◌else◌};
+ghost use Rattle.std.specs.Prelude.{◌≡◌, ◌<◌, ◌^◌, false, length, if◌then◌else◌};
 ghost use Rattle.message_board.specs.Seats.{IsSeatOf};
 ghost use Rattle.desk_laws.specs.Pools.{moves_of};
 ghost use Rattle.desk_workers.specs.Pools.{IsPool, IsDeskOf, LeadsOn, IsStuck};
@@ -49,13 +49,6 @@ fn step_on(
     step_at(&mut cells, plan, desk)
 }
 
-/// Whether the desk has done all its instructions.
-pub fn has_ended(desk: &Desk) -> bool
-    ensures { result ≡ (desk.now.position == desk.now.instructions) }
-{
-    desk.position() == desk.instructions()
-}
-
 // Steps the desk once, if it is not at its end, and answers whether it moved.
 fn goes_on<P: Pace>(
     board: &Board<Promised, Box<Desk>>,
@@ -72,7 +65,7 @@ fn goes_on<P: Pace>(
     ensures leads { LeadsOn board.now seat.old desk.old seat.new desk.new (if result then 1 else 0) }
     ensures stuck { result ≡ false → IsStuck board.now seat.old desk.old }
 {
-    if has_ended(desk) {
+    if desk.has_ended() {
         return false;
     }
     pace.before(turn.worker, turn.desk);

@@ -20,11 +20,13 @@ use std::marker::Model;
 #[derive(Drop)]
 pub struct Board<W: Promise, T: SlotItem<W>> {
     table: Table<Option<T>, View<W>, About<W>, BoardRule, Global>,
+    // How many cells there are.
+    messages: usize,
 }
 
 // To a contract a board is which table it is, and what it is about.
 impl<W: Promise, T: SlotItem<W>> Model for Board<W, T> {
-    ghost use Rattle.std.specs.Prelude.{length};
+    ghost use Rattle.std.specs.Prelude.{◌≡◌, length};
     ghost use Rattle.message_board.specs.Seats.{IsTableFor, BoardModel, board_coded};
 
     ghost Value = { BoardModel W };
@@ -33,7 +35,8 @@ impl<W: Promise, T: SlotItem<W>> Model for Board<W, T> {
 
     ghost view = { λ b. record { id = b.table.shared.table_id; about = b.table.shared.key } };
 
-    ghost invariant = { λ b. IsTableFor (length (W.list b.table.shared.key.world)) b.table.shared.table_id };
+    ghost invariant = { λ b. IsTableFor (length (W.list b.table.shared.key.world)) b.table.shared.table_id
+        × (b.messages ≡ length (W.list b.table.shared.key.world)) };
 }
 
 /// What one thread uses a board with. It knows what it posted, took and found, and holds the slots that it took. It has
@@ -101,7 +104,8 @@ impl<W: Promise, T: SlotItem<W>> Board<W, T> {
             seats,
         };
         let (table, seat) = Table::of_words(alloc, start.as_slice(), &about)?;
-        let board = Board { table };
+        let messages = messages as usize;
+        let board = Board { table, messages };
         let made = board.seats(made, BoardSeat { seat }, seats);
         Ok((board, made))
     }
@@ -134,7 +138,7 @@ impl<W: Promise, T: SlotItem<W>> Board<W, T> {
             world: words,
             seats,
         };
-        match Board::open(alloc, about, start, slots) {
+        match Board::open(alloc, about, messages as usize, start, slots) {
             Ok((board, first)) => {
                 let made = board.seats(made, first, seats);
                 Ok((board, made))
@@ -147,6 +151,7 @@ impl<W: Promise, T: SlotItem<W>> Board<W, T> {
     fn open(
         alloc: Global,
         about: About<W>,
+        messages: usize,
         start: Vec<u64>,
         slots: Vec<Option<T>>,
     ) -> Result<(Board<W, T>, BoardSeat<W, T>), Vec<Option<T>>>
@@ -154,6 +159,7 @@ impl<W: Promise, T: SlotItem<W>> Board<W, T> {
         W: Drop,
         T: Drop,
         requires seats { 0 < about.seats }
+        requires messages { length (W.list about.world) ≡ messages }
         requires few { (length (W.list about.world) < 2 ^ 32) × (vec_len slots / apart < 2 ^ 32) }
         requires places { vec_len slots ≡ apart * (vec_len slots / apart) }
         requires words { vec_len start ≡ length (W.list about.world) + length (W.list about.world) + vec_len slots + 1 }
@@ -166,7 +172,7 @@ impl<W: Promise, T: SlotItem<W>> Board<W, T> {
         match Table::new(alloc, start.as_slice(), slots, &about) {
             Ok(opened) => {
                 let (table, seat) = opened;
-                Ok((Board { table }, BoardSeat { seat }))
+                Ok((Board { table, messages }, BoardSeat { seat }))
             }
             Err(refused) => {
                 let Refused { slots } = refused;
@@ -215,14 +221,14 @@ impl<W: Promise, T: SlotItem<W>> Board<W, T> {
         ensures view { seat.new.view ≡ posts seat.old.view number word result }
         ensures found { IsPostAnswer word result }
     {
-        let messages = self.messages();
         self.table
             .shared
             .store::<Stores<W, T>>(&mut seat.seat, number as usize + 1, word);
+        let full = self.messages + number as usize + 1;
         let found = self
             .table
             .shared
-            .compare_exchange::<Posts<W, T>>(&mut seat.seat, messages + number as usize + 1, 0, 1);
+            .compare_exchange::<Posts<W, T>>(&mut seat.seat, full, 0, 1);
         posted_of(found, word)
     }
 
@@ -235,11 +241,10 @@ impl<W: Promise, T: SlotItem<W>> Board<W, T> {
         ensures promised { IfSome result (λ w. slice_get (W.list self.now.about.world) number ≡ Some w) }
         ensures known { (w : ℕ) → Knows seat.old.view.seen number w → result ≡ Some w }
     {
-        let messages = self.messages();
         let full = self
             .table
             .shared
-            .load::<Finds<W, T>>(&mut seat.seat, messages + number as usize + 1);
+            .load::<Finds<W, T>>(&mut seat.seat, self.messages + number as usize + 1);
         if full == 0 {
             return None;
         }
@@ -341,20 +346,12 @@ impl<W: Promise, T: SlotItem<W>> Board<W, T> {
             unreachable!()
         };
         let keeper = self.fold_all(first, seats);
-        let messages = self.messages();
-        let Board { table } = self;
+        let Board { table, messages } = self;
         let BoardSeat { seat } = keeper;
         ClosedBoard {
             closed: table.close_with(seat),
             messages,
         }
-    }
-
-    // How many cells there are.
-    fn messages(&self) -> usize
-        ensures { result ≡ length (W.list self.now.about.world) }
-    {
-        (self.table.word_count() - self.table.slot_count() - 1) / 2
     }
 
     // The place of a slot's turn word.

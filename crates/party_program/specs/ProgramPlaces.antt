@@ -1,5 +1,6 @@
 -- Where the instructions of each slot stand in a program, and the tables that a program keeps in place of them.
-use Rattle.std.specs.Prelude.{◌≡◌, ℕ, ◌+◌, ◌<◌, ◌≤◌, nat_eq, nat_lt, if◌then◌else◌, List, length, Some}
+use Rattle.std.specs.Prelude.{◌≡◌, ℕ, ◌+◌, ◌<◌, ◌≤◌, nat_eq, nat_lt, if◌then◌else◌, List, length, vec_capacity, Some}
+use Rattle.std.specs.Global.{Vec}
 use Rattle.indexmap.specs.IndexMap.{IndexMap, get}
 use Rattle.list_laws.specs.Lists.{total, listed}
 use Rattle.job_plan.specs.declared.pattern.Pattern.{Pattern}
@@ -74,6 +75,14 @@ start_of plan p s k = record { instructions = instructions_before plan p s k; de
 -- the start of each slot, and behind the last one
 abbrev pub slot_starts : Plan → ℕ → ℕ → List SlotStart
 slot_starts plan p s = listed (slots plan s + 1) (start_of plan p s)
+
+-- the starts of the first k slots are listed, this is the next one, and there is room for the others
+pub record AreStarts (plan : Plan) (p s k : ℕ) (list : Vec SlotStart) (start : SlotStart) : Type 0 where
+  pub starts : list.items ≡ listed k (start_of plan p s)
+  pub instructions : start.instructions ≡ instructions_before plan p s k
+  pub deals : start.deals ≡ deals_before plan p s k
+  pub few : start.deals ≤ k
+  pub room : slots plan s + 1 ≤ vec_capacity list
 
 -- the program of party p in session s of a plan within the limits
 pub record IsProgram (plan : Plan) (p s : ℕ) (program : Program) : Type 0 where

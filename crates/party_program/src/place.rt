@@ -1,5 +1,8 @@
 //! Places in a program.
-ghost use Rattle.std.specs.Prelude.{◌≡◌};
+ghost use Rattle.std.specs.Prelude.{◌≡◌, ℕ, ◌==◌, ◌≤◌, length};
+ghost use Rattle.job_plan.specs.Plans as plans;
+ghost use Rattle.party_program.specs.Programs.{program};
+ghost use Rattle.party_program.specs.ProgramPlaces.{IsPlace};
 
 use job_plan::Pattern;
 
@@ -22,6 +25,14 @@ impl Place {
         ensures { result ≡ self.slot }
     {
         self.slot
+    }
+
+    /// Whether no instruction is left.
+    pub fn is_past(&self) -> bool
+        ensures { (plan : plans.Plan) (p s q : ℕ) → IsPlace plan p s self.now q → q ≤ length (program plan p s)
+            → result ≡ (q == length (program plan p s)) }
+    {
+        self.done >= self.count
     }
 
     /// The pattern of that slot.

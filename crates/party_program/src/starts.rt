@@ -1,10 +1,13 @@
 //! Where the instructions of each slot begin.
-ghost use Rattle.std.specs.Prelude.{◌≡◌, ℕ, ◌<◌, IfOk, length};
+ghost use Rattle.std.specs.Prelude.{◌≡◌, ℕ, ◌+◌, ◌<◌, ◌≤◌, IfOk, length, if◌then◌else◌};
 ghost use Rattle.secret_sharing.specs.Schemes.{has_pair};
 ghost use Rattle.job_plan.specs.Plans as plans;
-ghost use Rattle.job_plan.specs.Plans.{scheme};
+ghost use Rattle.job_session.specs.Sessions.{owners};
+ghost use Rattle.job_session.specs.Sessions.Slot.{At_gate};
+ghost use Rattle.job_plan.specs.Plans.{scheme, session, slots, deals_in};
+ghost use Rattle.party_program.specs.Programs.{slot_program};
 ghost use Rattle.party_program.specs.PartySteps.{deals_in_pattern};
-ghost use Rattle.party_program.specs.ProgramPlaces.{AreSteps, slot_starts};
+ghost use Rattle.party_program.specs.ProgramPlaces.{AreSteps, AreStarts, slot_starts};
 
 use crate::step_table::StepTable;
 use job_plan::{Pattern, Plan};
@@ -31,21 +34,98 @@ pub(crate) fn list_starts(
     ensures { IfOk result (λ list. list.items ≡ slot_starts plan.now p s) }
 {
     let _ = plan.parties();
+    let part = plan.part(s);
+    let inputs = part.input_wires() as u32;
+    let outputs = inputs + part.gates() as u32;
     let slots = plan.slots(s);
     let mut list = Vec::with_capacity(alloc, slots as usize + 1)?;
     let mut start = SlotStart {
         instructions: 0,
         deals: 0,
     };
+    push_starts(plan, p, s, steps, 0, inputs, &mut list, &mut start);
+    push_gates(plan, p, s, steps, &mut list, &mut start);
+    push_starts(plan, p, s, steps, outputs, slots, &mut list, &mut start);
+    list.push_reserved(start);
+    Ok(list)
+}
+
+// Adds the starts of the slots from this one on to that one.
+fn push_starts(
+    plan: &Plan,
+    p: u32,
+    s: u32,
+    steps: &StepTable,
+    from: u32,
+    to: u32,
+    list: &mut Vec<SlotStart>,
+    start: &mut SlotStart,
+)
+    requires party { p < plan.now.parties }
+    requires session { s < length plan.now.sessions }
+    requires steps { AreSteps plan.now p s steps.now }
+    requires slots { (from ≤ to) × (to ≤ slots plan.now s) }
+    requires before { AreStarts plan.now p s from list.old start.old }
+    ensures { AreStarts plan.now p s to list.new start.new }
+{
+    let _ = plan.parties();
     let multiplies = plan.multiplies(p);
-    for k in 0..slots {
-        list.push_reserved(start);
+    for k in from..to {
+        list.push_reserved(*start);
         let pattern = plan.pattern(s, k);
         start.instructions += steps.of(pattern).len() as u32;
         start.deals += u32::from(deals_in(pattern, p, multiplies));
     }
-    list.push_reserved(start);
-    Ok(list)
+}
+
+// Adds the starts of the slots of gates, which are the most.
+fn push_gates(
+    plan: &Plan,
+    p: u32,
+    s: u32,
+    steps: &StepTable,
+    list: &mut Vec<SlotStart>,
+    start: &mut SlotStart,
+)
+    requires party { p < plan.now.parties }
+    requires session { s < length plan.now.sessions }
+    requires steps { AreSteps plan.now p s steps.now }
+    requires before { AreStarts plan.now p s (length (owners (session plan.now s))) list.old start.old }
+    ensures { AreStarts plan.now p s (length (owners (session plan.now s)) + length (session plan.now s).gates)
+        list.new start.new }
+{
+    let _ = plan.parties();
+    for t in 0..plan.part(s).gates() as u32 {
+        list.push_reserved(*start);
+        let added = counts_at_gate(plan, p, s, steps, t);
+        start.instructions += added.instructions;
+        start.deals += added.deals;
+    }
+}
+
+// How many instructions and deals of party p stand in the slot of gate t.
+#[inline(always)]
+fn counts_at_gate(plan: &Plan, p: u32, s: u32, steps: &StepTable, t: u32) -> SlotStart
+    requires party { p < plan.now.parties }
+    requires session { s < length plan.now.sessions }
+    requires steps { AreSteps plan.now p s steps.now }
+    requires gate { t < length (session plan.now s).gates }
+    ensures instructions { result.instructions
+        ≡ length (slot_program plan.now p s (length (owners (session plan.now s)) + t)) }
+    ensures deals { result.deals ≡ (if deals_in plan.now s p (At_gate t) then 1 else 0) }
+{
+    let _ = plan.parties();
+    if plan.part(s).gate(t).operation.is_product() {
+        SlotStart {
+            instructions: steps.of_product().len() as u32,
+            deals: u32::from(plan.multiplies(p)),
+        }
+    } else {
+        SlotStart {
+            instructions: 1,
+            deals: 0,
+        }
+    }
 }
 
 // Whether party p deals in a slot of this pattern.

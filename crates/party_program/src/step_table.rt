@@ -1,7 +1,7 @@
 //! The steps of a party for each pattern of a session's slots.
 ghost use Rattle.std.specs.Prelude.{◌≡◌, ℕ, ◌<◌, IfOk, OnOk, length};
 ghost use Rattle.list_laws.specs.Lists.{listed};
-ghost use Rattle.job_plan.specs.declared.pattern.Pattern.TheVariants.{Dealt, Opened};
+ghost use Rattle.job_plan.specs.declared.pattern.Pattern.TheVariants.{Dealt, Multiplied, Opened};
 ghost use Rattle.job_plan.specs.Plans.{slots};
 ghost use Rattle.job_plan.specs.Patterns.{pattern_at};
 ghost use Rattle.party_program.specs.PartySteps.{steps};
@@ -49,6 +49,7 @@ impl StepTable {
     }
 
     /// What the party does in a slot of this pattern.
+    #[inline(always)]
     pub(crate) fn of(&self, pattern: Pattern) -> &[Step]
         requires { (plan : plans.Plan) × (p s : ℕ) × AreSteps plan p s self.now × OccursIn plan s pattern }
         ensures { (plan : plans.Plan) (p s : ℕ) → AreSteps plan p s self.now → OccursIn plan s pattern
@@ -56,27 +57,42 @@ impl StepTable {
     {
         match pattern {
             Pattern::Silent => self.silent.as_slice(),
-            Pattern::Dealt(dealer) => self.dealt[dealer as usize].as_slice(),
-            Pattern::Multiplied => self.multiplied.as_slice(),
+            Pattern::Dealt(dealer) => self.deal(dealer),
+            Pattern::Multiplied => self.of_product(),
             Pattern::Opened(readers) => self.opening(readers),
         }
     }
 
+    /// What the party does in a slot of a product.
+    pub(crate) fn of_product(&self) -> &[Step]
+        ensures { (plan : plans.Plan) (p s : ℕ) → AreSteps plan p s self.now → result.now ≡ steps plan p Multiplied }
+    {
+        self.multiplied.as_slice()
+    }
+
     /// How many steps the party has in a slot of a gate; of another pattern it tells nothing.
     pub(crate) fn gate_count(&self, pattern: Pattern) -> usize
-        requires { (plan : plans.Plan) × (p s : ℕ) × AreSteps plan p s self.now × OccursIn plan s pattern }
         ensures { (plan : plans.Plan) (p s : ℕ) → AreSteps plan p s self.now → 0 < result
             → result ≡ length (steps plan p pattern) }
     {
         match pattern {
-            Pattern::Silent => self.silent.as_slice().len(),
-            Pattern::Multiplied => self.multiplied.as_slice().len(),
+            Pattern::Silent => 1,
+            Pattern::Multiplied => self.of_product().len(),
             Pattern::Dealt(_) | Pattern::Opened(_) => 0,
         }
     }
 
-    // What the party does in an opening to these readers, in a function of its own since the others are found without a
-    // search.
+    // What the party does in a deal of this party. Deals and openings are seldom, and looked up out of line.
+    #[inline(never)]
+    fn deal(&self, dealer: u32) -> &[Step]
+        requires { (plan : plans.Plan) × (p s : ℕ) × AreSteps plan p s self.now × OccursIn plan s (Dealt dealer) }
+        ensures { (plan : plans.Plan) (p s : ℕ) → AreSteps plan p s self.now → OccursIn plan s (Dealt dealer)
+            → result.now ≡ steps plan p (Dealt dealer) }
+    {
+        self.dealt[dealer as usize].as_slice()
+    }
+
+    // What the party does in an opening to these readers.
     #[inline(never)]
     fn opening(&self, readers: u32) -> &[Step]
         requires { (plan : plans.Plan) × (p s : ℕ) × AreSteps plan p s self.now × OccursIn plan s (Opened readers) }

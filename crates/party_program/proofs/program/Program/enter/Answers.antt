@@ -1,6 +1,7 @@
 use Rattle.std.proofs.Common.{◌≡◌, ℕ, ◌+◌, ◌<◌, length, sym, ap, ◌∙◌, arith}
 use Rattle.std.proofs.lemmas.Bool.{cases_lt}
 use mathlib.Core.Logic.{inl, inr}
+use Rattle.job_session.specs.Sessions.{owners}
 use Rattle.job_plan.specs.Plans.{Plan, slots}
 use Rattle.job_plan.specs.Patterns.{pattern_at}
 use Rattle.job_plan.specs.declared.pattern.Pattern.{Pattern}
@@ -30,7 +31,9 @@ module _ (plan : Plan) (own : Program) (is : IsProgram plan own.party own.sessio
 pub overflow_cast-count : goal.overflow_cast-count
 overflow_cast-count c =
     let count = c.gate_count-count.result in
-    let lk : c.args.slot < slots c.args.plan.now c.args.self.now.session = omega (arith, c.slots.ensures, c.if-slot-slots.true) in
+    let owned = ap (λ x. length (owners x)) c.part-part.ensures in
+    let gated = ap (λ x. length x.gates) c.part-part.ensures in
+    let lk : c.args.slot < slots c.args.plan.now c.args.self.now.session = omega (arith, c.input_wires.ensures, c.gates.ensures, c.if-slot-input_wires.true) in
     let small : count < 4294967296 = elim (cases_lt 0 count) [
       | inl some ↦ few c.args.plan.now c.args.self.now c.requires.is c.args.slot lk c.pattern-pattern.result c.pattern-pattern.ensures.is count c.gate_count-count.ensures some
       | inr none ↦ omega arith
@@ -41,6 +44,8 @@ pub place_at-requires-clause-count : goal.place_at-requires-clause-count
 place_at-requires-clause-count c =
     let plan = c.args.plan.now in
     let own = c.args.self.now in
-    let lk : c.args.slot < slots plan own.session = omega (arith, c.slots.ensures, c.if-slot-slots.true) in
+    let owned = ap (λ x. length (owners x)) c.part-part.ensures in
+    let gated = ap (λ x. length x.gates) c.part-part.ensures in
+    let lk : c.args.slot < slots plan own.session = omega (arith, c.input_wires.ensures, c.gates.ensures, c.if-slot-input_wires.true) in
     as_many plan own c.requires.is c.args.slot lk c.pattern-pattern.result c.pattern-pattern.ensures.is c.gate_count-count.result c.gate_count-count.ensures c.if-count-gt0.true
     ∙ sym (count_at plan own.party own.session c.args.slot lk)

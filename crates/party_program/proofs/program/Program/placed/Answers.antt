@@ -18,6 +18,6 @@ pub returns-in-Deal : goal.returns-in-Deal
 returns-in-Deal c =
     let plan = c.args.plan.now in
     let program = c.args.self.now in
-    let k = c.args.place.slot in
+    let k = c.args.place.now.slot in
     let start = ap (λ (x : SlotStart). x.deals) (c.index.ensures ∙ start_at plan program.party program.session program k c.index.result.now c.requires.is (omega (arith, c.requires.slot))) in
-    ap (Deal k) start ∙ ap (placed k c.args.place.first (deals_before plan program.party program.session k)) (sym c.in-Deal.is)
+    ap (Deal k) start ∙ ap (placed k c.args.place.now.first (deals_before plan program.party program.session k)) (sym c.in-Deal.is)
