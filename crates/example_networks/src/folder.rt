@@ -6,21 +6,25 @@ use std::collections::BTreeMap;
 use std::rt;
 use std::test::Fail;
 use toml_fields::{document, texts_at};
-use worked_networks::meeting;
+use pipe_networks::meeting;
+use worked_runs::MOST_BYTES;
 
-/// How long a file may be.
-const MOST_BYTES: u64 = 100_000;
+/// The files of a folder by their names.
+type FilesByName = BTreeMap<String, Vec<u8>>;
 
-/// A folder that was opened: its path, its job, and the text of the job's file, with hosts and a port for nodes.
+/// A folder that was read: its path, its job, and its files, of which that of the job has hosts and a port for nodes.
 #[derive(Drop)]
-pub struct Folder<'f, R> {
-    rt: &'f R,
+pub struct Folder<'f> {
     path: &'f str,
     pub job: Job,
-    text: String,
+    files: FilesByName,
 }
 
-/// The text of a job, with hosts and a port where it has none.
+fn fault(path: &str, fault: &str) -> Fail {
+    Fail::new(format_args!("{path}: {fault}"))
+}
+
+/// The text of a job's file, with hosts and a port where it has none.
 fn with_places(alloc: Global, job: &Job, text: String) -> Result<String, AllocError> {
     if job.port != 0 {
         return Ok(text);
@@ -29,45 +33,83 @@ fn with_places(alloc: Global, job: &Job, text: String) -> Result<String, AllocEr
     text.replacen(alloc, "[[session]]\n", &places, 1)
 }
 
-/// Reads a file of the system.
-fn read<R: rt::Files>(rt: &R, alloc: Global, path: &str) -> Result<Vec<u8>, Fail> {
-    match StdFiles::new(rt).read(alloc, path, MOST_BYTES) {
-        Ok(bytes) => Ok(bytes),
-        Err(_) => Err(Fail::new(format_args!("{path} can't be read"))),
-    }
-}
-
 fn party_file(alloc: Global, name: &str) -> Result<String, AllocError> {
     format!(in alloc; "party_{name}.toml")
 }
 
-impl<'f, R: rt::Files> Folder<'f, R> {
-    /// Opens the folder of this path.
-    pub fn open(rt: &'f R, alloc: Global, path: &'f str) -> Result<Folder<'f, R>, Fail> {
-        let bytes = read(rt, alloc, &format!(in alloc; "{path}/job.toml")?)?;
-        let job = read_job(alloc, &bytes, false).ok().ok_or("no job")?;
-        let text = String::from_utf8(bytes).ok().ok_or("no text")?;
-        let text = with_places(alloc, &job, text)?;
-        Ok(Folder {
-            rt,
-            path,
-            job,
-            text,
-        })
+/// The names of the circuits of a job.
+fn circuit_names(alloc: Global, job: &Job) -> Result<Vec<String>, AllocError> {
+    let mut names = Vec::new(alloc);
+    for session in &job.sessions {
+        names.push(String::from_str(alloc, &session.circuit)?)?;
+    }
+    Ok(names)
+}
+
+/// The names of the parties' files.
+fn party_files(alloc: Global, job: &Job) -> Result<Vec<String>, AllocError> {
+    let mut names = Vec::new(alloc);
+    for party in 0..job.names.len() {
+        names.push(party_file(alloc, job.names.name(party))?)?;
+    }
+    Ok(names)
+}
+
+/// The job of the folder of this path, and the bytes of its file with hosts and a port.
+fn job_of(alloc: Global, path: &str, bytes: Vec<u8>) -> Result<(Job, Vec<u8>), Fail> {
+    let job = read_job(alloc, &bytes, false)
+        .ok()
+        .ok_or_else(|| fault(path, "job.toml is no job"))?;
+    let text = String::from_utf8(bytes)
+        .ok()
+        .ok_or_else(|| fault(path, "job.toml is no text"))?;
+    let text = with_places(alloc, &job, text)?;
+    let bytes = Vec::from_slice(alloc, text.as_bytes())?;
+    Ok((job, bytes))
+}
+
+/// Reads the file of this name.
+fn read<R: rt::Files>(rt: &R, alloc: Global, folder: &str, name: &str) -> Result<Vec<u8>, Fail> {
+    let path = format!(in alloc; "{folder}/{name}")?;
+    StdFiles::new(rt)
+        .read(alloc, &path, MOST_BYTES)
+        .ok()
+        .ok_or_else(|| fault(&path, "can't be read"))
+}
+
+impl<'f> Folder<'f> {
+    /// Reads the files of the folder of this path: the job, its circuits, and those of all parties.
+    pub fn read<R: rt::Files>(rt: &R, alloc: Global, path: &'f str) -> Result<Folder<'f>, Fail> {
+        let (job, bytes) = job_of(alloc, path, read(rt, alloc, path, "job.toml")?)?;
+        let mut files: FilesByName = BTreeMap::new(alloc);
+        files.insert(String::from_str(alloc, "job.toml")?, bytes)?;
+        let names = circuit_names(alloc, &job)?.into_iter();
+        for name in names.chain(party_files(alloc, &job)?) {
+            let bytes = read(rt, alloc, path, &name)?;
+            files.insert(name, bytes)?;
+        }
+        Ok(Folder { path, job, files })
     }
 
-    fn read(&self, alloc: Global, name: &str) -> Result<Vec<u8>, Fail> {
-        read(self.rt, alloc, &format!(in alloc; "{}/{name}", self.path)?)
+    // The bytes of the file of this name.
+    fn bytes(&self, name: &str) -> Result<&[u8], Fail> {
+        let bytes = self.files.get(name);
+        Ok(bytes.ok_or_else(|| fault(self.path, "no such file"))?)
+    }
+
+    // Adds the file of this name to those of the folder `d`.
+    fn add(&self, alloc: Global, name: &str, all: &mut FilesByName) -> Result<(), Fail> {
+        let bytes = Vec::from_slice(alloc, self.bytes(name)?)?;
+        all.insert(format!(in alloc; "d/{name}")?, bytes)?;
+        Ok(())
     }
 
     // The files that all parties have, in the folder `d`.
-    fn shared_files(&self, alloc: Global) -> Result<BTreeMap<String, Vec<u8>>, Fail> {
-        let mut all: BTreeMap<String, Vec<u8>> = BTreeMap::new(alloc);
-        let text = Vec::from_slice(alloc, self.text.as_bytes())?;
-        all.insert(String::from_str(alloc, "d/job.toml")?, text)?;
-        for session in &self.job.sessions {
-            let name = session.circuit.as_str();
-            all.insert(format!(in alloc; "d/{name}")?, self.read(alloc, name)?)?;
+    fn shared_files(&self, alloc: Global) -> Result<FilesByName, Fail> {
+        let mut all = BTreeMap::new(alloc);
+        self.add(alloc, "job.toml", &mut all)?;
+        for name in &circuit_names(alloc, &self.job)? {
+            self.add(alloc, name, &mut all)?;
         }
         Ok(all)
     }
@@ -80,15 +122,15 @@ impl<'f, R: rt::Files> Folder<'f, R> {
     /// The files of the node of the party of this name, in the folder `d`: the job, the circuits, and the party's own file.
     pub fn files_of(&self, alloc: Global, name: &str) -> Result<MapFiles, Fail> {
         let mut all = self.shared_files(alloc)?;
-        let own = self.read(alloc, &party_file(alloc, name)?)?;
-        all.insert(format!(in alloc; "d/party_{name}.toml")?, own)?;
+        self.add(alloc, &party_file(alloc, name)?, &mut all)?;
         Ok(MapFiles::new(all, Vec::new(alloc)))
     }
 
     /// The texts of the inputs of the party of this name, one for each session.
     pub fn inputs_of(&self, alloc: Global, name: &str) -> Result<Vec<String>, Fail> {
-        let bytes = self.read(alloc, &party_file(alloc, name)?)?;
-        let table = document(alloc, &bytes)?.ok_or("no TOML")?;
+        let file = party_file(alloc, name)?;
+        let table = document(alloc, self.bytes(&file)?)?
+            .ok_or_else(|| fault(self.path, "a party's file is no TOML"))?;
         Ok(texts_at(alloc, &table, "inputs")?)
     }
 }

@@ -4,7 +4,6 @@ use circuit_model::Circuit;
 use job_file::JobSession;
 use outer_io::MapFiles;
 use std::alloc::Global;
-use std::rt;
 use std::test::Fail;
 use std::vec::IntoIter;
 use worked_runs::circuit_of;
@@ -50,9 +49,9 @@ fn words_of(
 }
 
 /// The words on the input wires of each session.
-pub fn inputs<R: rt::Files>(
+pub fn inputs(
     alloc: Global,
-    folder: &Folder<'_, R>,
+    folder: &Folder<'_>,
     files: &mut MapFiles,
 ) -> Result<Vec<Vec<u64>>, Fail> {
     let mut texts = Vec::new(alloc);

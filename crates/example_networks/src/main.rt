@@ -13,11 +13,11 @@ use std::rt::Files;
 use std::sync::Wait;
 use std::test::Fail;
 use std::thread::Threads;
-use worked_networks::{SMALL_PIPES, check_written, make_network, run_all};
+use pipe_networks::{Network, SMALL_PIPES, check_written, make_network, run_all};
 use worked_runs::out_in_the_clear;
 
 /// What the circuits of the job come to in the clear.
-fn in_the_clear<R: Files>(alloc: Global, folder: &Folder<'_, R>) -> Result<String, Fail> {
+fn in_the_clear(alloc: Global, folder: &Folder<'_>) -> Result<String, Fail> {
     let mut files = folder.circuits(alloc)?;
     let inputs = inputs(alloc, folder, &mut files)?;
     let mut words = Vec::new(alloc);
@@ -27,19 +27,25 @@ fn in_the_clear<R: Files>(alloc: Global, folder: &Folder<'_, R>) -> Result<Strin
     out_in_the_clear(alloc, &mut files, &words)
 }
 
+/// The nodes of all parties, each over its own files.
+fn network_of(alloc: Global, folder: &Folder<'_>) -> Result<Network, Fail> {
+    let names = &folder.job.names;
+    let mut files = Vec::new(alloc);
+    for party in 0..names.len() {
+        files.push(folder.files_of(alloc, names.name(party))?)?;
+    }
+    make_network(alloc, names, files, SMALL_PIPES)
+}
+
 /// Runs the nodes of the folder's job, and answers of how many parties they are.
 fn run_folder<R: Files + Threads + Wait + Sync>(
     rt: &R,
     alloc: Global,
     path: &str,
 ) -> Result<u32, Fail> {
-    let folder = Folder::open(rt, alloc, path)?;
+    let folder = Folder::read(rt, alloc, path)?;
     let names = &folder.job.names;
-    let mut files = Vec::new(alloc);
-    for party in 0..names.len() {
-        files.push(folder.files_of(alloc, names.name(party))?)?;
-    }
-    let ended = run_all(rt, alloc, make_network(alloc, names, files, SMALL_PIPES)?)?;
+    let ended = run_all(rt, alloc, network_of(alloc, &folder)?)?;
     let out = in_the_clear(alloc, &folder)?;
     check_written(alloc, path, names, &ended, &out)?;
     Ok(names.len())

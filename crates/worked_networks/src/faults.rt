@@ -1,8 +1,6 @@
 //! Jobs of three parties, of which one has another job, or can't send to another, or is heard wrong.
-use crate::Flaw;
-use crate::network::{FlawedPipe, Network, Pipes, SMALL_PIPES, make_network, run_all};
-use crate::node::Ended;
-use crate::node_files::{changed_job, files_of_nodes, meeting, with_meeting};
+use pipe_networks::{Ended, Flaw, FlawedPipe, Network, Pipes, SMALL_PIPES, make_network, run_all};
+use pipe_networks::{changed_job, files_of_nodes, meeting, with_meeting};
 use std::alloc::Global;
 use std::process::Abort;
 use std::sync::Wait;

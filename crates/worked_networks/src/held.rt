@@ -1,8 +1,6 @@
 //! A node that hears nothing of its first peer before the second one has said all.
-use crate::Gate;
-use crate::network::{Network, Pipes, make_network, run_all};
-use crate::node_files::{changed_job, files_of_nodes};
-use crate::written::check_written;
+use pipe_networks::{Gate, Network, Pipes, make_network, run_all};
+use pipe_networks::{changed_job, check_written, files_of_nodes};
 use std::alloc::Global;
 use std::sync::Arc;
 use std::sync::atomic::AtomicBool;

@@ -1,7 +1,5 @@
 //! The worked job, run by its nodes over TCP on this machine.
-use crate::node::{Ended, Node, make_node, run_node};
-use crate::node_files::{meeting, with_meeting};
-use crate::written::check_ended;
+use pipe_networks::{Ended, Node, check_ended, make_node, meeting, run_node, with_meeting};
 use socket_link::{TcpNet, ThreadSpawner};
 use std::alloc::Global;
 use std::net::{Net as Sockets, TcpListener, TcpStream};

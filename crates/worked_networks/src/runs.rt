@@ -1,7 +1,5 @@
 //! The accepted jobs, each run by the nodes of all its parties.
-use crate::network::{SMALL_PIPES, make_network, run_all};
-use crate::node_files::{changed_job, files_of_nodes};
-use crate::written::check_written;
+use pipe_networks::{SMALL_PIPES, changed_job, check_written, files_of_nodes, make_network, run_all};
 use std::alloc::Global;
 use std::process::Abort;
 use std::sync::Wait;

@@ -12,7 +12,7 @@ use std::slice::Iter;
 use std::test::Fail;
 
 /// How long a file may be.
-const MOST_BYTES: u64 = 100_000;
+pub const MOST_BYTES: u64 = 100_000;
 
 fn read_file(alloc: Global, files: &mut MapFiles, name: &str) -> Result<Vec<u8>, Fail> {
     let path = format!(in alloc; "d/{name}")?;

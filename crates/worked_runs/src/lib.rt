@@ -15,7 +15,7 @@ pub use accepted_runs::{
     TAPE_C, accepted,
 };
 pub use changed_files::{CHECK, Change, RUN, Row, failing_files, files, words};
-pub use in_the_clear::{circuit_of, job_of, out_in_the_clear};
+pub use in_the_clear::{MOST_BYTES, circuit_of, job_of, out_in_the_clear};
 pub use inputs::inputs_of;
 pub use product::{CIRCUIT, SESSION, TWO_SESSIONS};
 pub use tolerated_runs::tolerated;

@@ -15,7 +15,7 @@ pub struct ThreadInlet {
 
 impl ThreadInlet {
     ghost use Rattle.socket_link.specs.Sockets.{unread};
-    ghost use Rattle.worked_networks.specs.ThreadLinks.{inlet_reading};
+    ghost use Rattle.pipe_networks.specs.ThreadLinks.{inlet_reading};
 
     /// An inlet over this end of a pipe, from which nothing was read.
     pub fn over(receiver: Receiver) -> ThreadInlet
@@ -30,7 +30,7 @@ impl ThreadInlet {
 }
 
 impl Inlet for ThreadInlet {
-    ghost use Rattle.worked_networks.specs.ThreadLinks.{inlet_reading};
+    ghost use Rattle.pipe_networks.specs.ThreadLinks.{inlet_reading};
 
     ghost reading = { inlet_reading };
 

@@ -1,7 +1,7 @@
 -- What links between threads show: nothing of what comes and goes.
 use Rattle.std.specs.Prelude.{false, None}
-use Rattle.worked_networks.specs.declared.thread_inlet.ThreadInlet.{ThreadInlet}
-use Rattle.worked_networks.specs.declared.thread_outlet.ThreadOutlet.{ThreadOutlet}
+use Rattle.pipe_networks.specs.declared.thread_inlet.ThreadInlet.{ThreadInlet}
+use Rattle.pipe_networks.specs.declared.thread_outlet.ThreadOutlet.{ThreadOutlet}
 use Rattle.outer_io.specs.Inlet.{InletReading}
 use Rattle.outer_io.specs.Links.{LinksReading, links_reading}
 use Rattle.outer_io.specs.declared.net.Links.{Links}

@@ -3,7 +3,7 @@ ghost use Rattle.std.specs.Prelude.{◌≡◌, ◌-◌, IfOk, None, Some, map, r
 ghost use Rattle.std.specs.Option.{option_map};
 ghost use Rattle.socket_link.specs.Sockets.{unread, unsent, unused};
 ghost use Rattle.socket_link.specs.TcpNets.{net_reading};
-ghost use Rattle.worked_networks.specs.ThreadLinks.{inlet_reading, outlet_reading, thread_links};
+ghost use Rattle.pipe_networks.specs.ThreadLinks.{inlet_reading, outlet_reading, thread_links};
 
 use crate::{Receiver, Sender, ThreadInlet, ThreadOutlet};
 use outer_io::{Hosts, Links, Net, NetRefusal};

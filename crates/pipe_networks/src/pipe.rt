@@ -20,7 +20,7 @@ pub type Gate = Arc<AtomicBool, Global>;
 
 /// What the end of a pipe that receives has to do with a gate.
 #[derive(Drop)]
-enum Post {
+enum AtGate {
     /// Nothing.
     Free,
     /// It waits at the gate before it receives.
@@ -51,7 +51,7 @@ pub struct Sender {
 #[derive(Drop)]
 pub struct Receiver {
     consumer: Consumer<u8>,
-    post: Post,
+    at_gate: AtGate,
     in_vain: InVain,
 }
 
@@ -71,7 +71,7 @@ pub fn make_pipe(
     };
     let receiver = Receiver {
         consumer,
-        post: Post::Free,
+        at_gate: AtGate::Free,
         in_vain: Arc::try_clone(in_vain)?,
     };
     Ok((sender, receiver))
@@ -118,13 +118,13 @@ fn wait_at(gate: &Gate, in_vain: &InVain) -> Result<(), Failed> {
 }
 
 // What is left to do with a gate once a byte more is received.
-fn after_a_byte(post: Post) -> Post {
-    match post {
-        Post::Opens(gate, left) if left <= 1 => {
+fn after_a_byte(at_gate: AtGate) -> AtGate {
+    match at_gate {
+        AtGate::Opens(gate, left) if left <= 1 => {
             gate.store(true, Ordering::SeqCst);
-            Post::Free
+            AtGate::Free
         }
-        Post::Opens(gate, left) => Post::Opens(gate, left - 1),
+        AtGate::Opens(gate, left) => AtGate::Opens(gate, left - 1),
         other => other,
     }
 }
@@ -132,23 +132,23 @@ fn after_a_byte(post: Post) -> Post {
 impl Receiver {
     /// Receives nothing until this gate is open.
     pub fn wait_behind(&mut self, gate: Gate) {
-        self.post = Post::Behind(gate);
+        self.at_gate = AtGate::Behind(gate);
     }
 
     /// Opens this gate once so many bytes more are received.
     pub fn open_after(&mut self, bytes: u64, gate: Gate) {
-        self.post = Post::Opens(gate, bytes);
+        self.at_gate = AtGate::Opens(gate, bytes);
     }
 
     /// The next byte once it is there, or None where the sender was dropped and no byte is left.
     pub fn next(&mut self) -> Result<Option<u8>, Failed> {
-        if let Post::Behind(gate) = &self.post {
+        if let AtGate::Behind(gate) = &self.at_gate {
             wait_at(gate, &self.in_vain)?;
         }
         let next = self.receive()?;
         if next.is_some() {
-            let post = std::mem::replace(&mut self.post, Post::Free);
-            self.post = after_a_byte(post);
+            let at_gate = std::mem::replace(&mut self.at_gate, AtGate::Free);
+            self.at_gate = after_a_byte(at_gate);
         }
         Ok(next)
     }

@@ -14,7 +14,7 @@ pub struct ThreadOutlet {
 
 impl ThreadOutlet {
     ghost use Rattle.socket_link.specs.Sockets.{unsent};
-    ghost use Rattle.worked_networks.specs.ThreadLinks.{outlet_reading};
+    ghost use Rattle.pipe_networks.specs.ThreadLinks.{outlet_reading};
 
     /// An outlet over this end of a pipe, over which nothing was sent.
     pub fn over(sender: Sender) -> ThreadOutlet
@@ -28,7 +28,7 @@ impl ThreadOutlet {
 }
 
 impl Outlet for ThreadOutlet {
-    ghost use Rattle.worked_networks.specs.ThreadLinks.{outlet_reading};
+    ghost use Rattle.pipe_networks.specs.ThreadLinks.{outlet_reading};
 
     ghost reading = { outlet_reading };
 

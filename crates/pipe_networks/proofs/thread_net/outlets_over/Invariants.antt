@@ -1,7 +1,7 @@
 use Rattle.std.proofs.Common.{◌≡◌, length, map, replicate}
 use Rattle.socket_link.specs.Sockets.{unsent}
-use Rattle.worked_networks.specs.ThreadLinks.{outlet_reading}
-use Rattle.worked_networks.proofs.thread_net.outlets_over.Given as goal
+use Rattle.pipe_networks.specs.ThreadLinks.{outlet_reading}
+use Rattle.pipe_networks.proofs.thread_net.outlets_over.Given as goal
 
 -- one for each end so far, over which nothing went
 abbrev pub invariant-loop-end : goal.invariant-loop-end
