@@ -1,6 +1,6 @@
 -- Each step of a board keeps its rule.
 use Rattle.std.proofs.Common.{◌≡◌, ◌≢◌, ◌⊎◌, ℕ, ◌+◌, ◌-◌, ◌*◌, ◌<◌, ◌≤◌, eqb, List, [], ◌∷◌, ◌++◌, length, get_or, set, Option, Some, None, sym, refl, ap, ◌∙◌, subst, inl, inr, ⊎_elim, arith, get_or-set_same}
-use Rattle.std.specs.Prelude.{slice_index}
+use Rattle.std.specs.Prelude.{slice_index, bit_or}
 use Rattle.std.proofs.lemmas.List.{get_or-set_other, set-get_or}
 use Rattle.std.proofs.lemmas.Bool.{cases_eq}
 use mathlib.Core.Option.{none, some, some-injective}
@@ -12,9 +12,10 @@ use Rattle.message_board.specs.declared.steps.About.{About}
 use Rattle.message_board.specs.declared.steps.View.{View}
 use Rattle.message_board.specs.declared.cells.Posted.TheVariants.{Done, Occupied}
 use Rattle.message_board.specs.Pairs.{Knows, Has, times, total_over}
-use Rattle.message_board.specs.Words.{apart}
+use Rattle.message_board.specs.Words.{apart, cell_words, full_word, flag, flag_bit}
 use Rattle.message_board.specs.Rule as rule
 use Rattle.message_board.specs.Rule.{IsBoard, IsHome, IsOut, IsTold, Stand, cell, stores, unstores, finds, unfinds, posts, looks, folds, spent, less_one, one_seat, takes_out, others, brings_home, stored_step, posted_step, found_step, taken_step, out_step, home_step}
+use Rattle.message_board.proofs.FlagBits.{flag_set, flag_else, flag_bit_at, flag_cases}
 use Rattle.message_board.proofs.Pairs.{knows_split, knows_left, knows_right, times_append, total_set, total_snoc, total_at, total_none, times_else, times_more, total_two, length_set, set_there}
 
 pub some_same : {X : Type 0} (a b : X) → Some a ≡ Some b → a ≡ b
@@ -47,10 +48,13 @@ module _ {W T : Type 0} (list : W → List ℕ) (good : W → T → ℕ → Type
   words = list about.world
 
   abbrev fl : ℕ → ℕ
-  fl k = length words + k
+  fl k = length words + full_word k
+
+  abbrev fg : List ℕ → ℕ → ℕ
+  fg ws k = flag k (cell ws (fl k))
 
   abbrev tn : ℕ → ℕ
-  tn i = length words + length words + apart * i
+  tn i = cell_words (length words) + apart * i
 
   abbrev Told : List ℕ → V → Type 0
   Told ws v = IsTold list good posted about ws v
@@ -65,10 +69,10 @@ module _ {W T : Type 0} (list : W → List ℕ) (good : W → T → ℕ → Type
   abbrev Stay : List ℕ → List ℕ → Type 0
   Stay vs ws =
       (k : ℕ) → k < length words
-      → (cell vs (fl k) ≡ 1 → (cell ws (fl k) ≡ 1) × (cell ws k ≡ cell vs k)) × (cell vs k ≡ slice_index words k → cell ws k ≡ slice_index words k)
+      → (fg vs k ≡ 1 → (fg ws k ≡ 1) × (cell ws k ≡ cell vs k)) × (cell vs k ≡ slice_index words k → cell ws k ≡ slice_index words k)
 
   abbrev Filled : List ℕ → Type 0
-  Filled ws = (k : ℕ) → k < length words → (cell ws (fl k) ≡ 0) ⊎ ((cell ws (fl k) ≡ 1) × (cell ws k ≡ slice_index words k))
+  Filled ws = (k : ℕ) → k < length words → (fg ws k ≡ 0) ⊎ ((fg ws k ≡ 1) × (cell ws k ≡ slice_index words k))
 
   abbrev Owns : V → Type 0
   Owns w = (k : ℕ) → 0 < times k w.mine → (x : ℕ) × Knows w.seen k x
@@ -80,11 +84,11 @@ module _ {W T : Type 0} (list : W → List ℕ) (good : W → T → ℕ → Type
   told_on vs ws stay u h = (
     stand_on vs ws u.seen stay h.0,
     (λ k has. let r = h.1 k has in (r.0, (stay k r.0).1 r.1)),
-    (λ k has. let r = h.2 k has in (r.0, ((stay k r.0).0 r.1).0)),
+    (λ p n k known is one inside. ((stay k inside).0 (h.2 p n k known is one inside)).0),
   )
 
-  full_value : (s : St) → R s → (j : ℕ) → j < length words → cell s.words (fl j) ≡ 1 → cell s.words j ≡ slice_index words j
-  full_value s h j l one = ⊎_elim (λ (z : cell s.words (fl j) ≡ 0). absurd (omega arith)) (λ (r : (cell s.words (fl j) ≡ 1) × (cell s.words j ≡ slice_index words j)). r.1) (h.cells j l)
+  full_value : (s : St) → R s → (j : ℕ) → j < length words → fg s.words j ≡ 1 → cell s.words j ≡ slice_index words j
+  full_value s h j l one = ⊎_elim (λ (z : fg s.words j ≡ 0). absurd (omega arith)) (λ (r : (fg s.words j ≡ 1) × (cell s.words j ≡ slice_index words j)). r.1) (h.cells j l)
 
   -- one view changes, no cell is emptied, and the slots are as told
   changed : (s : St) → R s → (id : ℕ) (v w : V) → get_elem? s.views id ≡ some v → (w.about ≡ v.about) × (w.seats ≡ v.seats) → 0 < v.seats
@@ -95,7 +99,7 @@ module _ {W T : Type 0} (list : W → List ℕ) (good : W → T → ℕ → Type
       → R record { words = ws; homes = hs; views = set s.views id w }
   changed s h id v w at like part ws hs lw lh filled stay seen mine once slots =
       record {
-        size = lw ∙ h.size ∙ ap (λ (n : ℕ). length words + length words + n + 1) (sym lh);
+        size = lw ∙ h.size ∙ ap (λ (n : ℕ). cell_words (length words) + n + 1) (sym lh);
         cells = filled;
         told = λ j u e. ⊎_elim (λ (t : (j ≡ id) × (w ≡ u)). subst (λ (y : V). Told ws y) t.1 seen) (λ (t : (j ≢ id) × (get_elem? s.views j ≡ some u)). told_on s.words ws stay u (h.told j u t.1)) (at_set s.views id j w u e);
         mine = λ j u e. ⊎_elim (λ (t : (j ≡ id) × (w ≡ u)). subst (λ (y : V). Owns y) t.1 mine) (λ (t : (j ≢ id) × (get_elem? s.views j ≡ some u)). h.mine j u t.1) (at_set s.views id j w u e);
@@ -140,6 +144,47 @@ module _ {W T : Type 0} (list : W → List ℕ) (good : W → T → ℕ → Type
   same_once : (s : St) → R s → (id : ℕ) (v w : V) → get_elem? s.views id ≡ some v → w.mine ≡ v.mine → (k : ℕ) → total_over (own k) (set s.views id w) ≤ 1
   same_once s h id v w at same k = let t = total_set (own k) s.views id v w at in let o = h.once k in let e : times k w.mine ≡ times k v.mine = ap (times k) same in omega arith
 
+  -- the words once the flag of cell k is set
+  abbrev marked : St → ℕ → List ℕ
+  marked s k = set s.words (fl k + 1) (bit_or (cell s.words (fl k)) (flag_bit k))
+
+  -- all other words stay
+  marked_cell : (s : St) (k j : ℕ) → j ≢ fl k → cell (marked s k) j ≡ cell s.words j
+  marked_cell s k j ne = get_or-set_other s.words (fl k + 1) (j + 1) _ 0 (λ e. ne (omega arith))
+
+  marked_word : (s : St) → R s → (k : ℕ) → k < length words → cell (marked s k) (fl k) ≡ bit_or (cell s.words (fl k)) (flag_bit k)
+  marked_word s h k inside = get_or-set_same s.words (fl k + 1) _ 0 (let z = h.size in omega arith)
+
+  marked_here : (s : St) → R s → (k : ℕ) → k < length words → fg (marked s k) k ≡ 1
+  marked_here s h k inside = ap (flag k) (marked_word s h k inside) ∙ flag_set (cell s.words (fl k)) k
+
+  -- and all other flags, of this full word and of the others
+  marked_else : (s : St) → R s → (k : ℕ) → k < length words → (j : ℕ) → j ≢ k → fg (marked s k) j ≡ fg s.words j
+  marked_else s h k inside j ne =
+      ⊎_elim
+      (λ (q : full_word j ≡ full_word k). ap (λ p. flag j (cell (marked s k) (length words + p))) q ∙ ap (flag j) (marked_word s h k inside) ∙ flag_else (cell s.words (fl k)) j k (λ e. ne (omega arith)) ∙ ap (λ p. flag j (cell s.words (length words + p))) (sym q))
+      (λ (apart : full_word j ≢ full_word k). ap (flag j) (marked_cell s k (fl j) (λ e. apart (omega arith))))
+      (cases_eq (full_word j) (full_word k))
+
+  marked_value : (s : St) (k j : ℕ) → j < length words → cell (marked s k) j ≡ cell s.words j
+  marked_value s k j l = marked_cell s k j (λ e. omega arith)
+
+  marked_turn : (s : St) (k : ℕ) → k < length words → (j : ℕ) → cell (marked s k) (tn j) ≡ cell s.words (tn j)
+  marked_turn s k inside j = marked_cell s k (tn j) (λ e. omega arith)
+
+  marked_stay : (s : St) → R s → (k : ℕ) → k < length words → Stay s.words (marked s k)
+  marked_stay s h k inside j l = (
+    (λ e. (⊎_elim (λ (q : j ≡ k). ap (fg (marked s k)) q ∙ marked_here s h k inside) (λ ne. marked_else s h k inside j ne ∙ e) (cases_eq j k), marked_value s k j l)),
+    (λ e. marked_value s k j l ∙ e),
+  )
+
+  marked_filled : (s : St) → R s → (k : ℕ) → k < length words → cell s.words k ≡ slice_index words k → Filled (marked s k)
+  marked_filled s h k inside value j l =
+      ⊎_elim
+      (λ (q : j ≡ k). inr (ap (fg (marked s k)) q ∙ marked_here s h k inside, marked_value s k j l ∙ subst (λ m. cell s.words m ≡ slice_index words m) (sym q) value))
+      (λ ne. let full = marked_else s h k inside j ne in ⊎_elim (λ a. inl (full ∙ a)) (λ (a : (fg s.words j ≡ 1) × (cell s.words j ≡ slice_index words j)). inr (full ∙ a.0, marked_value s k j l ∙ a.1)) (h.cells j l))
+      (cases_eq j k)
+
   module _ (slots id : ℕ) (me : M) (k : ℕ) (part : 0 < me.0.seats) where
     -- the store of a value
     pub stores_keep : (w : ℕ) → k < length words → slice_index words k ≡ w → Allows R slots id me (k + 1) (λ _. w) (λ _. stored_step list good posted (step slots (k + 1) w 0 none) me w)
@@ -148,7 +193,7 @@ module _ {W T : Type 0} (list : W → List ℕ) (good : W → T → ℕ → Type
         let ws = set s.words (k + 1) w in
         let here : cell ws k ≡ w = get_or-set_same s.words (k + 1) w 0 (let z = h.size in omega arith) in
         let there : (j : ℕ) → j ≢ k → cell ws j ≡ cell s.words j = λ j ne. get_or-set_other s.words (k + 1) (j + 1) w 0 (λ e. ne (omega arith)) in
-        let full : (j : ℕ) → cell ws (fl j) ≡ cell s.words (fl j) = λ j. there (fl j) (λ e. omega arith) in
+        let full : (j : ℕ) → fg ws j ≡ fg s.words j = λ j. ap (flag j) (there (fl j) (λ e. omega arith)) in
         let value : (j : ℕ) → j ≡ k → cell ws j ≡ slice_index words j = λ j q. ap (cell ws) q ∙ here ∙ sym is ∙ ap (slice_index words) (sym q) in
         let stay : Stay s.words ws = λ j l. (
           (λ e. (full j ∙ e, ⊎_elim (λ (q : j ≡ k). value j q ∙ sym (full_value s h j l e)) (λ ne. there j ne) (cases_eq j k))),
@@ -159,7 +204,7 @@ module _ {W T : Type 0} (list : W → List ℕ) (good : W → T → ℕ → Type
           keeps,
           tt,
           changed s h id me.0 v' at (refl, refl) part ws s.homes (length_set s.words (k + 1) w) refl
-              (λ j l. ⊎_elim (λ a. inl (full j ∙ a)) (λ (a : (cell s.words (fl j) ≡ 1) × (cell s.words j ≡ slice_index words j)). inr (full j ∙ a.0, (stay j l).1 a.1)) (h.cells j l))
+              (λ j l. ⊎_elim (λ a. inl (full j ∙ a)) (λ (a : (fg s.words j ≡ 1) × (cell s.words j ≡ slice_index words j)). inr (full j ∙ a.0, (stay j l).1 a.1)) (h.cells j l))
               stay
               (t.0, (λ j has. ⊎_elim (λ (q : k ≡ j). (subst (λ (n : ℕ). n < length words) q inside, value j (sym q))) (λ old. t.1 j old) has), t.2)
               (h.mine id me.0 at)
@@ -168,121 +213,120 @@ module _ {W T : Type 0} (list : W → List ℕ) (good : W → T → ℕ → Type
           λ j e. (refl, ap (stores me.0) (let a : k ≡ j = omega arith in a)),
         )
 
-    posts_hit : (w : ℕ) → k < length words → slice_index words k ≡ w → Has me.0.stored k → (s : St) → R s → get_elem? s.views id ≡ some me.0 → cell s.words (fl k) ≡ 0
-        → R (stepped s (fl k + 1) 1 id me.1 (unstores (posts me.0 k w Done)) keeps)
-    posts_hit w inside is has s h at empty =
-        let v' = unstores (posts me.0 k w Done) in
-        let ws = set s.words (fl k + 1) 1 in
-        let here : cell ws (fl k) ≡ 1 = get_or-set_same s.words (fl k + 1) 1 0 (let z = h.size in omega arith) in
-        let there : (j : ℕ) → j ≢ fl k → cell ws j ≡ cell s.words j = λ j ne. get_or-set_other s.words (fl k + 1) (j + 1) 1 0 (λ e. ne (omega arith)) in
-        let same : (j : ℕ) → j < length words → cell ws j ≡ cell s.words j = λ j l. there j (λ e. omega arith) in
-        let stay : Stay s.words ws = λ j l. (
-          (λ e. (⊎_elim (λ (q : j ≡ k). absurd (let z : cell s.words (fl k) ≡ 1 = ap (λ m. cell s.words (fl m)) (sym q) ∙ e in omega arith)) (λ ne. there (fl j) (λ x. ne (omega arith)) ∙ e) (cases_eq j k), same j l)),
-          (λ e. same j l ∙ e),
-        ) in
-        let mine_told = h.told id me.0 at in
-        let value = (mine_told.1 k has).1 in
-        let t = told_on s.words ws stay me.0 mine_told in
-        let none_yet : total_over (own k) s.views ≡ 0 = total_none (own k) s.views (λ j u e. nobody s h empty j u e) in
-        changed s h id me.0 v' at (refl, refl) part ws s.homes (length_set s.words (fl k + 1) 1) refl
-        (λ j l. ⊎_elim (λ (q : j ≡ k). inr (ap (λ m. cell ws (fl m)) q ∙ here, same j l ∙ subst (λ m. cell s.words m ≡ slice_index words m) (sym q) value))
-        (λ ne. let full = there (fl j) (λ x. ne (omega arith)) in ⊎_elim (λ a. inl (full ∙ a)) (λ (a : (cell s.words (fl j) ≡ 1) × (cell s.words j ≡ slice_index words j)). inr (full ∙ a.0, same j l ∙ a.1)) (h.cells j l)) (cases_eq j k))
-        stay (
-          (λ j x known. ⊎_elim (λ (q : (k ≡ j) × (w ≡ x)). (subst (λ (n : ℕ). n < length words) q.0 inside, ap (λ m. cell ws (fl m)) (sym q.0) ∙ here, ap (cell ws) (sym q.0) ∙ same k inside ∙ value ∙ is ∙ q.1)) (λ old. t.0 j x old) known),
+    -- what is told once the flag is set
+    posted_told : (w : ℕ) → k < length words → slice_index words k ≡ w → (s : St) (h : R s) → get_elem? s.views id ≡ some me.0 → cell s.words k ≡ slice_index words k → Told (marked s k) (unstores (posts me.0 k w Done))
+    posted_told w inside is s h at value =
+        let t = told_on s.words (marked s k) (marked_stay s h k inside) me.0 (h.told id me.0 at) in (
+          (λ j x known. ⊎_elim (λ (q : (k ≡ j) × (w ≡ x)). (subst (λ (n : ℕ). n < length words) q.0 inside, ap (fg (marked s k)) (sym q.0) ∙ marked_here s h k inside, ap (cell (marked s k)) (sym q.0) ∙ marked_value s k k inside ∙ value ∙ is ∙ q.1)) (λ old. t.0 j x old) known),
           (λ j more. t.1 j (has_others me.0.stored j more)),
           t.2,
         )
-        (λ j more. ⊎_elim (λ (q : k ≡ j). (w, inl (q, refl))) (λ (ne : k ≢ j). let old = h.mine id me.0 at j (let same : times j (k ∷ me.0.mine) ≡ times j me.0.mine = times_else j k me.0.mine ne in omega arith) in (old.0, inr old.1)) (cases_eq k j))
-        (λ j. let t = total_set (own j) s.views id me.0 v' at in let o = h.once j in
-        ⊎_elim (λ (q : k ≡ j). let z : total_over (own j) s.views ≡ 0 = ap (λ i. total_over (own i) s.views) (sym q) ∙ none_yet in let y = total_at (own j) s.views id me.0 at in let one : times j (k ∷ me.0.mine) ≤ 1 + times j me.0.mine = times_more j k me.0.mine in omega arith)
-        (λ (ne : k ≢ j). let same : times j (k ∷ me.0.mine) ≡ times j me.0.mine = times_else j k me.0.mine ne in omega arith) (cases_eq k j))
-        (λ j l. slot_stays s id me.0 v' at ws s.homes stay j (there (tn j) (λ e. omega arith)) refl (λ has. has) (h.slots j l))
+
+    -- where the cell was empty no seat had posted to it
+    posted_once : (w : ℕ) (s : St) → R s → get_elem? s.views id ≡ some me.0 → fg s.words k ≡ 0 → (j : ℕ) → total_over (own j) (set s.views id (unstores (posts me.0 k w Done))) ≤ 1
+    posted_once w s h at empty j =
+        let t = total_set (own j) s.views id me.0 (unstores (posts me.0 k w Done)) at in
+        let o = h.once j in
+        ⊎_elim
+        (λ (q : k ≡ j). let z : total_over (own j) s.views ≡ 0 = ap (λ i. total_over (own i) s.views) (sym q) ∙ total_none (own k) s.views nobody in let y = total_at (own j) s.views id me.0 at in let one : times j (k ∷ me.0.mine) ≤ 1 + times j me.0.mine = times_more j k me.0.mine in omega arith)
+        (λ (ne : k ≢ j). let same : times j (k ∷ me.0.mine) ≡ times j me.0.mine = times_else j k me.0.mine ne in omega arith)
+        (cases_eq k j)
       where
-        nobody : (s : St) → R s → cell s.words (fl k) ≡ 0 → (j : ℕ) (u : V) → get_elem? s.views j ≡ some u → own k u ≡ 0
-        nobody s h empty j u e = ⊎_elim (λ (z : own k u ≡ 0). z) (λ (n : own k u ≢ 0). absurd (let m = h.mine j u e k (omega arith) in let c = (h.told j u e).0 k m.0 m.1 in let d = c.1 in omega arith)) (cases_eq (own k u) 0)
+        nobody : (j : ℕ) (u : V) → get_elem? s.views j ≡ some u → own k u ≡ 0
+        nobody j u e = ⊎_elim (λ (z : own k u ≡ 0). z) (λ (n : own k u ≢ 0). absurd (let m = h.mine j u e k (omega arith) in let c = (h.told j u e).0 k m.0 m.1 in let d = c.1 in omega arith)) (cases_eq (own k u) 0)
 
-    -- a pair that is there is added to what was seen
-    more_seen : (s : St) → R s → get_elem? s.views id ≡ some me.0 → (w : ℕ) → k < length words → cell s.words (fl k) ≡ 1 → cell s.words k ≡ w → In s.words ((k, w) ∷ me.0.seen)
-    more_seen s h at w inside full value j x known = ⊎_elim (λ (q : (k ≡ j) × (w ≡ x)). (subst (λ (n : ℕ). n < length words) q.0 inside, ap (λ m. cell s.words (fl m)) (sym q.0) ∙ full, ap (cell s.words) (sym q.0) ∙ value ∙ q.1)) (λ old. (h.told id me.0 at).0 j x old) known
-
-    -- the compare-and-exchange of a full word
-    posts_keep : (w : ℕ) → k < length words → slice_index words k ≡ w → Has me.0.stored k → Allows R slots id me (fl k + 1) (λ n. either (eqb n 0) 1 n) (posted_step list good posted (step slots (fl k + 1) 0 1 none) me)
+    -- the bit-or of a full word
+    posts_keep : (w : ℕ) → k < length words → slice_index words k ≡ w → Has me.0.stored k
+        → Allows R slots id me (fl k + 1) (λ n. bit_or n (flag_bit k)) (posted_step list good posted (step slots (fl k + 1) (flag_bit k) 0 none) me)
     posts_keep w inside is has s h _ at _ =
-        let n : ℕ = cell s.words (fl k) in
         let mine : me.0.about ≡ Some about = h.knows id me.0 at part in
-        exchanged n 0 1 (λ m. (u : V) × (a : Act (Option T)) × Valid s.homes me.1 a × R (stepped s (fl k + 1) m id me.1 u a) × posted_step list good posted (step slots (fl k + 1) 0 1 none) me n (u, carried_after me.1 a))
-        (λ (empty : n ≡ 0). (unstores (posts me.0 k w Done), keeps, tt, posts_hit w inside is has s h at empty, λ ab j x ea ek ex. (refl, inl (empty, told ab j x (some_same ab about (sym ea ∙ mine)) ek ex Done (λ i. Done)))))
-        (λ (full : n ≢ 0).
-        let one : n ≡ 1 = ⊎_elim (λ e. absurd (full e)) (λ (e : (cell s.words (fl k) ≡ 1) × (cell s.words k ≡ slice_index words k)). e.0) (h.cells k inside) in
-        let value = full_value s h k inside one ∙ is in
-        let v' = unstores (posts me.0 k w (Occupied w)) in
-        let t = h.told id me.0 at in (
+        let value = ((h.told id me.0 at).1 k has).1 in
+        let told = posted_told w inside is s h at value in
+        ⊎_elim
+        (λ (empty : fg s.words k ≡ 0). let v' = unstores (posts me.0 k w Done) in (
           v',
           keeps,
           tt,
-          quiet s h id (fl k + 1) me.0 v' at (refl, refl) part
-              (more_seen s h at w inside one value, (λ j more. t.1 j (has_others me.0.stored j more)), t.2)
-              (λ j more. let old = h.mine id me.0 at j more in (old.0, inr old.1))
-              refl
-              refl,
-          λ ab j x ea ek ex. (refl, inr (one, let b : ab ≡ about = some_same ab about (sym ea ∙ mine) in let a : k ≡ j = (let l : length (list ab.world) ≡ length words = ap (λ (y : About W). length (list y.world)) b in omega arith) in let wx : w ≡ x = sym is ∙ (λ i. slice_index (list (sym b i).world) (a i)) ∙ ex in λ i. unstores (posts me.0 (a i) (wx i) (Occupied (wx i))))),
+          changed s h id me.0 v' at (refl, refl) part (marked s k) s.homes (length_set s.words (fl k + 1) _) refl (marked_filled s h k inside value) (marked_stay s h k inside) told
+              (λ j more. ⊎_elim (λ (q : k ≡ j). (w, inl (q, refl))) (λ (ne : k ≢ j). let old = h.mine id me.0 at j (let same : times j (k ∷ me.0.mine) ≡ times j me.0.mine = times_else j k me.0.mine ne in omega arith) in (old.0, inr old.1)) (cases_eq k j))
+              (posted_once w s h at empty)
+              (λ j l. slot_stays s id me.0 v' at (marked s k) s.homes (marked_stay s h k inside) j (marked_turn s k inside j) refl (λ has. has) (h.slots j l)),
+          λ ab j x ea ek ef ex.
+              let b = some_same ab about (sym ea ∙ mine) in
+              let q : k ≡ j = same ab j b ek ef in
+              (refl, inl (subst (λ m. flag m (cell s.words (fl k)) ≡ 0) q empty, (λ i. unstores (posts me.0 (q i) (word ab j x b q ex i) Done)))),
         ))
+        (λ (full : fg s.words k ≡ 1). let v' = unstores (posts me.0 k w (Occupied w)) in (
+          v',
+          keeps,
+          tt,
+          changed s h id me.0 v' at (refl, refl) part (marked s k) s.homes (length_set s.words (fl k + 1) _) refl (marked_filled s h k inside value) (marked_stay s h k inside) told
+              (λ j more. let old = h.mine id me.0 at j more in (old.0, inr old.1))
+              (same_once s h id me.0 v' at refl)
+              (λ j l. slot_stays s id me.0 v' at (marked s k) s.homes (marked_stay s h k inside) j (marked_turn s k inside j) refl (λ has. has) (h.slots j l)),
+          λ ab j x ea ek ef ex.
+              let b = some_same ab about (sym ea ∙ mine) in
+              let q : k ≡ j = same ab j b ek ef in
+              let wx = word ab j x b q ex in
+              (refl, inr (subst (λ m. flag m (cell s.words (fl k)) ≡ 1) q full, (λ i. unstores (posts me.0 (q i) (wx i) (Occupied (wx i)))))),
+        ))
+        (flag_cases k (cell s.words (fl k)))
       where
-        told : (ab : About W) (j x : ℕ) → ab ≡ about → fl k + 1 ≡ length (list ab.world) + j + 1 → slice_index (list ab.world) j ≡ x → (p : _) → p ≡ p → unstores (posts me.0 k w p) ≡ unstores (posts me.0 j x p)
-        told ab j x b ek ex p _ =
-            let l : length (list ab.world) ≡ length words = ap (λ (y : About W). length (list y.world)) b in
-            let a : k ≡ j = omega arith in
-            let wx : w ≡ x = sym is ∙ (λ i. slice_index (list (sym b i).world) (a i)) ∙ ex in
-            λ i. unstores (posts me.0 (a i) (wx i) p)
+        -- the full word and the bit are those of this cell alone
+        same : (ab : About W) (j : ℕ) → ab ≡ about → fl k + 1 ≡ length (list ab.world) + full_word j + 1 → flag_bit k ≡ flag_bit j → k ≡ j
+        same ab j b ek ef = let l : length (list ab.world) ≡ length words = ap (λ (y : About W). length (list y.world)) b in let m = flag_bit_at k j ef in omega arith
 
-    pub posts_keep_at : (p : ℕ) → p ≡ fl k + 1 → (w : ℕ) → k < length words → slice_index words k ≡ w → Has me.0.stored k → Allows R slots id me p (λ n. either (eqb n 0) 1 n) (posted_step list good posted (step slots p 0 1 none) me)
-    posts_keep_at p e w inside is has = subst (λ q. Allows R slots id me q (λ n. either (eqb n 0) 1 n) (posted_step list good posted (step slots q 0 1 none) me)) (sym e) (posts_keep w inside is has)
+        word : (ab : About W) (j x : ℕ) → ab ≡ about → k ≡ j → slice_index (list ab.world) j ≡ x → w ≡ x
+        word ab j x b q ex = sym is ∙ (λ i. slice_index (list (sym b i).world) (q i)) ∙ ex
+
+    pub posts_keep_at : (p m : ℕ) → p ≡ fl k + 1 → m ≡ flag_bit k → (w : ℕ) → k < length words → slice_index words k ≡ w → Has me.0.stored k → Allows R slots id me p (λ n. bit_or n m) (posted_step list good posted (step slots p m 0 none) me)
+    posts_keep_at p m e f w inside is has =
+        subst (λ q. Allows R slots id me q (λ n. bit_or n m) (posted_step list good posted (step slots q m 0 none) me)) (sym e)
+        (subst (λ b. Allows R slots id me (fl k + 1) (λ n. bit_or n b) (posted_step list good posted (step slots (fl k + 1) b 0 none) me)) (sym f) (posts_keep w inside is has))
 
     -- the load of a full word
-    finds_keep : k < length words → Allows R slots id me (fl k + 1) (λ n. n) (found_step list good posted (step slots (fl k + 1) 0 0 none) me)
-    finds_keep inside s h _ at _ =
+    finds_keep : Allows R slots id me (fl k + 1) (λ n. n) (found_step list good posted (step slots (fl k + 1) 0 0 none) me)
+    finds_keep s h _ at _ =
         let n : ℕ = cell s.words (fl k) in
         let mine : me.0.about ≡ Some about = h.knows id me.0 at part in
         let t = h.told id me.0 at in
-        ⊎_elim
-        (λ (empty : n ≡ 0). (
-          looks me.0 k,
+        let v' = finds me.0 (full_word k) n in (
+          v',
           keeps,
           tt,
-          quiet s h id (fl k + 1) me.0 (looks me.0 k) at (refl, refl) part t (h.mine id me.0 at) refl refl,
-          λ ab j ea ek. let a : k ≡ j = same ab j (some_same ab about (sym ea ∙ mine)) ek in (refl, inl (empty, ap (looks me.0) a, λ x known. let c = t.0 j x known in let d = c.1 in let e : n ≡ 1 = ap (λ m. cell s.words (fl m)) a ∙ d in omega arith)),
-        ))
-        (λ (full : (n ≡ 1) × (cell s.words k ≡ slice_index words k)). (
-          finds me.0 k,
-          keeps,
-          tt,
-          quiet s h id (fl k + 1) me.0 (finds me.0 k) at (refl, refl) part
-              (t.0, t.1, (λ j has. ⊎_elim (λ (q : k ≡ j). (subst (λ (m : ℕ). m < length words) q inside, ap (λ m. cell s.words (fl m)) (sym q) ∙ full.0)) (λ old. t.2 j old) has))
-              (h.mine id me.0 at) refl refl,
-          λ ab j ea ek. (refl, inr (full.0, ap (finds me.0) (same ab j (some_same ab about (sym ea ∙ mine)) ek))),
-        ))
-        (h.cells k inside)
+          quiet s h id (fl k + 1) me.0 v' at (refl, refl) part (t.0, t.1, (λ p m j known q one l. ⊎_elim (λ (e : (full_word k ≡ p) × (n ≡ m)). there s j (q ∙ sym e.0) ∙ ap (flag j) e.1 ∙ one) (λ old. t.2 p m j old q one l) known)) (h.mine id me.0 at) refl refl,
+          λ ab j ea ek. let q : full_word j ≡ full_word k = same ab j (some_same ab about (sym ea ∙ mine)) ek in
+              (refl, ap (λ p. finds me.0 p n) (sym q), λ empty x known. let c = t.0 j x known in let d : flag j n ≡ 1 = sym (there s j q) ∙ c.1 in omega arith),
+        )
       where
-        same : (ab : About W) (j : ℕ) → ab ≡ about → fl k + 1 ≡ length (list ab.world) + j + 1 → k ≡ j
+        same : (ab : About W) (j : ℕ) → ab ≡ about → fl k + 1 ≡ length (list ab.world) + full_word j + 1 → full_word j ≡ full_word k
         same ab j b ek = let l : length (list ab.world) ≡ length words = ap (λ (y : About W). length (list y.world)) b in omega arith
 
-    pub finds_keep_at : (p : ℕ) → p ≡ fl k + 1 → k < length words → Allows R slots id me p (λ n. n) (found_step list good posted (step slots p 0 0 none) me)
-    finds_keep_at p e inside = subst (λ q. Allows R slots id me q (λ n. n) (found_step list good posted (step slots q 0 0 none) me)) (sym e) (finds_keep inside)
+        -- a cell of the same full word
+        there : (s : St) (j : ℕ) → full_word j ≡ full_word k → fg s.words j ≡ flag j (cell s.words (fl k))
+        there s j q = ap (λ p. flag j (cell s.words (length words + p))) q
+
+    pub finds_keep_at : (p : ℕ) → p ≡ fl k + 1 → Allows R slots id me p (λ n. n) (found_step list good posted (step slots p 0 0 none) me)
+    finds_keep_at p e = subst (λ q. Allows R slots id me q (λ n. n) (found_step list good posted (step slots q 0 0 none) me)) (sym e) finds_keep
+
+    -- a pair that is there is added to what was seen
+    more_seen : (s : St) → R s → get_elem? s.views id ≡ some me.0 → (w : ℕ) → k < length words → fg s.words k ≡ 1 → cell s.words k ≡ w → In s.words ((k, w) ∷ me.0.seen)
+    more_seen s h at w inside full value j x known = ⊎_elim (λ (q : (k ≡ j) × (w ≡ x)). (subst (λ (n : ℕ). n < length words) q.0 inside, ap (fg s.words) (sym q.0) ∙ full, ap (cell s.words) (sym q.0) ∙ value ∙ q.1)) (λ old. (h.told id me.0 at).0 j x old) known
 
     -- the load of a value
-    pub takes_keep : Has me.0.full k → Allows R slots id me (k + 1) (λ n. n) (taken_step list good posted (step slots (k + 1) 0 0 none) me)
-    takes_keep has s h _ at _ =
+    pub takes_keep : (p n : ℕ) → Knows me.0.found p n → full_word k ≡ p → flag k n ≡ 1 → k < length words → Allows R slots id me (k + 1) (λ n. n) (taken_step list good posted (step slots (k + 1) 0 0 none) me)
+    takes_keep p m known word one inside s h _ at _ =
         let n : ℕ = cell s.words k in
         let mine : me.0.about ≡ Some about = h.knows id me.0 at part in
         let t = h.told id me.0 at in
-        let full = t.2 k has in
-        let value = full_value s h k full.0 full.1 in
+        let full = t.2 p m k known word one inside in
+        let value = full_value s h k inside full in
         let v' = unfinds (rule.takes me.0 k (Some n)) in (
           v',
           keeps,
           tt,
           quiet s h id (k + 1) me.0 v' at (refl, refl) part
-              (more_seen s h at n full.0 full.1 refl, t.1, (λ j more. t.2 j (has_others me.0.full j more)))
+              (more_seen s h at n inside full refl, t.1, (λ p m j none. absurd none))
               (λ j more. let old = h.mine id me.0 at j more in (old.0, inr old.1))
               refl
               refl,
@@ -300,7 +344,7 @@ module _ {W T : Type 0} (list : W → List ℕ) (good : W → T → ℕ → Type
     turned_cell ws n k ne = get_or-set_other ws (tn i + 1) (k + 1) n 0 (λ q. ne (omega arith))
 
     turned_stay : (ws : List ℕ) (n : ℕ) → Stay ws (set ws (tn i + 1) n)
-    turned_stay ws n k l = let a = turned_cell ws n k (λ q. omega arith) in ((λ e. (turned_cell ws n (fl k) (λ q. omega arith) ∙ e, a)), (λ e. a ∙ e))
+    turned_stay ws n k l = let a = turned_cell ws n k (λ q. omega arith) in ((λ e. (ap (flag k) (turned_cell ws n (fl k) (λ q. omega arith)) ∙ e, a)), (λ e. a ∙ e))
 
     turned_else : (ws : List ℕ) (n j : ℕ) → j ≢ i → cell (set ws (tn i + 1) n) (tn j) ≡ cell ws (tn j)
     turned_else ws n j ne = turned_cell ws n (tn j) (λ q. ne (omega arith))
@@ -308,8 +352,8 @@ module _ {W T : Type 0} (list : W → List ℕ) (good : W → T → ℕ → Type
     turned_filled : (ws : List ℕ) (n : ℕ) → Filled ws → Filled (set ws (tn i + 1) n)
     turned_filled ws n h k l =
         let a = turned_cell ws n k (λ q. omega arith) in
-        let b = turned_cell ws n (fl k) (λ q. omega arith) in
-        ⊎_elim (λ z. inl (b ∙ z)) (λ (z : (cell ws (fl k) ≡ 1) × (cell ws k ≡ slice_index words k)). inr (b ∙ z.0, a ∙ z.1)) (h k l)
+        let b = ap (flag k) (turned_cell ws n (fl k) (λ q. omega arith)) in
+        ⊎_elim (λ z. inl (b ∙ z)) (λ (z : (fg ws k ≡ 1) × (cell ws k ≡ slice_index words k)). inr (b ∙ z.0, a ∙ z.1)) (h k l)
 
     turned_here : (s : St) → R s → apart * i < length s.homes → (n : ℕ) → cell (set s.words (tn i + 1) n) (tn i) ≡ n
     turned_here s h here n = get_or-set_same s.words (tn i + 1) n 0 (let z = h.size in omega arith)
@@ -424,7 +468,7 @@ module _ {W T : Type 0} (list : W → List ℕ) (good : W → T → ℕ → Type
       record {
         size = h.size;
         cells = h.cells;
-        told = λ j u e. ⊎_elim (λ was. ⊎_elim (λ (t : (j ≡ id) × (left ≡ u)). subst (λ (y : V). Told s.words y) t.1 (h.told id v at)) (λ (t : (j ≢ id) × (get_elem? s.views j ≡ some u)). h.told j u t.1) (at_set s.views id j left u was)) (λ (new : right ≡ u). subst (λ (y : V). Told s.words y) new ((λ k x known. absurd known), (λ k has. absurd has), (λ k has. absurd has))) (at_snoc views right u j e);
+        told = λ j u e. ⊎_elim (λ was. ⊎_elim (λ (t : (j ≡ id) × (left ≡ u)). subst (λ (y : V). Told s.words y) t.1 (h.told id v at)) (λ (t : (j ≢ id) × (get_elem? s.views j ≡ some u)). h.told j u t.1) (at_set s.views id j left u was)) (λ (new : right ≡ u). subst (λ (y : V). Told s.words y) new ((λ k x known. absurd known), (λ k has. absurd has), (λ p n k known. absurd known))) (at_snoc views right u j e);
         mine = λ j u e. ⊎_elim (λ was. ⊎_elim (λ (t : (j ≡ id) × (left ≡ u)). subst (λ (y : V). Owns y) t.1 (h.mine id v at)) (λ (t : (j ≢ id) × (get_elem? s.views j ≡ some u)). h.mine j u t.1) (at_set s.views id j left u was)) (λ (new : right ≡ u). subst (λ (y : V). Owns y) new (λ k some_. absurd (omega arith))) (at_snoc views right u j e);
         once = λ k. let t = total_snoc (own k) views right in let r = total_set (own k) s.views id v left at in let o = h.once k in omega arith;
         slots = λ i l. ⊎_elim (λ a. inl a) (λ away. let id' = away.1.0 in inr (
@@ -453,7 +497,7 @@ module _ {W T : Type 0} (list : W → List ℕ) (good : W → T → ℕ → Type
       record {
         size = h.size;
         cells = h.cells;
-        told = λ j y e. each s id v other u (λ y. Told s.words y) ((λ k x known. absurd known), (λ k has. absurd has), (λ k has. absurd has)) (seen_in, (h.told id v at).1, (h.told id v at).2) h.told j y e;
+        told = λ j y e. each s id v other u (λ y. Told s.words y) ((λ k x known. absurd known), (λ k has. absurd has), (λ p n k known. absurd known)) (seen_in, (h.told id v at).1, (h.told id v at).2) h.told j y e;
         mine = λ j y e. each s id v other u Owns (λ k some_. absurd (omega arith)) mine_in h.mine j y e;
         once = λ k. let a = total_set (own k) s.views id v both at in let b = total_set (own k) views other u gone there in let t = times_append k v.mine u.mine in let o = h.once k in omega arith;
         slots = λ i l. ⊎_elim (λ a. inl a) (λ away. let id' = away.1.0 in inr (

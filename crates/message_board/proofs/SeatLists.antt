@@ -9,9 +9,10 @@ use Rattle.message_board.specs.declared.steps.About.{About}
 use Rattle.message_board.specs.declared.steps.View.{View}
 use Rattle.message_board.specs.Pairs.{Knows, times}
 use Rattle.message_board.specs.Plain.{plain_cell}
-use Rattle.message_board.specs.Words.{apart, spaced, word_as, cells_from, cells_of, held}
+use Rattle.message_board.specs.Words.{apart, full_word, flag, cell_words, spaced, word_as, cells_from, cells_of, held}
 use Rattle.message_board.specs.Rule.{IsBoard, IsTold, newcomer, cell}
 use Rattle.message_board.specs.Seats.{BoardModel, Sitting, IsSeatOf, IsFreeSeatOf, AreSeatsOf, CanClose, AreNewSeats, KnownBy, times_by, HasCells, AreFresh}
+use Rattle.message_board.proofs.FlagBits.{flag_zero}
 use Rattle.message_board.proofs.Pairs.{total_at}
 use Rattle.message_board.proofs.StepAnswers.{word_full}
 
@@ -122,18 +123,18 @@ module _ {T : Type 0} where
 
 module _ {W T : Type 0} (list : W → List ℕ) (good : W → T → ℕ → Type 0) (posted : W → T → List (ℕ × ℕ)) where
   pub begins : (about : About W) (m : ℕ) (items : List T) → length (list about.world) ≡ m → AreFresh good posted about.world items
-      → IsBoard list good posted about (opening (replicate (m + m + 1) 0 ++ replicate (apart * length items) 1) (spaced items) (newcomer about about.seats))
+      → IsBoard list good posted about (opening (replicate (cell_words m + 1) 0 ++ replicate (apart * length items) 1) (spaced items) (newcomer about about.seats))
   begins about m items len fresh =
       let l = homes_length items in
-      let start : List ℕ = replicate (m + m + 1) 0 ++ replicate (apart * length items) 1 in
+      let start : List ℕ = replicate (cell_words m + 1) 0 ++ replicate (apart * length items) 1 in
       record {
-        size = starts_length (m + m + 1) (apart * length items) ∙ (let e = len in omega arith);
-        cells = λ k h. inl (starts_cell (m + m + 1) (apart * length items) (length (list about.world) + k + 1) (let e = len in omega arith));
-        told = λ id v e. only id v e (λ y. IsTold list good posted about start y) ((λ k w known. absurd known), (λ k has. absurd has), (λ k has. absurd has));
+        size = starts_length (cell_words m + 1) (apart * length items) ∙ (let e = len in omega arith);
+        cells = λ k h. inl (ap (flag k) (starts_cell (cell_words m + 1) (apart * length items) (length (list about.world) + full_word k + 1) (let e = len in omega arith)) ∙ flag_zero k);
+        told = λ id v e. only id v e (λ y. IsTold list good posted about start y) ((λ k w known. absurd known), (λ k has. absurd has), (λ p n k known. absurd known));
         mine = λ id v e. only id v e (λ y. (k : ℕ) → 0 < times k y.mine → (w : ℕ) × Knows y.seen k w) (λ k more. absurd (omega arith));
         once = λ k. omega arith;
         slots = λ i h. inl (let here = at_home items i (omega arith) in let f = fresh i here.0 here.2 in (
-          starts_turn (m + m + 1) (apart * length items) (apart * i) (length (list about.world) + length (list about.world) + apart * i + 1) (omega arith) (let e = len in omega arith),
+          starts_turn (cell_words m + 1) (apart * length items) (apart * i) (cell_words (length (list about.world)) + apart * i + 1) (omega arith) (let e = len in omega arith),
           (here.0, here.1, f.0, λ k w known. absurd (subst (λ (ps : List (ℕ × ℕ)). Knows ps k w) f.1 known)),
         ));
         seats = omega arith;
@@ -146,26 +147,19 @@ module _ {W T : Type 0} (list : W → List ℕ) (good : W → T → ℕ → Type
       only (suc id) v e P p = absurd (some-ne-none v (sym e))
 
 -- the board at its end
-from_at : (vs fs : List ℕ) (k : ℕ) → k < length vs → k < length fs → plain_cell (cells_from vs fs) k ≡ word_as (slice_index fs k) (slice_index vs k)
-from_at [] fs k a b = absurd (omega arith)
-from_at (v ∷ vs) [] k a b = absurd (omega arith)
-from_at (v ∷ vs) (f ∷ fs) zero a b = refl
-from_at (v ∷ vs) (f ∷ fs) (suc k) a b = from_at vs fs k (omega arith) (omega arith)
+from_at : (i : ℕ) (vs fs : List ℕ) (j k : ℕ) → k ≡ i + j → j < length vs → plain_cell (cells_from i vs fs) j ≡ word_as (flag k (slice_index fs (full_word k))) (slice_index vs j)
+from_at i [] fs j k e a = absurd (omega arith)
+from_at i (v ∷ vs) fs zero k e a = ap (λ m. word_as (flag m (slice_index fs (full_word m))) v) (let q : i ≡ k = omega arith in q)
+from_at i (v ∷ vs) fs (suc j) k e a = from_at (suc i) vs fs j k (omega arith) (omega arith)
 
-from_length : (vs fs : List ℕ) → length vs ≤ length fs → length (cells_from vs fs) ≡ length vs
-from_length [] fs h = refl
-from_length (v ∷ vs) [] h = absurd (omega arith)
-from_length (v ∷ vs) (f ∷ fs) h = ap suc (from_length vs fs (omega arith))
+from_length : (i : ℕ) (vs fs : List ℕ) → length (cells_from i vs fs) ≡ length vs
+from_length i [] fs = refl
+from_length i (v ∷ vs) fs = ap suc (from_length (suc i) vs fs)
 
 take_length : (c : ℕ) (ns : List ℕ) → c ≤ length ns → length (take c ns) ≡ c
 take_length zero ns h = refl
 take_length (suc c) [] h = absurd (omega arith)
 take_length (suc c) (n ∷ ns) h = ap suc (take_length c ns (omega arith))
-
-drop_length : (c : ℕ) (ns : List ℕ) → c ≤ length ns → length (drop c ns) + c ≡ length ns
-drop_length zero ns h = omega arith
-drop_length (suc c) [] h = absurd (omega arith)
-drop_length (suc c) (n ∷ ns) h = let r = drop_length c ns (omega arith) in omega arith
 
 drop_at : (c : ℕ) (ns : List ℕ) (k j : ℕ) → j ≡ c + k → slice_index (drop c ns) k ≡ slice_index ns j
 drop_at zero ns k j e = ap (slice_index ns) (let q : k ≡ j = omega arith in q)
@@ -173,22 +167,22 @@ drop_at (suc c) [] k j e = refl
 drop_at (suc c) (n ∷ ns) k zero e = absurd (omega arith)
 drop_at (suc c) (n ∷ ns) k (suc j) e = drop_at c ns k j (omega arith)
 
-pub cells_length : (count : ℕ) (ws : List ℕ) → count + count < length ws → length (cells_of count ws) ≡ count
+pub cells_length : (count : ℕ) (ws : List ℕ) → cell_words count < length ws → length (cells_of count ws) ≡ count
 cells_length count [] h = absurd (omega arith)
-cells_length count (n ∷ ns) h = let t = take_length count ns (omega arith) in let d = drop_length count ns (omega arith) in from_length (take count ns) (drop count ns) (omega arith) ∙ t
+cells_length count (n ∷ ns) h = from_length 0 (take count ns) (drop count ns) ∙ take_length count ns (omega arith)
 
-pub cells_at : (count : ℕ) (ws : List ℕ) (k : ℕ) → k < count → count + count < length ws → plain_cell (cells_of count ws) k ≡ word_as (slice_index ws (count + k + 1)) (slice_index ws (k + 1))
+pub cells_at : (count : ℕ) (ws : List ℕ) (k : ℕ) → k < count → cell_words count < length ws → plain_cell (cells_of count ws) k ≡ word_as (flag k (slice_index ws (count + full_word k + 1))) (slice_index ws (k + 1))
 cells_at count [] k a h = absurd (omega arith)
 cells_at count (n ∷ ns) k a h =
     let t = take_length count ns (omega arith) in
-    let d = drop_length count ns (omega arith) in
-    let full : slice_index (drop count ns) k ≡ slice_index (n ∷ ns) (count + k + 1) = drop_at count ns k (count + k) refl ∙ ap (slice_index (n ∷ ns)) (let q : suc (count + k) ≡ count + k + 1 = omega arith in q) in
+    let p : ℕ = full_word k in
+    let full : slice_index (drop count ns) p ≡ slice_index (n ∷ ns) (count + p + 1) = drop_at count ns p (count + p) refl ∙ ap (slice_index (n ∷ ns)) (let q : suc (count + p) ≡ count + p + 1 = omega arith in q) in
     let value : slice_index (take count ns) k ≡ slice_index (n ∷ ns) (k + 1) = get_or-take count ns k 0 a ∙ ap (slice_index (n ∷ ns)) (let q : suc k ≡ k + 1 = omega arith in q) in
-    from_at (take count ns) (drop count ns) k (omega arith) (omega arith) ∙ (λ i. word_as (full i) (value i))
+    from_at 0 (take count ns) (drop count ns) k k (omega arith) (omega arith) ∙ (λ i. word_as (flag k (full i)) (value i))
 
 module _ {W T : Type 0} (list : W → List ℕ) (good : W → T → ℕ → Type 0) (posted : W → T → List (ℕ × ℕ)) (about : About W) where
   pub record Ends (count : ℕ) (ws : List ℕ) (v : View W) : Type 0 where
-    pub room : count + count < length ws
+    pub room : cell_words count < length ws
     pub cells : HasCells (list about.world) (cells_of count ws)
     pub seen : (k w : ℕ) → Knows v.seen k w → plain_cell (cells_of count ws) k ≡ Some w
     pub once : (k : ℕ) → times k v.mine ≤ 1
@@ -199,16 +193,16 @@ module _ {W T : Type 0} (list : W → List ℕ) (good : W → T → ℕ → Type
       let h = f.1.0 in
       let at = f.1.1 in
       let same : s.words ≡ ws = f.2 in
-      let size : length ws ≡ length (list about.world) + length (list about.world) + length s.homes + 1 = ap length (sym same) ∙ h.size in
+      let size : length ws ≡ cell_words (length (list about.world)) + length s.homes + 1 = ap length (sym same) ∙ h.size in
       let word : (k j : ℕ) → j ≡ k + 1 → cell s.words k ≡ slice_index ws j = λ k j e. ap (λ l. slice_index l (k + 1)) same ∙ ap (slice_index ws) (sym e) in
-      let full : (k : ℕ) → cell s.words (length (list about.world) + k) ≡ slice_index ws (count + k + 1) = λ k. word (length (list about.world) + k) (count + k + 1) (ap (λ n. n + k + 1) is) in
+      let full : (k : ℕ) → flag k (cell s.words (length (list about.world) + full_word k)) ≡ flag k (slice_index ws (count + full_word k + 1)) = λ k. ap (flag k) (word (length (list about.world) + full_word k) (count + full_word k + 1) (ap (λ n. n + full_word k + 1) is)) in
       record {
         room = omega arith;
         cells = (
           cells_length count ws (omega arith) ∙ is,
           λ k in_.
-              ⊎_elim (λ (a : cell s.words (length (list about.world) + k) ≡ 0). inl (cells_at count ws k (omega arith) (omega arith) ∙ ap (λ n. word_as n (slice_index ws (k + 1))) (sym (full k) ∙ a)))
-              (λ (a : (cell s.words (length (list about.world) + k) ≡ 1) × (cell s.words k ≡ slice_index (list about.world) k)). inr (cells_at count ws k (omega arith) (omega arith) ∙ word_full _ _ (sym (full k) ∙ a.0) ∙ ap (λ n. Some n) (sym (word k (k + 1) refl) ∙ a.1))) (h.cells k in_),
+              ⊎_elim (λ (a : flag k (cell s.words (length (list about.world) + full_word k)) ≡ 0). inl (cells_at count ws k (omega arith) (omega arith) ∙ ap (λ n. word_as n (slice_index ws (k + 1))) (sym (full k) ∙ a)))
+              (λ (a : (flag k (cell s.words (length (list about.world) + full_word k)) ≡ 1) × (cell s.words k ≡ slice_index (list about.world) k)). inr (cells_at count ws k (omega arith) (omega arith) ∙ word_full _ _ (sym (full k) ∙ a.0) ∙ ap (λ n. Some n) (sym (word k (k + 1) refl) ∙ a.1))) (h.cells k in_),
         );
         seen = λ k w known. let r = (h.told id v at).0 k w known in let l = r.0 in cells_at count ws k (omega arith) (omega arith) ∙ word_full _ _ (sym (full k) ∙ r.1) ∙ ap (λ n. Some n) (sym (word k (k + 1) refl) ∙ r.2);
         once = λ k. let t = total_at (λ (u : View W). times k u.mine) s.views id v at in let o = h.once k in omega arith;

@@ -6,8 +6,8 @@ use Rattle.message_board.specs.declared.steps.About.{About}
 use Rattle.message_board.specs.declared.steps.View.{View}
 use Rattle.message_board.specs.declared.cells.Posted.{Posted}
 use Rattle.message_board.specs.declared.cells.Posted.TheVariants.{Done, Occupied}
-use Rattle.message_board.specs.Pairs.{Knows, Has}
-use Rattle.message_board.specs.Rule.{posts, stores, unstores, finds, looks, takes_out}
+use Rattle.message_board.specs.Pairs.{Has}
+use Rattle.message_board.specs.Rule.{posts, stores, unstores, looks, takes_out, settled}
 use Rattle.message_board.specs.Words.{apart, posted_as, word_as}
 
 posted_full : (n w : ℕ) → n ≡ 1 → posted_as n w ≡ Occupied w
@@ -18,7 +18,7 @@ word_full n w e = ap (λ b. if b then None else Some w) (ne_eqb n 0 (λ z. omega
 
 module _ {W : Type 0} where
   pub record PostTells (v : View W) (k w : ℕ) (u : View W) (r : Posted) : Type 0 where
-    pub view : u ≡ posts v k w r
+    pub view : settled u ≡ posts (settled v) k w r
     pub found : (r ≡ Done) ⊎ (r ≡ Occupied w)
     pub same : (u.about ≡ v.about) × (u.seats ≡ v.seats) × (u.out ≡ v.out)
 
@@ -27,22 +27,11 @@ module _ {W : Type 0} where
   posts_same v k w (Occupied x) = (refl, refl, refl)
 
   post_tells_at : (v u : View W) (k w n : ℕ) (r : Posted) → r ≡ posted_as n w → ((n ≡ 0) × (u ≡ unstores (posts (stores v k) k w Done))) ⊎ ((n ≡ 1) × (u ≡ unstores (posts (stores v k) k w (Occupied w)))) → PostTells v k w u r
-  post_tells_at v u k w n r is (inl t) = let d : r ≡ Done = is ∙ ap (λ m. posted_as m w) t.0 in record { view = t.1 ∙ ap (posts v k w) (sym d); found = inl d; same = subst (λ (x : View W). (x.about ≡ v.about) × (x.seats ≡ v.seats) × (x.out ≡ v.out)) (sym t.1) (posts_same v k w Done) }
-  post_tells_at v u k w n r is (inr t) = let d : r ≡ Occupied w = is ∙ posted_full n w t.0 in record { view = t.1 ∙ ap (posts v k w) (sym d); found = inr d; same = subst (λ (x : View W). (x.about ≡ v.about) × (x.seats ≡ v.seats) × (x.out ≡ v.out)) (sym t.1) (posts_same v k w (Occupied w)) }
+  post_tells_at v u k w n r is (inl t) = let d : r ≡ Done = is ∙ ap (λ m. posted_as m w) t.0 in record { view = ap settled t.1 ∙ ap (posts (settled v) k w) (sym d); found = inl d; same = subst (λ (x : View W). (x.about ≡ v.about) × (x.seats ≡ v.seats) × (x.out ≡ v.out)) (sym t.1) (posts_same v k w Done) }
+  post_tells_at v u k w n r is (inr t) = let d : r ≡ Occupied w = is ∙ posted_full n w t.0 in record { view = ap settled t.1 ∙ ap (posts (settled v) k w) (sym d); found = inr d; same = subst (λ (x : View W). (x.about ≡ v.about) × (x.seats ≡ v.seats) × (x.out ≡ v.out)) (sym t.1) (posts_same v k w (Occupied w)) }
 
   pub post_tells : (v v' u : View W) (k w n : ℕ) (r : Posted) → v' ≡ stores v k → r ≡ posted_as n w → ((n ≡ 0) × (u ≡ unstores (posts v' k w Done))) ⊎ ((n ≡ 1) × (u ≡ unstores (posts v' k w (Occupied w)))) → PostTells v k w u r
   post_tells v v' u k w n r e is told = post_tells_at v u k w n r is (subst (λ x. ((n ≡ 0) × (u ≡ unstores (posts x k w Done))) ⊎ ((n ≡ 1) × (u ≡ unstores (posts x k w (Occupied w))))) e told)
-
-  abbrev FullTold : View W → View W → ℕ → ℕ → Type 0
-  FullTold v u k n = ((n ≡ 0) × (u ≡ looks v k) × ((w : ℕ) → ¬ Knows v.seen k w)) ⊎ ((n ≡ 1) × (u ≡ finds v k))
-
-  pub full_none : (v u : View W) (k n : ℕ) → FullTold v u k n → n ≡ 0 → (u ≡ looks v k) × ((w : ℕ) → ¬ Knows v.seen k w)
-  full_none v u k n (inl t) z = (t.1, t.2)
-  full_none v u k n (inr t) z = absurd (let a = t.0 in omega arith)
-
-  pub full_some : (v u : View W) (k n : ℕ) → FullTold v u k n → n ≢ 0 → u ≡ finds v k
-  full_some v u k n (inl t) z = absurd (z t.0)
-  full_some v u k n (inr t) z = t.1
 
 pub if_map : (o : Option ℕ) {P Q : ℕ → Type 0} → ((w : ℕ) → P w → Q w) → IfSome o P → IfSome o Q
 if_map None f h = tt

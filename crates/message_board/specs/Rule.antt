@@ -1,6 +1,6 @@
 -- The rule of a board's table, and what its steps tell. Word 0 is the seats' word. Then come the value words of the
--- cells, then their full words, each 1 where the cell is full, else 0, and then, apart from each other, a turn word for
--- each slot, 1 where the slot's item is at home, else 0.
+-- cells, then their full words, in each of which 64 cells have a flag, 1 where the cell is full, else 0. Then come,
+-- apart from each other, a turn word for each slot, 1 where the slot's item is at home, else 0.
 use Rattle.std.specs.Prelude.{◌≡◌, ℕ, ◌+◌, ◌-◌, ◌*◌, ◌<◌, ◌≤◌, ◌⊎◌, List, [], ◌∷◌, ◌++◌, length, slice_index, Option, Some, None}
 use mathlib.Core.Option.{some}
 use lib.ListN.{get_elem?}
@@ -10,7 +10,7 @@ use Rattle.message_board.specs.declared.steps.View.{View}
 use Rattle.message_board.specs.declared.cells.Posted.{Posted}
 use Rattle.message_board.specs.declared.cells.Posted.TheVariants.{Done, Occupied}
 use Rattle.message_board.specs.Pairs.{Knows, Has, times, total_over}
-use Rattle.message_board.specs.Words.{apart}
+use Rattle.message_board.specs.Words.{apart, cell_words, full_word, flag, flag_bit}
 
 -- the words after the seats' word
 abbrev pub cell : List ℕ → ℕ → ℕ
@@ -26,7 +26,7 @@ module _ {W : Type 0} where
   -- a new seat's
   abbrev pub newcomer : About W → ℕ → View W
   newcomer about seats =
-      record { about = Some about; seats = seats; seen = []; mine = []; looked = []; stored = []; full = []; out = [] }
+      record { about = Some about; seats = seats; seen = []; mine = []; looked = []; stored = []; found = []; out = [] }
 
   -- after the store of a value, and after the number was used
   abbrev pub stores : View W → ℕ → View W
@@ -35,26 +35,30 @@ module _ {W : Type 0} where
   abbrev pub unstores : View W → View W
   unstores v = record v { stored = others v.stored }
 
-  -- after a full word was found 1, and after the number was used
-  abbrev pub finds : View W → ℕ → View W
-  finds v k = record v { full = k ∷ v.full }
+  -- after full word p was found to be n, and after that was used
+  abbrev pub finds : View W → ℕ → ℕ → View W
+  finds v p n = record v { looked = p ∷ v.looked; found = (p, n) ∷ v.found }
 
   abbrev pub unfinds : View W → View W
-  unfinds v = record v { full = others v.full }
+  unfinds v = record v { looked = others v.looked; found = [] }
+
+  -- as a contract tells it: what a full word was found to be matters within a take alone
+  abbrev pub settled : View W → View W
+  settled v = record v { found = [] }
 
   -- after a post
   abbrev pub posts : View W → ℕ → ℕ → Posted → View W
   posts v k w Done = record v { seen = (k, w) ∷ v.seen; mine = k ∷ v.mine }
   posts v k w (Occupied x) = record v { seen = (k, x) ∷ v.seen }
 
-  -- after a look at a word that was 0
+  -- after a look at a word that told nothing
   abbrev pub looks : View W → ℕ → View W
   looks v k = record v { looked = k ∷ v.looked }
 
   -- after a take
   abbrev pub takes : View W → ℕ → Option ℕ → View W
   takes v k (Some x) = record v { seen = (k, x) ∷ v.seen }
-  takes v k None = looks v k
+  takes v k None = looks v (full_word k)
 
   -- after the fold of another seat, which holds no slot
   abbrev pub folds : View W → View W → View W
@@ -62,7 +66,7 @@ module _ {W : Type 0} where
 
   -- the other's after it
   abbrev pub spent : View W
-  spent = record { about = None; seats = 0; seen = []; mine = []; looked = []; stored = []; full = []; out = [] }
+  spent = record { about = None; seats = 0; seen = []; mine = []; looked = []; stored = []; found = []; out = [] }
 
   -- of which a new seat has taken over one seat
   abbrev pub less_one : View W → View W
@@ -70,7 +74,7 @@ module _ {W : Type 0} where
 
   -- the new seat's
   abbrev pub one_seat : View W → View W
-  one_seat v = record v { seats = 1; seen = []; mine = []; looked = []; stored = []; full = []; out = [] }
+  one_seat v = record v { seats = 1; seen = []; mine = []; looked = []; stored = []; found = []; out = [] }
 
   -- after a slot was taken, whose item posted these pairs
   abbrev pub takes_out : View W → ℕ → List (ℕ × ℕ) → View W
@@ -83,24 +87,36 @@ module _ {W : Type 0} where
 module _ {W T : Type 0} (list : W → List ℕ) (good : W → T → ℕ → Type 0) (posted : W → T → List (ℕ × ℕ)) where
   -- the places of a cell's full word and of a slot's turn word
   abbrev pub full_place : About W → ℕ → ℕ
-  full_place about k = length (list about.world) + k
+  full_place about k = length (list about.world) + full_word k
 
   abbrev pub turn : About W → ℕ → ℕ
-  turn about i = length (list about.world) + length (list about.world) + apart * i
+  turn about i = cell_words (length (list about.world)) + apart * i
+
+  -- the cell is empty, or full
+  abbrev pub IsEmptyAt : About W → List ℕ → ℕ → Type 0
+  IsEmptyAt about words k = flag k (cell words (full_place about k)) ≡ 0
+
+  abbrev pub IsFullAt : About W → List ℕ → ℕ → Type 0
+  IsFullAt about words k = flag k (cell words (full_place about k)) ≡ 1
 
   -- each pair is a full cell and its word
   abbrev pub Stand : About W → List ℕ → List (ℕ × ℕ) → Type 0
   Stand about words pairs =
-      (k w : ℕ) → Knows pairs k w → (k < length (list about.world)) × (cell words (full_place about k) ≡ 1)
-      × (cell words k ≡ w)
+      (k w : ℕ) → Knows pairs k w → (k < length (list about.world)) × IsFullAt about words k × (cell words k ≡ w)
 
-  -- what a view knows of the cells: each pair seen is there, each value stored is the promised one, each full word
-  -- found is 1
+  -- each cell is full whose flag was found 1, where p is the number of a full word and n what was found there
+  abbrev pub AreFound : About W → List ℕ → List (ℕ × ℕ) → Type 0
+  AreFound about words pairs =
+      (p n k : ℕ) → Knows pairs p n → full_word k ≡ p → flag k n ≡ 1 → k < length (list about.world)
+      → IsFullAt about words k
+
+  -- what a view knows of the cells: each pair seen is there, each value stored is the promised one, each cell found
+  -- full is full
   abbrev pub IsTold : About W → List ℕ → View W → Type 0
   IsTold about words v =
       Stand about words v.seen
       × ((k : ℕ) → Has v.stored k → (k < length (list about.world)) × (cell words k ≡ slice_index (list about.world) k))
-      × ((k : ℕ) → Has v.full k → (k < length (list about.world)) × (cell words (full_place about k) ≡ 1))
+      × AreFound about words v.found
 
   abbrev pub IsHome : About W → State (Option T) (View W) → ℕ → Type 0
   IsHome about s i =
@@ -115,11 +131,10 @@ module _ {W T : Type 0} (list : W → List ℕ) (good : W → T → ℕ → Type
 
   -- the rule, which holds between any two steps
   pub record IsBoard (about : About W) (s : State (Option T) (View W)) : Type 0 where
-    pub size : length s.words ≡ length (list about.world) + length (list about.world) + length s.homes + 1
+    pub size : length s.words ≡ cell_words (length (list about.world)) + length s.homes + 1
     -- each cell is empty or holds its promised word
     pub cells : (k : ℕ) → k < length (list about.world)
-        → (cell s.words (full_place about k) ≡ 0)
-        ⊎ ((cell s.words (full_place about k) ≡ 1) × (cell s.words k ≡ slice_index (list about.world) k))
+        → IsEmptyAt about s.words k ⊎ (IsFullAt about s.words k × (cell s.words k ≡ slice_index (list about.world) k))
     -- what a view knows is so
     pub told : (id : ℕ) (v : View W) → get_elem? s.views id ≡ some v → IsTold about s.words v
     -- what a view has posted it has seen
@@ -142,20 +157,19 @@ module _ {W T : Type 0} (list : W → List ℕ) (good : W → T → ℕ → Type
   abbrev pub stored_step : Step (Option T) → Sat → ℕ → Sat → Type 0
   stored_step st me n me' = (k : ℕ) → st.word ≡ k + 1 → (me'.1 ≡ me.1) × (me'.0 ≡ stores me.0 k)
 
-  -- the compare-and-exchange of a full word, 0 to 1, which ends a post
+  -- the bit-or of the flag of cell k into its full word, which ends a post
   abbrev pub posted_step : Step (Option T) → Sat → ℕ → Sat → Type 0
   posted_step st me n me' =
       (about : About W) (k w : ℕ) → me.0.about ≡ Some about → st.word ≡ full_place about k + 1
-      → slice_index (list about.world) k ≡ w
-      → (me'.1 ≡ me.1) × (((n ≡ 0) × (me'.0 ≡ unstores (posts me.0 k w Done)))
-      ⊎ ((n ≡ 1) × (me'.0 ≡ unstores (posts me.0 k w (Occupied w)))))
+      → st.first ≡ flag_bit k → slice_index (list about.world) k ≡ w
+      → (me'.1 ≡ me.1) × (((flag k n ≡ 0) × (me'.0 ≡ unstores (posts me.0 k w Done)))
+      ⊎ ((flag k n ≡ 1) × (me'.0 ≡ unstores (posts me.0 k w (Occupied w)))))
 
-  -- the load of a full word, the first step of a take. Where it is 0 the seat knew no word of the cell
+  -- the load of a full word, the first step of a take. Where the flag of cell k is 0 the seat knew no word of it
   abbrev pub found_step : Step (Option T) → Sat → ℕ → Sat → Type 0
   found_step st me n me' =
       (about : About W) (k : ℕ) → me.0.about ≡ Some about → st.word ≡ full_place about k + 1
-      → (me'.1 ≡ me.1) × (((n ≡ 0) × (me'.0 ≡ looks me.0 k) × ((w : ℕ) → ¬ Knows me.0.seen k w))
-      ⊎ ((n ≡ 1) × (me'.0 ≡ finds me.0 k)))
+      → (me'.1 ≡ me.1) × (me'.0 ≡ finds me.0 (full_word k) n) × (flag k n ≡ 0 → (w : ℕ) → ¬ Knows me.0.seen k w)
 
   -- the load of a value, which ends a take: it is the promised word, and the one that the seat knew
   abbrev pub taken_step : Step (Option T) → Sat → ℕ → Sat → Type 0

@@ -10,7 +10,7 @@ use Rattle.message_board.specs.declared.cells.Posted.{Posted}
 use Rattle.message_board.specs.declared.cells.Posted.TheVariants.{Done, Occupied}
 use Rattle.message_board.specs.Pairs.{Knows, Has, times}
 use Rattle.message_board.specs.Plain.{plain_cell}
-use Rattle.message_board.specs.Words.{apart}
+use Rattle.message_board.specs.Words.{apart, cell_words}
 use Rattle.message_board.specs.Rule.{newcomer, posts, takes, looks, takes_out}
 
 -- how many slots a table has
@@ -43,8 +43,8 @@ module _ {W : Type 0} where
       coded_via (coded× (coded_option (about_coded c))
       (coded× coded_ℕ (coded× (coded_list (coded× coded_ℕ coded_ℕ))
       (coded× (coded_list coded_ℕ) (coded× (coded_list coded_ℕ)
-      (coded× (coded_list coded_ℕ) (coded× (coded_list coded_ℕ) (coded_list coded_ℕ))))))))
-      (λ (v : View W). (v.about, (v.seats, (v.seen, (v.mine, (v.looked, (v.stored, (v.full, v.out))))))))
+      (coded× (coded_list coded_ℕ) (coded× (coded_list (coded× coded_ℕ coded_ℕ)) (coded_list coded_ℕ))))))))
+      (λ (v : View W). (v.about, (v.seats, (v.seen, (v.mine, (v.looked, (v.stored, (v.found, v.out))))))))
       (λ x y e i. record {
         about = (e i).0;
         seats = (e i).1.0;
@@ -52,7 +52,7 @@ module _ {W : Type 0} where
         mine = (e i).1.1.1.0;
         looked = (e i).1.1.1.1.0;
         stored = (e i).1.1.1.1.1.0;
-        full = (e i).1.1.1.1.1.1.0;
+        found = (e i).1.1.1.1.1.1.0;
         out = (e i).1.1.1.1.1.1.1;
       })
 
@@ -100,9 +100,9 @@ module _ {W : Type 0} where
   times_by k [] = 0
   times_by k (s ∷ ss) = times k s.view.mine + times_by k ss
 
--- a table for so many cells
+-- a table for so many cells: the seats' word, value words, full words and turn words
 pub record IsTableFor (count : ℕ) (id : TableId) : Type 0 where
-  pub words : id.words ≡ count + count + id.slots + 1
+  pub words : id.words ≡ cell_words count + id.slots + 1
   pub places : id.slots ≡ apart * slots_of id
   pub few_cells : count < 2 ^ 32
   pub few_slots : slots_of id < 2 ^ 32

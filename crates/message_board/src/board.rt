@@ -1,12 +1,14 @@
-//! Cells and slots that threads share. A cell is a value word and a full word: a post is a store of the value and then
-//! one compare-and-exchange of the full word, and a take is one load of the full word and, where that is 1, one of the
-//! value. A slot's turn word says whether its item is at home. No step waits for another thread.
+//! Cells and slots that threads share. A cell is a value word and a flag, which is a bit of a full word that 64 cells
+//! share: a post is a store of the value and then one bit-or of the full word, and a take is one load of the full word
+//! and, where the flag is 1, one of the value. A slot's turn word says whether its item is at home. No step waits for
+//! another thread.
 ghost use Rattle.std.specs.Prelude.{◌≡◌, ℕ, ◌+◌, ◌*◌, ◌/◌, ◌⊎◌, ◌<◌, ◌≤◌, ◌^◌, [], ◌∷◌, length, slice_get, Some};
 ghost use Rattle.std.specs.Prelude.{IfSome, IfNone, IfOk, IfErr, vec_len, vec_capacity};
 ghost use Rattle.message_board.specs.Words.{posted_as};
 
 use crate::cells::Posted;
 use crate::closed::ClosedBoard;
+use crate::flags::{bit_of, flag_of, full_word_of};
 use crate::room::{APART, Room, fill, give_back, make_room, start_words};
 use crate::steps::{
     About, BoardRule, BringsHome, Finds, Posts, Promise, SlotItem, SplitSeats, Stores, Takes,
@@ -49,18 +51,19 @@ pub struct BoardSeat<W, T> {
 impl<W, T> Model for BoardSeat<W, T> {
     ghost use Rattle.std.specs.Prelude.{◌≡◌, ◌<◌, []};
     ghost use Rattle.message_board.specs.Words.{blanks};
+    ghost use Rattle.message_board.specs.Rule.{settled};
     ghost use Rattle.message_board.specs.Seats.{Sitting, sitting_coded};
 
     ghost Value = { Sitting W };
 
     ghost coded = { sitting_coded W.code };
 
-    ghost view = { λ s. record { id = s.seat.table_id; view = s.seat.me.0 } };
+    ghost view = { λ s. record { id = s.seat.table_id; view = settled s.seat.me.0 } };
 
     ghost invariant = { λ s. (s.seat.me.1 ≡ blanks s.seat.me.0.out) × (0 < s.seat.me.0.seats) };
 }
 
-// What a post of the word says of the full word that it found.
+// What a post of the word says of the flag that it found.
 fn posted_of(found: u64, word: u64) -> Posted
     ensures { result ≡ posted_as found word }
 {
@@ -75,7 +78,7 @@ impl<W: Promise, T: SlotItem<W>> Board<W, T> {
     ghost use Rattle.atomic_table.specs.Table.{opening};
     ghost use Rattle.message_board.specs.Pairs.{Knows, Grows, times};
     ghost use Rattle.message_board.specs.Plain.{plain_cell};
-    ghost use Rattle.message_board.specs.Words.{apart};
+    ghost use Rattle.message_board.specs.Words.{apart, cell_words};
     ghost use Rattle.message_board.specs.Rule.{IsBoard, posts, takes, brings_home, others, folds};
     ghost use Rattle.message_board.specs.Rule.{less_one, one_seat, newcomer};
     ghost use Rattle.message_board.specs.Seats.{IsBoardOf, slots_of, IsSeatOf, IsFreeSeatOf, IsPostAnswer};
@@ -162,7 +165,7 @@ impl<W: Promise, T: SlotItem<W>> Board<W, T> {
         requires messages { length (W.list about.world) ≡ messages }
         requires few { (length (W.list about.world) < 2 ^ 32) × (vec_len slots / apart < 2 ^ 32) }
         requires places { vec_len slots ≡ apart * (vec_len slots / apart) }
-        requires words { vec_len start ≡ length (W.list about.world) + length (W.list about.world) + vec_len slots + 1 }
+        requires words { vec_len start ≡ cell_words (length (W.list about.world)) + vec_len slots + 1 }
         requires rule { IsBoard W.list T.good T.posted about
             (opening start.items slots.items (newcomer about about.seats)) }
         ensures board { IfOk result (λ r. (r.0.about ≡ about) × (slots_of r.0.id ≡ vec_len slots / apart)) }
@@ -214,6 +217,7 @@ impl<W: Promise, T: SlotItem<W>> Board<W, T> {
     }
 
     /// Fills the cell with its word: Done, or the word that the cell had.
+    #[inline(always)]
     pub fn post(&self, seat: &mut BoardSeat<W, T>, number: u32, word: u64) -> Posted
         requires seat { IsSeatOf self.now seat.old }
         requires promised { slice_get (W.list self.now.about.world) number ≡ Some word }
@@ -224,15 +228,16 @@ impl<W: Promise, T: SlotItem<W>> Board<W, T> {
         self.table
             .shared
             .store::<Stores<W, T>>(&mut seat.seat, number as usize + 1, word);
-        let full = self.messages + number as usize + 1;
+        let full = self.messages + full_word_of(number) + 1;
         let found = self
             .table
             .shared
-            .compare_exchange::<Posts<W, T>>(&mut seat.seat, full, 0, 1);
-        posted_of(found, word)
+            .fetch_or::<Posts<W, T>>(&mut seat.seat, full, bit_of(number));
+        posted_of(flag_of(number, found), word)
     }
 
     /// The word of a cell, or nothing where it was empty. A cell that the seat knows is never empty.
+    #[inline(always)]
     pub fn take(&self, seat: &mut BoardSeat<W, T>, number: u32) -> Option<u64>
         requires seat { IsSeatOf self.now seat.old }
         requires inside { number < length (W.list self.now.about.world) }
@@ -244,8 +249,9 @@ impl<W: Promise, T: SlotItem<W>> Board<W, T> {
         let full = self
             .table
             .shared
-            .load::<Finds<W, T>>(&mut seat.seat, self.messages + number as usize + 1);
-        if full == 0 {
+            .load::<Finds<W, T>>(&mut seat.seat, self.messages + full_word_of(number) + 1);
+        let flag = flag_of(number, full);
+        if flag == 0 {
             return None;
         }
         let value = self
@@ -357,8 +363,7 @@ impl<W: Promise, T: SlotItem<W>> Board<W, T> {
     // The place of a slot's turn word.
     fn turn_place(&self, slot: u32) -> usize
         requires { slot < slots_of self.now.id }
-        ensures { result
-            ≡ length (W.list self.now.about.world) + length (W.list self.now.about.world) + apart * slot + 1 }
+        ensures { result ≡ cell_words (length (W.list self.now.about.world)) + apart * slot + 1 }
     {
         self.table.word_count() - self.table.slot_count() + APART * slot as usize
     }

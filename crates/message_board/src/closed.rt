@@ -2,6 +2,7 @@
 ghost use Rattle.std.specs.Prelude.{◌≡◌, ◌<◌, length};
 ghost use Rattle.message_board.specs.Words.{word_as};
 
+use crate::flags::{flag_of, full_word_of};
 use atomic_table::Closed;
 use std::alloc::Global;
 use std::marker::Model;
@@ -15,14 +16,14 @@ pub struct ClosedBoard<T> {
 impl<T> Model for ClosedBoard<T> {
     ghost use Rattle.std.specs.Prelude.{◌≡◌, ℕ, ◌+◌, ◌<◌, List, Option, length};
     ghost use Rattle.std.specs.Mem.Slots.{slots_items, IsFull};
-    ghost use Rattle.message_board.specs.Words.{cells_of};
+    ghost use Rattle.message_board.specs.Words.{cells_of, cell_words};
 
     ghost Value = { List (Option ℕ) };
 
     ghost view = { λ c. cells_of c.messages (slots_items c.closed.words) };
 
     ghost invariant = { λ c. IsFull c.closed.words × IsFull c.closed.slots
-        × (c.messages + c.messages < length (slots_items c.closed.words)) };
+        × (cell_words c.messages < length (slots_items c.closed.words)) };
 }
 
 impl<T> ClosedBoard<T> {
@@ -33,8 +34,8 @@ impl<T> ClosedBoard<T> {
         requires { number < length self.now }
         ensures { result ≡ plain_cell self.now number }
     {
-        let full = self.closed.word(self.messages + number as usize + 1);
-        word_of(full, self.closed.word(number as usize + 1))
+        let full = self.closed.word(self.messages + full_word_of(number) + 1);
+        word_of(flag_of(number, full), self.closed.word(number as usize + 1))
     }
 }
 
@@ -53,7 +54,7 @@ impl<T: Drop> Drop for ClosedBoard<T> {
     }
 }
 
-// The word of a cell.
+// The word of a cell of this flag and this value.
 fn word_of(full: u64, value: u64) -> Option<u64>
     ensures { result ≡ word_as full value }
 {

@@ -4,6 +4,7 @@
 mod board;
 mod cells;
 mod closed;
+mod flags;
 mod plain;
 mod room;
 mod seat_at;

@@ -1,9 +1,10 @@
 //! What a board is made of.
 ghost use Rattle.std.specs.Prelude.{◌≡◌, ◌+◌, ◌*◌, ◌<◌, ◌≤◌, ◌^◌, [], ◌++◌, replicate, length, None, IfOk};
 ghost use Rattle.std.specs.Prelude.{vec_len, vec_capacity};
-ghost use Rattle.message_board.specs.Words.{apart, held, spaced};
+ghost use Rattle.message_board.specs.Words.{apart, cell_words, held, spaced};
 
 use crate::board::BoardSeat;
+use crate::flags::full_words_of;
 use std::alloc::{AllocError, Global};
 
 /// So many places of a table belong to each slot.
@@ -26,7 +27,7 @@ pub fn make_room<W, T: Drop>(
     requires { slots < 2 ^ 32 }
     ensures made { IfOk result (λ r. (r.made.items ≡ []) × (seats ≤ vec_capacity r.made)) }
     ensures start { IfOk result (λ r. r.start.items
-        ≡ replicate (messages + messages + 1) 0 ++ replicate (apart * slots) 1) }
+        ≡ replicate (cell_words messages + 1) 0 ++ replicate (apart * slots) 1) }
     ensures slots { IfOk result (λ r. (r.slots.items ≡ []) × (apart * slots ≤ vec_capacity r.slots)) }
 {
     let made = Vec::with_capacity(alloc, seats as usize)?;
@@ -38,10 +39,10 @@ pub fn make_room<W, T: Drop>(
 /// The words of a table at its start: empty cells, and each slot at home.
 pub fn start_words(alloc: Global, messages: u32, slots: usize) -> Result<Vec<u64>, AllocError>
     requires { slots < 2 ^ 32 }
-    ensures { IfOk result (λ v. v.items ≡ replicate (messages + messages + 1) 0 ++ replicate (apart * slots) 1) }
+    ensures { IfOk result (λ v. v.items ≡ replicate (cell_words messages + 1) 0 ++ replicate (apart * slots) 1) }
 {
     let mut words = Vec::new(alloc);
-    let cells = messages as usize + messages as usize + 1;
+    let cells = messages as usize + full_words_of(messages) + 1;
     words.resize(cells, 0u64)?;
     words.resize(cells + APART * slots, 1)?;
     Ok(words)

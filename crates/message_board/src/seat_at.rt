@@ -30,10 +30,12 @@ impl<'a, W: Promise, T: SlotItem<W>> Cells for SeatAt<'a, W, T> {
 
     ghost below = { λ c k. AllBelow k (W.list c.board.now.about.world) };
 
+    #[inline(always)]
     fn post(&mut self, number: u32, word: u64) -> Posted {
         self.board.post(self.seat, number, word)
     }
 
+    #[inline(always)]
     fn take(&mut self, number: u32) -> Option<u64> {
         self.board.take(self.seat, number)
     }

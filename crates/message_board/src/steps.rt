@@ -35,11 +35,13 @@ pub struct View<W> {
     pub seen: LinkedList<(u32, u64)>,
     // The numbers of the cells that its own posts filled.
     pub mine: LinkedList<u32>,
-    // The numbers of the words that it looked at and found 0.
+    // What it looked at in vain: by number the full words in which a flag was 0, and the slots that were out, whose
+    // numbers are counted on from the number of cells.
     pub looked: LinkedList<u32>,
-    // Within a post, the number whose value it has stored, and within a take, the one whose full word it found 1.
+    // Within a post, the number whose value it has stored.
     pub stored: LinkedList<u32>,
-    pub full: LinkedList<u32>,
+    // Within a take, the number of the full word that it loaded, and what it found there.
+    pub found: LinkedList<(u32, u64)>,
     // The slots that it holds, the last one taken first.
     pub out: LinkedList<u32>,
 }
@@ -66,7 +68,7 @@ impl<W: Promise, T: SlotItem<W>> Play<Option<T>, View<W>> for Stores<W, T> {
     ghost then = { stored_step W.list T.good T.posted };
 }
 
-/// The compare-and-exchange of a full word, which ends a post.
+/// The bit-or of a full word, which ends a post.
 pub struct Posts<W, T> {
     of: PhantomData<(W, T)>,
 }

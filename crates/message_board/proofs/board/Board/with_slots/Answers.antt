@@ -4,7 +4,7 @@ use Rattle.std.proofs.lemmas.List.{length-replicate}
 use Rattle.std.proofs.Math.Nat.{mul-div_cancel_left}
 use Rattle.atomic_table.specs.Table.{opening}
 use Rattle.message_board.specs.declared.steps.About.{About}
-use Rattle.message_board.specs.Words.{apart, held, spaced}
+use Rattle.message_board.specs.Words.{apart, cell_words, held, spaced}
 use Rattle.message_board.specs.Rule.{IsBoard, newcomer}
 use Rattle.message_board.proofs.SeatLists.{begins, held_all, spaced_length}
 use Rattle.message_board.proofs.board.Board.with_slots.Goals as goal
@@ -13,9 +13,9 @@ pub open-requires-clause-rule : goal.open-requires-clause-rule
 open-requires-clause-rule g c =
     let about : About g.row.W.Denot = record { world = c.args.words; seats = c.args.seats } in
     let n : c.len.result ≡ length c.args.items.items = search rules in
-    let start = c.in-Ok.ensures.start ∙ ap (λ k. replicate (c.args.messages + c.args.messages + 1) 0 ++ replicate (apart * k) 1) n in
+    let start = c.in-Ok.ensures.start ∙ ap (λ k. replicate (cell_words c.args.messages + 1) 0 ++ replicate (apart * k) 1) n in
     subst (λ l. IsBoard g.W.Promise.list g.T.SlotItem.good g.T.SlotItem.posted about (opening l c.fill-slots.result.items (newcomer about c.args.seats))) (sym start)
-    (subst (λ l. IsBoard g.W.Promise.list g.T.SlotItem.good g.T.SlotItem.posted about (opening (replicate (c.args.messages + c.args.messages + 1) 0 ++ replicate (apart * length c.args.items.items) 1) l (newcomer about c.args.seats))) (sym c.fill-slots.ensures.slots)
+    (subst (λ l. IsBoard g.W.Promise.list g.T.SlotItem.good g.T.SlotItem.posted about (opening (replicate (cell_words c.args.messages + 1) 0 ++ replicate (apart * length c.args.items.items) 1) l (newcomer about c.args.seats))) (sym c.fill-slots.ensures.slots)
     (begins g.W.Promise.list g.T.SlotItem.good g.T.SlotItem.posted about c.args.messages c.args.items.items c.requires.messages c.requires.items))
 
 pub returns-in-Err-clause-back : goal.returns-in-Err-clause-back
@@ -48,10 +48,10 @@ open-requires-clause-words g c =
     let m : vec_len c.fill-slots.result ≡ length c.fill-slots.result.items = search rules in
     let s : vec_len c.in-Ok.field-0.start ≡ length c.in-Ok.field-0.start.items = search rules in
     let all = places c.args.items.items c.fill-slots.result.items c.fill-slots.ensures.slots in
-    let empty : List ℕ = replicate (c.args.messages + c.args.messages + 1) 0 in
+    let empty : List ℕ = replicate (cell_words c.args.messages + 1) 0 in
     let home : List ℕ = replicate (apart * c.len.result) 1 in
     let start : length c.in-Ok.field-0.start.items ≡ length empty + length home = ap length c.in-Ok.ensures.start ∙ length-append empty home in
-    let e : length empty ≡ c.args.messages + c.args.messages + 1 = length-replicate (c.args.messages + c.args.messages + 1) 0 in
+    let e : length empty ≡ cell_words c.args.messages + 1 = length-replicate (cell_words c.args.messages + 1) 0 in
     let h : length home ≡ apart * c.len.result = length-replicate (apart * c.len.result) 1 in
     omega (arith, c.requires.messages)
 
