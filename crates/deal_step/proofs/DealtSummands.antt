@@ -1,8 +1,8 @@
 -- Summands that are written one by one, the last one last.
-use Rattle.std.proofs.Common.{◌≡◌, ℕ, suc, ◌+◌, ◌-◌, ◌%◌, ◌<◌, ◌++◌, List, All, length, nat_lt, set, get_or, sym, ap, ◌∙◌, subst, arith, get_or-set_other, get_or-set_same}
+use Rattle.std.proofs.Common.{◌≡◌, ℕ, suc, ◌+◌, ◌-◌, ◌%◌, ◌<◌, ◌++◌, List, All, length, nat_lt, set, get_or, take, drop, sym, ap, ◌∙◌, subst, arith, get_or-set_other, get_or-set_same}
 use Rattle.std.specs.Prelude.{slice_index}
 use Rattle.std.proofs.lemmas.Bool.{cond-true, cond-false, lt-ltb, le-ltb, cases_lt}
-use Rattle.std.proofs.lemmas.List.{length-append, length-set}
+use Rattle.std.proofs.lemmas.List.{length-append, length-set, length-drop, length-take-le, take-append-drop, get_or-take}
 use Rattle.std.proofs.lemmas.Grind.{get_or_default_zero}
 use Rattle.std.proofs.Math.ListN.{get_or-append}
 use Rattle.std.proofs.Math.Nat.{mod-eq_of_lt, mod-lt}
@@ -42,3 +42,25 @@ filled_dealt s value n x words front rest shares lf lr low high k l =
     (λ k l. low k l ∙ sym (cond-true (nat_lt (suc k) s.shares) _ _ (lt-ltb (suc k) s.shares (omega arith))))
     (high ∙ ap (λ z. difference s.modulus value (total z words)) (sym less) ∙ sym (cond-false (nat_lt (suc n) s.shares) _ _ (le-ltb (suc n) s.shares (omega arith))))
     k 0 (omega arith)
+
+-- three summands that are written one after another
+pub three_dealt : (s : Scheme) (value a b x : ℕ) (words : ℕ → ℕ) (out : List ℕ) → s.shares ≡ 3 → length out ≡ 3 → a ≡ words 0 → b ≡ words 1 → x ≡ difference s.modulus value (total 2 words)
+    → (k : ℕ) → k < s.shares → slice_index (set (set (set out 0 a) 1 b) 2 x) k ≡ dealt s value words k
+three_dealt s value a b x words out shares long first second last k l =
+    let both : List ℕ = set (set out 0 a) 1 b in
+    let still : length (set out 0 a) ≡ 3 = length-set out 0 a ∙ long in
+    let whole : length both ≡ 3 = length-set (set out 0 a) 1 b ∙ still in
+    let at_zero : slice_index both 0 ≡ words 0 = get_or-set_other (set out 0 a) 1 0 b 0 (omega arith) ∙ get_or-set_same out 0 a 0 (omega arith) ∙ first in
+    let at_one : slice_index both 1 ≡ words 1 = get_or-set_same (set out 0 a) 1 b 0 (omega arith) ∙ second in
+    let front : (j : ℕ) → j < 2 → slice_index (take 2 both) j ≡ words j =
+    λ j lj. get_or-take 2 both j 0 lj ∙ elim (cases_lt j 1) [
+      | inl none ↦
+          let is : 0 ≡ j = omega arith in
+          subst (λ j. slice_index both j ≡ words j) is at_zero
+      | inr past ↦
+          let is : 1 ≡ j = omega arith in
+          subst (λ j. slice_index both j ≡ words j) is at_one
+    ] in
+    subst (λ z. slice_index (set z 2 x) k ≡ dealt s value words k) (take-append-drop 2 both)
+    (filled_dealt s value 2 x words (take 2 both) (drop 2 both) shares
+    (length-take-le 2 both (omega arith)) (omega (arith, length-drop 2 both)) front last k l)

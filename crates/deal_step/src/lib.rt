@@ -20,6 +20,23 @@ pub fn deal(ring: Ring, value: u64, tape: &mut Tape, out: &mut [u64])
     ensures dealt { (s : Scheme) → s.modulus ≡ 2 ^ ring → s.shares ≡ length out.new → IsDealt s value tape.old out.new }
     ensures below { All (λ word. word < 2 ^ ring) out.new }
 {
+    if out.len() == 3 {
+        deal_three(ring, value, tape, out);
+    } else {
+        deal_each(ring, value, tape, out);
+    }
+}
+
+// The same, place by place.
+fn deal_each(ring: Ring, value: u64, tape: &mut Tape, out: &mut [u64])
+    requires value { value < 2 ^ ring }
+    requires words { All (λ word. word < 2 ^ ring) tape.old }
+    requires some { 0 < length out.old }
+    requires enough { length out.old - 1 ≤ length tape.old }
+    ensures tape { tape.new ≡ drop (length out.old - 1) tape.old }
+    ensures dealt { (s : Scheme) → s.modulus ≡ 2 ^ ring → s.shares ≡ length out.new → IsDealt s value tape.old out.new }
+    ensures below { All (λ word. word < 2 ^ ring) out.new }
+{
     let last = out.len() - 1;
     let mut sum = 0;
     for place in &mut out[..last] {
@@ -28,6 +45,26 @@ pub fn deal(ring: Ring, value: u64, tape: &mut Tape, out: &mut [u64])
         sum = ring.add(sum, word);
     }
     out[last] = ring.sub(value, sum);
+}
+
+// The same into three places, as with three parties of whom any two are trusted. A loop over so few costs more than the
+// words.
+#[inline(always)]
+fn deal_three(ring: Ring, value: u64, tape: &mut Tape, out: &mut [u64])
+    requires value { value < 2 ^ ring }
+    requires words { All (λ word. word < 2 ^ ring) tape.old }
+    requires three { length out.old ≡ 3 }
+    requires enough { 2 ≤ length tape.old }
+    ensures tape { tape.new ≡ drop 2 tape.old }
+    ensures dealt { (s : Scheme) → s.modulus ≡ 2 ^ ring → s.shares ≡ 3 → IsDealt s value tape.old out.new }
+    ensures below { All (λ word. word < 2 ^ ring) out.new }
+    ensures count { length out.new ≡ 3 }
+{
+    let first = next_word(ring, tape);
+    let second = next_word(ring, tape);
+    out[0] = first;
+    out[1] = second;
+    out[2] = ring.sub(value, ring.add(first, second));
 }
 
 // Draws the next word and spends it.

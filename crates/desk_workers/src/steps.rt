@@ -9,7 +9,7 @@ use desk_laws::step_in_world;
 use job_plan::Plan;
 use message_board::{Board, BoardSeat, SeatAt};
 use outer_io::Pace;
-use party_desk::{Desk, Stepped};
+use party_desk::{Desk, Run, Stepped};
 
 /// A worker that is about to step a desk: its number, and the desk's.
 #[derive(Clone, Copy)]
@@ -19,6 +19,7 @@ pub struct Turn {
 }
 
 // Steps the desk once.
+#[inline(always)]
 fn step_at(cells: &mut SeatAt<Promised, Box<Desk>>, plan: &Plan, desk: &mut Desk) -> Stepped
     requires pool { IsPool plan.now cells.old.board.now }
     requires seat { IsSeatOf cells.old.board.now cells.old.seat.now }
@@ -32,6 +33,7 @@ fn step_at(cells: &mut SeatAt<Promised, Box<Desk>>, plan: &Plan, desk: &mut Desk
     step_in_world(desk, plan, cells)
 }
 
+#[inline(always)]
 fn step_on(
     board: &Board<Promised, Box<Desk>>,
     plan: &Plan,
@@ -50,6 +52,7 @@ fn step_on(
 }
 
 // Steps the desk once, if it is not at its end, and answers whether it moved.
+#[inline(always)]
 fn goes_on<P: Pace>(
     board: &Board<Promised, Box<Desk>>,
     plan: &Plan,
@@ -78,6 +81,75 @@ fn is_move(stepped: Stepped) -> bool
     matches!(stepped, Stepped::Moved)
 }
 
+// Steps the desk once, if its next instruction is of this run, and answers whether it moved.
+#[inline(always)]
+fn goes_on_in<P: Pace>(
+    board: &Board<Promised, Box<Desk>>,
+    plan: &Plan,
+    pace: &P,
+    turn: Turn,
+    run: Run,
+    seat: &mut BoardSeat<Promised, Box<Desk>>,
+    desk: &mut Desk,
+) -> bool
+    requires pool { IsPool plan.now board.now }
+    requires seat { IsSeatOf board.now seat.old }
+    requires desk { IsDeskOf board.now seat.old desk.old }
+    ensures seat { IsSeatOf board.now seat.new }
+    ensures leads { LeadsOn board.now seat.old desk.old seat.new desk.new (if result then 1 else 0) }
+{
+    desk.is_in(plan, run) && goes_on(board, plan, pace, turn, seat, desk)
+}
+
+// Steps the desk as long as its instructions are of this run and it moves, and answers how often it did. Each run has a
+// loop of its own, in which the compiler knows the kind of the next instruction.
+#[inline(always)]
+fn go_through<P: Pace>(
+    board: &Board<Promised, Box<Desk>>,
+    plan: &Plan,
+    pace: &P,
+    turn: Turn,
+    run: Run,
+    seat: &mut BoardSeat<Promised, Box<Desk>>,
+    desk: &mut Desk,
+) -> u64
+    requires pool { IsPool plan.now board.now }
+    requires seat { IsSeatOf board.now seat.old }
+    requires desk { IsDeskOf board.now seat.old desk.old }
+    ensures seat { IsSeatOf board.now seat.new }
+    ensures leads { LeadsOn board.now seat.old desk.old seat.new desk.new result }
+{
+    let mut moves = 0;
+    while goes_on_in(board, plan, pace, turn, run, seat, desk) {
+        moves += 1;
+    }
+    moves
+}
+
+// The same for each run, in the order in which they stand at a product and after it.
+#[inline(always)]
+fn go_through_each<P: Pace>(
+    board: &Board<Promised, Box<Desk>>,
+    plan: &Plan,
+    pace: &P,
+    turn: Turn,
+    seat: &mut BoardSeat<Promised, Box<Desk>>,
+    desk: &mut Desk,
+) -> u64
+    requires pool { IsPool plan.now board.now }
+    requires seat { IsSeatOf board.now seat.old }
+    requires desk { IsDeskOf board.now seat.old desk.old }
+    ensures seat { IsSeatOf board.now seat.new }
+    ensures leads { LeadsOn board.now seat.old desk.old seat.new desk.new result }
+{
+    let deals = go_through(board, plan, pace, turn, Run::Deals, seat, desk);
+    let posts = go_through(board, plan, pace, turn, Run::Posts, seat, desk);
+    let takes = go_through(board, plan, pace, turn, Run::Takes, seat, desk);
+    let sums = go_through(board, plan, pace, turn, Run::Sums, seat, desk);
+    let gates = go_through(board, plan, pace, turn, Run::Gates, seat, desk);
+    deals + posts + takes + sums + gates
+}
+
 /// Steps the desk as long as it moves, and answers how often it did.
 pub fn walk<P: Pace>(
     board: &Board<Promised, Box<Desk>>,
@@ -97,7 +169,7 @@ pub fn walk<P: Pace>(
 {
     let mut moves = 0;
     while goes_on(board, plan, pace, turn, seat, desk) {
-        moves += 1;
+        moves += 1 + go_through_each(board, plan, pace, turn, seat, desk);
     }
     moves
 }

@@ -1,12 +1,12 @@
 //! The folder of a job.
 use job_file::{Job, read_job};
 use outer_io::{Files, MapFiles, StdFiles};
+use pipe_networks::meeting;
 use std::alloc::{AllocError, Global};
 use std::collections::BTreeMap;
 use std::rt;
 use std::test::Fail;
 use toml_fields::{document, texts_at};
-use pipe_networks::meeting;
 use worked_runs::MOST_BYTES;
 
 /// The files of a folder by their names.
@@ -41,7 +41,7 @@ fn party_file(alloc: Global, name: &str) -> Result<String, AllocError> {
 fn circuit_names(alloc: Global, job: &Job) -> Result<Vec<String>, AllocError> {
     let mut names = Vec::new(alloc);
     for session in &job.sessions {
-        names.push(String::from_str(alloc, &session.circuit)?)?;
+        names.push(String::from_str(alloc, session.circuit.as_str())?)?;
     }
     Ok(names)
 }
@@ -129,8 +129,10 @@ impl<'f> Folder<'f> {
     /// The texts of the inputs of the party of this name, one for each session.
     pub fn inputs_of(&self, alloc: Global, name: &str) -> Result<Vec<String>, Fail> {
         let file = party_file(alloc, name)?;
-        let table = document(alloc, self.bytes(&file)?)?
-            .ok_or_else(|| fault(self.path, "a party's file is no TOML"))?;
+        let table = document(alloc, self.bytes(&file)?)?.ok_or_else(|| fault(
+            self.path,
+            "a party's file is no TOML",
+        ))?;
         Ok(texts_at(alloc, &table, "inputs")?)
     }
 }

@@ -7,13 +7,13 @@ mod inputs;
 
 use crate::folder::Folder;
 use crate::inputs::inputs;
+use pipe_networks::{Network, SMALL_PIPES, check_written, make_network, run_all};
 use std::alloc::Global;
 use std::env;
 use std::rt::Files;
 use std::sync::Wait;
 use std::test::Fail;
 use std::thread::Threads;
-use pipe_networks::{Network, SMALL_PIPES, check_written, make_network, run_all};
 use worked_runs::out_in_the_clear;
 
 /// What the circuits of the job come to in the clear.

@@ -1,6 +1,8 @@
 //! Jobs of three parties, of which one has another job, or can't send to another, or is heard wrong.
-use pipe_networks::{Ended, Flaw, FlawedPipe, Network, Pipes, SMALL_PIPES, make_network, run_all};
-use pipe_networks::{changed_job, files_of_nodes, meeting, with_meeting};
+use pipe_networks::{
+    Ended, Flaw, FlawedPipe, Network, Pipes, SMALL_PIPES, changed_job, files_of_nodes,
+    make_network, meeting, run_all, with_meeting,
+};
 use std::alloc::Global;
 use std::process::Abort;
 use std::sync::Wait;

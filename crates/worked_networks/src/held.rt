@@ -1,6 +1,7 @@
 //! A node that hears nothing of its first peer before the second one has said all.
-use pipe_networks::{Gate, Network, Pipes, make_network, run_all};
-use pipe_networks::{changed_job, check_written, files_of_nodes};
+use pipe_networks::{
+    Gate, Network, Pipes, changed_job, check_written, files_of_nodes, make_network, run_all,
+};
 use std::alloc::Global;
 use std::sync::Arc;
 use std::sync::atomic::AtomicBool;

@@ -1,5 +1,7 @@
 //! The accepted jobs, each run by the nodes of all its parties.
-use pipe_networks::{SMALL_PIPES, changed_job, check_written, files_of_nodes, make_network, run_all};
+use pipe_networks::{
+    SMALL_PIPES, changed_job, check_written, files_of_nodes, make_network, run_all,
+};
 use std::alloc::Global;
 use std::process::Abort;
 use std::sync::Wait;

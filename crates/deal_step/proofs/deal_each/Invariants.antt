@@ -1,7 +1,7 @@
 use Rattle.std.proofs.Common.{◌≡◌, ℕ, ◌%◌, ◌^◌, ◌<◌, All, drop}
 use Rattle.std.specs.Prelude.{slice_index}
 use Rattle.list_laws.specs.Lists.{total}
-use Rattle.deal_step.proofs.deal.Given as goal
+use Rattle.deal_step.proofs.deal_each.Given as goal
 
 -- the places so far have the words so far
 abbrev pub invariant-loop-place : goal.invariant-loop-place

@@ -6,7 +6,7 @@ use Rattle.list_laws.specs.Lists.{total}
 use Rattle.mpc_ring.specs.Differences.{difference}
 use Rattle.mpc_ring.proofs.Totals.{total_step_alone}
 use Rattle.deal_step.proofs.DealtSummands.{missing, filled_below, filled_dealt}
-use Rattle.deal_step.proofs.deal.Goals as goal
+use Rattle.deal_step.proofs.deal_each.Goals as goal
 
 pub loop-place-preserved : goal.loop-place-preserved
 loop-place-preserved c =
