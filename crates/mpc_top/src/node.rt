@@ -80,11 +80,26 @@ where
         digest,
     } = job;
     let PartyData { inputs, tapes } = given;
-    let ready = NodeReady::make(alloc, &plan, me, &inputs, tapes, &digest)?;
+    // What is done with is let go by calls, each of which is one step of the proof.
+    let ready = match NodeReady::make(alloc, &plan, me, &inputs, tapes, &digest) {
+        Ok(ready) => ready,
+        Err(_) => {
+            drop((inputs, plan, hosts, names));
+            return Err(Stop::Memory);
+        }
+    };
     let links = match net.links(alloc, &hosts, port, me, plan.parties()) {
         Ok(links) => links,
-        Err(NetRefusal::Failed) => return Err(Stop::Net),
-        Err(NetRefusal::Memory) => return Err(Stop::Memory),
+        Err(NetRefusal::Failed) => {
+            drop((ready, inputs, plan, hosts, names));
+            return Err(Stop::Net);
+        }
+        Err(NetRefusal::Memory) => {
+            drop((ready, inputs, plan, hosts, names));
+            return Err(Stop::Memory);
+        }
     };
-    talk(rt, out, net, spawner, &plan, me, names, ready, links)
+    let result = talk(rt, out, net, spawner, &plan, me, names, ready, links);
+    drop((inputs, plan, hosts));
+    result
 }

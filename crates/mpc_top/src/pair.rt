@@ -1,5 +1,5 @@
 //! Two runs of a job, the second with other inputs.
-ghost use Rattle.std.specs.Prelude.{◌≡◌, true, Some, IfOk, length, map};
+ghost use Rattle.std.specs.Prelude.{◌≡◌, true, ℕ, List, Some, Ok, IfOk, IfSome, length, map};
 ghost use Rattle.std.specs.Option.{is_some};
 ghost use Rattle.party_file.specs.Forms.{form_of};
 ghost use Rattle.job_plan.specs.InputWords.{AreInputs};
@@ -12,7 +12,9 @@ ghost use Rattle.tape_map.specs.declared.fault.MapFault.TheVariants as map;
 ghost use Rattle.refusal_text.specs.Lines.{pair_line};
 ghost use Rattle.job_walk.specs.Verdict.{Ends, refused};
 ghost use Rattle.mpc_top.specs.WholeJobs.{PairedJob, hidden_of, paired_job, whole_job};
-ghost use Rattle.job_walk.specs.Reads.{WalksAs, StopsBy};
+ghost use Rattle.outer_io.specs.Files.{FilesReading};
+ghost use Rattle.job_walk.specs.JobOf.{PlanAt};
+ghost use Rattle.job_walk.specs.Reads.{ReadsAs, WalksAs, StopsBy};
 ghost use Rattle.job_walk.specs.Seen.{planned_view};
 ghost use Rattle.mpc_top.specs.Seen.{parties_view};
 ghost use Rattle.mpc_top.specs.Stops.{RunsAlone};
@@ -46,11 +48,36 @@ pub(crate) fn run_pair<F: Files, O: Sink, P: Pace, R: Threads + Sync>(
         (O.reading out.old) (O.reading out.new) result }
 {
     let planned = read_planned(alloc, files, dir, Some(group))?;
-    let group = group_of(&planned);
+    let result = run_planned(rt, alloc, files, out, pace, dir, &planned);
+    // By a call, which is one step of the proof.
+    drop(planned);
+    result
+}
+
+// Runs a job that was read, with a group that was asked for, and again with the other inputs.
+fn run_planned<F: Files, O: Sink, P: Pace, R: Threads + Sync>(
+    rt: &R,
+    alloc: Global,
+    files: &mut F,
+    out: &mut O,
+    pace: &P,
+    dir: &str,
+    planned: &Planned,
+) -> Result<(), Stop>
+    requires names { length planned.now.names ≡ planned.now.plan.parties }
+    requires groups { planned.now.groups ≡ structure planned.now.plan }
+    requires asked { is_some planned.now.group ≡ true }
+    requires group { IfSome planned.now.group (λ group. group.parties ≡ length planned.now.names) }
+    ensures { (group : List ℕ) (before : FilesReading)
+        → ReadsAs planned_view (λ contents. PlanAt contents dir.now (Some group)) before (F.reading files.old)
+        (Ok planned.now)
+        → RunsAlone (Some (pair dir.now group)) before (F.reading files.new) (O.reading out.old) (O.reading out.new) result }
+{
+    let group = group_of(planned);
     let parties = read_parties(alloc, files, dir, &planned.names, &planned.plan)?;
     let inputs = inputs_of(alloc, &planned.plan, &parties)?;
     let other = read_other_inputs(alloc, files, dir, &planned.names, &planned.plan, &inputs)?;
-    let pair = hidden_pair(alloc, &planned, group, parties, &other)?;
+    let pair = hidden_pair(alloc, planned, group, parties, &other)?;
     let Pair {
         first,
         second,

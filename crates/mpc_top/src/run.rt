@@ -1,8 +1,11 @@
 //! The commands.
-ghost use Rattle.std.specs.Prelude.{Some, ◌<◌, ◌≤◌};
+ghost use Rattle.std.specs.Prelude.{◌≡◌, ℕ, List, length, Option, Some, Ok, IfSome, ◌<◌, ◌≤◌};
+ghost use Rattle.outer_io.specs.Files.{FilesReading};
 ghost use Rattle.outer_io.specs.Sink.{SinkReading};
 ghost use Rattle.command_words.specs.Commands.{form_of, run, check, IsInRange};
-ghost use Rattle.job_walk.specs.Seen.{text_view};
+ghost use Rattle.job_walk.specs.JobOf.{PlanAt};
+ghost use Rattle.job_walk.specs.Reads.{ReadsAs};
+ghost use Rattle.job_walk.specs.Seen.{text_view, planned_view};
 ghost use Rattle.mpc_top.specs.Outside.{outside_of};
 ghost use Rattle.mpc_top.specs.Stops.{Runs, RunsAlone};
 
@@ -12,7 +15,7 @@ use crate::parties::read_parties;
 use crate::sample::run_sample;
 use command_words::Command;
 use job_run::prepared;
-use job_walk::{Stop, read_planned};
+use job_walk::{Planned, Stop, read_planned};
 use link_reader::LinkReader;
 use outer_io::{Files, Net, Pace, Sink, Spawner};
 use output_text::{write_check, write_run};
@@ -73,6 +76,31 @@ fn run_job<F: Files, O: Sink, P: Pace, R: Threads + Sync>(
         (O.reading out.old) (O.reading out.new) result }
 {
     let planned = read_planned(alloc, files, dir, view)?;
+    let result = run_planned(rt, alloc, files, out, pace, dir, workers, &planned);
+    // By a call, which is one step of the proof.
+    drop(planned);
+    result
+}
+
+// Runs a job that was read, by so many workers.
+fn run_planned<F: Files, O: Sink, P: Pace, R: Threads + Sync>(
+    rt: &R,
+    alloc: Global,
+    files: &mut F,
+    out: &mut O,
+    pace: &P,
+    dir: &str,
+    workers: u32,
+    planned: &Planned,
+) -> Result<(), Stop>
+    requires workers { (0 < workers) × (workers ≤ 16) }
+    requires names { length planned.now.names ≡ planned.now.plan.parties }
+    requires group { IfSome planned.now.group (λ group. group.parties ≡ length planned.now.names) }
+    ensures { (view : Option (List ℕ)) (before : FilesReading)
+        → ReadsAs planned_view (λ contents. PlanAt contents dir.now view) before (F.reading files.old) (Ok planned.now)
+        → RunsAlone (Some (run dir.now workers view)) before (F.reading files.new)
+        (O.reading out.old) (O.reading out.new) result }
+{
     let parties = read_parties(alloc, files, dir, &planned.names, &planned.plan)?;
     let ready = prepared(alloc, &planned.plan, parties, workers)?;
     let done = ready.run(rt, &planned.plan, pace);
@@ -90,5 +118,8 @@ fn check_job<F: Files, O: Sink>(
         (O.reading out.old) (O.reading out.new) result }
 {
     let planned = read_planned(alloc, files, dir, None)?;
-    Ok(write_check(out, &planned.names, &planned.groups, &planned.plan)?)
+    let written = write_check(out, &planned.names, &planned.groups, &planned.plan);
+    // By a call, which is one step of the proof.
+    drop(planned);
+    Ok(written?)
 }

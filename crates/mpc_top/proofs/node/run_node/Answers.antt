@@ -1,4 +1,4 @@
-use Rattle.std.proofs.Common.{◌-◌, Err, refl, ap}
+use Rattle.std.proofs.Common.{Err, refl, ap}
 use Rattle.outer_io.specs.Links.{links_reading}
 use Rattle.command_words.specs.Commands.{node}
 use Rattle.mpc_top.proofs.NodeRuns.{as_talk, node_stops, memory_is_no_fault, meets_nobody, meets_no_memory, talked, ready_share}
@@ -10,9 +10,9 @@ returns-in_err-job g c = λ err err'.
     runs_stop (node c.args.dir.now c.args.name.now) _ _ _ _ as_talk _ _ c.from_residual.ensures.1 refl
     (node_stops c.args.dir.now c.args.name.now _ _ _ c.in_err-job.ensures.reads) err err' _ _
 
-pub returns-in_err-ready : goal.returns-in_err-ready
-returns-in_err-ready g c = λ err err'.
-    runs_memory (node c.args.dir.now c.args.name.now) _ _ _ _ _ c.from_residual-in_err-ready.ensures.1 refl c.in_ok-job.ensures.reads.quiet c.in_ok-job.ensures.reads.keeps err err' _ _
+pub returns-in-Err : goal.returns-in-Err
+returns-in-Err g c = λ err err'.
+    runs_memory (node c.args.dir.now c.args.name.now) _ _ _ _ _ refl refl c.in_ok-job.ensures.reads.quiet c.in_ok-job.ensures.reads.keeps err err' _ _
 
 pub returns-in-Err-Failed : goal.returns-in-Err-Failed
 returns-in-Err-Failed g c = λ err err'.
@@ -27,4 +27,4 @@ returns-in-Err-Memory g c = λ err err'.
 pub returns : goal.returns
 returns g c = λ err err'.
     talked c.args.dir.now c.args.name.now _ _ c.in_ok-job.job c.in_ok-job.ensures.reads err err' _ c.parties.ensures.is
-    (links_reading g.N.In.Inlet.reading g.N.Out.Outlet.reading) _ _ _ _ _ _ c.in-Ok.ensures _ _ _ (ready_share c.in_ok-job.job _ _ c.in_ok-ready.ensures c.deref.ensures.value) _ c.talk.ensures
+    (links_reading g.N.In.Inlet.reading g.N.Out.Outlet.reading) _ _ _ _ _ _ c.in-Ok-links.ensures _ _ _ (ready_share c.in_ok-job.job _ _ c.in-Ok.ensures c.deref.ensures.value) _ c.talk-result.ensures

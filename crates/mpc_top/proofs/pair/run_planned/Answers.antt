@@ -1,0 +1,115 @@
+use Rattle.std.proofs.Common.{◌≡◌, ℕ, List, Option, Some, Result, Ok, refl, sym, ap, subst, ◌∙◌, length, map}
+use Rattle.std.specs.Prelude.{IfSome}
+use Rattle.std.proofs.lemmas.List.{length-map}
+use Rattle.std.specs.Global.{Vec}
+use Rattle.outer_io.specs.Sink.{SinkReading, Writes}
+use Rattle.outer_io.specs.declared.sink.Failed.{Failed}
+use Rattle.party_set.specs.Parties.{Members}
+use Rattle.party_file.specs.Forms.{form_of}
+use Rattle.party_file.specs.declared.data.PartyData.{PartyData}
+use Rattle.job_plan.specs.Plans.{Plan}
+use Rattle.job_run.specs.Parties.{AllFit}
+use Rattle.job_plan.specs.InputWords.{session_words}
+use Rattle.share_world.specs.Worlds.{World}
+use Rattle.job_run.specs.Parties.{world_of}
+use Rattle.tape_map.specs.TapeMaps.{second_world}
+use Rattle.tape_map.specs.Laws.{CanHide}
+use Rattle.command_words.specs.Commands.{pair}
+use Rattle.output_text.specs.PairText.{pair_text}
+use Rattle.mpc_top.specs.WholeJobs.{mask_of}
+use Rattle.mpc_top.specs.Seen.{parties_view}
+use Rattle.job_walk.proofs.Steps.{keeps_then}
+use Rattle.mpc_top.proofs.Runs.{as_text, runs_stop, runs_memory, runs_written, runs_cut}
+use Rattle.mpc_top.proofs.Pairs.{parties_stop, other_stops, hiding_stops, pair_read, text_read, pair_hides}
+use Rattle.mpc_top.proofs.pair.run_planned.Goals as goal
+
+-- the text of a pair for the mask of the group that was asked for
+same_text : (names : List (List ℕ)) (w : World) (other : List (List (List ℕ))) (asked mask : ℕ) (before after : SinkReading) (result : Result Unit Failed) → asked ≡ mask
+    → Writes (pair_text names w (second_world w other mask) mask) before after result → Writes (pair_text names w (second_world w other asked) asked) before after result
+same_text names w other asked mask before after result same text = subst (λ k. Writes (pair_text names w (second_world w other k) k) before after result) (sym same) text
+
+-- the inputs of a copy of the parties are those of the parties
+same_given : (plan : Plan) (seen parties : List PartyData) (inputs : List (List (List ℕ))) → seen ≡ parties → inputs ≡ (world_of plan (map form_of seen)).inputs → inputs ≡ (world_of plan (map form_of parties)).inputs
+same_given plan seen parties inputs same is = subst (λ (ps : List PartyData). inputs ≡ (world_of plan (map form_of ps)).inputs) same is
+
+-- what is known of the group that was asked for
+of_group : (asked : Option Members) (group : Members) (parties : ℕ) → asked ≡ Some group → IfSome asked (λ g. g.parties ≡ parties) → group.parties ≡ parties
+of_group asked group parties is there = subst (λ o. IfSome o (λ g. g.parties ≡ parties)) is there
+
+pub returns-in_err-parties : goal.returns-in_err-parties
+returns-in_err-parties g c = λ group before read.
+    runs_stop (pair c.args.dir.now group) _ _ _ _ as_text _ _ c.from_residual.ensures.1 refl
+    (parties_stop c.args.dir.now group c.args.planned.now _ _ read _ _ c.in_err-parties.ensures.reads)
+
+pub inputs_of-requires-clause-fit : goal.inputs_of-requires-clause-fit
+inputs_of-requires-clause-fit g c = subst (AllFit c.args.planned.now.plan) (sym c.deref.ensures.value) c.in_ok-parties.ensures.fit
+
+pub returns-in_err-inputs : goal.returns-in_err-inputs
+returns-in_err-inputs g c = λ group before read.
+    runs_memory (pair c.args.dir.now group) _ _ _ _ _ c.from_residual-in_err-inputs.ensures.1 refl (c.in_ok-parties.ensures.reads.quiet ∙ read.quiet)
+    (keeps_then _ _ _ read.keeps c.in_ok-parties.ensures.reads.keeps)
+
+pub returns-in_err-other : goal.returns-in_err-other
+returns-in_err-other g c = λ group before read.
+    runs_stop (pair c.args.dir.now group) _ _ _ _ as_text _ _ c.from_residual-in_err-other.ensures.1 refl
+    (other_stops c.args.dir.now group c.args.planned.now _ _ read _ c.in_ok-parties.parties c.in_ok-parties.ensures.reads
+    _ (same_given c.args.planned.now.plan _ _ _ c.deref.ensures.value c.in_ok-inputs.ensures.same) _ _ c.in_err-other.ensures.reads)
+
+pub hidden_pair-requires-clause-group : goal.hidden_pair-requires-clause-group
+hidden_pair-requires-clause-group g c = of_group _ _ _ c.group_of-group.ensures c.requires.group ∙ c.requires.names
+
+pub returns-in_err-pair : goal.returns-in_err-pair
+returns-in_err-pair g c = λ group before read.
+    runs_stop (pair c.args.dir.now group) _ _ _ _ as_text _ _ c.from_residual-in_err-pair.ensures.1 refl
+    (hiding_stops c.args.dir.now group c.args.planned.now _ _ read _ c.in_ok-parties.parties c.in_ok-parties.ensures.reads
+    _ (same_given c.args.planned.now.plan _ _ _ c.deref.ensures.value c.in_ok-inputs.ensures.same) _ c.in_ok-other.other c.in_ok-other.ensures.reads _ c.in_err-pair.ensures.walks)
+
+pub write_pair-requires-clause-group : goal.write_pair-requires-clause-group
+write_pair-requires-clause-group g c = of_group _ _ _ c.group_of-group.ensures c.requires.group
+
+pub write_pair-requires-clause-first : goal.write_pair-requires-clause-first
+write_pair-requires-clause-first g c =
+    let w = world_of c.args.planned.now.plan (parties_view c.in_ok-parties.parties) in
+    (w, refl, c.run-first.ensures w refl c.in_ok-pair.ensures.pair.first)
+
+pub write_pair-requires-clause-second : goal.write_pair-requires-clause-second
+write_pair-requires-clause-second g c =
+    let w = world_of c.args.planned.now.plan (parties_view c.in_ok-parties.parties) in
+    let v = second_world w c.in_ok-other.other c.group_of-group.result.mask in
+    (v, refl, c.run-second.ensures v refl c.in_ok-pair.ensures.pair.second)
+
+pub write_pair-requires-clause-tapes : goal.write_pair-requires-clause-tapes
+write_pair-requires-clause-tapes g c =
+    let made = c.in_ok-pair.ensures.pair in
+    ap length c.deref-2.ensures.value ∙ sym (length-map c.in_ok-pair.pair.tapes.items (λ (t : Vec ℕ). t.items)) ∙ ap length made.tapes ∙ made.second.whole.tapes.parties ∙ sym c.requires.names
+
+pub returns-in_err-write_pair : goal.returns-in_err-write_pair
+returns-in_err-write_pair g c = λ group before read.
+    let planned = c.args.planned.now in
+    let parties = c.in_ok-parties.parties in
+    let other = c.in_ok-other.other in
+    let w = world_of planned.plan (parties_view parties) in
+    let made = c.in_ok-pair.ensures.pair in
+    let v = second_world w other c.group_of-group.result.mask in
+    let written = c.in_err-write_pair.ensures w refl (c.run-first.ensures w refl made.first) v refl (c.run-second.ensures v refl made.second) (ap session_words c.deref-2.ensures.value ∙ made.tapes) in
+    let same : mask_of planned.group ≡ c.group_of-group.result.mask = ap mask_of c.group_of-group.ensures in
+    runs_cut (pair c.args.dir.now group) _ _ _ _ _ _ _ c.from_residual-in_err-write_pair.ensures.1
+    (text_read c.args.dir.now group planned _ _ read _ parties c.in_ok-parties.ensures.reads _ (same_given c.args.planned.now.plan _ _ _ c.deref.ensures.value c.in_ok-inputs.ensures.same) _ other c.in_ok-other.ensures.reads _ c.in_ok-pair.ensures.walks)
+    (same_text planned.names w other _ _ _ _ _ same written)
+
+pub returns : goal.returns
+returns g c = λ group before read.
+    let planned = c.args.planned.now in
+    let parties = c.in_ok-parties.parties in
+    let other = c.in_ok-other.other in
+    let w = world_of planned.plan (parties_view parties) in
+    let made = c.in_ok-pair.ensures.pair in
+    let v = second_world w other c.group_of-group.result.mask in
+    let written = c.in_ok-write_pair.ensures w refl (c.run-first.ensures w refl made.first) v refl (c.run-second.ensures v refl made.second) (ap session_words c.deref-2.ensures.value ∙ made.tapes) in
+    let same : mask_of planned.group ≡ c.group_of-group.result.mask = ap mask_of c.group_of-group.ensures in
+    let Written = λ (text : List ℕ). Writes text (g.O.Sink.reading c.args.out.now) (g.O.Sink.reading c.write_pair.new.sink) (Ok tt) in
+    let text = subst (λ k. Written (pair_text planned.names w (second_world w other k) k)) (sym same) written in
+    let text_is = text_read c.args.dir.now group planned _ _ read _ parties c.in_ok-parties.ensures.reads _ (same_given c.args.planned.now.plan _ _ _ c.deref.ensures.value c.in_ok-inputs.ensures.same) _ other c.in_ok-other.ensures.reads _ c.in_ok-pair.ensures.walks in
+    let paired = pair_read c.args.dir.now group planned _ _ read _ parties c.in_ok-parties.ensures.reads _ (same_given c.args.planned.now.plan _ _ _ c.deref.ensures.value c.in_ok-inputs.ensures.same) _ other c.in_ok-other.ensures.reads _ c.in_ok-pair.ensures.walks in
+    runs_written (pair c.args.dir.now group) _ _ _ _ _ _ text_is text
+    (pair_hides Written c.args.dir.now group _ _ _ _ paired (subst (CanHide w other) (sym same) made.hides) text)

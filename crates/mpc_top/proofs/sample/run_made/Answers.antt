@@ -1,0 +1,59 @@
+use Rattle.std.proofs.Common.{◌≡◌, ℕ, ◌<◌, List, Result, Ok, refl, sym, ap, ap₂, ◌∙◌, subst, length, arith}
+use Rattle.outer_io.specs.Files.{FilesReading}
+use Rattle.outer_io.specs.Sink.{SinkReading, Writes}
+use Rattle.outer_io.specs.declared.sink.Failed.{Failed}
+use Rattle.job_plan.specs.Plans.{Plan}
+use Rattle.share_world.specs.Worlds.{World}
+use Rattle.desk_laws.specs.Pieces.{world_of_pieces}
+use Rattle.command_words.specs.Commands.{sample}
+use Rattle.output_text.specs.SampleText.{sample_text}
+use Rattle.sample_maker.specs.Samples.{sample_names, sample_plan, sample_inputs, sample_pieces, sample_job}
+use Rattle.mpc_top.specs.Due.{DueOf}
+use Rattle.job_walk.specs.Reads.{ReadsAs}
+use Rattle.job_walk.proofs.Steps.{keeps_now, reads_end}
+use Rattle.mpc_top.proofs.Runs.{as_text, runs_memory, runs_written, runs_cut}
+use Rattle.mpc_top.proofs.sample.run_made.Goals as goal
+
+-- a sample reads no file
+due : (count : ℕ) (now : FilesReading) → ReadsAs as_text (DueOf (sample count)) now now (Ok (sample_text sample_names (sample_job count) count))
+unfolding DueOf
+due count now = reads_end as_text now (sample_text sample_names (sample_job count) count)
+
+-- what was made is the job of the number
+is_job : (count : ℕ) (plan : Plan) (inputs : List (List (List ℕ))) (pieces : List (List ℕ)) → plan ≡ sample_plan count → inputs ≡ sample_inputs count → pieces ≡ sample_pieces count
+    → world_of_pieces plan inputs pieces ≡ sample_job count
+is_job count plan inputs pieces p i t = ap₂ (λ plan inputs. world_of_pieces plan inputs pieces) p i ∙ ap (world_of_pieces (sample_plan count) (sample_inputs count)) t
+
+-- and so is its text
+due_text : (count : ℕ) (names : List (List ℕ)) (w : World) (before after : SinkReading) (result : Result Unit Failed) → names ≡ sample_names → w ≡ sample_job count
+    → Writes (sample_text names w count) before after result → Writes (sample_text sample_names (sample_job count) count) before after result
+due_text count names w before after result n same text = subst (λ t. Writes t before after result) (ap₂ (λ ns v. sample_text ns v count) n same) text
+
+pub returns-in_err-ready : goal.returns-in_err-ready
+returns-in_err-ready g c = λ files. runs_memory (sample c.args.count) _ _ _ _ _ c.from_residual.ensures.1 refl refl (keeps_now _)
+
+pub write_sample-requires-clause-names : goal.write_sample-requires-clause-names
+write_sample-requires-clause-names g c = ap length c.requires.names ∙ sym (ap (λ (p : Plan). p.parties) c.requires.plan)
+
+pub write_sample-requires-clause-session : goal.write_sample-requires-clause-session
+write_sample-requires-clause-session g c = subst (λ (p : Plan). 0 < length p.sessions) (sym c.requires.plan) (omega arith)
+
+pub write_sample-requires-clause-over : goal.write_sample-requires-clause-over
+write_sample-requires-clause-over g c =
+    let w = world_of_pieces c.args.plan.now c.args.inputs.now c.args.tapes.items in
+    (w, refl, c.run-done.ensures w refl c.in_ok-ready.ensures.ready)
+
+pub returns-in_err-write_sample : goal.returns-in_err-write_sample
+returns-in_err-write_sample g c = λ files.
+    let w = world_of_pieces c.args.plan.now c.args.inputs.now c.args.tapes.items in
+    let same = is_job c.args.count c.args.plan.now c.args.inputs.now c.args.tapes.items c.requires.plan c.requires.inputs c.requires.tapes in
+    runs_cut (sample c.args.count) _ _ _ _ _ _ _ c.from_residual-in_err-write_sample.ensures.1 (due c.args.count _)
+    (due_text c.args.count _ w _ _ _ c.requires.names same (c.in_err-write_sample.ensures w refl (c.run-done.ensures w refl c.in_ok-ready.ensures.ready)))
+
+pub returns : goal.returns
+returns g c = λ files.
+    let w = world_of_pieces c.args.plan.now c.args.inputs.now c.args.tapes.items in
+    let same = is_job c.args.count c.args.plan.now c.args.inputs.now c.args.tapes.items c.requires.plan c.requires.inputs c.requires.tapes in
+    runs_written (sample c.args.count) _ _ _ _ _ _ (due c.args.count _)
+    (due_text c.args.count _ w _ _ _ c.requires.names same (c.in_ok-write_sample.ensures w refl (c.run-done.ensures w refl c.in_ok-ready.ensures.ready)))
+    tt
