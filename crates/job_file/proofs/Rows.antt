@@ -24,14 +24,20 @@ last_rows fields = option_or (hosts_fault fields) (option_or (port_fault fields)
 abbrev pub session_rows : Members → Option JobFault
 session_rows fields = option_or (sessions_fault (texts Parties fields) 0 (tables Session fields)) (last_rows fields)
 
+pub at_parties : (node : Bool) (fields : Members)
+    → first_fault (version_fault fields ∷ unknown_fault None (top_fields (adversary_field fields)) fields ∷ fields_fault node fields ∷ ring_fault fields ∷ []) ≡ None
+    → job_fault node fields ≡ option_or (parties_fault fields) (option_or (adversary_fault fields) (option_or (count_fault (length (items Session fields))) (session_rows fields)))
+unfolding job_fault
+at_parties node fields head =
+    head_none (version_fault fields) (unknown_fault None (top_fields (adversary_field fields)) fields) (fields_fault node fields) (ring_fault fields)
+    (option_or (parties_fault fields) (option_or (adversary_fault fields) (option_or (count_fault (length (items Session fields))) (session_rows fields)))) head
+
 pub at_count : (node : Bool) (fields : Members)
     → first_fault (version_fault fields ∷ unknown_fault None (top_fields (adversary_field fields)) fields ∷ fields_fault node fields ∷ ring_fault fields ∷ []) ≡ None
     → parties_fault fields ≡ None → adversary_fault fields ≡ None → job_fault node fields ≡ option_or (count_fault (length (items Session fields))) (session_rows fields)
-unfolding job_fault
 at_count node fields head parties adversary =
     let rest : Option JobFault = option_or (count_fault (length (items Session fields))) (session_rows fields) in
-    head_none (version_fault fields) (unknown_fault None (top_fields (adversary_field fields)) fields) (fields_fault node fields) (ring_fault fields)
-    (option_or (parties_fault fields) (option_or (adversary_fault fields) rest)) head
+    at_parties node fields head
     ∙ ap (λ o. option_or o (option_or (adversary_fault fields) rest)) parties
     ∙ ap (λ o. option_or o rest) adversary
 
@@ -39,3 +45,9 @@ pub at_sessions : (node : Bool) (fields : Members)
     → first_fault (version_fault fields ∷ unknown_fault None (top_fields (adversary_field fields)) fields ∷ fields_fault node fields ∷ ring_fault fields ∷ []) ≡ None
     → parties_fault fields ≡ None → adversary_fault fields ≡ None → count_fault (length (items Session fields)) ≡ None → job_fault node fields ≡ session_rows fields
 at_sessions node fields head parties adversary count = at_count node fields head parties adversary ∙ ap (λ o. option_or o (session_rows fields)) count
+
+pub at_last : (node : Bool) (fields : Members)
+    → first_fault (version_fault fields ∷ unknown_fault None (top_fields (adversary_field fields)) fields ∷ fields_fault node fields ∷ ring_fault fields ∷ []) ≡ None
+    → parties_fault fields ≡ None → adversary_fault fields ≡ None → count_fault (length (items Session fields)) ≡ None → sessions_fault (texts Parties fields) 0 (tables Session fields) ≡ None
+    → job_fault node fields ≡ last_rows fields
+at_last node fields head parties adversary count sessions = at_sessions node fields head parties adversary count ∙ ap (λ o. option_or o (last_rows fields)) sessions
