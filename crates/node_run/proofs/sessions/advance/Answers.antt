@@ -33,3 +33,15 @@ pub returns-in-Ended-clause-turns : goal.returns-in-Ended-clause-turns
 returns-in-Ended-clause-turns g c = λ n s start e h.
     at_end node_cells are_node_cells n s start c.args.desk.now c.args.cells.now h c.step.new.self c.step.new.cells
     (λ given may. c.in-Ended.ensures.steps given (subst (λ z. MayStep node_cells z c.args.cells.now given c.args.desk.now) e may))
+
+pub returns-then-is_some-clause-keeps : goal.returns-then-is_some-clause-keeps
+returns-then-is_some-clause-keeps g c = c.step.ensures.keeps.got
+
+pub returns-in-Moved-clause-keeps : goal.returns-in-Moved-clause-keeps
+returns-in-Moved-clause-keeps g c = c.step.ensures.keeps.got
+
+pub returns-in-NotYet-clause-keeps : goal.returns-in-NotYet-clause-keeps
+returns-in-NotYet-clause-keeps g c = c.step.ensures.keeps.got
+
+pub returns-in-Ended-clause-keeps : goal.returns-in-Ended-clause-keeps
+returns-in-Ended-clause-keeps g c = c.step.ensures.keeps.got
