@@ -1,0 +1,26 @@
+use Rattle.std.proofs.Common.{◌≡◌, ℕ, ◌<◌, ◌≤◌, subst, below_more, arith}
+use Rattle.job_plan.proofs.plan.check_words.Goals as goal
+
+reaches : (p end parties at : ℕ) → p < parties → end ≡ parties → end ≤ at → p < at
+reaches p end parties at below same far = omega arith
+
+pub returns-then-words-gt-LIMIT : goal.returns-then-words-gt-LIMIT
+returns-then-words-gt-LIMIT c = (
+  c.requires,
+  record {
+    there = subst (λ n. c.loop-party.party < n) c.parties-party-end.ensures.is c.loop-party-test.true;
+    is = c.word_count-words.ensures;
+    over = c.if-words-gt-LIMIT.true;
+    first = c.loop-party.invariant;
+  },
+)
+
+pub loop-party-preserved : goal.loop-party-preserved
+loop-party-preserved c =
+    below_more _ _ c.loop-party.invariant (subst (λ n. n ≤ 1048576) c.word_count-words.ensures c.if-words-gt-LIMIT.false)
+
+pub returns : goal.returns
+returns c = record {
+  messages = c.requires;
+  words = λ p below. c.loop-party.invariant p (reaches p _ _ _ below c.parties-party-end.ensures.is c.loop-party-test.false);
+}
