@@ -222,3 +222,13 @@ reads_end seen now c = reads_walk seen (Ends (accepted (seen c))) now (Ok c) (re
 -- the same where what is known depends on the files
 pub reads_known : {A C : Type 0} (seen : C → A) (walk : Contents → Verdict A → Type 0) (now : FilesReading) (c : C) → IfSome now.told (λ m. walk m (accepted (seen c))) → ReadsAs seen walk now now (Ok c)
 reads_known seen walk now c known = record { ok = known; quiet = refl; stop = tt; keeps = keeps_now now }
+
+-- ---- readings that are seen otherwise
+
+module _ {A C D : Type 0} (seen : C → A) (seen' : D → A) (walk : Contents → Verdict A → Type 0) (before after : FilesReading) where
+  pub reads_seen : (c : C) (d : D) → seen c ≡ seen' d → ReadsAs seen walk before after (Ok c) → ReadsAs seen' walk before after (Ok d)
+  reads_seen c d same r = record { ok = subst (λ a. Meets walk before after (accepted a)) same r.ok; quiet = r.quiet; stop = tt; keeps = r.keeps }
+
+  -- one that stopped, at the exit of a `?`
+  pub stop_seen : (stop : Stop) (result : Result D Stop) → IsErrAnd result (λ e. e ≡ stop) → ReadsAs seen walk before after (Err stop) → ReadsAs seen' walk before after result
+  stop_seen stop result is r = let p = err_from_is_err_and result is in rw (p.1, p.2) (record { ok = tt; quiet = tt; stop = r.stop; keeps = r.keeps })

@@ -1,11 +1,18 @@
 //! One party of a job, by itself.
-ghost use Rattle.std.specs.Prelude.{◌≡◌, ◌<◌, IfOk, length};
+ghost use Rattle.std.specs.Prelude.{◌≡◌, ◌<◌, true, [], ◌∷◌, Ok, IfOk, length};
+ghost use Rattle.outer_io.specs.Files.{FilesReading};
 ghost use Rattle.party_set.specs.Names.{party_named};
 ghost use Rattle.party_file.specs.Forms.{form_of, FitsPlan};
+ghost use Rattle.job_digest.specs.Digests.{HasFiles};
+ghost use Rattle.job_digest.specs.declared.JobDigest.{JobDigest};
+ghost use Rattle.job_file.specs.Jobs.{job_view, IsJob};
+ghost use Rattle.job_walk.specs.Names.{job_file};
+ghost use Rattle.job_walk.specs.FileLogs.{Logs};
 ghost use Rattle.job_walk.specs.Verdict.{Ends};
+ghost use Rattle.job_walk.specs.JobOf.{JobText};
 ghost use Rattle.job_walk.specs.NodeOf.{party_of, NodeAt};
 ghost use Rattle.job_walk.specs.Reads.{ReadsAs, WalksAs};
-ghost use Rattle.job_walk.specs.Seen.{node_view};
+ghost use Rattle.job_walk.specs.Seen.{node_view, node_with};
 
 use crate::Stop;
 use crate::job::read_job_text;
@@ -51,17 +58,20 @@ pub fn read_node<F: Files>(
 {
     let mut digest = JobDigest::new();
     let job = read_job_text(alloc, files, &mut digest, dir, true)?;
-    let me = party_of(alloc, &job.names, name)?;
-    let groups = structure_of(alloc, &job)?;
-    let parts = read_sessions(alloc, files, &mut digest, dir, &job)?;
-    let plan = make_plan(alloc, &job, &groups, parts)?;
-    let given = read_party_file(alloc, files, dir, &plan, me, name)?;
+    let rest = read_rest(alloc, files, digest, dir, name, &job);
     let Job {
         names,
         hosts,
         port,
         ..
     } = job;
+    let rest = rest?;
+    let NodeRest {
+        me,
+        plan,
+        given,
+        digest,
+    } = rest;
     Ok(NodeJob {
         names,
         hosts,
@@ -69,7 +79,49 @@ pub fn read_node<F: Files>(
         me,
         plan,
         given,
-        digest: digest.finish(),
+        digest,
+    })
+}
+
+// What is read beside the job's file.
+#[derive(Drop)]
+struct NodeRest {
+    me: u32,
+    plan: Plan,
+    given: PartyData,
+    digest: [u8; 32],
+}
+
+// Reads the circuits' files of a job, and the file of the party of this name. The digest has the job's file.
+fn read_rest<F: Files>(
+    alloc: Global,
+    files: &mut F,
+    digest: JobDigest,
+    dir: &str,
+    name: &str,
+    job: &Job,
+) -> Result<NodeRest, Stop>
+    requires { IsJob job.now }
+    ensures reads { (before : FilesReading) (start : JobDigest) → HasFiles start []
+        → Logs HasFiles before.told dir.now (job_file ∷ []) start digest
+        → ReadsAs job_view (λ contents. JobText true contents dir.now) before (F.reading files.old) (Ok job.now)
+        → ReadsAs (node_with job.now) (λ contents. NodeAt contents dir.now name.now)
+        before (F.reading files.new) result }
+    ensures names { IfOk result (λ rest. length job.now.names ≡ rest.plan.parties) }
+    ensures party { IfOk result (λ rest. rest.me < rest.plan.parties) }
+    ensures fits { IfOk result (λ rest. FitsPlan rest.plan rest.me (form_of rest.given)) }
+{
+    let mut log = digest;
+    let me = party_of(alloc, &job.names, name)?;
+    let groups = structure_of(alloc, job)?;
+    let parts = read_sessions(alloc, files, &mut log, dir, job)?;
+    let plan = make_plan(alloc, job, &groups, parts)?;
+    let given = read_party_file(alloc, files, dir, &plan, me, name)?;
+    Ok(NodeRest {
+        me,
+        plan,
+        given,
+        digest: log.finish(),
     })
 }
 

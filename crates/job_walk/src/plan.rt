@@ -1,12 +1,13 @@
 //! The plan of a job.
-ghost use Rattle.std.specs.Prelude.{◌≡◌, ◌≤◌, All, IfOk, IfSome, length};
+ghost use Rattle.std.specs.Prelude.{◌≡◌, ◌≤◌, false, All, Ok, IfOk, IfSome, length};
 ghost use Rattle.std.specs.Option.{is_some};
 ghost use Rattle.party_set.specs.Parties.{IsQ2};
 ghost use Rattle.job_plan.specs.Plans.{plan_of, structure};
 ghost use Rattle.job_session.specs.SoundSessions.{IsSoundSession};
-ghost use Rattle.job_file.specs.Jobs.{job_view};
-ghost use Rattle.job_walk.specs.JobOf.{PlanOf, PlanAt};
-ghost use Rattle.job_walk.specs.Seen.{planned_view, text_view};
+ghost use Rattle.outer_io.specs.Files.{FilesReading};
+ghost use Rattle.job_file.specs.Jobs.{job_view, IsJob};
+ghost use Rattle.job_walk.specs.JobOf.{JobText, PlanOf, PlanAt};
+ghost use Rattle.job_walk.specs.Seen.{planned_view, planned_with, text_view};
 ghost use Rattle.job_walk.specs.Reads.{ReadsAs, WalksAs};
 
 use crate::Stop;
@@ -52,13 +53,54 @@ pub fn read_planned<F: Files>(
     ensures groups { IfOk result (λ planned. planned.groups ≡ structure planned.plan) }
 {
     let job = read_job_text(alloc, files, &mut NoLog, dir, false)?;
-    let group = asked_group(alloc, asked, &job.names)?;
-    let groups = structure_of(alloc, &job)?;
-    let parts = read_sessions(alloc, files, &mut NoLog, dir, &job)?;
-    let plan = make_plan(alloc, &job, &groups, parts)?;
+    let rest = read_rest(alloc, files, dir, asked, &job);
     let Job { names, .. } = job;
+    let rest = rest?;
+    let PlanRest {
+        group,
+        groups,
+        plan,
+    } = rest;
     Ok(Planned {
         names,
+        group,
+        groups,
+        plan,
+    })
+}
+
+// What is read beside the job's file.
+#[derive(Drop)]
+struct PlanRest {
+    group: Option<Group>,
+    groups: Groups,
+    plan: Plan,
+}
+
+// Reads the group that a text asks for, if there is a text, and the circuits' files of a job.
+fn read_rest<F: Files>(
+    alloc: Global,
+    files: &mut F,
+    dir: &str,
+    asked: Option<&str>,
+    job: &Job,
+) -> Result<PlanRest, Stop>
+    requires { IsJob job.now }
+    ensures reads { (before : FilesReading)
+        → ReadsAs job_view (λ contents. JobText false contents dir.now) before (F.reading files.old) (Ok job.now)
+        → ReadsAs (planned_with job.now) (λ contents. PlanAt contents dir.now (text_view asked.entry))
+        before (F.reading files.new) result }
+    ensures names { IfOk result (λ rest. length job.now.names ≡ rest.plan.parties) }
+    ensures group { IfOk result (λ rest. IfSome rest.group
+        (λ group. group.parties ≡ length job.now.names)) }
+    ensures asked { IfOk result (λ rest. is_some rest.group ≡ is_some asked.entry) }
+    ensures groups { IfOk result (λ rest. rest.groups ≡ structure rest.plan) }
+{
+    let group = asked_group(alloc, asked, &job.names)?;
+    let groups = structure_of(alloc, job)?;
+    let parts = read_sessions(alloc, files, &mut NoLog, dir, job)?;
+    let plan = make_plan(alloc, job, &groups, parts)?;
+    Ok(PlanRest {
         group,
         groups,
         plan,

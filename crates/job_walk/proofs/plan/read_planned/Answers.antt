@@ -1,40 +1,14 @@
-use Rattle.job_walk.specs.JobOf.{PlanAt, PlannedOf}
-use Rattle.job_walk.specs.Seen.{planned_view}
-use Rattle.job_walk.proofs.Steps.{reads_exit, reads_then, reads_walk, reads_end}
+use Rattle.std.proofs.Common.{refl}
+use Rattle.job_walk.specs.JobOf.{PlanAt}
+use Rattle.job_walk.proofs.Steps.{reads_exit, reads_seen, stop_seen}
 use Rattle.job_walk.proofs.plan.read_planned.Goals as goal
 
 pub returns-in_err-job-clause-reads : goal.returns-in_err-job-clause-reads
 unfolding PlanAt
 returns-in_err-job-clause-reads g c = reads_exit _ _ _ _ _ _ _ _ c.from_residual.ensures.1 c.in_err-job.ensures.reads
 
-pub returns-in_err-group-clause-reads : goal.returns-in_err-group-clause-reads
-unfolding PlanAt
-returns-in_err-group-clause-reads g c =
-    reads_then _ _ _ _ _ _ _ _ _ c.in_ok-job.ensures.reads (reads_exit _ _ _ _ _ _ _ _ c.from_residual-in_err-group.ensures.1 (reads_walk _ _ _ _ c.in_err-group.ensures.walks))
-
-pub returns-in_err-groups-clause-reads : goal.returns-in_err-groups-clause-reads
-unfolding PlanAt
-returns-in_err-groups-clause-reads g c =
-    reads_then _ _ _ _ _ _ _ _ _ c.in_ok-job.ensures.reads (reads_then _ _ _ _ _ _ _ _ _ (reads_walk _ _ _ _ c.in_ok-group.ensures.walks)
-    (reads_exit _ _ _ _ _ _ _ _ c.from_residual-in_err-groups.ensures.1 (reads_walk _ _ _ _ c.in_err-groups.ensures.walks)))
-
-pub returns-in_err-parts-clause-reads : goal.returns-in_err-parts-clause-reads
-unfolding PlanAt PlannedOf
-returns-in_err-parts-clause-reads g c =
-    reads_then _ _ _ _ _ _ _ _ _ c.in_ok-job.ensures.reads (reads_then _ _ _ _ _ _ _ _ _ (reads_walk _ _ _ _ c.in_ok-group.ensures.walks)
-    (reads_then _ _ _ _ _ _ _ _ _ (reads_walk _ _ _ _ c.in_ok-groups.ensures.walks)
-    (reads_exit _ _ _ _ _ _ _ _ c.from_residual-in_err-parts.ensures.1 c.in_err-parts.ensures.reads)))
-
-pub returns-in_err-plan-clause-reads : goal.returns-in_err-plan-clause-reads
-unfolding PlanAt PlannedOf
-returns-in_err-plan-clause-reads g c =
-    reads_then _ _ _ _ _ _ _ _ _ c.in_ok-job.ensures.reads (reads_then _ _ _ _ _ _ _ _ _ (reads_walk _ _ _ _ c.in_ok-group.ensures.walks)
-    (reads_then _ _ _ _ _ _ _ _ _ (reads_walk _ _ _ _ c.in_ok-groups.ensures.walks)
-    (reads_then _ _ _ _ _ _ _ _ _ c.in_ok-parts.ensures.reads (reads_exit _ _ _ _ _ _ _ _ c.from_residual-in_err-plan.ensures.1 (reads_walk _ _ _ _ c.in_err-plan.ensures.walks)))))
+pub returns-in_err-rest-clause-reads : goal.returns-in_err-rest-clause-reads
+returns-in_err-rest-clause-reads g c = stop_seen _ _ _ _ _ _ _ c.from_residual-in_err-rest.ensures.1 (c.in_err-rest.ensures.reads _ c.in_ok-job.ensures.reads)
 
 pub returns-clause-reads : goal.returns-clause-reads
-unfolding PlanAt PlannedOf
-returns-clause-reads g c =
-    reads_then _ _ _ _ _ _ _ _ _ c.in_ok-job.ensures.reads (reads_then _ _ _ _ _ _ _ _ _ (reads_walk _ _ _ _ c.in_ok-group.ensures.walks)
-    (reads_then _ _ _ _ _ _ _ _ _ (reads_walk _ _ _ _ c.in_ok-groups.ensures.walks)
-    (reads_then _ _ _ _ _ _ _ _ _ c.in_ok-parts.ensures.reads (reads_then _ _ _ _ _ _ _ _ _ (reads_walk _ _ _ _ c.in_ok-plan.ensures.walks) (reads_end planned_view _ _)))))
+returns-clause-reads g c = reads_seen _ _ _ _ _ c.in_ok-rest.rest _ refl (c.in_ok-rest.ensures.reads _ c.in_ok-job.ensures.reads)
