@@ -1,6 +1,7 @@
 //! Plans, with the tables that number their messages.
-ghost use Rattle.std.specs.Prelude.{◌≡◌, ◌≤◌, MatchResult, length};
+ghost use Rattle.std.specs.Prelude.{◌≡◌, ◌≤◌, IfOk, MatchResult, length};
 ghost use Rattle.job_plan.specs.Messages.{messages};
+ghost use Rattle.job_plan.specs.Sound.{IsLaid};
 ghost use Rattle.job_plan.specs.Limits.{IsPlanWithin, IsPlanRefusal};
 
 use crate::counts::{message_count, word_count};
@@ -75,15 +76,13 @@ impl Plan {
         ensures refusal { IfErr result (IsPlanRefusal (plan_of ring layout parts.items)) }
     {
         let outline = Outline::of(ring, layout, duty, parts);
-        let count = message_count(&outline);
-        if count > LIMIT {
-            return Err(PlanFault::TooManyMessages { count });
-        }
-        check_words(&outline)?;
-        let count = count as u32;
-        let patterns = Patterns::make(alloc, &outline)?;
-        let starts = list_starts(alloc, &outline, &patterns)?;
-        let deals = list_deals(alloc, &outline)?;
+        let tables = tables_of(alloc, &outline)?;
+        let Tables {
+            count,
+            patterns,
+            starts,
+            deals,
+        } = tables;
         Ok(Plan {
             outline,
             count,
@@ -326,6 +325,39 @@ impl Plan {
 
 // The most messages of a plan, and the most tape words of a party.
 const LIMIT: u64 = 1_048_576;
+
+// The count of messages, the lines of each pattern, and where each slot and each session begins.
+#[derive(Drop)]
+struct Tables {
+    count: u32,
+    patterns: Patterns,
+    starts: Vec<Starts>,
+    deals: Vec<Starts>,
+}
+
+// The tables of a plan, unless it is refused.
+fn tables_of(alloc: Global, outline: &Outline) -> Result<Tables, PlanFault>
+    ensures laid { IfOk result (λ made.
+        IsLaid outline.now made.count made.patterns made.starts.items made.deals.items) }
+    ensures limits { MatchResult result (λ _. IsPlanWithin outline.now) (IsPlanRefusal outline.now) }
+{
+    let _ = outline.parties();
+    let count = message_count(outline);
+    if count > LIMIT {
+        return Err(PlanFault::TooManyMessages { count });
+    }
+    check_words(outline)?;
+    let count = count as u32;
+    let patterns = Patterns::make(alloc, outline)?;
+    let starts = list_starts(alloc, outline, &patterns)?;
+    let deals = list_deals(alloc, outline)?;
+    Ok(Tables {
+        count,
+        patterns,
+        starts,
+        deals,
+    })
+}
 
 fn check_words(outline: &Outline) -> Result<(), PlanFault>
     requires { length (messages outline.now) ≤ 1048576 }
