@@ -54,7 +54,14 @@ pub fn pair_of(
     let tapes = map_tapes(alloc, plan, &inputs, own.as_slice(), other, groups, group)?;
     let pieces = cut_pieces(alloc, plan, tapes.as_slice())?;
     let first = prepared(alloc, plan, parties, 1)?;
-    let second = prepare(alloc, plan, other, pieces, 1)?;
+    let second = match prepare(alloc, plan, other, pieces, 1) {
+        Ok(second) => second,
+        Err(_) => {
+            // By a call, which is one step of the proof.
+            drop(first);
+            return Err(MapFault::Memory);
+        }
+    };
     Ok(Pair {
         first,
         second,
