@@ -1,5 +1,6 @@
 -- The first fault, where the rows before the sessions tell none.
-use Rattle.std.proofs.Common.{◌≡◌, Bool, [], ◌∷◌, ◌∙◌, ap, refl, length, Option, Some, None}
+use Rattle.std.proofs.Common.{◌≡◌, ℕ, ◌≤◌, Bool, [], ◌∷◌, ◌∙◌, ap, refl, length, Option, Some, None, arith}
+use Rattle.std.proofs.lemmas.Bool.Decides.{nat_tests}
 use Rattle.std.specs.Option.{option_or}
 use Rattle.toml.specs.Data.{Members}
 use Rattle.job_file.specs.declared.field.Field.TheVariants.{Parties, Session}
@@ -24,30 +25,41 @@ last_rows fields = option_or (hosts_fault fields) (option_or (port_fault fields)
 abbrev pub session_rows : Members → Option JobFault
 session_rows fields = option_or (sessions_fault (texts Parties fields) 0 (tables Session fields)) (last_rows fields)
 
+-- the rows after those of the parties
+abbrev pub rest_rows : Members → Option JobFault
+rest_rows fields = option_or (adversary_fault fields) (option_or (count_fault (length (items Session fields))) (session_rows fields))
+
 pub at_parties : (node : Bool) (fields : Members)
     → first_fault (version_fault fields ∷ unknown_fault None (top_fields (adversary_field fields)) fields ∷ fields_fault node fields ∷ ring_fault fields ∷ []) ≡ None
-    → job_fault node fields ≡ option_or (parties_fault fields) (option_or (adversary_fault fields) (option_or (count_fault (length (items Session fields))) (session_rows fields)))
+    → job_fault node fields ≡ option_or (parties_fault fields) (rest_rows fields)
 unfolding job_fault
 at_parties node fields head =
-    head_none (version_fault fields) (unknown_fault None (top_fields (adversary_field fields)) fields) (fields_fault node fields) (ring_fault fields)
-    (option_or (parties_fault fields) (option_or (adversary_fault fields) (option_or (count_fault (length (items Session fields))) (session_rows fields)))) head
+    head_none (version_fault fields) (unknown_fault None (top_fields (adversary_field fields)) fields) (fields_fault node fields) (ring_fault fields) (option_or (parties_fault fields) (rest_rows fields)) head
 
-pub at_count : (node : Bool) (fields : Members)
-    → first_fault (version_fault fields ∷ unknown_fault None (top_fields (adversary_field fields)) fields ∷ fields_fault node fields ∷ ring_fault fields ∷ []) ≡ None
-    → parties_fault fields ≡ None → adversary_fault fields ≡ None → job_fault node fields ≡ option_or (count_fault (length (items Session fields))) (session_rows fields)
-at_count node fields head parties adversary =
-    let rest : Option JobFault = option_or (count_fault (length (items Session fields))) (session_rows fields) in
-    at_parties node fields head
-    ∙ ap (λ o. option_or o (option_or (adversary_fault fields) rest)) parties
-    ∙ ap (λ o. option_or o rest) adversary
+module _ (fields : Members) (adversary : adversary_fault fields ≡ None) where
+  pub at_count : rest_rows fields ≡ option_or (count_fault (length (items Session fields))) (session_rows fields)
+  at_count = ap (λ o. option_or o (option_or (count_fault (length (items Session fields))) (session_rows fields))) adversary
 
-pub at_sessions : (node : Bool) (fields : Members)
-    → first_fault (version_fault fields ∷ unknown_fault None (top_fields (adversary_field fields)) fields ∷ fields_fault node fields ∷ ring_fault fields ∷ []) ≡ None
-    → parties_fault fields ≡ None → adversary_fault fields ≡ None → count_fault (length (items Session fields)) ≡ None → job_fault node fields ≡ session_rows fields
-at_sessions node fields head parties adversary count = at_count node fields head parties adversary ∙ ap (λ o. option_or o (session_rows fields)) count
+  pub at_sessions : count_fault (length (items Session fields)) ≡ None → rest_rows fields ≡ session_rows fields
+  at_sessions count = at_count ∙ ap (λ o. option_or o (session_rows fields)) count
 
-pub at_last : (node : Bool) (fields : Members)
-    → first_fault (version_fault fields ∷ unknown_fault None (top_fields (adversary_field fields)) fields ∷ fields_fault node fields ∷ ring_fault fields ∷ []) ≡ None
-    → parties_fault fields ≡ None → adversary_fault fields ≡ None → count_fault (length (items Session fields)) ≡ None → sessions_fault (texts Parties fields) 0 (tables Session fields) ≡ None
-    → job_fault node fields ≡ last_rows fields
-at_last node fields head parties adversary count sessions = at_sessions node fields head parties adversary count ∙ ap (λ o. option_or o (last_rows fields)) sessions
+  pub at_last : count_fault (length (items Session fields)) ≡ None → sessions_fault (texts Parties fields) 0 (tables Session fields) ≡ None → rest_rows fields ≡ last_rows fields
+  at_last count sessions = at_sessions count ∙ ap (λ o. option_or o (last_rows fields)) sessions
+
+-- where these rows tell no fault, the second and the last tell none
+none_of_rest : (a b c d e : Option JobFault) → first_fault (a ∷ b ∷ c ∷ d ∷ e ∷ []) ≡ None → (b ≡ None) × (e ≡ None)
+none_of_rest None None None None None is = (refl, refl)
+none_of_rest None None None None (Some f) is = absurd (cc)
+none_of_rest None None None (Some f) e is = absurd (cc)
+none_of_rest None None (Some f) d e is = absurd (cc)
+none_of_rest None (Some f) c d e is = absurd (cc)
+none_of_rest (Some f) b c d e is = absurd (cc)
+
+pub none_left : (fields : Members) → rest_rows fields ≡ None → (count_fault (length (items Session fields)) ≡ None) × (port_fault fields ≡ None)
+none_left fields is =
+    none_of_rest (adversary_fault fields) (count_fault (length (items Session fields))) (sessions_fault (texts Parties fields) 0 (tables Session fields)) (hosts_fault fields) (port_fault fields) is
+
+-- how many sessions there are, where that is no fault
+pub session_count : (count : ℕ) → count_fault count ≡ None → (1 ≤ count) × (count ≤ 16)
+unfolding count_fault
+session_count count is = grind (arith, nat_tests)

@@ -3,10 +3,11 @@ ghost use Rattle.std.specs.Prelude.{◌≡◌, ◌≢◌, ◌∷◌, [], IfOk, M
 ghost use Rattle.toml.specs.View.{table_view};
 ghost use Rattle.job_file.specs.Answers.{TellsOrMemory};
 ghost use Rattle.job_file.specs.Names.{top_fields};
-ghost use Rattle.job_file.specs.Forms.{adversary_field, job_form};
+ghost use Rattle.job_file.specs.Forms.{adversary_field, job_form, items, tables, texts};
 ghost use Rattle.job_file.specs.Jobs.{job_view, IsJob};
 ghost use Rattle.list_laws.specs.Checks.{first_fault};
-ghost use Rattle.job_file.specs.Faults.{version_fault, unknown_fault, fields_fault, ring_fault, job_fault, job_in};
+ghost use Rattle.job_file.specs.Faults.{version_fault, unknown_fault, fields_fault, ring_fault, adversary_fault, count_fault, sessions_fault, hosts_fault, port_fault, job_fault, job_in};
+ghost use Rattle.job_file.specs.declared.field.Field.TheVariants.{Parties, Session};
 ghost use Rattle.job_file.specs.declared.fault.JobFault.TheVariants.{Memory};
 
 use crate::check::check_top_known;
@@ -19,6 +20,7 @@ use crate::top::{
     read_parties,
 };
 use crate::values::job_of;
+use party_set::Names;
 use std::alloc::Global;
 use toml::Table;
 use toml_fields::{document, items_at};
@@ -38,6 +40,25 @@ fn check_head(alloc: Global, table: &Table, node: bool) -> Result<(), JobFault>
     Ok(())
 }
 
+// Checks the rows of the table that come after those of the parties, whose names these are.
+fn check_rest(alloc: Global, table: &Table, names: &Names) -> Result<(), JobFault>
+    requires { names.now ≡ texts Parties (table_view table.now) }
+    ensures { let fields = table_view table.now in TellsOrMemory result (first_fault
+        (adversary_fault fields
+        ∷ count_fault (length (items Session fields))
+        ∷ sessions_fault (texts Parties fields) 0 (tables Session fields)
+        ∷ hosts_fault fields
+        ∷ port_fault fields
+        ∷ [])) }
+{
+    check_adversary(table, names)?;
+    let sessions = items_at(table, Field::Session.text());
+    check_count(sessions.len())?;
+    check_sessions(alloc, sessions, names)?;
+    check_hosts(table, names.len())?;
+    Ok(check_port(table)?)
+}
+
 #[tactic(auto, unfolding(crate::specs::Faults::job_fault))]
 fn read_table(alloc: Global, table: &Table, node: bool) -> Result<Job, JobFault>
     ensures job { MatchResult result
@@ -47,12 +68,7 @@ fn read_table(alloc: Global, table: &Table, node: bool) -> Result<Job, JobFault>
 {
     check_head(alloc, table, node)?;
     let names = read_parties(alloc, table)?;
-    check_adversary(table, &names)?;
-    let sessions = items_at(table, Field::Session.text());
-    check_count(sessions.len())?;
-    check_sessions(alloc, sessions, &names)?;
-    check_hosts(table, names.len())?;
-    check_port(table)?;
+    check_rest(alloc, table, &names)?;
     Ok(job_of(alloc, table, names)?)
 }
 
