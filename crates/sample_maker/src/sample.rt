@@ -30,8 +30,21 @@ pub fn make_sample(alloc: Global, count: u32) -> Result<Sample, AllocError>
     ensures pieces_fit { IfOk result (λ sample. ArePieces sample.plan sample.tapes.items) }
 {
     let plan = sample_plan(alloc, count)?;
-    let inputs = sample_inputs(alloc, &plan, count)?;
-    let tapes = sample_tapes(alloc, &plan)?;
+    // What is done with is let go by calls, each of which is one step of the proof.
+    let inputs = match sample_inputs(alloc, &plan, count) {
+        Ok(inputs) => inputs,
+        Err(fault) => {
+            drop(plan);
+            return Err(fault);
+        }
+    };
+    let tapes = match sample_tapes(alloc, &plan) {
+        Ok(tapes) => tapes,
+        Err(fault) => {
+            drop((inputs, plan));
+            return Err(fault);
+        }
+    };
     Ok(Sample {
         plan,
         inputs,

@@ -10,12 +10,12 @@ use Rattle.sample_maker.proofs.sample.make_sample.Goals as goal
 
 pub returns-clause-inputs_fit : goal.returns-clause-inputs_fit
 returns-clause-inputs_fit c =
-    subst (AreInputs c.in_ok-plan.plan) (sym c.in_ok-inputs.ensures)
+    subst (AreInputs c.in_ok-plan.plan) (sym c.in-Ok.ensures)
     (subst (λ (plan : Plan). AreInputs plan (sample_inputs c.args.count)) (sym c.in_ok-plan.ensures) (inputs_fit c.args.count c.requires.1))
 
 pub returns-clause-pieces_fit : goal.returns-clause-pieces_fit
 returns-clause-pieces_fit c =
-    let pieces : c.in_ok-tapes.tapes.items ≡ sample_pieces c.args.count =
-    c.in_ok-tapes.ensures ∙ ap (λ (plan : Plan). listed plan.parties (sample_piece plan)) c.in_ok-plan.ensures in
+    let pieces : c.in-Ok-sample_tapes.tapes.items ≡ sample_pieces c.args.count =
+    c.in-Ok-sample_tapes.ensures ∙ ap (λ (plan : Plan). listed plan.parties (sample_piece plan)) c.in_ok-plan.ensures in
     subst (ArePieces c.in_ok-plan.plan) (sym pieces)
     (subst (λ (plan : Plan). ArePieces plan (sample_pieces c.args.count)) (sym c.in_ok-plan.ensures) (pieces_fit c.args.count))
