@@ -9,7 +9,7 @@ use desk_laws::step_in_world;
 use job_plan::Plan;
 use message_board::{Board, BoardSeat, SeatAt};
 use outer_io::Pace;
-use party_desk::{Desk, Run, Stepped};
+use party_desk::{Desk, Stepped};
 
 /// A worker that is about to step a desk: its number, and the desk's.
 #[derive(Clone, Copy)]
@@ -53,11 +53,9 @@ fn step_on(
 
 // Steps the desk once, if it is not at its end, and answers whether it moved.
 #[inline(always)]
-fn goes_on<P: Pace>(
+fn goes_on(
     board: &Board<Promised, Box<Desk>>,
     plan: &Plan,
-    pace: &P,
-    turn: Turn,
     seat: &mut BoardSeat<Promised, Box<Desk>>,
     desk: &mut Desk,
 ) -> bool
@@ -71,7 +69,6 @@ fn goes_on<P: Pace>(
     if desk.has_ended() {
         return false;
     }
-    pace.before(turn.worker, turn.desk);
     is_move(step_on(board, plan, seat, desk))
 }
 
@@ -81,35 +78,13 @@ fn is_move(stepped: Stepped) -> bool
     matches!(stepped, Stepped::Moved)
 }
 
-// Steps the desk once, if its next instruction is of this run, and answers whether it moved.
+// Steps the desk through the gates that come next or, where it makes no move there, once, and answers how often it moved.
 #[inline(always)]
-fn goes_on_in<P: Pace>(
+fn goes_far<P: Pace>(
     board: &Board<Promised, Box<Desk>>,
     plan: &Plan,
     pace: &P,
     turn: Turn,
-    run: Run,
-    seat: &mut BoardSeat<Promised, Box<Desk>>,
-    desk: &mut Desk,
-) -> bool
-    requires pool { IsPool plan.now board.now }
-    requires seat { IsSeatOf board.now seat.old }
-    requires desk { IsDeskOf board.now seat.old desk.old }
-    ensures seat { IsSeatOf board.now seat.new }
-    ensures leads { LeadsOn board.now seat.old desk.old seat.new desk.new (if result then 1 else 0) }
-{
-    desk.is_in(plan, run) && goes_on(board, plan, pace, turn, seat, desk)
-}
-
-// Steps the desk as long as its instructions are of this run and it moves, and answers how often it did. Each run has a
-// loop of its own, in which the compiler knows the kind of the next instruction.
-#[inline(always)]
-fn go_through<P: Pace>(
-    board: &Board<Promised, Box<Desk>>,
-    plan: &Plan,
-    pace: &P,
-    turn: Turn,
-    run: Run,
     seat: &mut BoardSeat<Promised, Box<Desk>>,
     desk: &mut Desk,
 ) -> u64
@@ -118,39 +93,21 @@ fn go_through<P: Pace>(
     requires desk { IsDeskOf board.now seat.old desk.old }
     ensures seat { IsSeatOf board.now seat.new }
     ensures leads { LeadsOn board.now seat.old desk.old seat.new desk.new result }
+    ensures stuck { result ≡ 0 → IsStuck board.now seat.old desk.old }
 {
-    let mut moves = 0;
-    while goes_on_in(board, plan, pace, turn, run, seat, desk) {
-        moves += 1;
+    pace.before(turn.worker, turn.desk);
+    let walked = desk.walk_gates(plan, board, seat);
+    if walked > 0 {
+        return u64::from(walked);
     }
-    moves
+    if goes_on(board, plan, seat, desk) {
+        1
+    } else {
+        0
+    }
 }
 
-// The same for each run, in the order in which they stand at a product and after it.
-#[inline(always)]
-fn go_through_each<P: Pace>(
-    board: &Board<Promised, Box<Desk>>,
-    plan: &Plan,
-    pace: &P,
-    turn: Turn,
-    seat: &mut BoardSeat<Promised, Box<Desk>>,
-    desk: &mut Desk,
-) -> u64
-    requires pool { IsPool plan.now board.now }
-    requires seat { IsSeatOf board.now seat.old }
-    requires desk { IsDeskOf board.now seat.old desk.old }
-    ensures seat { IsSeatOf board.now seat.new }
-    ensures leads { LeadsOn board.now seat.old desk.old seat.new desk.new result }
-{
-    let deals = go_through(board, plan, pace, turn, Run::Deals, seat, desk);
-    let posts = go_through(board, plan, pace, turn, Run::Posts, seat, desk);
-    let takes = go_through(board, plan, pace, turn, Run::Takes, seat, desk);
-    let sums = go_through(board, plan, pace, turn, Run::Sums, seat, desk);
-    let gates = go_through(board, plan, pace, turn, Run::Gates, seat, desk);
-    deals + posts + takes + sums + gates
-}
-
-/// Steps the desk as long as it moves, and answers how often it did.
+/// Steps the desk until it can't move or has gone through gates, and answers how often it moved.
 pub fn walk<P: Pace>(
     board: &Board<Promised, Box<Desk>>,
     plan: &Plan,
@@ -167,9 +124,11 @@ pub fn walk<P: Pace>(
     ensures stuck { result ≡ 0 → IsStuck board.now seat.old desk.old }
     ensures few { result < 2 ^ 32 }
 {
-    let mut moves = 0;
-    while goes_on(board, plan, pace, turn, seat, desk) {
-        moves += 1 + go_through_each(board, plan, pace, turn, seat, desk);
+    let mut moves = goes_far(board, plan, pace, turn, seat, desk);
+    let mut last = moves;
+    while last == 1 {
+        last = goes_far(board, plan, pace, turn, seat, desk);
+        moves += last;
     }
     moves
 }

@@ -133,7 +133,7 @@ module _ (l : Given) (d : Desk) (is_desk : IsDesk l d) where
   finds (At_gate t) f = tt
   finds (Output o) f = f
 
-  deals : (k j : ℕ) → i ≡ Deal k j → CanDeal l.plan (slot l.plan l.session k) d.memory
+  pub deals : (k j : ℕ) → i ≡ Deal k j → CanDeal l.plan (slot l.plan l.session k) d.memory
   deals k j e =
       let c = can_deal l suits d.position k j e in
       let b : d.memory.deals ≡ (state l d.position).deals = is_desk.memory.deals in record {
@@ -153,6 +153,17 @@ module _ (l : Given) (d : Desk) (is_desk : IsDesk l d) where
       (λ v c. is_desk.memory.rows v j share (reads_are_set l.plan suits.sound l.session l.party suits.session suits.party order d.position v j share (reads v c)) (d.position, omega arith, reads v c))
       (is_desk.memory.sums j share)
 
+  -- ---- what an instruction leaves
+  within : i ≢ End → d.position < length (program l.plan l.party l.session)
+  within ne = elim (cases_lt d.position (length (program l.plan l.party l.session))) [
+    | inl b ↦ b
+    | inr past ↦ absurd (ne (get_or_past (program l.plan l.party l.session) d.position End past))
+  ]
+
+  -- an instruction that takes what is given leaves what the desk goes by
+  pub stays : (e : Desk) (w : ℕ) (j : Instruction) → i ≡ j → j ≢ End → IsGivenWord l w j → Advanced l.plan w j d e → IsDesk l e
+  stays e w j is ne given a = kept l d e w is_desk proper (within (λ z. ne (sym is ∙ z))) (subst (IsGivenWord l w) (sym is) given) (subst (λ z. Advanced l.plan w z d e) (sym is) a)
+
   module _ {C : Type 0} (cells : Meaning C) (c : C) where
     allowed_at : (e : Instruction) → i ≡ e → Allows cells c l d.position e → Allowed cells c l.plan d e
     allowed_at (Deal k j) e a = subst (λ z. CanDeal l.plan (slot l.plan z k) d.memory) (sym is_desk.session) (deals k j e)
@@ -170,16 +181,6 @@ module _ (l : Given) (d : Desk) (is_desk : IsDesk l d) where
     -- ---- what a step leaves
 
     module _ (e : Desk) (f : C) where
-      within : i ≢ End → d.position < length (program l.plan l.party l.session)
-      within ne = elim (cases_lt d.position (length (program l.plan l.party l.session))) [
-        | inl b ↦ b
-        | inr past ↦ absurd (ne (get_or_past (program l.plan l.party l.session) d.position End past))
-      ]
-
-      -- an instruction that is no take leaves what the desk goes by
-      stays : (w : ℕ) (j : Instruction) → i ≡ j → j ≢ End → IsGivenWord l w j → Advanced l.plan w j d e → IsDesk l e
-      stays w j is ne given a = kept l d e w is_desk proper (within (λ z. ne (sym is ∙ z))) (subst (IsGivenWord l w) (sym is) given) (subst (λ z. Advanced l.plan w z d e) (sym is) a)
-
       hears : (w n j : ℕ) → i ≡ Take n j → Advanced l.plan w (Take n j) d e → IsDesk (heard l n w) e
       hears w n j is a =
           let more : Given = heard l n w in
@@ -189,13 +190,13 @@ module _ (l : Given) (d : Desk) (is_desk : IsDesk l d) where
           kept (heard l n w) d e w before proper (within (λ z. let both : Take n j ≡ End = sym is ∙ z in cc)) (subst (IsGivenWord (heard l n w) w) (sym is) (sym (set_here l.got n n w refl))) (subst (λ z. Advanced l.plan w z d e) (sym is) a)
 
       does : (w : ℕ) (j : Instruction) → i ≡ j → Advanced l.plan w j d e → Effect cells l.plan d w c f j → Does cells l d c e f j
-      does w (Deal k n) is a x = (x, stays w (Deal k n) is (λ z. cc) tt a)
-      does w (Post n k) is a x = ((x.0, subst (λ z. cells.put c n z x.0 f) (posts_right n k is) x.1), stays w (Post n k) is (λ z. cc) tt a)
+      does w (Deal k n) is a x = (x, stays e w (Deal k n) is (λ z. cc) tt a)
+      does w (Post n k) is a x = ((x.0, subst (λ z. cells.put c n z x.0 f) (posts_right n k is) x.1), stays e w (Post n k) is (λ z. cc) tt a)
       does w (Take n k) is a x = (w, x.0, x.1, hears w n k is a)
-      does w (Linear k) is a x = (x, stays w (Linear k) is (λ z. cc) tt a)
-      does w (Own k) is a x = (x, stays w (Own k) is (λ z. cc) tt a)
-      does w (Sum k) is a x = (x, stays w (Sum k) is (λ z. cc) tt a)
-      does w (Deliver k) is a x = (x, stays w (Deliver k) is (λ z. cc) tt a)
+      does w (Linear k) is a x = (x, stays e w (Linear k) is (λ z. cc) tt a)
+      does w (Own k) is a x = (x, stays e w (Own k) is (λ z. cc) tt a)
+      does w (Sum k) is a x = (x, stays e w (Sum k) is (λ z. cc) tt a)
+      does w (Deliver k) is a x = (x, stays e w (Deliver k) is (λ z. cc) tt a)
       does w End is a x = x
 
       pub steps : (r : Stepped) → Did cells l.plan d c e f i r → Steps cells l d c e f i r

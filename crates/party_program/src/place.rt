@@ -1,5 +1,5 @@
 //! Places in a program.
-ghost use Rattle.std.specs.Prelude.{◌≡◌, ℕ, ◌==◌, ◌≤◌, length};
+ghost use Rattle.std.specs.Prelude.{◌≡◌, ℕ, ◌+◌, ◌<◌, ◌==◌, ◌≤◌, nat_lt, length};
 ghost use Rattle.job_plan.specs.Plans as plans;
 ghost use Rattle.party_program.specs.Programs.{program};
 ghost use Rattle.party_program.specs.ProgramPlaces.{IsPlace};
@@ -33,6 +33,23 @@ impl Place {
             → result ≡ (q == length (program plan p s)) }
     {
         self.done >= self.count
+    }
+
+    /// Whether another instruction of the slot comes after this one.
+    #[inline(always)]
+    pub fn has_next(&self) -> bool
+        ensures { result ≡ nat_lt (self.now.done + 1) self.now.count }
+    {
+        u64::from(self.done) + 1 < u64::from(self.count)
+    }
+
+    /// Moves on by so many steps of the slot.
+    #[inline(always)]
+    pub fn skip(&mut self, steps: u32)
+        requires few { self.old.done + steps < 4294967296 }
+        ensures { self.new ≡ record self.old { done = self.old.done + steps } }
+    {
+        self.done += steps;
     }
 
     /// The pattern of that slot.

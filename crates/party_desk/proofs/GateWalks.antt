@@ -1,0 +1,159 @@
+-- Instructions at gates, one after another.
+use Rattle.std.proofs.Common.{◌≡◌, ◌≢◌, ℕ, ◌+◌, ◌<◌, List, refl, sym, ap, ◌∙◌, subst, inl, inr, arith}
+use Rattle.std.proofs.lemmas.Bool.{cases_lt}
+use Rattle.job_plan.specs.Plans.{Plan, slot}
+use Rattle.message_board.specs.Seats.{Sitting}
+use Rattle.party_program.specs.declared.place.Place.{Place}
+use Rattle.party_program.specs.declared.program.Instruction.{Instruction}
+use Rattle.party_program.specs.declared.program.Instruction.TheVariants.{Deal, Post, End}
+use Rattle.party_program.specs.Programs.{program, at}
+use Rattle.party_program.specs.ProgramPlaces.{IsPlace}
+use Rattle.party_program.specs.Proper.{Proper, IsGivenWord}
+use Rattle.party_program.specs.States.{Given}
+use Rattle.party_desk.specs.declared.desk.Desk.{Desk}
+use Rattle.party_desk.specs.declared.memory.Memory.{Memory}
+use Rattle.party_desk.specs.Memories.{CanDeal, IsMemoryOf}
+use Rattle.party_desk.specs.Desks.{Advanced, IsDesk, NamesSlot, Stands, instruction_at}
+use Rattle.party_desk.specs.Steps.{word_at}
+use Rattle.party_desk.specs.Walks.{GoesBy, MayWalk, NoPosts, Works, Walks, at_place}
+use Rattle.party_desk.proofs.AllowedSteps.{deals, names_own, proper_own, stands, stays}
+
+-- only its place tells where a desk stands in its program
+pub moved_place : (l : Given) (d : Desk) (place : Place) → IsDesk l d → IsPlace l.plan l.party l.session place d.position → IsDesk l (at_place d place)
+moved_place l d place h is = record {
+  suits = h.suits;
+  party = h.party;
+  session = h.session;
+  own_program = h.own_program;
+  instructions = h.instructions;
+  place = is;
+  position = h.position;
+  sent = h.sent;
+  taken = h.taken;
+  fits = h.fits;
+  inputs = h.inputs;
+  piece = h.piece;
+  tape = h.tape;
+  memory = record { rows = h.memory.rows; own = h.memory.own; sums = h.memory.sums; deals = h.memory.deals; outputs = h.memory.outputs };
+}
+
+-- a desk goes by few instructions
+pub few_done : (l : Given) (d : Desk) → IsDesk l d → d.position < 4294967295
+few_done l d h = (stands l d h).position
+
+-- another memory that fits changes nothing of where the desk stands
+pub stands_with : (plan : Plan) (d : Desk) (m : Memory) → Stands plan d → IsMemoryOf plan d.session m → Stands plan (record d { memory = m })
+stands_with plan d m h fits = record {
+  sound = h.sound;
+  session = h.session;
+  party = h.party;
+  own_program = h.own_program;
+  place = h.place;
+  position = h.position;
+  sent = h.sent;
+  taken = h.taken;
+  fits = fits;
+}
+
+-- ---- what a desk of this plan may do
+
+module _ (plan : Plan) (l : Given) (d : Desk) (goes : GoesBy plan l d) where
+  pub goes_stand : Stands plan d
+  goes_stand = subst (λ z. Stands z d) goes.same (stands l d goes.desk)
+
+  pub goes_proper : (i : Instruction) → i ≡ instruction_at l d → Proper plan d.session i
+  goes_proper i is = subst (λ z. Proper z d.session i) goes.same (subst (Proper l.plan d.session) (sym is) (proper_own l d goes.desk))
+
+  pub goes_names : (i : Instruction) → i ≡ instruction_at l d → NamesSlot plan i d.place.slot
+  goes_names i is = subst (λ z. NamesSlot z i d.place.slot) goes.same (subst (λ j. NamesSlot l.plan j d.place.slot) (sym is) (names_own l d goes.desk))
+
+  -- a deal finds its words
+  pub goes_deals : (k j : ℕ) → Deal k j ≡ instruction_at l d → CanDeal plan (slot plan d.session k) d.memory
+  goes_deals k j is =
+      subst (λ z. CanDeal z (slot z d.session k) d.memory) goes.same
+      (subst (λ z. CanDeal l.plan (slot l.plan z k) d.memory) (sym goes.desk.session) (deals l d goes.desk k j (sym is)))
+
+-- ---- instructions without a post
+
+module _ (l : Given) where
+  pub posts_on : (q r s : ℕ) → NoPosts l q r → NoPosts l r s → NoPosts l q s
+  posts_on q r s a b x n i from to is = elim (cases_lt x r) [
+    | inl less ↦ a x n i from less is
+    | inr more ↦ b x n i more to is
+  ]
+
+  pub rest_works : (d : Desk) → IsDesk l d → Works l d d 0
+  rest_works d h = record { desk = h; position = omega arith; no_post = λ x n i from to is. absurd (omega (arith, from, to)) }
+
+  pub works_on : (d e f : Desk) (m n : ℕ) → Works l d e m → Works l e f n → Works l d f (m + n)
+  works_on d e f m n a b =
+      let first = a.position in
+      let second = b.position in
+      record {
+        desk = b.desk;
+        position = omega (arith, first, second);
+        no_post = posts_on d.position e.position f.position a.no_post b.no_post;
+      }
+
+  -- one instruction that is no post and takes what is given
+  pub one_works : (d e : Desk) (w : ℕ) (i : Instruction) → IsDesk l d → instruction_at l d ≡ i → i ≢ End → ((n j : ℕ) → i ≢ Post n j) → IsGivenWord l w i → Advanced l.plan w i d e → Works l d e 1
+  one_works d e w i h is ne no_post given a =
+      let more = a.position in
+      record {
+        desk = stays l d h e w i is ne given a;
+        position = more;
+        no_post = λ x n j from to at'.
+            let here : x ≡ d.position = omega (arith, from, to, more) in
+            no_post n j (sym is ∙ ap (at (program l.plan l.party l.session)) (sym here) ∙ at');
+      }
+
+-- the same of a desk of this plan
+pub goes_one : (plan : Plan) (l : Given) (d e : Desk) (w : ℕ) (i : Instruction) → GoesBy plan l d → i ≡ instruction_at l d → i ≢ End → ((n j : ℕ) → i ≢ Post n j) → IsGivenWord l w i → Advanced plan w i d e → Works l d e 1
+goes_one plan l d e w i goes is ne no_post given a = one_works l d e w i goes.desk (sym is) ne no_post given (subst (λ z. Advanced z w i d e) (sym goes.same) a)
+
+-- ---- instructions with posts
+
+module _ {W : Type 0} (l : Given) where
+  pub rest_walks : (s : Sitting W) (d : Desk) → IsDesk l d → Walks l s d s d 0
+  rest_walks s d h = record {
+    desk = h;
+    position = omega arith;
+    posted = λ x n i from to is. absurd (omega (arith, from, to));
+    grows = λ n v known. known;
+    seats = refl;
+    out = refl;
+  }
+
+  pub works_walk : (s : Sitting W) (d e : Desk) (n : ℕ) → Works l d e n → Walks l s d s e n
+  works_walk s d e n a = record {
+    desk = a.desk;
+    position = a.position;
+    posted = λ x m i from to is. absurd (a.no_post x m i from to is);
+    grows = λ m v known. known;
+    seats = refl;
+    out = refl;
+  }
+
+  pub walks_on : (s t u : Sitting W) (d e f : Desk) (m n : ℕ) → Walks l s d t e m → Walks l t e u f n → Walks l s d u f (m + n)
+  walks_on s t u d e f m n a b =
+      let first = a.position in
+      let second = b.position in
+      record {
+        desk = b.desk;
+        position = omega (arith, first, second);
+        posted = λ x k i from to is. elim (cases_lt x e.position) [
+          | inl l' ↦ b.grows k (word_at l x k i) (a.posted x k i from l' is)
+          | inr l' ↦ b.posted x k i l' to is
+        ];
+        grows = λ k v known. b.grows k v (a.grows k v known);
+        seats = b.seats ∙ a.seats;
+        out = b.out ∙ a.out;
+      }
+
+-- ---- after some instructions a desk may go on
+
+pub works_may : (plan : Plan) (list : List ℕ) (l : Given) (d e : Desk) (n : ℕ) → MayWalk plan list l d → Works l d e n → MayWalk plan list l e
+works_may plan list l d e n may w = record { goes = record { same = may.goes.same; desk = w.desk }; promises = may.promises }
+
+pub walks_may : {W : Type 0} (plan : Plan) (list : List ℕ) (l : Given) (s t : Sitting W) (d e : Desk) (n : ℕ) → MayWalk plan list l d → Walks l s d t e n → MayWalk plan list l e
+walks_may plan list l s t d e n may w = record { goes = record { same = may.goes.same; desk = w.desk }; promises = may.promises }

@@ -1,0 +1,78 @@
+-- Instructions of a desk at gates, one after another, on a board.
+use Rattle.std.specs.Prelude.{◌≡◌, ℕ, ◌+◌, ◌<◌, ◌≤◌, List, length, slice_get, Some}
+use Rattle.job_session.specs.Sessions.{owners}
+use Rattle.job_plan.specs.Plans.{Plan, session}
+use Rattle.message_board.specs.Pairs.{Knows, Grows}
+use Rattle.message_board.specs.Seats.{Sitting, AllBelow}
+use Rattle.party_program.specs.declared.place.Place.{Place}
+use Rattle.party_program.specs.declared.program.Instruction.TheVariants.{Post, Take}
+use Rattle.party_program.specs.Programs.{program, at}
+use Rattle.party_program.specs.ProgramPlaces.{instructions_before, IsPlace, IsProgram}
+use Rattle.party_program.specs.States.{Given}
+use Rattle.party_desk.specs.declared.desk.Desk.{Desk}
+use Rattle.party_desk.specs.Memories.{IsMemoryOf}
+use Rattle.party_desk.specs.Desks.{IsDesk}
+use Rattle.party_desk.specs.Steps.{word_at}
+
+-- the list has the word of each message that the party posts and takes, and each of its words is in the ring
+pub record Promises (given : Given) (list : List ℕ) : Type 0 where
+  pub posts : (q n i : ℕ) → at (program given.plan given.party given.session) q ≡ Post n i
+      → slice_get list n ≡ Some (word_at given q n i)
+  pub takes : (q n i : ℕ) → at (program given.plan given.party given.session) q ≡ Take n i
+      → slice_get list n ≡ Some (given.got n)
+  pub below : AllBelow given.plan.bits list
+
+-- the desk of this plan goes by what is given
+pub record GoesBy (plan : Plan) (given : Given) (d : Desk) : Type 0 where
+  pub same : given.plan ≡ plan
+  pub desk : IsDesk given d
+
+-- the same, and a board promises its words
+pub record MayWalk (plan : Plan) (list : List ℕ) (given : Given) (d : Desk) : Type 0 where
+  pub goes : GoesBy plan given d
+  pub promises : Promises given list
+
+-- no instruction from position q up to position r is a post
+abbrev pub NoPosts : Given → ℕ → ℕ → Type 0
+NoPosts given q r =
+    (x n i : ℕ) → q ≤ x → x < r → at (program given.plan given.party given.session) x ≡ Post n i → ⊥
+
+-- the list has the word of each post from position q up to position r
+abbrev pub HasPosted : Given → ℕ → ℕ → List (ℕ × ℕ) → Type 0
+HasPosted given q r seen =
+    (x n i : ℕ) → q ≤ x → x < r → at (program given.plan given.party given.session) x ≡ Post n i
+    → Knows seen n (word_at given x n i)
+
+-- so many instructions, none of them a post, led from one desk to another
+pub record Works (given : Given) (d d' : Desk) (moves : ℕ) : Type 0 where
+  pub desk : IsDesk given d'
+  pub position : d'.position ≡ d.position + moves
+  pub no_post : NoPosts given d.position d'.position
+
+-- so many instructions led from one desk and seat to the others, and the seat knows what was posted among them
+pub record Walks {W : Type 0} (given : Given) (seat : Sitting W) (d : Desk) (seat' : Sitting W) (d' : Desk)
+    (moves : ℕ) : Type 0 where
+  pub desk : IsDesk given d'
+  pub position : d'.position ≡ d.position + moves
+  pub posted : HasPosted given d.position d'.position seat'.view.seen
+  pub grows : Grows seat.view.seen seat'.view.seen
+  pub seats : seat'.view.seats ≡ seat.view.seats
+  pub out : seat'.view.out ≡ seat.view.out
+
+-- the desk with another place
+abbrev pub at_place : Desk → Place → Desk
+at_place d place = record d { place = place }
+
+-- the desk has done all instructions before slot k, which is of a gate or the first after those, and only its place is
+-- one of before
+pub record IsBefore (plan : Plan) (given : Given) (k : ℕ) (d : Desk) : Type 0 where
+  pub same : given.plan ≡ plan
+  pub from : length (owners (session given.plan given.session)) ≤ k
+  pub to : k ≤ length (owners (session given.plan given.session)) + length (session given.plan given.session).gates
+  pub position : d.position ≡ instructions_before given.plan given.party given.session k
+  pub party : d.party ≡ given.party
+  pub session : d.session ≡ given.session
+  pub own_program : IsProgram given.plan given.party given.session d.program
+  pub fits : IsMemoryOf given.plan given.session d.memory
+  pub desk : (place : Place) → IsPlace given.plan given.party given.session place d.position
+      → IsDesk given (at_place d place)
