@@ -1,0 +1,98 @@
+"""Files of jobs whose faults are told in order: of the top table, its versions, its fields, its sessions, hosts and ports."""
+
+from product import CHECK, Row, Whole
+
+TOP = 'version = 1\nring_bits = 8\nparties = ["a", "b", "c"]\nformula = "2 of (a, b, c)"\n'
+SESSION = '[[session]]\ncircuit = "mul.txt"\nlayout = "ring"\nowners = ["a", "b"]\nreaders = [["c"], []]\n'
+NO_SESSION = 'session = []\n'
+BITS_70 = 'version = 1\nring_bits = 70\n'
+BITS_64 = 'version = 1\nring_bits = 64\n'
+REST = 'formula = ""\nsession = []\n'
+THIRTEEN = 'parties = ["a", "b", "c", "d", "e", "f", "g", "h", "i", "j", "k", "l", "m"]\n'
+BAD_SESSION = '[[session]]\nlayout = "expr"\nowners = ["a", "d"]\nreaders = [["a", "a"]]\n'
+GOOD_SESSION = '[[session]]\ncircuit = "m"\nlayout = "bristol"\n'
+BAD_HOSTS = 'hosts = ["x", ""]\nport = 65393\n'
+LISTED = 'version = 2\nring_bits = 8\nparties = ["a", "b", "c"]\n'
+
+# Texts, and the faults that are told of them.
+VERSIONS = [
+    ('version = ', 'job 1 NotToml'),
+    ('other = 1\n', 'job 3 Missing field=version'),
+    ('version = "1"\nother = 1\n', 'job 5 WrongKind field=version'),
+    ('version = -2\nother = 1\n', 'job 2 Version found=-2'),
+    ('version = 3\n', 'job 2 Version found=3'),
+]
+
+# The least unknown field. A character of a name that may not stand in a line is told as a question mark for each of its bytes.
+UNKNOWN_FIELDS = [
+    ('version = 1\nzoo = 1\n"\u00e9 ?" = 1\n', 'job 4 Unknown name=zoo'),
+    ('version = 1\n"\u00e9 ?" = 1\n', 'job 4 Unknown name=????'),
+]
+
+TOP_FIELDS = [
+    (BITS_70 + 'parties = ["a", 1]\n', 'job 5 WrongKind field=parties'),
+    (BITS_70 + 'parties = []\nformula = "a"\nport = "x"\n', 'job 5 WrongKind field=port'),
+    (BITS_70 + 'parties = []\nformula = "a"\n', 'job 3 Missing field=session'),
+]
+
+BITS_AND_NAMES = [
+    ('version = 1\nring_bits = 65\nparties = []\n' + REST, 'job 6 BadRing bits=65'),
+    (BITS_64 + 'parties = ["a", "b", "a"]\n' + REST, 'names 2 TwiceNamed at=2'),
+    (BITS_64 + 'parties = ["a", "a", "of"]\n' + REST, 'names 2 TwiceNamed at=1'),
+    (BITS_64 + 'parties = ["of"]\n' + REST, 'names 1 BadName at=0'),
+    (BITS_64 + THIRTEEN + REST, 'names 3 PartyCount count=13'),
+    (BITS_64 + 'parties = ["a"]\n' + REST, 'job 12 SessionCount count=0'),
+    (TOP + 17 * SESSION, 'job 12 SessionCount count=17'),
+]
+
+SESSION_FIELDS = [
+    (TOP + SESSION + '[[session]]\nx = 1\n', 'job 4 Unknown session=1 name=x'),
+    (TOP + SESSION + '[[session]]\nlayout = 1\n', 'job 3 Missing session=1 field=circuit'),
+    (TOP + SESSION + '[[session]]\ncircuit = "."\nlayout = 1\n', 'job 5 WrongKind session=1 field=layout'),
+    (TOP + SESSION + '[[session]]\ncircuit = "."\nlayout = ""\nowners = []\nreaders = ["a"]\n', 'job 5 WrongKind session=1 field=readers'),
+]
+
+SESSION_VALUES = [
+    (TOP + SESSION + BAD_SESSION + 'circuit = ".mul.txt"\n', 'job 10 BadFileName session=1'),
+    (TOP + SESSION + BAD_SESSION + 'circuit = "a/b"\n', 'job 10 BadFileName session=1'),
+    (TOP + SESSION + BAD_SESSION + 'circuit = "mul-2_b.txt"\n', 'job 11 BadLayout session=1'),
+    (TOP + SESSION + GOOD_SESSION + 'owners = ["a", "d"]\nreaders = [["a", "a"]]\n', 'job 7 BadOwner session=1 at=1'),
+    (TOP + SESSION + GOOD_SESSION + 'owners = []\nreaders = [[], ["b", "a", "b"]]\n', 'job 8 BadReader session=1 value=1 at=2'),
+    (TOP + SESSION + GOOD_SESSION + 'owners = []\nreaders = [["zz"]]\n', 'job 8 BadReader session=1 value=0 at=0'),
+]
+
+# A session stands before the hosts, and these before the port.
+HOSTS_AND_PORTS = [
+    (TOP + BAD_HOSTS + SESSION + '[[session]]\n', 'job 3 Missing session=1 field=circuit'),
+    (TOP + BAD_HOSTS + SESSION, 'job 13 BadHost at=2'),
+    (TOP + 'hosts = ["x", "a_b", "y"]\nport = 0\n' + SESSION, 'job 13 BadHost at=1'),
+    (TOP + 'port = 65393\n' + SESSION, 'job 14 BadPort port=65393'),
+]
+
+FIELDS_OF_VERSIONS = [
+    (LISTED + 'tolerated = []\nformula = "a"\n' + NO_SESSION, 'job 4 Unknown name=formula'),
+    (TOP + 'tolerated = []\n' + SESSION, 'job 4 Unknown name=tolerated'),
+    (LISTED + 'hosts = 1\n' + NO_SESSION, 'job 3 Missing field=tolerated'),
+    (LISTED + 'tolerated = ["a"]\nhosts = 1\n' + NO_SESSION, 'job 5 WrongKind field=tolerated'),
+]
+
+TOLERATED_GROUPS = [
+    (LISTED + 'tolerated = [["a"], ["b", "x"], ["y"]]\n' + NO_SESSION, 'job 15 BadTolerated value=1 at=1'),
+    (LISTED + 'tolerated = [["a", "b", "a"], ["y"]]\n' + NO_SESSION, 'job 15 BadTolerated value=0 at=2'),
+    (LISTED + 'tolerated = [["a"], ["a"]]\n' + NO_SESSION, 'job 12 SessionCount count=0'),
+    (LISTED + 'tolerated = [' + 4095 * '[],' + '["x"]]\n' + NO_SESSION, 'job 15 BadTolerated value=4095 at=0'),
+    (LISTED + 'tolerated = [' + 4095 * '[],' + '["x"],[]]\n' + NO_SESSION, 'job 16 TooManyTolerated count=4097'),
+]
+
+
+def refused(words, text, fault):
+    """The row of this file of a job, and the fault that is told of it."""
+    return Row(f'{text[-80:]!r}', words, [Whole('job.toml', text.encode())], status=3, err=f'refused {fault}\n')
+
+
+JOB_FILES = [
+    *(refused(CHECK, text, fault) for table in [VERSIONS, UNKNOWN_FIELDS, TOP_FIELDS, BITS_AND_NAMES, SESSION_FIELDS, SESSION_VALUES,
+                                                HOSTS_AND_PORTS, FIELDS_OF_VERSIONS, TOLERATED_GROUPS] for text, fault in table),
+    # A node wants hosts.
+    refused(['node', 'd', 'a'], TOP + SESSION, 'job 3 Missing field=hosts'),
+]

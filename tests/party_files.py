@@ -1,0 +1,101 @@
+"""Files of parties, accepted and refused."""
+
+from product import Edit, RUN, Row, SEED, TAPE_A, Whole
+from views import OF_C, SEEN_BY_C
+
+
+def refused(text, fault):
+    """The row of this file of a, whose fault has this number and name, and these keys."""
+    number, name, *keys = fault.split()
+    data = text if isinstance(text, bytes) else text.encode()
+    return Row(f'{text!r}', RUN, [Whole('party_a.toml', data)], status=3,
+               err=' '.join(['refused party', number, name, 'file=party_a.toml', *keys]) + '\n')
+
+
+# Files whose fields are at fault, and the line of the fault.
+FIELD_FAULTS = [
+    ('', '3 Missing field=version'),
+    ('version = "1"', '5 WrongKind field=version'),
+    ('version = 2', '2 Version found=2'),
+    ('version = -1', '2 Version found=-1'),
+    ('version = 1\nzeta = 1\nalpha = 2', '4 Unknown name=alpha'),
+    ('version = 1', '3 Missing field=inputs'),
+    ('version = 1\ninputs = "5"', '5 WrongKind field=inputs'),
+    ('version = 1\ninputs = [5]', '5 WrongKind field=inputs'),
+    ('version = 1\ninputs = ["5"]\ntape = ["10"]', '5 WrongKind field=tape'),
+    ('version = 1\ninputs = ["5"]\nseed = 0', '5 WrongKind field=seed'),
+    ('version = 1\ninputs = ["5"]\ntape = "10 20 1 2"\nseed = ""', '9 TapeAndSeed'),
+    ('version = 1\ninputs = ["5"]', '3 Missing field=tape'),
+    ('version = 1\ninputs = ["5", "6"]\ntape = ""', '6 CountDiffers wanted=1 found=2'),
+]
+
+# Files whose words are at fault.
+WORD_FAULTS = [
+    ('version = 1\ninputs = ["5 x"]\ntape = ""', '7 BadWords session=0 at=1 cause=NotNumber'),
+    ('version = 1\ninputs = ["256"]\ntape = ""', '8 WordOutOfRing session=0 at=0'),
+    ('version = 1\ninputs = ["5 6"]\ntape = ""', '6 CountDiffers session=0 wanted=1 found=2'),
+    ('version = 1\ninputs = [""]\ntape = ""', '6 CountDiffers session=0 wanted=1 found=0'),
+    ('version = 1\ninputs = ["5"]\ntape = "10 20 1 18446744073709551616"', '7 BadWords at=3 cause=TooLarge'),
+    ('version = 1\ninputs = ["5"]\ntape = "10 256 1 2"', '8 WordOutOfRing at=1'),
+    ('version = 1\ninputs = ["5"]\ntape = "10 20 1 2 256"', '8 WordOutOfRing at=4'),
+    ('version = 1\ninputs = ["5"]\ntape = "10 20 1"', '11 TapeShort wanted=4 found=3'),
+    ('version = 1\ninputs = ["5"]\nseed = "00"', '10 BadSeed'),
+    ('version = 1\ninputs = ["5"]\nseed = "000000000000000000000000000000000000000000000000000000000000000"', '10 BadSeed'),
+    ('version = 1\ninputs = ["5"]\nseed = "000000000000000000000000000000000000000000000000000000000000000g"', '10 BadSeed'),
+]
+
+# Files with two faults, of which the first is told.
+FIRST_FAULTS = [
+    ('version = 2\nfoo = 1', '2 Version found=2'),
+    ('version = 1\nfoo = 1\ninputs = 5', '4 Unknown name=foo'),
+    ('version = 1\ninputs = 5\ntape = 1', '5 WrongKind field=inputs'),
+    ('version = 1\ninputs = []\nseed = 1\ntape = 1', '5 WrongKind field=tape'),
+    ('version = 1\ninputs = []\nseed = ""\ntape = ""', '9 TapeAndSeed'),
+    ('version = 1\ninputs = []', '3 Missing field=tape'),
+    ('version = 1\ninputs = ["x", "y"]\nseed = ""', '6 CountDiffers wanted=1 found=2'),
+    ('version = 1\ninputs = ["256 x"]\nseed = ""', '7 BadWords session=0 at=1 cause=NotNumber'),
+    ('version = 1\ninputs = ["256 7"]\nseed = ""', '8 WordOutOfRing session=0 at=0'),
+    ('version = 1\ninputs = ["5 6"]\nseed = ""', '6 CountDiffers session=0 wanted=1 found=2'),
+    ('version = 1\ninputs = ["5"]\ntape = "256 x"', '7 BadWords at=1 cause=NotNumber'),
+    ('version = 1\ninputs = ["5"]\ntape = "256"', '8 WordOutOfRing at=0'),
+]
+
+# Bytes that are no document.
+NO_DOCUMENTS = [
+    (b'\xff', '1 NotToml'),
+    (b'version = ', '1 NotToml'),
+]
+
+REFUSED_FILES = [refused(text, fault) for text, fault in [*FIELD_FAULTS, *WORD_FAULTS, *FIRST_FAULTS, *NO_DOCUMENTS]]
+
+# The product, with the fields in another order, more blanks, zeros before numbers and more words than are drawn.
+ANOTHER_A = b'version = 1\ninputs = [" 5 "]\ntape = """\n10 020\n1\t2 9\r\n"""'
+ANOTHER_C = b'tape = "5 6"\ninputs = [""]\nversion = 1'
+
+# What c sees where a draws the words of ChaCha20 under 64 zeros, which are ade0b876, 903df1a0, e56a5d40 and 28bd8653. In this ring they
+# are 118 and 160 for the first two summands of 5, and 64 and 83 for those of its products. Those of c are 118 * 40 + 160 * 30, which is
+# 48, so that its third summand is 37; and 35 without 64 + 3 + 5 and 83 + 4 + 6 is 126.
+SEEN_WITH_SEED = ('out 0 0 c 35\n'
+                  'view c\n'
+                  '0 0 0 a c 118\n'
+                  '0 0 1 a c 160\n'
+                  '0 1 0 b c 30\n'
+                  '0 1 1 b c 40\n'
+                  '0 2 0 a c 64\n'
+                  '0 2 1 a c 83\n'
+                  '0 2 0 b c 3\n'
+                  '0 2 1 b c 4\n'
+                  '0 2 0 c b 5\n'
+                  '0 2 1 c a 6\n'
+                  '0 2 2 c a 37\n'
+                  '0 2 2 c b 37\n'
+                  '0 3 2 a c 126\n')
+
+BOTH_CASES = 'seed = "abcdefABCDEF0123456789000000000000000000000000000000000000000000"'
+
+ACCEPTED_FILES = [
+    Row('a_tape_is_cut_to_what_is_drawn', OF_C, [Whole('party_a.toml', ANOTHER_A)], out=SEEN_BY_C),
+    Row('a_party_without_inputs', OF_C, [Whole('party_c.toml', ANOTHER_C)], out=SEEN_BY_C),
+    Row('a_seed_of_zeros', OF_C, [Edit('party_a.toml', TAPE_A, SEED)], out=SEEN_WITH_SEED),
+    Row('a_seed_in_upper_and_lower_case', RUN, [Edit('party_a.toml', TAPE_A, BOTH_CASES)], out='out 0 0 c 35\n'),
+]
