@@ -1,10 +1,12 @@
 //! A desk over cells of another kind: a recorder, which has the words of all messages beforehand and keeps each call.
-ghost use Rattle.std.specs.Prelude.{◌≡◌, ℕ, ◌<◌, ◌^◌, All, Some, IfOk, length, slice_get};
+ghost use Rattle.std.specs.Prelude.{◌≡◌, ℕ, ◌<◌, ◌^◌, [], ◌∷◌, All, Some, IfOk, length, slice_get};
 ghost use Rattle.job_plan.specs.Multiply as multiply;
+ghost use Rattle.job_plan.specs.Plans.{words};
 ghost use Rattle.share_world.specs.Worlds.{World};
 ghost use Rattle.share_world.specs.Multiply.{multiply_world};
 ghost use Rattle.program_laws.specs.Lawful.{given_in};
-ghost use Rattle.party_desk.specs.Desks.{IsDesk};
+ghost use Rattle.party_program.specs.GivenData.{input_count};
+ghost use Rattle.party_desk.specs.Desks.{IsDesk, IsNew};
 ghost use Rattle.desk_laws.specs.InWorld.{IsDeskDone};
 ghost use Rattle.worked_jobs.specs.RecordedWords.{HasWords};
 
@@ -23,7 +25,7 @@ use std::test::Fail;
 use tape_words::Tape;
 
 /// What was asked of a recorder.
-#[derive(Clone, Copy, Debug, PartialEq, Eq)]
+#[derive(Clone, Copy, PartialEq, Eq)]
 enum Call {
     Post(u32, u64),
     Take(u32),
@@ -119,20 +121,41 @@ fn finish_desk(plan: &Plan, desk: &mut Desk, cells: &mut Recorder)
     while let Stepped::Moved = step_in_world(desk, plan, cells) {}
 }
 
+// The third party's tape.
+fn tape(alloc: Global, ring: Ring) -> Result<Tape, Fail>
+    ensures words { IfOk result (λ tape. tape ≡ 5 ∷ 6 ∷ []) }
+    ensures inside { IfOk result (λ tape. All (λ word. word < 2 ^ ring) tape) }
+{
+    match Tape::from_words(ring, vec![in alloc; 5, 6]?) {
+        Ok(tape) => Ok(tape),
+        Err(_) => Err(Fail::from("no tape")),
+    }
+}
+
+// The third party's desk, where it gives nothing.
+fn opened(alloc: Global, plan: &Plan, tape: Tape) -> Result<Desk, Fail>
+    requires party { 2 < plan.now.parties }
+    requires session { 0 < length plan.now.sessions }
+    requires many { 0 ≡ input_count plan.now 2 0 }
+    requires inside { All (λ word. word < 2 ^ plan.now.bits) tape }
+    requires long { length tape ≡ words plan.now 2 0 }
+    ensures { IfOk result (IsNew plan.now 2 0 [] tape) }
+{
+    match Desk::open(alloc, plan, 2, 0, &[], tape) {
+        Ok(desk) => Ok(desk),
+        Err((refused, _)) => Err(Fail::from(refused)),
+    }
+}
+
 // The third party's desk, where 5 and 7 are multiplied.
 fn reader(alloc: Global, plan: &Plan, ring: Ring) -> Result<Desk, Fail>
     requires ring { ring ≡ 8 }
     requires plan { plan.now ≡ multiply.multiply_plan 8 }
     ensures { IfOk result (IsDesk (given_in multiply_world 0 2)) }
 {
-    let tape = match Tape::from_words(ring, vec![in alloc; 5, 6]?) {
-        Ok(tape) => tape,
-        Err(_) => return Err(Fail::from("no tape")),
-    };
-    match Desk::open(alloc, plan, 2, 0, &[], tape) {
-        Ok(desk) => Ok(desk),
-        Err((refused, _)) => Err(Fail::from(refused)),
-    }
+    let tape = tape(alloc, ring)?;
+    let desk = opened(alloc, plan, tape)?;
+    Ok(desk)
 }
 
 fn expect_calls(rt: &impl Abort, cells: &Recorder) {

@@ -30,8 +30,14 @@ fn no_members(alloc: Global) -> Result<Groups, AllocError>
     ensures groups { IfOk result (λ groups. groups ≡ record { parties = 1; groups = 0 ∷ [] }) }
     ensures q2 { IfOk result IsQ2 }
 {
-    let groups = vec![in alloc; Group::empty(1)]?;
+    let groups = vec![in alloc; nobody()]?;
     Ok(Groups::of(1, groups))
+}
+
+fn nobody() -> Group
+    ensures { result ≡ record { parties = 1; mask = 0 } }
+{
+    Group::empty(1)
 }
 
 // Gates of which each squares a wire into the next.

@@ -15,7 +15,7 @@ impl Promise for Words {
     ghost list = { λ p. p.0.value.items };
 }
 
-#[derive(Clone, Copy, Debug, PartialEq, Eq, Drop)]
+#[derive(Clone, Copy, PartialEq, Eq, Drop)]
 struct Token(u64);
 
 impl SlotItem<Words> for Token {

@@ -1,7 +1,7 @@
-//! Worked cases of groups, words, cells and what a party does with them.
+//! Worked cases of texts and files, of groups, words and cells, and of what a party does with them.
 #![tactic(auto)]
 
-/// That both are equal, which the text of the first tells where they are not, or another one. It is a call, since the
+/// That both are equal; the text of the first stands where they are not, or another one. It is a call, since the
 /// proof of a call is far shorter than that of an assertion in place.
 #[cfg(test)]
 macro_rules! expect_same {
@@ -16,7 +16,11 @@ macro_rules! expect_same {
 #[cfg(test)]
 mod boards;
 #[cfg(test)]
+mod builders;
+#[cfg(test)]
 mod check;
+#[cfg(test)]
+mod counts;
 #[cfg(test)]
 mod deals;
 #[cfg(test)]
@@ -24,7 +28,13 @@ mod duties;
 #[cfg(test)]
 mod families;
 #[cfg(test)]
-mod formulas;
+mod fields;
+#[cfg(test)]
+mod groups;
+#[cfg(test)]
+mod job_files;
+#[cfg(test)]
+mod lines;
 #[cfg(test)]
 mod names;
 #[cfg(test)]
@@ -45,3 +55,9 @@ mod rows;
 mod sessions;
 #[cfg(test)]
 mod tapes;
+#[cfg(test)]
+mod tokens;
+#[cfg(test)]
+mod values;
+#[cfg(test)]
+mod words;

@@ -1,5 +1,5 @@
 //! Names of parties.
-use party_set::{Names, NamesFault, read_names};
+use party_set::{Names, read_names};
 use std::alloc::{AllocError, Global};
 use std::process::Abort;
 use std::test::Fail;
@@ -30,19 +30,4 @@ fn names_are_found(rt: HostRuntime) -> Result<(), Fail> {
 fn expect_numbers(rt: &impl Abort, names: &Names) {
     expect_same!(rt; names.number("b_2"), Some(1));
     expect_same!(rt; names.number("b"), None);
-}
-
-/// Names, and their faults.
-const FAULTS: [(&[&str], NamesFault); 2] = [
-    (&["a", "a", "of"], NamesFault::TwiceNamed { at: 1 }),
-    (&["of"], NamesFault::BadName { at: 0 }),
-];
-
-#[test]
-fn the_first_fault_is_told(rt: HostRuntime) -> Result<(), Fail> {
-    for (names, fault) in &FAULTS {
-        let texts = texts_of(rt.alloc(), names)?;
-        expect_same!(rt; read_names(rt.alloc(), &texts).err(), Some(*fault));
-    }
-    Ok(())
 }

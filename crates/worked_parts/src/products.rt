@@ -1,5 +1,5 @@
 //! Own products, and sums of what is dealt of them.
-ghost use Rattle.std.specs.Prelude.{◌≡◌, ◌<◌, [], ◌∷◌, IfOk, length};
+ghost use Rattle.std.specs.Prelude.{◌≡◌, ◌^◌, ◌<◌, [], ◌∷◌, IfOk, length};
 ghost use Rattle.party_set.specs.Parties.{IsQ2};
 
 use mpc_ring::Ring;
@@ -19,7 +19,7 @@ fn three_groups(alloc: Global) -> Result<Groups, AllocError>
 }
 
 fn group(mask: u32) -> Group
-    requires { mask < 8 }
+    requires { mask < 2 ^ 3 }
     ensures { result ≡ record { parties = 3; mask = mask } }
 {
     Group::of_mask(mask, 3).unwrap()

@@ -18,7 +18,7 @@ impl Promise for NoWords {
     ghost list = { λ _. [] };
 }
 
-#[derive(Clone, Copy, Debug, PartialEq, Eq, Drop)]
+#[derive(Clone, Copy, PartialEq, Eq, Drop)]
 struct Item(u64);
 
 // Any item is good for any slot, and posts nothing.

@@ -10,8 +10,8 @@ use std::test::Fail;
 
 // The product of two wires, each of a value of its own.
 fn product(alloc: Global, ring: Ring) -> Result<Circuit, CircuitFault> {
-    let inputs = [1, 1].iter().copied().collect(alloc)?;
-    let outputs = [1].iter().copied().collect(alloc)?;
+    let inputs = vec![in alloc; 1; 2]?;
+    let outputs = vec![in alloc; 1; 1]?;
     let mut builder = Builder::start(alloc, ring, 1, 3, inputs, outputs, [1, 2, 3])?;
     if !builder.is_full() {
         builder.gate(4, Operation::Mul, &[0, 1], &[2])?;

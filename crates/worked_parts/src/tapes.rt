@@ -4,16 +4,21 @@ use std::process::Abort;
 use std::test::Fail;
 use tape_words::{SplitFault, Tape, TapeFault};
 
+fn drawn(tape: &mut Tape) -> Option<u64> {
+    match tape.draw() {
+        Some(drawn) => Some(drawn.spend()),
+        None => None,
+    }
+}
+
 fn assert_draws(rt: &impl Abort, tape: &mut Tape, words: &[u64]) {
     for word in words {
-        let drawn = tape.draw().map(|drawn| drawn.spend());
-        expect_same!(rt; drawn, Some(*word));
+        expect_same!(rt; drawn(tape), Some(*word));
     }
 }
 
 fn assert_empty(rt: &impl Abort, tape: &mut Tape) {
-    let drawn = tape.draw().map(|drawn| drawn.spend());
-    expect_same!(rt; drawn, None);
+    expect_same!(rt; drawn(tape), None);
 }
 
 #[test]

@@ -6,7 +6,7 @@ use std::test::Fail;
 use std::thread::Threads;
 
 /// A job that counts to a number.
-#[derive(Clone, Copy, Debug, PartialEq, Eq)]
+#[derive(Clone, Copy, PartialEq, Eq)]
 struct Count {
     to: u64,
     at: u64,

@@ -1,4 +1,4 @@
-use Rattle.worked_outside.proofs.nets.two_links.Goals as goal
+use Rattle.worked_links.proofs.nets.two_links.Goals as goal
 
 pub returns-clause-fresh : goal.returns-clause-fresh
 returns-clause-fresh c =

@@ -1,20 +1,16 @@
 //! Circuits that are built gate by gate.
 use circuit_model::{Builder, Circuit, CircuitFault, Gate, Operation};
 use mpc_ring::Ring;
-use std::alloc::{AllocError, Global};
+use std::alloc::Global;
 use std::process::Abort;
 use std::test::Fail;
 
 type Line<'a> = (Operation, &'a [u64], &'a [u64]);
 
-fn widths(alloc: Global, list: &[u64]) -> Result<Vec<u64>, AllocError> {
-    list.iter().copied().collect(alloc)
-}
-
 // A circuit over 5 wires of two input values and one output value, each of a wire. Its gates stand from line 4 on.
 fn build(alloc: Global, ring: Ring, lines: &[Line<'_>]) -> Result<Circuit, CircuitFault> {
-    let inputs = widths(alloc, &[1, 1])?;
-    let outputs = widths(alloc, &[1])?;
+    let inputs = vec![in alloc; 1; 2]?;
+    let outputs = vec![in alloc; 1; 1]?;
     let count = lines.len() as u64;
     let mut builder = Builder::start(alloc, ring, count, 5, inputs, outputs, [1, 2, 3])?;
     for (i, (operation, inputs, outputs)) in lines.iter().enumerate() {
@@ -116,7 +112,7 @@ fn a_refusal_stays(rt: HostRuntime) -> Result<(), Fail> {
     let alloc = rt.alloc();
     let ring = Ring::new(1).ok_or("no ring")?;
     let inputs = vec![in alloc; 1]?;
-    let outputs = vec![in alloc; 1]?;
+    let outputs = vec![in alloc; 1; 1]?;
     let mut builder = Builder::start(alloc, ring, 2, 2, inputs, outputs, [1, 2, 3])
         .ok()
         .ok_or("no builder")?;
