@@ -1,0 +1,195 @@
+#!/usr/bin/env python3
+"""Runs the nodes of all parties of a job beside one another, over pipes in memory: networks.py PIPE_NODES
+
+The nodes of each accepted small job and of each example must write what its circuits come to in the clear. Of three nodes, where one has
+another job, can't send to another, or is heard wrong, all must end, with a line each. A node that hears nothing of its first peer before the
+second one has said all must still end well. Ends with status 1, and tells why, where nodes end otherwise.
+"""
+
+import json
+import os
+import pathlib
+import re
+import subprocess
+import sys
+import tempfile
+
+from accepted_runs import ACCEPTED
+from in_the_clear import fields, out_in_the_clear
+from product import Edit, Whole, product_with
+from tolerated_runs import TOLERATED
+from wide_ring_runs import WIDE_RINGS
+
+EXAMPLES = pathlib.Path(__file__).resolve().parent.parent / 'examples'
+MOST_SECONDS = 60
+
+# Room for a hello, a frame and a few bytes more; and for all that is said over a pipe of the product.
+SMALL = 60
+LARGE = 200
+
+
+class Wrong(Exception):
+    """Nodes that ended otherwise."""
+
+
+def with_places(files):
+    """The files with hosts and a port in the job, where it has none."""
+    top, _ = fields(files['job.toml'])
+    if 'hosts' in top:
+        return files
+    places = 'hosts = [' + len(top['parties']) * '"host", ' + ']\nport = 4000\n[[session]]\n'
+    return {**files, 'job.toml': files['job.toml'].replace(b'[[session]]\n', places.encode(), 1)}
+
+
+def write_nodes(top, files, odd=None, other_files=None):
+    """Writes a folder for each party, with the job, its circuits and the party's own file, and gives the names. That of the odd one has
+    other files."""
+    names = fields(files['job.toml'])[0]['parties']
+    for number, name in enumerate(names):
+        its_files = other_files if number == odd else files
+        circuits = {session['circuit'] for session in fields(its_files['job.toml'])[1]}
+        its_files = with_places(its_files)
+        folder = os.path.join(top, name)
+        os.mkdir(folder)
+        for file in ['job.toml', *circuits, f'party_{name}.toml']:
+            with open(os.path.join(folder, file), 'wb') as its_file:
+                its_file.write(its_files[file])
+    return names
+
+
+TEXT = r'("(?:[^"\\]|\\.)*")'
+
+
+def run(program, files, room=SMALL, flaw=('none', 0, 0, 0), odd=None, other_files=None):
+    """How each node ended: its name, its status, and what it wrote on both outputs."""
+    with tempfile.TemporaryDirectory() as top:
+        names = write_nodes(top, files, odd, other_files)
+        words = [program, top, str(room), *map(str, flaw), *names]
+        done = subprocess.run(words, stdin=subprocess.DEVNULL, capture_output=True, text=True, timeout=MOST_SECONDS)
+    if done.returncode != 0:
+        raise Wrong(f'status {done.returncode}: {done.stderr.strip()}')
+    ended = re.findall(rf'^(\w+) (\d+) {TEXT} {TEXT}$', done.stdout, re.M)
+    return [(name, int(status), json.loads(out), json.loads(err)) for name, status, out, err in ended]
+
+
+def lines_for(out, name):
+    return ''.join(line for line in out.splitlines(True) if line.split()[3] == name)
+
+
+def expect_written(files, ended):
+    """That each node wrote the lines of its party, of what the circuits come to in the clear."""
+    out = out_in_the_clear(files)
+    expected = [(name, 0, lines_for(out, name), '') for name in fields(files['job.toml'])[0]['parties']]
+    if ended != expected:
+        raise Wrong(f'{ended}')
+
+
+def expect_faults(ended, begins):
+    """That each of a, b and c ended with status 5 and no output, and with one line that begins so."""
+    if [name for name, *_ in ended] != ['a', 'b', 'c']:
+        raise Wrong(f'{ended}')
+    for (name, status, out, err), begin in zip(ended, begins):
+        if status != 5 or out or not err.startswith(begin) or err.find('\n') != len(err) - 1:
+            raise Wrong(f'{name} ended with status {status}, {out!r} and {err!r}')
+
+
+def accepted_jobs(program):
+    for row in [*ACCEPTED, *WIDE_RINGS, *TOLERATED]:
+        if row.out.startswith('out '):
+            expect_written(row.files(), run(program, row.files()))
+
+
+def examples(program):
+    for expected in sorted(EXAMPLES.glob('*/expected')):
+        files = {file.name: file.read_bytes() for file in expected.parent.iterdir() if file.is_file()}
+        expect_written(files, run(program, files))
+
+
+# Changes that leave the job the same but for its digest, and the line of c where c alone has them. The digests are as `sha256sum` gives them
+# of the lengths and the bytes of both files.
+OTHER_JOBS = [
+    (Edit('job.toml', 'version = 1\n', 'version = 1 # mine\n'),
+     'fault job peer=a '
+     'ours=4d50433100025399ac643208c8742613dec0be88ae18e827390c4563e5158a2c9f0366718708 '
+     'theirs=4d50433100024a69dd53b7941bd0b09ec2815e1d801eed0bdff706e76f11825e3d1d57963515\n'),
+    (Edit('mul.txt', '1 3\n', '1  3\n'),
+     'fault job peer=a '
+     'ours=4d504331000262ba76901505adb89d5b6930212e7fa17af1f502d20aad997c6a07412c474675 '
+     'theirs=4d50433100024a69dd53b7941bd0b09ec2815e1d801eed0bdff706e76f11825e3d1d57963515\n'),
+]
+
+
+def one_with_another_job(program):
+    """A node that sends to one that has stopped reading may tell of that."""
+    for change, line in OTHER_JOBS:
+        for odd, begins in enumerate([['fault ', 'fault job peer=a ', 'fault job peer=a '],
+                                      ['fault ', 'fault job peer=a ', 'fault closed peer=a at='],
+                                      ['fault ', 'fault ', line]]):
+            expect_faults(run(program, product_with([]), odd=odd, other_files=product_with([change])), begins)
+
+
+# After how many bytes from a to c the pipe fails, and how the lines of a, b and c begin. The bytes are a hello of 38, and then frames of 18,
+# of which a sends the first one to b before that to c. Where it fails within the hello, a reads nothing, so a send to it may fail.
+CUTS = [
+    (0, ['fault link peer=c\n', 'fault ', 'fault ']),
+    (37, ['fault link peer=c\n', 'fault ', 'fault ']),
+    (38, ['fault link peer=c\n', 'fault closed peer=a at=56\n', 'fault closed peer=a at=38\n']),
+    (73, ['fault link peer=c\n', 'fault closed peer=a at=56\n', 'fault closed peer=a at=73\n']),
+]
+
+
+def one_that_can_not_send(program):
+    for count, begins in CUTS:
+        expect_faults(run(program, product_with([]), flaw=('fails', count, 0, 2)), begins)
+
+
+# The changes that make of the product a sum of the first of five words of a and one of b: more frames from a to c than a pipe has room for,
+# and then some from b to c.
+FIVE_WORDS = [
+    Whole('mul.txt', b'1 7\n2 5 1\n1 1\n2 1 0 5 6 ADD\n'),
+    Edit('party_a.toml', '5', '5 4 3 2 1'),
+    Edit('party_a.toml', '10 20 1 2', '0 1 2 3 4 5 6 7 8 9'),
+    Edit('party_b.toml', '30 40 3 4', '30 40'),
+    Edit('party_c.toml', '5 6', ''),
+]
+
+# The first frame from a to c, but for its session, in which a byte was changed.
+OTHER_FRAME = 'fault frame peer=a at=38 bytes=010200000000000000020000000000000000\n'
+
+
+def one_that_hears_another_frame(program):
+    ended = run(program, product_with(FIVE_WORDS), flaw=('changes', 39, 0, 2))
+    expect_faults(ended, ['fault link peer=c\n', 'fault closed peer=a at=', OTHER_FRAME])
+
+
+# How many bytes b says to c: a hello of 38, and four frames of 18.
+SAID_BY_B = 110
+
+
+def one_that_hears_its_second_peer_first(program):
+    """So a node hears its peers at once. The pipes have room for all that a says, which goes on without c."""
+    files = product_with([])
+    expect_written(files, run(program, files, room=LARGE, flaw=('held', SAID_BY_B, 0, 2)))
+
+
+CASES = [accepted_jobs, examples, one_with_another_job, one_that_can_not_send, one_that_hears_another_frame,
+         one_that_hears_its_second_peer_first]
+
+
+def main(words):
+    if len(words) != 2:
+        sys.exit('usage: networks.py PIPE_NODES')
+    status = 0
+    for case in CASES:
+        name = case.__name__.replace('_', ' ')
+        try:
+            case(os.path.abspath(words[1]))
+            print(f'networks: {name}: as expected')
+        except (Wrong, subprocess.TimeoutExpired) as wrong:
+            print(f'networks: {name}: NOT AS EXPECTED: {wrong}')
+            status = 1
+    return status
+
+
+if __name__ == '__main__':
+    sys.exit(main(sys.argv))
