@@ -1,5 +1,5 @@
 //! Calls from their words and files to their bytes, with what no file shows: nodes over links in memory, whole ones and faulty
-//! ones, and workers that are held in their first call.
+//! ones, workers that are held in their first call, and runs beside their circuits in the clear.
 #![tactic(auto)]
 
 #[cfg(test)]
@@ -10,6 +10,8 @@ mod changed_files;
 mod expect;
 #[cfg(test)]
 mod faults;
+#[cfg(test)]
+mod in_the_clear;
 #[cfg(test)]
 mod other_bytes;
 #[cfg(test)]

@@ -120,7 +120,7 @@ struct Row<'a> {
 }
 
 /// A net that gives no links but to a party that is alone.
-fn no_net(alloc: Global) -> PipeNet {
+pub fn no_net(alloc: Global) -> PipeNet {
     let links = Links {
         inlets: Vec::new(alloc),
         outlets: Vec::new(alloc),
@@ -129,7 +129,7 @@ fn no_net(alloc: Global) -> PipeNet {
 }
 
 /// A sink that takes what a row writes.
-fn sink(alloc: Global) -> Result<VecSink, AllocError> {
+pub fn sink(alloc: Global) -> Result<VecSink, AllocError> {
     Ok(VecSink::new(Vec::with_capacity(alloc, 300)?, 300, Vec::new(alloc)))
 }
 
