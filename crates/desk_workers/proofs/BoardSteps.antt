@@ -9,16 +9,15 @@ use Rattle.share_world.specs.Laws.{IsWhole}
 use Rattle.share_world.specs.Worlds.{World, word}
 use Rattle.message_board.specs.declared.cells.Posted.{Posted}
 use Rattle.message_board.specs.declared.cells.Cells.{Ghosts as Meaning}
-use Rattle.message_board.specs.declared.steps.View.{View}
 use Rattle.message_board.specs.Pairs.{Knows, Grows}
-use Rattle.message_board.specs.Rule.{posts}
-use Rattle.message_board.specs.Seats.{BoardModel, Sitting, IsPostAnswer, IsSeatOf, HasPosted, HasTaken, AllBelow}
+use Rattle.message_board.specs.Seats.{BoardModel, Sitting, IsSeatOf, HasPosted, HasTaken, AllBelow}
 use Rattle.party_program.specs.declared.program.Instruction.{Instruction}
 use Rattle.party_program.specs.declared.program.Instruction.TheVariants.{Deal, Post, Take, Linear, Own, Sum, Deliver, End}
 use Rattle.party_desk.specs.declared.desk.Desk.{Desk}
 use Rattle.party_desk.specs.declared.desk.Stepped.{Stepped}
 use Rattle.party_desk.specs.declared.desk.Stepped.TheVariants.{Moved, NotYet, Ended}
 use Rattle.party_desk.specs.Desks.{instruction_at}
+use Rattle.party_desk.proofs.GatePosts.{post_view}
 use Rattle.program_laws.specs.Lawful.{given_to, program_of}
 use Rattle.program_laws.proofs.LawfulWorlds.{lawful}
 use Rattle.message_board.specs.declared.seat_at.SeatAt.{SeatAt}
@@ -66,11 +65,6 @@ record Kept (s t : Sitting Promised) : Type 0 where
 
 same_seat : (s t : Sitting Promised) → t ≡ s → Kept s t
 same_seat s t e = subst (Kept s) (sym e) record { grows = λ n v known. known; seats = refl; out = refl }
-
-post_view : (v : View Promised) (n x : ℕ) (r : Posted) → IsPostAnswer x r
-    → ((posts v n x r).seen ≡ (n, x) ∷ v.seen) × ((posts v n x r).seats ≡ v.seats) × ((posts v n x r).out ≡ v.out)
-post_view v n x r (inl e) = subst (λ r. ((posts v n x r).seen ≡ (n, x) ∷ v.seen) × ((posts v n x r).seats ≡ v.seats) × ((posts v n x r).out ≡ v.out)) (sym e) (refl, refl, refl)
-post_view v n x r (inr e) = subst (λ r. ((posts v n x r).seen ≡ (n, x) ∷ v.seen) × ((posts v n x r).seats ≡ v.seats) × ((posts v n x r).out ≡ v.out)) (sym e) (refl, refl, refl)
 
 module _ (board : BoardModel Promised) (s t : Sitting Promised) where
   pub post_known : (n x : ℕ) (r : Posted) → HasPosted board s t n x r → Knows t.view.seen n x

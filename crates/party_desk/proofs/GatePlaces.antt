@@ -29,7 +29,7 @@ use Rattle.party_desk.specs.declared.memory.Memory.{Memory}
 use Rattle.party_desk.specs.Memories.{state_of, row_of, Alike, IsMemoryOf, KeepsGiven}
 use Rattle.party_desk.specs.Rows.{gate_on_rows}
 use Rattle.party_desk.specs.Desks.{Advanced, IsDesk, after_on_rows, instruction_at, posts_in, takes_in}
-use Rattle.party_desk.specs.Walks.{GoesBy, IsBefore, NoPosts, Works, at_place}
+use Rattle.party_desk.specs.Walks.{IsDeskOfPlan, IsBefore, NoPosts, Works, at_place}
 use Rattle.party_desk.proofs.AllowedSteps.{proper, stays}
 use Rattle.party_desk.proofs.GateWalks.{few_done, moved_place}
 
@@ -137,7 +137,7 @@ module _ (l : Given) (d : Desk) (h : IsDesk l d) (more : instruction_at l d ≢ 
   sum_here k is = placed_sum _ _ _ k _ (sym here ∙ is)
 
 -- a desk that deals next stands in its slot, which is the one that the deal names
-module _ (plan : Plan) (l : Given) (d : Desk) (goes : GoesBy plan l d) (k n : ℕ) (is : instruction_at l d ≡ Deal k n) where
+module _ (plan : Plan) (l : Given) (d : Desk) (goes : IsDeskOfPlan plan l d) (k n : ℕ) (is : instruction_at l d ≡ Deal k n) where
   deals_on : instruction_at l d ≢ End
   deals_on z = let both : Deal k n ≡ End = sym is ∙ z in cc
 
@@ -151,7 +151,7 @@ module _ (plan : Plan) (l : Given) (d : Desk) (goes : GoesBy plan l d) (k n : �
 
 -- ---- before the slot of a gate
 
-module _ (plan : Plan) (l : Given) (d : Desk) (goes : GoesBy plan l d) (k : ℕ) where
+module _ (plan : Plan) (l : Given) (d : Desk) (goes : IsDeskOfPlan plan l d) (k : ℕ) where
   abbrev slot_proper : (i : Instruction) → instruction_at l d ≡ i → Proper l.plan l.session i
   slot_proper i is = subst (Proper l.plan l.session) is (proper l d goes.desk)
 
@@ -266,7 +266,7 @@ module _ (plan : Plan) (l : Given) (d : Desk) (k : ℕ) (before : IsBefore plan 
       let both : Linear k ≡ Post n i = sym linear_there ∙ ap (at (program l.plan l.party l.session)) (sym here) ∙ is in cc
 
 -- a desk at a linear gate leaves, with its memory after that, all before the next slot done
-pub linear_after : (plan : Plan) (l : Given) (d : Desk) (goes : GoesBy plan l d) (k : ℕ) → instruction_at l d ≡ Linear k → d.place.pattern ≡ Silent → (m : Memory) → IsMemoryOf plan d.session m → KeepsGiven d.memory m
+pub linear_after : (plan : Plan) (l : Given) (d : Desk) (goes : IsDeskOfPlan plan l d) (k : ℕ) → instruction_at l d ≡ Linear k → d.place.pattern ≡ Silent → (m : Memory) → IsMemoryOf plan d.session m → KeepsGiven d.memory m
     → Alike (length plan.groups) (state_of (length plan.groups) m) (computed (2 ^ plan.bits) (gate_on_rows (row_of d.memory) (gate_at plan d.session k)) (state_of (length plan.groups) d.memory))
     → IsBefore plan l (k + 1) (record d { position = d.position + 1; memory = m })
 linear_after plan l d goes k is silent m fits kept state =

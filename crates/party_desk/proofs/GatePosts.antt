@@ -17,11 +17,11 @@ use Rattle.party_desk.specs.declared.desk.Desk.{Desk}
 use Rattle.party_desk.specs.declared.memory.Memory.{Memory}
 use Rattle.party_desk.specs.Memories.{state_of, row_of, Alike, IsMemoryOf, KeepsGiven}
 use Rattle.party_desk.specs.Rows.{slot_on_rows}
-use Rattle.party_desk.specs.Desks.{Advanced, IsDesk, instruction_at, word_in_memory}
+use Rattle.party_desk.specs.Desks.{Advanced, IsDesk, Stands, instruction_at, word_in_memory}
 use Rattle.party_desk.specs.Steps.{word_at}
-use Rattle.party_desk.specs.Walks.{GoesBy, Walks}
-use Rattle.party_desk.proofs.AllowedSteps.{posts_right, stays}
-use Rattle.party_desk.proofs.GateWalks.{rest_walks}
+use Rattle.party_desk.specs.Walks.{IsDeskOfPlan, Walks}
+use Rattle.party_desk.proofs.AllowedSteps.{posts_right, stands, stays}
+use Rattle.party_desk.proofs.GateWalks.{goes_stand, rest_walks, stands_with}
 
 -- the place so many steps on in its slot
 abbrev pub further : Place → ℕ → Place
@@ -88,7 +88,7 @@ module _ (plan : Plan) (p s : ℕ) (place : Place) (q : ℕ) (is : IsPlace plan 
       }
 
 -- the instruction that was found at the place of a desk
-module _ (plan : Plan) (l : Given) (d : Desk) (goes : GoesBy plan l d) where
+module _ (plan : Plan) (l : Given) (d : Desk) (goes : IsDeskOfPlan plan l d) where
   pub goes_place : IsPlace plan d.program.party d.program.session d.place d.position
   goes_place =
       let own = goes.desk.own_program in
@@ -102,7 +102,7 @@ module _ (plan : Plan) (l : Given) (d : Desk) (goes : GoesBy plan l d) where
       found d.position goes_place ∙ (λ z. at (program (sym goes.same z) (own.of_party z) (own.of_session z)) d.position)
 
   -- the instruction that was found so many steps ahead of another desk's place
-  pub goes_ahead : (i : Instruction) (e : Desk) (moves : ℕ) → e.program ≡ d.program → e.position ≡ d.position + moves → GoesBy plan l e
+  pub goes_ahead : (i : Instruction) (e : Desk) (moves : ℕ) → e.program ≡ d.program → e.position ≡ d.position + moves → IsDeskOfPlan plan l e
       → ((q : ℕ) → IsPlace plan d.program.party d.program.session d.place q → i ≡ at (program plan d.program.party d.program.session) (q + moves)) → i ≡ instruction_at l e
   goes_ahead i e moves same far may found =
       let own = goes.desk.own_program in
@@ -113,11 +113,19 @@ module _ (plan : Plan) (l : Given) (d : Desk) (goes : GoesBy plan l d) where
   goes_word n i w is found = found ∙ ap (λ z. word_in_memory z d n i) (sym goes.same) ∙ posts_right l d goes.desk n i is
 
 -- the take that was found so many steps ahead, where the memory alone has changed since the desk stood at its place
-pub takes_at : (plan : Plan) (l : Given) (d e : Desk) (moves n i : ℕ) → GoesBy plan l d → GoesBy plan l (taken_on e moves) → e ≡ record d { memory = e.memory }
+pub takes_at : (plan : Plan) (l : Given) (d e : Desk) (moves n i : ℕ) → IsDeskOfPlan plan l d → IsDeskOfPlan plan l (taken_on e moves) → e ≡ record d { memory = e.memory }
     → ((q : ℕ) → IsPlace plan e.program.party e.program.session d.place q → Take n i ≡ at (program plan e.program.party e.program.session) (q + moves)) → instruction_at l (taken_on e moves) ≡ Take n i
 takes_at plan l d e moves n i goes may same found =
     sym (goes_ahead plan l d goes (Take n i) (taken_on e moves) moves (ap (λ (z : Desk). z.program) same) (ap (λ (z : Desk). z.position + moves) same) may
     (subst (λ (z : Desk). (q : ℕ) → IsPlace plan z.program.party z.program.session d.place q → Take n i ≡ at (program plan z.program.party z.program.session) (q + moves)) same found))
+
+-- a desk that has taken so many words stands in its plan where it stood before, with the memory that it has now
+pub takes_stand : (plan : Plan) (l : Given) (d e : Desk) (moves : ℕ) → IsDeskOfPlan plan l d → IsDesk l (taken_on e moves) → e ≡ record d { memory = e.memory } → Stands plan e
+takes_stand plan l d e moves goes desk same =
+    let fits : IsMemoryOf plan d.session e.memory =
+    subst (λ z. IsMemoryOf plan z e.memory) (ap (λ (z : Desk). z.session) same)
+    (subst (λ (z : Plan). IsMemoryOf z e.session e.memory) goes.same (stands l (taken_on e moves) desk).fits) in
+    subst (Stands plan) (sym same) (stands_with plan d e.memory (goes_stand plan l d goes) fits)
 
 -- a promised word that was taken is the one that is given
 pub took_given : (w got : ℕ) (found : Option ℕ) → found ≡ Some w → found ≡ Some got → w ≡ got
@@ -126,7 +134,7 @@ took_given w got found is promised = let both : Some w ≡ Some got = sym is ∙
 -- ---- what a post and a take do to a seat
 
 module _ {W : Type 0} where
-  post_view : (v : View W) (n x : ℕ) (r : Posted) → IsPostAnswer x r → ((posts v n x r).seen ≡ (n, x) ∷ v.seen) × ((posts v n x r).seats ≡ v.seats) × ((posts v n x r).out ≡ v.out)
+  pub post_view : (v : View W) (n x : ℕ) (r : Posted) → IsPostAnswer x r → ((posts v n x r).seen ≡ (n, x) ∷ v.seen) × ((posts v n x r).seats ≡ v.seats) × ((posts v n x r).out ≡ v.out)
   post_view v n x r (inl e) = subst (λ r. ((posts v n x r).seen ≡ (n, x) ∷ v.seen) × ((posts v n x r).seats ≡ v.seats) × ((posts v n x r).out ≡ v.out)) (sym e) (refl, refl, refl)
   post_view v n x r (inr e) = subst (λ r. ((posts v n x r).seen ≡ (n, x) ∷ v.seen) × ((posts v n x r).seats ≡ v.seats) × ((posts v n x r).out ≡ v.out)) (sym e) (refl, refl, refl)
 

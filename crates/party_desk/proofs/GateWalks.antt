@@ -15,7 +15,7 @@ use Rattle.party_desk.specs.declared.memory.Memory.{Memory}
 use Rattle.party_desk.specs.Memories.{CanDeal, IsMemoryOf}
 use Rattle.party_desk.specs.Desks.{Advanced, IsDesk, NamesSlot, Stands, instruction_at}
 use Rattle.party_desk.specs.Steps.{word_at}
-use Rattle.party_desk.specs.Walks.{GoesBy, MayWalk, NoPosts, Works, Walks, at_place}
+use Rattle.party_desk.specs.Walks.{IsDeskOfPlan, MayWalk, NoPosts, Works, Walks, at_place}
 use Rattle.party_desk.proofs.AllowedSteps.{deals, names_own, proper_own, stands, stays}
 
 -- only its place tells where a desk stands in its program
@@ -57,7 +57,7 @@ stands_with plan d m h fits = record {
 
 -- ---- what a desk of this plan may do
 
-module _ (plan : Plan) (l : Given) (d : Desk) (goes : GoesBy plan l d) where
+module _ (plan : Plan) (l : Given) (d : Desk) (goes : IsDeskOfPlan plan l d) where
   pub goes_stand : Stands plan d
   goes_stand = subst (λ z. Stands z d) goes.same (stands l d goes.desk)
 
@@ -108,7 +108,7 @@ module _ (l : Given) where
       }
 
 -- the same of a desk of this plan
-pub goes_one : (plan : Plan) (l : Given) (d e : Desk) (w : ℕ) (i : Instruction) → GoesBy plan l d → i ≡ instruction_at l d → i ≢ End → ((n j : ℕ) → i ≢ Post n j) → IsGivenWord l w i → Advanced plan w i d e → Works l d e 1
+pub goes_one : (plan : Plan) (l : Given) (d e : Desk) (w : ℕ) (i : Instruction) → IsDeskOfPlan plan l d → i ≡ instruction_at l d → i ≢ End → ((n j : ℕ) → i ≢ Post n j) → IsGivenWord l w i → Advanced plan w i d e → Works l d e 1
 goes_one plan l d e w i goes is ne no_post given a = one_works l d e w i goes.desk (sym is) ne no_post given (subst (λ z. Advanced z w i d e) (sym goes.same) a)
 
 -- ---- instructions with posts

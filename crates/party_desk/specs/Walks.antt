@@ -22,14 +22,14 @@ pub record Promises (given : Given) (list : List ℕ) : Type 0 where
       → slice_get list n ≡ Some (given.got n)
   pub below : AllBelow given.plan.bits list
 
--- the desk of this plan goes by what is given
-pub record GoesBy (plan : Plan) (given : Given) (d : Desk) : Type 0 where
+-- the desk is one of this plan, and goes by what is given
+pub record IsDeskOfPlan (plan : Plan) (given : Given) (d : Desk) : Type 0 where
   pub same : given.plan ≡ plan
   pub desk : IsDesk given d
 
 -- the same, and a board promises its words
 pub record MayWalk (plan : Plan) (list : List ℕ) (given : Given) (d : Desk) : Type 0 where
-  pub goes : GoesBy plan given d
+  pub goes : IsDeskOfPlan plan given d
   pub promises : Promises given list
 
 -- no instruction from position q up to position r is a post
@@ -38,8 +38,8 @@ NoPosts given q r =
     (x n i : ℕ) → q ≤ x → x < r → at (program given.plan given.party given.session) x ≡ Post n i → ⊥
 
 -- the list has the word of each post from position q up to position r
-abbrev pub HasPosted : Given → ℕ → ℕ → List (ℕ × ℕ) → Type 0
-HasPosted given q r seen =
+abbrev pub KnowsPosts : Given → ℕ → ℕ → List (ℕ × ℕ) → Type 0
+KnowsPosts given q r seen =
     (x n i : ℕ) → q ≤ x → x < r → at (program given.plan given.party given.session) x ≡ Post n i
     → Knows seen n (word_at given x n i)
 
@@ -54,7 +54,7 @@ pub record Walks {W : Type 0} (given : Given) (seat : Sitting W) (d : Desk) (sea
     (moves : ℕ) : Type 0 where
   pub desk : IsDesk given d'
   pub position : d'.position ≡ d.position + moves
-  pub posted : HasPosted given d.position d'.position seat'.view.seen
+  pub posted : KnowsPosts given d.position d'.position seat'.view.seen
   pub grows : Grows seat.view.seen seat'.view.seen
   pub seats : seat'.view.seats ≡ seat.view.seats
   pub out : seat'.view.out ≡ seat.view.out

@@ -12,7 +12,7 @@ impl Desk {
     ghost use Rattle.job_plan.specs.declared.pattern.Pattern.TheVariants.{Silent};
     ghost use Rattle.party_program.specs.States.{Given};
     ghost use Rattle.party_desk.specs.Desks.{instruction_at};
-    ghost use Rattle.party_desk.specs.Walks.{GoesBy, MayWalk, Works, Walks, IsBefore};
+    ghost use Rattle.party_desk.specs.Walks.{IsDeskOfPlan, MayWalk, Works, Walks, IsBefore};
 
     /// Does the instructions that come next as long as they are of gates, until one waits for a message, and answers how
     /// many they were.
@@ -88,8 +88,8 @@ impl Desk {
     // The next instruction.
     #[inline(always)]
     fn next(&self, plan: &Plan) -> Instruction
-        requires { (given : Given) × GoesBy plan.now given self.now }
-        ensures { (given : Given) → GoesBy plan.now given self.now → result ≡ instruction_at given self.now }
+        requires { (given : Given) × IsDeskOfPlan plan.now given self.now }
+        ensures { (given : Given) → IsDeskOfPlan plan.now given self.now → result ≡ instruction_at given self.now }
     {
         self.program.instruction_at(plan, &self.place)
     }
@@ -97,8 +97,8 @@ impl Desk {
     // Forms the own product, if that comes next.
     #[inline(always)]
     fn multiply_next(&mut self, plan: &Plan) -> u32
-        requires { (given : Given) × GoesBy plan.now given self.old }
-        ensures works { (given : Given) → GoesBy plan.now given self.old → Works given self.old self.new result }
+        requires { (given : Given) × IsDeskOfPlan plan.now given self.old }
+        ensures works { (given : Given) → IsDeskOfPlan plan.now given self.old → Works given self.old self.new result }
         ensures still { result ≡ 0 → self.new ≡ self.old }
     {
         let Instruction::Own { slot } = self.next(plan) else {
@@ -111,8 +111,8 @@ impl Desk {
     // Deals the own product, if that comes next.
     #[inline(always)]
     fn deal_next(&mut self, plan: &Plan) -> u32
-        requires { (given : Given) × GoesBy plan.now given self.old }
-        ensures works { (given : Given) → GoesBy plan.now given self.old → Works given self.old self.new result }
+        requires { (given : Given) × IsDeskOfPlan plan.now given self.old }
+        ensures works { (given : Given) → IsDeskOfPlan plan.now given self.old → Works given self.old self.new result }
         ensures still { result ≡ 0 → self.new ≡ self.old }
     {
         let Pattern::Multiplied = self.place.pattern() else {
@@ -200,8 +200,8 @@ impl Desk {
     // The sum of a product, if that comes next, and the linear gates after it.
     #[inline(always)]
     fn sum_next(&mut self, plan: &Plan) -> u32
-        requires { (given : Given) × GoesBy plan.now given self.old }
-        ensures works { (given : Given) → GoesBy plan.now given self.old → Works given self.old self.new result }
+        requires { (given : Given) × IsDeskOfPlan plan.now given self.old }
+        ensures works { (given : Given) → IsDeskOfPlan plan.now given self.old → Works given self.old self.new result }
         ensures still { result ≡ 0 → self.new ≡ self.old }
     {
         let Pattern::Multiplied = self.place.pattern() else {
@@ -220,8 +220,8 @@ impl Desk {
     // The linear gates that come next.
     #[inline(always)]
     fn gates_next(&mut self, plan: &Plan) -> u32
-        requires { (given : Given) × GoesBy plan.now given self.old }
-        ensures works { (given : Given) → GoesBy plan.now given self.old → Works given self.old self.new result }
+        requires { (given : Given) × IsDeskOfPlan plan.now given self.old }
+        ensures works { (given : Given) → IsDeskOfPlan plan.now given self.old → Works given self.old self.new result }
         ensures still { result ≡ 0 → self.new ≡ self.old }
     {
         let Pattern::Silent = self.place.pattern() else {
@@ -237,10 +237,10 @@ impl Desk {
     // The sum of a product, the last instruction of its slot. The place stays behind.
     #[inline(always)]
     fn end_product(&mut self, plan: &Plan, slot: u32)
-        requires goes { (given : Given) × GoesBy plan.now given self.old }
-        requires sum { (given : Given) → GoesBy plan.now given self.old → instruction_at given self.old ≡ Sum slot }
+        requires goes { (given : Given) × IsDeskOfPlan plan.now given self.old }
+        requires sum { (given : Given) → IsDeskOfPlan plan.now given self.old → instruction_at given self.old ≡ Sum slot }
         requires last { self.old.place.count ≤ self.old.place.done + 1 }
-        ensures before { (given : Given) → GoesBy plan.now given self.old → IsBefore plan.now given (slot + 1) self.new }
+        ensures before { (given : Given) → IsDeskOfPlan plan.now given self.old → IsBefore plan.now given (slot + 1) self.new }
         ensures position { self.new.position ≡ self.old.position + 1 }
     {
         let gate = self.gate(plan, slot);
@@ -251,10 +251,10 @@ impl Desk {
     // A linear gate, the only instruction of its slot. The place stays behind.
     #[inline(always)]
     fn end_gate(&mut self, plan: &Plan, slot: u32)
-        requires goes { (given : Given) × GoesBy plan.now given self.old }
-        requires linear { (given : Given) → GoesBy plan.now given self.old → instruction_at given self.old ≡ Linear slot }
+        requires goes { (given : Given) × IsDeskOfPlan plan.now given self.old }
+        requires linear { (given : Given) → IsDeskOfPlan plan.now given self.old → instruction_at given self.old ≡ Linear slot }
         requires silent { self.old.place.pattern ≡ Silent }
-        ensures before { (given : Given) → GoesBy plan.now given self.old → IsBefore plan.now given (slot + 1) self.new }
+        ensures before { (given : Given) → IsDeskOfPlan plan.now given self.old → IsBefore plan.now given (slot + 1) self.new }
         ensures position { self.new.position ≡ self.old.position + 1 }
     {
         let gate = self.gate(plan, slot);

@@ -3,7 +3,7 @@ use Rattle.party_program.specs.declared.program.Instruction.{Instruction}
 use Rattle.party_program.specs.declared.program.Instruction.TheVariants.{Post}
 use Rattle.party_desk.specs.declared.desk.Desk.{Desk}
 use Rattle.party_desk.specs.Desks.{instruction_at}
-use Rattle.party_desk.specs.Walks.{GoesBy}
+use Rattle.party_desk.specs.Walks.{IsDeskOfPlan}
 use Rattle.party_desk.proofs.AllowedSteps.{stands}
 use Rattle.party_desk.proofs.GateWalks.{goes_names, goes_proper, goes_stand, walks_on}
 use Rattle.party_desk.proofs.GatePosts.{goes_ahead, goes_word, post_walks, posted_more, posted_on, posts_start, still_posting}
@@ -24,7 +24,7 @@ word-word-requires-clause-proper g c =
     let given = c.requires.may.0 in
     let may = c.requires.may.1 in
     let e : Desk = posted_on c.args.self.now c.loop-number.moves in
-    let goes : GoesBy plan given e = record { same = may.goes.same; desk = (c.loop-number.invariant.1 given may).desk } in
+    let goes : IsDeskOfPlan plan given e = record { same = may.goes.same; desk = (c.loop-number.invariant.1 given may).desk } in
     let found : Instruction = Post c.in-Some-Post.number c.in-Some-Post.share in
     goes_proper plan given e goes found (goes_ahead plan given c.args.self.now may.goes found e c.loop-number.moves refl refl goes (λ q here. sym c.in-Some-Post.field-0-is ∙ c.in-Some-Post.ensures.1 q here))
 
@@ -34,7 +34,7 @@ word-word-requires-clause-here g c =
     let given = c.requires.may.0 in
     let may = c.requires.may.1 in
     let e : Desk = posted_on c.args.self.now c.loop-number.moves in
-    let goes : GoesBy plan given e = record { same = may.goes.same; desk = (c.loop-number.invariant.1 given may).desk } in
+    let goes : IsDeskOfPlan plan given e = record { same = may.goes.same; desk = (c.loop-number.invariant.1 given may).desk } in
     let found : Instruction = Post c.in-Some-Post.number c.in-Some-Post.share in
     goes_names plan given e goes found (goes_ahead plan given c.args.self.now may.goes found e c.loop-number.moves refl refl goes (λ q here. sym c.in-Some-Post.field-0-is ∙ c.in-Some-Post.ensures.1 q here))
 
@@ -44,7 +44,7 @@ post-requires-clause-promised g c =
     let given = c.requires.may.0 in
     let may = c.requires.may.1 in
     let e : Desk = posted_on c.args.self.now c.loop-number.moves in
-    let goes : GoesBy plan given e = record { same = may.goes.same; desk = (c.loop-number.invariant.1 given may).desk } in
+    let goes : IsDeskOfPlan plan given e = record { same = may.goes.same; desk = (c.loop-number.invariant.1 given may).desk } in
     let found : Instruction = Post c.in-Some-Post.number c.in-Some-Post.share in
     let is : instruction_at given e ≡ found = sym (goes_ahead plan given c.args.self.now may.goes found e c.loop-number.moves refl refl goes (λ q here. sym c.in-Some-Post.field-0-is ∙ c.in-Some-Post.ensures.1 q here)) in
     may.promises.posts e.position c.in-Some-Post.number c.in-Some-Post.share is
@@ -59,7 +59,7 @@ loop-number-preserved g c = (
       let so_far = c.loop-number.invariant.1 given may in
       let e : Desk = posted_on d c.loop-number.moves in
       let f : Desk = posted_on d (c.loop-number.moves + 1) in
-      let goes : GoesBy plan given e = record { same = may.goes.same; desk = so_far.desk } in
+      let goes : IsDeskOfPlan plan given e = record { same = may.goes.same; desk = so_far.desk } in
       let n = c.in-Some-Post.number in
       let i = c.in-Some-Post.share in
       let is : instruction_at given e ≡ Post n i = sym (goes_ahead plan given d may.goes (Post n i) e c.loop-number.moves refl refl goes (λ q here. sym c.in-Some-Post.field-0-is ∙ c.in-Some-Post.ensures.1 q here)) in

@@ -6,11 +6,10 @@ use Rattle.party_program.specs.States.{slot_of, took_in}
 use Rattle.party_desk.specs.declared.desk.Desk.{Desk}
 use Rattle.party_desk.specs.Memories.{state_of, row_of, Alike, IsMemoryOf}
 use Rattle.party_desk.specs.Rows.{slot_on_rows}
-use Rattle.party_desk.specs.Desks.{Stands}
-use Rattle.party_desk.specs.Walks.{GoesBy, Walks}
+use Rattle.party_desk.specs.Walks.{IsDeskOfPlan, Walks}
 use Rattle.party_desk.proofs.AllowedSteps.{stands}
-use Rattle.party_desk.proofs.GateWalks.{goes_names, goes_proper, goes_stand, stands_with, walks_on}
-use Rattle.party_desk.proofs.GatePosts.{further, still_taking, take_walks, taken_more, taken_on, takes_at, takes_start, took_given}
+use Rattle.party_desk.proofs.GateWalks.{goes_names, goes_proper, walks_on}
+use Rattle.party_desk.proofs.GatePosts.{further, still_taking, take_walks, taken_more, taken_on, takes_at, takes_stand, takes_start, took_given}
 use Rattle.party_desk.proofs.desk.Desk.take_each.Goals as goal
 
 pub loop-number-init : goal.loop-number-init
@@ -18,13 +17,8 @@ loop-number-init g c = (c.requires.seat, (λ given may. takes_start given c.args
 
 pub product-kind-requires-clause-stands : goal.product-kind-requires-clause-stands
 product-kind-requires-clause-stands g c =
-    let given = c.requires.may.0 in
     let may = c.requires.may.1 in
-    let fits : IsMemoryOf c.args.plan.now c.args.self.now.session c.loop-number.self.memory =
-    subst (λ z. IsMemoryOf c.args.plan.now z c.loop-number.self.memory) (ap (λ (z : Desk). z.session) c.loop-number.invariant.2)
-    (subst (λ (z : Plan). IsMemoryOf z c.loop-number.self.session c.loop-number.self.memory) may.goes.same
-    (stands given (taken_on c.loop-number.self c.loop-number.moves) (c.loop-number.invariant.1 given may).desk).fits) in
-    subst (Stands c.args.plan.now) (sym c.loop-number.invariant.2) (stands_with c.args.plan.now c.args.self.now c.loop-number.self.memory (goes_stand c.args.plan.now given c.args.self.now may.goes) fits)
+    takes_stand c.args.plan.now c.requires.may.0 c.args.self.now c.loop-number.self c.loop-number.moves may.goes (c.loop-number.invariant.1 c.requires.may.0 may).desk c.loop-number.invariant.2
 
 pub take-requires-clause-inside : goal.take-requires-clause-inside
 take-requires-clause-inside g c =
@@ -34,19 +28,14 @@ take-requires-clause-inside g c =
     let n = c.in-Some-Take.number in
     let i = c.in-Some-Take.share in
     let e : Desk = taken_on c.loop-number.self c.loop-number.moves in
-    let goes : GoesBy plan given e = record { same = may.goes.same; desk = (c.loop-number.invariant.1 given may).desk } in
+    let goes : IsDeskOfPlan plan given e = record { same = may.goes.same; desk = (c.loop-number.invariant.1 given may).desk } in
     let is = takes_at plan given c.args.self.now c.loop-number.self c.loop-number.moves n i may.goes goes c.loop-number.invariant.2 (λ q here. sym c.in-Some-Take.field-0-is ∙ c.in-Some-Take.ensures.1 q here) in
     slice_get_within (g.W.Promise.list c.args.board.now.about.world) n (given.got n) (may.promises.takes e.position n i is)
 
 pub hear-requires-clause-stands : goal.hear-requires-clause-stands
 hear-requires-clause-stands g c =
-    let given = c.requires.may.0 in
     let may = c.requires.may.1 in
-    let fits : IsMemoryOf c.args.plan.now c.args.self.now.session c.loop-number.self.memory =
-    subst (λ z. IsMemoryOf c.args.plan.now z c.loop-number.self.memory) (ap (λ (z : Desk). z.session) c.loop-number.invariant.2)
-    (subst (λ (z : Plan). IsMemoryOf z c.loop-number.self.session c.loop-number.self.memory) may.goes.same
-    (stands given (taken_on c.loop-number.self c.loop-number.moves) (c.loop-number.invariant.1 given may).desk).fits) in
-    subst (Stands c.args.plan.now) (sym c.loop-number.invariant.2) (stands_with c.args.plan.now c.args.self.now c.loop-number.self.memory (goes_stand c.args.plan.now given c.args.self.now may.goes) fits)
+    takes_stand c.args.plan.now c.requires.may.0 c.args.self.now c.loop-number.self c.loop-number.moves may.goes (c.loop-number.invariant.1 c.requires.may.0 may).desk c.loop-number.invariant.2
 
 pub hear-requires-clause-proper : goal.hear-requires-clause-proper
 hear-requires-clause-proper g c =
@@ -56,7 +45,7 @@ hear-requires-clause-proper g c =
     let n = c.in-Some-Take.number in
     let i = c.in-Some-Take.share in
     let e : Desk = taken_on c.loop-number.self c.loop-number.moves in
-    let goes : GoesBy plan given e = record { same = may.goes.same; desk = (c.loop-number.invariant.1 given may).desk } in
+    let goes : IsDeskOfPlan plan given e = record { same = may.goes.same; desk = (c.loop-number.invariant.1 given may).desk } in
     goes_proper plan given e goes (Take n i) (sym (takes_at plan given c.args.self.now c.loop-number.self c.loop-number.moves n i may.goes goes c.loop-number.invariant.2 (λ q here. sym c.in-Some-Take.field-0-is ∙ c.in-Some-Take.ensures.1 q here)))
 
 pub hear-requires-clause-here : goal.hear-requires-clause-here
@@ -67,7 +56,7 @@ hear-requires-clause-here g c =
     let n = c.in-Some-Take.number in
     let i = c.in-Some-Take.share in
     let e : Desk = taken_on c.loop-number.self c.loop-number.moves in
-    let goes : GoesBy plan given e = record { same = may.goes.same; desk = (c.loop-number.invariant.1 given may).desk } in
+    let goes : IsDeskOfPlan plan given e = record { same = may.goes.same; desk = (c.loop-number.invariant.1 given may).desk } in
     goes_names plan given e goes (Take n i) (sym (takes_at plan given c.args.self.now c.loop-number.self c.loop-number.moves n i may.goes goes c.loop-number.invariant.2 (λ q here. sym c.in-Some-Take.field-0-is ∙ c.in-Some-Take.ensures.1 q here)))
 
 pub loop-number-preserved : goal.loop-number-preserved
@@ -79,7 +68,7 @@ loop-number-preserved g c = (
       let m = c.hear.new.self.memory in
       let so_far = c.loop-number.invariant.1 given may in
       let e : Desk = taken_on d c.loop-number.moves in
-      let goes : GoesBy plan given e = record { same = may.goes.same; desk = so_far.desk } in
+      let goes : IsDeskOfPlan plan given e = record { same = may.goes.same; desk = so_far.desk } in
       let n = c.in-Some-Take.number in
       let i = c.in-Some-Take.share in
       let w = c.in-Some.word in
