@@ -1,29 +1,22 @@
 -- What a desk of a world delivers and draws.
-use Rattle.std.proofs.Common.{◌≡◌, ℕ, zero, suc, ◌-◌, ◌*◌, ◌<◌, ◌≤◌, [], ◌∷◌, drop, ◌^◌, List, length, refl, sym, ap, ◌∙◌, subst, arith}
-use Rattle.std.specs.Prelude.{true, false, Option, Some, None}
+use Rattle.std.proofs.Common.{◌≡◌, ℕ, zero, suc, ◌-◌, ◌*◌, ◌<◌, ◌≤◌, [], ◌∷◌, drop, List, length, refl, sym, ap, ◌∙◌, arith}
+use Rattle.std.specs.Prelude.{false, Option, Some, None}
 use Rattle.std.proofs.lemmas.List.{length-drop}
-use Rattle.std.proofs.lemmas.Bool.{cases_eq, both_ways}
-use mathlib.Core.Logic.{inl, inr}
-use Rattle.circuit_model.proofs.SetAt.{set_here, set_there}
-use Rattle.job_session.specs.Sessions.{Slot, output_wire}
-use Rattle.job_plan.specs.Plans.{Plan, session, reads, words, slots, slot}
-use Rattle.job_session.specs.Sessions.Slot.{Input, At_gate, Output}
+use Rattle.std.proofs.lemmas.Bool.{both_ways}
+use Rattle.job_plan.specs.Plans.{reads, words, slots}
 use Rattle.job_plan.specs.Numbers.{deals}
 use Rattle.job_plan.proofs.DistinctMessages.{words_by_deals}
 use Rattle.share_world.specs.Worlds.{World, word}
-use Rattle.share_world.specs.Locals.{local_output}
 use Rattle.share_world.specs.Laws.{IsWhole}
 use Rattle.share_world.proofs.SentWords.{opened_are_plain}
 use Rattle.share_world.proofs.SmallWords.{is_plan, is_world, small_words}
-use Rattle.party_program.specs.declared.program.Instruction.{Instruction}
-use Rattle.party_program.specs.declared.program.Instruction.TheVariants.{Deal, Post, Take, Linear, Own, Sum, Deliver, End}
-use Rattle.party_program.specs.Programs.{program, at}
-use Rattle.party_program.specs.States.{Given, State, new_state, state, next, dealt_in, took_in, opened, slot_of, output_in_slot}
+use Rattle.party_program.specs.Programs.{program}
+use Rattle.party_program.specs.States.{new_state, state}
 use Rattle.party_program.proofs.InstructionLists.{state_is, run_all}
 use Rattle.program_laws.specs.Lawful.{given_in}
 use Rattle.program_laws.proofs.LocalPrograms.{met}
 use Rattle.program_laws.proofs.OpenedOutputs.{opens_right}
-use Rattle.program_laws.proofs.LawfulWorlds.{lawful, suits_in}
+use Rattle.program_laws.proofs.LawfulWorlds.{suits_in}
 use Rattle.party_desk.specs.declared.desk.Desk.{Desk}
 use Rattle.party_desk.specs.Desks.{IsDesk, drawn_of, output_at}
 use Rattle.desk_laws.specs.InWorld.{IsRight, IsDeskDone, piece_of}

@@ -16,7 +16,7 @@ use Rattle.message_board.specs.declared.cells.Cells.{Ghosts as Meaning}
 use Rattle.party_program.specs.declared.program.Instruction.{Instruction}
 use Rattle.party_program.specs.declared.program.Instruction.TheVariants.{Deal, Post, Take, Linear, Own, Sum, Deliver, End}
 use Rattle.party_program.specs.Programs.{program, at}
-use Rattle.party_program.specs.States.{Given, slot_of, posted}
+use Rattle.party_program.specs.States.{Given, slot_of}
 use Rattle.party_program.specs.Proper.{Proper, with_got}
 use Rattle.party_program.proofs.RisingTakes.{takes_rise}
 use Rattle.program_laws.proofs.OncePosted.{once}

@@ -1,12 +1,8 @@
 -- The slots of a session, one after another.
-use Rattle.std.proofs.Common.{◌≡◌, ℕ, ◌+◌, ◌-◌, ◌<◌, true, nat_lt, ◌++◌, length, sym, ap, ap₂, ◌∙◌, subst, arith}
-use Rattle.std.proofs.lemmas.Bool.{cases_lt, cond-true, cond-false, both_ways, lt-ltb, le-ltb}
-use Rattle.std.proofs.lemmas.List.{get_or_past}
-use mathlib.Core.Logic.{inl, inr}
+use Rattle.std.proofs.Common.{ℕ, ◌+◌, ◌++◌, length, ap, ap₂, ◌∙◌}
 use Rattle.list_laws.specs.Lists.{listed}
 use Rattle.list_laws.proofs.JoinedLists.{listed-add, listed_eq}
-use Rattle.circuit_model.specs.Circuits.{is_product}
-use Rattle.job_session.specs.Sessions.{Session, Slot, owners, readers, gate, no_gate, session_slot, session_slots}
+use Rattle.job_session.specs.Sessions.{Session, owners, readers}
 use Rattle.job_plan.specs.Plans.{Plan, SlotsAreListed, session, slot}
 use Rattle.job_session.specs.Sessions.Slot.{Input, At_gate, Output}
 use Rattle.job_session.proofs.SessionSlots.{slot_input, slot_gate, slot_output}

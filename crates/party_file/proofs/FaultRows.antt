@@ -1,6 +1,6 @@
 -- Where a fault stands among all checks of a party's file.
 use Rattle.std.proofs.Common.{◌≡◌, ℕ, Bool, true, not, List, length, map, Option, None, Some, Ok, Err, sym, ◌∙◌, ap, inl, inr}
-use Rattle.std.specs.Prelude.{codes, ◌⊎◌, sum, ◌==◌, ◌&&◌, ◌||◌, if◌then◌else◌, ◌^◌}
+use Rattle.std.specs.Prelude.{codes, ◌⊎◌, sum, ◌==◌, ◌&&◌, ◌||◌, if◌then◌else◌}
 use Rattle.std.proofs.lemmas.Bool.{eqb-true, not-false}
 use Rattle.std.proofs.lemmas.List.{length-map}
 use Rattle.toml.specs.Data.{Data, Members}

@@ -6,7 +6,6 @@ use Rattle.std.proofs.lemmas.List.{get_or-map, length-map, get_or_past, length-t
 use Rattle.std.proofs.lemmas.List.Elements.{All-take, All-drop}
 use Rattle.std.proofs.lemmas.List.Sums.{fails_before_first, sum_by-cons}
 use Rattle.std.proofs.lemmas.Nat.{pow_pos}
-use Rattle.std.proofs.Math.Nat.{mod-lt}
 use Rattle.toml.specs.Data.{Members}
 use Rattle.list_laws.specs.Lists.{total, listed}
 use Rattle.list_laws.proofs.JoinedLists.{length-listed, listed_at}

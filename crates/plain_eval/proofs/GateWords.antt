@@ -1,5 +1,5 @@
 -- The words along the gates.
-use Rattle.std.proofs.Common.{◌≡◌, ℕ, suc, ◌+◌, ◌-◌, ◌^◌, ◌<◌, List, ◌++◌, inl, inr, length, set, replicate, sym, ◌∙◌, ap, subst, arith, nat_lt, pow_pos, get_or-set_other, get_or-set_same}
+use Rattle.std.proofs.Common.{◌≡◌, ℕ, suc, ◌-◌, ◌^◌, ◌<◌, List, ◌++◌, inl, inr, length, set, replicate, sym, ◌∙◌, ap, subst, arith, nat_lt, pow_pos, get_or-set_other, get_or-set_same}
 use Rattle.std.specs.Prelude.{slice_index, All}
 use Rattle.std.proofs.Math.ListN.{get_or-append, get_or-eq_default}
 use Rattle.std.proofs.Math.Seq.{get_or-append_right}

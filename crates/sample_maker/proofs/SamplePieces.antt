@@ -1,7 +1,6 @@
 -- The pieces of a sample's tapes are those of its desks.
 use Rattle.std.proofs.Common.{◌≡◌, ℕ, zero, suc, ◌+◌, ◌^◌, ◌<◌, [], All, length, refl, ap, ◌∙◌, arith}
 use Rattle.std.specs.Prelude.{slice_index_or}
-use Rattle.std.proofs.Math.Nat.{mod-lt}
 use Rattle.std.proofs.lemmas.List.Elements.{All-from_recursion}
 use Rattle.list_laws.proofs.JoinedLists.{length-listed, listed_at, every_listed}
 use Rattle.job_plan.specs.Plans.{words}

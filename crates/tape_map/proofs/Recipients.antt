@@ -1,13 +1,12 @@
 -- That a fault of an output is told of a party of the plan.
-use Rattle.std.proofs.Common.{◌≡◌, ℕ, ◌<◌, Bool, true, false, [], ◌∷◌, ◌++◌, List, length, Option, Some, None, subst}
+use Rattle.std.proofs.Common.{◌≡◌, ℕ, Bool, true, false, [], ◌∷◌, ◌++◌, List, length, Some, subst}
 use Rattle.std.specs.Prelude.{IfSome, not}
 use Rattle.list_laws.specs.Lists.{joined}
 use Rattle.list_laws.specs.Checks.{◌answers◌, first_fault}
 use Rattle.job_session.specs.Sessions.{owners, readers}
 use Rattle.job_plan.specs.Plans.{session}
-use Rattle.share_world.specs.Worlds.{World, plain}
-use Rattle.tape_map.specs.TapeMaps.{with_inputs}
-use Rattle.tape_map.specs.MapFaults.{HasRecipientBelow, input_check, input_checks, output_check, output_checks, map_checks, map_fault, is_tolerated}
+use Rattle.share_world.specs.Worlds.{World}
+use Rattle.tape_map.specs.MapFaults.{HasRecipientBelow, input_check, input_checks, output_checks, map_fault, is_tolerated}
 use Rattle.tape_map.specs.declared.fault.MapFault.{MapFault}
 use Rattle.tape_map.specs.declared.fault.MapFault.TheVariants.{NotTolerated}
 use Rattle.list_laws.proofs.FirstFaults.{holds-append, holds-joined}

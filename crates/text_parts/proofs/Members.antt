@@ -1,6 +1,6 @@
 -- The name of a member of a group, with what stands before it.
-use Rattle.std.proofs.Common.{◌≡◌, ℕ, ◌*◌, ◌+◌, ◌^◌, ◌%◌, ◌<◌, ◌≤◌, ◌++◌, nat_eq, Bool, true, false, List, [], length, refl, sym, ap, ap₂, ◌∙◌, arith, append_assoc, append-nil, get_or}
-use Rattle.std.specs.Prelude.{not, Option, Some, Result, Ok, Err, OnOk, slice_get, slice_index_or, codes}
+use Rattle.std.proofs.Common.{◌≡◌, ℕ, ◌^◌, ◌%◌, ◌++◌, nat_eq, true, false, List, [], sym, ap, ◌∙◌, append_assoc, append-nil}
+use Rattle.std.specs.Prelude.{not, Some, Result, Ok, Err, OnOk, slice_get, slice_index_or, codes}
 use Rattle.std.proofs.lemmas.Bool.{cond-true, cond-false}
 use Rattle.std.proofs.lemmas.Option.{get_or_from_slice_get}
 use Rattle.list_laws.specs.Lists.{only_if}

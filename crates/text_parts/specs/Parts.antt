@@ -1,5 +1,5 @@
 -- Texts of words, of groups, and the parts of the line of a refusal.
-use Rattle.std.specs.Prelude.{ℕ, ◌^◌, ◌%◌, nat_eq, not, if◌then◌else◌, List, [], ◌∷◌, ◌++◌, length, Option, None, Some, slice_index, slice_index_or, codes, decimal}
+use Rattle.std.specs.Prelude.{ℕ, ◌^◌, ◌%◌, nat_eq, not, if◌then◌else◌, List, [], ◌++◌, length, Option, None, Some, slice_index, slice_index_or, codes, decimal}
 use Rattle.list_laws.specs.Lists.{joined, only_if}
 use Rattle.party_set.specs.Parties.{has_party}
 

@@ -1,4 +1,4 @@
-use Rattle.std.proofs.Common.{◌≡◌, ℕ, List, ◌++◌, length, ap, ◌∙◌, sym}
+use Rattle.std.proofs.Common.{length, ap, ◌∙◌, sym}
 use Rattle.std.specs.Prelude.{codes}
 use Rattle.list_laws.specs.Lists.{joined}
 use Rattle.outer_io.proofs.GatheredTexts.{adds_then}

@@ -1,4 +1,4 @@
-use Rattle.std.proofs.Common.{◌≡◌, ◌^◌}
+use Rattle.std.proofs.Common.{◌≡◌}
 use Rattle.list_laws.specs.Lists.{listed}
 use Rattle.tape_words.specs.Seeds.{seed_word}
 use Rattle.job_plan.specs.Plans.{words}

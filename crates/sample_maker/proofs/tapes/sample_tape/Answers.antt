@@ -1,4 +1,4 @@
-use Rattle.std.proofs.Common.{◌≡◌, ◌^◌, List, ℕ, ap₂, subst}
+use Rattle.std.proofs.Common.{◌≡◌, List, ℕ, ap₂, subst}
 use Rattle.std.specs.Prelude.{IfOk}
 use Rattle.list_laws.specs.Lists.{listed}
 use Rattle.tape_words.specs.Seeds.{seed_word}

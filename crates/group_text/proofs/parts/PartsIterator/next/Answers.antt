@@ -1,4 +1,4 @@
-use Rattle.std.proofs.Common.{◌≡◌, ◌∷◌, [], Some, None, sym, ap, ◌∙◌, arith}
+use Rattle.std.proofs.Common.{◌≡◌, [], Some, None, sym, ap, ◌∙◌, arith}
 use Rattle.std.specs.Option.{option_map_or}
 use Rattle.std.proofs.lemmas.Str.Pattern.{split_once_first}
 use Rattle.group_text.specs.GroupTexts.{parts_of}
