@@ -152,9 +152,9 @@ fn start_set(alloc: Global, wires: usize, inputs: u32) -> Result<Vec<bool>, Allo
     ensures long { IfOk result (λ set. length set.items ≡ wires) }
     ensures told { IfOk result (λ set. (w : ℕ) → slice_index_or set.items w false ≡ is_set inputs [] w) }
 {
-    let mut set = Vec::with_capacity(alloc, wires)?;
-    for wire in 0..wires {
-        set.push(wire < inputs as usize)?;
+    let mut set = vec![in alloc; false; wires]?;
+    for wire in 0..inputs {
+        set[wire as usize] = true;
     }
     Ok(set)
 }

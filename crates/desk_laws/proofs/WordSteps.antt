@@ -25,7 +25,7 @@ use Rattle.party_desk.specs.declared.desk.Stepped.{Stepped}
 use Rattle.party_desk.specs.declared.desk.Stepped.TheVariants.{Moved, NotYet, Ended}
 use Rattle.party_desk.specs.Memories.{state_of, IsMemoryOf, posted_on_rows, row_of}
 use Rattle.party_desk.specs.Desks.{IsDesk, Waits, instruction_at}
-use Rattle.party_desk.specs.Steps.{word_at, heard, Allows, MayStep, Does, Steps, KeepsCells}
+use Rattle.party_desk.specs.Steps.{word_at, with_word, Allows, MayStep, Does, Steps, KeepsCells}
 use Rattle.party_desk.proofs.AllowedSteps.{proper, posts_right}
 use Rattle.desk_laws.specs.Words.{NextIs, IsOpenTo, GoesBy, MayStepBy}
 
@@ -106,7 +106,7 @@ module _ {C : Type 0} (cells : Meaning C) (plan : Plan) (c : C) (l : Given) (d :
       },
     )
 
-    hears : (n j v : ℕ) → e.position ≡ d.position + 1 → i ≡ Take n j → cells.got f n v → IsDesk (heard l n v) e → Still
+    hears : (n j v : ℕ) → e.position ≡ d.position + 1 → i ≡ Take n j → cells.got f n v → IsDesk (with_word l n v) e → Still
     hears n j v more is got h = (
       set_at l.got n v,
       record {

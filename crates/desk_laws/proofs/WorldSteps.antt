@@ -17,7 +17,7 @@ use Rattle.party_desk.specs.declared.desk.Desk.{Desk}
 use Rattle.party_desk.specs.declared.desk.Stepped.{Stepped}
 use Rattle.party_desk.specs.declared.desk.Stepped.TheVariants.{Moved, NotYet, Ended}
 use Rattle.party_desk.specs.Desks.{IsDesk, instruction_at}
-use Rattle.party_desk.specs.Steps.{word_at, heard, Allows, MayStep, Does, Steps}
+use Rattle.party_desk.specs.Steps.{word_at, with_word, Allows, MayStep, Does, Steps}
 use Rattle.party_desk.proofs.AllowedSteps.{goes_by}
 use Rattle.program_laws.specs.Lawful.{given_in, Lawful}
 use Rattle.program_laws.proofs.LawfulWorlds.{lawful}
@@ -75,8 +75,8 @@ module _ {C : Type 0} (cells : Meaning C) (plan : Plan) (w : World) (s p : ℕ) 
 
   module _ (e : Desk) (f : C) where
     -- the word that was taken is what the desk goes by
-    hears : (n v : ℕ) → v ≡ word w (message w.plan n) → IsDesk (heard (given_in w s p) n v) e → IsDesk (given_in w s p) e
-    hears n v is h = goes_by (heard (given_in w s p) n v) (λ m. word w (message w.plan m)) e h (λ q m j less at'. elim (cases_eq m n) [
+    hears : (n v : ℕ) → v ≡ word w (message w.plan n) → IsDesk (with_word (given_in w s p) n v) e → IsDesk (given_in w s p) e
+    hears n v is h = goes_by (with_word (given_in w s p) n v) (λ m. word w (message w.plan m)) e h (λ q m j less at'. elim (cases_eq m n) [
       | inl eq ↦ set_here l.got n m v eq ∙ is ∙ ap (λ z. word w (message w.plan z)) (sym eq)
       | inr ne ↦ set_there l.got n m v ne
     ])

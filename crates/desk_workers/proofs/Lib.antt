@@ -6,4 +6,4 @@ pub mod RunDesks
 pub mod PostedPairs
 pub mod DeskLists
 pub mod SeatLists
-pub mod GateWalks
+pub mod WalkedGates

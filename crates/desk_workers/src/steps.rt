@@ -100,11 +100,7 @@ fn goes_far<P: Pace>(
     if walked > 0 {
         return u64::from(walked);
     }
-    if goes_on(board, plan, seat, desk) {
-        1
-    } else {
-        0
-    }
+    u64::from(goes_on(board, plan, seat, desk))
 }
 
 /// Steps the desk until it can't move or has gone through gates, and answers how often it moved.
@@ -124,8 +120,8 @@ pub fn walk<P: Pace>(
     ensures stuck { result ≡ 0 → IsStuck board.now seat.old desk.old }
     ensures few { result < 2 ^ 32 }
 {
-    let mut moves = goes_far(board, plan, pace, turn, seat, desk);
-    let mut last = moves;
+    let mut moves = 0;
+    let mut last = 1;
     while last == 1 {
         last = goes_far(board, plan, pace, turn, seat, desk);
         moves += last;

@@ -28,7 +28,7 @@ use Rattle.party_desk.specs.declared.desk.Stepped.{Stepped}
 use Rattle.party_desk.specs.declared.desk.Stepped.TheVariants.{Moved, NotYet, Ended}
 use Rattle.party_desk.specs.Memories.{state_of, row_of, posted_on_rows, IsMemoryOf, CanDeal, FindsInput}
 use Rattle.party_desk.specs.Desks.{posts_in, takes_in, posts_before, takes_before, Stands, Allowed, Advanced, Effect, Did, IsDesk, NamesSlot, Remembers, instruction_at, word_in_memory}
-use Rattle.party_desk.specs.Steps.{word_at, heard, Allows, MayStep, Does, Steps}
+use Rattle.party_desk.specs.Steps.{word_at, with_word, Allows, MayStep, Does, Steps}
 use Rattle.party_desk.proofs.DeskSteps.{kept}
 use Rattle.party_desk.proofs.NamedSlots.{names_slot}
 
@@ -181,13 +181,13 @@ module _ (l : Given) (d : Desk) (is_desk : IsDesk l d) where
     -- ---- what a step leaves
 
     module _ (e : Desk) (f : C) where
-      hears : (w n j : ℕ) → i ≡ Take n j → Advanced l.plan w (Take n j) d e → IsDesk (heard l n w) e
+      hears : (w n j : ℕ) → i ≡ Take n j → Advanced l.plan w (Take n j) d e → IsDesk (with_word l n w) e
       hears w n j is a =
-          let more : Given = heard l n w in
-          let before : IsDesk (heard l n w) d = goes_by l (set_at l.got n w) d is_desk (λ p m k less e.
+          let more : Given = with_word l n w in
+          let before : IsDesk (with_word l n w) d = goes_by l (set_at l.got n w) d is_desk (λ p m k less e.
           let rises : m < n = takes_rise l.plan l.session l.party p d.position m k n j less e is in
           sym (set_there l.got n m w (λ z. let lower : m < n = rises in absurd (omega arith)))) in
-          kept (heard l n w) d e w before proper (within (λ z. let both : Take n j ≡ End = sym is ∙ z in cc)) (subst (IsGivenWord (heard l n w) w) (sym is) (sym (set_here l.got n n w refl))) (subst (λ z. Advanced l.plan w z d e) (sym is) a)
+          kept (with_word l n w) d e w before proper (within (λ z. let both : Take n j ≡ End = sym is ∙ z in cc)) (subst (IsGivenWord (with_word l n w) w) (sym is) (sym (set_here l.got n n w refl))) (subst (λ z. Advanced l.plan w z d e) (sym is) a)
 
       does : (w : ℕ) (j : Instruction) → i ≡ j → Advanced l.plan w j d e → Effect cells l.plan d w c f j → Does cells l d c e f j
       does w (Deal k n) is a x = (x, stays e w (Deal k n) is (λ z. cc) tt a)

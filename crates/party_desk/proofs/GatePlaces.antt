@@ -29,7 +29,7 @@ use Rattle.party_desk.specs.declared.memory.Memory.{Memory}
 use Rattle.party_desk.specs.Memories.{state_of, row_of, Alike, IsMemoryOf, KeepsGiven}
 use Rattle.party_desk.specs.Rows.{gate_on_rows}
 use Rattle.party_desk.specs.Desks.{Advanced, IsDesk, after_on_rows, instruction_at, posts_in, takes_in}
-use Rattle.party_desk.specs.Walks.{IsDeskOfPlan, IsBefore, NoPosts, Works, at_place}
+use Rattle.party_desk.specs.Walks.{IsDeskOfPlan, IsBefore, NoPosts, Computes, at_place}
 use Rattle.party_desk.proofs.AllowedSteps.{proper, stays}
 use Rattle.party_desk.proofs.GateWalks.{few_done, moved_place}
 
@@ -37,11 +37,11 @@ use Rattle.party_desk.proofs.GateWalks.{few_done, moved_place}
 
 -- the desk goes on to this place with this memory
 module _ (l : Given) (d : Desk) (h : IsDesk l d) (i : Instruction) (m : Memory) (place : Place) (is : IsPlace l.plan l.party l.session place (d.position + 1)) (fits : IsMemoryOf l.plan d.session m) (kept : KeepsGiven d.memory m) where
-  pub works_at : posts_in i ≡ 0 → takes_in i ≡ 0 → drawn_by l.plan i ≡ 0
+  pub advances_at : posts_in i ≡ 0 → takes_in i ≡ 0 → drawn_by l.plan i ≡ 0
       → Alike (length l.plan.groups) (state_of (length l.plan.groups) m)
       (after_on_rows (row_of d.memory) l.plan d.party d.session (slice_index d.memory.tape) (slice_index d.memory.inputs.items d.memory.deals) 0 i (state_of (length l.plan.groups) d.memory))
       → Advanced l.plan 0 i d (at_place (record d { position = d.position + 1; memory = m }) place)
-  works_at no_post no_take no_draw state = record {
+  advances_at no_post no_take no_draw state = record {
     party = refl;
     session = refl;
     program = refl;
@@ -181,7 +181,7 @@ module _ (plan : Plan) (l : Given) (d : Desk) (goes : IsDeskOfPlan plan l d) (k 
       }
 
   -- the sum of a product, at the end of its slot, leaves all before the next slot done
-  pub sum_before : instruction_at l d ≡ Sum k → d.place.count ≤ d.place.done + 1 → (m : Memory) → IsMemoryOf plan d.session m → KeepsGiven d.memory m
+  pub sum_before : instruction_at l d ≡ Sum k → d.place.done + 1 ≡ d.place.count → (m : Memory) → IsMemoryOf plan d.session m → KeepsGiven d.memory m
       → Alike (length plan.groups) (state_of (length plan.groups) m) (summed (gate_on_rows (row_of d.memory) (gate_at plan d.session k)) (state_of (length plan.groups) d.memory))
       → IsBefore plan l (k + 1) (record d { position = d.position + 1; memory = m })
   sum_before is last m fits kept state =
@@ -208,7 +208,7 @@ module _ (plan : Plan) (l : Given) (d : Desk) (goes : IsDeskOfPlan plan l d) (k 
         fits = subst (λ z. IsMemoryOf l.plan z m) goes.desk.session fits';
         desk = λ place' at'.
             stays l d goes.desk (at_place (record d { position = d.position + 1; memory = m }) place') 0 (Sum k) is (λ z. cc) tt
-            (works_at l d goes.desk (Sum k) m place' at' fits' kept refl refl refl state');
+            (advances_at l d goes.desk (Sum k) m place' at' fits' kept refl refl refl state');
       }
 
 -- a linear gate leaves all before the next slot done
@@ -256,7 +256,7 @@ module _ (plan : Plan) (l : Given) (d : Desk) (k : ℕ) (before : IsBefore plan 
         fits = subst (λ z. IsMemoryOf l.plan z m) before.session fits';
         desk = λ place' at'.
             stays l desk stands_there (at_place (record d { position = d.position + 1; memory = m }) place') 0 (Linear k) linear_there (λ z. cc) tt
-            (works_at l desk stands_there (Linear k) m place' at' fits' kept refl refl refl state');
+            (advances_at l desk stands_there (Linear k) m place' at' fits' kept refl refl refl state');
       }
 
   -- it is no post
@@ -337,12 +337,12 @@ module _ (plan : Plan) (l : Given) (d e : Desk) (k n : ℕ) (place : Place) (bef
       (subst (λ z. IsPlace l.plan z e.program.session place (instructions_before l.plan z e.program.session k)) before.own_program.of_party
       (subst (λ z. IsPlace z e.program.party e.program.session place (instructions_before z e.program.party e.program.session k)) (sym before.same) at')))
 
-  pub entered : Works l d (at_place e place) n
+  pub entered : Computes l d (at_place e place) n
   entered = record { desk = before.desk place place_here; position = more; no_post = no_post }
 
 -- an instruction that is no post, and what comes after it
-pub first_works : (l : Given) (d e f : Desk) (i : Instruction) (n : ℕ) → instruction_at l d ≡ i → ((m j : ℕ) → i ≢ Post m j) → e.position ≡ d.position + 1 → Works l e f n → Works l d f (1 + n)
-first_works l d e f i n is no_post more w =
+pub first_computes : (l : Given) (d e f : Desk) (i : Instruction) (n : ℕ) → instruction_at l d ≡ i → ((m j : ℕ) → i ≢ Post m j) → e.position ≡ d.position + 1 → Computes l e f n → Computes l d f (1 + n)
+first_computes l d e f i n is no_post more w =
     let after = w.position in
     record {
       desk = w.desk;

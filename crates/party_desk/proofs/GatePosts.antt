@@ -1,5 +1,7 @@
 -- Posts and takes of a product, one after another.
-use Rattle.std.proofs.Common.{◌≡◌, ℕ, ◌+◌, ◌<◌, ◌^◌, length, Option, Some, None, ◌∷◌, refl, sym, ap, ◌∙◌, subst, inl, inr, arith}
+use Rattle.std.proofs.Common.{◌≡◌, ◌≢◌, ℕ, ◌+◌, ◌-◌, ◌<◌, ◌≤◌, ◌^◌, length, Option, Some, None, ◌∷◌, refl, sym, ap, ◌∙◌, subst, inl, inr, arith}
+use Rattle.std.specs.Prelude.{slice_index_or}
+use Rattle.job_plan.specs.declared.pattern.Pattern.TheVariants.{Multiplied}
 use Rattle.job_plan.specs.Plans.{Plan, slots}
 use Rattle.message_board.specs.declared.cells.Posted.{Posted}
 use Rattle.message_board.specs.declared.steps.View.{View}
@@ -8,10 +10,11 @@ use Rattle.message_board.specs.Rule.{posts, takes}
 use Rattle.message_board.specs.Seats.{Sitting, IsPostAnswer}
 use Rattle.party_program.specs.declared.place.Place.{Place}
 use Rattle.party_program.specs.declared.program.Instruction.{Instruction}
-use Rattle.party_program.specs.declared.program.Instruction.TheVariants.{Post, Take}
+use Rattle.party_program.specs.declared.program.Instruction.TheVariants.{Post, Take, Sum, End}
 use Rattle.party_program.specs.Programs.{slot_program, program, at}
-use Rattle.party_program.specs.ProgramPlaces.{instructions_before, IsPlace}
+use Rattle.party_program.specs.ProgramPlaces.{instructions_before, InProduct, IsPlace}
 use Rattle.party_program.proofs.ProgramPlaces.{before_more, count_at, in_slot}
+use Rattle.party_program.proofs.GateSlots.{product_at, product_ends, product_goes_on, product_there}
 use Rattle.party_program.specs.States.{Given, slot_of, took_in}
 use Rattle.party_desk.specs.declared.desk.Desk.{Desk}
 use Rattle.party_desk.specs.declared.memory.Memory.{Memory}
@@ -101,23 +104,65 @@ module _ (plan : Plan) (l : Given) (d : Desk) (goes : IsDeskOfPlan plan l d) whe
       let own = goes.desk.own_program in
       found d.position goes_place ∙ (λ z. at (program (sym goes.same z) (own.of_party z) (own.of_session z)) d.position)
 
-  -- the instruction that was found so many steps ahead of another desk's place
-  pub goes_ahead : (i : Instruction) (e : Desk) (moves : ℕ) → e.program ≡ d.program → e.position ≡ d.position + moves → IsDeskOfPlan plan l e
-      → ((q : ℕ) → IsPlace plan d.program.party d.program.session d.place q → i ≡ at (program plan d.program.party d.program.session) (q + moves)) → i ≡ instruction_at l e
-  goes_ahead i e moves same far may found =
-      let own = goes.desk.own_program in
-      found d.position goes_place ∙ (λ z. at (program (sym goes.same z) (own.of_party z) (own.of_session z)) (sym far z))
-
   -- the word that was found for a post
   pub goes_word : (n i w : ℕ) → instruction_at l d ≡ Post n i → w ≡ word_in_memory plan d n i → w ≡ word_at l d.position n i
   goes_word n i w is found = found ∙ ap (λ z. word_in_memory z d n i) (sym goes.same) ∙ posts_right l d goes.desk n i is
 
--- the take that was found so many steps ahead, where the memory alone has changed since the desk stood at its place
-pub takes_at : (plan : Plan) (l : Given) (d e : Desk) (moves n i : ℕ) → IsDeskOfPlan plan l d → IsDeskOfPlan plan l (taken_on e moves) → e ≡ record d { memory = e.memory }
-    → ((q : ℕ) → IsPlace plan e.program.party e.program.session d.place q → Take n i ≡ at (program plan e.program.party e.program.session) (q + moves)) → instruction_at l (taken_on e moves) ≡ Take n i
-takes_at plan l d e moves n i goes may same found =
-    sym (goes_ahead plan l d goes (Take n i) (taken_on e moves) moves (ap (λ (z : Desk). z.program) same) (ap (λ (z : Desk). z.position + moves) same) may
-    (subst (λ (z : Desk). (q : ℕ) → IsPlace plan z.program.party z.program.session d.place q → Take n i ≡ at (program plan z.program.party z.program.session) (q + moves)) same found))
+-- a desk at a product
+module _ (plan : Plan) (l : Given) (d : Desk) (goes : IsDeskOfPlan plan l d) (in_product : InProduct d.place) where
+  abbrev there : l.session < length l.plan.sessions
+  there = goes.desk.own_program.session_there
+
+  pub product_within : d.place.slot < slots plan d.session
+  product_within =
+      subst (λ z. d.place.slot < slots z d.session) goes.same
+      (subst (λ z. d.place.slot < slots l.plan z) (sym goes.desk.session)
+      (product_there l.plan l.party l.session there d.place in_product d.position goes.desk.place))
+
+  -- its last instruction is the sum
+  pub product_sum : d.place.done + 1 ≡ d.place.count → instruction_at l d ≡ Sum d.place.slot
+  product_sum last =
+      let here : d.position + 0 ≡ d.position = omega arith in
+      sym (ap (at (program l.plan l.party l.session)) here)
+      ∙ product_ends l.plan l.party l.session there d.place in_product d.position goes.desk.place 0 (omega (arith, last))
+
+-- an instruction that was found further on in the slot of a product
+module _ (plan : Plan) (l : Given) (d : Desk) (goes : IsDeskOfPlan plan l d) (product : d.place.pattern ≡ Multiplied) (begun at' : ℕ) (is_begun : begun ≡ d.place.done) (from : begun ≤ at') (left : at' < d.place.count) (i : Instruction)
+    (is : i ≡ slice_index_or (slot_program plan d.program.party d.program.session d.place.slot) at' End) where
+  in_product : InProduct d.place
+  in_product = (product, omega (arith, is_begun, from, left))
+
+  far : d.place.done + (at' - begun) ≡ at'
+  far = omega (arith, is_begun, from)
+
+  is_here : slice_index_or (slot_program l.plan l.party l.session d.place.slot) at' End ≡ i
+  is_here =
+      let own = goes.desk.own_program in
+      sym (is ∙ (λ z. slice_index_or (slot_program (sym goes.same z) (own.of_party z) (own.of_session z) d.place.slot) at' End))
+
+  pub product_next : at (program l.plan l.party l.session) (d.position + (at' - begun)) ≡ i
+  product_next =
+      product_at l.plan l.party l.session goes.desk.own_program.session_there d.place in_product d.position goes.desk.place (at' - begun) (omega (arith, is_begun, from, left))
+      ∙ ap (λ n. slice_index_or (slot_program l.plan l.party l.session d.place.slot) n End) far ∙ is_here
+
+  pub product_more : i ≢ Sum d.place.slot → d.place.done + (at' - begun) + 1 < d.place.count
+  product_more other =
+      product_goes_on l.plan l.party l.session goes.desk.own_program.session_there d.place in_product d.position goes.desk.place (at' - begun) (omega (arith, is_begun, from, left)) (λ z. other (sym product_next ∙ z))
+
+-- the same, where the memory alone has changed since
+module _ (plan : Plan) (l : Given) (d e : Desk) (goes : IsDeskOfPlan plan l d) (product : d.place.pattern ≡ Multiplied) (begun at' : ℕ) (is_begun : begun ≡ d.place.done) (from : begun ≤ at') (left : at' < d.place.count) (same : e ≡ record d { memory = e.memory })
+    (i : Instruction) (found : i ≡ slice_index_or (slot_program plan e.program.party e.program.session d.place.slot) at' End) where
+  found_before : i ≡ slice_index_or (slot_program plan d.program.party d.program.session d.place.slot) at' End
+  found_before = subst (λ (z : Desk). i ≡ slice_index_or (slot_program plan z.program.party z.program.session d.place.slot) at' End) same found
+
+  pub takes_next : instruction_at l (taken_on e (at' - begun)) ≡ i
+  takes_next =
+      ap (λ (z : Desk). at (program l.plan l.party l.session) (z.position + (at' - begun))) same
+      ∙ product_next plan l d goes product begun at' is_begun from left i found_before
+
+  pub takes_more : i ≢ Sum d.place.slot → e.place.done + (at' - begun) + 1 < e.place.count
+  takes_more other =
+      subst (λ (z : Desk). z.place.done + (at' - begun) + 1 < z.place.count) (sym same) (product_more plan l d goes product begun at' is_begun from left i found_before other)
 
 -- a desk that has taken so many words stands in its plan where it stood before, with the memory that it has now
 pub takes_stand : (plan : Plan) (l : Given) (d e : Desk) (moves : ℕ) → IsDeskOfPlan plan l d → IsDesk l (taken_on e moves) → e ≡ record d { memory = e.memory } → Stands plan e

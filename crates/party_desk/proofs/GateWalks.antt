@@ -15,7 +15,7 @@ use Rattle.party_desk.specs.declared.memory.Memory.{Memory}
 use Rattle.party_desk.specs.Memories.{CanDeal, IsMemoryOf}
 use Rattle.party_desk.specs.Desks.{Advanced, IsDesk, NamesSlot, Stands, instruction_at}
 use Rattle.party_desk.specs.Steps.{word_at}
-use Rattle.party_desk.specs.Walks.{IsDeskOfPlan, MayWalk, NoPosts, Works, Walks, at_place}
+use Rattle.party_desk.specs.Walks.{IsDeskOfPlan, MayWalk, NoPosts, Computes, Walks, at_place}
 use Rattle.party_desk.proofs.AllowedSteps.{deals, names_own, proper_own, stands, stays}
 
 -- only its place tells where a desk stands in its program
@@ -82,11 +82,11 @@ module _ (l : Given) where
     | inr more ↦ b x n i more to is
   ]
 
-  pub rest_works : (d : Desk) → IsDesk l d → Works l d d 0
-  rest_works d h = record { desk = h; position = omega arith; no_post = λ x n i from to is. absurd (omega (arith, from, to)) }
+  pub rest_computes : (d : Desk) → IsDesk l d → Computes l d d 0
+  rest_computes d h = record { desk = h; position = omega arith; no_post = λ x n i from to is. absurd (omega (arith, from, to)) }
 
-  pub works_on : (d e f : Desk) (m n : ℕ) → Works l d e m → Works l e f n → Works l d f (m + n)
-  works_on d e f m n a b =
+  pub computes_on : (d e f : Desk) (m n : ℕ) → Computes l d e m → Computes l e f n → Computes l d f (m + n)
+  computes_on d e f m n a b =
       let first = a.position in
       let second = b.position in
       record {
@@ -96,8 +96,8 @@ module _ (l : Given) where
       }
 
   -- one instruction that is no post and takes what is given
-  pub one_works : (d e : Desk) (w : ℕ) (i : Instruction) → IsDesk l d → instruction_at l d ≡ i → i ≢ End → ((n j : ℕ) → i ≢ Post n j) → IsGivenWord l w i → Advanced l.plan w i d e → Works l d e 1
-  one_works d e w i h is ne no_post given a =
+  pub one_computes : (d e : Desk) (w : ℕ) (i : Instruction) → IsDesk l d → instruction_at l d ≡ i → i ≢ End → ((n j : ℕ) → i ≢ Post n j) → IsGivenWord l w i → Advanced l.plan w i d e → Computes l d e 1
+  one_computes d e w i h is ne no_post given a =
       let more = a.position in
       record {
         desk = stays l d h e w i is ne given a;
@@ -108,8 +108,8 @@ module _ (l : Given) where
       }
 
 -- the same of a desk of this plan
-pub goes_one : (plan : Plan) (l : Given) (d e : Desk) (w : ℕ) (i : Instruction) → IsDeskOfPlan plan l d → i ≡ instruction_at l d → i ≢ End → ((n j : ℕ) → i ≢ Post n j) → IsGivenWord l w i → Advanced plan w i d e → Works l d e 1
-goes_one plan l d e w i goes is ne no_post given a = one_works l d e w i goes.desk (sym is) ne no_post given (subst (λ z. Advanced z w i d e) (sym goes.same) a)
+pub goes_one : (plan : Plan) (l : Given) (d e : Desk) (w : ℕ) (i : Instruction) → IsDeskOfPlan plan l d → i ≡ instruction_at l d → i ≢ End → ((n j : ℕ) → i ≢ Post n j) → IsGivenWord l w i → Advanced plan w i d e → Computes l d e 1
+goes_one plan l d e w i goes is ne no_post given a = one_computes l d e w i goes.desk (sym is) ne no_post given (subst (λ z. Advanced z w i d e) (sym goes.same) a)
 
 -- ---- instructions with posts
 
@@ -124,8 +124,8 @@ module _ {W : Type 0} (l : Given) where
     out = refl;
   }
 
-  pub works_walk : (s : Sitting W) (d e : Desk) (n : ℕ) → Works l d e n → Walks l s d s e n
-  works_walk s d e n a = record {
+  pub computes_walk : (s : Sitting W) (d e : Desk) (n : ℕ) → Computes l d e n → Walks l s d s e n
+  computes_walk s d e n a = record {
     desk = a.desk;
     position = a.position;
     posted = λ x m i from to is. absurd (a.no_post x m i from to is);
@@ -152,8 +152,8 @@ module _ {W : Type 0} (l : Given) where
 
 -- ---- after some instructions a desk may go on
 
-pub works_may : (plan : Plan) (list : List ℕ) (l : Given) (d e : Desk) (n : ℕ) → MayWalk plan list l d → Works l d e n → MayWalk plan list l e
-works_may plan list l d e n may w = record { goes = record { same = may.goes.same; desk = w.desk }; promises = may.promises }
+pub computes_may : (plan : Plan) (list : List ℕ) (l : Given) (d e : Desk) (n : ℕ) → MayWalk plan list l d → Computes l d e n → MayWalk plan list l e
+computes_may plan list l d e n may w = record { goes = record { same = may.goes.same; desk = w.desk }; promises = may.promises }
 
 pub walks_may : {W : Type 0} (plan : Plan) (list : List ℕ) (l : Given) (s t : Sitting W) (d e : Desk) (n : ℕ) → MayWalk plan list l d → Walks l s d t e n → MayWalk plan list l e
 walks_may plan list l s t d e n may w = record { goes = record { same = may.goes.same; desk = w.desk }; promises = may.promises }

@@ -15,7 +15,7 @@ use Rattle.party_desk.specs.Desks.{IsDesk}
 use Rattle.party_desk.specs.Steps.{word_at}
 
 -- the list has the word of each message that the party posts and takes, and each of its words is in the ring
-pub record Promises (given : Given) (list : List ℕ) : Type 0 where
+pub record HasWords (given : Given) (list : List ℕ) : Type 0 where
   pub posts : (q n i : ℕ) → at (program given.plan given.party given.session) q ≡ Post n i
       → slice_get list n ≡ Some (word_at given q n i)
   pub takes : (q n i : ℕ) → at (program given.plan given.party given.session) q ≡ Take n i
@@ -30,7 +30,7 @@ pub record IsDeskOfPlan (plan : Plan) (given : Given) (d : Desk) : Type 0 where
 -- the same, and a board promises its words
 pub record MayWalk (plan : Plan) (list : List ℕ) (given : Given) (d : Desk) : Type 0 where
   pub goes : IsDeskOfPlan plan given d
-  pub promises : Promises given list
+  pub promises : HasWords given list
 
 -- no instruction from position q up to position r is a post
 abbrev pub NoPosts : Given → ℕ → ℕ → Type 0
@@ -44,7 +44,7 @@ KnowsPosts given q r seen =
     → Knows seen n (word_at given x n i)
 
 -- so many instructions, none of them a post, led from one desk to another
-pub record Works (given : Given) (d d' : Desk) (moves : ℕ) : Type 0 where
+pub record Computes (given : Given) (d d' : Desk) (moves : ℕ) : Type 0 where
   pub desk : IsDesk given d'
   pub position : d'.position ≡ d.position + moves
   pub no_post : NoPosts given d.position d'.position

@@ -3,16 +3,17 @@
 use crate::desk::Desk;
 use job_plan::{Pattern, Plan};
 use message_board::{Board, BoardSeat, Promise, SlotItem};
+use mpc_ring::Ring;
 use party_program::Instruction;
 
 impl Desk {
-    ghost use Rattle.std.specs.Prelude.{◌≡◌, ◌+◌, ◌≤◌};
+    ghost use Rattle.std.specs.Prelude.{◌≡◌, ◌+◌, length};
     ghost use Rattle.message_board.specs.Seats.{IsSeatOf};
     ghost use Rattle.party_program.specs.declared.program.Instruction.TheVariants.{Linear, Sum};
     ghost use Rattle.job_plan.specs.declared.pattern.Pattern.TheVariants.{Silent};
     ghost use Rattle.party_program.specs.States.{Given};
     ghost use Rattle.party_desk.specs.Desks.{instruction_at};
-    ghost use Rattle.party_desk.specs.Walks.{IsDeskOfPlan, MayWalk, Works, Walks, IsBefore};
+    ghost use Rattle.party_desk.specs.Walks.{IsDeskOfPlan, MayWalk, Computes, Walks, IsBefore};
 
     /// Does the instructions that come next as long as they are of gates, until one waits for a message, and answers how
     /// many they were.
@@ -55,14 +56,11 @@ impl Desk {
             → Walks given seat.old self.old seat.new self.new result }
         ensures still { result ≡ 0 → self.new ≡ self.old }
     {
-        let Pattern::Multiplied = self.place.pattern() else {
-            return 0;
-        };
         let sent = self.send(plan, board, seat);
         sent + self.take_each(plan, board, seat)
     }
 
-    // The own product, its deal and its posts, if one of them comes next.
+    // At the start of a product, what the party deals and posts.
     #[inline(always)]
     fn send<W: Promise, T: SlotItem<W>>(
         &mut self,
@@ -77,53 +75,34 @@ impl Desk {
             → Walks given seat.old self.old seat.new self.new result }
         ensures still { result ≡ 0 → self.new ≡ self.old }
     {
-        if let Instruction::Take { .. } = self.next(plan) {
+        let dealt = self.deal_own(plan);
+        if dealt == 0 {
             return 0;
         }
-        let own = self.multiply_next(plan);
-        let dealt = self.deal_next(plan);
-        own + dealt + self.post_each(plan, board, seat)
+        dealt + self.post_each(plan, board, seat)
     }
 
-    // The next instruction.
+    // At the start of a product, forms the own one and deals it, if the party has a pair of summands to multiply.
     #[inline(always)]
-    fn next(&self, plan: &Plan) -> Instruction
-        requires { (given : Given) × IsDeskOfPlan plan.now given self.now }
-        ensures { (given : Given) → IsDeskOfPlan plan.now given self.now → result ≡ instruction_at given self.now }
-    {
-        self.program.instruction_at(plan, &self.place)
-    }
-
-    // Forms the own product, if that comes next.
-    #[inline(always)]
-    fn multiply_next(&mut self, plan: &Plan) -> u32
+    fn deal_own(&mut self, plan: &Plan) -> u32
         requires { (given : Given) × IsDeskOfPlan plan.now given self.old }
-        ensures works { (given : Given) → IsDeskOfPlan plan.now given self.old → Works given self.old self.new result }
-        ensures still { result ≡ 0 → self.new ≡ self.old }
-    {
-        let Instruction::Own { slot } = self.next(plan) else {
-            return 0;
-        };
-        self.own(plan, slot);
-        1
-    }
-
-    // Deals the own product, if that comes next.
-    #[inline(always)]
-    fn deal_next(&mut self, plan: &Plan) -> u32
-        requires { (given : Given) × IsDeskOfPlan plan.now given self.old }
-        ensures works { (given : Given) → IsDeskOfPlan plan.now given self.old → Works given self.old self.new result }
+        ensures computes { (given : Given) → IsDeskOfPlan plan.now given self.old
+            → Computes given self.old self.new result }
         ensures still { result ≡ 0 → self.new ≡ self.old }
     {
         let Pattern::Multiplied = self.place.pattern() else {
             return 0;
         };
-        let Instruction::Deal { slot, deal } = self.next(plan) else {
+        if !self.place.is_first() || !plan.multiplies(self.party) {
             return 0;
-        };
+        }
+        let gate = self.gate(plan, self.place.slot());
         let kind = self.product(plan);
-        self.deal(plan, kind, slot, deal);
-        1
+        self.memory.multiply(plan, self.session, self.party, gate);
+        self.memory.deal(plan, self.session, kind);
+        self.place.skip(2);
+        self.position += 2;
+        2
     }
 
     // The posts of a product that come next.
@@ -145,15 +124,17 @@ impl Desk {
             return 0;
         };
         let place = self.place;
-        let mut moves = 0;
+        let from = place.done();
+        let mut at = from;
         while let Some(Instruction::Post { number, share }) = self
             .program
-            .product_step(plan, &place, moves)
+            .product_step(plan, &place, at)
         {
             let word = self.word(plan, self.product(plan), number, share);
             let _ = board.post(seat, number, word);
-            moves += 1;
+            at += 1;
         }
+        let moves = at - from;
         self.place.skip(moves);
         self.position += moves;
         self.sent += moves;
@@ -179,18 +160,20 @@ impl Desk {
             return 0;
         };
         let place = self.place;
-        let mut moves = 0;
+        let from = place.done();
+        let mut at = from;
         while let Some(Instruction::Take { number, share }) = self
             .program
-            .product_step(plan, &place, moves)
+            .product_step(plan, &place, at)
         {
             let Some(word) = board.take(seat, number) else {
                 break;
             };
             let kind = self.product(plan);
-            self.hear(plan, kind, number, share, word);
-            moves += 1;
+            self.memory.take(plan, self.session, kind, share, word);
+            at += 1;
         }
+        let moves = at - from;
         self.place.skip(moves);
         self.position += moves;
         self.taken += moves;
@@ -201,18 +184,17 @@ impl Desk {
     #[inline(always)]
     fn sum_next(&mut self, plan: &Plan) -> u32
         requires { (given : Given) × IsDeskOfPlan plan.now given self.old }
-        ensures works { (given : Given) → IsDeskOfPlan plan.now given self.old → Works given self.old self.new result }
+        ensures computes { (given : Given) → IsDeskOfPlan plan.now given self.old
+            → Computes given self.old self.new result }
         ensures still { result ≡ 0 → self.new ≡ self.old }
     {
         let Pattern::Multiplied = self.place.pattern() else {
             return 0;
         };
-        if self.place.has_next() {
+        if !self.place.is_last() {
             return 0;
         }
-        let Instruction::Sum { slot } = self.next(plan) else {
-            return 0;
-        };
+        let slot = self.place.slot();
         self.end_product(plan, slot);
         1 + self.compute_gates(plan, slot + 1)
     }
@@ -221,13 +203,14 @@ impl Desk {
     #[inline(always)]
     fn gates_next(&mut self, plan: &Plan) -> u32
         requires { (given : Given) × IsDeskOfPlan plan.now given self.old }
-        ensures works { (given : Given) → IsDeskOfPlan plan.now given self.old → Works given self.old self.new result }
+        ensures computes { (given : Given) → IsDeskOfPlan plan.now given self.old
+            → Computes given self.old self.new result }
         ensures still { result ≡ 0 → self.new ≡ self.old }
     {
         let Pattern::Silent = self.place.pattern() else {
             return 0;
         };
-        let Instruction::Linear { slot } = self.next(plan) else {
+        let Instruction::Linear { slot } = self.program.instruction_at(plan, &self.place) else {
             return 0;
         };
         self.end_gate(plan, slot);
@@ -238,9 +221,11 @@ impl Desk {
     #[inline(always)]
     fn end_product(&mut self, plan: &Plan, slot: u32)
         requires goes { (given : Given) × IsDeskOfPlan plan.now given self.old }
-        requires sum { (given : Given) → IsDeskOfPlan plan.now given self.old → instruction_at given self.old ≡ Sum slot }
-        requires last { self.old.place.count ≤ self.old.place.done + 1 }
-        ensures before { (given : Given) → IsDeskOfPlan plan.now given self.old → IsBefore plan.now given (slot + 1) self.new }
+        requires sum { (given : Given) → IsDeskOfPlan plan.now given self.old
+            → instruction_at given self.old ≡ Sum slot }
+        requires last { self.old.place.done + 1 ≡ self.old.place.count }
+        ensures before { (given : Given) → IsDeskOfPlan plan.now given self.old
+            → IsBefore plan.now given (slot + 1) self.new }
         ensures position { self.new.position ≡ self.old.position + 1 }
     {
         let gate = self.gate(plan, slot);
@@ -252,13 +237,17 @@ impl Desk {
     #[inline(always)]
     fn end_gate(&mut self, plan: &Plan, slot: u32)
         requires goes { (given : Given) × IsDeskOfPlan plan.now given self.old }
-        requires linear { (given : Given) → IsDeskOfPlan plan.now given self.old → instruction_at given self.old ≡ Linear slot }
+        requires linear { (given : Given) → IsDeskOfPlan plan.now given self.old
+            → instruction_at given self.old ≡ Linear slot }
         requires silent { self.old.place.pattern ≡ Silent }
-        ensures before { (given : Given) → IsDeskOfPlan plan.now given self.old → IsBefore plan.now given (slot + 1) self.new }
+        ensures before { (given : Given) → IsDeskOfPlan plan.now given self.old
+            → IsBefore plan.now given (slot + 1) self.new }
         ensures position { self.new.position ≡ self.old.position + 1 }
     {
         let gate = self.gate(plan, slot);
-        self.memory.linear(plan, self.session, gate);
+        let shares = plan.shares() as usize;
+        self.memory
+            .linear(plan, self.session, plan.ring(), shares, gate);
         self.position += 1;
     }
 
@@ -266,21 +255,39 @@ impl Desk {
     #[inline(always)]
     fn compute_gates(&mut self, plan: &Plan, slot: u32) -> u32
         requires { (given : Given) × IsBefore plan.now given slot self.old }
-        ensures { (given : Given) → IsBefore plan.now given slot self.old → Works given self.old self.new result }
+        ensures { (given : Given) → IsBefore plan.now given slot self.old → Computes given self.old self.new result }
+    {
+        let ring = plan.ring();
+        let shares = plan.shares() as usize;
+        // With three summands, as with three parties of whom any two are trusted, no gate has a loop.
+        if shares == 3 {
+            self.compute_each(plan, slot, ring, 3)
+        } else {
+            self.compute_each(plan, slot, ring, shares)
+        }
+    }
+
+    // The same, in the plan's ring and of so many summands as its values have.
+    #[inline(always)]
+    fn compute_each(&mut self, plan: &Plan, slot: u32, ring: Ring, shares: usize) -> u32
+        requires goes { (given : Given) × IsBefore plan.now given slot self.old }
+        requires ring { ring ≡ plan.now.bits }
+        requires shares { shares ≡ length plan.now.groups }
+        ensures { (given : Given) → IsBefore plan.now given slot self.old → Computes given self.old self.new result }
     {
         let part = plan.part(self.session);
         let inputs = part.input_wires() as u32;
-        let gates = part.gates() as u32;
+        let gates = part.gates();
         let first = slot - inputs;
         let mut t = first;
-        while t < gates {
-            let gate = part.gate(t);
+        while (t as usize) < gates.len() {
+            let gate = gates[t as usize];
             if gate.operation.is_product() {
                 self.program
                     .enter_product(plan, &mut self.place, inputs + t);
                 return t - first;
             }
-            self.memory.linear(plan, self.session, gate);
+            self.memory.linear(plan, self.session, ring, shares, gate);
             self.position += 1;
             t += 1;
         }

@@ -1,6 +1,7 @@
 -- Starts of slots, one slot after another.
-use Rattle.std.proofs.Common.{rules, Bool, true, false, ◌≡◌, ℕ, ◌+◌, ◌<◌, ◌≤◌, if◌then◌else◌, [], ◌∷◌, ◌++◌, length, ap, ap₂, ◌∙◌, arith, vec_capacity}
+use Rattle.std.proofs.Common.{rules, Bool, true, false, ◌≡◌, ℕ, ◌+◌, ◌<◌, ◌≤◌, if◌then◌else◌, [], ◌∷◌, ◌++◌, length, refl, ap, ap₂, ◌∙◌, arith, vec_capacity}
 use Rattle.std.specs.Global.{Vec}
+use Rattle.std.specs.Int.{from_bool}
 use Rattle.std.specs.Vec.{vec_len}
 use Rattle.list_laws.proofs.JoinedLists.{length-listed}
 use Rattle.list_laws.proofs.Totals.{total_more}
@@ -12,6 +13,11 @@ use Rattle.party_program.specs.Programs.{slot_program}
 use Rattle.party_program.specs.ProgramPlaces.{AreStarts, start_of}
 use Rattle.party_program.proofs.ProgramPlaces.{before_more}
 use Rattle.party_program.proofs.ShortPrograms.{few_instructions}
+
+-- a truth value as a number
+pub as_number : (b : Bool) → from_bool b ≡ (if b then 1 else 0)
+as_number true = refl
+as_number false = refl
 
 one_most : (b : Bool) → (if b then 1 else 0) ≤ 1
 one_most true = omega arith

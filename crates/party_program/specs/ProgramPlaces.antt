@@ -44,6 +44,10 @@ pub record IsPlace (plan : Plan) (p s : ℕ) (place : Place) (q : ℕ) : Type 0 
   pub done : q ≡ instructions_before plan p s place.slot + place.done
   pub count : place.count ≡ count_in plan p s place.slot
 
+-- an instruction of a product stands at the place
+abbrev pub InProduct : Place → Type 0
+InProduct place = (place.pattern ≡ Multiplied) × (place.done < place.count)
+
 -- a pattern of the plan that a slot of session s has
 pub record OccursIn (plan : Plan) (s : ℕ) (pattern : Pattern) : Type 0 where
   pub slot : ℕ

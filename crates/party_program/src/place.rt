@@ -1,5 +1,5 @@
 //! Places in a program.
-ghost use Rattle.std.specs.Prelude.{◌≡◌, ℕ, ◌+◌, ◌<◌, ◌==◌, ◌≤◌, nat_lt, length};
+ghost use Rattle.std.specs.Prelude.{◌≡◌, ℕ, ◌+◌, ◌<◌, ◌==◌, ◌&&◌, ◌≤◌, nat_lt, length};
 ghost use Rattle.job_plan.specs.Plans as plans;
 ghost use Rattle.party_program.specs.Programs.{program};
 ghost use Rattle.party_program.specs.ProgramPlaces.{IsPlace};
@@ -35,12 +35,28 @@ impl Place {
         self.done >= self.count
     }
 
-    /// Whether another instruction of the slot comes after this one.
+    /// How many instructions of the slot come before this one.
     #[inline(always)]
-    pub fn has_next(&self) -> bool
-        ensures { result ≡ nat_lt (self.now.done + 1) self.now.count }
+    pub fn done(self) -> u32
+        ensures { result ≡ self.done }
     {
-        u64::from(self.done) + 1 < u64::from(self.count)
+        self.done
+    }
+
+    /// Whether this is the first instruction of the slot.
+    #[inline(always)]
+    pub fn is_first(&self) -> bool
+        ensures { result ≡ (self.now.done == 0 && nat_lt 0 self.now.count) }
+    {
+        self.done == 0 && self.count > 0
+    }
+
+    /// Whether this is the last instruction of the slot.
+    #[inline(always)]
+    pub fn is_last(&self) -> bool
+        ensures { result ≡ (self.now.done + 1 == self.now.count) }
+    {
+        u64::from(self.done) + 1 == u64::from(self.count)
     }
 
     /// Moves on by so many steps of the slot.

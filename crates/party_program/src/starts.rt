@@ -1,11 +1,9 @@
 //! Where the instructions of each slot begin.
-ghost use Rattle.std.specs.Prelude.{◌≡◌, ℕ, ◌+◌, ◌<◌, ◌≤◌, IfOk, length, if◌then◌else◌};
+ghost use Rattle.std.specs.Prelude.{◌≡◌, ℕ, ◌+◌, ◌<◌, ◌≤◌, IfOk, length};
 ghost use Rattle.secret_sharing.specs.Schemes.{has_pair};
 ghost use Rattle.job_plan.specs.Plans as plans;
 ghost use Rattle.job_session.specs.Sessions.{owners};
-ghost use Rattle.job_session.specs.Sessions.Slot.{At_gate};
-ghost use Rattle.job_plan.specs.Plans.{scheme, session, slots, deals_in};
-ghost use Rattle.party_program.specs.Programs.{slot_program};
+ghost use Rattle.job_plan.specs.Plans.{scheme, session, slots};
 ghost use Rattle.party_program.specs.PartySteps.{deals_in_pattern};
 ghost use Rattle.party_program.specs.ProgramPlaces.{AreSteps, AreStarts, slot_starts};
 
@@ -36,7 +34,7 @@ pub(crate) fn list_starts(
     let _ = plan.parties();
     let part = plan.part(s);
     let inputs = part.input_wires() as u32;
-    let outputs = inputs + part.gates() as u32;
+    let outputs = inputs + part.gates().len() as u32;
     let slots = plan.slots(s);
     let mut list = Vec::with_capacity(alloc, slots as usize + 1)?;
     let mut start = SlotStart {
@@ -95,35 +93,14 @@ fn push_gates(
         list.new start.new }
 {
     let _ = plan.parties();
-    for t in 0..plan.part(s).gates() as u32 {
+    let deals = u32::from(plan.multiplies(p));
+    for gate in plan.part(s).gates() {
         list.push_reserved(*start);
-        let added = counts_at_gate(plan, p, s, steps, t);
-        start.instructions += added.instructions;
-        start.deals += added.deals;
-    }
-}
-
-// How many instructions and deals of party p stand in the slot of gate t.
-#[inline(always)]
-fn counts_at_gate(plan: &Plan, p: u32, s: u32, steps: &StepTable, t: u32) -> SlotStart
-    requires party { p < plan.now.parties }
-    requires session { s < length plan.now.sessions }
-    requires steps { AreSteps plan.now p s steps.now }
-    requires gate { t < length (session plan.now s).gates }
-    ensures instructions { result.instructions
-        ≡ length (slot_program plan.now p s (length (owners (session plan.now s)) + t)) }
-    ensures deals { result.deals ≡ (if deals_in plan.now s p (At_gate t) then 1 else 0) }
-{
-    let _ = plan.parties();
-    if plan.part(s).gate(t).operation.is_product() {
-        SlotStart {
-            instructions: steps.of_product().len() as u32,
-            deals: u32::from(plan.multiplies(p)),
-        }
-    } else {
-        SlotStart {
-            instructions: 1,
-            deals: 0,
+        if gate.operation.is_product() {
+            start.instructions += steps.of_product().len() as u32;
+            start.deals += deals;
+        } else {
+            start.instructions += 1;
         }
     }
 }

@@ -1,4 +1,8 @@
 //! What a party does in a slot, apart from where the slot stands.
+ghost use Rattle.std.specs.Prelude.{◌≡◌, ◌-◌, ◌^◌};
+ghost use Rattle.party_program.specs.PartySteps.{placed, IsPlaced};
+
+use crate::program::Instruction;
 
 /// A step of a party in a slot. It depends on the slot's pattern alone, so it names a message by its place among the
 /// lines of the pattern. It takes four bytes.
@@ -18,4 +22,30 @@ pub enum Step {
     Sum,
     /// Opens an output wire.
     Deliver,
+}
+
+impl Step {
+    /// The instruction of the step in a slot, whose first message has this number, where the party has made so many
+    /// deals before.
+    #[inline(always)]
+    pub(crate) fn placed(self, slot: u32, first: u32, deals: u32) -> Instruction
+        requires { IsPlaced (2 ^ 32 - first) self }
+        ensures { result ≡ placed slot first deals self }
+    {
+        match self {
+            Step::Deal => Instruction::Deal { slot, deal: deals },
+            Step::Own => Instruction::Own { slot },
+            Step::Post { place, share } => Instruction::Post {
+                number: first + u32::from(place),
+                share: u32::from(share),
+            },
+            Step::Take { place, share } => Instruction::Take {
+                number: first + u32::from(place),
+                share: u32::from(share),
+            },
+            Step::Linear => Instruction::Linear { slot },
+            Step::Sum => Instruction::Sum { slot },
+            Step::Deliver => Instruction::Deliver { slot },
+        }
+    }
 }

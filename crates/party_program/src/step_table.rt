@@ -129,7 +129,7 @@ fn openings_of_each(
 {
     let _ = plan.parties();
     let part = plan.part(s);
-    let outputs = part.input_wires() + part.gates();
+    let outputs = part.input_wires() + part.gates().len();
     let mut openings = IndexMap::new(alloc);
     for k in outputs as u32..plan.slots(s) {
         add_opening(alloc, plan, p, s, k, &mut openings)?;

@@ -17,7 +17,7 @@ pub struct Duty {
     parties: u32,
     groups: Vec<u32>,
     duties: Vec<u32>,
-    pairs: Vec<Vec<(u32, u32)>>,
+    pairs: Vec<Vec<(u8, u8)>>,
 }
 
 impl Model for Duty {
@@ -127,7 +127,7 @@ fn list_of(
     duties: &[u32],
     shares: u32,
     p: u32,
-) -> Result<Vec<(u32, u32)>, AllocError>
+) -> Result<Vec<(u8, u8)>, AllocError>
     requires few { shares ≤ 64 }
     requires table { length duties.now ≡ shares * shares }
     ensures { IfOk result (λ list. list.items ≡ pairs_where (λ i j. slice_index duties.now (i * shares + j)) p shares) }
@@ -136,7 +136,7 @@ fn list_of(
     for i in 0..shares {
         for j in 0..shares {
             if duties[(i * shares + j) as usize] == p {
-                list.push((i, j))?;
+                list.push((i as u8, j as u8))?;
             }
         }
     }

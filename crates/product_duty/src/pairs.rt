@@ -8,7 +8,7 @@ use std::slice;
 /// An iterator over the pairs of summands that are one party's duty. Contracts see the pairs that are left.
 #[derive(Drop)]
 pub struct Pairs<'a> {
-    left: slice::Iter<'a, (u32, u32)>,
+    left: slice::Iter<'a, (u8, u8)>,
 }
 
 impl<'a> Model for Pairs<'a> {
@@ -21,7 +21,7 @@ impl<'a> Model for Pairs<'a> {
 }
 
 impl<'a> Pairs<'a> {
-    pub(crate) fn of(pairs: &'a [(u32, u32)]) -> Pairs<'a>
+    pub(crate) fn of(pairs: &'a [(u8, u8)]) -> Pairs<'a>
         ensures { result ≡ pairs.now }
     {
         Pairs { left: pairs.iter() }
@@ -29,13 +29,13 @@ impl<'a> Pairs<'a> {
 }
 
 impl<'a> Iterator for Pairs<'a> {
-    type Item = (u32, u32);
+    type Item = (u8, u8);
 
     ghost next_gives = { YieldsFirst (λ left. left) };
 
     ghost remaining = { item_count (λ left. left) };
 
-    fn next(&mut self) -> Option<(u32, u32)> {
+    fn next(&mut self) -> Option<(u8, u8)> {
         self.left.next().copied()
     }
 }

@@ -52,7 +52,7 @@ impl SummandTable {
         let first_gate = part.input_wires() as u32;
         let mut places = first_places(alloc, plan, s)?;
         let mut rows = input_rows(alloc, plan, inputs, tapes, s, &mut places)?;
-        for t in 0..part.gates() as u32 {
+        for t in 0..part.gates().len() as u32 {
             let gate = part.gate(t);
             let x = &rows[gate.first as usize];
             let y = &rows[gate.second as usize];

@@ -49,7 +49,7 @@ pub fn value_list(
     let ring = plan.ring();
     let mut values = input_list(alloc, plan, inputs, s)?;
     pad(part.wires() as usize, &mut values)?;
-    for t in 0..part.gates() as u32 {
+    for t in 0..part.gates().len() as u32 {
         set_wire(ring, part.gate(t), &mut values);
     }
     Ok(values)

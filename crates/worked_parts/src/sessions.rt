@@ -33,7 +33,7 @@ fn session(
 }
 
 fn expect_product(rt: &impl Abort, part: &SessionPart) {
-    expect_same!(rt; (part.gates(), part.wires(), part.products()), (1, 3, 1));
+    expect_same!(rt; (part.gates().len(), part.wires(), part.products()), (1, 3, 1));
     expect_same!(rt; (part.input_wires(), part.output_wires()), (2, 1));
     expect_same!(rt;
         part.inputs().get(1).copied(),

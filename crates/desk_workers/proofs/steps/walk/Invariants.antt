@@ -1,4 +1,4 @@
-use Rattle.std.proofs.Common.{◌≡◌, ◌+◌, ◌<◌, ◌^◌}
+use Rattle.std.proofs.Common.{◌≡◌, ◌+◌, ◌<◌, ◌^◌, ◌⊎◌}
 use Rattle.message_board.specs.Seats.{IsSeatOf}
 use Rattle.desk_laws.specs.Pools.{left}
 use Rattle.desk_workers.specs.Pools.{LeadsOn, IsStuck}
@@ -8,7 +8,7 @@ abbrev pub invariant-loop-last : goal.invariant-loop-last
 invariant-loop-last g l =
     IsSeatOf l.board l.seat
     × LeadsOn l.board l.fn.seat l.fn.desk l.seat l.desk l.moves
-    × (l.moves ≡ 0 → IsStuck l.board l.fn.seat l.fn.desk)
+    × (l.moves ≡ 0 → (l.last ≡ 1) ⊎ IsStuck l.board l.fn.seat l.fn.desk)
     × (l.moves + left l.desk ≡ left l.fn.desk)
     × (left l.fn.desk < 2 ^ 32)
 

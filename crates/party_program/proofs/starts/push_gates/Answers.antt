@@ -1,36 +1,101 @@
-use Rattle.std.proofs.Common.{◌≡◌, ◌+◌, if◌then◌else◌, length, sym, ap, ◌∙◌, subst, arith}
-use Rattle.job_session.specs.Sessions.{owners}
+use Rattle.std.proofs.Common.{◌≡◌, ℕ, ◌+◌, ◌<◌, Bool, true, false, ◌&&◌, if◌then◌else◌, List, length, sym, ap, ◌∙◌, subst, arith}
+use Rattle.std.specs.Prelude.{slice_index_or}
+use Rattle.circuit_model.specs.Circuits.{is_product}
+use Rattle.circuit_model.specs.declared.gate.Gate.{Gate}
+use Rattle.secret_sharing.specs.Schemes.{has_pair}
+use Rattle.job_session.specs.Sessions.{Session, owners, gate, no_gate}
 use Rattle.job_session.proofs.SessionSlots.{slot_gate}
-use Rattle.job_plan.specs.Plans.{session, deals_in}
-use Rattle.party_program.specs.declared.starts.SlotStart.{SlotStart}
+use Rattle.job_plan.specs.declared.pattern.Pattern.TheVariants.{Silent, Multiplied}
+use Rattle.job_plan.specs.Plans.{Plan, scheme, session, slot, slots, deals_in}
+use Rattle.job_plan.specs.Patterns.{pattern}
+use Rattle.party_program.specs.declared.step.Step.{Step}
+use Rattle.party_program.specs.Programs.{slot_program}
+use Rattle.party_program.specs.PartySteps.{steps}
 use Rattle.party_program.specs.ProgramPlaces.{AreStarts}
-use Rattle.party_program.proofs.GrownStarts.{room_left, instructions_fit, one_more}
+use Rattle.party_program.proofs.ProgramPlaces.{length-slot}
+use Rattle.party_program.proofs.GrownStarts.{as_number, room_left, instructions_fit, one_more}
 use Rattle.party_program.proofs.starts.push_gates.Goals as goal
+use Rattle.party_program.proofs.starts.push_gates.Goals.{then-is_product, else-is_product}
+
+-- gate t of session s, found among the gates of its part
+module _ (plan : Plan) (p s t : ℕ) (ls : s < length plan.sessions) (part : Session) (same : part ≡ session plan s) (gates : List Gate) (of : gates ≡ part.gates) (less : t < length gates) where
+  abbrev k : ℕ
+  k = length (owners (session plan s)) + t
+
+  lt : t < length (session plan s).gates
+  lt = subst (λ (xs : List Gate). t < length xs) (of ∙ ap (λ (x : Session). x.gates) same) less
+
+  lk : k < slots plan s
+  lk = let less = lt in omega (arith, less)
+
+  -- whether it was found to be a product
+  module _ (told product : Bool) (is_told : told ≡ is_product (slice_index_or gates t no_gate).operation) (told_is : told ≡ product) where
+    product_is : is_product (gate (session plan s) t).operation ≡ product
+    product_is = ap (λ xs. is_product (slice_index_or xs t no_gate).operation) (sym (of ∙ ap (λ (x : Session). x.gates) same)) ∙ sym is_told ∙ told_is
+
+    -- its slot has as many instructions as steps
+    count : length (slot_program plan p s k) ≡ length (steps plan p (if product then Multiplied else Silent))
+    count =
+        length-slot plan p s k ls lk
+        ∙ ap (λ z. length (steps plan p (pattern plan s z))) (slot_gate (session plan s) t lt)
+        ∙ ap (λ b. length (steps plan p (if b then Multiplied else Silent))) product_is
+
+    -- and a deal where it is a product and the party has a pair to multiply
+    dealt : deals_in plan s p (slot plan s k) ≡ (product && has_pair (scheme plan) p)
+    dealt = ap (deals_in plan s p) (slot_gate (session plan s) t lt) ∙ ap (λ b. b && has_pair (scheme plan) p) product_is
 
 pub push_reserved-requires : goal.push_reserved-requires
 push_reserved-requires c =
-    let gated = ap (λ x. length x.gates) c.part.ensures in
-    room_left c.args.plan.now c.args.p c.args.s _ c.loop-t.list c.loop-t.start c.loop-t.invariant (omega arith)
+    let there = lk c.args.plan.now c.args.p c.args.s c.loop-gate.gate-index c.requires.session _ c.part.ensures _ c.gates-gate-items.ensures c.loop-gate-test.true in
+    room_left c.args.plan.now c.args.p c.args.s _ c.loop-gate.list c.loop-gate.start c.loop-gate.invariant (omega (arith, there))
+
+-- a product has as many instructions as were added
+module _ (c : goal.After-of_product) where
+  many : length c.of_product.result.now ≡ length (slot_program c.args.plan.now c.args.p c.args.s (length (owners (session c.args.plan.now c.args.s)) + c.loop-gate.gate-index))
+  many =
+      ap (length {A = Step}) (c.of_product.ensures c.args.plan.now c.args.p c.args.s c.requires.steps)
+      ∙ sym (count c.args.plan.now c.args.p c.args.s c.loop-gate.gate-index c.requires.session _ c.part.ensures _ c.gates-gate-items.ensures c.loop-gate-test.true _ true c.is_product.ensures c.if-is_product.true)
+
+  fits : c.loop-gate.start.instructions + length c.of_product.result.now < 4294967296
+  fits =
+      let there = lk c.args.plan.now c.args.p c.args.s c.loop-gate.gate-index c.requires.session _ c.part.ensures _ c.gates-gate-items.ensures c.loop-gate-test.true in
+      instructions_fit c.args.plan.now c.args.p c.args.s _ c.loop-gate.list c.loop-gate.start c.loop-gate.invariant _ c.parties.ensures.sound c.requires.session there many
+
+pub overflow_cast-start : goal.overflow_cast-start
+overflow_cast-start c = let all = fits c in omega (arith, all)
 
 pub overflow_add-start : goal.overflow_add-start
-overflow_add-start c =
-    let gated = ap (λ x. length x.gates) c.part.ensures in
-    let fits = instructions_fit c.args.plan.now c.args.p c.args.s _ c.loop-t.list c.loop-t.start c.loop-t.invariant _ c.parties.ensures.sound c.requires.session (omega arith) c.counts_at_gate-added.ensures.instructions in
-    omega arith
+overflow_add-start c = let all = fits c in omega (arith, all)
 
-pub loop-t-preserved : goal.loop-t-preserved
-loop-t-preserved c =
+pub overflow_add-start-else-is_product : goal.overflow_add-start-else-is_product
+overflow_add-start-else-is_product c =
+    let there = lk c.args.plan.now c.args.p c.args.s c.loop-gate.gate-index c.requires.session _ c.part.ensures _ c.gates-gate-items.ensures c.loop-gate-test.true in
+    let one = count c.args.plan.now c.args.p c.args.s c.loop-gate.gate-index c.requires.session _ c.part.ensures _ c.gates-gate-items.ensures c.loop-gate-test.true _ false c.is_product.ensures c.if-is_product.false in
+    let all = instructions_fit c.args.plan.now c.args.p c.args.s _ c.loop-gate.list c.loop-gate.start c.loop-gate.invariant 1 c.parties.ensures.sound c.requires.session there (sym one) in
+    omega (arith, all)
+
+pub loop-gate-preserved : goal.loop-gate-preserved
+loop-gate-preserved c =
     let plan = c.args.plan.now in
     let p = c.args.p in
     let s = c.args.s in
-    let t = c.loop-t.t in
-    let gated = ap (λ x. length x.gates) c.part.ensures in
-    let k = length (owners (session plan s)) + t in
-    let next : k + 1 ≡ length (owners (session plan s)) + (t + 1) = omega arith in
-    let deals = c.counts_at_gate-added.ensures.deals ∙ ap (λ z. if deals_in plan s p z then 1 else 0) (sym (slot_gate (session plan s) t (omega arith))) in
-    let start : SlotStart = record {
-      instructions = c.loop-t.start.instructions + c.counts_at_gate-added.result.instructions;
-      deals = c.loop-t.start.deals + c.counts_at_gate-added.result.deals;
-    } in
-    subst (λ n. AreStarts plan p s n c.push_reserved.new.self start) next
-    (one_more plan p s k c.loop-t.list c.loop-t.start c.loop-t.invariant c.push_reserved.new.self _ _ c.push_reserved.ensures.items c.push_reserved.ensures.capacity c.counts_at_gate-added.ensures.instructions deals)
+    let k : ℕ = length (owners (session plan s)) + c.loop-gate.gate-index in
+    let next : k + 1 ≡ length (owners (session plan s)) + (c.loop-gate.gate-index + 1) = omega arith in
+    let grown = one_more plan p s k c.loop-gate.list c.loop-gate.start c.loop-gate.invariant c.push_reserved.new.self in
+    subst (λ n. AreStarts plan p s n c.push_reserved.new.self c.if-is_product.start) next
+    (elim c.if-is_product.branch [
+      | then-is_product w ↦
+          let deals = c.from-deals.ensures ∙ as_number c.multiplies.result ∙ ap (λ b. if b then 1 else 0)
+          (c.multiplies.ensures ∙ sym (dealt plan p s c.loop-gate.gate-index c.requires.session _ c.part.ensures _ c.gates-gate-items.ensures c.loop-gate-test.true _ true c.is_product.ensures w.if-is_product.true)) in
+          let count = ap (length {A = Step}) (w.of_product.ensures plan p s c.requires.steps)
+          ∙ sym (count plan p s c.loop-gate.gate-index c.requires.session _ c.part.ensures _ c.gates-gate-items.ensures c.loop-gate-test.true _ true c.is_product.ensures w.if-is_product.true) in
+          subst (AreStarts plan p s (k + 1) c.push_reserved.new.self) (sym w.start-is)
+          (grown (length w.of_product.result.now) c.from-deals.result c.push_reserved.ensures.items c.push_reserved.ensures.capacity count deals)
+      | else-is_product w ↦
+          let none : 0 ≡ (if deals_in plan s p (slot plan s k) then 1 else 0) = ap (λ b. if b then 1 else 0)
+          (sym (dealt plan p s c.loop-gate.gate-index c.requires.session _ c.part.ensures _ c.gates-gate-items.ensures c.loop-gate-test.true _ false c.is_product.ensures w.if-is_product.false)) in
+          let count = sym (count plan p s c.loop-gate.gate-index c.requires.session _ c.part.ensures _ c.gates-gate-items.ensures c.loop-gate-test.true _ false c.is_product.ensures w.if-is_product.false) in
+          let still : c.loop-gate.start.deals + 0 ≡ c.loop-gate.start.deals = omega arith in
+          subst (AreStarts plan p s (k + 1) c.push_reserved.new.self) (ap (λ n. record { instructions = c.loop-gate.start.instructions + 1; deals = n }) still ∙ sym w.start-is)
+          (grown 1 0 c.push_reserved.ensures.items c.push_reserved.ensures.capacity count none)
+    ])

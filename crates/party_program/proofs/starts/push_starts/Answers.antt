@@ -1,16 +1,11 @@
-use Rattle.std.proofs.Common.{Bool, true, false, ◌≡◌, refl, ◌<◌, if◌then◌else◌, length, sym, ap, ◌∙◌, arith}
-use Rattle.std.specs.Int.{from_bool}
+use Rattle.std.proofs.Common.{◌≡◌, ◌<◌, if◌then◌else◌, length, sym, ap, ◌∙◌, arith}
 use Rattle.job_plan.specs.Plans.{slot, slots, deals_in}
 use Rattle.party_program.specs.declared.step.Step.{Step}
 use Rattle.party_program.specs.PartySteps.{deals_in_pattern}
 use Rattle.party_program.proofs.OccurringPatterns.{steps_found, deals_by_pattern}
 use Rattle.party_program.proofs.ProgramPlaces.{length-slot}
-use Rattle.party_program.proofs.GrownStarts.{room_left, instructions_fit, one_more}
+use Rattle.party_program.proofs.GrownStarts.{as_number, room_left, instructions_fit, one_more}
 use Rattle.party_program.proofs.starts.push_starts.Goals as goal
-
-as_number : (b : Bool) → from_bool b ≡ (if b then 1 else 0)
-as_number true = refl
-as_number false = refl
 
 pub push_reserved-requires : goal.push_reserved-requires
 push_reserved-requires c = room_left c.args.plan.now c.args.p c.args.s c.loop-k.k c.loop-k.list c.loop-k.start c.loop-k.invariant (omega (arith, c.requires.slots.1))

@@ -1,8 +1,13 @@
 use Rattle.std.proofs.Common.{sym, ◌∙◌}
-use Rattle.party_desk.proofs.GatePlaces.{first_works}
+use Rattle.party_desk.proofs.GatePlaces.{first_computes}
+use Rattle.party_desk.proofs.GatePosts.{goes_at}
 use Rattle.party_desk.proofs.desk.Desk.gates_next.Goals as goal
 
-pub returns-clause-works : goal.returns-clause-works
-returns-clause-works c given goes =
-    first_works given c.args.self.now c.end_gate.new.self c.compute_gates.new.self _ c.compute_gates.result (sym (c.next.ensures given goes) ∙ c.in-Linear.is) (λ m j z. cc)
+pub end_gate-requires-clause-linear : goal.end_gate-requires-clause-linear
+end_gate-requires-clause-linear c given goes = sym (goes_at c.args.plan.now given c.args.self.now goes c.instruction_at.result c.instruction_at.ensures) ∙ c.in-Linear.is
+
+pub returns-clause-computes : goal.returns-clause-computes
+returns-clause-computes c given goes =
+    first_computes given c.args.self.now c.end_gate.new.self c.compute_gates.new.self _ c.compute_gates.result
+    (sym (goes_at c.args.plan.now given c.args.self.now goes c.instruction_at.result c.instruction_at.ensures) ∙ c.in-Linear.is) (λ m j z. cc)
     c.end_gate.ensures.position (c.compute_gates.ensures given (c.end_gate.ensures.before given goes))

@@ -1,19 +1,27 @@
-use Rattle.std.proofs.Common.{◌≡◌, ◌+◌, refl, sym, ap, ◌∙◌, Some, arith}
-use Rattle.party_program.specs.declared.program.Instruction.{Instruction}
+use Rattle.std.proofs.Common.{◌≡◌, ℕ, ◌+◌, ◌-◌, sym, ap, ◌∙◌, subst, Some, arith}
 use Rattle.party_program.specs.declared.program.Instruction.TheVariants.{Post}
 use Rattle.party_desk.specs.declared.desk.Desk.{Desk}
 use Rattle.party_desk.specs.Desks.{instruction_at}
-use Rattle.party_desk.specs.Walks.{IsDeskOfPlan}
+use Rattle.party_desk.specs.Walks.{IsDeskOfPlan, Walks}
 use Rattle.party_desk.proofs.AllowedSteps.{stands}
-use Rattle.party_desk.proofs.GateWalks.{goes_names, goes_proper, goes_stand, walks_on}
-use Rattle.party_desk.proofs.GatePosts.{goes_ahead, goes_word, post_walks, posted_more, posted_on, posts_start, still_posting}
+use Rattle.party_desk.proofs.GateWalks.{few_done, goes_names, goes_proper, goes_stand, walks_on}
+use Rattle.party_desk.proofs.GatePosts.{goes_word, post_walks, posted_more, posted_on, posts_start, product_more, product_next, product_within, still_posting}
 use Rattle.party_desk.proofs.desk.Desk.post_each.Goals as goal
 
 pub loop-number-init : goal.loop-number-init
-loop-number-init g c = (c.requires.seat, (λ given may. posts_start given c.args.seat.now c.args.self.now may.goes.desk))
+loop-number-init g c =
+    let none : 0 ≡ c.done-from.result - c.done-from.result = omega arith in (
+      omega arith,
+      c.requires.seat,
+      (λ given may. subst (λ n. Walks given c.args.seat.now c.args.self.now c.args.seat.now (posted_on c.args.self.now n) n) none (posts_start given c.args.seat.now c.args.self.now may.goes.desk)),
+    )
 
 pub product-requires-clause-stands : goal.product-requires-clause-stands
 product-requires-clause-stands g c = goes_stand c.args.plan.now c.requires.may.0 c.args.self.now c.requires.may.1.goes
+
+pub product-requires-clause-within : goal.product-requires-clause-within
+product-requires-clause-within g c =
+    product_within c.args.plan.now c.requires.may.0 c.args.self.now c.requires.may.1.goes (sym c.pattern.ensures ∙ c.in-Multiplied.is, omega (arith, c.done-from.ensures, c.loop-number.invariant.0, c.in-Some-Post.ensures.0))
 
 pub word-word-requires-clause-stands : goal.word-word-requires-clause-stands
 word-word-requires-clause-stands g c = goes_stand c.args.plan.now c.requires.may.0 c.args.self.now c.requires.may.1.goes
@@ -23,60 +31,84 @@ word-word-requires-clause-proper g c =
     let plan = c.args.plan.now in
     let given = c.requires.may.0 in
     let may = c.requires.may.1 in
-    let e : Desk = posted_on c.args.self.now c.loop-number.moves in
-    let goes : IsDeskOfPlan plan given e = record { same = may.goes.same; desk = (c.loop-number.invariant.1 given may).desk } in
-    let found : Instruction = Post c.in-Some-Post.number c.in-Some-Post.share in
-    goes_proper plan given e goes found (goes_ahead plan given c.args.self.now may.goes found e c.loop-number.moves refl refl goes (λ q here. sym c.in-Some-Post.field-0-is ∙ c.in-Some-Post.ensures.1 q here))
+    let d = c.args.self.now in
+    let n = c.in-Some-Post.number in
+    let i = c.in-Some-Post.share in
+    let e : Desk = posted_on d (c.loop-number.at - c.done-from.result) in
+    let goes : IsDeskOfPlan plan given e = record { same = may.goes.same; desk = (c.loop-number.invariant.2 given may).desk } in
+    let is : instruction_at given e ≡ Post n i = product_next plan given d may.goes (sym c.pattern.ensures ∙ c.in-Multiplied.is) c.done-from.result c.loop-number.at c.done-from.ensures c.loop-number.invariant.0 c.in-Some-Post.ensures.0 (Post n i) (sym c.in-Some-Post.field-0-is ∙ c.in-Some-Post.ensures.1) in
+    goes_proper plan given e goes (Post n i) (sym is)
 
 pub word-word-requires-clause-here : goal.word-word-requires-clause-here
 word-word-requires-clause-here g c =
     let plan = c.args.plan.now in
     let given = c.requires.may.0 in
     let may = c.requires.may.1 in
-    let e : Desk = posted_on c.args.self.now c.loop-number.moves in
-    let goes : IsDeskOfPlan plan given e = record { same = may.goes.same; desk = (c.loop-number.invariant.1 given may).desk } in
-    let found : Instruction = Post c.in-Some-Post.number c.in-Some-Post.share in
-    goes_names plan given e goes found (goes_ahead plan given c.args.self.now may.goes found e c.loop-number.moves refl refl goes (λ q here. sym c.in-Some-Post.field-0-is ∙ c.in-Some-Post.ensures.1 q here))
+    let d = c.args.self.now in
+    let n = c.in-Some-Post.number in
+    let i = c.in-Some-Post.share in
+    let e : Desk = posted_on d (c.loop-number.at - c.done-from.result) in
+    let goes : IsDeskOfPlan plan given e = record { same = may.goes.same; desk = (c.loop-number.invariant.2 given may).desk } in
+    let is : instruction_at given e ≡ Post n i = product_next plan given d may.goes (sym c.pattern.ensures ∙ c.in-Multiplied.is) c.done-from.result c.loop-number.at c.done-from.ensures c.loop-number.invariant.0 c.in-Some-Post.ensures.0 (Post n i) (sym c.in-Some-Post.field-0-is ∙ c.in-Some-Post.ensures.1) in
+    goes_names plan given e goes (Post n i) (sym is)
 
 pub post-requires-clause-promised : goal.post-requires-clause-promised
 post-requires-clause-promised g c =
     let plan = c.args.plan.now in
     let given = c.requires.may.0 in
     let may = c.requires.may.1 in
-    let e : Desk = posted_on c.args.self.now c.loop-number.moves in
-    let goes : IsDeskOfPlan plan given e = record { same = may.goes.same; desk = (c.loop-number.invariant.1 given may).desk } in
-    let found : Instruction = Post c.in-Some-Post.number c.in-Some-Post.share in
-    let is : instruction_at given e ≡ found = sym (goes_ahead plan given c.args.self.now may.goes found e c.loop-number.moves refl refl goes (λ q here. sym c.in-Some-Post.field-0-is ∙ c.in-Some-Post.ensures.1 q here)) in
-    may.promises.posts e.position c.in-Some-Post.number c.in-Some-Post.share is
-    ∙ ap Some (sym (goes_word plan given e goes c.in-Some-Post.number c.in-Some-Post.share c.word-word.result is c.word-word.ensures.is))
+    let d = c.args.self.now in
+    let n = c.in-Some-Post.number in
+    let i = c.in-Some-Post.share in
+    let e : Desk = posted_on d (c.loop-number.at - c.done-from.result) in
+    let goes : IsDeskOfPlan plan given e = record { same = may.goes.same; desk = (c.loop-number.invariant.2 given may).desk } in
+    let is : instruction_at given e ≡ Post n i = product_next plan given d may.goes (sym c.pattern.ensures ∙ c.in-Multiplied.is) c.done-from.result c.loop-number.at c.done-from.ensures c.loop-number.invariant.0 c.in-Some-Post.ensures.0 (Post n i) (sym c.in-Some-Post.field-0-is ∙ c.in-Some-Post.ensures.1) in
+    may.promises.posts e.position n i is ∙ ap Some (sym (goes_word plan given e goes n i c.word-word.result is c.word-word.ensures.is))
 
 pub loop-number-preserved : goal.loop-number-preserved
 loop-number-preserved g c = (
+  omega (arith, c.loop-number.invariant.0),
   c.post.ensures.seat,
   (λ given may.
       let plan = c.args.plan.now in
       let d = c.args.self.now in
-      let so_far = c.loop-number.invariant.1 given may in
-      let e : Desk = posted_on d c.loop-number.moves in
-      let f : Desk = posted_on d (c.loop-number.moves + 1) in
-      let goes : IsDeskOfPlan plan given e = record { same = may.goes.same; desk = so_far.desk } in
       let n = c.in-Some-Post.number in
       let i = c.in-Some-Post.share in
-      let is : instruction_at given e ≡ Post n i = sym (goes_ahead plan given d may.goes (Post n i) e c.loop-number.moves refl refl goes (λ q here. sym c.in-Some-Post.field-0-is ∙ c.in-Some-Post.ensures.1 q here)) in
+      let moves : ℕ = c.loop-number.at - c.done-from.result in
+      let so_far = c.loop-number.invariant.2 given may in
+      let e : Desk = posted_on d moves in
+      let f : Desk = posted_on d (moves + 1) in
+      let goes : IsDeskOfPlan plan given e = record { same = may.goes.same; desk = so_far.desk } in
+      let found = sym c.in-Some-Post.field-0-is ∙ c.in-Some-Post.ensures.1 in
+      let product = sym c.pattern.ensures ∙ c.in-Multiplied.is in
+      let is : instruction_at given e ≡ Post n i = product_next plan given d may.goes product c.done-from.result c.loop-number.at c.done-from.ensures c.loop-number.invariant.0 c.in-Some-Post.ensures.0 (Post n i) found in
+      let more = product_more plan given d may.goes product c.done-from.result c.loop-number.at c.done-from.ensures c.loop-number.invariant.0 c.in-Some-Post.ensures.0 (Post n i) found (λ z. cc) in
       let word = goes_word plan given e goes n i c.word-word.result is c.word-word.ensures.is in
-      walks_on given c.args.seat.now c.loop-number.seat c.post.new.seat d e f c.loop-number.moves 1 so_far
+      let next : moves + 1 ≡ c.loop-number.at + 1 - c.done-from.result = omega (arith, c.loop-number.invariant.0) in
+      subst (λ k. Walks given c.args.seat.now d c.post.new.seat (posted_on d k) k) next
+      (walks_on given c.args.seat.now c.loop-number.seat c.post.new.seat d e f moves 1 so_far
       (post_walks given c.loop-number.seat c.post.new.seat e f so_far.desk n i c.word-word.result c.post.result is word c.post.ensures.view c.post.ensures.found
-      (posted_more given d c.loop-number.moves c.in-Some-Post.ensures.0 n i so_far.desk))),
+      (posted_more given d moves more n i so_far.desk)))),
 )
+
+pub overflow_add-at : goal.overflow_add-at
+overflow_add-at g c =
+    let there = stands c.requires.may.0 (posted_on c.args.self.now (c.loop-number.at - c.done-from.result)) (c.loop-number.invariant.2 c.requires.may.0 c.requires.may.1).desk in
+    let few = there.position in
+    let done = there.place.done in
+    omega (arith, few, done, c.done-from.ensures, c.loop-number.invariant.0)
+
+pub overflow_add-self : goal.overflow_add-self
+overflow_add-self g c =
+    let few = few_done c.requires.may.0 (posted_on c.args.self.now (c.loop-number.at - c.done-from.result)) (c.loop-number.invariant.2 c.requires.may.0 c.requires.may.1).desk in
+    omega (arith, few)
 
 pub overflow_add-self-2 : goal.overflow_add-self-2
 overflow_add-self-2 g c =
-    let given = c.requires.may.0 in
-    let so_far = c.loop-number.invariant.1 given c.requires.may.1 in
-    let there = stands given (posted_on c.args.self.now c.loop-number.moves) so_far.desk in
+    let there = stands c.requires.may.0 (posted_on c.args.self.now (c.loop-number.at - c.done-from.result)) (c.loop-number.invariant.2 c.requires.may.0 c.requires.may.1).desk in
     let few = there.position in
     let sent = there.sent in
     omega (arith, few, sent)
 
 pub returns-clause-still : goal.returns-clause-still
-returns-clause-still g c none = still_posting c.args.self.now c.skip.new.self c.loop-number.moves c.skip.ensures none
+returns-clause-still g c none = still_posting c.args.self.now c.skip.new.self (c.loop-number.at - c.done-from.result) c.skip.ensures none

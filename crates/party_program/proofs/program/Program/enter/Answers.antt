@@ -1,7 +1,8 @@
 use Rattle.std.proofs.Common.{◌≡◌, ℕ, ◌+◌, ◌<◌, length, sym, ap, ◌∙◌, arith}
 use Rattle.std.proofs.lemmas.Bool.{cases_lt}
 use mathlib.Core.Logic.{inl, inr}
-use Rattle.job_session.specs.Sessions.{owners}
+use Rattle.circuit_model.specs.declared.gate.Gate.{Gate}
+use Rattle.job_session.specs.Sessions.{Session, owners}
 use Rattle.job_plan.specs.Plans.{Plan, slots}
 use Rattle.job_plan.specs.Patterns.{pattern_at}
 use Rattle.job_plan.specs.declared.pattern.Pattern.{Pattern}
@@ -32,8 +33,8 @@ pub overflow_cast-count : goal.overflow_cast-count
 overflow_cast-count c =
     let count = c.gate_count-count.result in
     let owned = ap (λ x. length (owners x)) c.part-part.ensures in
-    let gated = ap (λ x. length x.gates) c.part-part.ensures in
-    let lk : c.args.slot < slots c.args.plan.now c.args.self.now.session = omega (arith, c.input_wires.ensures, c.gates.ensures, c.if-slot-input_wires.true) in
+    let gated = ap (length {A = Gate}) (c.gates.ensures ∙ ap (λ (x : Session). x.gates) c.part-part.ensures) in
+    let lk : c.args.slot < slots c.args.plan.now c.args.self.now.session = omega (arith, c.input_wires.ensures, c.if-slot-input_wires.true) in
     let small : count < 4294967296 = elim (cases_lt 0 count) [
       | inl some ↦ few c.args.plan.now c.args.self.now c.requires.is c.args.slot lk c.pattern-pattern.result c.pattern-pattern.ensures.is count c.gate_count-count.ensures some
       | inr none ↦ omega arith
@@ -45,7 +46,7 @@ place_at-requires-clause-count c =
     let plan = c.args.plan.now in
     let own = c.args.self.now in
     let owned = ap (λ x. length (owners x)) c.part-part.ensures in
-    let gated = ap (λ x. length x.gates) c.part-part.ensures in
-    let lk : c.args.slot < slots plan own.session = omega (arith, c.input_wires.ensures, c.gates.ensures, c.if-slot-input_wires.true) in
+    let gated = ap (length {A = Gate}) (c.gates.ensures ∙ ap (λ (x : Session). x.gates) c.part-part.ensures) in
+    let lk : c.args.slot < slots plan own.session = omega (arith, c.input_wires.ensures, c.if-slot-input_wires.true) in
     as_many plan own c.requires.is c.args.slot lk c.pattern-pattern.result c.pattern-pattern.ensures.is c.gate_count-count.result c.gate_count-count.ensures c.if-count-gt0.true
     ∙ sym (count_at plan own.party own.session c.args.slot lk)

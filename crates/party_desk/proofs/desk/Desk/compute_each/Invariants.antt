@@ -2,7 +2,7 @@ use Rattle.std.proofs.Common.{◌≡◌, ◌+◌, ◌-◌, ◌≤◌, length}
 use Rattle.job_plan.specs.Plans.{session}
 use Rattle.party_program.specs.States.{Given}
 use Rattle.party_desk.specs.Walks.{IsBefore, NoPosts}
-use Rattle.party_desk.proofs.desk.Desk.compute_gates.Given as goal
+use Rattle.party_desk.proofs.desk.Desk.compute_each.Given as goal
 
 abbrev pub invariant-loop-t : goal.invariant-loop-t
 invariant-loop-t l =

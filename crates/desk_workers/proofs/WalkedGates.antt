@@ -16,7 +16,7 @@ use Rattle.party_program.specs.States.{Given}
 use Rattle.party_desk.specs.declared.desk.Desk.{Desk}
 use Rattle.party_desk.specs.Desks.{IsDesk}
 use Rattle.party_desk.specs.Steps as steps
-use Rattle.party_desk.specs.Walks.{MayWalk, Promises, Walks}
+use Rattle.party_desk.specs.Walks.{MayWalk, HasWords, Walks}
 use Rattle.program_laws.specs.Lawful.{given_to, Lawful}
 use Rattle.program_laws.proofs.LawfulWorlds.{lawful}
 use Rattle.desk_workers.specs.declared.promised.Promised.{Promised}
@@ -44,7 +44,7 @@ module _ (w : World) (whole : IsWhole w) (k : ℕ) (d : Desk) (h : IsDesk (given
   word_right q n i is = law.right s p q n i h.suits.session h.suits.party is
 
   -- the words of the world's messages are what its desk posts and takes
-  promises : Promises given (words_of w)
+  promises : HasWords given (words_of w)
   promises = record {
     posts = λ q n i is. word_at w n (proper_at q (Post n i) is).number ∙ ap Some (sym (word_right q n i is));
     takes = λ q n i is. word_at w n (proper_at q (Take n i) is).number;
@@ -62,7 +62,7 @@ module _ (w : World) (whole : IsWhole w) (k : ℕ) (d : Desk) (h : IsDesk (given
     ]
 
     -- instructions of gates lead on
-    pub walks_lead : (n ≡ 0 → e ≡ d) → Leads w k a d b e n
+    walks_lead : (n ≡ 0 → e ≡ d) → Leads w k a d b e n
     walks_lead still =
         let more = walks.position in
         let short : e.position ≤ length (program w.plan p s) = walks.desk.position in
@@ -76,3 +76,7 @@ module _ (w : World) (whole : IsWhole w) (k : ℕ) (d : Desk) (h : IsDesk (given
           seats = walks.seats;
           out = walks.out;
         }
+
+  -- the same, of a desk that may walk
+  pub gates_lead : (plan : Plan) (a b : Sitting Promised) (e : Desk) (n : ℕ) → w.plan ≡ plan → StandsInWorld w a.view.seen k d → (MayWalk plan (words_of w) given d → Walks given a d b e n) → (n ≡ 0 → e ≡ d) → Leads w k a d b e n
+  gates_lead plan a b e n same before walks still = walks_lead a b e n before (walks (may_walk plan same)) still
