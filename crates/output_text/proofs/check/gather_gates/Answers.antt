@@ -9,5 +9,5 @@ pub returns : goal.returns
 returns g c =
     adds_same _ _ _ _
     (ap (λ gates. codes "session " ++ (decimal c.args.s ++ (codes " gates " ++ (decimal gates ++ codes " "))))
-    (c.gates.ensures ∙ ap (λ (s : Session). length s.gates) c.part.ensures))
+    (ap length c.gates.ensures ∙ ap (λ (s : Session). length s.gates) c.part.ensures))
     (adds_then _ _ _ _ _ c.push.ensures (adds_then _ _ _ _ _ c.gather_number.ensures (adds_then _ _ _ _ _ c.push-2.ensures (adds_then _ _ _ _ _ c.gather_number-2.ensures c.push-3.ensures))))

@@ -69,6 +69,6 @@ returns c tapes =
     let plan = c.args.plan.now in
     let w : World = record { plan = plan; inputs = c.args.inputs.now; tapes = tapes } in
     let gates : length c.part-part.result.now.gates ≡ length (session plan c.args.s).gates = ap (λ (y : Session). length y.gates) c.part-part.ensures in
-    let ended : c.loop-t.t ≡ length (session plan c.args.s).gates = omega (arith, c.loop-t-test.false, c.gates-t-end.ensures, c.loop-t.auto.t-end) in
+    let ended : c.loop-t.t ≡ length (session plan c.args.s).gates = omega (arith, c.loop-t-test.false, ap (length {A = Gate}) c.gates.ensures, c.loop-t.auto.t-end) in
     listed_of 0 (session plan c.args.s).wires (plain w c.args.s) c.loop-t.values.items c.loop-t.invariant.long
     (λ v l. c.loop-t.invariant.values v ∙ ap (λ n. value_before w c.args.s n v) ended)

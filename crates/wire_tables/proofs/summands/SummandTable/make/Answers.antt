@@ -28,7 +28,7 @@ gate_row-requires c =
     let w : World = world_given plan c.args.inputs.now c.args.tapes.now in
     let sound = c.requires.whole.sound.sessions s c.requires.session in
     let gates : length c.part-part.result.now.gates ≡ length x.gates = ap (λ (y : Session). length y.gates) c.part-part.ensures in
-    let lt : t < length x.gates = omega (arith, c.loop-t-test.true, c.gates-t-end.ensures) in
+    let lt : t < length x.gates = omega (arith, c.loop-t-test.true, ap (length {A = Gate}) c.gates.ensures) in
     let at : c.gate-gate.result ≡ gate x t = c.gate-gate.ensures ∙ ap (λ (y : Session). gate y t) c.part-part.ensures in
     let first : c.gate-gate.result.first < x.wires = subst (λ (g : Gate). g.first < x.wires) (sym at) (sound.wired.first t lt) in
     let second : c.gate-gate.result.second < x.wires = subst (λ (g : Gate). g.second < x.wires) (sym at) (sound.wired.second t lt) in
@@ -57,7 +57,7 @@ loop-t-preserved c =
     let sound = c.requires.whole.sound.sessions s c.requires.session in
     let gates : length c.part-part.result.now.gates ≡ length x.gates = ap (λ (y : Session). length y.gates) c.part-part.ensures in
     let inputs : length (owners c.part-part.result.now) ≡ length (owners x) = ap (λ y. length (owners y)) c.part-part.ensures in
-    let lt : t < length x.gates = omega (arith, c.loop-t-test.true, c.gates-t-end.ensures) in
+    let lt : t < length x.gates = omega (arith, c.loop-t-test.true, ap (length {A = Gate}) c.gates.ensures) in
     let at : c.gate-gate.result ≡ gate x t = c.gate-gate.ensures ∙ ap (λ (y : Session). gate y t) c.part-part.ensures in
     let h = c.loop-t.invariant.rows in
     let first : (gate x t).first < x.wires = sound.wired.first t lt in
@@ -89,5 +89,5 @@ returns c =
     let x : Session = session c.args.plan.now c.args.s in
     let w : World = world_given c.args.plan.now c.args.inputs.now c.args.tapes.now in
     let gates : length c.part-part.result.now.gates ≡ length x.gates = ap (λ (y : Session). length y.gates) c.part-part.ensures in
-    let ended : c.loop-t.t ≡ length x.gates = omega (arith, c.loop-t-test.false, c.gates-t-end.ensures, c.loop-t.auto.t-end) in
+    let ended : c.loop-t.t ≡ length x.gates = omega (arith, c.loop-t-test.false, ap (length {A = Gate}) c.gates.ensures, c.loop-t.auto.t-end) in
     rows_last w c.args.s c.loop-t.rows.items c.loop-t.t ended c.loop-t.invariant.rows
