@@ -71,7 +71,8 @@ fn run_planned<F: Files, O: Sink, P: Pace, R: Threads + Sync>(
     ensures { (group : List ℕ) (before : FilesReading)
         → ReadsAs planned_view (λ contents. PlanAt contents dir.now (Some group)) before (F.reading files.old)
         (Ok planned.now)
-        → RunsAlone (Some (pair dir.now group)) before (F.reading files.new) (O.reading out.old) (O.reading out.new) result }
+        → RunsAlone (Some (pair dir.now group)) before (F.reading files.new)
+        (O.reading out.old) (O.reading out.new) result }
 {
     let group = group_of(planned);
     let parties = read_parties(alloc, files, dir, &planned.names, &planned.plan)?;
