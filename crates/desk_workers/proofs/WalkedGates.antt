@@ -1,5 +1,5 @@
 -- Walks of a desk through gates, on a board that is about its world.
-use Rattle.std.proofs.Common.{◌≡◌, ℕ, ◌/◌, ◌%◌, ◌<◌, ◌≤◌, length, Some, sym, ap, ◌∙◌, subst, inl, inr, arith}
+use Rattle.std.proofs.Common.{◌≡◌, ℕ, ◌+◌, ◌/◌, ◌%◌, ◌<◌, ◌≤◌, length, Some, sym, ap, ◌∙◌, subst, inl, inr, arith}
 use Rattle.std.specs.Prelude.{◌^◌}
 use Rattle.std.proofs.lemmas.Bool.{cases_lt}
 use Rattle.job_plan.specs.Plans.{Plan}
@@ -54,7 +54,7 @@ module _ (w : World) (whole : IsWhole w) (k : ℕ) (d : Desk) (h : IsDesk (given
   pub may_walk : (plan : Plan) → w.plan ≡ plan → MayWalk plan (words_of w) given d
   may_walk plan same = record { goes = record { same = same; desk = h }; promises = promises }
 
-  module _ (a b : Sitting Promised) (e : Desk) (n : ℕ) (before : StandsInWorld w a.view.seen k d) (walks : Walks given a d b e n) where
+  module _ (a b : Sitting Promised) (e : Desk) (n : ℕ) (before : StandsInWorld w a.view.seen k d) (walks : Walks given a d b e) (more : e.position ≡ d.position + n) where
     posted_now : (q m i : ℕ) → q < e.position → at (program w.plan p s) q ≡ Post m i → Knows b.view.seen m (word w (message w.plan m))
     posted_now q m i less is = elim (cases_lt q d.position) [
       | inl early ↦ walks.grows m (word w (message w.plan m)) (before.posted q m i early is)
@@ -64,7 +64,6 @@ module _ (w : World) (whole : IsWhole w) (k : ℕ) (d : Desk) (h : IsDesk (given
     -- instructions of gates lead on
     walks_lead : (n ≡ 0 → e ≡ d) → Leads w k a d b e n
     walks_lead still =
-        let more = walks.position in
         let short : e.position ≤ length (program w.plan p s) = walks.desk.position in
         let all : d.instructions ≡ length (program w.plan p s) = h.instructions in
         let same : e.instructions ≡ length (program w.plan p s) = walks.desk.instructions in
@@ -78,5 +77,5 @@ module _ (w : World) (whole : IsWhole w) (k : ℕ) (d : Desk) (h : IsDesk (given
         }
 
   -- the same, of a desk that may walk
-  pub gates_lead : (plan : Plan) (a b : Sitting Promised) (e : Desk) (n : ℕ) → w.plan ≡ plan → StandsInWorld w a.view.seen k d → (MayWalk plan (words_of w) given d → Walks given a d b e n) → (n ≡ 0 → e ≡ d) → Leads w k a d b e n
-  gates_lead plan a b e n same before walks still = walks_lead a b e n before (walks (may_walk plan same)) still
+  pub gates_lead : (plan : Plan) (a b : Sitting Promised) (e : Desk) (n : ℕ) → w.plan ≡ plan → StandsInWorld w a.view.seen k d → (MayWalk plan (words_of w) given d → Walks given a d b e) → e.position ≡ d.position + n → (n ≡ 0 → e ≡ d) → Leads w k a d b e n
+  gates_lead plan a b e n same before walks more still = walks_lead a b e n before (walks (may_walk plan same)) more still

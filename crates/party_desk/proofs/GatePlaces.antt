@@ -1,10 +1,11 @@
 -- Where a desk stands at gates.
-use Rattle.std.proofs.Common.{◌≡◌, ◌≢◌, ℕ, ◌+◌, ◌-◌, ◌<◌, ◌≤◌, ◌^◌, Bool, false, if◌then◌else◌, length, drop, refl, sym, ap, ◌∙◌, subst, inl, inr, arith}
+use Rattle.std.proofs.Common.{◌≡◌, ◌≢◌, ℕ, ◌+◌, ◌-◌, ◌<◌, ◌≤◌, ◌^◌, Bool, false, if◌then◌else◌, List, length, take, drop, refl, sym, ap, ◌∙◌, subst, inl, inr, arith}
 use Rattle.std.specs.Prelude.{slice_index, slice_index_or}
 use Rattle.std.proofs.lemmas.Bool.{cases_lt}
+use Rattle.std.proofs.lemmas.List.{length-drop, length-take-le, get_or-take, get_or-drop}
 use Rattle.circuit_model.specs.Circuits.{is_product}
 use Rattle.circuit_model.specs.declared.gate.Gate.{Gate}
-use Rattle.job_session.specs.Sessions.{Session, owners, gate, session_slot, session_slots}
+use Rattle.job_session.specs.Sessions.{Session, owners, gate, no_gate, session_slot, session_slots}
 use Rattle.job_session.proofs.SessionSlots.{slot_gate, slot_cases}
 use Rattle.job_plan.specs.declared.pattern.Pattern.TheVariants.{Silent, Multiplied}
 use Rattle.job_plan.specs.Plans.{Plan, session, slot, slots}
@@ -26,7 +27,7 @@ use Rattle.party_program.proofs.GateSlots.{first_place, first_is, linear_at, lin
 use Rattle.program_laws.specs.WordsRead.{gate_at}
 use Rattle.party_desk.specs.declared.desk.Desk.{Desk}
 use Rattle.party_desk.specs.declared.memory.Memory.{Memory}
-use Rattle.party_desk.specs.Memories.{state_of, row_of, Alike, IsMemoryOf, KeepsGiven}
+use Rattle.party_desk.specs.Memories.{state_of, row_of, Alike, GateWithin, IsMemoryOf, KeepsGiven}
 use Rattle.party_desk.specs.Rows.{gate_on_rows}
 use Rattle.party_desk.specs.Desks.{Advanced, IsDesk, after_on_rows, instruction_at, posts_in, takes_in}
 use Rattle.party_desk.specs.Walks.{IsDeskOfPlan, IsBefore, NoPosts, Computes, at_place}
@@ -304,6 +305,17 @@ module _ (plan : Plan) (l : Given) (d : Desk) (inputs t : ℕ) (part : Session) 
   pub pattern_here : (product : Bool) → is_product g.operation ≡ product → pattern_at l.plan l.session (inputs + t) ≡ (if product then Multiplied else Silent)
   pattern_here product e = ap (pattern_at l.plan l.session) slot_is ∙ gate_pattern l.plan l.session t among_gates product (ap (λ (z : Gate). is_product z.operation) gate_here ∙ e)
 
+  -- its wires are wires of the session
+  gates_within : GateWithin plan d.session g
+  gates_within =
+      let wired = (before.own_program.sound.sessions l.session before.own_program.session_there).wired in
+      let same : session l.plan l.session ≡ session plan d.session = sym own_part ∙ own in
+      record {
+        first = subst (λ (z : Session). g.first < z.wires) same (subst (λ (z : Gate). z.first < (session l.plan l.session).wires) gate_here (wired.first t among_gates));
+        second = subst (λ (z : Session). g.second < z.wires) same (subst (λ (z : Gate). z.second < (session l.plan l.session).wires) gate_here (wired.second t among_gates));
+        output = subst (λ (z : Session). g.output < z.wires) same (subst (λ (z : Gate). z.output < (session l.plan l.session).wires) gate_here (wired.output t among_gates));
+      }
+
   module _ (linear : is_product g.operation ≡ false) where
     pub gates_few : d.position < 4294967295
     gates_few = few_before plan l d (inputs + t) before among_slots (pattern_here false linear) before_end
@@ -325,10 +337,68 @@ module _ (plan : Plan) (l : Given) (d : Desk) (inputs t : ℕ) (part : Session) 
         (gate_before plan l d (inputs + t) before among_slots (pattern_here false linear) before_end m fits kept
         (subst (λ z. Alike (length plan.groups) (state_of (length plan.groups) m) (computed (2 ^ plan.bits) (gate_on_rows (row_of d.memory) z) (state_of (length plan.groups) d.memory))) (sym its_gate) state))
 
+-- a gate that was found among those from the one of this slot on
+module _ (plan : Plan) (l : Given) (d e : Desk) (slot inputs i : ℕ) (part : Session) (gates : List Gate) (start : IsBefore plan l slot d) (own : part ≡ session plan d.session) (count : inputs ≡ length (owners part)) (are : gates ≡ part.gates)
+    (same : e.session ≡ d.session) (before : IsBefore plan l (slot + i) e) (less : i < length (take (length gates - (slot - inputs)) (drop (slot - inputs) gates))) where
+  abbrev t : ℕ
+  t = slot - inputs + i
+
+  abbrev found : Gate
+  found = slice_index_or (take (length gates - (slot - inputs)) (drop (slot - inputs) gates)) i no_gate
+
+  begun : inputs ≤ slot
+  begun =
+      let first = start.from in
+      let its = count ∙ ap (λ z. length (owners z)) (own ∙ ap (λ z. session z d.session) (sym start.same) ∙ ap (session l.plan) start.session) in
+      omega (arith, first, its)
+
+  far : inputs + t ≡ slot + i
+  far = let first = begun in omega (arith, first)
+
+  short : i < length gates - (slot - inputs)
+  short =
+      let rest = length-drop (slot - inputs) gates in
+      let all = length-take-le (length gates - (slot - inputs)) (drop (slot - inputs) gates) (omega (arith, rest)) in
+      omega (arith, less, all)
+
+  lt : t < length part.gates
+  lt = subst (λ (xs : List Gate). t < length xs) are (let few = short in omega (arith, few))
+
+  found_is : found ≡ gate part t
+  found_is = get_or-take (length gates - (slot - inputs)) (drop (slot - inputs) gates) i no_gate short ∙ get_or-drop (slot - inputs) gates i no_gate ∙ ap (λ xs. slice_index_or xs t no_gate) are
+
+  own_now : part ≡ session plan e.session
+  own_now = own ∙ ap (session plan) (sym same)
+
+  at_t : IsBefore plan l (inputs + t) e
+  at_t = subst (λ k. IsBefore plan l k e) (sym far) before
+
+  pub later_within : GateWithin plan e.session found
+  later_within = gates_within plan l e inputs t part found at_t own_now count lt found_is
+
+  pub later_pattern : (product : Bool) → is_product found.operation ≡ product → pattern_at l.plan l.session (slot + i) ≡ (if product then Multiplied else Silent)
+  later_pattern product is = ap (pattern_at l.plan l.session) (sym far) ∙ pattern_here plan l e inputs t part found at_t own_now count lt found_is product is
+
+  module _ (linear : is_product found.operation ≡ false) where
+    pub later_few : e.position < 4294967295
+    later_few = gates_few plan l e inputs t part found at_t own_now count lt found_is linear
+
+    pub later_silent : NoPosts l e.position (e.position + 1)
+    later_silent = gates_silent plan l e inputs t part found at_t own_now count lt found_is linear
+
+    pub later_go : (m : Memory) → IsMemoryOf plan e.session m → KeepsGiven e.memory m
+        → Alike (length plan.groups) (state_of (length plan.groups) m) (computed (2 ^ plan.bits) (gate_on_rows (row_of e.memory) found) (state_of (length plan.groups) e.memory))
+        → IsBefore plan l (slot + (i + 1)) (record e { position = e.position + 1; memory = m })
+    later_go m fits kept state =
+        let first = begun in
+        let next : inputs + (t + 1) ≡ slot + (i + 1) = omega (arith, first) in
+        subst (λ k. IsBefore plan l k (record e { position = e.position + 1; memory = m })) next
+        (gates_go plan l e inputs t part found at_t own_now count lt found_is linear m fits kept state)
+
 -- ---- the place is brought up
 
 -- a place at the start of slot k of the desk's program
-module _ (plan : Plan) (l : Given) (d e : Desk) (k n : ℕ) (place : Place) (before : IsBefore plan l k e) (no_post : NoPosts l d.position e.position) (more : e.position ≡ d.position + n)
+module _ (plan : Plan) (l : Given) (d e : Desk) (k : ℕ) (place : Place) (before : IsBefore plan l k e) (no_post : NoPosts l d.position e.position) (forth : d.position ≤ e.position)
     (at' : IsPlace plan e.program.party e.program.session place (instructions_before plan e.program.party e.program.session k)) where
   place_here : IsPlace l.plan l.party l.session place e.position
   place_here =
@@ -337,16 +407,16 @@ module _ (plan : Plan) (l : Given) (d e : Desk) (k n : ℕ) (place : Place) (bef
       (subst (λ z. IsPlace l.plan z e.program.session place (instructions_before l.plan z e.program.session k)) before.own_program.of_party
       (subst (λ z. IsPlace z e.program.party e.program.session place (instructions_before z e.program.party e.program.session k)) (sym before.same) at')))
 
-  pub entered : Computes l d (at_place e place) n
-  entered = record { desk = before.desk place place_here; position = more; no_post = no_post }
+  pub entered : Computes l d (at_place e place)
+  entered = record { desk = before.desk place place_here; forth = forth; no_post = no_post }
 
 -- an instruction that is no post, and what comes after it
-pub first_computes : (l : Given) (d e f : Desk) (i : Instruction) (n : ℕ) → instruction_at l d ≡ i → ((m j : ℕ) → i ≢ Post m j) → e.position ≡ d.position + 1 → Computes l e f n → Computes l d f (1 + n)
-first_computes l d e f i n is no_post more w =
-    let after = w.position in
+pub first_computes : (l : Given) (d e f : Desk) (i : Instruction) → instruction_at l d ≡ i → ((m j : ℕ) → i ≢ Post m j) → e.position ≡ d.position + 1 → Computes l e f → Computes l d f
+first_computes l d e f i is no_post more w =
+    let after = w.forth in
     record {
       desk = w.desk;
-      position = omega (arith, more, after);
+      forth = omega (arith, more, after);
       no_post = λ x m j from to at'. elim (cases_lt x e.position) [
         | inl a ↦
             let here : x ≡ d.position = omega (arith, from, a, more) in

@@ -65,11 +65,11 @@ still_taking d e place takes same is none =
     ∙ ap (taken_on d) none ∙ sym (none_taken d)
 
 module _ {W : Type 0} (l : Given) (s : Sitting W) (d : Desk) (h : IsDesk l d) where
-  pub posts_start : Walks l s d s (posted_on d 0) 0
-  posts_start = subst (λ e. Walks l s d s e 0) (none_posted d) (rest_walks l s d h)
+  pub posts_start : Walks l s d s (posted_on d 0)
+  posts_start = subst (Walks l s d s) (none_posted d) (rest_walks l s d h)
 
-  pub takes_start : Walks l s d s (taken_on d 0) 0
-  takes_start = subst (λ e. Walks l s d s e 0) (none_taken d) (rest_walks l s d h)
+  pub takes_start : Walks l s d s (taken_on d 0)
+  takes_start = subst (Walks l s d s) (none_taken d) (rest_walks l s d h)
 
 -- a place with a step of its slot after it
 module _ (plan : Plan) (p s : ℕ) (place : Place) (q : ℕ) (is : IsPlace plan p s place q) where
@@ -190,12 +190,12 @@ module _ {W : Type 0} where
     knows : t.view.seen ≡ (n, w) ∷ s.view.seen
     knows = ap (λ (v : View W). v.seen) view ∙ (post_view s.view n w r answer).0
 
-    pub post_walks : Walks l s e t f 1
+    pub post_walks : Walks l s e t f
     post_walks =
         let more = a.position in
         record {
           desk = stays l e h f 0 (Post n i) is (λ z. cc) tt a;
-          position = more;
+          forth = omega (arith, more);
           posted = λ x m j from to at'.
               let here : e.position ≡ x = omega (arith, from, to, more) in
               let both : Post n i ≡ Post m j = sym is ∙ ap (at (program l.plan l.party l.session)) here ∙ at' in
@@ -213,11 +213,11 @@ module _ {W : Type 0} where
   -- ---- one take
 
   -- a look at a cell
-  module _ (l : Given) (s t u : Sitting W) (d e : Desk) (n k : ℕ) (view : u.view ≡ takes t.view k None) (so_far : Walks l s d t e n) where
-    pub look_walks : Walks l s d u e n
+  module _ (l : Given) (s t u : Sitting W) (d e : Desk) (k : ℕ) (view : u.view ≡ takes t.view k None) (so_far : Walks l s d t e) where
+    pub look_walks : Walks l s d u e
     look_walks = record {
       desk = so_far.desk;
-      position = so_far.position;
+      forth = so_far.forth;
       posted = λ x m j from to at'. subst (λ (v : View W). Knows v.seen m (word_at l x m j)) (sym view) (so_far.posted x m j from to at');
       grows = λ m v known. subst (λ (z : View W). Knows z.seen m v) (sym view) (so_far.grows m v known);
       seats = ap (λ (v : View W). v.seats) view ∙ so_far.seats;
@@ -226,12 +226,12 @@ module _ {W : Type 0} where
 
   module _ (l : Given) (s t : Sitting W) (e f : Desk) (h : IsDesk l e) (n i w : ℕ) (is : instruction_at l e ≡ Take n i) (word : w ≡ l.got n)
       (view : t.view ≡ takes s.view n (Some w)) (a : Advanced l.plan w (Take n i) e f) where
-    pub take_walks : Walks l s e t f 1
+    pub take_walks : Walks l s e t f
     take_walks =
         let more = a.position in
         record {
           desk = stays l e h f w (Take n i) is (λ z. cc) word a;
-          position = more;
+          forth = omega (arith, more);
           posted = λ x m j from to at'.
               let here : e.position ≡ x = omega (arith, from, to, more) in
               let both : Take n i ≡ Post m j = sym is ∙ ap (at (program l.plan l.party l.session)) here ∙ at' in cc;

@@ -1,5 +1,5 @@
 -- Instructions at gates, one after another.
-use Rattle.std.proofs.Common.{◌≡◌, ◌≢◌, ℕ, ◌+◌, ◌<◌, List, refl, sym, ap, ◌∙◌, subst, inl, inr, arith}
+use Rattle.std.proofs.Common.{◌≡◌, ◌≢◌, ℕ, ◌<◌, List, refl, sym, ap, ◌∙◌, subst, inl, inr, arith}
 use Rattle.std.proofs.lemmas.Bool.{cases_lt}
 use Rattle.job_plan.specs.Plans.{Plan, slot}
 use Rattle.message_board.specs.Seats.{Sitting}
@@ -82,65 +82,58 @@ module _ (l : Given) where
     | inr more ↦ b x n i more to is
   ]
 
-  pub rest_computes : (d : Desk) → IsDesk l d → Computes l d d 0
-  rest_computes d h = record { desk = h; position = omega arith; no_post = λ x n i from to is. absurd (omega (arith, from, to)) }
-
-  pub computes_on : (d e f : Desk) (m n : ℕ) → Computes l d e m → Computes l e f n → Computes l d f (m + n)
-  computes_on d e f m n a b =
-      let first = a.position in
-      let second = b.position in
+  pub computes_on : (d e f : Desk) → Computes l d e → Computes l e f → Computes l d f
+  computes_on d e f a b =
+      let first = a.forth in
+      let second = b.forth in
       record {
         desk = b.desk;
-        position = omega (arith, first, second);
+        forth = omega (arith, first, second);
         no_post = posts_on d.position e.position f.position a.no_post b.no_post;
       }
 
   -- one instruction that is no post and takes what is given
-  pub one_computes : (d e : Desk) (w : ℕ) (i : Instruction) → IsDesk l d → instruction_at l d ≡ i → i ≢ End → ((n j : ℕ) → i ≢ Post n j) → IsGivenWord l w i → Advanced l.plan w i d e → Computes l d e 1
+  pub one_computes : (d e : Desk) (w : ℕ) (i : Instruction) → IsDesk l d → instruction_at l d ≡ i → i ≢ End → ((n j : ℕ) → i ≢ Post n j) → IsGivenWord l w i → Advanced l.plan w i d e → Computes l d e
   one_computes d e w i h is ne no_post given a =
       let more = a.position in
       record {
         desk = stays l d h e w i is ne given a;
-        position = more;
+        forth = omega (arith, more);
         no_post = λ x n j from to at'.
             let here : x ≡ d.position = omega (arith, from, to, more) in
             no_post n j (sym is ∙ ap (at (program l.plan l.party l.session)) (sym here) ∙ at');
       }
 
--- the same of a desk of this plan
-pub goes_one : (plan : Plan) (l : Given) (d e : Desk) (w : ℕ) (i : Instruction) → IsDeskOfPlan plan l d → i ≡ instruction_at l d → i ≢ End → ((n j : ℕ) → i ≢ Post n j) → IsGivenWord l w i → Advanced plan w i d e → Computes l d e 1
-goes_one plan l d e w i goes is ne no_post given a = one_computes l d e w i goes.desk (sym is) ne no_post given (subst (λ z. Advanced z w i d e) (sym goes.same) a)
-
 -- ---- instructions with posts
 
 module _ {W : Type 0} (l : Given) where
-  pub rest_walks : (s : Sitting W) (d : Desk) → IsDesk l d → Walks l s d s d 0
+  pub rest_walks : (s : Sitting W) (d : Desk) → IsDesk l d → Walks l s d s d
   rest_walks s d h = record {
     desk = h;
-    position = omega arith;
+    forth = omega arith;
     posted = λ x n i from to is. absurd (omega (arith, from, to));
     grows = λ n v known. known;
     seats = refl;
     out = refl;
   }
 
-  pub computes_walk : (s : Sitting W) (d e : Desk) (n : ℕ) → Computes l d e n → Walks l s d s e n
-  computes_walk s d e n a = record {
+  pub computes_walk : (s : Sitting W) (d e : Desk) → Computes l d e → Walks l s d s e
+  computes_walk s d e a = record {
     desk = a.desk;
-    position = a.position;
+    forth = a.forth;
     posted = λ x m i from to is. absurd (a.no_post x m i from to is);
     grows = λ m v known. known;
     seats = refl;
     out = refl;
   }
 
-  pub walks_on : (s t u : Sitting W) (d e f : Desk) (m n : ℕ) → Walks l s d t e m → Walks l t e u f n → Walks l s d u f (m + n)
-  walks_on s t u d e f m n a b =
-      let first = a.position in
-      let second = b.position in
+  pub walks_on : (s t u : Sitting W) (d e f : Desk) → Walks l s d t e → Walks l t e u f → Walks l s d u f
+  walks_on s t u d e f a b =
+      let first = a.forth in
+      let second = b.forth in
       record {
         desk = b.desk;
-        position = omega (arith, first, second);
+        forth = omega (arith, first, second);
         posted = λ x k i from to is. elim (cases_lt x e.position) [
           | inl l' ↦ b.grows k (word_at l x k i) (a.posted x k i from l' is)
           | inr l' ↦ b.posted x k i l' to is
@@ -152,8 +145,8 @@ module _ {W : Type 0} (l : Given) where
 
 -- ---- after some instructions a desk may go on
 
-pub computes_may : (plan : Plan) (list : List ℕ) (l : Given) (d e : Desk) (n : ℕ) → MayWalk plan list l d → Computes l d e n → MayWalk plan list l e
-computes_may plan list l d e n may w = record { goes = record { same = may.goes.same; desk = w.desk }; promises = may.promises }
+pub computes_may : (plan : Plan) (list : List ℕ) (l : Given) (d e : Desk) → MayWalk plan list l d → Computes l d e → MayWalk plan list l e
+computes_may plan list l d e may a = record { goes = record { same = may.goes.same; desk = a.desk }; promises = may.promises }
 
-pub walks_may : {W : Type 0} (plan : Plan) (list : List ℕ) (l : Given) (s t : Sitting W) (d e : Desk) (n : ℕ) → MayWalk plan list l d → Walks l s d t e n → MayWalk plan list l e
-walks_may plan list l s t d e n may w = record { goes = record { same = may.goes.same; desk = w.desk }; promises = may.promises }
+pub walks_may : {W : Type 0} (plan : Plan) (list : List ℕ) (l : Given) (s t : Sitting W) (d e : Desk) → MayWalk plan list l d → Walks l s d t e → MayWalk plan list l e
+walks_may plan list l s t d e may a = record { goes = record { same = may.goes.same; desk = a.desk }; promises = may.promises }

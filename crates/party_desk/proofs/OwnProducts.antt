@@ -55,7 +55,7 @@ module _ (l : Given) (d : Desk) (h : IsDesk l d) (in_product : InProduct d.place
   -- the own product, in this memory
   module _ (m : Memory) (fits : IsMemoryOf l.plan d.session m) (kept : KeepsGiven d.memory m)
       (state : Alike (length l.plan.groups) (state_of (length l.plan.groups) m) (multiplied l.plan d.party (gate_on_rows (row_of d.memory) (gate_at l.plan d.session k)) (state_of (length l.plan.groups) d.memory))) where
-    pub own_computes : Computes l d (stepped_on d 1 m) 1
+    pub own_computes : Computes l d (stepped_on d 1 m)
     own_computes = one_computes l d (stepped_on d 1 m) 0 (Own k) h own_is_next (λ z. cc) (λ n j z. cc) tt (advances_at l d h (Own k) m (further d.place 1) one_on fits kept refl refl refl state)
 
     pub deal_is_next : instruction_at l (stepped_on d 1 m) ≡ Deal k next_deal
@@ -82,10 +82,10 @@ module _ (l : Given) (d : Desk) (h : IsDesk l d) (in_product : InProduct d.place
         state = state';
       }
 
-      pub both_compute : Computes l d (stepped_on d 2 n) 2
+      pub both_compute : Computes l d (stepped_on d 2 n)
       both_compute =
           let own = own_computes in
-          computes_on l d (stepped_on d 1 m) (stepped_on d 2 n) 1 1 own
+          computes_on l d (stepped_on d 1 m) (stepped_on d 2 n) own
           (one_computes l (stepped_on d 1 m) (stepped_on d 2 n) 0 (Deal k next_deal) own.desk deal_is_next (λ z. cc) (λ p j z. cc) tt deals)
 
 -- ---- the same of a desk of this plan
@@ -128,7 +128,7 @@ module _ (plan : Plan) (l : Given) (d : Desk) (goes : IsDeskOfPlan plan l d) (in
       goes_deals plan l (stepped_on d 1 m) own_goes d.place.slot (deals_before l.plan l.party l.session d.place.slot)
       (sym (deal_is_next l d goes.desk in_product starts has_own m multiplies_here.0 multiplies_here.1 multiplies_here.2))
 
-  pub own_and_deal : (k : Slot) (n : Memory) → k ≡ slot plan d.session d.place.slot → DealsIn plan d k m n → Computes l d (stepped_on d 2 n) 2
+  pub own_and_deal : (k : Slot) (n : Memory) → k ≡ slot plan d.session d.place.slot → DealsIn plan d k m n → Computes l d (stepped_on d 2 n)
   own_and_deal k n same deals =
       let dealt : DealsIn l.plan d (slot l.plan d.session d.place.slot) m n =
       subst (λ z. DealsIn z d (slot z d.session d.place.slot) m n) (sym goes.same) (subst (λ z. DealsIn plan d z m n) same deals) in

@@ -43,17 +43,16 @@ KnowsPosts given q r seen =
     (x n i : ℕ) → q ≤ x → x < r → at (program given.plan given.party given.session) x ≡ Post n i
     → Knows seen n (word_at given x n i)
 
--- so many instructions, none of them a post, led from one desk to another
-pub record Computes (given : Given) (d d' : Desk) (moves : ℕ) : Type 0 where
+-- instructions, none of them a post, led from one desk to another
+pub record Computes (given : Given) (d d' : Desk) : Type 0 where
   pub desk : IsDesk given d'
-  pub position : d'.position ≡ d.position + moves
+  pub forth : d.position ≤ d'.position
   pub no_post : NoPosts given d.position d'.position
 
--- so many instructions led from one desk and seat to the others, and the seat knows what was posted among them
-pub record Walks {W : Type 0} (given : Given) (seat : Sitting W) (d : Desk) (seat' : Sitting W) (d' : Desk)
-    (moves : ℕ) : Type 0 where
+-- instructions led from one desk and seat to the others, and the seat knows what was posted among them
+pub record Walks {W : Type 0} (given : Given) (seat : Sitting W) (d : Desk) (seat' : Sitting W) (d' : Desk) : Type 0 where
   pub desk : IsDesk given d'
-  pub position : d'.position ≡ d.position + moves
+  pub forth : d.position ≤ d'.position
   pub posted : KnowsPosts given d.position d'.position seat'.view.seen
   pub grows : Grows seat.view.seen seat'.view.seen
   pub seats : seat'.view.seats ≡ seat.view.seats

@@ -7,7 +7,7 @@ use mpc_ring::Ring;
 use party_program::Instruction;
 
 impl Desk {
-    ghost use Rattle.std.specs.Prelude.{◌≡◌, ◌+◌, length};
+    ghost use Rattle.std.specs.Prelude.{◌≡◌, ◌+◌, ◌<◌, true, false, length};
     ghost use Rattle.message_board.specs.Seats.{IsSeatOf};
     ghost use Rattle.party_program.specs.declared.program.Instruction.TheVariants.{Linear, Sum};
     ghost use Rattle.job_plan.specs.declared.pattern.Pattern.TheVariants.{Silent};
@@ -28,36 +28,35 @@ impl Desk {
         requires seat { IsSeatOf board.now seat.old }
         ensures seat { IsSeatOf board.now seat.new }
         ensures walks { (given : Given) → MayWalk plan.now (W.list board.now.about.world) given self.old
-            → Walks given seat.old self.old seat.new self.new result }
+            → Walks given seat.old self.old seat.new self.new }
+        ensures moves { self.new.position ≡ self.old.position + result }
         ensures still { result ≡ 0 → self.new ≡ self.old }
     {
-        let mut moves = 0;
-        let mut done = 1;
-        while done > 0 {
-            moves += self.walk_product(plan, board, seat);
-            done = self.sum_next(plan) + self.gates_next(plan);
-            moves += done;
+        let before = self.position;
+        let mut goes = true;
+        while goes {
+            goes = self.walk_product(plan, board, seat) && self.compute_next(plan);
         }
-        moves
+        self.position - before
     }
 
-    // At a product, what comes before its sum.
+    // At a product, what comes before its sum. It answers false where a take waits for its message.
     #[inline(always)]
     fn walk_product<W: Promise, T: SlotItem<W>>(
         &mut self,
         plan: &Plan,
         board: &Board<W, T>,
         seat: &mut BoardSeat<W, T>,
-    ) -> u32
+    ) -> bool
         requires may { (given : Given) × MayWalk plan.now (W.list board.now.about.world) given self.old }
         requires seat { IsSeatOf board.now seat.old }
         ensures seat { IsSeatOf board.now seat.new }
         ensures walks { (given : Given) → MayWalk plan.now (W.list board.now.about.world) given self.old
-            → Walks given seat.old self.old seat.new self.new result }
-        ensures still { result ≡ 0 → self.new ≡ self.old }
+            → Walks given seat.old self.old seat.new self.new }
+        ensures still { self.new.position ≡ self.old.position → self.new ≡ self.old }
     {
-        let sent = self.send(plan, board, seat);
-        sent + self.take_each(plan, board, seat)
+        self.send(plan, board, seat);
+        self.take_each(plan, board, seat)
     }
 
     // At the start of a product, what the party deals and posts.
@@ -67,34 +66,32 @@ impl Desk {
         plan: &Plan,
         board: &Board<W, T>,
         seat: &mut BoardSeat<W, T>,
-    ) -> u32
+    )
         requires may { (given : Given) × MayWalk plan.now (W.list board.now.about.world) given self.old }
         requires seat { IsSeatOf board.now seat.old }
         ensures seat { IsSeatOf board.now seat.new }
         ensures walks { (given : Given) → MayWalk plan.now (W.list board.now.about.world) given self.old
-            → Walks given seat.old self.old seat.new self.new result }
-        ensures still { result ≡ 0 → self.new ≡ self.old }
+            → Walks given seat.old self.old seat.new self.new }
+        ensures still { self.new.position ≡ self.old.position → self.new ≡ self.old }
     {
-        let dealt = self.deal_own(plan);
-        if dealt == 0 {
-            return 0;
+        if self.deal_own(plan) {
+            self.post_each(plan, board, seat);
         }
-        dealt + self.post_each(plan, board, seat)
     }
 
     // At the start of a product, forms the own one and deals it, if the party has a pair of summands to multiply.
     #[inline(always)]
-    fn deal_own(&mut self, plan: &Plan) -> u32
+    fn deal_own(&mut self, plan: &Plan) -> bool
         requires { (given : Given) × IsDeskOfPlan plan.now given self.old }
-        ensures computes { (given : Given) → IsDeskOfPlan plan.now given self.old
-            → Computes given self.old self.new result }
-        ensures still { result ≡ 0 → self.new ≡ self.old }
+        ensures computes { (given : Given) → IsDeskOfPlan plan.now given self.old → Computes given self.old self.new }
+        ensures on { result ≡ true → self.old.position < self.new.position }
+        ensures still { result ≡ false → self.new ≡ self.old }
     {
         let Pattern::Multiplied = self.place.pattern() else {
-            return 0;
+            return false;
         };
         if !self.place.is_first() || !plan.multiplies(self.party) {
-            return 0;
+            return false;
         }
         let gate = self.gate(plan, self.place.slot());
         let kind = self.product(plan);
@@ -102,7 +99,7 @@ impl Desk {
         self.memory.deal(plan, self.session, kind);
         self.place.skip(2);
         self.position += 2;
-        2
+        true
     }
 
     // The posts of a product that come next.
@@ -112,16 +109,16 @@ impl Desk {
         plan: &Plan,
         board: &Board<W, T>,
         seat: &mut BoardSeat<W, T>,
-    ) -> u32
+    )
         requires may { (given : Given) × MayWalk plan.now (W.list board.now.about.world) given self.old }
         requires seat { IsSeatOf board.now seat.old }
         ensures seat { IsSeatOf board.now seat.new }
         ensures walks { (given : Given) → MayWalk plan.now (W.list board.now.about.world) given self.old
-            → Walks given seat.old self.old seat.new self.new result }
-        ensures still { result ≡ 0 → self.new ≡ self.old }
+            → Walks given seat.old self.old seat.new self.new }
+        ensures still { self.new.position ≡ self.old.position → self.new ≡ self.old }
     {
         let Pattern::Multiplied = self.place.pattern() else {
-            return 0;
+            return;
         };
         let place = self.place;
         let from = place.done();
@@ -138,35 +135,36 @@ impl Desk {
         self.place.skip(moves);
         self.position += moves;
         self.sent += moves;
-        moves
     }
 
-    // The takes of a product that come next, until a cell is empty.
+    // The takes of a product that come next, until a cell is empty. It answers whether none was.
     #[inline(always)]
     fn take_each<W: Promise, T: SlotItem<W>>(
         &mut self,
         plan: &Plan,
         board: &Board<W, T>,
         seat: &mut BoardSeat<W, T>,
-    ) -> u32
+    ) -> bool
         requires may { (given : Given) × MayWalk plan.now (W.list board.now.about.world) given self.old }
         requires seat { IsSeatOf board.now seat.old }
         ensures seat { IsSeatOf board.now seat.new }
         ensures walks { (given : Given) → MayWalk plan.now (W.list board.now.about.world) given self.old
-            → Walks given seat.old self.old seat.new self.new result }
-        ensures still { result ≡ 0 → self.new ≡ self.old }
+            → Walks given seat.old self.old seat.new self.new }
+        ensures still { self.new.position ≡ self.old.position → self.new ≡ self.old }
     {
         let Pattern::Multiplied = self.place.pattern() else {
-            return 0;
+            return true;
         };
         let place = self.place;
         let from = place.done();
         let mut at = from;
+        let mut all = true;
         while let Some(Instruction::Take { number, share }) = self
             .program
             .product_step(plan, &place, at)
         {
             let Some(word) = board.take(seat, number) else {
+                all = false;
                 break;
             };
             let kind = self.product(plan);
@@ -177,44 +175,61 @@ impl Desk {
         self.place.skip(moves);
         self.position += moves;
         self.taken += moves;
-        moves
+        all
+    }
+
+    // The sum of a product or a linear gate, if one comes next, and the linear gates after it.
+    #[inline(always)]
+    fn compute_next(&mut self, plan: &Plan) -> bool
+        requires { (given : Given) × IsDeskOfPlan plan.now given self.old }
+        ensures computes { (given : Given) → IsDeskOfPlan plan.now given self.old → Computes given self.old self.new }
+        ensures on { result ≡ true → self.old.position < self.new.position }
+        ensures still { result ≡ false → self.new ≡ self.old }
+    {
+        match self.place.pattern() {
+            Pattern::Multiplied => self.sum_next(plan),
+            Pattern::Silent => self.gates_next(plan),
+            Pattern::Dealt(_) | Pattern::Opened(_) => false,
+        }
     }
 
     // The sum of a product, if that comes next, and the linear gates after it.
     #[inline(always)]
-    fn sum_next(&mut self, plan: &Plan) -> u32
+    fn sum_next(&mut self, plan: &Plan) -> bool
         requires { (given : Given) × IsDeskOfPlan plan.now given self.old }
-        ensures computes { (given : Given) → IsDeskOfPlan plan.now given self.old
-            → Computes given self.old self.new result }
-        ensures still { result ≡ 0 → self.new ≡ self.old }
+        ensures computes { (given : Given) → IsDeskOfPlan plan.now given self.old → Computes given self.old self.new }
+        ensures on { result ≡ true → self.old.position < self.new.position }
+        ensures still { result ≡ false → self.new ≡ self.old }
     {
         let Pattern::Multiplied = self.place.pattern() else {
-            return 0;
+            return false;
         };
         if !self.place.is_last() {
-            return 0;
+            return false;
         }
         let slot = self.place.slot();
         self.end_product(plan, slot);
-        1 + self.compute_gates(plan, slot + 1)
+        self.compute_gates(plan, slot + 1);
+        true
     }
 
     // The linear gates that come next.
     #[inline(always)]
-    fn gates_next(&mut self, plan: &Plan) -> u32
+    fn gates_next(&mut self, plan: &Plan) -> bool
         requires { (given : Given) × IsDeskOfPlan plan.now given self.old }
-        ensures computes { (given : Given) → IsDeskOfPlan plan.now given self.old
-            → Computes given self.old self.new result }
-        ensures still { result ≡ 0 → self.new ≡ self.old }
+        ensures computes { (given : Given) → IsDeskOfPlan plan.now given self.old → Computes given self.old self.new }
+        ensures on { result ≡ true → self.old.position < self.new.position }
+        ensures still { result ≡ false → self.new ≡ self.old }
     {
         let Pattern::Silent = self.place.pattern() else {
-            return 0;
+            return false;
         };
         let Instruction::Linear { slot } = self.program.instruction_at(plan, &self.place) else {
-            return 0;
+            return false;
         };
         self.end_gate(plan, slot);
-        1 + self.compute_gates(plan, slot + 1)
+        self.compute_gates(plan, slot + 1);
+        true
     }
 
     // The sum of a product, the last instruction of its slot. The place stays behind.
@@ -253,45 +268,41 @@ impl Desk {
 
     // Computes linear gates from the one of this slot on, and brings the place up.
     #[inline(always)]
-    fn compute_gates(&mut self, plan: &Plan, slot: u32) -> u32
+    fn compute_gates(&mut self, plan: &Plan, slot: u32)
         requires { (given : Given) × IsBefore plan.now given slot self.old }
-        ensures { (given : Given) → IsBefore plan.now given slot self.old → Computes given self.old self.new result }
+        ensures { (given : Given) → IsBefore plan.now given slot self.old → Computes given self.old self.new }
     {
         let ring = plan.ring();
         let shares = plan.shares() as usize;
         // With three summands, as with three parties of whom any two are trusted, no gate has a loop.
         if shares == 3 {
-            self.compute_each(plan, slot, ring, 3)
+            self.compute_each(plan, slot, ring, 3);
         } else {
-            self.compute_each(plan, slot, ring, shares)
+            self.compute_each(plan, slot, ring, shares);
         }
     }
 
     // The same, in the plan's ring and of so many summands as its values have.
     #[inline(always)]
-    fn compute_each(&mut self, plan: &Plan, slot: u32, ring: Ring, shares: usize) -> u32
+    fn compute_each(&mut self, plan: &Plan, slot: u32, ring: Ring, shares: usize)
         requires goes { (given : Given) × IsBefore plan.now given slot self.old }
         requires ring { ring ≡ plan.now.bits }
         requires shares { shares ≡ length plan.now.groups }
-        ensures { (given : Given) → IsBefore plan.now given slot self.old → Computes given self.old self.new result }
+        ensures { (given : Given) → IsBefore plan.now given slot self.old → Computes given self.old self.new }
     {
         let part = plan.part(self.session);
-        let inputs = part.input_wires() as u32;
-        let gates = part.gates();
-        let first = slot - inputs;
-        let mut t = first;
-        while (t as usize) < gates.len() {
-            let gate = gates[t as usize];
+        let first = slot - part.input_wires() as u32;
+        let before = self.position;
+        for gate in &part.gates()[first as usize..] {
             if gate.operation.is_product() {
-                self.program
-                    .enter_product(plan, &mut self.place, inputs + t);
-                return t - first;
+                let next = slot + (self.position - before);
+                self.program.enter_product(plan, &mut self.place, next);
+                return;
             }
-            self.memory.linear(plan, self.session, ring, shares, gate);
+            self.memory.linear(plan, self.session, ring, shares, *gate);
             self.position += 1;
-            t += 1;
         }
-        self.program.enter(plan, &mut self.place, inputs + t);
-        t - first
+        let next = slot + (self.position - before);
+        self.program.enter(plan, &mut self.place, next);
     }
 }

@@ -122,12 +122,7 @@ fn duties_of(alloc: Global, groups: &Groups) -> Result<Vec<u32>, AllocError>
 }
 
 // The pairs whose duty is `p`, in a table of so many rows.
-fn list_of(
-    alloc: Global,
-    duties: &[u32],
-    shares: u32,
-    p: u32,
-) -> Result<Vec<(u8, u8)>, AllocError>
+fn list_of(alloc: Global, duties: &[u32], shares: u32, p: u32) -> Result<Vec<(u8, u8)>, AllocError>
     requires few { shares ≤ 64 }
     requires table { length duties.now ≡ shares * shares }
     ensures { IfOk result (λ list. list.items ≡ pairs_where (λ i j. slice_index duties.now (i * shares + j)) p shares) }

@@ -25,7 +25,7 @@ returns-then-walked-gt0-clause-leads g c k h =
     let w = world_in c.args.board.now.about.world in
     subst (λ n. Leads w k c.args.seat.now c.args.desk.now c.walk_gates-walked.new.seat c.walk_gates-walked.new.self n) (sym c.from.ensures)
     (gates_lead w c.requires.pool.whole k c.args.desk.now h.desk c.args.plan.now c.args.seat.now c.walk_gates-walked.new.seat c.walk_gates-walked.new.self c.walk_gates-walked.result c.requires.pool.same h
-    (c.walk_gates-walked.ensures.walks (given_to w k)) c.walk_gates-walked.ensures.still)
+    (c.walk_gates-walked.ensures.walks (given_to w k)) c.walk_gates-walked.ensures.moves c.walk_gates-walked.ensures.still)
 
 pub goes_on-requires-clause-desk : goal.goes_on-requires-clause-desk
 goes_on-requires-clause-desk g c =
@@ -33,7 +33,7 @@ goes_on-requires-clause-desk g c =
     let k = c.requires.desk.0 in
     let h = c.requires.desk.1 in
     let walked = gates_lead w c.requires.pool.whole k c.args.desk.now h.desk c.args.plan.now c.args.seat.now c.walk_gates-walked.new.seat c.walk_gates-walked.new.self c.walk_gates-walked.result c.requires.pool.same h
-    (c.walk_gates-walked.ensures.walks (given_to w k)) c.walk_gates-walked.ensures.still in
+    (c.walk_gates-walked.ensures.walks (given_to w k)) c.walk_gates-walked.ensures.moves c.walk_gates-walked.ensures.still in
     (k, walked.stands)
 
 pub returns-clause-leads : goal.returns-clause-leads
@@ -41,7 +41,7 @@ returns-clause-leads g c k h =
     let w = world_in c.args.board.now.about.world in
     let n = c.walk_gates-walked.result in
     let walked = gates_lead w c.requires.pool.whole k c.args.desk.now h.desk c.args.plan.now c.args.seat.now c.walk_gates-walked.new.seat c.walk_gates-walked.new.self n c.requires.pool.same h
-    (c.walk_gates-walked.ensures.walks (given_to w k)) c.walk_gates-walked.ensures.still in
+    (c.walk_gates-walked.ensures.walks (given_to w k)) c.walk_gates-walked.ensures.moves c.walk_gates-walked.ensures.still in
     let step : Leads w k c.walk_gates-walked.new.seat c.walk_gates-walked.new.self c.goes_on.new.seat c.goes_on.new.desk c.from-2.result =
     subst (Leads w k c.walk_gates-walked.new.seat c.walk_gates-walked.new.self c.goes_on.new.seat c.goes_on.new.desk) (sym (c.from-2.ensures ∙ as_number c.goes_on.result)) (c.goes_on.ensures.leads k walked.stands) in
     let all : n + c.from-2.result ≡ c.from-2.result = omega (arith, c.if-walked-gt0.false) in
@@ -53,7 +53,7 @@ returns-clause-stuck g c none k h =
     let w = world_in c.args.board.now.about.world in
     let n = c.walk_gates-walked.result in
     let walked = gates_lead w c.requires.pool.whole k c.args.desk.now h.desk c.args.plan.now c.args.seat.now c.walk_gates-walked.new.seat c.walk_gates-walked.new.self n c.requires.pool.same h
-    (c.walk_gates-walked.ensures.walks (given_to w k)) c.walk_gates-walked.ensures.still in
+    (c.walk_gates-walked.ensures.walks (given_to w k)) c.walk_gates-walked.ensures.moves c.walk_gates-walked.ensures.still in
     let same = c.walk_gates-walked.ensures.still (omega (arith, c.if-walked-gt0.false)) in
     stuck_less c.args.seat.now.view.seen c.walk_gates-walked.new.seat.view.seen w k c.args.desk.now.position walked.grows
     (subst (λ z. Stuck (Knows c.walk_gates-walked.new.seat.view.seen) w k z.position) same (c.goes_on.ensures.stuck (none_told c.goes_on.result (sym c.from-2.ensures ∙ none)) k walked.stands))

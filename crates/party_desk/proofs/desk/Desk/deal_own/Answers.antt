@@ -67,7 +67,7 @@ returns-clause-computes c given goes =
     let plan = c.args.plan.now in
     let d = c.args.self.now in
     let at_first = is_at_first d c.pattern.result c.is_first.result c.pattern.ensures c.in-Multiplied.is c.is_first.ensures c.if-not-is_first.false in
-    subst (λ z. Computes given d (record d { place = z; position = d.position + 2; memory = c.deal.new.self }) 2) (sym c.skip.ensures)
+    subst (λ z. Computes given d (record d { place = z; position = d.position + 2; memory = c.deal.new.self })) (sym c.skip.ensures)
     (own_and_deal plan given d goes at_first.0 at_first.1 (sym c.multiplies.ensures ∙ c.if-not-multiplies.false)
     c.gate-gate.result (c.gate-gate.ensures.is ∙ ap (gate_at plan d.session) c.slot.ensures) c.multiply.new.self (c.multiply.ensures.fits, c.multiply.ensures.kept, c.multiply.ensures.state)
     (slot_of_kind c.product-kind.result) c.deal.new.self c.product-kind.ensures.is (c.deal.ensures.fits, c.deal.ensures.kept, c.deal.ensures.state))

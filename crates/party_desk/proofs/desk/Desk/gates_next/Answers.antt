@@ -8,6 +8,6 @@ end_gate-requires-clause-linear c given goes = sym (goes_at c.args.plan.now give
 
 pub returns-clause-computes : goal.returns-clause-computes
 returns-clause-computes c given goes =
-    first_computes given c.args.self.now c.end_gate.new.self c.compute_gates.new.self _ c.compute_gates.result
+    first_computes given c.args.self.now c.end_gate.new.self c.compute_gates.new.self _
     (sym (goes_at c.args.plan.now given c.args.self.now goes c.instruction_at.result c.instruction_at.ensures) ∙ c.in-Linear.is) (λ m j z. cc)
     c.end_gate.ensures.position (c.compute_gates.ensures given (c.end_gate.ensures.before given goes))

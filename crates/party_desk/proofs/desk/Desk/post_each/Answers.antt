@@ -13,7 +13,7 @@ loop-number-init g c =
     let none : 0 ≡ c.done-from.result - c.done-from.result = omega arith in (
       omega arith,
       c.requires.seat,
-      (λ given may. subst (λ n. Walks given c.args.seat.now c.args.self.now c.args.seat.now (posted_on c.args.self.now n) n) none (posts_start given c.args.seat.now c.args.self.now may.goes.desk)),
+      (λ given may. subst (λ n. Walks given c.args.seat.now c.args.self.now c.args.seat.now (posted_on c.args.self.now n)) none (posts_start given c.args.seat.now c.args.self.now may.goes.desk)),
     )
 
 pub product-requires-clause-stands : goal.product-requires-clause-stands
@@ -85,8 +85,8 @@ loop-number-preserved g c = (
       let more = product_more plan given d may.goes product c.done-from.result c.loop-number.at c.done-from.ensures c.loop-number.invariant.0 c.in-Some-Post.ensures.0 (Post n i) found (λ z. cc) in
       let word = goes_word plan given e goes n i c.word-word.result is c.word-word.ensures.is in
       let next : moves + 1 ≡ c.loop-number.at + 1 - c.done-from.result = omega (arith, c.loop-number.invariant.0) in
-      subst (λ k. Walks given c.args.seat.now d c.post.new.seat (posted_on d k) k) next
-      (walks_on given c.args.seat.now c.loop-number.seat c.post.new.seat d e f moves 1 so_far
+      subst (λ k. Walks given c.args.seat.now d c.post.new.seat (posted_on d k)) next
+      (walks_on given c.args.seat.now c.loop-number.seat c.post.new.seat d e f so_far
       (post_walks given c.loop-number.seat c.post.new.seat e f so_far.desk n i c.word-word.result c.post.result is word c.post.ensures.view c.post.ensures.found
       (posted_more given d moves more n i so_far.desk)))),
 )
@@ -111,4 +111,4 @@ overflow_add-self-2 g c =
     omega (arith, few, sent)
 
 pub returns-clause-still : goal.returns-clause-still
-returns-clause-still g c none = still_posting c.args.self.now c.skip.new.self (c.loop-number.at - c.done-from.result) c.skip.ensures none
+returns-clause-still g c none = still_posting c.args.self.now c.skip.new.self (c.loop-number.at - c.done-from.result) c.skip.ensures (omega (arith, none))

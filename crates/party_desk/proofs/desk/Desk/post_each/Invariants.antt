@@ -10,7 +10,7 @@ invariant-loop-number g l =
     (l.from ≤ l.at)
     × IsSeatOf l.board l.seat
     × ((given : Given) → MayWalk l.plan (g.W.Promise.list l.board.about.world) given l.fn.self
-    → Walks given l.fn.seat l.fn.self l.seat (posted_on l.fn.self (l.at - l.from)) (l.at - l.from))
+    → Walks given l.fn.seat l.fn.self l.seat (posted_on l.fn.self (l.at - l.from)))
 
 abbrev pub decreases-loop-number : goal.decreases-loop-number
 decreases-loop-number g l = l.fn.self.place.count - l.at

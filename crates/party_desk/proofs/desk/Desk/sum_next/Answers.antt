@@ -17,5 +17,5 @@ returns-clause-computes c given goes =
     let d = c.args.self.now in
     let last : d.place.done + 1 ≡ d.place.count = eqb-true (d.place.done + 1) d.place.count (sym c.is_last.ensures ∙ c.if-not-is_last.false) in
     let is : instruction_at given d ≡ Sum c.slot-slot.result = product_sum c.args.plan.now given d goes (sym c.pattern.ensures ∙ c.in-Multiplied.is, omega (arith, last)) last ∙ ap Sum (sym c.slot-slot.ensures) in
-    first_computes given d c.end_product.new.self c.compute_gates.new.self (Sum c.slot-slot.result) c.compute_gates.result is (λ m j z. cc)
+    first_computes given d c.end_product.new.self c.compute_gates.new.self (Sum c.slot-slot.result) is (λ m j z. cc)
     c.end_product.ensures.position (c.compute_gates.ensures given (c.end_product.ensures.before given goes))

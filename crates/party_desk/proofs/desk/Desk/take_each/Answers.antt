@@ -20,7 +20,7 @@ loop-number-init g c =
     let none : 0 ≡ c.done-from.result - c.done-from.result = omega arith in (
       omega arith,
       c.requires.seat,
-      (λ given may. subst (λ n. Walks given c.args.seat.now c.args.self.now c.args.seat.now (taken_on c.args.self.now n) n) none (takes_start given c.args.seat.now c.args.self.now may.goes.desk)),
+      (λ given may. subst (λ n. Walks given c.args.seat.now c.args.self.now c.args.seat.now (taken_on c.args.self.now n)) none (takes_start given c.args.seat.now c.args.self.now may.goes.desk)),
       refl,
       (λ none. refl),
     )
@@ -98,8 +98,8 @@ loop-number-preserved g c = (
       let state : Alike (length given.plan.groups) (state_of (length given.plan.groups) m) (took_in (2 ^ given.plan.bits) (slot_on_rows (row_of d.memory) (slot_of given.plan d.session n)) i w (state_of (length given.plan.groups) d.memory)) =
       subst (λ (z : Plan). Alike (length z.groups) (state_of (length z.groups) m) (took_in (2 ^ z.bits) (slot_on_rows (row_of d.memory) (slot_of z d.session n)) i w (state_of (length z.groups) d.memory))) (sym may.goes.same) of_slot in
       let next : moves + 1 ≡ c.loop-number.at + 1 - c.done-from.result = omega (arith, c.loop-number.invariant.0) in
-      subst (λ k. Walks given c.args.seat.now c.args.self.now c.take.new.seat (taken_on (record d { memory = m }) k) k) next
-      (walks_on given c.args.seat.now c.loop-number.seat c.take.new.seat c.args.self.now e f moves 1 so_far
+      subst (λ k. Walks given c.args.seat.now c.args.self.now c.take.new.seat (taken_on (record d { memory = m }) k)) next
+      (walks_on given c.args.seat.now c.loop-number.seat c.take.new.seat c.args.self.now e f so_far
       (take_walks given c.loop-number.seat c.take.new.seat e f so_far.desk n i w is word c.in-Some.ensures.view
       (taken_more given d moves more n i w m so_far.desk fits c.take-in-Some-Take.ensures.kept state)))),
   ap (λ (z : Desk). record z { memory = c.take-in-Some-Take.new.self }) c.loop-number.invariant.3,
@@ -132,17 +132,18 @@ returns-clause-walks g c given may =
     let e = c.loop-number.self in
     let moves : ℕ = c.loop-number.at - c.done-from.result in
     let so_far = c.loop-number.invariant.2 given may in
-    subst (λ z. Walks given c.args.seat.now c.args.self.now c.match-product_step.seat (record e { place = z; position = e.position + moves; taken = e.taken + moves }) moves) (sym c.skip.ensures)
+    subst (λ z. Walks given c.args.seat.now c.args.self.now c.match-product_step.seat (record e { place = z; position = e.position + moves; taken = e.taken + moves })) (sym c.skip.ensures)
     (elim c.match-product_step.branch [
       | in-Some-Take+in_default-take w ↦
-          subst (λ z. Walks given c.args.seat.now c.args.self.now z (taken_on e moves) moves) (sym w.seat-is)
-          (look_walks given c.args.seat.now c.loop-number.seat w.take.new.seat c.args.self.now (taken_on e moves) moves w.in-Some-Take.number w.in_default-take.ensures.view so_far)
-      | in_default-product_step w ↦ subst (λ z. Walks given c.args.seat.now c.args.self.now z (taken_on e moves) moves) (sym w.seat-is) so_far
-      | in_default-product_step-2 w ↦ subst (λ z. Walks given c.args.seat.now c.args.self.now z (taken_on e moves) moves) (sym w.seat-is) so_far
+          subst (λ z. Walks given c.args.seat.now c.args.self.now z (taken_on e moves)) (sym w.seat-is)
+          (look_walks given c.args.seat.now c.loop-number.seat w.take.new.seat c.args.self.now (taken_on e moves) w.in-Some-Take.number w.in_default-take.ensures.view so_far)
+      | in_default-product_step w ↦ subst (λ z. Walks given c.args.seat.now c.args.self.now z (taken_on e moves)) (sym w.seat-is) so_far
+      | in_default-product_step-2 w ↦ subst (λ z. Walks given c.args.seat.now c.args.self.now z (taken_on e moves)) (sym w.seat-is) so_far
     ])
 
 pub returns-clause-still : goal.returns-clause-still
 returns-clause-still g c none =
     let moves : ℕ = c.loop-number.at - c.done-from.result in
-    still_taking c.args.self.now c.loop-number.self c.skip.new.self moves (c.loop-number.invariant.4 (omega (arith, none, c.done-from.ensures, c.loop-number.invariant.0)))
-    (c.skip.ensures ∙ ap (λ (z : Desk). further z.place moves) c.loop-number.invariant.3) none
+    let same = ap (λ (z : Desk). z.position) c.loop-number.invariant.3 in
+    still_taking c.args.self.now c.loop-number.self c.skip.new.self moves (c.loop-number.invariant.4 (omega (arith, none, same, c.loop-number.invariant.0)))
+    (c.skip.ensures ∙ ap (λ (z : Desk). further z.place moves) c.loop-number.invariant.3) (omega (arith, none, same))

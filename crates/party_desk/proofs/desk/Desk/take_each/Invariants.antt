@@ -10,7 +10,7 @@ invariant-loop-number g l =
     (l.from ≤ l.at)
     × IsSeatOf l.board l.seat
     × ((given : Given) → MayWalk l.plan (g.W.Promise.list l.board.about.world) given l.fn.self
-    → Walks given l.fn.seat l.fn.self l.seat (taken_on l.self (l.at - l.from)) (l.at - l.from))
+    → Walks given l.fn.seat l.fn.self l.seat (taken_on l.self (l.at - l.from)))
     × (l.self ≡ record l.fn.self { memory = l.self.memory })
     × (l.at ≡ l.from → l.self ≡ l.fn.self)
 

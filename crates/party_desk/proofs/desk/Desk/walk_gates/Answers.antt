@@ -1,43 +1,79 @@
-use Rattle.std.proofs.Common.{◌+◌, ◌∙◌, arith}
-use Rattle.party_desk.proofs.GateWalks.{few_done, computes_may, walks_may, computes_walk, computes_on, walks_on}
+use Rattle.std.proofs.Common.{◌≡◌, ℕ, ◌+◌, ◌-◌, ◌<◌, ◌≤◌, Bool, true, false, if◌then◌else◌, refl, ◌∙◌, inl, inr, arith}
+use Rattle.std.proofs.lemmas.Bool.{cases_Bool}
+use Rattle.party_desk.proofs.GateWalks.{computes_walk, few_done, walks_may, walks_on}
 use Rattle.party_desk.proofs.desk.Desk.walk_gates.Goals as goal
 
-pub loop-done-smaller : goal.loop-done-smaller
-loop-done-smaller g c =
+-- a desk that went on has less before it, and one that did not goes round no more
+fewer : (p q r : ℕ) (goes before : Bool) → before ≡ true → p ≤ q → q ≤ r → (goes ≡ true → q < r) → r < 4294967295 → 4294967296 - r + (if goes then 1 else 0) < 4294967296 - p + (if before then 1 else 0)
+fewer p q r true true is first second on few = let more = on refl in omega (arith, first, more, few)
+fewer p q r false true is first second on few = omega (arith, first, second, few)
+fewer p q r goes false is first second on few = absurd (let clash : false ≡ true = is in cc)
+
+pub loop-goes-smaller-then-walk_product : goal.loop-goes-smaller-then-walk_product
+loop-goes-smaller-then-walk_product g c =
     let plan = c.args.plan.now in
     let list = g.W.Promise.list c.args.board.now.about.world in
     let given = c.requires.may.0 in
-    let so_far = c.loop-done.invariant.1 given c.requires.may.1 in
-    let may = walks_may plan list given c.args.seat.now c.loop-done.seat c.args.self.now c.loop-done.self c.loop-done.moves c.requires.may.1 so_far in
-    let walked = c.walk_product-moves.ensures.walks given may in
-    let may_sum = walks_may plan list given c.loop-done.seat c.walk_product-moves.new.seat c.loop-done.self c.walk_product-moves.new.self c.walk_product-moves.result may walked in
-    let summed = c.sum_next.ensures.computes given may_sum.goes in
-    let may_go = computes_may plan list given c.walk_product-moves.new.self c.sum_next.new.self c.sum_next.result may_sum summed in
-    let gone = c.gates_next.ensures.computes given may_go.goes in
-    let first = walked.position in
-    let second = summed.position in
-    let third = gone.position in
-    let few = few_done given c.gates_next.new.self gone.desk in
-    omega (arith, first, second, third, few, c.loop-done-test.true)
+    let so_far = c.loop-goes.invariant.1 given c.requires.may.1 in
+    let here = walks_may plan list given c.args.seat.now c.loop-goes.seat c.args.self.now c.loop-goes.self c.requires.may.1 so_far in
+    let walked = c.walk_product.ensures.walks given here in
+    let after = walks_may plan list given c.loop-goes.seat c.walk_product.new.seat c.loop-goes.self c.walk_product.new.self here walked in
+    let computed = c.compute_next-goes.ensures.computes given after.goes in
+    fewer c.loop-goes.self.position c.walk_product.new.self.position c.compute_next-goes.new.self.position c.compute_next-goes.result c.loop-goes.goes c.loop-goes-test.true walked.forth computed.forth c.compute_next-goes.ensures.on
+    (few_done given c.compute_next-goes.new.self computed.desk)
 
-pub loop-done-preserved : goal.loop-done-preserved
-loop-done-preserved g c = (
-  c.walk_product-moves.ensures.seat,
-  (λ given allowed.
+pub loop-goes-preserved-then-walk_product : goal.loop-goes-preserved-then-walk_product
+loop-goes-preserved-then-walk_product g c = (
+  c.walk_product.ensures.seat,
+  (λ given may.
       let plan = c.args.plan.now in
       let list = g.W.Promise.list c.args.board.now.about.world in
-      let so_far = c.loop-done.invariant.1 given allowed in
-      let may = walks_may plan list given c.args.seat.now c.loop-done.seat c.args.self.now c.loop-done.self c.loop-done.moves allowed so_far in
-      let walked = c.walk_product-moves.ensures.walks given may in
-      let may_sum = walks_may plan list given c.loop-done.seat c.walk_product-moves.new.seat c.loop-done.self c.walk_product-moves.new.self c.walk_product-moves.result may walked in
-      let summed = c.sum_next.ensures.computes given may_sum.goes in
-      let may_go = computes_may plan list given c.walk_product-moves.new.self c.sum_next.new.self c.sum_next.result may_sum summed in
-      let gone = c.gates_next.ensures.computes given may_go.goes in
-      let after = computes_on given c.walk_product-moves.new.self c.sum_next.new.self c.gates_next.new.self c.sum_next.result c.gates_next.result summed gone in
-      let before = walks_on given c.args.seat.now c.loop-done.seat c.walk_product-moves.new.seat c.args.self.now c.loop-done.self c.walk_product-moves.new.self c.loop-done.moves c.walk_product-moves.result so_far walked in
-      walks_on given c.args.seat.now c.walk_product-moves.new.seat c.walk_product-moves.new.seat c.args.self.now c.walk_product-moves.new.self c.gates_next.new.self (c.loop-done.moves + c.walk_product-moves.result) (c.sum_next.result + c.gates_next.result)
-      before (computes_walk given c.walk_product-moves.new.seat c.walk_product-moves.new.self c.gates_next.new.self (c.sum_next.result + c.gates_next.result) after)),
-  (λ none.
-      c.gates_next.ensures.still (omega (arith, none)) ∙ c.sum_next.ensures.still (omega (arith, none)) ∙ c.walk_product-moves.ensures.still (omega (arith, none))
-      ∙ c.loop-done.invariant.2 (omega (arith, none))),
+      let so_far = c.loop-goes.invariant.1 given may in
+      let here = walks_may plan list given c.args.seat.now c.loop-goes.seat c.args.self.now c.loop-goes.self may so_far in
+      let walked = c.walk_product.ensures.walks given here in
+      let after = walks_may plan list given c.loop-goes.seat c.walk_product.new.seat c.loop-goes.self c.walk_product.new.self here walked in
+      walks_on given c.args.seat.now c.walk_product.new.seat c.walk_product.new.seat c.args.self.now c.walk_product.new.self c.compute_next-goes.new.self
+      (walks_on given c.args.seat.now c.loop-goes.seat c.walk_product.new.seat c.args.self.now c.loop-goes.self c.walk_product.new.self so_far walked)
+      (computes_walk given c.walk_product.new.seat c.walk_product.new.self c.compute_next-goes.new.self (c.compute_next-goes.ensures.computes given after.goes))),
+  (λ same.
+      let plan = c.args.plan.now in
+      let list = g.W.Promise.list c.args.board.now.about.world in
+      let given = c.requires.may.0 in
+      let may = c.requires.may.1 in
+      let so_far = c.loop-goes.invariant.1 given may in
+      let here = walks_may plan list given c.args.seat.now c.loop-goes.seat c.args.self.now c.loop-goes.self may so_far in
+      let walked = c.walk_product.ensures.walks given here in
+      let after = walks_may plan list given c.loop-goes.seat c.walk_product.new.seat c.loop-goes.self c.walk_product.new.self here walked in
+      let computed = c.compute_next-goes.ensures.computes given after.goes in
+      let first = so_far.forth in
+      let second = walked.forth in
+      let third = computed.forth in
+      elim (cases_Bool c.compute_next-goes.result) [
+        | inl goes ↦ let more = c.compute_next-goes.ensures.on goes in absurd (omega (arith, first, second, more, same))
+        | inr stays ↦
+            c.compute_next-goes.ensures.still stays
+            ∙ c.walk_product.ensures.still (omega (arith, first, second, third, same)) ∙ c.loop-goes.invariant.2 (omega (arith, first, second, third, same))
+      ]),
+)
+
+pub loop-goes-preserved : goal.loop-goes-preserved
+loop-goes-preserved g c = (
+  c.walk_product.ensures.seat,
+  (λ given may.
+      let plan = c.args.plan.now in
+      let list = g.W.Promise.list c.args.board.now.about.world in
+      let so_far = c.loop-goes.invariant.1 given may in
+      let here = walks_may plan list given c.args.seat.now c.loop-goes.seat c.args.self.now c.loop-goes.self may so_far in
+      walks_on given c.args.seat.now c.loop-goes.seat c.walk_product.new.seat c.args.self.now c.loop-goes.self c.walk_product.new.self so_far (c.walk_product.ensures.walks given here)),
+  (λ same.
+      let plan = c.args.plan.now in
+      let list = g.W.Promise.list c.args.board.now.about.world in
+      let given = c.requires.may.0 in
+      let may = c.requires.may.1 in
+      let so_far = c.loop-goes.invariant.1 given may in
+      let here = walks_may plan list given c.args.seat.now c.loop-goes.seat c.args.self.now c.loop-goes.self may so_far in
+      let walked = c.walk_product.ensures.walks given here in
+      let first = so_far.forth in
+      let second = walked.forth in
+      c.walk_product.ensures.still (omega (arith, first, second, same)) ∙ c.loop-goes.invariant.2 (omega (arith, first, second, same))),
 )
