@@ -76,5 +76,8 @@ fn next_word(ring: Ring, tape: &mut Tape) -> u64
     ensures words { All (λ word. word < 2 ^ ring) tape.new }
     ensures below { result < 2 ^ ring }
 {
-    tape.draw().unwrap().spend()
+    let Some(word) = tape.draw() else {
+        unreachable!()
+    };
+    word.spend()
 }

@@ -34,6 +34,13 @@ use Rattle.party_desk.specs.Walks.{IsDeskOfPlan, IsBefore, NoPosts, Computes, at
 use Rattle.party_desk.proofs.AllowedSteps.{proper, stays}
 use Rattle.party_desk.proofs.GateWalks.{few_done, moved_place}
 
+-- the desk so many instructions on
+abbrev pub ahead : Desk → ℕ → Desk
+ahead d n = record d { position = d.position + n }
+
+pub none_ahead : (d : Desk) → d ≡ ahead d 0
+none_ahead d i = let position : d.position ≡ d.position + 0 = omega arith in record d { position = position i }
+
 -- ---- an instruction that changes the memory alone
 
 -- the desk goes on to this place with this memory

@@ -1,7 +1,7 @@
 //! Instructions of a desk at gates, one after another, on a board that threads share. Each kind has a loop of its own,
 //! in which little but words and summands is looked up.
 use crate::desk::Desk;
-use job_plan::{Pattern, Plan};
+use job_plan::{Pattern, Plan, SessionPart};
 use message_board::{Board, BoardSeat, Promise, SlotItem};
 use mpc_ring::Ring;
 use party_program::Instruction;
@@ -10,7 +10,8 @@ impl Desk {
     ghost use Rattle.std.specs.Prelude.{◌≡◌, ◌+◌, ◌<◌, true, false, length};
     ghost use Rattle.message_board.specs.Seats.{IsSeatOf};
     ghost use Rattle.party_program.specs.declared.program.Instruction.TheVariants.{Linear, Sum};
-    ghost use Rattle.job_plan.specs.declared.pattern.Pattern.TheVariants.{Silent};
+    ghost use Rattle.job_plan.specs.declared.pattern.Pattern.TheVariants.{Silent, Multiplied};
+    ghost use Rattle.job_plan.specs.Plans.{session};
     ghost use Rattle.party_program.specs.States.{Given};
     ghost use Rattle.party_desk.specs.Desks.{instruction_at};
     ghost use Rattle.party_desk.specs.Walks.{IsDeskOfPlan, MayWalk, Computes, Walks, IsBefore};
@@ -86,6 +87,7 @@ impl Desk {
         ensures computes { (given : Given) → IsDeskOfPlan plan.now given self.old → Computes given self.old self.new }
         ensures on { result ≡ true → self.old.position < self.new.position }
         ensures still { result ≡ false → self.new ≡ self.old }
+        ensures product { result ≡ true → self.new.place.pattern ≡ Multiplied }
     {
         let Pattern::Multiplied = self.place.pattern() else {
             return false;
@@ -112,14 +114,12 @@ impl Desk {
     )
         requires may { (given : Given) × MayWalk plan.now (W.list board.now.about.world) given self.old }
         requires seat { IsSeatOf board.now seat.old }
+        requires product { self.old.place.pattern ≡ Multiplied }
         ensures seat { IsSeatOf board.now seat.new }
         ensures walks { (given : Given) → MayWalk plan.now (W.list board.now.about.world) given self.old
             → Walks given seat.old self.old seat.new self.new }
         ensures still { self.new.position ≡ self.old.position → self.new ≡ self.old }
     {
-        let Pattern::Multiplied = self.place.pattern() else {
-            return;
-        };
         let place = self.place;
         let from = place.done();
         let mut at = from;
@@ -186,11 +186,7 @@ impl Desk {
         ensures on { result ≡ true → self.old.position < self.new.position }
         ensures still { result ≡ false → self.new ≡ self.old }
     {
-        match self.place.pattern() {
-            Pattern::Multiplied => self.sum_next(plan),
-            Pattern::Silent => self.gates_next(plan),
-            Pattern::Dealt(_) | Pattern::Opened(_) => false,
-        }
+        self.sum_next(plan) || self.gates_next(plan)
     }
 
     // The sum of a product, if that comes next, and the linear gates after it.
@@ -208,8 +204,9 @@ impl Desk {
             return false;
         }
         let slot = self.place.slot();
+        let part = plan.part(self.session);
         self.end_product(plan, slot);
-        self.compute_gates(plan, slot + 1);
+        self.compute_gates(plan, part, slot + 1);
         true
     }
 
@@ -227,8 +224,9 @@ impl Desk {
         let Instruction::Linear { slot } = self.program.instruction_at(plan, &self.place) else {
             return false;
         };
+        let part = plan.part(self.session);
         self.end_gate(plan, slot);
-        self.compute_gates(plan, slot + 1);
+        self.compute_gates(plan, part, slot + 1);
         true
     }
 
@@ -268,41 +266,50 @@ impl Desk {
 
     // Computes linear gates from the one of this slot on, and brings the place up.
     #[inline(always)]
-    fn compute_gates(&mut self, plan: &Plan, slot: u32)
-        requires { (given : Given) × IsBefore plan.now given slot self.old }
+    fn compute_gates(&mut self, plan: &Plan, part: &SessionPart, slot: u32)
+        requires goes { (given : Given) × IsBefore plan.now given slot self.old }
+        requires part { part.now ≡ session plan.now self.old.session }
         ensures { (given : Given) → IsBefore plan.now given slot self.old → Computes given self.old self.new }
     {
         let ring = plan.ring();
         let shares = plan.shares() as usize;
         // With three summands, as with three parties of whom any two are trusted, no gate has a loop.
         if shares == 3 {
-            self.compute_each(plan, slot, ring, 3);
+            self.compute_each(plan, part, slot, ring, 3);
         } else {
-            self.compute_each(plan, slot, ring, shares);
+            self.compute_each(plan, part, slot, ring, shares);
         }
     }
 
     // The same, in the plan's ring and of so many summands as its values have.
     #[inline(always)]
-    fn compute_each(&mut self, plan: &Plan, slot: u32, ring: Ring, shares: usize)
+    fn compute_each(
+        &mut self,
+        plan: &Plan,
+        part: &SessionPart,
+        slot: u32,
+        ring: Ring,
+        shares: usize,
+    )
         requires goes { (given : Given) × IsBefore plan.now given slot self.old }
+        requires part { part.now ≡ session plan.now self.old.session }
         requires ring { ring ≡ plan.now.bits }
         requires shares { shares ≡ length plan.now.groups }
         ensures { (given : Given) → IsBefore plan.now given slot self.old → Computes given self.old self.new }
     {
-        let part = plan.part(self.session);
         let first = slot - part.input_wires() as u32;
-        let before = self.position;
+        let mut computed = 0;
         for gate in &part.gates()[first as usize..] {
             if gate.operation.is_product() {
-                let next = slot + (self.position - before);
-                self.program.enter_product(plan, &mut self.place, next);
+                self.position += computed;
+                self.program
+                    .enter_product(plan, &mut self.place, slot + computed);
                 return;
             }
             self.memory.linear(plan, self.session, ring, shares, *gate);
-            self.position += 1;
+            computed += 1;
         }
-        let next = slot + (self.position - before);
-        self.program.enter(plan, &mut self.place, next);
+        self.position += computed;
+        self.program.enter(plan, &mut self.place, slot + computed);
     }
 }

@@ -21,7 +21,7 @@ product-requires-clause-stands g c = goes_stand c.args.plan.now c.requires.may.0
 
 pub product-requires-clause-within : goal.product-requires-clause-within
 product-requires-clause-within g c =
-    product_within c.args.plan.now c.requires.may.0 c.args.self.now c.requires.may.1.goes (sym c.pattern.ensures ∙ c.in-Multiplied.is, omega (arith, c.done-from.ensures, c.loop-number.invariant.0, c.in-Some-Post.ensures.0))
+    product_within c.args.plan.now c.requires.may.0 c.args.self.now c.requires.may.1.goes (c.requires.product, omega (arith, c.done-from.ensures, c.loop-number.invariant.0, c.in-Some-Post.ensures.0))
 
 pub word-word-requires-clause-stands : goal.word-word-requires-clause-stands
 word-word-requires-clause-stands g c = goes_stand c.args.plan.now c.requires.may.0 c.args.self.now c.requires.may.1.goes
@@ -36,7 +36,7 @@ word-word-requires-clause-proper g c =
     let i = c.in-Some-Post.share in
     let e : Desk = posted_on d (c.loop-number.at - c.done-from.result) in
     let goes : IsDeskOfPlan plan given e = record { same = may.goes.same; desk = (c.loop-number.invariant.2 given may).desk } in
-    let is : instruction_at given e ≡ Post n i = product_next plan given d may.goes (sym c.pattern.ensures ∙ c.in-Multiplied.is) c.done-from.result c.loop-number.at c.done-from.ensures c.loop-number.invariant.0 c.in-Some-Post.ensures.0 (Post n i) (sym c.in-Some-Post.field-0-is ∙ c.in-Some-Post.ensures.1) in
+    let is : instruction_at given e ≡ Post n i = product_next plan given d may.goes c.requires.product c.done-from.result c.loop-number.at c.done-from.ensures c.loop-number.invariant.0 c.in-Some-Post.ensures.0 (Post n i) (sym c.in-Some-Post.field-0-is ∙ c.in-Some-Post.ensures.1) in
     goes_proper plan given e goes (Post n i) (sym is)
 
 pub word-word-requires-clause-here : goal.word-word-requires-clause-here
@@ -49,7 +49,7 @@ word-word-requires-clause-here g c =
     let i = c.in-Some-Post.share in
     let e : Desk = posted_on d (c.loop-number.at - c.done-from.result) in
     let goes : IsDeskOfPlan plan given e = record { same = may.goes.same; desk = (c.loop-number.invariant.2 given may).desk } in
-    let is : instruction_at given e ≡ Post n i = product_next plan given d may.goes (sym c.pattern.ensures ∙ c.in-Multiplied.is) c.done-from.result c.loop-number.at c.done-from.ensures c.loop-number.invariant.0 c.in-Some-Post.ensures.0 (Post n i) (sym c.in-Some-Post.field-0-is ∙ c.in-Some-Post.ensures.1) in
+    let is : instruction_at given e ≡ Post n i = product_next plan given d may.goes c.requires.product c.done-from.result c.loop-number.at c.done-from.ensures c.loop-number.invariant.0 c.in-Some-Post.ensures.0 (Post n i) (sym c.in-Some-Post.field-0-is ∙ c.in-Some-Post.ensures.1) in
     goes_names plan given e goes (Post n i) (sym is)
 
 pub post-requires-clause-promised : goal.post-requires-clause-promised
@@ -62,7 +62,7 @@ post-requires-clause-promised g c =
     let i = c.in-Some-Post.share in
     let e : Desk = posted_on d (c.loop-number.at - c.done-from.result) in
     let goes : IsDeskOfPlan plan given e = record { same = may.goes.same; desk = (c.loop-number.invariant.2 given may).desk } in
-    let is : instruction_at given e ≡ Post n i = product_next plan given d may.goes (sym c.pattern.ensures ∙ c.in-Multiplied.is) c.done-from.result c.loop-number.at c.done-from.ensures c.loop-number.invariant.0 c.in-Some-Post.ensures.0 (Post n i) (sym c.in-Some-Post.field-0-is ∙ c.in-Some-Post.ensures.1) in
+    let is : instruction_at given e ≡ Post n i = product_next plan given d may.goes c.requires.product c.done-from.result c.loop-number.at c.done-from.ensures c.loop-number.invariant.0 c.in-Some-Post.ensures.0 (Post n i) (sym c.in-Some-Post.field-0-is ∙ c.in-Some-Post.ensures.1) in
     may.promises.posts e.position n i is ∙ ap Some (sym (goes_word plan given e goes n i c.word-word.result is c.word-word.ensures.is))
 
 pub loop-number-preserved : goal.loop-number-preserved
@@ -80,7 +80,7 @@ loop-number-preserved g c = (
       let f : Desk = posted_on d (moves + 1) in
       let goes : IsDeskOfPlan plan given e = record { same = may.goes.same; desk = so_far.desk } in
       let found = sym c.in-Some-Post.field-0-is ∙ c.in-Some-Post.ensures.1 in
-      let product = sym c.pattern.ensures ∙ c.in-Multiplied.is in
+      let product = c.requires.product in
       let is : instruction_at given e ≡ Post n i = product_next plan given d may.goes product c.done-from.result c.loop-number.at c.done-from.ensures c.loop-number.invariant.0 c.in-Some-Post.ensures.0 (Post n i) found in
       let more = product_more plan given d may.goes product c.done-from.result c.loop-number.at c.done-from.ensures c.loop-number.invariant.0 c.in-Some-Post.ensures.0 (Post n i) found (λ z. cc) in
       let word = goes_word plan given e goes n i c.word-word.result is c.word-word.ensures.is in
