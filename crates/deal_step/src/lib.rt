@@ -76,8 +76,5 @@ fn next_word(ring: Ring, tape: &mut Tape) -> u64
     ensures words { All (λ word. word < 2 ^ ring) tape.new }
     ensures below { result < 2 ^ ring }
 {
-    let Some(word) = tape.draw() else {
-        unreachable!()
-    };
-    word.spend()
+    tape.draw().unwrap().spend()
 }

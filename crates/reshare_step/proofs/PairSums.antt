@@ -1,9 +1,10 @@
 -- Sums over the pairs of one party.
-use Rattle.std.proofs.Common.{◌≡◌, ℕ, zero, suc, ◌+◌, ◌*◌, ◌%◌, ◌^◌, ◌<◌, true, false, List, [], ◌∷◌, ◌++◌, length, nat_eq, if◌then◌else◌, refl, sym, ap, ◌∙◌, subst, arith, zero-add, add-zero}
+use Rattle.std.proofs.Common.{◌≡◌, ℕ, zero, suc, ◌+◌, ◌-◌, ◌*◌, ◌%◌, ◌^◌, ◌<◌, ◌≤◌, true, false, List, [], ◌∷◌, ◌++◌, length, nat_eq, if◌then◌else◌, refl, sym, ap, ◌∙◌, subst, arith, zero-add, add-zero}
 use Rattle.std.specs.Prelude.{slice_index, sum_by}
 use Rattle.std.proofs.lemmas.Nat.{pow_pos}
 use Rattle.std.proofs.lemmas.List.Sums.{sum_by-append, sum_by-cons}
 use Rattle.std.proofs.Math.Nat.{mod-eq_of_lt}
+use Rattle.std.proofs.Math.Pow.{mod-mod-pow}
 use Rattle.list_laws.specs.Lists.{total, joined, only_if}
 use Rattle.mpc_ring.proofs.Remainders.{same_refl, same_trans, same_add, same_mod, mods_of_same}
 use Rattle.list_laws.proofs.Totals.{total_eq}
@@ -87,9 +88,13 @@ module _ (bits : ℕ) (s : Structure) (p : ℕ) (x y : List ℕ) where
         within = (subst (Within (length x) (length y)) steps h.within).2;
       }
 
-  pub all_summed : (left : List (ℕ × ℕ)) (sum : ℕ) → left ≡ [] → SumsUp bits s p x y left sum → sum ≡ own_product (scheme_of bits s) p (slice_index x) (slice_index y)
-  all_summed left sum none h =
+  -- in a ring of no more bits the sum is the own product
+  pub all_summed : (k : ℕ) (left : List (ℕ × ℕ)) (sum result : ℕ) → k ≤ bits → left ≡ [] → SumsUp bits s p x y left sum → result ≡ sum % 2 ^ k → result ≡ own_product (scheme_of k s) p (slice_index x) (slice_index y)
+  all_summed k left sum result few none h is =
       let q : ℕ = 2 ^ bits in
-      sym (ap (λ pairs. (sum + sum_by (product x y) pairs) % q) none ∙ ap (λ z. z % q) (add-zero sum) ∙ mod-eq_of_lt h.small)
-      ∙ h.whole
-      ∙ ap (λ z. z % q) (sum_by-pairs_where (duty s) p (length s.groups) (slice_index x) (slice_index y))
+      let all : ℕ = sum_by (product x y) (pairs_of s p) in
+      let split : bits ≡ (bits - k) + k = omega (arith, few) in
+      let whole : sum ≡ all % q = sym (ap (λ pairs. (sum + sum_by (product x y) pairs) % q) none ∙ ap (λ z. z % q) (add-zero sum) ∙ mod-eq_of_lt h.small) ∙ h.whole in
+      is ∙ ap (λ z. z % 2 ^ k) whole
+      ∙ ap (λ n. all % 2 ^ n % 2 ^ k) split ∙ mod-mod-pow all (bits - k) k
+      ∙ ap (λ z. z % 2 ^ k) (sum_by-pairs_where (duty s) p (length s.groups) (slice_index x) (slice_index y))

@@ -20,16 +20,16 @@ pub fn own_products(ring: Ring, duty: &Duty, p: u32, x: &[u64], y: &[u64]) -> u6
     requires party { p < duty.now.parties }
     requires first { length x.now ≡ length duty.now.groups }
     requires second { length y.now ≡ length duty.now.groups }
-    requires words { All (λ word. word < 2 ^ ring) x.now }
-    requires more_words { All (λ word. word < 2 ^ ring) y.now }
     ensures is { result ≡ own_product (scheme_of ring duty.now) p (slice_index x.now) (slice_index y.now) }
     ensures below { result < 2 ^ ring }
 {
-    let mut sum = 0;
+    let _ = ring.bits();
+    // Modulo 2^64, of which the ring's modulus is a part.
+    let mut sum: u64 = 0;
     for (i, j) in duty.pairs(p) {
-        sum = ring.add(sum, ring.mul(x[i as usize], y[j as usize]));
+        sum = sum.wrapping_add(x[i as usize].wrapping_mul(y[j as usize]));
     }
-    sum
+    ring.reduce(sum)
 }
 
 /// Adds a word that was dealt to the sum of its share.

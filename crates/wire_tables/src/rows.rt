@@ -80,8 +80,6 @@ fn product_row(
 ) -> Result<Vec<u64>, AllocError>
     requires first { length x.now ≡ length plan.now.groups }
     requires second { length y.now ≡ length plan.now.groups }
-    requires words { All (λ word. word < 2 ^ plan.now.bits) x.now }
-    requires more_words { All (λ word. word < 2 ^ plan.now.bits) y.now }
     requires tapes { (p : ℕ) → p < plan.now.parties → has_pair (scheme plan.now) p ≡ true
         → HasDealWords plan.now (session_words tapes.now) places.now p }
     ensures { IfOk result (λ row. row.items ≡ listed (length plan.now.groups)

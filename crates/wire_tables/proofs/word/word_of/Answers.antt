@@ -93,8 +93,6 @@ own_products-own-requires c =
       party = subst (λ (y : Structure). key.sender < y.parties) (sym c.duty.ensures) at.sender;
       first = row_long w s c.gate-gate.result.first c.row-x.result.now a ∙ sym groups;
       second = row_long w s c.gate-gate.result.second c.row-y.result.now b ∙ sym groups;
-      words = row_small w c.requires.whole s c.gate-gate.result.first c.ring.result c.row-x.result.now c.ring.ensures.is a;
-      more_words = row_small w c.requires.whole s c.gate-gate.result.second c.ring.result c.row-y.result.now c.ring.ensures.is b;
     }
 
 pub dealt_row-requires-clause-words : goal.dealt_row-requires-clause-words
