@@ -50,7 +50,8 @@ pub record Computes (given : Given) (d d' : Desk) : Type 0 where
   pub no_post : NoPosts given d.position d'.position
 
 -- instructions led from one desk and seat to the others, and the seat knows what was posted among them
-pub record Walks {W : Type 0} (given : Given) (seat : Sitting W) (d : Desk) (seat' : Sitting W) (d' : Desk) : Type 0 where
+pub record Walks {W : Type 0} (given : Given) (seat : Sitting W) (d : Desk) (seat' : Sitting W) (d' : Desk)
+    : Type 0 where
   pub desk : IsDesk given d'
   pub forth : d.position ≤ d'.position
   pub posted : KnowsPosts given d.position d'.position seat'.view.seen
