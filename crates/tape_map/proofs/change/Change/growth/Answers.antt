@@ -1,4 +1,4 @@
-use Rattle.std.proofs.Common.{◌≡◌, ℕ, ◌^◌, ◌<◌, List, [], All, length, sym, ap, ap₂, ◌∙◌, subst, arith}
+use Rattle.std.proofs.Common.{◌≡◌, ℕ, ◌^◌, ◌<◌, List, [], length, sym, ap, ap₂, ◌∙◌, subst, arith}
 use Rattle.std.specs.Prelude.{slice_index, slice_index_or}
 use Rattle.std.proofs.lemmas.Bool.{cond-false}
 use Rattle.mpc_ring.specs.Differences.{difference}
@@ -16,7 +16,6 @@ use Rattle.job_session.specs.SoundSessions.{Inside, slot_of_kind}
 use Rattle.wire_tables.proofs.ListedRows.{row_read}
 use Rattle.tape_map.specs.declared.change.Change.{Change}
 use Rattle.tape_map.specs.Changes.{growth, Fits}
-use Rattle.tape_map.proofs.ChangedPieces.{small_all}
 use Rattle.tape_map.proofs.change.Change.growth.Goals as goal
 
 module _ (plan : Plan) (change : Change) (fits : Fits plan change) where
@@ -37,9 +36,6 @@ module _ (plan : Plan) (change : Change) (fits : Fits plan change) where
     row_wide : (groups : List ℕ) → groups ≡ plan.groups → length words ≡ length groups
     row_wide groups e = ap length row_is ∙ fits.wide_moved v lv ∙ sym (ap length e)
 
-    row_small : (bits : ℕ) → bits ≡ plan.bits → All (λ word. word < 2 ^ bits) words
-    row_small bits e = small_all (2 ^ bits) words (λ i. subst (λ b. slice_index words i < 2 ^ b) (sym e) (subst (λ xs. slice_index xs i < 2 ^ plan.bits) (sym row_is) (fits.small_moved v i)))
-
 pub own_products-after-requires-clause-first : goal.own_products-after-requires-clause-first
 own_products-after-requires-clause-first c =
     let at = read_gate c.args.plan.now c.args.self.now c.requires.fits (c.ring-ring.ensures.sound.sessions c.args.self.now.session c.requires.fits.there) c.part.result.now c.in-Gate.t c.gate-gate.result c.part.ensures (subst (λ k. Inside (session c.args.plan.now c.args.self.now.session) (slot_of_kind k)) c.in-Gate.is c.requires.inside) c.gate-gate.ensures in
@@ -49,16 +45,6 @@ pub own_products-after-requires-clause-second : goal.own_products-after-requires
 own_products-after-requires-clause-second c =
     let at = read_gate c.args.plan.now c.args.self.now c.requires.fits (c.ring-ring.ensures.sound.sessions c.args.self.now.session c.requires.fits.there) c.part.result.now c.in-Gate.t c.gate-gate.result c.part.ensures (subst (λ k. Inside (session c.args.plan.now c.args.self.now.session) (slot_of_kind k)) c.in-Gate.is c.requires.inside) c.gate-gate.ensures in
     row_wide c.args.plan.now c.args.self.now c.requires.fits c.gate-gate.result.second c.index-y.result.now c.deref-in-Gate.result.now at.2 c.index-y.ensures c.deref-in-Gate.ensures.value _ (ap (λ (y : Structure). y.groups) c.duty-in-Gate.ensures)
-
-pub own_products-after-requires-clause-words : goal.own_products-after-requires-clause-words
-own_products-after-requires-clause-words c =
-    let at = read_gate c.args.plan.now c.args.self.now c.requires.fits (c.ring-ring.ensures.sound.sessions c.args.self.now.session c.requires.fits.there) c.part.result.now c.in-Gate.t c.gate-gate.result c.part.ensures (subst (λ k. Inside (session c.args.plan.now c.args.self.now.session) (slot_of_kind k)) c.in-Gate.is c.requires.inside) c.gate-gate.ensures in
-    row_small c.args.plan.now c.args.self.now c.requires.fits c.gate-gate.result.first c.index-x.result.now c.deref.result.now at.1 c.index-x.ensures c.deref.ensures.value _ c.ring-ring.ensures.is
-
-pub own_products-after-requires-clause-more_words : goal.own_products-after-requires-clause-more_words
-own_products-after-requires-clause-more_words c =
-    let at = read_gate c.args.plan.now c.args.self.now c.requires.fits (c.ring-ring.ensures.sound.sessions c.args.self.now.session c.requires.fits.there) c.part.result.now c.in-Gate.t c.gate-gate.result c.part.ensures (subst (λ k. Inside (session c.args.plan.now c.args.self.now.session) (slot_of_kind k)) c.in-Gate.is c.requires.inside) c.gate-gate.ensures in
-    row_small c.args.plan.now c.args.self.now c.requires.fits c.gate-gate.result.second c.index-y.result.now c.deref-in-Gate.result.now at.2 c.index-y.ensures c.deref-in-Gate.ensures.value _ c.ring-ring.ensures.is
 
 pub returns-in-Gate-clause-is : goal.returns-in-Gate-clause-is
 returns-in-Gate-clause-is c =
