@@ -20,7 +20,7 @@ use Rattle.party_program.specs.States.{Given, state}
 use Rattle.party_desk.specs.declared.desk.Desk.{Desk}
 use Rattle.party_desk.specs.declared.desk.Stepped.TheVariants.{Moved, NotYet, Ended}
 use Rattle.party_desk.specs.Desks.{IsDesk, Waits, instruction_at}
-use Rattle.party_desk.specs.Steps.{word_at, heard, Allows, MayStep, Does, Steps}
+use Rattle.party_desk.specs.Steps.{word_at, with_word, Allows, MayStep, Does, Steps}
 use Rattle.program_laws.specs.Meets.{local_given, Goes}
 use Rattle.program_laws.proofs.OpenedOutputs.{goes}
 use Rattle.program_laws.proofs.Ranks.{end_is_last}
@@ -391,7 +391,7 @@ module _ (cells : Meaning Mail) (are : AreNodeCells cells) (n : Node) (s : ℕ) 
         hears got ag =
             let y = subst (Does cells (l got) d c d' c') is (step got ag).1 in
             let w : got (message plan m) ≡ y.0 = ag m y.0 (are.got c' m y.0 y.2) in
-            goes_by (heard (l got) m y.0) (λ r. got (message plan r)) d' y.3 (λ r m' i' less f. elim (cases_eq m' m) [
+            goes_by (with_word (l got) m y.0) (λ r. got (message plan r)) d' y.3 (λ r m' i' less f. elim (cases_eq m' m) [
               | left' same ↦ set_here (λ r. got (message plan r)) m m' y.0 same ∙ sym (ap (λ z. got (message plan z)) same ∙ w)
               | right' ne ↦ set_there (λ r. got (message plan r)) m m' y.0 ne
             ])
