@@ -1,8 +1,9 @@
 /* Tells where the time of a run goes: writes the clock of four moments into the file that the environment variable PHASES
    names, in nanoseconds: when the program began, when its workers began, when the last of them had ended, and when the
    program ended. With several workers these are the first thread that is made and the last that is waited for. One worker
-   makes no thread; but a run takes no memory and gives none back, so the longest time without a request for memory is the
-   workers'. Built by phases.py, and used by samples.py too. */
+   makes no thread; but a run takes no memory and gives none back, so its time is the last long one without a request for
+   memory: at least half as long as any other, since reading a circuit is such a time too. Built by phases.py, and used by
+   samples.py too. */
 #define _GNU_SOURCE
 #include <dlfcn.h>
 #include <errno.h>
@@ -32,8 +33,9 @@ static void request(void) {
     if (first_made)
         return;
     long time = now();
-    if (last_request && time - last_request > longest) {
-        longest = time - last_request;
+    if (last_request && 2 * (time - last_request) > longest) {
+        if (time - last_request > longest)
+            longest = time - last_request;
         gap_began = last_request;
         gap_ended = time;
     }
