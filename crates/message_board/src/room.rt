@@ -41,8 +41,8 @@ pub fn start_words(alloc: Global, messages: u32, slots: usize) -> Result<Vec<u64
     requires { slots < 2 ^ 32 }
     ensures { IfOk result (λ v. v.items ≡ replicate (cell_words messages + 1) 0 ++ replicate (apart * slots) 1) }
 {
-    let mut words = Vec::new(alloc);
     let cells = messages as usize + full_words_of(messages) + 1;
+    let mut words = Vec::with_capacity(alloc, cells + APART * slots)?;
     words.resize(cells, 0u64)?;
     words.resize(cells + APART * slots, 1)?;
     Ok(words)

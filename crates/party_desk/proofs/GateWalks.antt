@@ -82,6 +82,9 @@ module _ (l : Given) where
     | inr more ↦ b x n i more to is
   ]
 
+  pub rest_computes : (d : Desk) → IsDesk l d → Computes l d d
+  rest_computes d h = record { desk = h; forth = omega arith; no_post = λ x n i from to is. absurd (omega (arith, from, to)) }
+
   pub computes_on : (d e f : Desk) → Computes l d e → Computes l e f → Computes l d f
   computes_on d e f a b =
       let first = a.forth in

@@ -1,17 +1,18 @@
 -- Instructions of a desk at gates, one after another, on a board.
-use Rattle.std.specs.Prelude.{◌≡◌, ℕ, ◌+◌, ◌<◌, ◌≤◌, List, length, slice_get, Some}
+use Rattle.std.specs.Prelude.{◌≡◌, ◌≢◌, ℕ, ◌+◌, ◌<◌, ◌≤◌, List, length, slice_get, Some}
 use Rattle.job_session.specs.Sessions.{owners}
 use Rattle.job_plan.specs.Plans.{Plan, session}
 use Rattle.message_board.specs.Pairs.{Knows, Grows}
 use Rattle.message_board.specs.Seats.{Sitting, AllBelow}
 use Rattle.party_program.specs.declared.place.Place.{Place}
-use Rattle.party_program.specs.declared.program.Instruction.TheVariants.{Post, Take}
+use Rattle.party_program.specs.declared.program.Instruction.{Instruction}
+use Rattle.party_program.specs.declared.program.Instruction.TheVariants.{Linear, Own, Post, Sum, Take}
 use Rattle.party_program.specs.Programs.{program, at}
 use Rattle.party_program.specs.ProgramPlaces.{instructions_before, IsPlace, IsProgram}
 use Rattle.party_program.specs.States.{Given}
 use Rattle.party_desk.specs.declared.desk.Desk.{Desk}
 use Rattle.party_desk.specs.Memories.{IsMemoryOf}
-use Rattle.party_desk.specs.Desks.{IsDesk}
+use Rattle.party_desk.specs.Desks.{IsDesk, instruction_at}
 use Rattle.party_desk.specs.Steps.{word_at}
 
 -- the list has the word of each message that the party posts and takes, and each of its words is in the ring
@@ -31,6 +32,20 @@ pub record IsDeskOfPlan (plan : Plan) (given : Given) (d : Desk) : Type 0 where
 pub record MayWalk (plan : Plan) (list : List ℕ) (given : Given) (d : Desk) : Type 0 where
   pub goes : IsDeskOfPlan plan given d
   pub promises : HasWords given list
+
+-- no instruction of this kind comes next, whatever slot it names
+abbrev pub NoneNext : (ℕ → Instruction) → Given → Desk → Type 0
+NoneNext kind given d = (k : ℕ) → instruction_at given d ≢ kind k
+
+-- nothing comes next that the desk computes of a gate by itself
+abbrev pub NothingToCompute : Given → Desk → Type 0
+NothingToCompute given d = NoneNext Own given d × NoneNext Sum given d × NoneNext Linear given d
+
+-- a take comes next
+pub record IsAtTake (given : Given) (d : Desk) : Type 0 where
+  pub number : ℕ
+  pub share : ℕ
+  pub is : instruction_at given d ≡ Take number share
 
 -- no instruction from position q up to position r is a post
 abbrev pub NoPosts : Given → ℕ → ℕ → Type 0

@@ -7,17 +7,18 @@ use mpc_ring::Ring;
 use party_program::Instruction;
 
 impl Desk {
-    ghost use Rattle.std.specs.Prelude.{◌≡◌, ◌+◌, ◌<◌, true, false, length};
+    ghost use Rattle.std.specs.Prelude.{◌≡◌, ◌+◌, ◌<◌, ◌≤◌, true, false, length};
     ghost use Rattle.message_board.specs.Seats.{IsSeatOf};
-    ghost use Rattle.party_program.specs.declared.program.Instruction.TheVariants.{Linear, Sum};
+    ghost use Rattle.party_program.specs.declared.program.Instruction.TheVariants.{Linear, Own, Sum};
     ghost use Rattle.job_plan.specs.declared.pattern.Pattern.TheVariants.{Silent, Multiplied};
     ghost use Rattle.job_plan.specs.Plans.{session};
     ghost use Rattle.party_program.specs.States.{Given};
     ghost use Rattle.party_desk.specs.Desks.{instruction_at};
     ghost use Rattle.party_desk.specs.Walks.{IsDeskOfPlan, MayWalk, Computes, Walks, IsBefore};
+    ghost use Rattle.party_desk.specs.Walks.{NoneNext, IsAtTake, NothingToCompute};
 
     /// Does the instructions that come next as long as they are of gates, until one waits for a message, and answers how
-    /// many they were.
+    /// many they were. Afterwards no own product, no sum and no linear gate comes next.
     #[inline(always)]
     pub fn walk_gates<W: Promise, T: SlotItem<W>>(
         &mut self,
@@ -32,6 +33,8 @@ impl Desk {
             → Walks given seat.old self.old seat.new self.new }
         ensures moves { self.new.position ≡ self.old.position + result }
         ensures still { result ≡ 0 → self.new ≡ self.old }
+        ensures through { (given : Given) → MayWalk plan.now (W.list board.now.about.world) given self.old
+            → NothingToCompute given self.new }
     {
         let before = self.position;
         let mut goes = true;
@@ -55,6 +58,10 @@ impl Desk {
         ensures walks { (given : Given) → MayWalk plan.now (W.list board.now.about.world) given self.old
             → Walks given seat.old self.old seat.new self.new }
         ensures still { self.new.position ≡ self.old.position → self.new ≡ self.old }
+        ensures own { (given : Given) → MayWalk plan.now (W.list board.now.about.world) given self.old
+            → NoneNext Own given self.new }
+        ensures waits { result ≡ false → (given : Given) → MayWalk plan.now (W.list board.now.about.world) given self.old
+            → IsAtTake given self.new }
     {
         self.send(plan, board, seat);
         self.take_each(plan, board, seat)
@@ -74,6 +81,8 @@ impl Desk {
         ensures walks { (given : Given) → MayWalk plan.now (W.list board.now.about.world) given self.old
             → Walks given seat.old self.old seat.new self.new }
         ensures still { self.new.position ≡ self.old.position → self.new ≡ self.old }
+        ensures own { (given : Given) → MayWalk plan.now (W.list board.now.about.world) given self.old
+            → NoneNext Own given self.new }
     {
         if self.deal_own(plan) {
             self.post_each(plan, board, seat);
@@ -88,6 +97,9 @@ impl Desk {
         ensures on { result ≡ true → self.old.position < self.new.position }
         ensures still { result ≡ false → self.new ≡ self.old }
         ensures product { result ≡ true → self.new.place.pattern ≡ Multiplied }
+        ensures done { result ≡ true → 0 < self.new.place.done }
+        ensures own { result ≡ false → (given : Given) → IsDeskOfPlan plan.now given self.old
+            → NoneNext Own given self.new }
     {
         let Pattern::Multiplied = self.place.pattern() else {
             return false;
@@ -119,6 +131,7 @@ impl Desk {
         ensures walks { (given : Given) → MayWalk plan.now (W.list board.now.about.world) given self.old
             → Walks given seat.old self.old seat.new self.new }
         ensures still { self.new.position ≡ self.old.position → self.new ≡ self.old }
+        ensures done { self.old.place.done ≤ self.new.place.done }
     {
         let place = self.place;
         let from = place.done();
@@ -151,6 +164,9 @@ impl Desk {
         ensures walks { (given : Given) → MayWalk plan.now (W.list board.now.about.world) given self.old
             → Walks given seat.old self.old seat.new self.new }
         ensures still { self.new.position ≡ self.old.position → self.new ≡ self.old }
+        ensures done { self.old.position < self.new.position → 0 < self.new.place.done }
+        ensures waits { result ≡ false → (given : Given) → MayWalk plan.now (W.list board.now.about.world) given self.old
+            → IsAtTake given self.new }
     {
         let Pattern::Multiplied = self.place.pattern() else {
             return true;
@@ -185,6 +201,8 @@ impl Desk {
         ensures computes { (given : Given) → IsDeskOfPlan plan.now given self.old → Computes given self.old self.new }
         ensures on { result ≡ true → self.old.position < self.new.position }
         ensures still { result ≡ false → self.new ≡ self.old }
+        ensures rests { result ≡ false → (given : Given) → IsDeskOfPlan plan.now given self.old
+            → NoneNext Sum given self.new × NoneNext Linear given self.new }
     {
         self.sum_next(plan) || self.gates_next(plan)
     }
@@ -196,6 +214,8 @@ impl Desk {
         ensures computes { (given : Given) → IsDeskOfPlan plan.now given self.old → Computes given self.old self.new }
         ensures on { result ≡ true → self.old.position < self.new.position }
         ensures still { result ≡ false → self.new ≡ self.old }
+        ensures sum { result ≡ false → (given : Given) → IsDeskOfPlan plan.now given self.old
+            → NoneNext Sum given self.new }
     {
         let Pattern::Multiplied = self.place.pattern() else {
             return false;
@@ -217,6 +237,8 @@ impl Desk {
         ensures computes { (given : Given) → IsDeskOfPlan plan.now given self.old → Computes given self.old self.new }
         ensures on { result ≡ true → self.old.position < self.new.position }
         ensures still { result ≡ false → self.new ≡ self.old }
+        ensures linear { result ≡ false → (given : Given) → IsDeskOfPlan plan.now given self.old
+            → NoneNext Linear given self.new }
     {
         let Pattern::Silent = self.place.pattern() else {
             return false;

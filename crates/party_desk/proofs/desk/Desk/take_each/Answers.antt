@@ -1,7 +1,8 @@
-use Rattle.std.proofs.Common.{◌≡◌, ℕ, ◌+◌, ◌-◌, ◌<◌, ◌^◌, length, slice_get, refl, sym, ap, ◌∙◌, subst, arith}
+use Rattle.std.proofs.Common.{◌≡◌, ℕ, ◌+◌, ◌-◌, ◌<◌, ◌^◌, true, false, length, slice_get, refl, sym, ap, ◌∙◌, subst, arith}
 use Rattle.std.proofs.lemmas.Option.{slice_get_within}
 use Rattle.job_session.specs.SoundSessions.{slot_of_kind}
 use Rattle.job_plan.specs.Plans.{Plan, slot, slots}
+use Rattle.party_program.specs.declared.place.Place.{Place}
 use Rattle.party_program.specs.declared.program.Instruction.TheVariants.{Take}
 use Rattle.party_program.specs.States.{slot_of, took_in}
 use Rattle.party_desk.specs.declared.desk.Desk.{Desk}
@@ -23,6 +24,7 @@ loop-number-init g c =
       (λ given may. subst (λ n. Walks given c.args.seat.now c.args.self.now c.args.seat.now (taken_on c.args.self.now n)) none (takes_start given c.args.seat.now c.args.self.now may.goes.desk)),
       refl,
       (λ none. refl),
+      refl,
     )
 
 pub take-requires-clause-inside : goal.take-requires-clause-inside
@@ -104,6 +106,7 @@ loop-number-preserved g c = (
       (taken_more given d moves more n i w m so_far.desk fits c.take-in-Some-Take.ensures.kept state)))),
   ap (λ (z : Desk). record z { memory = c.take-in-Some-Take.new.self }) c.loop-number.invariant.3,
   (λ none. absurd (omega (arith, none, c.loop-number.invariant.0))),
+  c.loop-number.invariant.5,
 )
 
 pub overflow_add-at : goal.overflow_add-at
@@ -147,3 +150,22 @@ returns-clause-still g c none =
     let same = ap (λ (z : Desk). z.position) c.loop-number.invariant.3 in
     still_taking c.args.self.now c.loop-number.self c.skip.new.self moves (c.loop-number.invariant.4 (omega (arith, none, same, c.loop-number.invariant.0)))
     (c.skip.ensures ∙ ap (λ (z : Desk). further z.place moves) c.loop-number.invariant.3) (omega (arith, none, same))
+
+pub returns-clause-waits : goal.returns-clause-waits
+returns-clause-waits g c stops given may =
+    elim c.match-product_step.branch [
+      | in-Some-Take+in_default-take w ↦ record {
+        number = w.in-Some-Take.number;
+        share = w.in-Some-Take.share;
+        is = takes_next c.args.plan.now given c.args.self.now c.loop-number.self may.goes (sym c.pattern.ensures ∙ c.in-Multiplied.is) c.done-from.result c.loop-number.at c.done-from.ensures c.loop-number.invariant.0 w.in-Some-Take.ensures.0 c.loop-number.invariant.3 (Take w.in-Some-Take.number w.in-Some-Take.share)
+            (sym w.in-Some-Take.field-0-is ∙ w.in-Some-Take.ensures.1);
+      }
+      | in_default-product_step w ↦ absurd (let clash : true ≡ false = sym c.loop-number.invariant.5 ∙ sym w.all-is ∙ stops in cc)
+      | in_default-product_step-2 w ↦ absurd (let clash : true ≡ false = sym c.loop-number.invariant.5 ∙ sym w.all-is ∙ stops in cc)
+    ]
+
+pub returns-clause-done : goal.returns-clause-done
+returns-clause-done g c on =
+    let same = ap (λ (z : Desk). z.position) c.loop-number.invariant.3 in
+    let done = ap (λ (z : Place). z.done) c.skip.ensures in
+    omega (arith, on, same, done)

@@ -1,4 +1,4 @@
-use Rattle.std.proofs.Common.{◌≡◌, ◌-◌, ◌≤◌}
+use Rattle.std.proofs.Common.{◌≡◌, ◌-◌, ◌≤◌, true}
 use Rattle.message_board.specs.Seats.{IsSeatOf}
 use Rattle.party_program.specs.States.{Given}
 use Rattle.party_desk.specs.Walks.{MayWalk, Walks}
@@ -13,6 +13,7 @@ invariant-loop-number g l =
     → Walks given l.fn.seat l.fn.self l.seat (taken_on l.self (l.at - l.from)))
     × (l.self ≡ record l.fn.self { memory = l.self.memory })
     × (l.at ≡ l.from → l.self ≡ l.fn.self)
+    × (l.all ≡ true)
 
 abbrev pub decreases-loop-number : goal.decreases-loop-number
 decreases-loop-number g l = l.fn.self.place.count - l.at

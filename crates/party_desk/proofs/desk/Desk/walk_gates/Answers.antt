@@ -1,5 +1,8 @@
-use Rattle.std.proofs.Common.{◌≡◌, ℕ, ◌+◌, ◌-◌, ◌<◌, ◌≤◌, Bool, true, false, if◌then◌else◌, refl, ◌∙◌, inl, inr, arith}
+use Rattle.std.proofs.Common.{◌≡◌, ℕ, ◌+◌, ◌-◌, ◌<◌, ◌≤◌, Bool, true, false, if◌then◌else◌, refl, ◌∙◌, sym, subst, inl, inr, arith}
 use Rattle.std.proofs.lemmas.Bool.{cases_Bool}
+use Rattle.party_program.specs.declared.program.Instruction.TheVariants.{Own}
+use Rattle.party_desk.specs.Walks.{NoneNext}
+use Rattle.party_desk.proofs.ComputedGates.{waits_through}
 use Rattle.party_desk.proofs.GateWalks.{computes_walk, few_done, walks_may, walks_on}
 use Rattle.party_desk.proofs.desk.Desk.walk_gates.Goals as goal
 
@@ -54,6 +57,17 @@ loop-goes-preserved-then-walk_product g c = (
             c.compute_next-goes.ensures.still stays
             ∙ c.walk_product.ensures.still (omega (arith, first, second, third, same)) ∙ c.loop-goes.invariant.2 (omega (arith, first, second, third, same))
       ]),
+  (λ stays given may.
+      let plan = c.args.plan.now in
+      let list = g.W.Promise.list c.args.board.now.about.world in
+      let so_far = c.loop-goes.invariant.1 given may in
+      let here = walks_may plan list given c.args.seat.now c.loop-goes.seat c.args.self.now c.loop-goes.self may so_far in
+      let after = walks_may plan list given c.loop-goes.seat c.walk_product.new.seat c.loop-goes.self c.walk_product.new.self here (c.walk_product.ensures.walks given here) in
+      let computed = c.compute_next-goes.ensures.rests stays given after.goes in (
+        subst (NoneNext Own given) (sym (c.compute_next-goes.ensures.still stays)) (c.walk_product.ensures.own given here),
+        computed.0,
+        computed.1,
+      )),
 )
 
 pub loop-goes-preserved : goal.loop-goes-preserved
@@ -76,4 +90,8 @@ loop-goes-preserved g c = (
       let first = so_far.forth in
       let second = walked.forth in
       c.walk_product.ensures.still (omega (arith, first, second, same)) ∙ c.loop-goes.invariant.2 (omega (arith, first, second, same))),
+  (λ stays given may.
+      let so_far = c.loop-goes.invariant.1 given may in
+      let here = walks_may c.args.plan.now (g.W.Promise.list c.args.board.now.about.world) given c.args.seat.now c.loop-goes.seat c.args.self.now c.loop-goes.self may so_far in
+      waits_through given c.walk_product.new.self (c.walk_product.ensures.waits c.if-walk_product.false given here)),
 )
