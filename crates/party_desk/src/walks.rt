@@ -60,7 +60,8 @@ impl Desk {
         ensures still { self.new.position ≡ self.old.position → self.new ≡ self.old }
         ensures own { (given : Given) → MayWalk plan.now (W.list board.now.about.world) given self.old
             → NoneNext Own given self.new }
-        ensures waits { result ≡ false → (given : Given) → MayWalk plan.now (W.list board.now.about.world) given self.old
+        ensures waits { result ≡ false
+            → (given : Given) → MayWalk plan.now (W.list board.now.about.world) given self.old
             → IsAtTake given self.new }
     {
         self.send(plan, board, seat);
@@ -165,7 +166,8 @@ impl Desk {
             → Walks given seat.old self.old seat.new self.new }
         ensures still { self.new.position ≡ self.old.position → self.new ≡ self.old }
         ensures done { self.old.position < self.new.position → 0 < self.new.place.done }
-        ensures waits { result ≡ false → (given : Given) → MayWalk plan.now (W.list board.now.about.world) given self.old
+        ensures waits { result ≡ false
+            → (given : Given) → MayWalk plan.now (W.list board.now.about.world) given self.old
             → IsAtTake given self.new }
     {
         let Pattern::Multiplied = self.place.pattern() else {
