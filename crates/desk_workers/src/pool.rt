@@ -46,8 +46,8 @@ fn look_in<P: Pace>(
         };
     };
     let mut desk = desk;
-    let over = desk.has_ended();
     let moves = walk(rack.board(), plan, pace, turn, seat, &mut desk);
+    let over = desk.has_ended();
     rack.put(seat, turn.desk, desk);
     Visit { moves, over }
 }
@@ -55,32 +55,38 @@ fn look_in<P: Pace>(
 // Slots that a worker goes round: so many from this one on.
 #[derive(Clone, Copy)]
 struct Slots {
-    first: u64,
+    first: u32,
     count: u32,
 }
 
 // The slots that a worker goes round first, where each of so many workers has a share as large.
 fn share_of(worker: u64, workers: usize, slots: u32) -> Slots
     requires { worker < 2 ^ 16 }
-    ensures first { result.first < 2 ^ 48 }
+    ensures first { 0 < slots → result.first < slots }
     ensures count { result.count ≤ slots }
 {
     let workers = u64::from(slots).min(workers as u64).max(1);
     let count = (u64::from(slots) + workers - 1) / workers;
     let count = count.min(u64::from(slots)) as u32;
     Slots {
-        first: worker * u64::from(count),
+        first: slot_at(worker * u64::from(count), slots),
         count,
     }
 }
 
-// The slot that comes so many others after this one, round all slots.
-fn slot_at(first: u64, others: u32, slots: u32) -> u32
-    requires first { first < 2 ^ 48 }
-    requires some { 0 < slots }
+// Where this number comes to, round all slots.
+fn slot_at(number: u64, slots: u32) -> u32
+    ensures { 0 < slots → result < slots }
+{
+    (number % u64::from(slots.max(1))) as u32
+}
+
+// The slot after this one, round all slots.
+fn slot_after(slot: u32, slots: u32) -> u32
+    requires { slot < slots }
     ensures { result < slots }
 {
-    ((first + u64::from(others)) % u64::from(slots)) as u32
+    if slot + 1 < slots { slot + 1 } else { 0 }
 }
 
 // Visits each of these slots once, in rising order and round.
@@ -93,20 +99,24 @@ fn pass<P: Pace>(
     seat: &mut BoardSeat<Promised, Box<Desk>>,
 ) -> Visit
     requires pool { IsPool plan.now rack.now }
-    requires first { visited.first < 2 ^ 48 }
+    requires first { 0 < visited.count → visited.first < slots_of rack.now.id }
     requires count { visited.count ≤ slots_of rack.now.id }
     requires seat { IsFreeSeatOf rack.now seat.old }
     ensures seat { IsFreeSeatOf rack.now seat.new }
     ensures seats { seat.new.view.seats ≡ seat.old.view.seats }
     ensures moves { result.moves < 2 ^ 40 }
 {
+    let slots = rack.slots();
+    let mut desk = visited.first;
+    let mut visits = 0;
     let mut moves = 0;
     let mut over = true;
-    for others in 0..visited.count {
-        let desk = slot_at(visited.first, others, rack.slots());
+    while visits < visited.count {
         let seen = look_in(rack, plan, pace, Turn { worker, desk }, seat);
         moves += seen.moves;
         over = over && seen.over;
+        desk = slot_after(desk, slots);
+        visits += 1;
     }
     Visit { moves, over }
 }
@@ -121,7 +131,7 @@ fn round<P: Pace>(
     seat: &mut BoardSeat<Promised, Box<Desk>>,
 ) -> Visit
     requires pool { IsPool plan.now rack.now }
-    requires first { share.first < 2 ^ 48 }
+    requires first { 0 < slots_of rack.now.id → share.first < slots_of rack.now.id }
     requires count { share.count ≤ slots_of rack.now.id }
     requires seat { IsFreeSeatOf rack.now seat.old }
     ensures seat { IsFreeSeatOf rack.now seat.new }

@@ -51,8 +51,9 @@ fn step_on(
     step_at(&mut cells, plan, desk)
 }
 
-// Steps the desk once, if it is not at its end, and answers whether it moved.
-#[inline(always)]
+// Steps the desk once, if it is not at its end, and answers whether it moved. It is out of line: a desk at gates seldom
+// comes to it, and its code would crowd theirs.
+#[inline(never)]
 fn goes_on(
     board: &Board<Promised, Box<Desk>>,
     plan: &Plan,

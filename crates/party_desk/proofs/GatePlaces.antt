@@ -27,7 +27,7 @@ use Rattle.party_program.proofs.GateSlots.{first_place, first_is, linear_at, lin
 use Rattle.program_laws.specs.WordsRead.{gate_at}
 use Rattle.party_desk.specs.declared.desk.Desk.{Desk}
 use Rattle.party_desk.specs.declared.memory.Memory.{Memory}
-use Rattle.party_desk.specs.Memories.{state_of, row_of, Alike, GateWithin, IsMemoryOf, KeepsGiven}
+use Rattle.party_desk.specs.Memories.{state_of, row_of, Alike, IsMemoryOf, KeepsGiven}
 use Rattle.party_desk.specs.Rows.{gate_on_rows}
 use Rattle.party_desk.specs.Desks.{Advanced, IsDesk, after_on_rows, instruction_at, posts_in, takes_in}
 use Rattle.party_desk.specs.Walks.{IsDeskOfPlan, IsBefore, NoPosts, Computes, at_place}
@@ -312,17 +312,6 @@ module _ (plan : Plan) (l : Given) (d : Desk) (inputs t : ℕ) (part : Session) 
   pub pattern_here : (product : Bool) → is_product g.operation ≡ product → pattern_at l.plan l.session (inputs + t) ≡ (if product then Multiplied else Silent)
   pattern_here product e = ap (pattern_at l.plan l.session) slot_is ∙ gate_pattern l.plan l.session t among_gates product (ap (λ (z : Gate). is_product z.operation) gate_here ∙ e)
 
-  -- its wires are wires of the session
-  gates_within : GateWithin plan d.session g
-  gates_within =
-      let wired = (before.own_program.sound.sessions l.session before.own_program.session_there).wired in
-      let same : session l.plan l.session ≡ session plan d.session = sym own_part ∙ own in
-      record {
-        first = subst (λ (z : Session). g.first < z.wires) same (subst (λ (z : Gate). z.first < (session l.plan l.session).wires) gate_here (wired.first t among_gates));
-        second = subst (λ (z : Session). g.second < z.wires) same (subst (λ (z : Gate). z.second < (session l.plan l.session).wires) gate_here (wired.second t among_gates));
-        output = subst (λ (z : Session). g.output < z.wires) same (subst (λ (z : Gate). z.output < (session l.plan l.session).wires) gate_here (wired.output t among_gates));
-      }
-
   module _ (linear : is_product g.operation ≡ false) where
     pub gates_few : d.position < 4294967295
     gates_few = few_before plan l d (inputs + t) before among_slots (pattern_here false linear) before_end
@@ -345,18 +334,21 @@ module _ (plan : Plan) (l : Given) (d : Desk) (inputs t : ℕ) (part : Session) 
         (subst (λ z. Alike (length plan.groups) (state_of (length plan.groups) m) (computed (2 ^ plan.bits) (gate_on_rows (row_of d.memory) z) (state_of (length plan.groups) d.memory))) (sym its_gate) state))
 
 -- a gate that was found among those from the one of this slot on
-module _ (plan : Plan) (l : Given) (d e : Desk) (slot inputs i : ℕ) (part : Session) (gates : List Gate) (start : IsBefore plan l slot d) (own : part ≡ session plan d.session) (count : inputs ≡ length (owners part)) (are : gates ≡ part.gates)
-    (same : e.session ≡ d.session) (before : IsBefore plan l (slot + i) e) (less : i < length (take (length gates - (slot - inputs)) (drop (slot - inputs) gates))) where
+module _ (plan : Plan) (l : Given) (d : Desk) (slot inputs i : ℕ) (part : Session) (gates : List Gate) (start : IsBefore plan l slot d) (own : part ≡ session plan d.session) (count : inputs ≡ length (owners part)) (are : gates ≡ part.gates)
+    (less : i < length (take (length gates - (slot - inputs)) (drop (slot - inputs) gates))) where
   abbrev t : ℕ
   t = slot - inputs + i
 
   abbrev found : Gate
   found = slice_index_or (take (length gates - (slot - inputs)) (drop (slot - inputs) gates)) i no_gate
 
+  own_found : part ≡ session l.plan l.session
+  own_found = own ∙ ap (λ z. session z d.session) (sym start.same) ∙ ap (session l.plan) start.session
+
   begun : inputs ≤ slot
   begun =
       let first = start.from in
-      let its = count ∙ ap (λ z. length (owners z)) (own ∙ ap (λ z. session z d.session) (sym start.same) ∙ ap (session l.plan) start.session) in
+      let its = count ∙ ap (λ z. length (owners z)) own_found in
       omega (arith, first, its)
 
   far : inputs + t ≡ slot + i
@@ -374,33 +366,32 @@ module _ (plan : Plan) (l : Given) (d e : Desk) (slot inputs i : ℕ) (part : Se
   found_is : found ≡ gate part t
   found_is = get_or-take (length gates - (slot - inputs)) (drop (slot - inputs) gates) i no_gate short ∙ get_or-drop (slot - inputs) gates i no_gate ∙ ap (λ xs. slice_index_or xs t no_gate) are
 
-  own_now : part ≡ session plan e.session
-  own_now = own ∙ ap (session plan) (sym same)
+  -- a desk of the same session that has done all before its slot
+  module _ (e : Desk) (same : e.session ≡ d.session) (before : IsBefore plan l (slot + i) e) where
+    own_now : part ≡ session plan e.session
+    own_now = own ∙ ap (session plan) (sym same)
 
-  at_t : IsBefore plan l (inputs + t) e
-  at_t = subst (λ k. IsBefore plan l k e) (sym far) before
+    at_t : IsBefore plan l (inputs + t) e
+    at_t = subst (λ k. IsBefore plan l k e) (sym far) before
 
-  pub later_within : GateWithin plan e.session found
-  later_within = gates_within plan l e inputs t part found at_t own_now count lt found_is
+    pub later_pattern : (product : Bool) → is_product found.operation ≡ product → pattern_at l.plan l.session (slot + i) ≡ (if product then Multiplied else Silent)
+    later_pattern product is = ap (pattern_at l.plan l.session) (sym far) ∙ pattern_here plan l e inputs t part found at_t own_now count lt found_is product is
 
-  pub later_pattern : (product : Bool) → is_product found.operation ≡ product → pattern_at l.plan l.session (slot + i) ≡ (if product then Multiplied else Silent)
-  later_pattern product is = ap (pattern_at l.plan l.session) (sym far) ∙ pattern_here plan l e inputs t part found at_t own_now count lt found_is product is
+    module _ (linear : is_product found.operation ≡ false) where
+      pub later_few : e.position < 4294967295
+      later_few = gates_few plan l e inputs t part found at_t own_now count lt found_is linear
 
-  module _ (linear : is_product found.operation ≡ false) where
-    pub later_few : e.position < 4294967295
-    later_few = gates_few plan l e inputs t part found at_t own_now count lt found_is linear
+      pub later_silent : NoPosts l e.position (e.position + 1)
+      later_silent = gates_silent plan l e inputs t part found at_t own_now count lt found_is linear
 
-    pub later_silent : NoPosts l e.position (e.position + 1)
-    later_silent = gates_silent plan l e inputs t part found at_t own_now count lt found_is linear
-
-    pub later_go : (m : Memory) → IsMemoryOf plan e.session m → KeepsGiven e.memory m
-        → Alike (length plan.groups) (state_of (length plan.groups) m) (computed (2 ^ plan.bits) (gate_on_rows (row_of e.memory) found) (state_of (length plan.groups) e.memory))
-        → IsBefore plan l (slot + (i + 1)) (record e { position = e.position + 1; memory = m })
-    later_go m fits kept state =
-        let first = begun in
-        let next : inputs + (t + 1) ≡ slot + (i + 1) = omega (arith, first) in
-        subst (λ k. IsBefore plan l k (record e { position = e.position + 1; memory = m })) next
-        (gates_go plan l e inputs t part found at_t own_now count lt found_is linear m fits kept state)
+      pub later_go : (m : Memory) → IsMemoryOf plan e.session m → KeepsGiven e.memory m
+          → Alike (length plan.groups) (state_of (length plan.groups) m) (computed (2 ^ plan.bits) (gate_on_rows (row_of e.memory) found) (state_of (length plan.groups) e.memory))
+          → IsBefore plan l (slot + (i + 1)) (record e { position = e.position + 1; memory = m })
+      later_go m fits kept state =
+          let first = begun in
+          let next : inputs + (t + 1) ≡ slot + (i + 1) = omega (arith, first) in
+          subst (λ k. IsBefore plan l k (record e { position = e.position + 1; memory = m })) next
+          (gates_go plan l e inputs t part found at_t own_now count lt found_is linear m fits kept state)
 
 -- ---- the place is brought up
 

@@ -20,23 +20,15 @@ use Rattle.party_desk.specs.declared.desk.Desk.{Desk}
 use Rattle.party_desk.specs.declared.memory.Memory.{Memory}
 use Rattle.party_desk.specs.Memories.{state_of, row_of, Alike, IsMemoryOf, KeepsGiven}
 use Rattle.party_desk.specs.Rows.{slot_on_rows}
-use Rattle.party_desk.specs.Desks.{Advanced, IsDesk, Stands, instruction_at, word_in_memory}
+use Rattle.party_desk.specs.Desks.{Advanced, IsDesk, instruction_at, word_in_memory}
 use Rattle.party_desk.specs.Steps.{word_at}
-use Rattle.party_desk.specs.Walks.{IsDeskOfPlan, Walks}
-use Rattle.party_desk.proofs.AllowedSteps.{posts_right, stands, stays}
-use Rattle.party_desk.proofs.GateWalks.{goes_stand, rest_walks, stands_with}
-
--- the place so many steps on in its slot
-abbrev pub further : Place → ℕ → Place
-further place steps = record place { done = place.done + steps }
+use Rattle.party_desk.specs.Walks.{IsDeskOfPlan, Walks, further, taken_on}
+use Rattle.party_desk.proofs.AllowedSteps.{posts_right, stays}
+use Rattle.party_desk.proofs.GateWalks.{rest_walks}
 
 -- the desk after so many posts in its slot
 abbrev pub posted_on : Desk → ℕ → Desk
 posted_on d posts = record d { place = further d.place posts; position = d.position + posts; sent = d.sent + posts }
-
--- the desk after so many takes in its slot
-abbrev pub taken_on : Desk → ℕ → Desk
-taken_on d takes = record d { place = further d.place takes; position = d.position + takes; taken = d.taken + takes }
 
 none_posted : (d : Desk) → d ≡ posted_on d 0
 none_posted d i =
@@ -45,31 +37,15 @@ none_posted d i =
     let sent : d.sent ≡ d.sent + 0 = omega arith in
     record d { place = record d.place { done = done i }; position = position i; sent = sent i }
 
-none_taken : (d : Desk) → d ≡ taken_on d 0
-none_taken d i =
-    let done : d.place.done ≡ d.place.done + 0 = omega arith in
-    let position : d.position ≡ d.position + 0 = omega arith in
-    let taken : d.taken ≡ d.taken + 0 = omega arith in
-    record d { place = record d.place { done = done i }; position = position i; taken = taken i }
-
 -- no step leaves the desk as it is
 pub still_posting : (d : Desk) (place : Place) (posts : ℕ) → place ≡ further d.place posts → posts ≡ 0 → record d { place = place; position = d.position + posts; sent = d.sent + posts } ≡ d
 still_posting d place posts is none =
     ap (λ z. record d { place = z; position = d.position + posts; sent = d.sent + posts }) is
     ∙ ap (posted_on d) none ∙ sym (none_posted d)
 
-pub still_taking : (d e : Desk) (place : Place) (takes : ℕ) → e ≡ d → place ≡ further d.place takes → takes ≡ 0 → record e { place = place; position = e.position + takes; taken = e.taken + takes } ≡ d
-still_taking d e place takes same is none =
-    ap (λ (z : Desk). record z { place = place; position = z.position + takes; taken = z.taken + takes }) same
-    ∙ ap (λ z. record d { place = z; position = d.position + takes; taken = d.taken + takes }) is
-    ∙ ap (taken_on d) none ∙ sym (none_taken d)
-
 module _ {W : Type 0} (l : Given) (s : Sitting W) (d : Desk) (h : IsDesk l d) where
   pub posts_start : Walks l s d s (posted_on d 0)
   posts_start = subst (Walks l s d s) (none_posted d) (rest_walks l s d h)
-
-  pub takes_start : Walks l s d s (taken_on d 0)
-  takes_start = subst (Walks l s d s) (none_taken d) (rest_walks l s d h)
 
 -- a place with a step of its slot after it
 module _ (plan : Plan) (p s : ℕ) (place : Place) (q : ℕ) (is : IsPlace plan p s place q) where
@@ -163,14 +139,6 @@ module _ (plan : Plan) (l : Given) (d e : Desk) (goes : IsDeskOfPlan plan l d) (
   pub takes_more : i ≢ Sum d.place.slot → e.place.done + (at' - begun) + 1 < e.place.count
   takes_more other =
       subst (λ (z : Desk). z.place.done + (at' - begun) + 1 < z.place.count) (sym same) (product_more plan l d goes product begun at' is_begun from left i found_before other)
-
--- a desk that has taken so many words stands in its plan where it stood before, with the memory that it has now
-pub takes_stand : (plan : Plan) (l : Given) (d e : Desk) (moves : ℕ) → IsDeskOfPlan plan l d → IsDesk l (taken_on e moves) → e ≡ record d { memory = e.memory } → Stands plan e
-takes_stand plan l d e moves goes desk same =
-    let fits : IsMemoryOf plan d.session e.memory =
-    subst (λ z. IsMemoryOf plan z e.memory) (ap (λ (z : Desk). z.session) same)
-    (subst (λ (z : Plan). IsMemoryOf z e.session e.memory) goes.same (stands l (taken_on e moves) desk).fits) in
-    subst (Stands plan) (sym same) (stands_with plan d e.memory (goes_stand plan l d goes) fits)
 
 -- a promised word that was taken is the one that is given
 pub took_given : (w got : ℕ) (found : Option ℕ) → found ≡ Some w → found ≡ Some got → w ≡ got

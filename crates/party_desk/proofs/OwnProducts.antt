@@ -17,10 +17,10 @@ use Rattle.party_desk.specs.declared.memory.Memory.{Memory}
 use Rattle.party_desk.specs.Memories.{state_of, row_of, Alike, CanDeal, Drew, IsMemoryOf, KeepsGiven}
 use Rattle.party_desk.specs.Rows.{gate_on_rows, slot_on_rows}
 use Rattle.party_desk.specs.Desks.{Advanced, IsDesk, instruction_at}
-use Rattle.party_desk.specs.Walks.{Computes, IsDeskOfPlan}
+use Rattle.party_desk.specs.Walks.{Computes, IsDeskOfPlan, further}
 use Rattle.party_desk.proofs.GateWalks.{computes_on, goes_deals, goes_proper, one_computes}
 use Rattle.party_desk.proofs.GatePlaces.{advances_at}
-use Rattle.party_desk.proofs.GatePosts.{further, next_place}
+use Rattle.party_desk.proofs.GatePosts.{next_place}
 
 -- the desk so many steps on in its slot, with this memory
 abbrev pub stepped_on : Desk → ℕ → Memory → Desk
@@ -34,7 +34,7 @@ module _ (l : Given) (d : Desk) (h : IsDesk l d) (in_product : InProduct d.place
   abbrev next_deal : ℕ
   next_deal = deals_before l.plan l.party l.session k
 
-  two : 2 < d.place.count
+  pub two : 2 < d.place.count
   two = product_two l.plan l.party l.session h.own_program.session_there d.place in_product d.position h.place starts has
 
   pub own_is_next : instruction_at l d ≡ Own k
@@ -105,6 +105,10 @@ DealsIn plan d k m n =
 module _ (plan : Plan) (l : Given) (d : Desk) (goes : IsDeskOfPlan plan l d) (in_product : InProduct d.place) (starts : d.place.done ≡ 0) (has : has_pair (scheme plan) d.party ≡ true) where
   has_here : has_pair (scheme l.plan) l.party ≡ true
   has_here = subst (λ z. has_pair (scheme z) l.party ≡ true) (sym goes.same) (subst (λ z. has_pair (scheme plan) z ≡ true) goes.desk.party has)
+
+  -- after its deal more is left to do
+  pub own_left : InProduct (further d.place 2)
+  own_left = (in_product.0, (let all = two l d goes.desk in_product starts has_here in omega (arith, starts, all)))
 
   -- its slot is of a gate
   pub own_slot : IsSlot plan d.session d.place.slot IsGate

@@ -6,11 +6,13 @@ use Rattle.message_board.specs.Pairs.{Knows, Grows}
 use Rattle.message_board.specs.Seats.{Sitting, AllBelow}
 use Rattle.party_program.specs.declared.place.Place.{Place}
 use Rattle.party_program.specs.declared.program.Instruction.{Instruction}
+use Rattle.party_program.specs.declared.program.Program.{Program}
 use Rattle.party_program.specs.declared.program.Instruction.TheVariants.{Linear, Own, Post, Sum, Take}
 use Rattle.party_program.specs.Programs.{program, at}
 use Rattle.party_program.specs.ProgramPlaces.{instructions_before, IsPlace, IsProgram}
 use Rattle.party_program.specs.States.{Given}
 use Rattle.party_desk.specs.declared.desk.Desk.{Desk}
+use Rattle.party_desk.specs.declared.memory.Memory.{Memory}
 use Rattle.party_desk.specs.Memories.{IsMemoryOf}
 use Rattle.party_desk.specs.Desks.{IsDesk, instruction_at}
 use Rattle.party_desk.specs.Steps.{word_at}
@@ -74,9 +76,41 @@ pub record Walks {W : Type 0} (given : Given) (seat : Sitting W) (d : Desk) (sea
   pub seats : seat'.view.seats ≡ seat.view.seats
   pub out : seat'.view.out ≡ seat.view.out
 
+-- the place so many steps on in its slot
+abbrev pub further : Place → ℕ → Place
+further place steps = record place { done = place.done + steps }
+
+-- the desk after so many takes in its slot
+abbrev pub taken_on : Desk → ℕ → Desk
+taken_on d takes = record d { place = further d.place takes; position = d.position + takes; taken = d.taken + takes }
+
+-- the desk with these parts
+abbrev pub with_parts : Desk → Program → Place → ℕ → Memory → Desk
+with_parts d program place session memory =
+    record d { program = program; place = place; session = session; memory = memory }
+
 -- the desk with another place
 abbrev pub at_place : Desk → Place → Desk
 at_place d place = record d { place = place }
+
+-- what is said of takes by the parts of a desk: it holds of each desk that has them and may walk
+module _ (plan : Plan) (list : List ℕ) (program : Program) (place : Place) (session : ℕ) where
+  -- there is such a desk, with this memory
+  abbrev pub MayTake : Memory → Type 0
+  MayTake memory = (given : Given) × (d : Desk) × MayWalk plan list given (with_parts d program place session memory)
+
+  -- so many takes lead from one seat and memory to the others
+  abbrev pub TakesLead : {W : Type 0} → Sitting W → Memory → Sitting W → Memory → ℕ → Type 0
+  TakesLead seat memory seat' memory' takes =
+      (given : Given) (d : Desk) → MayWalk plan list given (with_parts d program place session memory)
+      → Walks given seat (with_parts d program place session memory) seat'
+      (taken_on (with_parts d program place session memory') takes)
+
+  -- after so many takes another one comes next
+  abbrev pub WaitsAfter : Memory → Memory → ℕ → Type 0
+  WaitsAfter memory memory' takes =
+      (given : Given) (d : Desk) → MayWalk plan list given (with_parts d program place session memory)
+      → IsAtTake given (taken_on (with_parts d program place session memory') takes)
 
 -- the desk has done all instructions before slot k, which is of a gate or the first after those, and only its place is
 -- one of before

@@ -1,16 +1,71 @@
 //! Instructions of a desk at gates, one after another, on a board that threads share. Each kind has a loop of its own,
 //! in which little but words and summands is looked up.
-use crate::desk::Desk;
+ghost use Rattle.std.specs.Prelude.{◌≡◌, ◌-◌, ◌≤◌, true};
+ghost use Rattle.message_board.specs.Seats.{IsSeatOf};
+ghost use Rattle.party_program.specs.ProgramPlaces.{InProduct};
+ghost use Rattle.party_desk.specs.Walks.{MayTake, TakesLead, WaitsAfter};
+
+use crate::desk::{Desk, product_in};
+use crate::memory::Memory;
 use job_plan::{Pattern, Plan, SessionPart};
 use message_board::{Board, BoardSeat, Promise, SlotItem};
 use mpc_ring::Ring;
-use party_program::Instruction;
+use party_program::{Instruction, Place, Program};
+
+// The step of its slot that comes after the words that were taken, and whether it is a take, which waits.
+#[derive(Clone, Copy)]
+struct Takes {
+    next: u32,
+    waits: bool,
+}
+
+// The takes that come next in the slot of a product, in which the place stands, until a cell is empty.
+#[inline(always)]
+fn take_words<W: Promise, T: SlotItem<W>>(
+    plan: &Plan,
+    board: &Board<W, T>,
+    seat: &mut BoardSeat<W, T>,
+    program: &Program,
+    place: &Place,
+    session: u32,
+    memory: &mut Memory,
+) -> Takes
+    requires may { MayTake plan.now (W.list board.now.about.world) program.now place.now session memory.old }
+    requires product { InProduct place.now }
+    requires seat { IsSeatOf board.now seat.old }
+    ensures seat { IsSeatOf board.now seat.new }
+    ensures forth { place.now.done ≤ result.next }
+    ensures walks { TakesLead plan.now (W.list board.now.about.world) program.now place.now session
+        seat.old memory.old seat.new memory.new (result.next - place.now.done) }
+    ensures still { result.next ≡ place.now.done → memory.new ≡ memory.old }
+    ensures waits { result.waits ≡ true → WaitsAfter plan.now (W.list board.now.about.world) program.now place.now
+        session memory.old memory.new (result.next - place.now.done) }
+{
+    let of_product = program.product_steps();
+    let mut next = place.done();
+    while let Instruction::Take { number, share } = program.product_step(
+        plan, place, of_product, next,
+    ) {
+        let Some(word) = board.take(seat, number) else {
+            break;
+        };
+        let kind = product_in(plan, session, place.slot());
+        memory.take(plan, session, kind, share, word);
+        next += 1;
+    }
+    let waits = matches!(
+        program.product_step(plan, place, of_product, next),
+        Instruction::Take { .. }
+    );
+    Takes { next, waits }
+}
 
 impl Desk {
     ghost use Rattle.std.specs.Prelude.{◌≡◌, ◌+◌, ◌<◌, ◌≤◌, true, false, length};
     ghost use Rattle.message_board.specs.Seats.{IsSeatOf};
     ghost use Rattle.party_program.specs.declared.program.Instruction.TheVariants.{Linear, Own, Sum};
-    ghost use Rattle.job_plan.specs.declared.pattern.Pattern.TheVariants.{Silent, Multiplied};
+    ghost use Rattle.job_plan.specs.declared.pattern.Pattern.TheVariants.{Silent};
+    ghost use Rattle.party_program.specs.ProgramPlaces.{InProduct};
     ghost use Rattle.job_plan.specs.Plans.{session};
     ghost use Rattle.party_program.specs.States.{Given};
     ghost use Rattle.party_desk.specs.Desks.{instruction_at};
@@ -97,7 +152,7 @@ impl Desk {
         ensures computes { (given : Given) → IsDeskOfPlan plan.now given self.old → Computes given self.old self.new }
         ensures on { result ≡ true → self.old.position < self.new.position }
         ensures still { result ≡ false → self.new ≡ self.old }
-        ensures product { result ≡ true → self.new.place.pattern ≡ Multiplied }
+        ensures product { result ≡ true → InProduct self.new.place }
         ensures done { result ≡ true → 0 < self.new.place.done }
         ensures own { result ≡ false → (given : Given) → IsDeskOfPlan plan.now given self.old
             → NoneNext Own given self.new }
@@ -127,7 +182,7 @@ impl Desk {
     )
         requires may { (given : Given) × MayWalk plan.now (W.list board.now.about.world) given self.old }
         requires seat { IsSeatOf board.now seat.old }
-        requires product { self.old.place.pattern ≡ Multiplied }
+        requires product { InProduct self.old.place }
         ensures seat { IsSeatOf board.now seat.new }
         ensures walks { (given : Given) → MayWalk plan.now (W.list board.now.about.world) given self.old
             → Walks given seat.old self.old seat.new self.new }
@@ -135,13 +190,15 @@ impl Desk {
         ensures done { self.old.place.done ≤ self.new.place.done }
     {
         let place = self.place;
+        let of_product = self.program.product_steps();
+        let sums = self.memory.sums.as_slice();
         let from = place.done();
         let mut at = from;
-        while let Some(Instruction::Post { number, share }) = self
+        while let Instruction::Post { number, share } = self
             .program
-            .product_step(plan, &place, at)
+            .product_step(plan, &place, of_product, at)
         {
-            let word = self.word(plan, self.product(plan), number, share);
+            let word = self.product_word(plan, sums, number, share);
             let _ = board.post(seat, number, word);
             at += 1;
         }
@@ -173,27 +230,24 @@ impl Desk {
         let Pattern::Multiplied = self.place.pattern() else {
             return true;
         };
-        let place = self.place;
-        let from = place.done();
-        let mut at = from;
-        let mut all = true;
-        while let Some(Instruction::Take { number, share }) = self
-            .program
-            .product_step(plan, &place, at)
-        {
-            let Some(word) = board.take(seat, number) else {
-                all = false;
-                break;
-            };
-            let kind = self.product(plan);
-            self.memory.take(plan, self.session, kind, share, word);
-            at += 1;
+        if self.place.is_past() {
+            return true;
         }
-        let moves = at - from;
+        let place = self.place;
+        let takes = take_words(
+            plan,
+            board,
+            seat,
+            &self.program,
+            &place,
+            self.session,
+            &mut self.memory,
+        );
+        let moves = takes.next - place.done();
         self.place.skip(moves);
         self.position += moves;
         self.taken += moves;
-        all
+        !takes.waits
     }
 
     // The sum of a product or a linear gate, if one comes next, and the linear gates after it.
@@ -322,18 +376,16 @@ impl Desk {
         ensures { (given : Given) → IsBefore plan.now given slot self.old → Computes given self.old self.new }
     {
         let first = slot - part.input_wires() as u32;
-        let mut computed = 0;
-        for gate in &part.gates()[first as usize..] {
-            if gate.operation.is_product() {
-                self.position += computed;
-                self.program
-                    .enter_product(plan, &mut self.place, slot + computed);
-                return;
-            }
-            self.memory.linear(plan, self.session, ring, shares, *gate);
-            computed += 1;
+        let gates = &part.gates()[first as usize..];
+        let computed = self
+            .memory
+            .linear_gates(plan, self.session, ring, shares, gates);
+        let next = slot + computed as u32;
+        self.position += computed as u32;
+        if computed < gates.len() {
+            self.program.enter_product(plan, &mut self.place, next);
+        } else {
+            self.program.enter(plan, &mut self.place, next);
         }
-        self.position += computed;
-        self.program.enter(plan, &mut self.place, slot + computed);
     }
 }

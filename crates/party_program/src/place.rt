@@ -1,5 +1,5 @@
 //! Places in a program.
-ghost use Rattle.std.specs.Prelude.{◌≡◌, ℕ, ◌+◌, ◌<◌, ◌==◌, ◌&&◌, ◌≤◌, nat_lt, length};
+ghost use Rattle.std.specs.Prelude.{◌≡◌, ℕ, ◌+◌, ◌<◌, ◌==◌, ◌&&◌, ◌≤◌, nat_lt, not, length};
 ghost use Rattle.job_plan.specs.Plans as plans;
 ghost use Rattle.party_program.specs.Programs.{program};
 ghost use Rattle.party_program.specs.ProgramPlaces.{IsPlace};
@@ -29,7 +29,8 @@ impl Place {
 
     /// Whether no instruction is left.
     pub fn is_past(&self) -> bool
-        ensures { (plan : plans.Plan) (p s q : ℕ) → IsPlace plan p s self.now q → q ≤ length (program plan p s)
+        ensures done { result ≡ not (nat_lt self.now.done self.now.count) }
+        ensures ends { (plan : plans.Plan) (p s q : ℕ) → IsPlace plan p s self.now q → q ≤ length (program plan p s)
             → result ≡ (q == length (program plan p s)) }
     {
         self.done >= self.count

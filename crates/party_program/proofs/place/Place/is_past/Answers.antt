@@ -35,8 +35,8 @@ module _ (plan : Plan) (p s : ℕ) (place : Place) (q : ℕ) (here : IsPlace pla
         omega arith
   ]
 
-pub returns : goal.returns
-returns c = λ plan p s q here short.
+pub returns-clause-ends : goal.returns-clause-ends
+returns-clause-ends c = λ plan p s q here short.
     let place = c.args.self.now in
     elim (cases_lt place.done place.count) [
       | inl left ↦

@@ -53,13 +53,13 @@ module _ (plan : Plan) (own : Program) (place : Place) (is : IsProgram plan own.
 pub bounds-of_product-at : goal.bounds-of_product-at
 bounds-of_product-at c =
     let own = c.args.self.now in
-    found_within c.args.plan.now own c.args.place.now c.requires.is c.requires.place.0 c.args.at c.requires.place.1 (omega (arith, c.if-at-place.false)) c.requires.product c.of_product.result.now
-    (c.of_product.ensures c.args.plan.now own.party own.session c.requires.is.table)
+    found_within c.args.plan.now own c.args.place.now c.requires.is c.requires.place.0 c.args.at c.requires.place.1 c.requires.left c.requires.product c.args.of_product.now
+    c.requires.steps
 
 pub placed-requires-clause-slot : goal.placed-requires-clause-slot
 placed-requires-clause-slot c =
     let own = c.args.self.now in
-    counts_within c.args.plan.now own.party own.session c.args.place.now c.args.at c.requires.place.0 c.requires.place.1 (omega (arith, c.if-at-place.false))
+    counts_within c.args.plan.now own.party own.session c.args.place.now c.args.at c.requires.place.0 c.requires.place.1 c.requires.left
 
 pub placed-requires-clause-first : goal.placed-requires-clause-first
 placed-requires-clause-first c = c.requires.place.1.first
@@ -67,14 +67,12 @@ placed-requires-clause-first c = c.requires.place.1.first
 pub placed-requires-clause-fits : goal.placed-requires-clause-fits
 placed-requires-clause-fits c =
     let own = c.args.self.now in
-    fits c.args.plan.now own c.args.place.now c.requires.is c.requires.place.0 c.args.at c.requires.place.1 (omega (arith, c.if-at-place.false)) c.requires.product c.of_product.result.now
-    (c.of_product.ensures c.args.plan.now own.party own.session c.requires.is.table)
+    fits c.args.plan.now own c.args.place.now c.requires.is c.requires.place.0 c.args.at c.requires.place.1 c.requires.left c.requires.product c.args.of_product.now
+    c.requires.steps
 
 pub returns : goal.returns
 returns c =
-    let own = c.args.self.now in (
-      omega (arith, c.if-at-place.false),
-      c.placed.ensures
-          ∙ instruction c.args.plan.now own c.args.place.now c.requires.is c.requires.place.0 c.args.at c.requires.place.1 (omega (arith, c.if-at-place.false)) c.requires.product c.of_product.result.now
-          (c.of_product.ensures c.args.plan.now own.party own.session c.requires.is.table),
-    )
+    let own = c.args.self.now in
+    c.placed.ensures
+    ∙ instruction c.args.plan.now own c.args.place.now c.requires.is c.requires.place.0 c.args.at c.requires.place.1 c.requires.left c.requires.product c.args.of_product.now
+    c.requires.steps
