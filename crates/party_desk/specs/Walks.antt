@@ -1,6 +1,7 @@
 -- Instructions of a desk at gates, one after another, on a board.
 use Rattle.std.specs.Prelude.{◌≡◌, ◌≢◌, ℕ, ◌+◌, ◌<◌, ◌≤◌, List, length, slice_get, Some}
 use Rattle.job_session.specs.Sessions.{owners}
+use Rattle.job_plan.specs.declared.pattern.Pattern.TheVariants.{Multiplied}
 use Rattle.job_plan.specs.Plans.{Plan, session}
 use Rattle.message_board.specs.Pairs.{Knows, Grows}
 use Rattle.message_board.specs.Seats.{Sitting, AllBelow}
@@ -48,6 +49,11 @@ pub record IsAtTake (given : Given) (d : Desk) : Type 0 where
   pub number : ℕ
   pub share : ℕ
   pub is : instruction_at given d ≡ Take number share
+
+-- where a take of a product comes next, the seat does not know its word
+abbrev pub HasLooked : {W : Type 0} → Given → Sitting W → Desk → Type 0
+HasLooked given seat d =
+    d.place.pattern ≡ Multiplied → (n i w : ℕ) → instruction_at given d ≡ Take n i → Knows seat.view.seen n w → ⊥
 
 -- no instruction from position q up to position r is a post
 abbrev pub NoPosts : Given → ℕ → ℕ → Type 0
@@ -105,6 +111,12 @@ module _ (plan : Plan) (list : List ℕ) (program : Program) (place : Place) (se
       (given : Given) (d : Desk) → MayWalk plan list given (with_parts d program place session memory)
       → Walks given seat (with_parts d program place session memory) seat'
       (taken_on (with_parts d program place session memory') takes)
+
+  -- and after them no take comes next whose word the seat knows
+  abbrev pub LooksAfter : {W : Type 0} → Memory → Sitting W → Memory → ℕ → Type 0
+  LooksAfter memory seat' memory' takes =
+      (given : Given) (d : Desk) → MayWalk plan list given (with_parts d program place session memory)
+      → HasLooked given seat' (taken_on (with_parts d program place session memory') takes)
 
   -- after so many takes another one comes next
   abbrev pub WaitsAfter : Memory → Memory → ℕ → Type 0

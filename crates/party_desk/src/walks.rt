@@ -3,7 +3,7 @@
 ghost use Rattle.std.specs.Prelude.{◌≡◌, ◌-◌, ◌≤◌, true};
 ghost use Rattle.message_board.specs.Seats.{IsSeatOf};
 ghost use Rattle.party_program.specs.ProgramPlaces.{InProduct};
-ghost use Rattle.party_desk.specs.Walks.{MayTake, TakesLead, WaitsAfter};
+ghost use Rattle.party_desk.specs.Walks.{MayTake, TakesLead, LooksAfter, WaitsAfter};
 
 use crate::desk::{Desk, product_in};
 use crate::memory::Memory;
@@ -38,6 +38,8 @@ fn take_words<W: Promise, T: SlotItem<W>>(
     ensures walks { TakesLead plan.now (W.list board.now.about.world) program.now place.now session
         seat.old memory.old seat.new memory.new (result.next - place.now.done) }
     ensures still { result.next ≡ place.now.done → memory.new ≡ memory.old }
+    ensures looked { LooksAfter plan.now (W.list board.now.about.world) program.now place.now session
+        memory.old seat.new memory.new (result.next - place.now.done) }
     ensures waits { result.waits ≡ true → WaitsAfter plan.now (W.list board.now.about.world) program.now place.now
         session memory.old memory.new (result.next - place.now.done) }
 {
@@ -70,10 +72,11 @@ impl Desk {
     ghost use Rattle.party_program.specs.States.{Given};
     ghost use Rattle.party_desk.specs.Desks.{instruction_at};
     ghost use Rattle.party_desk.specs.Walks.{IsDeskOfPlan, MayWalk, Computes, Walks, IsBefore};
-    ghost use Rattle.party_desk.specs.Walks.{NoneNext, IsAtTake, NothingToCompute};
+    ghost use Rattle.party_desk.specs.Walks.{NoneNext, IsAtTake, HasLooked, NothingToCompute};
 
     /// Does the instructions that come next as long as they are of gates, until one waits for a message, and answers how
-    /// many they were. Afterwards no own product, no sum and no linear gate comes next.
+    /// many they were. Afterwards no own product, no sum and no linear gate comes next, nor a take of a product whose word
+    /// the seat knows.
     #[inline(always)]
     pub fn walk_gates<W: Promise, T: SlotItem<W>>(
         &mut self,
@@ -90,6 +93,8 @@ impl Desk {
         ensures still { result ≡ 0 → self.new ≡ self.old }
         ensures through { (given : Given) → MayWalk plan.now (W.list board.now.about.world) given self.old
             → NothingToCompute given self.new }
+        ensures looked { (given : Given) → MayWalk plan.now (W.list board.now.about.world) given self.old
+            → HasLooked given seat.new self.new }
     {
         let before = self.position;
         let mut goes = true;
@@ -115,6 +120,8 @@ impl Desk {
         ensures still { self.new.position ≡ self.old.position → self.new ≡ self.old }
         ensures own { (given : Given) → MayWalk plan.now (W.list board.now.about.world) given self.old
             → NoneNext Own given self.new }
+        ensures looked { (given : Given) → MayWalk plan.now (W.list board.now.about.world) given self.old
+            → HasLooked given seat.new self.new }
         ensures waits { result ≡ false
             → (given : Given) → MayWalk plan.now (W.list board.now.about.world) given self.old
             → IsAtTake given self.new }
@@ -223,6 +230,8 @@ impl Desk {
             → Walks given seat.old self.old seat.new self.new }
         ensures still { self.new.position ≡ self.old.position → self.new ≡ self.old }
         ensures done { self.old.position < self.new.position → 0 < self.new.place.done }
+        ensures looked { (given : Given) → MayWalk plan.now (W.list board.now.about.world) given self.old
+            → HasLooked given seat.new self.new }
         ensures waits { result ≡ false
             → (given : Given) → MayWalk plan.now (W.list board.now.about.world) given self.old
             → IsAtTake given self.new }

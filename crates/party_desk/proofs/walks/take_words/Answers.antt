@@ -2,6 +2,9 @@ use Rattle.std.proofs.Common.{◌≡◌, ℕ, ◌+◌, ◌-◌, ◌^◌, length,
 use Rattle.std.proofs.lemmas.Option.{slice_get_within}
 use Rattle.job_session.specs.SoundSessions.{slot_of_kind}
 use Rattle.job_plan.specs.Plans.{Plan, slot}
+use Rattle.message_board.specs.declared.steps.View.{View}
+use Rattle.message_board.specs.Pairs.{Knows}
+use Rattle.message_board.specs.Seats.{Sitting}
 use Rattle.party_program.specs.declared.program.Instruction.TheVariants.{Take}
 use Rattle.party_program.specs.States.{slot_of, took_in}
 use Rattle.party_desk.specs.declared.desk.Desk.{Desk}
@@ -122,4 +125,34 @@ returns-in_default-matches-clause-walks g c given some may =
           subst (λ z. Walks given c.args.seat.now first z e) (sym w.seat-is)
           (look_walks given c.args.seat.now c.loop-number.seat w.take.new.seat first e w.in-Take.number w.in_default-take.ensures.view so_far)
       | in_default w ↦ subst (λ z. Walks given c.args.seat.now first z e) (sym w.seat-is) so_far
+    ]
+
+pub returns-in-Take-matches-clause-looked : goal.returns-in-Take-matches-clause-looked
+returns-in-Take-matches-clause-looked g c given some may product n i w is known =
+    let first : Desk = with_parts some c.args.program.now c.args.place.now c.args.session c.args.memory.now in
+    let now : Desk = record first { memory = c.loop-number.memory } in
+    let next : c.product_step.result ≡ Take n i = sym (takes_next c.args.plan.now given first now may.goes c.requires.product.0 c.args.place.now.done c.loop-number.next refl c.loop-number.invariant.0 c.loop-number.invariant.1 refl c.product_step.result c.product_step.ensures) ∙ is in
+    elim c.match-product_step.branch [
+      | in-Take+in_default-take b ↦
+          let both : Take b.in-Take.number b.in-Take.share ≡ Take n i = sym b.in-Take.is ∙ next in
+          let number : n ≡ b.in-Take.number = cc in
+          let before : Knows c.loop-number.seat.view.seen n w =
+          subst (λ (v : View g.row.W.Denot). Knows v.seen n w) b.in_default-take.ensures.view (subst (λ (z : Sitting g.row.W.Denot). Knows z.view.seen n w) b.seat-is known) in
+          b.in_default-take.not-Some w (b.take.ensures.known w (subst (λ z. Knows c.loop-number.seat.view.seen z w) number before))
+      | in_default b ↦ b.in_default.not-Take n i next
+    ]
+
+pub returns-in_default-matches-clause-looked : goal.returns-in_default-matches-clause-looked
+returns-in_default-matches-clause-looked g c given some may product n i w is known =
+    let first : Desk = with_parts some c.args.program.now c.args.place.now c.args.session c.args.memory.now in
+    let now : Desk = record first { memory = c.loop-number.memory } in
+    let next : c.product_step.result ≡ Take n i = sym (takes_next c.args.plan.now given first now may.goes c.requires.product.0 c.args.place.now.done c.loop-number.next refl c.loop-number.invariant.0 c.loop-number.invariant.1 refl c.product_step.result c.product_step.ensures) ∙ is in
+    elim c.match-product_step.branch [
+      | in-Take+in_default-take b ↦
+          let both : Take b.in-Take.number b.in-Take.share ≡ Take n i = sym b.in-Take.is ∙ next in
+          let number : n ≡ b.in-Take.number = cc in
+          let before : Knows c.loop-number.seat.view.seen n w =
+          subst (λ (v : View g.row.W.Denot). Knows v.seen n w) b.in_default-take.ensures.view (subst (λ (z : Sitting g.row.W.Denot). Knows z.view.seen n w) b.seat-is known) in
+          b.in_default-take.not-Some w (b.take.ensures.known w (subst (λ z. Knows c.loop-number.seat.view.seen z w) number before))
+      | in_default b ↦ b.in_default.not-Take n i next
     ]

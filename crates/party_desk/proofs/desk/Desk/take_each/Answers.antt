@@ -1,4 +1,8 @@
-use Rattle.std.proofs.Common.{ℕ, ◌+◌, ◌-◌, sym, subst, arith}
+use Rattle.std.proofs.Common.{◌≡◌, ℕ, ◌+◌, ◌-◌, ◌≤◌, true, false, sym, ap, ◌∙◌, subst, inl, inr, arith}
+use Rattle.std.specs.Prelude.{not}
+use Rattle.std.proofs.lemmas.Bool.{cases_lt, lt-ltb}
+use Rattle.party_program.specs.declared.program.Instruction.TheVariants.{Take, End}
+use Rattle.party_program.proofs.ProgramPlaces.{ends_there}
 use Rattle.party_desk.specs.declared.desk.Desk.{Desk}
 use Rattle.party_desk.specs.Walks.{Walks, taken_on}
 use Rattle.party_desk.proofs.AllowedSteps.{stands}
@@ -24,3 +28,14 @@ returns-clause-walks g c given may =
     let moves : ℕ = takes.result.next - c.done.result in
     subst (λ z. Walks given c.args.seat.now c.args.self.now takes.new.seat (record d { place = z; position = d.position + moves; taken = d.taken + moves })) (sym c.skip.ensures)
     (subst (λ n. Walks given c.args.seat.now c.args.self.now takes.new.seat (taken_on d (takes.result.next - n))) (sym c.done.ensures) (takes.ensures.walks given c.args.self.now may))
+
+-- past all instructions no take comes next
+pub returns-then-is_past-clause-looked : goal.returns-then-is_past-clause-looked
+returns-then-is_past-clause-looked g c given may product n i w is known =
+    let d = c.args.self.now in
+    let past : d.place.count ≤ d.place.done = elim (cases_lt d.place.done d.place.count) [
+      | inl left ↦ absurd (let clash : true ≡ false = sym c.if-is_past.true ∙ c.is_past.ensures.done ∙ ap not (lt-ltb d.place.done d.place.count left) in cc)
+      | inr none ↦ none
+    ] in
+    let clash : Take n i ≡ End = sym is ∙ ends_there given.plan given.party given.session d.place d.position may.goes.desk.place past in
+    cc

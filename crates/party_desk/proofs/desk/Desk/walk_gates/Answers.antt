@@ -1,7 +1,7 @@
 use Rattle.std.proofs.Common.{◌≡◌, ℕ, ◌+◌, ◌-◌, ◌<◌, ◌≤◌, Bool, true, false, if◌then◌else◌, refl, ◌∙◌, sym, subst, inl, inr, arith}
 use Rattle.std.proofs.lemmas.Bool.{cases_Bool}
 use Rattle.party_program.specs.declared.program.Instruction.TheVariants.{Own}
-use Rattle.party_desk.specs.Walks.{NoneNext}
+use Rattle.party_desk.specs.Walks.{HasLooked, NoneNext}
 use Rattle.party_desk.proofs.ComputedGates.{waits_through}
 use Rattle.party_desk.proofs.GateWalks.{computes_walk, few_done, walks_may, walks_on}
 use Rattle.party_desk.proofs.desk.Desk.walk_gates.Goals as goal
@@ -68,6 +68,9 @@ loop-goes-preserved-then-walk_product g c = (
         computed.0,
         computed.1,
       )),
+  (λ stays given may.
+      let here = walks_may c.args.plan.now (g.W.Promise.list c.args.board.now.about.world) given c.args.seat.now c.loop-goes.seat c.args.self.now c.loop-goes.self may (c.loop-goes.invariant.1 given may) in
+      subst (HasLooked given c.walk_product.new.seat) (sym (c.compute_next-goes.ensures.still stays)) (c.walk_product.ensures.looked given here)),
 )
 
 pub loop-goes-preserved : goal.loop-goes-preserved
@@ -94,4 +97,7 @@ loop-goes-preserved g c = (
       let so_far = c.loop-goes.invariant.1 given may in
       let here = walks_may c.args.plan.now (g.W.Promise.list c.args.board.now.about.world) given c.args.seat.now c.loop-goes.seat c.args.self.now c.loop-goes.self may so_far in
       waits_through given c.walk_product.new.self (c.walk_product.ensures.waits c.if-walk_product.false given here)),
+  (λ stays given may.
+      c.walk_product.ensures.looked given
+      (walks_may c.args.plan.now (g.W.Promise.list c.args.board.now.about.world) given c.args.seat.now c.loop-goes.seat c.args.self.now c.loop-goes.self may (c.loop-goes.invariant.1 given may))),
 )

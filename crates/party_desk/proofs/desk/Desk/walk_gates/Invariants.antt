@@ -1,7 +1,7 @@
 use Rattle.std.proofs.Common.{◌≡◌, ◌+◌, ◌-◌, false, if◌then◌else◌}
 use Rattle.message_board.specs.Seats.{IsSeatOf}
 use Rattle.party_program.specs.States.{Given}
-use Rattle.party_desk.specs.Walks.{MayWalk, NothingToCompute, Walks}
+use Rattle.party_desk.specs.Walks.{MayWalk, HasLooked, NothingToCompute, Walks}
 use Rattle.party_desk.proofs.desk.Desk.walk_gates.Given as goal
 
 abbrev pub invariant-loop-goes : goal.invariant-loop-goes
@@ -12,6 +12,8 @@ invariant-loop-goes g l =
     × (l.self.position ≡ l.fn.self.position → l.self ≡ l.fn.self)
     × (l.goes ≡ false → (given : Given) → MayWalk l.plan (g.W.Promise.list l.board.about.world) given l.fn.self
     → NothingToCompute given l.self)
+    × (l.goes ≡ false → (given : Given) → MayWalk l.plan (g.W.Promise.list l.board.about.world) given l.fn.self
+    → HasLooked given l.seat l.self)
 
 abbrev pub decreases-loop-goes : goal.decreases-loop-goes
 decreases-loop-goes g l = 4294967296 - l.self.position + (if l.goes then 1 else 0)

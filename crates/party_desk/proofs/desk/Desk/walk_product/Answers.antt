@@ -30,3 +30,8 @@ pub returns-clause-waits : goal.returns-clause-waits
 returns-clause-waits g c stops given may =
     let sent = c.send.ensures.walks given may in
     c.take_each.ensures.waits stops given (walks_may c.args.plan.now (g.W.Promise.list c.args.board.now.about.world) given c.args.seat.now c.send.new.seat c.args.self.now c.send.new.self may sent)
+
+pub returns-clause-looked : goal.returns-clause-looked
+returns-clause-looked g c given may =
+    c.take_each.ensures.looked given
+    (walks_may c.args.plan.now (g.W.Promise.list c.args.board.now.about.world) given c.args.seat.now c.send.new.seat c.args.self.now c.send.new.self may (c.send.ensures.walks given may))
