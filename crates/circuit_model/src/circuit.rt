@@ -47,7 +47,8 @@ impl Circuit {
     ghost use Rattle.std.specs.Prelude.{◌≡◌, ◌<◌, length};
     ghost use Rattle.circuit_model.specs.Netlists.{IsCircuit, gate, input_wires, output_wires};
 
-    pub(crate) fn of(
+    /// The circuit with these parts. Nothing is checked: that it is valid is the caller's to prove.
+    pub fn of(
         ring: Ring,
         gates: Vec<Gate>,
         wires: u32,
