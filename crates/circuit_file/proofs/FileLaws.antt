@@ -10,7 +10,7 @@ use Rattle.gate_lines.specs.Rows.{Row, rows_of}
 use Rattle.circuit_model.specs.Netlists.{Netlist, AllGatesFit, IsCircuit}
 use Rattle.list_laws.specs.Checks.{first_fault, then_fault}
 use Rattle.circuit_model.specs.DraftSteps.{unset_output}
-use Rattle.circuit_file.specs.Answers.{◌>>=◌}
+use Rattle.list_laws.specs.Answers.{◌>>=◌}
 use Rattle.circuit_file.specs.Header.{counts_in, widths_in}
 use Rattle.circuit_file.specs.CircuitFiles.{next_row, gates_in, ended, no_gates, header_in, lines_in, is_bristol, text_checks, circuit_in}
 use Rattle.circuit_file.specs.Grammar.{Write, AreGateLines, StandsFor}
@@ -85,9 +85,12 @@ text_front bytes (suc n) l = go (is_utf8 (take (suc n) bytes)) refl l
     go true e m = IsUtf8-from_is_utf8 (take (suc n) bytes) e
     go false e m = absurd (omega (arith, m, up_to_le bytes n))
 
-text_grounded : (bytes : List ℕ) → nat_lt (utf8_valid_len bytes) (length bytes) ≡ false → IsUtf8 bytes
+pub text_grounded : (bytes : List ℕ) → nat_lt (utf8_valid_len bytes) (length bytes) ≡ false → IsUtf8 bytes
 unfolding utf8_valid_len
 text_grounded bytes e = subst (λ (bs : List ℕ). IsUtf8 bs) (take-length bytes) (text_front bytes (length bytes) (ltb-false _ _ e))
+
+pub text_related : (bytes : List ℕ) → IsUtf8 bytes → nat_lt (utf8_valid_len bytes) (length bytes) ≡ false
+text_related bytes u = le-ltb _ _ (let l : length bytes ≤ utf8_valid_len bytes = omega (arith, utf8_valid_len-IsUtf8 bytes u) in l)
 
 boolean_grounded : (layout : CircuitLayout) (bits : ℕ) → (is_bristol layout && not (nat_eq bits 1)) ≡ false → layout ≡ Bristol → bits ≡ 1
 boolean_grounded Bristol bits e is = eqb-true bits 1 (not-false _ e)
@@ -107,8 +110,7 @@ checked layout bits bytes e =
 passes : (layout : CircuitLayout) (bits : ℕ) (bytes : List ℕ) → (layout ≡ Bristol → bits ≡ 1) → IsUtf8 bytes → first_fault (text_checks layout bits bytes) ≡ None
 unfolding text_checks
 passes layout bits bytes h u =
-    let text : nat_lt (utf8_valid_len bytes) (length bytes) ≡ false = le-ltb _ _ (let l : length bytes ≤ utf8_valid_len bytes = omega (arith, utf8_valid_len-IsUtf8 bytes u) in l) in
-    simp (boolean_related layout bits h, text)
+    simp (boolean_related layout bits h, text_related bytes u)
 
 -- ---- the whole file
 

@@ -7,3 +7,6 @@ pub mod WalkLaws
 pub mod FileLaws
 pub mod ReaderSteps
 pub mod GateScans
+pub mod WrittenLines
+pub mod WrittenCircuits
+pub mod WriterSteps

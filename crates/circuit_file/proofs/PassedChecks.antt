@@ -3,7 +3,7 @@ use Rattle.std.proofs.Common.{◌≡◌, ℕ, Bool, true, false, ◌&&◌, Optio
 use Rattle.std.specs.Option.{is_some, unwrap_or}
 use Rattle.list_laws.specs.Checks.{then_fault}
 use Rattle.circuit_model.specs.declared.fault.CircuitFault.{CircuitFault}
-use Rattle.circuit_file.specs.Answers.{◌>>=◌}
+use Rattle.list_laws.specs.Answers.{◌>>=◌}
 
 pub then_ok : {A : Type 0} (o : Option CircuitFault) (r : Result A CircuitFault) (x : A) → then_fault o r ≡ Ok x → (o ≡ None) × (r ≡ Ok x)
 then_ok None r x e = (refl, e)

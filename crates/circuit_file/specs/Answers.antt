@@ -1,4 +1,4 @@
--- Answers that are given unless memory runs out, and answers one after another.
+-- Answers that are given unless memory runs out.
 use Rattle.std.specs.Prelude.{◌≡◌, Result, Ok, Err}
 use Rattle.circuit_model.specs.declared.fault.CircuitFault.{CircuitFault}
 use Rattle.circuit_model.specs.declared.fault.CircuitFault.TheVariants.{Memory}
@@ -12,9 +12,3 @@ Fails f wanted = Err f ≡ wanted
 abbrev pub Shows : {A B : Type 0} → (A → B) → Result A CircuitFault → Result B CircuitFault → Type 0
 Shows view (Ok a) wanted = Ok (view a) ≡ wanted
 Shows view (Err f) wanted = Fails f wanted
-
--- what the second answers for the value of the first, or the fault of the first
-infixl 10 ◌>>=◌
-abbrev pub ◌>>=◌ : {A B : Type 0} → Result A CircuitFault → (A → Result B CircuitFault) → Result B CircuitFault
-(Ok a) >>= f = f a
-(Err fault) >>= f = Err fault

@@ -9,7 +9,7 @@ use Rattle.circuit_model.specs.DraftSteps.{next_gate, add_gate, unset_output}
 use Rattle.circuit_model.specs.declared.gate.Gate.{Gate}
 use Rattle.circuit_model.specs.declared.fault.CircuitFault.{CircuitFault}
 use Rattle.circuit_model.specs.declared.fault.CircuitFault.TheVariants.{NotUtf8, FewLines, ExtraLine, OutputNotSet, WrongRing}
-use Rattle.circuit_file.specs.Answers.{◌>>=◌}
+use Rattle.list_laws.specs.Answers.{◌>>=◌}
 use Rattle.circuit_file.specs.Header.{counts_in, widths_in}
 use Rattle.circuit_file.specs.GateLines.{gate_line_in}
 use Rattle.circuit_model.specs.declared.layout.CircuitLayout.{CircuitLayout}

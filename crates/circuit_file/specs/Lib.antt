@@ -5,3 +5,4 @@ pub mod GateLines
 pub mod CircuitFiles
 pub mod Steps
 pub mod Grammar
+pub mod CircuitTexts
