@@ -6,7 +6,7 @@ use Rattle.toml.specs.Data.{Members}
 use Rattle.job_file.specs.declared.field.Field.TheVariants.{Parties, Session}
 use Rattle.job_file.specs.declared.fault.JobFault.{JobFault}
 use Rattle.job_file.specs.Names.{top_fields}
-use Rattle.job_file.specs.Forms.{adversary_field, texts, items, tables}
+use Rattle.job_file.specs.Forms.{is_version_two, adversary_field, texts, items, tables}
 use Rattle.list_laws.specs.Checks.{first_fault}
 use Rattle.job_file.specs.Faults.{version_fault, unknown_fault, fields_fault, ring_fault, parties_fault, adversary_fault, count_fault, sessions_fault, hosts_fault, port_fault, job_fault}
 
@@ -23,7 +23,7 @@ last_rows fields = option_or (hosts_fault fields) (option_or (port_fault fields)
 
 -- the rows from the sessions on
 abbrev pub session_rows : Members → Option JobFault
-session_rows fields = option_or (sessions_fault (texts Parties fields) 0 (tables Session fields)) (last_rows fields)
+session_rows fields = option_or (sessions_fault (is_version_two fields) (texts Parties fields) 0 (tables Session fields)) (last_rows fields)
 
 -- the rows after those of the parties
 abbrev pub rest_rows : Members → Option JobFault
@@ -43,7 +43,7 @@ module _ (fields : Members) (adversary : adversary_fault fields ≡ None) where
   pub at_sessions : count_fault (length (items Session fields)) ≡ None → rest_rows fields ≡ session_rows fields
   at_sessions count = at_count ∙ ap (λ o. option_or o (session_rows fields)) count
 
-  pub at_last : count_fault (length (items Session fields)) ≡ None → sessions_fault (texts Parties fields) 0 (tables Session fields) ≡ None → rest_rows fields ≡ last_rows fields
+  pub at_last : count_fault (length (items Session fields)) ≡ None → sessions_fault (is_version_two fields) (texts Parties fields) 0 (tables Session fields) ≡ None → rest_rows fields ≡ last_rows fields
   at_last count sessions = at_sessions count ∙ ap (λ o. option_or o (last_rows fields)) sessions
 
 -- where these rows tell no fault, the second and the last tell none
@@ -57,7 +57,7 @@ none_of_rest (Some f) b c d e is = absurd (cc)
 
 pub none_left : (fields : Members) → rest_rows fields ≡ None → (count_fault (length (items Session fields)) ≡ None) × (port_fault fields ≡ None)
 none_left fields is =
-    none_of_rest (adversary_fault fields) (count_fault (length (items Session fields))) (sessions_fault (texts Parties fields) 0 (tables Session fields)) (hosts_fault fields) (port_fault fields) is
+    none_of_rest (adversary_fault fields) (count_fault (length (items Session fields))) (sessions_fault (is_version_two fields) (texts Parties fields) 0 (tables Session fields)) (hosts_fault fields) (port_fault fields) is
 
 -- how many sessions there are, where that is no fault
 pub session_count : (count : ℕ) → count_fault count ≡ None → (1 ≤ count) × (count ≤ 16)

@@ -14,7 +14,7 @@ use Rattle.job_file.specs.declared.field.Field.TheVariants.{Version, RingBits, P
 use Rattle.job_file.specs.declared.fault.JobFault.{JobFault}
 use Rattle.job_file.specs.declared.fault.JobFault.TheVariants.{NotToml, Version as OtherVersion, Missing, Unknown, WrongKind, BadRing, Names, SessionCount, BadFileName, BadLayout, BadOwner, BadReader, BadHost, BadPort, BadTolerated, TooManyTolerated}
 use Rattle.job_file.specs.Names.{field_text, field_kind, top_fields, session_fields, is_file_name, is_host, layout_of}
-use Rattle.job_file.specs.Forms.{JobForm, job_form, is_listed, adversary_field, integer, text, texts, items, lists, tables}
+use Rattle.job_file.specs.Forms.{JobForm, job_form, is_version_two, adversary_field, integer, text, texts, items, lists, tables}
 
 -- ---- lists of parties' names
 
@@ -102,7 +102,7 @@ groups_fault names groups = first_fault
 -- the faults of the field that tells the tolerated groups: a formula's are told later
 abbrev pub adversary_fault : Members → Option JobFault
 adversary_fault fields =
-    if is_listed fields then groups_fault (texts Parties fields) (lists Tolerated fields) else None
+    if is_version_two fields then groups_fault (texts Parties fields) (lists Tolerated fields) else None
 
 -- 1 to 16 sessions
 unfoldable pub count_fault : ℕ → Option JobFault
@@ -132,22 +132,23 @@ session_fields_fault session fields = first_fault
     ∷ required_fault (Some session) Readers fields
     ∷ [])
 
-unfoldable pub session_values_fault : List (List ℕ) → ℕ → Members → Option JobFault
-session_values_fault names session fields = first_fault
+-- that of the values of a session, in a file of version 2 or not
+unfoldable pub session_values_fault : Bool → List (List ℕ) → ℕ → Members → Option JobFault
+session_values_fault version_two names session fields = first_fault
     ((not (is_file_name (text Circuit fields)) answers BadFileName session)
-    ∷ (is_none (layout_of (text Layout fields)) answers BadLayout session)
+    ∷ (is_none (layout_of version_two (text Layout fields)) answers BadLayout session)
     ∷ option_map (λ at. BadOwner session at) (position (is_no_party names) (texts Owners fields))
     ∷ option_map (λ bad. BadReader session bad.0 bad.1)
     (bad_in_lists names 0 (lists Readers fields))
     ∷ [])
 
 -- the first fault of the sessions from this one on: all of one session's before the next one's
-unfoldable pub sessions_fault : List (List ℕ) → ℕ → List Members → Option JobFault
-sessions_fault names session [] = None
-sessions_fault names session (fields ∷ rest) = first_fault
+unfoldable pub sessions_fault : Bool → List (List ℕ) → ℕ → List Members → Option JobFault
+sessions_fault version_two names session [] = None
+sessions_fault version_two names session (fields ∷ rest) = first_fault
     (session_fields_fault session fields
-    ∷ session_values_fault names session fields
-    ∷ sessions_fault names (session + 1) rest
+    ∷ session_values_fault version_two names session fields
+    ∷ sessions_fault version_two names (session + 1) rest
     ∷ [])
 
 -- ---- the whole file
@@ -162,7 +163,7 @@ job_fault node fields = first_fault
     ∷ parties_fault fields
     ∷ adversary_fault fields
     ∷ count_fault (length (items Session fields))
-    ∷ sessions_fault (texts Parties fields) 0 (tables Session fields)
+    ∷ sessions_fault (is_version_two fields) (texts Parties fields) 0 (tables Session fields)
     ∷ hosts_fault fields
     ∷ port_fault fields
     ∷ [])

@@ -7,15 +7,16 @@ use Rattle.toml_fields.specs.Fields.{integer_at, text_at, items_at, texts_at, te
 use Rattle.party_set.specs.Names.{party_named}
 use Rattle.job_file.specs.declared.field.Field.{Field}
 use Rattle.job_file.specs.declared.field.Field.TheVariants.{Version, RingBits, Parties, Formula, Tolerated, Hosts, Port, Session, Circuit, Layout, Owners, Readers}
-use Rattle.circuit_model.specs.declared.layout.CircuitLayout.{CircuitLayout}
+use Rattle.job_file.specs.declared.layout.SessionLayout.{SessionLayout}
+use Rattle.job_file.specs.declared.layout.SessionLayout.TheVariants.{Gates}
 use Rattle.circuit_model.specs.declared.layout.CircuitLayout.TheVariants.{Ring}
 use Rattle.job_file.specs.Names.{field_text, layout_of}
 
--- a session: the file of its circuit and its layout, the party that gives each input value, and for each output value
+-- a session: the file of its circuit and what that has, the party that gives each input value, and for each output value
 -- the mask of the parties that read it
 pub record SessionForm : Type 0 where
   pub circuit : List ℕ
-  pub layout : CircuitLayout
+  pub layout : SessionLayout
   pub owners : List ℕ
   pub readers : List ℕ
 
@@ -57,12 +58,12 @@ tables field fields = map fields_of (items field fields)
 -- ---- the job
 
 -- the file is of version 2, which lists the tolerated groups
-abbrev pub is_listed : Members → Bool
-is_listed fields = int_eq (integer Version fields) (pos 2)
+abbrev pub is_version_two : Members → Bool
+is_version_two fields = int_eq (integer Version fields) (pos 2)
 
 -- the field that tells the tolerated groups
 abbrev pub adversary_field : Members → Field
-adversary_field fields = if is_listed fields then Tolerated else Formula
+adversary_field fields = if is_version_two fields then Tolerated else Formula
 
 -- the party of this name
 abbrev pub party_of : List (List ℕ) → List ℕ → ℕ
@@ -72,17 +73,18 @@ party_of names name = unwrap_or (party_named names name) 0
 unfoldable pub mask_of : List (List ℕ) → List (List ℕ) → ℕ
 mask_of names group = fold (λ mask name. bit_or mask (2 ^ party_of names name)) 0 group
 
-unfoldable pub session_form : List (List ℕ) → Members → SessionForm
-session_form names fields = record {
+-- that of a table, in a file of version 2 or not
+unfoldable pub session_form : Bool → List (List ℕ) → Members → SessionForm
+session_form version_two names fields = record {
   circuit = text Circuit fields;
-  layout = unwrap_or (layout_of (text Layout fields)) Ring;
+  layout = unwrap_or (layout_of version_two (text Layout fields)) (Gates Ring);
   owners = map (party_of names) (texts Owners fields);
   readers = map (mask_of names) (lists Readers fields);
 }
 
 unfoldable pub adversary_form : Members → AdversaryForm
 adversary_form fields =
-    if is_listed fields then by_list (map (mask_of (texts Parties fields)) (lists Tolerated fields))
+    if is_version_two fields then by_list (map (mask_of (texts Parties fields)) (lists Tolerated fields))
     else by_formula (text Formula fields)
 
 unfoldable pub job_form : Members → JobForm
@@ -92,5 +94,5 @@ job_form fields = record {
   adversary = adversary_form fields;
   hosts = texts Hosts fields;
   port = nat_abs (integer Port fields);
-  sessions = map (session_form (texts Parties fields)) (tables Session fields);
+  sessions = map (session_form (is_version_two fields) (texts Parties fields)) (tables Session fields);
 }

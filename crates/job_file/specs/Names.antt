@@ -7,7 +7,8 @@ use Rattle.toml_fields.specs.declared.kind.Kind.{Kind}
 use Rattle.toml_fields.specs.declared.kind.Kind.TheVariants.{Integer, Text, Texts, TextLists, Tables}
 use Rattle.job_file.specs.declared.field.Field.{Field}
 use Rattle.job_file.specs.declared.field.Field.TheVariants.{Version, RingBits, Parties, Formula, Tolerated, Hosts, Port, Session, Circuit, Layout, Owners, Readers}
-use Rattle.circuit_model.specs.declared.layout.CircuitLayout.{CircuitLayout}
+use Rattle.job_file.specs.declared.layout.SessionLayout.{SessionLayout}
+use Rattle.job_file.specs.declared.layout.SessionLayout.TheVariants.{Gates, Expressions}
 use Rattle.circuit_model.specs.declared.layout.CircuitLayout.TheVariants.{Bristol, Ring}
 
 -- how the file names a field
@@ -64,9 +65,10 @@ is_host_byte c = is_ascii_alphanumeric c || ((c == 46) || ((c == 45) || (c == 58
 unfoldable pub is_host : List ℕ → Bool
 is_host host = (nat_lt 0 (length host) && nat_lt (length host) 65) && list_all is_host_byte host
 
--- the layout of this name
-unfoldable pub layout_of : List ℕ → Option CircuitLayout
-layout_of name =
-    if bytes_eq name (codes "bristol") then Some Bristol
-    else if bytes_eq name (codes "ring") then Some Ring
+-- the layout of this name, in a file of version 2 or not
+unfoldable pub layout_of : Bool → List ℕ → Option SessionLayout
+layout_of version_two name =
+    if bytes_eq name (codes "bristol") then Some (Gates Bristol)
+    else if bytes_eq name (codes "ring") then Some (Gates Ring)
+    else if version_two && bytes_eq name (codes "expr") then Some Expressions
     else None

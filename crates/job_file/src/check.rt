@@ -2,7 +2,7 @@
 ghost use Rattle.std.specs.Prelude.{◌≡◌, IfOk};
 ghost use Rattle.toml.specs.View.{table_view};
 ghost use Rattle.job_file.specs.Names.{top_fields, session_fields};
-ghost use Rattle.job_file.specs.Forms.{is_listed, adversary_field};
+ghost use Rattle.job_file.specs.Forms.{is_version_two, adversary_field};
 ghost use Rattle.job_file.specs.Faults.{is_there, is_of_other_kind, required_fault, optional_fault, node_fault, unknown_fault};
 ghost use Rattle.job_file.specs.Answers.{TellsFault, TellsOrMemory};
 ghost use Rattle.list_laws.specs.Checks.{◌answers◌};
@@ -82,9 +82,9 @@ fn unknown(alloc: Global, session: Option<u32>, name: &str) -> Result<JobFault, 
     Ok(JobFault::Unknown { session, name })
 }
 
-/// Whether the file lists the tolerated groups, as version 2 does.
-pub fn is_listed(table: &Table) -> bool
-    ensures { result ≡ is_listed (table_view table.now) }
+/// Whether the file is of version 2, which lists the tolerated groups.
+pub fn is_version_two(table: &Table) -> bool
+    ensures { result ≡ is_version_two (table_view table.now) }
 {
     integer_at(table, Field::Version.text()) == 2
 }
@@ -93,7 +93,7 @@ pub fn is_listed(table: &Table) -> bool
 pub fn adversary_field(table: &Table) -> Field
     ensures { result ≡ adversary_field (table_view table.now) }
 {
-    if is_listed(table) {
+    if is_version_two(table) {
         Field::Tolerated
     } else {
         Field::Formula

@@ -3,14 +3,14 @@ ghost use Rattle.std.specs.Prelude.{◌≡◌, ◌≢◌, ◌∷◌, [], IfOk, M
 ghost use Rattle.toml.specs.View.{table_view};
 ghost use Rattle.job_file.specs.Answers.{TellsOrMemory};
 ghost use Rattle.job_file.specs.Names.{top_fields};
-ghost use Rattle.job_file.specs.Forms.{adversary_field, job_form, items, tables, texts};
+ghost use Rattle.job_file.specs.Forms.{is_version_two, adversary_field, job_form, items, tables, texts};
 ghost use Rattle.job_file.specs.Jobs.{job_view, IsJob};
 ghost use Rattle.list_laws.specs.Checks.{first_fault};
 ghost use Rattle.job_file.specs.Faults.{version_fault, unknown_fault, fields_fault, ring_fault, adversary_fault, count_fault, sessions_fault, hosts_fault, port_fault, job_fault, job_in};
 ghost use Rattle.job_file.specs.declared.field.Field.TheVariants.{Parties, Session};
 ghost use Rattle.job_file.specs.declared.fault.JobFault.TheVariants.{Memory};
 
-use crate::check::check_top_known;
+use crate::check::{check_top_known, is_version_two};
 use crate::fault::JobFault;
 use crate::field::Field;
 use crate::job::Job;
@@ -46,7 +46,7 @@ fn check_rest(alloc: Global, table: &Table, names: &Names) -> Result<(), JobFaul
     ensures { let fields = table_view table.now in TellsOrMemory result (first_fault
         (adversary_fault fields
         ∷ count_fault (length (items Session fields))
-        ∷ sessions_fault (texts Parties fields) 0 (tables Session fields)
+        ∷ sessions_fault (is_version_two fields) (texts Parties fields) 0 (tables Session fields)
         ∷ hosts_fault fields
         ∷ port_fault fields
         ∷ [])) }
@@ -54,7 +54,7 @@ fn check_rest(alloc: Global, table: &Table, names: &Names) -> Result<(), JobFaul
     check_adversary(table, names)?;
     let sessions = items_at(table, Field::Session.text());
     check_count(sessions.len())?;
-    check_sessions(alloc, sessions, names)?;
+    check_sessions(alloc, sessions, is_version_two(table), names)?;
     check_hosts(table, names.len())?;
     Ok(check_port(table)?)
 }

@@ -1,5 +1,5 @@
 //! Jobs.
-use circuit_model::CircuitLayout;
+use crate::layout::SessionLayout;
 use mpc_ring::Ring;
 use outer_io::Hosts;
 use party_set::{Group, NameText, Names};
@@ -14,12 +14,12 @@ pub enum Adversary {
     Tolerated(Vec<Group>),
 }
 
-/// A session of a job: the file of its circuit, the party that gives each input value, and the group that reads each
+/// A session of a job: the file of its circuit, how that tells it, the party that gives each input value, and the group that reads each
 /// output value.
 #[derive(Drop)]
 pub struct JobSession {
     pub circuit: NameText,
-    pub layout: CircuitLayout,
+    pub layout: SessionLayout,
     pub owners: Vec<u32>,
     pub readers: Vec<Group>,
 }

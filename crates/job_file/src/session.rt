@@ -33,12 +33,17 @@ fn check_fields(alloc: Global, table: &Table, session: u32) -> Result<(), JobFau
 }
 
 #[tactic(auto, unfolding(crate::specs::Faults::session_values_fault, toml_fields::specs::Fields::texts_at))]
-fn check_values(table: &Table, session: u32, names: &Names) -> Result<(), JobFault>
-    ensures { TellsOrMemory result (session_values_fault names.now session (table_view table.now)) }
+fn check_values(
+    table: &Table,
+    version_two: bool,
+    session: u32,
+    names: &Names,
+) -> Result<(), JobFault>
+    ensures { TellsOrMemory result (session_values_fault version_two names.now session (table_view table.now)) }
 {
     let circuit = text_at(table, Field::Circuit.text());
     check(!is_file_name(circuit), JobFault::BadFileName { session })?;
-    let layout = layout_of(text_at(table, Field::Layout.text()));
+    let layout = layout_of(version_two, text_at(table, Field::Layout.text()));
     check(layout.is_none(), JobFault::BadLayout { session })?;
     check_owners(items_at(table, Field::Owners.text()), session, names)?;
     check_readers(items_at(table, Field::Readers.text()), session, names)
@@ -82,16 +87,21 @@ pub fn fields_or<'t>(value: &'t Value, other: &'t Table) -> &'t Table
     fields_of(value).unwrap_or(other)
 }
 
-/// Checks the sessions, in order.
-pub fn check_sessions(alloc: Global, sessions: &[Value], names: &Names) -> Result<(), JobFault>
+/// Checks the sessions of a file of version 2 or not, in order.
+pub fn check_sessions(
+    alloc: Global,
+    sessions: &[Value],
+    version_two: bool,
+    names: &Names,
+) -> Result<(), JobFault>
     requires { length sessions.now ≤ 16 }
-    ensures { TellsOrMemory result (sessions_fault names.now 0 (map fields_of (map view sessions.now))) }
+    ensures { TellsOrMemory result (sessions_fault version_two names.now 0 (map fields_of (map view sessions.now))) }
 {
     let empty = Table::new(alloc);
     for (session, item) in sessions.iter().enumerate() {
         let table = fields_or(item, &empty);
         check_fields(alloc, table, session as u32)?;
-        check_values(table, session as u32, names)?;
+        check_values(table, version_two, session as u32, names)?;
     }
     Ok(())
 }

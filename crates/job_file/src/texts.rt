@@ -3,6 +3,7 @@ ghost use Rattle.std.specs.Prelude.{◌≡◌};
 ghost use Rattle.std.specs.List.{list_all};
 ghost use Rattle.job_file.specs.Names.{is_file_byte, is_file_name, is_host_byte, is_host, layout_of};
 
+use crate::layout::SessionLayout;
 use circuit_model::CircuitLayout;
 
 fn is_file_byte(byte: u8) -> bool
@@ -53,14 +54,15 @@ pub fn is_host(host: &str) -> bool
     has_host_bytes(bytes)
 }
 
-/// The layout of this name.
+/// The layout of this name, in a file of version 2 or not.
 #[tactic(auto, unfolding(crate::specs::Names::layout_of))]
-pub fn layout_of(name: &str) -> Option<CircuitLayout>
-    ensures { result ≡ layout_of name.now }
+pub fn layout_of(version_two: bool, name: &str) -> Option<SessionLayout>
+    ensures { result ≡ layout_of version_two name.now }
 {
     match name {
-        "bristol" => Some(CircuitLayout::Bristol),
-        "ring" => Some(CircuitLayout::Ring),
+        "bristol" => Some(SessionLayout::Gates(CircuitLayout::Bristol)),
+        "ring" => Some(SessionLayout::Gates(CircuitLayout::Ring)),
+        "expr" if version_two => Some(SessionLayout::Expressions),
         _ => None,
     }
 }

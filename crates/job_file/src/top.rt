@@ -11,7 +11,9 @@ ghost use Rattle.job_file.specs.Faults.{version_fault, fields_fault, ring_fault,
 ghost use Rattle.job_file.specs.declared.field.Field.TheVariants.{Parties, Hosts};
 ghost use Rattle.job_file.specs.declared.fault.JobFault.TheVariants.{Memory, BadHost};
 
-use crate::check::{adversary_field, check, check_for_node, check_required, is_listed, is_there};
+use crate::check::{
+    adversary_field, check, check_for_node, check_required, is_there, is_version_two,
+};
 use crate::fault::JobFault;
 use crate::field::Field;
 use crate::parties::bad_in_lists;
@@ -84,7 +86,7 @@ pub fn check_adversary(table: &Table, names: &Names) -> Result<(), JobFault>
     requires { names.now ≡ texts Parties (table_view table.now) }
     ensures { TellsFault result (adversary_fault (table_view table.now)) }
 {
-    if is_listed(table) {
+    if is_version_two(table) {
         check_tolerated(items_at(table, Field::Tolerated.text()), names)
     } else {
         Ok(())

@@ -8,9 +8,10 @@ ghost use Rattle.job_file.specs.Faults.{ring_fault, port_fault};
 ghost use Rattle.job_file.specs.Jobs.{session_view, adversary_view, job_view, HasParties, IsSession, IsJob};
 ghost use Rattle.job_file.specs.declared.field.Field.TheVariants.{RingBits, Parties, Port, Session};
 
-use crate::check::{is_listed, is_there};
+use crate::check::{is_there, is_version_two};
 use crate::field::Field;
 use crate::job::{Adversary, Job, JobSession};
+use crate::layout::SessionLayout;
 use crate::session::fields_or;
 use crate::texts::layout_of;
 use circuit_model::CircuitLayout;
@@ -89,12 +90,20 @@ fn copy_of(alloc: Global, text: &str) -> Result<NameText, AllocError>
 }
 
 #[tactic(auto, unfolding(crate::specs::Forms::session_form, toml_fields::specs::Fields::texts_at))]
-fn session_of(alloc: Global, table: &Table, names: &Names) -> Result<JobSession, AllocError>
-    ensures form { IfOk result (λ session. session_view session ≡ session_form names.now (table_view table.now)) }
+fn session_of(
+    alloc: Global,
+    table: &Table,
+    version_two: bool,
+    names: &Names,
+) -> Result<JobSession, AllocError>
+    ensures form { IfOk result (λ session. session_view session
+        ≡ session_form version_two names.now (table_view table.now)) }
     ensures parties { IfOk result (IsSession (length names.now)) }
 {
     let circuit = copy_of(alloc, text_at(table, Field::Circuit.text()))?;
-    let layout = layout_of(text_at(table, Field::Layout.text())).unwrap_or(CircuitLayout::Ring);
+    let layout = layout_of(version_two, text_at(table, Field::Layout.text())).unwrap_or(
+        SessionLayout::Gates(CircuitLayout::Ring),
+    );
     let owners = owners_of(alloc, items_at(table, Field::Owners.text()), names)?;
     let readers = groups_of(alloc, items_at(table, Field::Readers.text()), names)?;
     Ok(JobSession {
@@ -108,17 +117,18 @@ fn session_of(alloc: Global, table: &Table, names: &Names) -> Result<JobSession,
 fn sessions_of(
     alloc: Global,
     tables: &[Value],
+    version_two: bool,
     names: &Names,
 ) -> Result<Vec<JobSession>, AllocError>
     ensures form { IfOk result (λ sessions. map session_view sessions.items
-        ≡ map (session_form names.now) (map fields_of (map view tables.now))) }
+        ≡ map (session_form version_two names.now) (map fields_of (map view tables.now))) }
     ensures parties { IfOk result (λ sessions. All (IsSession (length names.now)) sessions.items) }
     ensures count { IfOk result (λ sessions. length sessions.items ≡ length tables.now) }
 {
     let empty = Table::new(alloc);
     let mut sessions = Vec::new(alloc);
     for table in tables {
-        sessions.push(session_of(alloc, fields_or(table, &empty), names)?)?;
+        sessions.push(session_of(alloc, fields_or(table, &empty), version_two, names)?)?;
     }
     Ok(sessions)
 }
@@ -164,7 +174,7 @@ fn adversary_of(alloc: Global, table: &Table, names: &Names) -> Result<Adversary
         adversary_view told ≡ adversary_form (table_view table.now)) }
     ensures parties { IfOk result (HasParties (length names.now)) }
 {
-    if is_listed(table) {
+    if is_version_two(table) {
         let groups = groups_of(alloc, items_at(table, Field::Tolerated.text()), names)?;
         return Ok(Adversary::Tolerated(groups));
     }
@@ -187,7 +197,8 @@ pub fn job_of(alloc: Global, table: &Table, names: Names) -> Result<Job, AllocEr
     let adversary = adversary_of(alloc, table, &names)?;
     let hosts = hosts_of(alloc, items_at(table, Field::Hosts.text()))?;
     let port = port_of(table);
-    let sessions = sessions_of(alloc, items_at(table, Field::Session.text()), &names)?;
+    let tables = items_at(table, Field::Session.text());
+    let sessions = sessions_of(alloc, tables, is_version_two(table), &names)?;
     let _ = names.len();
     Ok(Job {
         ring,

@@ -1,4 +1,4 @@
-use Rattle.std.proofs.Common.{◌≡◌, ◌∙◌, ℕ, List, ap, sym, map, length, None}
+use Rattle.std.proofs.Common.{◌≡◌, ◌∙◌, ℕ, Bool, List, ap, sym, map, length, None}
 use Rattle.std.proofs.lemmas.List.{length-map}
 use Rattle.std.proofs.lemmas.Result.{err_from_is_err_and}
 use Rattle.std.specs.Option.{option_or}
@@ -7,7 +7,7 @@ use Rattle.toml.specs.View.{view, table_view}
 use Rattle.toml.specs.declared.value.Value.{Value}
 use Rattle.toml_fields.specs.Fields.{items_at, fields_of}
 use Rattle.job_file.specs.declared.field.Field.TheVariants.{Parties, Session}
-use Rattle.job_file.specs.Forms.{items, tables, texts}
+use Rattle.job_file.specs.Forms.{is_version_two, items, tables, texts}
 use Rattle.job_file.specs.Faults.{count_fault, sessions_fault, port_fault}
 use Rattle.job_file.proofs.Rows.{at_count, at_sessions, at_last, last_rows, session_rows}
 use Rattle.job_file.proofs.document.check_rest.Goals as goal
@@ -17,8 +17,11 @@ module _ (fields : Members) (sessions : List Value) (same : map view sessions �
   counted : count_fault (length sessions) ≡ count_fault (length (items Session fields))
   counted = ap count_fault (sym (length-map sessions view) ∙ ap length same)
 
-  told : (names : List (List ℕ)) → names ≡ texts Parties fields → sessions_fault names 0 (map fields_of (map view sessions)) ≡ sessions_fault (texts Parties fields) 0 (tables Session fields)
-  told names is = ap (λ ns. sessions_fault ns 0 (map fields_of (map view sessions))) is ∙ ap (λ ds. sessions_fault (texts Parties fields) 0 (map fields_of ds)) same
+  told : (two : Bool) (names : List (List ℕ)) → two ≡ is_version_two fields → names ≡ texts Parties fields
+      → sessions_fault two names 0 (map fields_of (map view sessions)) ≡ sessions_fault (is_version_two fields) (texts Parties fields) 0 (tables Session fields)
+  told two names version is =
+      ap (λ b. sessions_fault b names 0 (map fields_of (map view sessions))) version ∙ ap (λ ns. sessions_fault (is_version_two fields) ns 0 (map fields_of (map view sessions))) is
+      ∙ ap (λ ds. sessions_fault (is_version_two fields) (texts Parties fields) 0 (map fields_of ds)) same
 
 pub returns-in_err-check_adversary : goal.returns-in_err-check_adversary
 returns-in_err-check_adversary c =
@@ -41,14 +44,14 @@ returns-in_err-check_sessions c =
     let count : count_fault (length (items Session fields)) ≡ None = sym (counted fields c.items_at-sessions.result.now same) ∙ c.in_ok-check_count.ensures.told in
     let p = err_from_is_err_and c.from_residual-in_err-check_sessions.result c.from_residual-in_err-check_sessions.ensures.1 in
     rw (p.1, p.2) (λ other. at_sessions fields c.in_ok-check_adversary.ensures count
-    ∙ ap (λ o. option_or o (last_rows fields)) (sym (told fields c.items_at-sessions.result.now same _ c.requires) ∙ c.in_err-check_sessions.ensures other))
+    ∙ ap (λ o. option_or o (last_rows fields)) (sym (told fields c.items_at-sessions.result.now same _ _ c.is_version_two.ensures c.requires) ∙ c.in_err-check_sessions.ensures other))
 
 pub returns-in_err-check_hosts : goal.returns-in_err-check_hosts
 returns-in_err-check_hosts c =
     let fields : Members = table_view c.args.table.now in
     let same : map view c.items_at-sessions.result.now ≡ items Session fields = c.items_at-sessions.ensures ∙ ap (λ key. items_at key fields) c.text.ensures in
     let count : count_fault (length (items Session fields)) ≡ None = sym (counted fields c.items_at-sessions.result.now same) ∙ c.in_ok-check_count.ensures.told in
-    let left = at_last fields c.in_ok-check_adversary.ensures count (sym (told fields c.items_at-sessions.result.now same _ c.requires) ∙ c.in_ok-check_sessions.ensures) in
+    let left = at_last fields c.in_ok-check_adversary.ensures count (sym (told fields c.items_at-sessions.result.now same _ _ c.is_version_two.ensures c.requires) ∙ c.in_ok-check_sessions.ensures) in
     let p = err_from_is_err_and c.from_residual-in_err-check_hosts.result c.from_residual-in_err-check_hosts.ensures.1 in
     rw (p.1, p.2) (λ other. left ∙ ap (λ o. option_or o (option_or (port_fault fields) None)) c.in_err-check_hosts.ensures)
 
@@ -57,7 +60,7 @@ returns-in_err-check_port c =
     let fields : Members = table_view c.args.table.now in
     let same : map view c.items_at-sessions.result.now ≡ items Session fields = c.items_at-sessions.ensures ∙ ap (λ key. items_at key fields) c.text.ensures in
     let count : count_fault (length (items Session fields)) ≡ None = sym (counted fields c.items_at-sessions.result.now same) ∙ c.in_ok-check_count.ensures.told in
-    let left = at_last fields c.in_ok-check_adversary.ensures count (sym (told fields c.items_at-sessions.result.now same _ c.requires) ∙ c.in_ok-check_sessions.ensures) in
+    let left = at_last fields c.in_ok-check_adversary.ensures count (sym (told fields c.items_at-sessions.result.now same _ _ c.is_version_two.ensures c.requires) ∙ c.in_ok-check_sessions.ensures) in
     let p = err_from_is_err_and c.from_residual-in_err-check_port.result c.from_residual-in_err-check_port.ensures.1 in
     rw (p.1, p.2) (λ other. left ∙ ap (λ o. option_or o (option_or (port_fault fields) None)) c.in_ok-check_hosts.ensures ∙ ap (λ o. option_or o None) c.in_err-check_port.ensures)
 
@@ -66,5 +69,5 @@ returns c =
     let fields : Members = table_view c.args.table.now in
     let same : map view c.items_at-sessions.result.now ≡ items Session fields = c.items_at-sessions.ensures ∙ ap (λ key. items_at key fields) c.text.ensures in
     let count : count_fault (length (items Session fields)) ≡ None = sym (counted fields c.items_at-sessions.result.now same) ∙ c.in_ok-check_count.ensures.told in
-    at_last fields c.in_ok-check_adversary.ensures count (sym (told fields c.items_at-sessions.result.now same _ c.requires) ∙ c.in_ok-check_sessions.ensures)
+    at_last fields c.in_ok-check_adversary.ensures count (sym (told fields c.items_at-sessions.result.now same _ _ c.is_version_two.ensures c.requires) ∙ c.in_ok-check_sessions.ensures)
     ∙ ap (λ o. option_or o (option_or (port_fault fields) None)) c.in_ok-check_hosts.ensures ∙ ap (λ o. option_or o None) c.in_ok-check_port.ensures

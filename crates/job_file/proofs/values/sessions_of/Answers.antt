@@ -20,11 +20,11 @@ loop-table-preserved c =
     let names : List (List ℕ) = c.args.names.now in
     let fields : table_view c.fields_or.result.now ≡ fields_of (view c.table-item.result) =
     c.fields_or.ensures ∙ ap (λ es. unwrap_or (as_table (view c.table-item.result)) (members_view es)) c.new-empty.ensures.empty in
-    let here : session_view c.in_ok-session_of.field-0 ≡ session_form names (fields_of (view c.table-item.result)) = c.in_ok-session_of.ensures.form ∙ ap (session_form names) fields in
+    let here : session_view c.in_ok-session_of.field-0 ≡ session_form c.args.version_two names (fields_of (view c.table-item.result)) = c.in_ok-session_of.ensures.form ∙ ap (session_form c.args.version_two names) fields in
     record {
       form =
           ap (map session_view) c.in_ok-push.ensures.items
-          ∙ grown session_view (λ v. session_form names (fields_of (view v))) c.args.tables.now c.loop-table.table-index c.table-item.result
+          ∙ grown session_view (λ v. session_form c.args.version_two names (fields_of (view v))) c.args.tables.now c.loop-table.table-index c.table-item.result
           c.loop-table.sessions.items c.in_ok-session_of.field-0 c.loop-table-test.true c.table-item.is c.loop-table.invariant.form here;
       parties =
           (let P : List JobSession → Type 0 = λ sessions. All (IsSession (length names)) sessions in
@@ -35,5 +35,5 @@ loop-table-preserved c =
 pub returns-clause-form : goal.returns-clause-form
 returns-clause-form c =
     let names : List (List ℕ) = c.args.names.now in
-    let whole : map session_view c.loop-table.sessions.items ≡ map (λ (v : Value). session_form names (fields_of (view v))) c.args.tables.now = grind (arith, common_steps, c.loop-table.invariant.form) in
-    whole ∙ sym (ap (map (session_form names)) (map_twice fields_of view c.args.tables.now) ∙ map_twice (session_form names) (λ v. fields_of (view v)) c.args.tables.now)
+    let whole : map session_view c.loop-table.sessions.items ≡ map (λ (v : Value). session_form c.args.version_two names (fields_of (view v))) c.args.tables.now = grind (arith, common_steps, c.loop-table.invariant.form) in
+    whole ∙ sym (ap (map (session_form c.args.version_two names)) (map_twice fields_of view c.args.tables.now) ∙ map_twice (session_form c.args.version_two names) (λ v. fields_of (view v)) c.args.tables.now)

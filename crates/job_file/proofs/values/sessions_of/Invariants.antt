@@ -9,7 +9,7 @@ use Rattle.job_file.proofs.values.sessions_of.Given as goal
 
 abbrev pub invariant-loop-table : goal.invariant-loop-table
 invariant-loop-table l = record {
-  form : map session_view l.sessions.items ≡ map (λ (v : Value). session_form l.names (fields_of (view v))) (take l.table-index l.tables);
+  form : map session_view l.sessions.items ≡ map (λ (v : Value). session_form l.version_two l.names (fields_of (view v))) (take l.table-index l.tables);
   parties : All (IsSession (length l.names)) l.sessions.items;
   count : length l.sessions.items ≡ l.table-index;
 }
