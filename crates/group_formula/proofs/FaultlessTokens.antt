@@ -1,16 +1,16 @@
 -- How far the tokens have no fault.
-use Rattle.std.proofs.Common.{◌≡◌, ℕ, zero, suc, ◌+◌, ◌≤◌, ◌<◌, Bool, true, false, cond, List, [], ◌∷◌, ◌++◌, length, take, drop, Option, Some, None, Ok, refl, sym, ◌∙◌, ap, subst, append_assoc, append-nil, length-append, nat_le, arith}
+use Rattle.std.proofs.Common.{◌≡◌, ℕ, ◌+◌, ◌≤◌, ◌<◌, Bool, true, false, cond, List, [], ◌∷◌, ◌++◌, length, Option, Some, None, Ok, refl, sym, ◌∙◌, ap, subst, append_assoc, append-nil, length-append, arith}
 use Rattle.std.specs.Prelude.{count_by}
-use Rattle.std.proofs.lemmas.Bool.{leb-true, leb-false}
-use Rattle.std.proofs.lemmas.List.{map-append, take-append-le, take_all}
 use Rattle.std.proofs.lemmas.List.Sums.{sum_by-append}
 use Rattle.group_formula.specs.declared.token.Token.{Token}
 use Rattle.group_formula.specs.declared.token.Token.TheVariants.{Name, Number, Of, Bar, Ampersand, Open, Close, Comma}
-use Rattle.group_formula.specs.declared.token.Run.TheVariants as runs
 use Rattle.group_formula.specs.declared.node.Node.{Node}
 use Rattle.group_formula.specs.declared.parser.Mode.TheVariants as modes
-use Rattle.group_formula.specs.Tokens.{Placed, is_node, tokens, tokens_from}
-use Rattle.group_formula.specs.Grammar.{Expr, Term, shape, IsViable}
+use Rattle.run_tokens.specs.Tokens.{Placed, bare, tokens, tokens_after}
+use Rattle.run_tokens.specs.FirstFaults.{AreFine, StopsAt, EndsAt}
+use Rattle.run_tokens.proofs.FirstFaults.{bare_last, fine_more, fine_none, fine_last}
+use Rattle.group_formula.specs.Tokens.{formula_language, is_node}
+use Rattle.group_formula.specs.Grammar.{Expr, Term, spell, shape, IsViable}
 use Rattle.group_formula.specs.Trees.{postfix}
 use Rattle.group_formula.specs.Grammar.Expr.{one_term, or_term}
 use Rattle.group_formula.specs.Grammar.Factor.{named, grouped, counted}
@@ -19,7 +19,7 @@ use Rattle.group_formula.specs.Machine.Level.{level}
 use Rattle.group_formula.specs.Machine.Pending.{plain, listed}
 use Rattle.group_formula.specs.Machine.MachineState.{want, want_of, want_open, have}
 use Rattle.group_formula.specs.Kept.{Kept, kept_of, joined_out, frames_of, frame_of, Advances}
-use Rattle.group_formula.specs.Faults.{is_open, is_close, IsShallow, IsSmall, IsFine, AreFine, bare, StopsAt, EndsAt}
+use Rattle.group_formula.specs.Faults.{is_open, is_close, IsShallow, IsSmall, IsFine}
 use Rattle.group_formula.specs.Parsed.{IsParsed}
 use Rattle.group_formula.proofs.MachineSteps.{goes_on, run}
 use Rattle.group_formula.proofs.MachineRuns.{goes_append, run_viable, stuck_no, formula_read, run_formula, have_expr}
@@ -108,32 +108,17 @@ pub refused : (next : Option MachineState) (new : Kept) → Advances next (Ok fa
 refused None new h = refl
 refused (Some s) new h = absurd h
 
-fine_front : (ts : List Token) (t : Token) (k : ℕ) (b : Bool) → nat_le k (length ts) ≡ b → AreFine ts → IsFine (ts ++ (t ∷ [])) → IsFine (take k (ts ++ (t ∷ [])))
-fine_front ts t k true e fine whole = let short : k ≤ length ts = leb-true k (length ts) e in rw take-append-le (fine k)
-fine_front ts t k false e fine whole =
-    subst IsFine (sym (take_all k (ts ++ (t ∷ [])) (omega (arith, leb-false k (length ts) e, length-append ts (t ∷ []))))) whole
-
-pub fine_more : (ts : List Token) (t : Token) → AreFine ts → IsFine (ts ++ (t ∷ [])) → AreFine (ts ++ (t ∷ []))
-fine_more ts t fine whole k = fine_front ts t k (nat_le k (length ts)) refl fine whole
-
-pub fine_none : AreFine []
-fine_none k = subst IsFine (sym (nothing k)) (record { viable = run_viable [] (want (level None None) []) refl; shallow = omega arith; small = omega arith })
-  where
-    nothing : (k : ℕ) → ◌≡◌ {A = List Token} (take k []) []
-    nothing zero = refl
-    nothing (suc k) = refl
-
-pub bare_last : (ts : List Placed) (t : Placed) → bare (ts ++ (t ∷ [])) ≡ bare ts ++ (t.token ∷ [])
-bare_last ts t = map-append (λ (u : Placed). u.token) ts (t ∷ [])
+pub fine_nothing : AreFine IsFine []
+fine_nothing = fine_none IsFine (record { viable = run_viable [] (want (level None None) []) refl; shallow = omega arith; small = omega arith })
 
 -- after the tokens before this place
 pub record Going (text : List ℕ) (from nodes : ℕ) (kept : Kept) : Type 0 where
-  pub done : List Placed
-  pub cut : tokens text ≡ done ++ tokens_from from runs.Blank (drop from text)
+  pub done : List (Placed Token)
+  pub cut : tokens formula_language text ≡ done ++ tokens_after formula_language text from
   pub state : MachineState
   pub ran : run (bare done) ≡ Some state
   pub is : kept ≡ kept_of state
-  pub fine : AreFine (bare done)
+  pub fine : AreFine IsFine (bare done)
   pub counted : nodes ≡ count_by is_node (bare done)
 
 -- after a token more, before its limits are looked at
@@ -148,15 +133,15 @@ moves ts t s new ran h =
     record { state = next.0; ran = run_last ts s t ran ∙ next.1; is = next.2 }
 
 pub begins : (text : List ℕ) (kept : Kept) → kept ≡ kept_of (want (level None None) []) → Going text 0 0 kept
-begins text kept is = record { done = []; cut = refl; state = want (level None None) []; ran = refl; is = is; fine = fine_none; counted = refl }
+begins text kept is = record { done = []; cut = refl; state = want (level None None) []; ran = refl; is = is; fine = fine_nothing; counted = refl }
 
 -- the token is the first that has a fault
-pub stops : (text : List ℕ) (from nodes end : ℕ) (kept : Kept) (t : Placed) (P : List Token → Type 0) (g : Going text from nodes kept)
-    → tokens_from from runs.Blank (drop from text) ≡ t ∷ tokens_from end runs.Blank (drop end text) → P (bare g.done ++ (t.token ∷ [])) → StopsAt text t.at P
+pub stops : (text : List ℕ) (from nodes end : ℕ) (kept : Kept) (t : Placed Token) (P : List Token → Type 0) (g : Going text from nodes kept)
+    → tokens_after formula_language text from ≡ t ∷ tokens_after formula_language text end → P (bare g.done ++ (t.token ∷ [])) → StopsAt formula_language IsFine text t.at P
 stops text from nodes end kept t P g found p = record {
   before = g.done;
   here = t;
-  after = tokens_from end runs.Blank (drop end text);
+  after = tokens_after formula_language text end;
   cut = g.cut ∙ ap (λ xs. g.done ++ xs) found;
   place = refl;
   fine = g.fine;
@@ -181,19 +166,19 @@ too_many ts t new m shallow full node = (
 )
 
 -- to the next token
-pub goes_next : (text : List ℕ) (from nodes more end : ℕ) (kept new : Kept) (t : Placed) (g : Going text from nodes kept)
-    → tokens_from from runs.Blank (drop from text) ≡ t ∷ tokens_from end runs.Blank (drop end text) → Moved (bare g.done) t.token new → length new.frames ≤ 32
+pub goes_next : (text : List ℕ) (from nodes more end : ℕ) (kept new : Kept) (t : Placed Token) (g : Going text from nodes kept)
+    → tokens_after formula_language text from ≡ t ∷ tokens_after formula_language text end → Moved (bare g.done) t.token new → length new.frames ≤ 32
     → more ≡ nodes + cond (is_node t.token) 1 0 → more ≤ 256 → Going text end more new
 goes_next text from nodes more end kept new t g found m shallow counts small =
     let all : bare (g.done ++ (t ∷ [])) ≡ bare g.done ++ (t.token ∷ []) = bare_last g.done t in
     let counted : more ≡ count_by is_node (bare g.done ++ (t.token ∷ [])) = omega (arith, g.counted, counts, count_last is_node (bare g.done) t.token) in
     record {
       done = g.done ++ (t ∷ []);
-      cut = g.cut ∙ ap (λ xs. g.done ++ xs) found ∙ sym (append_assoc g.done (t ∷ []) (tokens_from end runs.Blank (drop end text)));
+      cut = g.cut ∙ ap (λ xs. g.done ++ xs) found ∙ sym (append_assoc g.done (t ∷ []) (tokens_after formula_language text end));
       state = m.state;
       ran = ap run all ∙ m.ran;
       is = m.is;
-      fine = subst AreFine (sym all) (fine_more (bare g.done) t.token g.fine (record {
+      fine = subst (AreFine IsFine) (sym all) (fine_more IsFine (bare g.done) t.token g.fine (record {
         viable = run_viable (bare g.done ++ (t.token ∷ [])) m.state m.ran;
         shallow = omega (arith, depth (bare g.done) t.token new m, shallow);
         small = omega (arith, counted, small);
@@ -203,10 +188,10 @@ goes_next text from nodes more end kept new t g found m shallow counts small =
 
 pub few : (text : List ℕ) (from nodes : ℕ) (kept : Kept) → Going text from nodes kept → nodes ≤ 256
 few text from nodes kept g =
-    let whole : IsFine (bare g.done) = subst IsFine (take_all (length (bare g.done)) (bare g.done) (omega arith)) (g.fine (length (bare g.done))) in
+    let whole : IsFine (bare g.done) = fine_last IsFine (bare g.done) g.fine in
     omega (arith, g.counted, whole.small)
 
-all_done : (text : List ℕ) (from nodes : ℕ) (kept : Kept) (g : Going text from nodes kept) → tokens_from from runs.Blank (drop from text) ≡ [] → tokens text ≡ g.done
+all_done : (text : List ℕ) (from nodes : ℕ) (kept : Kept) (g : Going text from nodes kept) → tokens_after formula_language text from ≡ [] → tokens formula_language text ≡ g.done
 all_done text from nodes kept g none = g.cut ∙ ap (λ xs. g.done ++ xs) none ∙ append-nil g.done
 
 ended_mode : (e : Expr) → (kept_of (have_expr e [])).mode ≡ modes.Have
@@ -218,12 +203,12 @@ ended_frames (one_term t) = refl
 ended_frames (or_term f t) = refl
 
 -- the end comes too early
-pub not_done : (text : List ℕ) (from nodes : ℕ) (kept : Kept) → Going text from nodes kept → tokens_from from runs.Blank (drop from text) ≡ [] → ((kept.mode ≡ modes.Have) × (length kept.frames ≡ 0) → ⊥) → EndsAt text (length text)
+pub not_done : (text : List ℕ) (from nodes : ℕ) (kept : Kept) → Going text from nodes kept → tokens_after formula_language text from ≡ [] → ((kept.mode ≡ modes.Have) × (length kept.frames ≡ 0) → ⊥) → EndsAt formula_language IsFine spell text (length text)
 not_done text from nodes kept g none unended =
-    let all : tokens text ≡ g.done = all_done text from nodes kept g none in
+    let all : tokens formula_language text ≡ g.done = all_done text from nodes kept g none in
     record {
       place = refl;
-      fine = subst (λ ts. AreFine (bare ts)) (sym all) g.fine;
+      fine = subst (λ ts. AreFine IsFine (bare ts)) (sym all) g.fine;
       none = λ e spelled.
           let ends : Some (have_expr e []) ≡ Some g.state = sym (run_formula e) ∙ ap run (spelled ∙ ap bare all) ∙ g.ran in
           let same : have_expr e [] ≡ g.state = cc in
@@ -239,16 +224,16 @@ finished (have ors t []) kept is m z = (ors, t, refl)
 finished (have ors t (f ∷ fs)) kept is m z = absurd (omega (arith, z, ap (λ c. length c.frames) is, frames_long (f ∷ fs)))
 
 -- a formula was read
-pub parsed : (text : List ℕ) (from nodes : ℕ) (kept : Kept) (out : List Node) → Going text from nodes kept → tokens_from from runs.Blank (drop from text) ≡ [] → kept.mode ≡ modes.Have → length kept.frames ≡ 0 → out ≡ joined_out kept → IsParsed text out
+pub parsed : (text : List ℕ) (from nodes : ℕ) (kept : Kept) (out : List Node) → Going text from nodes kept → tokens_after formula_language text from ≡ [] → kept.mode ≡ modes.Have → length kept.frames ≡ 0 → out ≡ joined_out kept → IsParsed text out
 parsed text from nodes kept out g none m z e =
-    let all : tokens text ≡ g.done = all_done text from nodes kept g none in
+    let all : tokens formula_language text ≡ g.done = all_done text from nodes kept g none in
     let end : (ors : Option Expr) × (t : Term) × (g.state ≡ have ors t []) = finished g.state kept g.is m z in
     let is : kept ≡ kept_of (have end.0 end.1 []) = g.is ∙ ap kept_of end.2 in
     record {
       expr = join_expr end.0 end.1;
       parsed = record {
         spelled = sym (formula_read (bare g.done) end.0 end.1 (g.ran ∙ ap Some end.2)) ∙ ap bare (sym all);
-        fine = subst (λ ts. AreFine (bare ts)) (sym all) g.fine;
+        fine = subst (λ ts. AreFine IsFine (bare ts)) (sym all) g.fine;
       };
       written = e ∙ ap joined_out is ∙ joined_code end.0 end.1 [] ∙ nothing (postfix (shape (join_expr end.0 end.1)));
     }

@@ -5,22 +5,21 @@ use Rattle.std.specs.List.{take_while}
 use Rattle.std.specs.Str.{bytes_eq}
 use Rattle.std.specs.Char.{is_ascii_alphabetic, is_ascii_digit}
 use Rattle.std.proofs.lemmas.Bool.{lt-ltb, le-ltb, ltb-true, ltb-false}
-use Rattle.group_formula.specs.declared.token.Run.{Run}
-use Rattle.group_formula.specs.declared.token.Run.TheVariants as runs
 use Rattle.group_formula.specs.declared.token.Token.{Token}
 use Rattle.group_formula.specs.declared.token.Token.TheVariants as tokens
 use Rattle.group_formula.specs.declared.node.Node.{Node}
 use Rattle.group_formula.specs.declared.node.Node.TheVariants.{Name, And, Or, AtLeast}
 use Rattle.group_formula.specs.declared.fault.FormulaFault.{FormulaFault}
 use Rattle.group_formula.specs.declared.fault.FormulaFault.TheVariants.{UnknownName, BadCount}
-use Rattle.group_formula.specs.Tokens.{is_blank, has_byte, run_begun, symbol, word_token, token_at, tokens_from}
+use Rattle.text_tokens.specs.Tokens.{is_blank}
+use Rattle.run_tokens.specs.Tokens.{bare, is_word_byte, run_begun, token_at, tokens_from}
+use Rattle.group_formula.specs.Tokens.{formula_language, symbol, word_token}
 use Rattle.group_formula.specs.Trees.{tree_count, postfix, postfix_all}
 use Rattle.group_formula.specs.Grammar.{Expr, Term, Factor, Parts, spell, spell_term, spell_factor, spell_parts, shape, shape_term, shape_factor, shape_parts}
 use Rattle.group_formula.specs.Grammar.Expr.{one_term, or_term}
 use Rattle.group_formula.specs.Grammar.Term.{one_factor, and_factor}
 use Rattle.group_formula.specs.Grammar.Factor.{named, grouped, counted}
 use Rattle.group_formula.specs.Grammar.Parts.{one_part, more_parts}
-use Rattle.group_formula.specs.Faults.{bare}
 use Rattle.group_formula.specs.Formulas.{Reading, or_else, bad_name, bad_count, bad, some_bad}
 use Rattle.group_formula.specs.Resolved.{fault_place, earlier, bad_node, least}
 
@@ -219,17 +218,17 @@ symbol_stands c at =
     choose (nat_eq c 124) tokens.Bar _ at tt (choose (nat_eq c 38) tokens.Ampersand _ at tt (choose (nat_eq c 40) tokens.Open _ at tt (choose (nat_eq c 41) tokens.Close _ at tt
     (choose (nat_eq c 44) tokens.Comma tokens.Unknown at tt tt))))
 
-token_stands : (at c : ℕ) (cs : List ℕ) → StandsAt (token_at at (c ∷ cs)) at
+token_stands : (at c : ℕ) (cs : List ℕ) → StandsAt (token_at formula_language at (c ∷ cs)) at
 token_stands at c cs =
-    choose (is_ascii_alphabetic c) (word_token at (take_while (has_byte runs.Name) (c ∷ cs))) _ at (choose (bytes_eq (take_while (has_byte runs.Name) (c ∷ cs)) (codes "of")) tokens.Of (tokens.Name at) at tt refl)
+    choose (is_ascii_alphabetic c) (word_token at (take_while is_word_byte (c ∷ cs))) _ at (choose (bytes_eq (take_while is_word_byte (c ∷ cs)) (codes "of")) tokens.Of (tokens.Name at) at tt refl)
     (choose (is_ascii_digit c) (tokens.Number at) (symbol c) at refl (symbol_stands c at))
 
-rises_at : (at : ℕ) (r : Run) (c : ℕ) (cs : List ℕ) (hi : ℕ) (goes blank : Bool) → ((run : Run) → Rises (at + 1) (bare (tokens_from (at + 1) run cs)) hi)
-    → Rises at (bare (cond goes (tokens_from (at + 1) r cs) (cond blank (tokens_from (at + 1) runs.Blank cs) (record { at = at; token = token_at at (c ∷ cs) } ∷ tokens_from (at + 1) (run_begun c) cs)))) hi
-rises_at at r c cs hi true blank h = rises_from at (at + 1) (bare (tokens_from (at + 1) r cs)) hi (omega arith) (h r)
-rises_at at r c cs hi false true h = rises_from at (at + 1) (bare (tokens_from (at + 1) runs.Blank cs)) hi (omega arith) (h runs.Blank)
-rises_at at r c cs hi false false h = rises_more at (token_at at (c ∷ cs)) (bare (tokens_from (at + 1) (run_begun c) cs)) hi (token_stands at c cs) (h (run_begun c))
+rises_at : (at : ℕ) (r : ℕ → Bool) (c : ℕ) (cs : List ℕ) (hi : ℕ) (goes blank : Bool) → ((run : ℕ → Bool) → Rises (at + 1) (bare (tokens_from formula_language (at + 1) run cs)) hi)
+    → Rises at (bare (cond goes (tokens_from formula_language (at + 1) r cs) (cond blank (tokens_from formula_language (at + 1) is_blank cs) (record { at = at; token = token_at formula_language at (c ∷ cs) } ∷ tokens_from formula_language (at + 1) (run_begun formula_language c) cs)))) hi
+rises_at at r c cs hi true blank h = rises_from at (at + 1) (bare (tokens_from formula_language (at + 1) r cs)) hi (omega arith) (h r)
+rises_at at r c cs hi false true h = rises_from at (at + 1) (bare (tokens_from formula_language (at + 1) is_blank cs)) hi (omega arith) (h is_blank)
+rises_at at r c cs hi false false h = rises_more at (token_at formula_language at (c ∷ cs)) (bare (tokens_from formula_language (at + 1) (run_begun formula_language c) cs)) hi (token_stands at c cs) (h (run_begun formula_language c))
 
-pub rises : (at : ℕ) (r : Run) (cs : List ℕ) (hi : ℕ) → at + length cs ≤ hi → Rises at (bare (tokens_from at r cs)) hi
+pub rises : (at : ℕ) (r : ℕ → Bool) (cs : List ℕ) (hi : ℕ) → at + length cs ≤ hi → Rises at (bare (tokens_from formula_language at r cs)) hi
 rises at r [] hi l = omega arith
-rises at r (c ∷ cs) hi l = rises_at at r c cs hi (has_byte r c) (is_blank c) (λ run. rises (at + 1) run cs hi (omega arith))
+rises at r (c ∷ cs) hi l = rises_at at r c cs hi (r c) (is_blank c) (λ run. rises (at + 1) run cs hi (omega arith))

@@ -1,6 +1,5 @@
 pub mod Monotonicity
 pub mod WrittenTrees
-pub mod NextTokens
 pub mod MachineSteps
 pub mod MachineRuns
 pub mod ParserStates

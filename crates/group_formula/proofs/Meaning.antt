@@ -3,17 +3,19 @@ use Rattle.std.proofs.Common.{◌≡◌, ℕ, ◌+◌, ◌≤◌, ◌<◌, Bool,
 use Rattle.std.specs.Prelude.{count_by, is_some, unwrap_or}
 use Rattle.std.specs.Str.{bytes_eq}
 use Rattle.std.proofs.lemmas.Bool.{leb-true}
-use Rattle.std.proofs.lemmas.List.{map-append, take_all}
+use Rattle.std.proofs.lemmas.List.{map-append}
 use Rattle.std.proofs.lemmas.List.Sums.{sum_by-append}
 use Rattle.std.proofs.lemmas.List.Quantifiers.{position-Some}
 use Rattle.group_formula.specs.declared.token.Token.{Token}
 use Rattle.group_formula.specs.declared.token.Token.TheVariants as tokens
-use Rattle.group_formula.specs.declared.token.Run.TheVariants as runs
 use Rattle.group_formula.specs.declared.node.Node.{Node}
 use Rattle.group_formula.specs.declared.node.Node.TheVariants.{And, Or, AtLeast}
 use Rattle.group_formula.specs.declared.fault.FormulaFault.{FormulaFault}
 use Rattle.group_formula.specs.declared.fault.FormulaFault.TheVariants.{UnknownName, BadCount}
-use Rattle.group_formula.specs.Tokens.{is_node, tokens}
+use Rattle.text_tokens.specs.Tokens.{is_blank}
+use Rattle.run_tokens.specs.Tokens.{bare, tokens}
+use Rattle.run_tokens.proofs.FirstFaults.{fine_last}
+use Rattle.group_formula.specs.Tokens.{formula_language, is_node}
 use Rattle.group_formula.specs.Trees.{Tree, Trees, tree_count, IsSoundTree, AreSound, postfix, postfix_all, tree_of}
 use Rattle.group_formula.specs.Trees.Tree.{leaf, both, either, at_least}
 use Rattle.group_formula.specs.Trees.Trees.{one_tree, more_trees}
@@ -23,7 +25,7 @@ use Rattle.group_formula.specs.Grammar.Term.{one_factor, and_factor}
 use Rattle.group_formula.specs.Grammar.Factor.{named, grouped, counted}
 use Rattle.group_formula.specs.Grammar.Parts.{one_part, more_parts}
 use Rattle.group_formula.proofs.WrittenTrees.{tree_of-postfix}
-use Rattle.group_formula.specs.Faults.{IsFine, bare}
+use Rattle.group_formula.specs.Faults.{IsFine}
 use Rattle.group_formula.specs.Parsed.{IsParsed}
 use Rattle.group_formula.specs.Formulas.{Reading, reading, name_in_text, resolved, all_resolved, or_else, bad_count, bad, some_bad}
 use Rattle.group_formula.specs.Resolved.{resolved_node, least}
@@ -33,7 +35,7 @@ use Rattle.group_formula.proofs.FirstNodeFault.{Rises, rises, tells_expr}
 -- the fault that stands first among the nodes
 pub least_is : (text : List ℕ) (names : List (List ℕ)) (nodes : List Node) (p : IsParsed text nodes) → least (reading text names) nodes ≡ bad (reading text names) (shape p.expr)
 least_is text names nodes p =
-    let up : Rises 0 (spell p.expr) (length text) = subst (λ ts. Rises 0 ts (length text)) (sym p.parsed.spelled) (rises 0 runs.Blank text (length text) (omega arith)) in
+    let up : Rises 0 (spell p.expr) (length text) = subst (λ ts. Rises 0 ts (length text)) (sym p.parsed.spelled) (rises 0 is_blank text (length text) (omega arith)) in
     ap (least (reading text names)) p.written ∙ (tells_expr (reading text names) p.expr 0 (length text) up).0
 
 count-resolved : (r : Reading) (ts : Trees) → tree_count (all_resolved r ts) ≡ tree_count ts
@@ -136,7 +138,7 @@ mutual
 
 pub few_nodes : (text : List ℕ) (nodes : List Node) → IsParsed text nodes → length nodes ≤ 256
 few_nodes text nodes p =
-    let whole : IsFine (bare (tokens text)) = subst IsFine (take_all (length (bare (tokens text))) (bare (tokens text)) (omega arith)) (p.parsed.fine (length (bare (tokens text)))) in
+    let whole : IsFine (bare (tokens formula_language text)) = fine_last IsFine (bare (tokens formula_language text)) p.parsed.fine in
     omega (arith, ap length p.written, counted_expr p.expr, ap (count_by is_node) p.parsed.spelled, whole.small)
 
 -- the nodes of the formula

@@ -1,12 +1,11 @@
 -- Numbers that digits write.
 use Rattle.std.proofs.Common.{◌≡◌, ℕ, ◌+◌, ◌-◌, ◌*◌, ◌^◌, ◌≤◌, ◌<◌, Bool, true, false, cond, ◌&&◌, nat_le, nat_lt, List, [], ◌∷◌, ◌++◌, length, take, drop, get_or, Some, None, refl, sym, ◌∙◌, ap, arith}
 use Rattle.std.specs.List.{prefix_len, take_while}
+use Rattle.std.specs.Char.{is_ascii_digit}
 use Rattle.std.proofs.lemmas.Bool.{leb-true, ltb-false, lt-leb}
 use Rattle.std.proofs.lemmas.List.{take_more, take-append-drop, get_or-take}
 use Rattle.std.proofs.lemmas.List.Sums.{prefix_len_passes}
 use Rattle.std.proofs.lemmas.List.Folds.{length-prefix_len}
-use Rattle.group_formula.specs.declared.token.Run.TheVariants as runs
-use Rattle.group_formula.specs.Tokens.{has_byte}
 use Rattle.group_formula.specs.Formulas.{decimal_after, decimal}
 
 pub decimal-append : (n : ℕ) (xs ys : List ℕ) → decimal_after n (xs ++ ys) ≡ decimal_after (decimal_after n xs) ys
@@ -23,7 +22,7 @@ decimal_grows n (d ∷ ds) = omega (arith, decimal_grows (10 * n + (d - 48)) ds)
 decimal_le : (ds : List ℕ) (i : ℕ) → decimal (take i ds) ≤ decimal ds
 decimal_le ds i = omega (arith, decimal_grows (decimal (take i ds)) (drop i ds), sym (decimal-append 0 (take i ds) (drop i ds)) ∙ ap decimal (take-append-drop i ds))
 
-digit_from : (c : ℕ) → has_byte runs.Number c ≡ true → 48 ≤ c
+digit_from : (c : ℕ) → is_ascii_digit c ≡ true → 48 ≤ c
 digit_from c e = go (nat_le 48 c) (nat_le c 57) refl e
   where
     go : (a b : Bool) → nat_le 48 c ≡ a → (a && b) ≡ true → 48 ≤ c
@@ -31,11 +30,11 @@ digit_from c e = go (nat_le 48 c) (nat_le c 57) refl e
     go false b f e = cc
 
 -- each of the digits is one
-pub digit_at : (xs ds : List ℕ) (i : ℕ) → ds ≡ take_while (has_byte runs.Number) xs → i < length ds → 48 ≤ get_or ds i 0
+pub digit_at : (xs ds : List ℕ) (i : ℕ) → ds ≡ take_while is_ascii_digit xs → i < length ds → 48 ≤ get_or ds i 0
 digit_at xs ds i e l =
-    let within : i < prefix_len (has_byte runs.Number) xs = omega (arith, ap length e, length-prefix_len (has_byte runs.Number) xs) in
+    let within : i < prefix_len is_ascii_digit xs = omega (arith, ap length e, length-prefix_len is_ascii_digit xs) in
     digit_from (get_or ds i 0)
-    (ap (λ ys. has_byte runs.Number (get_or ys i 0)) e ∙ ap (has_byte runs.Number) (get_or-take (prefix_len (has_byte runs.Number) xs) xs i 0 within) ∙ prefix_len_passes (has_byte runs.Number) xs i 0 within)
+    (ap (λ ys. is_ascii_digit (get_or ys i 0)) e ∙ ap is_ascii_digit (get_or-take (prefix_len is_ascii_digit xs) xs i 0 within) ∙ prefix_len_passes is_ascii_digit xs i 0 within)
 
 -- a number that does not fit
 pub refused_digit : (n most : ℕ) → cond (nat_lt n most) (Some n) None ≡ None → most ≤ n

@@ -1,39 +1,38 @@
 -- Each text has one answer.
-use Rattle.std.proofs.Common.{◌≡◌, ℕ, suc, ◌+◌, ◌≤◌, ◌<◌, ◌⊎◌, inl, inr, Bool, true, false, List, [], ◌∷◌, ◌++◌, length, take, Option, Some, None, refl, sym, ◌∙◌, ap, ap₂, subst, append_assoc, append-nil, length-append, nat_le, nat_lt, arith}
+use Rattle.std.proofs.Common.{◌≡◌, ℕ, ◌≤◌, ◌<◌, ◌⊎◌, inl, inr, Bool, true, false, List, [], ◌∷◌, ◌++◌, length, Option, Some, None, refl, sym, ◌∙◌, ap, ap₂, subst, append_assoc, append-nil, nat_le, arith}
 use Rattle.std.specs.Prelude.{count_by}
-use Rattle.std.proofs.lemmas.Bool.{leb-true, leb-false, ltb-true, ltb-false}
-use Rattle.std.proofs.lemmas.List.{take_all, take-append-le, map-append}
+use Rattle.std.proofs.lemmas.Bool.{leb-true, leb-false}
 use Rattle.group_formula.specs.declared.token.Token.{Token}
 use Rattle.group_formula.specs.declared.fault.FormulaFault.{FormulaFault}
 use Rattle.group_formula.specs.declared.fault.FormulaFault.TheVariants.{Syntax, UnknownName, BadCount, TooDeep, TooManyNodes, Memory}
-use Rattle.group_formula.specs.Tokens.{Placed, is_node, tokens}
+use Rattle.run_tokens.specs.Tokens.{Placed, bare, tokens}
+use Rattle.run_tokens.specs.FirstFaults.{AreFine}
+use Rattle.run_tokens.proofs.FirstFaults.{bare_last, fine_more, stop, no_stop, same_place, both_stop}
+use Rattle.group_formula.specs.Tokens.{formula_language, is_node}
 use Rattle.group_formula.specs.Grammar.{Expr, Term, shape, IsViable}
 use Rattle.group_formula.specs.Grammar.Expr.{one_term, or_term}
 use Rattle.group_formula.specs.Machine.{Level, Pending, MachineState, step, join_expr}
 use Rattle.group_formula.specs.Machine.Level.{level}
 use Rattle.group_formula.specs.Machine.MachineState.{want, want_of, want_open, have}
-use Rattle.group_formula.specs.Faults.{IsShallow, IsSmall, IsFine, AreFine, bare, StopsAt, Parses, IsFirstFault}
+use Rattle.group_formula.specs.Faults.{IsShallow, IsSmall, IsFine, Parses, IsFirstFault}
 use Rattle.group_formula.specs.Trees.{Tree, Meaning, postfix, tree_of}
 use Rattle.group_formula.specs.Formulas.{reading, resolved, bad, IsFormula, IsFault}
 use Rattle.group_formula.specs.Laws.{HasOneAnswer}
 use Rattle.group_formula.proofs.WrittenTrees.{tree_of-postfix}
 use Rattle.group_formula.proofs.MachineSteps.{run}
 use Rattle.group_formula.proofs.MachineRuns.{run_viable, stuck_no, formula_read, run_formula, have_expr, one_formula}
-use Rattle.group_formula.proofs.FaultlessTokens.{frames_in, opened, run_last, fine_more, fine_none, bare_last}
+use Rattle.group_formula.proofs.FaultlessTokens.{frames_in, opened, run_last, fine_nothing}
 
 -- what the first pass finds
 abbrev pub Passes : List ℕ → Type 0
 Passes text = ((e : Expr) × Parses text e) ⊎ ((fault : FormulaFault) × IsFirstFault text fault)
 
-stop : (text : List ℕ) (done rest : List Placed) (t : Placed) (P : List Token → Type 0) → tokens text ≡ done ++ (t ∷ rest) → AreFine (bare done) → P (bare done ++ (t.token ∷ [])) → StopsAt text t.at P
-stop text done rest t P cut fine p = record { before = done; here = t; after = rest; cut = cut; place = refl; fine = fine; fault = subst P (sym (bare_last done t)) p }
-
-unended : (text : List ℕ) (done : List Placed) (s : MachineState) → tokens text ≡ done → run (bare done) ≡ Some s → AreFine (bare done) → ((e : Expr) → have_expr e [] ≡ s → ⊥) → Passes text
+unended : (text : List ℕ) (done : List (Placed Token)) (s : MachineState) → tokens formula_language text ≡ done → run (bare done) ≡ Some s → AreFine IsFine (bare done) → ((e : Expr) → have_expr e [] ≡ s → ⊥) → Passes text
 unended text done s cut ran fine bars = inr (
   Syntax (length text),
   inr (record {
     place = refl;
-    fine = subst (λ ts. AreFine (bare ts)) (sym cut) fine;
+    fine = subst (λ ts. AreFine IsFine (bare ts)) (sym cut) fine;
     none = λ e spelled.
         let ends : Some (have_expr e []) ≡ Some s = sym (run_formula e) ∙ ap run (spelled ∙ ap bare cut) ∙ ran in
         let same : have_expr e [] ≡ s = cc in
@@ -57,50 +56,50 @@ not_inside : (e : Expr) (ors : Option Expr) (t : Term) (f : Pending) (fs : List 
 not_inside (one_term u) ors t f fs e = cc
 not_inside (or_term d u) ors t f fs e = cc
 
-ended : (text : List ℕ) (done : List Placed) (s : MachineState) → tokens text ≡ done → run (bare done) ≡ Some s → AreFine (bare done) → Passes text
+ended : (text : List ℕ) (done : List (Placed Token)) (s : MachineState) → tokens formula_language text ≡ done → run (bare done) ≡ Some s → AreFine IsFine (bare done) → Passes text
 ended text done (want l fs) cut ran fine = unended text done (want l fs) cut ran fine (λ e h. not_want e l fs h)
 ended text done (want_of n l fs) cut ran fine = unended text done (want_of n l fs) cut ran fine (λ e h. not_want_of e n l fs h)
 ended text done (want_open n l fs) cut ran fine = unended text done (want_open n l fs) cut ran fine (λ e h. not_want_open e n l fs h)
 ended text done (have ors t (f ∷ fs)) cut ran fine = unended text done (have ors t (f ∷ fs)) cut ran fine (λ e h. not_inside e ors t f fs h)
 ended text done (have ors t []) cut ran fine = inl (
   join_expr ors t,
-  record { spelled = sym (formula_read (bare done) ors t ran) ∙ ap bare (sym cut); fine = subst (λ ts. AreFine (bare ts)) (sym cut) fine },
+  record { spelled = sym (formula_read (bare done) ors t ran) ∙ ap bare (sym cut); fine = subst (λ ts. AreFine IsFine (bare ts)) (sym cut) fine },
 )
 
-decide_small : (text : List ℕ) (done rest : List Placed) (t : Placed) (next : MachineState) (b : Bool) → tokens text ≡ done ++ (t ∷ rest) → AreFine (bare done) → run (bare done ++ (t.token ∷ [])) ≡ Some next
+decide_small : (text : List ℕ) (done rest : List (Placed Token)) (t : Placed Token) (next : MachineState) (b : Bool) → tokens formula_language text ≡ done ++ (t ∷ rest) → AreFine IsFine (bare done) → run (bare done ++ (t.token ∷ [])) ≡ Some next
     → IsShallow (bare done ++ (t.token ∷ [])) → nat_le (count_by is_node (bare done ++ (t.token ∷ []))) 256 ≡ b
-    → (AreFine (bare (done ++ (t ∷ []))) → Passes text) → Passes text
+    → (AreFine IsFine (bare (done ++ (t ∷ []))) → Passes text) → Passes text
 decide_small text done rest t next true cut fine ran shallow e goes =
-    goes (subst AreFine (sym (bare_last done t)) (fine_more (bare done) t.token fine (record { viable = run_viable (bare done ++ (t.token ∷ [])) next ran; shallow = shallow; small = leb-true _ 256 e })))
+    goes (subst (AreFine IsFine) (sym (bare_last done t)) (fine_more IsFine (bare done) t.token fine (record { viable = run_viable (bare done ++ (t.token ∷ [])) next ran; shallow = shallow; small = leb-true _ 256 e })))
 decide_small text done rest t next false cut fine ran shallow e goes =
     let many : 256 < count_by is_node (bare done ++ (t.token ∷ [])) = leb-false _ 256 e in
-    inr (TooManyNodes t.at, stop text done rest t (λ ts. IsViable ts × IsShallow ts × (IsSmall ts → ⊥)) cut fine (run_viable (bare done ++ (t.token ∷ [])) next ran, shallow, λ h. omega (arith, h, many)))
+    inr (TooManyNodes t.at, stop formula_language IsFine text done rest t (λ ts. IsViable ts × IsShallow ts × (IsSmall ts → ⊥)) cut fine (run_viable (bare done ++ (t.token ∷ [])) next ran, shallow, λ h. omega (arith, h, many)))
 
-decide_shallow : (text : List ℕ) (done rest : List Placed) (t : Placed) (next : MachineState) (b : Bool) → tokens text ≡ done ++ (t ∷ rest) → AreFine (bare done) → run (bare done ++ (t.token ∷ [])) ≡ Some next
-    → nat_le (length (frames_in next)) 32 ≡ b → (AreFine (bare (done ++ (t ∷ []))) → Passes text) → Passes text
+decide_shallow : (text : List ℕ) (done rest : List (Placed Token)) (t : Placed Token) (next : MachineState) (b : Bool) → tokens formula_language text ≡ done ++ (t ∷ rest) → AreFine IsFine (bare done) → run (bare done ++ (t.token ∷ [])) ≡ Some next
+    → nat_le (length (frames_in next)) 32 ≡ b → (AreFine IsFine (bare (done ++ (t ∷ []))) → Passes text) → Passes text
 decide_shallow text done rest t next true cut fine ran e goes =
     let few : length (frames_in next) ≤ 32 = leb-true (length (frames_in next)) 32 e in
     decide_small text done rest t next (nat_le (count_by is_node (bare done ++ (t.token ∷ []))) 256) cut fine ran (omega (arith, opened (bare done ++ (t.token ∷ [])) next ran, few)) refl goes
 decide_shallow text done rest t next false cut fine ran e goes =
     let many : 32 < length (frames_in next) = leb-false (length (frames_in next)) 32 e in
-    inr (TooDeep t.at, stop text done rest t (λ ts. IsViable ts × (IsShallow ts → ⊥)) cut fine (run_viable (bare done ++ (t.token ∷ [])) next ran, λ h. omega (arith, h, opened (bare done ++ (t.token ∷ [])) next ran, many)))
+    inr (TooDeep t.at, stop formula_language IsFine text done rest t (λ ts. IsViable ts × (IsShallow ts → ⊥)) cut fine (run_viable (bare done ++ (t.token ∷ [])) next ran, λ h. omega (arith, h, opened (bare done ++ (t.token ∷ [])) next ran, many)))
 
-decide_step : (text : List ℕ) (done rest : List Placed) (t : Placed) (s : MachineState) (next : Option MachineState) → tokens text ≡ done ++ (t ∷ rest) → AreFine (bare done) → run (bare done) ≡ Some s
-    → step s t.token ≡ next → ((m : MachineState) → run (bare (done ++ (t ∷ []))) ≡ Some m → AreFine (bare (done ++ (t ∷ []))) → Passes text) → Passes text
+decide_step : (text : List ℕ) (done rest : List (Placed Token)) (t : Placed Token) (s : MachineState) (next : Option MachineState) → tokens formula_language text ≡ done ++ (t ∷ rest) → AreFine IsFine (bare done) → run (bare done) ≡ Some s
+    → step s t.token ≡ next → ((m : MachineState) → run (bare (done ++ (t ∷ []))) ≡ Some m → AreFine IsFine (bare (done ++ (t ∷ []))) → Passes text) → Passes text
 decide_step text done rest t s None cut fine ran e goes =
-    inr (Syntax t.at, inl (stop text done rest t (λ ts. IsViable ts → ⊥) cut fine (stuck_no (bare done ++ (t.token ∷ [])) (run_last (bare done) s t.token ran ∙ e))))
+    inr (Syntax t.at, inl (stop formula_language IsFine text done rest t (λ ts. IsViable ts → ⊥) cut fine (stuck_no (bare done ++ (t.token ∷ [])) (run_last (bare done) s t.token ran ∙ e))))
 decide_step text done rest t s (Some next) cut fine ran e goes =
     let after : run (bare done ++ (t.token ∷ [])) ≡ Some next = run_last (bare done) s t.token ran ∙ e in
     decide_shallow text done rest t next (nat_le (length (frames_in next)) 32) cut fine after refl (goes next (ap run (bare_last done t) ∙ after))
 
-decide : (text : List ℕ) (done rest : List Placed) (s : MachineState) → tokens text ≡ done ++ rest → AreFine (bare done) → run (bare done) ≡ Some s → Passes text
+decide : (text : List ℕ) (done rest : List (Placed Token)) (s : MachineState) → tokens formula_language text ≡ done ++ rest → AreFine IsFine (bare done) → run (bare done) ≡ Some s → Passes text
 decide text done [] s cut fine ran = ended text done s (cut ∙ append-nil done) ran fine
 decide text done (t ∷ rest) s cut fine ran =
     decide_step text done rest t s (step s t.token) cut fine ran refl
     (λ m after more. decide text (done ++ (t ∷ [])) rest m (cut ∙ sym (append_assoc done (t ∷ []) rest)) more after)
 
 passes : (text : List ℕ) → Passes text
-passes text = decide text [] (tokens text) (want (level None None) []) refl fine_none refl
+passes text = decide text [] (tokens formula_language text) (want (level None None) []) refl fine_nothing refl
 
 decide_second : (text : List ℕ) (names : List (List ℕ)) (e : Expr) (b : Option FormulaFault) → Parses text e → bad (reading text names) (shape e) ≡ b
     → ((f : Meaning) × IsFormula text names f) ⊎ ((fault : FormulaFault) × IsFault text names fault)
@@ -115,73 +114,6 @@ some_answer text names = elim (passes text) [
   | inl p ↦ decide_second text names p.0 (bad (reading text names) (shape p.0)) p.1 refl
   | inr f ↦ inr (f.0, inl f.1)
 ]
-
--- the tokens up to the one that stops
-abbrev pub front : (text : List ℕ) (at : ℕ) (P : List Token → Type 0) → StopsAt text at P → ℕ
-front text at P s = length s.before + 1
-
-front_is : (text : List ℕ) (at : ℕ) (P : List Token → Type 0) (s : StopsAt text at P) → take (front text at P s) (bare (tokens text)) ≡ bare (s.before ++ (s.here ∷ []))
-front_is text at P s =
-    let all : bare (tokens text) ≡ bare (s.before ++ (s.here ∷ [])) ++ bare s.after =
-    ap bare (s.cut ∙ sym (append_assoc s.before (s.here ∷ []) s.after)) ∙ map-append (λ (t : Placed). t.token) (s.before ++ (s.here ∷ [])) s.after in
-    let long : length (bare (s.before ++ (s.here ∷ []))) ≡ front text at P s = length_bare (s.before ++ (s.here ∷ [])) ∙ (omega (arith, length-append s.before (s.here ∷ []))) in
-    ap (take (front text at P s)) all ∙ short (bare (s.before ++ (s.here ∷ []))) (bare s.after) (front text at P s) (omega (arith, long)) ∙ take_all (front text at P s) (bare (s.before ++ (s.here ∷ []))) (omega (arith, long))
-  where
-    length_bare : (ts : List Placed) → length (bare ts) ≡ length ts
-    length_bare [] = refl
-    length_bare (t ∷ ts) = ap suc (length_bare ts)
-
-    short : (xs ys : List Token) (n : ℕ) → n ≤ length xs → take n (xs ++ ys) ≡ take n xs
-    short xs ys n l = rw take-append-le refl
-
-before_is : (text : List ℕ) (at : ℕ) (P : List Token → Type 0) (s : StopsAt text at P) (k : ℕ) → k ≤ length s.before → take k (bare (tokens text)) ≡ take k (bare s.before)
-before_is text at P s k l =
-    let all : bare (tokens text) ≡ bare s.before ++ bare (s.here ∷ s.after) = ap bare s.cut ∙ map-append (λ (t : Placed). t.token) s.before (s.here ∷ s.after) in
-    ap (take k) all ∙ short (bare s.before) (bare (s.here ∷ s.after)) k (omega (arith, l, length_bare s.before))
-  where
-    length_bare : (ts : List Placed) → length (bare ts) ≡ length ts
-    length_bare [] = refl
-    length_bare (t ∷ ts) = ap suc (length_bare ts)
-
-    short : (xs ys : List Token) (n : ℕ) → n ≤ length xs → take n (xs ++ ys) ≡ take n xs
-    short xs ys n l = rw take-append-le refl
-
--- where no token has a fault, none stops
-no_stop : (text : List ℕ) (at : ℕ) (P : List Token → Type 0) → ((ts : List Token) → P ts → IsFine ts → ⊥) → AreFine (bare (tokens text)) → StopsAt text at P → ⊥
-no_stop text at P bars fine s = bars (bare (s.before ++ (s.here ∷ []))) s.fault (subst IsFine (front_is text at P s) (fine (front text at P s)))
-
--- a token that stops is not before another that does
-not_before : (text : List ℕ) (a b : ℕ) (P Q : List Token → Type 0) → ((ts : List Token) → P ts → IsFine ts → ⊥) → (s : StopsAt text a P) (u : StopsAt text b Q) → length s.before < length u.before → ⊥
-not_before text a b P Q bars s u l =
-    bars (bare (s.before ++ (s.here ∷ []))) s.fault
-    (subst IsFine (sym (before_is text b Q u (front text a P s) (omega (arith, l))) ∙ front_is text a P s) (u.fine (front text a P s)))
-
-same_front : (text : List ℕ) (a b : ℕ) (P Q : List Token → Type 0) → ((ts : List Token) → P ts → IsFine ts → ⊥) → ((ts : List Token) → Q ts → IsFine ts → ⊥) → (s : StopsAt text a P) (u : StopsAt text b Q) → length s.before ≡ length u.before
-same_front text a b P Q bars halts s u = go (nat_lt (length s.before) (length u.before)) (nat_lt (length u.before) (length s.before)) refl refl
-  where
-    go : (x y : Bool) → nat_lt (length s.before) (length u.before) ≡ x → nat_lt (length u.before) (length s.before) ≡ y → length s.before ≡ length u.before
-    go true y e f = absurd (not_before text a b P Q bars s u (ltb-true _ _ e))
-    go false true e f = absurd (not_before text b a Q P halts u s (ltb-true _ _ f))
-    go false false e f = omega (arith, ltb-false (length s.before) (length u.before) e, ltb-false (length u.before) (length s.before) f)
-
-cut_same : (xs ys : List Placed) (x y : Placed) (us vs : List Placed) → length xs ≡ length ys → xs ++ (x ∷ us) ≡ ys ++ (y ∷ vs) → (xs ≡ ys) × (x ≡ y)
-cut_same [] [] x y us vs l e = (refl, cc)
-cut_same [] (b ∷ ys) x y us vs l e = absurd (omega (arith, l))
-cut_same (a ∷ xs) [] x y us vs l e = absurd (omega (arith, l))
-cut_same (a ∷ xs) (b ∷ ys) x y us vs l e =
-    let rest : (xs ≡ ys) × (x ≡ y) = cut_same xs ys x y us vs (omega (arith, l)) cc in
-    (let h : a ≡ b = cc in let t : xs ≡ ys = rest.0 in cc, rest.1)
-
-same_place : (text : List ℕ) (a b : ℕ) (P Q : List Token → Type 0) → ((ts : List Token) → P ts → IsFine ts → ⊥) → ((ts : List Token) → Q ts → IsFine ts → ⊥) → (s : StopsAt text a P) (u : StopsAt text b Q) → a ≡ b
-same_place text a b P Q bars halts s u =
-    sym s.place ∙ ap (λ (t : Placed). t.at) (cut_same s.before u.before s.here u.here s.after u.after (same_front text a b P Q bars halts s u) (sym s.cut ∙ u.cut)).1 ∙ u.place
-
--- two faults at one token
-both_stop : (text : List ℕ) (a b : ℕ) (P Q : List Token → Type 0) → ((ts : List Token) → P ts → IsFine ts → ⊥) → ((ts : List Token) → Q ts → IsFine ts → ⊥) → ((ts : List Token) → P ts → Q ts → ⊥) → StopsAt text a P → StopsAt text b Q → ⊥
-both_stop text a b P Q bars halts apart s u =
-    let same : length s.before + 1 ≡ length u.before + 1 = omega (arith, same_front text a b P Q bars halts s u) in
-    apart (bare (s.before ++ (s.here ∷ []))) s.fault
-    (subst Q (sym (front_is text b Q u) ∙ ap (λ k. take k (bare (tokens text))) (sym same) ∙ front_is text a P s) u.fault)
 
 abbrev pub Unviable : List Token → Type 0
 Unviable ts = IsViable ts → ⊥
@@ -202,22 +134,22 @@ many_no : (ts : List Token) → Many ts → IsFine ts → ⊥
 many_no ts h f = h.2 f.small
 
 one_first : (text : List ℕ) (a b : FormulaFault) → IsFirstFault text a → IsFirstFault text b → a ≡ b
-one_first text (Syntax x) (Syntax y) (inl s) (inl u) = ap Syntax (same_place text x y Unviable Unviable unviable_no unviable_no s u)
-one_first text (Syntax x) (Syntax y) (inl s) (inr u) = absurd (no_stop text x Unviable unviable_no u.fine s)
-one_first text (Syntax x) (Syntax y) (inr s) (inl u) = absurd (no_stop text y Unviable unviable_no s.fine u)
+one_first text (Syntax x) (Syntax y) (inl s) (inl u) = ap Syntax (same_place formula_language IsFine text x y Unviable Unviable unviable_no unviable_no s u)
+one_first text (Syntax x) (Syntax y) (inl s) (inr u) = absurd (no_stop formula_language IsFine text x Unviable unviable_no u.fine s)
+one_first text (Syntax x) (Syntax y) (inr s) (inl u) = absurd (no_stop formula_language IsFine text y Unviable unviable_no s.fine u)
 one_first text (Syntax x) (Syntax y) (inr s) (inr u) = ap Syntax (s.place ∙ sym u.place)
-one_first text (Syntax x) (TooDeep y) (inl s) u = absurd (both_stop text x y Unviable Deep unviable_no deep_no (λ ts p q. p q.0) s u)
-one_first text (Syntax x) (TooDeep y) (inr s) u = absurd (no_stop text y Deep deep_no s.fine u)
-one_first text (Syntax x) (TooManyNodes y) (inl s) u = absurd (both_stop text x y Unviable Many unviable_no many_no (λ ts p q. p q.0) s u)
-one_first text (Syntax x) (TooManyNodes y) (inr s) u = absurd (no_stop text y Many many_no s.fine u)
-one_first text (TooDeep x) (Syntax y) s (inl u) = absurd (both_stop text x y Deep Unviable deep_no unviable_no (λ ts p q. q p.0) s u)
-one_first text (TooDeep x) (Syntax y) s (inr u) = absurd (no_stop text x Deep deep_no u.fine s)
-one_first text (TooDeep x) (TooDeep y) s u = ap TooDeep (same_place text x y Deep Deep deep_no deep_no s u)
-one_first text (TooDeep x) (TooManyNodes y) s u = absurd (both_stop text x y Deep Many deep_no many_no (λ ts p q. p.1 q.1) s u)
-one_first text (TooManyNodes x) (Syntax y) s (inl u) = absurd (both_stop text x y Many Unviable many_no unviable_no (λ ts p q. q p.0) s u)
-one_first text (TooManyNodes x) (Syntax y) s (inr u) = absurd (no_stop text x Many many_no u.fine s)
-one_first text (TooManyNodes x) (TooDeep y) s u = absurd (both_stop text x y Many Deep many_no deep_no (λ ts p q. q.1 p.1) s u)
-one_first text (TooManyNodes x) (TooManyNodes y) s u = ap TooManyNodes (same_place text x y Many Many many_no many_no s u)
+one_first text (Syntax x) (TooDeep y) (inl s) u = absurd (both_stop formula_language IsFine text x y Unviable Deep unviable_no deep_no (λ ts p q. p q.0) s u)
+one_first text (Syntax x) (TooDeep y) (inr s) u = absurd (no_stop formula_language IsFine text y Deep deep_no s.fine u)
+one_first text (Syntax x) (TooManyNodes y) (inl s) u = absurd (both_stop formula_language IsFine text x y Unviable Many unviable_no many_no (λ ts p q. p q.0) s u)
+one_first text (Syntax x) (TooManyNodes y) (inr s) u = absurd (no_stop formula_language IsFine text y Many many_no s.fine u)
+one_first text (TooDeep x) (Syntax y) s (inl u) = absurd (both_stop formula_language IsFine text x y Deep Unviable deep_no unviable_no (λ ts p q. q p.0) s u)
+one_first text (TooDeep x) (Syntax y) s (inr u) = absurd (no_stop formula_language IsFine text x Deep deep_no u.fine s)
+one_first text (TooDeep x) (TooDeep y) s u = ap TooDeep (same_place formula_language IsFine text x y Deep Deep deep_no deep_no s u)
+one_first text (TooDeep x) (TooManyNodes y) s u = absurd (both_stop formula_language IsFine text x y Deep Many deep_no many_no (λ ts p q. p.1 q.1) s u)
+one_first text (TooManyNodes x) (Syntax y) s (inl u) = absurd (both_stop formula_language IsFine text x y Many Unviable many_no unviable_no (λ ts p q. q p.0) s u)
+one_first text (TooManyNodes x) (Syntax y) s (inr u) = absurd (no_stop formula_language IsFine text x Many many_no u.fine s)
+one_first text (TooManyNodes x) (TooDeep y) s u = absurd (both_stop formula_language IsFine text x y Many Deep many_no deep_no (λ ts p q. q.1 p.1) s u)
+one_first text (TooManyNodes x) (TooManyNodes y) s u = ap TooManyNodes (same_place formula_language IsFine text x y Many Many many_no many_no s u)
 one_first text (UnknownName x) b s u = absurd s
 one_first text (BadCount x) b s u = absurd s
 one_first text Memory b s u = absurd s
@@ -226,10 +158,10 @@ one_first text a (BadCount y) s u = absurd u
 one_first text a Memory s u = absurd u
 
 not_parsed : (text : List ℕ) (fault : FormulaFault) (e : Expr) → IsFirstFault text fault → Parses text e → ⊥
-not_parsed text (Syntax x) e (inl s) p = no_stop text x Unviable unviable_no p.fine s
+not_parsed text (Syntax x) e (inl s) p = no_stop formula_language IsFine text x Unviable unviable_no p.fine s
 not_parsed text (Syntax x) e (inr s) p = s.none e p.spelled
-not_parsed text (TooDeep x) e s p = no_stop text x Deep deep_no p.fine s
-not_parsed text (TooManyNodes x) e s p = no_stop text x Many many_no p.fine s
+not_parsed text (TooDeep x) e s p = no_stop formula_language IsFine text x Deep deep_no p.fine s
+not_parsed text (TooManyNodes x) e s p = no_stop formula_language IsFine text x Many many_no p.fine s
 not_parsed text (UnknownName x) e s p = s
 not_parsed text (BadCount x) e s p = s
 not_parsed text Memory e s p = s

@@ -1,11 +1,11 @@
 -- The formula that a text stands for, or its fault.
 use Rattle.std.specs.Prelude.{◌≡◌, ℕ, ◌+◌, ◌-◌, ◌*◌, ◌⊎◌, ◌&&◌, nat_le, List, [], ◌∷◌, length, drop, if◌then◌else◌, Option, Some, None, is_some, unwrap_or}
 use Rattle.std.specs.List.{take_while}
+use Rattle.std.specs.Char.{is_ascii_digit}
 use Rattle.party_set.specs.Names.{party_named}
-use Rattle.group_formula.specs.declared.token.Run.TheVariants as runs
+use Rattle.run_tokens.specs.Tokens.{is_word_byte}
 use Rattle.group_formula.specs.declared.fault.FormulaFault.{FormulaFault}
 use Rattle.group_formula.specs.declared.fault.FormulaFault.TheVariants.{UnknownName, BadCount, Memory}
-use Rattle.group_formula.specs.Tokens.{has_byte}
 use Rattle.group_formula.specs.Trees.{Tree, Trees, Meaning, tree_count, postfix, tree_of}
 use Rattle.group_formula.specs.Trees.Tree.{leaf, both, either, at_least}
 use Rattle.group_formula.specs.Trees.Trees.{one_tree, more_trees}
@@ -28,11 +28,11 @@ pub record Reading : Type 0 where
 
 -- the name at a place of the text
 abbrev pub name_in_text : List ℕ → ℕ → List ℕ
-name_in_text text at = take_while (has_byte runs.Name) (drop at text)
+name_in_text text at = take_while is_word_byte (drop at text)
 
 -- the number at a place of the text
 abbrev pub number_in_text : List ℕ → ℕ → ℕ
-number_in_text text at = decimal (take_while (has_byte runs.Number) (drop at text))
+number_in_text text at = decimal (take_while is_ascii_digit (drop at text))
 
 -- what stands at the places of a text, over these names
 abbrev pub reading : List ℕ → List (List ℕ) → Reading

@@ -1,5 +1,6 @@
 -- The grammar of formulas over tokens.
-use Rattle.std.specs.Prelude.{◌≡◌, ℕ, List, [], ◌∷◌, ◌++◌}
+use Rattle.std.specs.Prelude.{ℕ, List, [], ◌∷◌, ◌++◌}
+use Rattle.run_tokens.specs.FirstFaults as faults
 use Rattle.group_formula.specs.declared.token.Token.{Token}
 use Rattle.group_formula.specs.declared.token.Token.TheVariants.{Name, Number, Of, Bar, Ampersand, Open, Close, Comma}
 use Rattle.group_formula.specs.Trees.{Tree, Trees}
@@ -49,7 +50,7 @@ abbrev mutual
 
 -- some formula begins with the tokens
 abbrev pub IsViable : List Token → Type 0
-IsViable ts = (rest : List Token) × (e : Expr) × (spell e ≡ ts ++ rest)
+IsViable ts = faults.IsViable spell ts
 
 -- what a formula says
 abbrev mutual

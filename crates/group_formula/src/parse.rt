@@ -7,7 +7,8 @@ ghost use Rattle.group_formula.specs.Parsed.{IsParsed, StopsParsing};
 use crate::fault::FormulaFault;
 use crate::node::Node;
 use crate::parser::Parser;
-use crate::token::next_token;
+use crate::token::Token;
+use run_tokens::next_token;
 use std::alloc::Global;
 
 /// How many parentheses may be open.
@@ -24,7 +25,7 @@ pub(crate) fn parse(alloc: Global, text: &[u8]) -> Result<Vec<Node>, FormulaFaul
     let mut parser = Parser::new(alloc);
     let mut nodes = 0;
     let mut from = 0;
-    while let Some(cut) = next_token(text, from) {
+    while let Some(cut) = next_token::<Token>(text, from) {
         let at = cut.at as u64;
         match parser.advance(cut.token) {
             Err(_) => return Err(FormulaFault::Memory),

@@ -1,7 +1,5 @@
 //! The second pass: what the names and the numbers mean.
-ghost use Rattle.std.specs.Prelude.{◌≡◌, ℕ, ◌≤◌, ◌+◌, ◌*◌, ◌^◌, ◌&&◌, nat_le, nat_lt, length, drop, map, MatchOption, MatchResult, Option, Some, None, if◌then◌else◌};
-ghost use Rattle.std.specs.List.{take_while};
-ghost use Rattle.group_formula.specs.Tokens.{has_byte};
+ghost use Rattle.std.specs.Prelude.{◌≡◌, ℕ, ◌≤◌, ◌+◌, ◌*◌, ◌^◌, ◌&&◌, nat_le, nat_lt, length, map, MatchOption, MatchResult, Option, Some, None, if◌then◌else◌};
 ghost use Rattle.group_formula.specs.Formulas.{number_in_text, reading, IsFormula, IsSecondFault};
 ghost use Rattle.group_formula.specs.Resolved.{good_count, meaning, earlier, least, resolved_node};
 ghost use Rattle.group_formula.specs.Parsed.{IsParsed};
@@ -9,24 +7,16 @@ ghost use Rattle.group_formula.specs.Parsed.{IsParsed};
 use crate::fault::FormulaFault;
 use crate::formula::Formula;
 use crate::node::Node;
-use crate::token::Run;
 use party_set::Names;
-
-/// The bytes of the run that stands at this place, none where the text has ended.
-fn run_at(run: Run, text: &[u8], at: usize) -> &[u8]
-    ensures { result.now ≡ take_while (has_byte run) (drop at text.now) }
-{
-    let rest = &text[at.min(text.len())..];
-    &rest[..run.length(rest)]
-}
+use run_tokens::{number_at, word_at};
 
 /// The party of the name that stands at this place.
 fn party_at(text: &[u8], names: &Names, at: usize) -> Option<usize>
     ensures { result ≡ (reading text.now names.now).party at }
 {
-    let name = run_at(Run::Name, text, at);
+    let name = word_at(text, at);
     for p in 0..names.len() {
-        if names.name(p).as_bytes() == name {
+        if names.name(p) == name {
             return Some(p as usize);
         }
     }
@@ -44,7 +34,7 @@ fn with_digit(number: usize, digit: u8) -> Option<usize>
 fn count_at(text: &[u8], at: usize, parts: usize) -> Option<usize>
     ensures { result ≡ good_count (number_in_text text.now at) parts }
 {
-    let digits = run_at(Run::Number, text, at);
+    let digits = number_at(text, at).as_bytes();
     let mut number = 0;
     for byte in digits {
         number = with_digit(number, byte - b'0')?;

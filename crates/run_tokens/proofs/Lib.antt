@@ -1,0 +1,3 @@
+pub mod NextTokens
+pub mod AsciiRuns
+pub mod FirstFaults
