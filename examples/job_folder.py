@@ -43,19 +43,21 @@ def need(holds, text):
         raise Refusal(text)
 
 
+def read_bytes(folder, name):
+    """The bytes of a file."""
+    path = os.path.join(folder, name)
+    with open(path, 'rb') as file:
+        data = file.read(MOST_BYTES + 1)
+    need(len(data) <= MOST_BYTES, f'{path} has more than {MOST_BYTES} bytes')
+    return data
+
+
 def read_text(folder, name):
     """The text of a file."""
-    path = os.path.join(folder, name)
     try:
-        with open(path, 'rb') as file:
-            data = file.read(MOST_BYTES + 1)
-    except ValueError:
-        raise Refusal(f'{path} is no path') from None
-    need(len(data) <= MOST_BYTES, f'{path} has more than {MOST_BYTES} bytes')
-    try:
-        return data.decode('utf-8-sig')
+        return read_bytes(folder, name).decode('utf-8-sig')
     except UnicodeDecodeError:
-        raise Refusal(f'{path} is not UTF-8') from None
+        raise Refusal(f'{os.path.join(folder, name)} is not UTF-8') from None
 
 
 def is_texts(value):
@@ -137,13 +139,13 @@ def job_text(fields):
         raise Refusal('job.toml has a field that no job has') from None
 
 
-def write_new(folder, name, text, mode=0o644, replace=False):
-    """Writes a file, which must not be there yet, unless it is to be replaced."""
+def write_new(folder, name, data, mode=0o644, replace=False):
+    """Writes a file of these bytes, which must not be there yet, unless it is to be replaced."""
     path = os.path.join(folder, name)
     try:
         flags = os.O_WRONLY | os.O_CREAT | (os.O_TRUNC if replace else os.O_EXCL)
-        with os.fdopen(os.open(path, flags, mode), 'w', encoding='utf-8') as file:
-            file.write(text)
+        with os.fdopen(os.open(path, flags, mode), 'wb') as file:
+            file.write(data)
     except FileExistsError:
         raise Refusal(f'{path} is there already') from None
 
@@ -158,8 +160,8 @@ def write_job(folder, bits, parties, owners, circuit, name, layout):
     session = {'circuit': name, 'layout': layout, 'owners': owners, 'readers': [owners] * outputs}
     fields = {'version': 1, 'ring_bits': bits, 'parties': parties, 'formula': f'2 of ({", ".join(parties)})', 'session': [session]}
     os.makedirs(folder, exist_ok=True)
-    write_new(folder, 'job.toml', job_text(fields))
-    write_new(folder, name, circuit)
+    write_new(folder, 'job.toml', job_text(fields).encode())
+    write_new(folder, name, circuit.encode())
 
 
 def widths_of_numbers(job, session, widths):
@@ -189,7 +191,7 @@ def write_party(folder, job, party, numbers, replace=False):
             words += [number >> place & 1 for place in range(width)] if session.of_bits else [number % 2**width]
         texts.append(' '.join(map(str, words)))
     text = f'version = 1\ninputs = {json.dumps(texts)}\nseed = "{secrets.token_hex(32)}"\n'
-    write_new(folder, f'party_{party}.toml', text, 0o600, replace)
+    write_new(folder, f'party_{party}.toml', text.encode(), 0o600, replace)
 
 
 def lines_of(stream):
@@ -236,7 +238,7 @@ def run_script(main):
     except Refusal as refusal:
         status = stop(refusal)
     except OSError as error:
-        status = stop(f'{error.filename}: {error.strerror}' if error.filename else error.strerror)
+        status = stop(f'{error.filename}: {error.strerror}' if error.filename else error)
     except MemoryError:
         status = stop('out of memory')
     except KeyboardInterrupt:

@@ -15,7 +15,6 @@ import contextlib
 import os
 import pathlib
 import random
-import shutil
 import signal
 import socket
 import subprocess
@@ -25,7 +24,7 @@ import time
 
 TOP = pathlib.Path(__file__).resolve().parent.parent.parent
 sys.path.insert(0, str(TOP / 'examples'))
-from job_folder import Refusal, job_text, need, read_job, run_script, write_new  # noqa: E402
+from job_folder import Refusal, job_text, need, read_bytes, read_job, run_script, write_new  # noqa: E402
 
 HERE = '127.0.0.1'
 MOST_PORT = 65_392
@@ -53,12 +52,10 @@ def split(folder, target, hosts=None, port=None, replace=False):
     for name in job.parties:
         own = os.path.join(target, name)
         os.makedirs(own)
-        if hosts is None:
-            shutil.copy(os.path.join(folder, 'job.toml'), own)
-        else:
-            write_new(own, 'job.toml', job_text(fields))
-        for file in {*circuits, f'party_{name}.toml'}:
-            shutil.copy(os.path.join(folder, file), own)
+        write_new(own, 'job.toml', read_bytes(folder, 'job.toml') if hosts is None else job_text(fields).encode())
+        for file in circuits:
+            write_new(own, file, read_bytes(folder, file))
+        write_new(own, f'party_{name}.toml', read_bytes(folder, f'party_{name}.toml'), 0o600)
     return job.parties
 
 
