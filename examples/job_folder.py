@@ -27,8 +27,8 @@ FILE_NAME = re.compile(r'[A-Za-z0-9_-][A-Za-z0-9._-]{0,63}')
 # A value of bits may be as wide as a circuit has wires, and its number has so many digits.
 sys.set_int_max_str_digits(MOST_WIRES)
 
-# The fields of job.toml as they stand there; the bits of the ring; the names of the parties; the sessions.
-Job = collections.namedtuple('Job', 'fields bits parties sessions')
+# The bits of the ring, the names of the parties, and the sessions.
+Job = collections.namedtuple('Job', 'bits parties sessions')
 
 # Whether its wires are bits of numbers; the owners and the readers of its values; the widths of its input and of its output values.
 Session = collections.namedtuple('Session', 'of_bits owners readers inputs outputs')
@@ -95,17 +95,33 @@ def read_formulas(folder, name):
 LAYOUTS = {'bristol': read_widths, 'ring': read_widths, 'expr': read_formulas}
 
 
-def read_session(folder, number, table, bits, parties):
+def read_fields(folder):
+    """The fields of job.toml, with names of parties, and sessions that name the files of their circuits."""
+    path = os.path.join(folder, 'job.toml')
+    try:
+        fields = tomllib.loads(read_text(folder, 'job.toml'))
+    except (ValueError, RecursionError) as error:
+        raise Refusal(f'{path} is no TOML: {error}') from None
+    parties, sessions = fields.get('parties'), fields.get('session')
+    need(is_texts(parties) and 1 <= len(parties) <= 12, f'{path}: parties is no list of 1 to 12 names')
+    need(all(map(NAME.fullmatch, parties)) and len(set(parties)) == len(parties), f'{path}: a party has no name, or one has it twice')
+    need(isinstance(sessions, list) and 1 <= len(sessions) <= 16, f'{path}: there are not 1 to 16 [[session]]')
+    for number, session in enumerate(sessions):
+        need(isinstance(session, dict), f'{path}: session {number} is no table')
+        circuit = session.get('circuit')
+        need(isinstance(circuit, str) and FILE_NAME.fullmatch(circuit), f'{path}: session {number}: circuit is no name of a file')
+    return fields
+
+
+def read_session(folder, number, fields):
     """A session of the job, with the widths of its circuit."""
     where = f'{os.path.join(folder, "job.toml")}: session {number}'
-    need(isinstance(table, dict), f'{where} is no table')
-    circuit, layout, owners, readers = (table.get(name) for name in ('circuit', 'layout', 'owners', 'readers'))
-    need(isinstance(circuit, str) and FILE_NAME.fullmatch(circuit), f'{where}: circuit is no name of a file')
+    circuit, layout, owners, readers = (fields['session'][number].get(name) for name in ('circuit', 'layout', 'owners', 'readers'))
     need(isinstance(layout, str) and layout in LAYOUTS, f'{where}: layout is none of {", ".join(LAYOUTS)}')
-    need(layout != 'bristol' or bits == 1, f'{where}: the layout bristol goes with ring_bits = 1')
+    need(layout != 'bristol' or fields['ring_bits'] == 1, f'{where}: the layout bristol goes with ring_bits = 1')
     need(is_texts(owners), f'{where}: owners is no list of names')
     need(isinstance(readers, list) and all(is_texts(names) for names in readers), f'{where}: readers is no list of lists of names')
-    stranger = next((name for name in itertools.chain(owners, *readers) if name not in parties), None)
+    stranger = next((name for name in itertools.chain(owners, *readers) if name not in fields['parties']), None)
     need(stranger is None, f'{where}: {str(stranger)[:40]!r} is no party')
     inputs, outputs = LAYOUTS[layout](folder, circuit)
     need(len(owners) == len(inputs), f'{where}: there are {len(owners)} owners, and {circuit} has {len(inputs)} input values')
@@ -115,18 +131,11 @@ def read_session(folder, number, table, bits, parties):
 
 def read_job(folder):
     """The job of a folder."""
-    path = os.path.join(folder, 'job.toml')
-    try:
-        fields = tomllib.loads(read_text(folder, 'job.toml'))
-    except (ValueError, RecursionError) as error:
-        raise Refusal(f'{path} is no TOML: {error}') from None
-    bits, parties, sessions = (fields.get(name) for name in ('ring_bits', 'parties', 'session'))
-    need(json.dumps(fields.get('version'), default=str) in ('1', '2'), f'{path}: version is neither 1 nor 2')
+    fields = read_fields(folder)
+    path, version, bits = os.path.join(folder, 'job.toml'), fields.get('version'), fields.get('ring_bits')
+    need(type(version) is int and version in (1, 2), f'{path}: version is neither 1 nor 2')
     need(type(bits) is int and 1 <= bits <= 64, f'{path}: ring_bits is no number from 1 to 64')
-    need(is_texts(parties) and 1 <= len(parties) <= 12, f'{path}: parties is no list of 1 to 12 names')
-    need(all(map(NAME.fullmatch, parties)) and len(set(parties)) == len(parties), f'{path}: a party has no name, or one has it twice')
-    need(isinstance(sessions, list) and 1 <= len(sessions) <= 16, f'{path}: there are not 1 to 16 [[session]]')
-    return Job(fields, bits, parties, [read_session(folder, number, table, bits, parties) for number, table in enumerate(sessions)])
+    return Job(bits, fields['parties'], [read_session(folder, number, fields) for number in range(len(fields['session']))])
 
 
 def job_text(fields):

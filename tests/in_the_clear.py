@@ -13,6 +13,7 @@ OPERATE = {
     'AND': lambda x, y: x * y,
     'INV': lambda x: x + 1,
     'EQW': lambda x: x,
+    'EQ': lambda constant: constant,
 }
 
 
@@ -40,12 +41,12 @@ def circuit_of(data):
     return [int(width) for width in lines[1][1:]], [int(width) for width in lines[2][1:]], int(lines[0][1]), gates
 
 
-def last_wires(circuit, words, bits):
+def last_wires(circuit, words, bits, operate=OPERATE):
     """The words on the wires of a circuit's output values, where its input wires have these words."""
     _, outputs, count, gates = circuit
     wires = dict(enumerate(words))
     for operation, operands, output in gates:
-        value = operands[0] if operation == 'EQ' else OPERATE[operation](*(wires[wire] for wire in operands))
+        value = operate[operation](*(operands if operation == 'EQ' else (wires[wire] for wire in operands)))
         wires[output] = value % 2**bits
     return [wires[wire] for wire in range(count - sum(outputs), count)]
 

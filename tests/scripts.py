@@ -8,7 +8,6 @@ tells why, where a script ends otherwise. It needs Linux.
 
 import concurrent.futures
 import contextlib
-import functools
 import os
 import pathlib
 import random
@@ -35,7 +34,7 @@ NUMBERS, CIRCUITS = EXAMPLES / 'numbers.py', EXAMPLES / 'circuits.py'
 AUCTION, SPREAD, NODES = EXAMPLES / 'auction/job.py', EXAMPLES / 'statistics/spread.py', EXAMPLES / 'network/nodes.py'
 MOST_SECONDS = 60
 INPUTS = 2_000
-MUTATED = 1_500
+MUTATED = 1_000
 
 
 class Wrong(Exception):
@@ -53,9 +52,10 @@ def call(script, *words, given=''):
 
 
 def wrote(script, *words, given=''):
-    """What a script wrote that has to end well."""
+    """What a script wrote that has to end well. On a busy machine it may tell that it waits."""
     done = call(script, *words, given=given)
-    expect(done.returncode == 0 and not done.stderr, f'{script.name} {words}: status {done.returncode}: {done.stderr[-300:]!r}')
+    told = re.sub(rb'nodes\.py: waiting for [^\n]*\n', b'', done.stderr)
+    expect(done.returncode == 0 and not told, f'{script.name} {words}: status {done.returncode}: {told[-300:]!r}')
     return done.stdout.decode()
 
 
@@ -69,8 +69,12 @@ def expect_one_line(done, name, beginning=''):
 
 def write_folder(top, files):
     folder = os.path.join(top, 'job')
-    shutil.rmtree(folder, ignore_errors=True)
-    os.mkdir(folder)
+    os.makedirs(folder, exist_ok=True)
+    for entry in os.scandir(folder):
+        if entry.is_dir(follow_symlinks=False):
+            shutil.rmtree(entry)
+        else:
+            os.unlink(entry)
     for name, data in files.items():
         pathlib.Path(folder, name).write_bytes(data)
     return folder
@@ -94,9 +98,9 @@ IN_NUMBERS = {
     'second': lambda n, bits: lambda *x: [sorted(x)[-2]],
     'auction': lambda n, bits: auctioned,
     'count': lambda n: lambda *x: [sum(x)],
-    'total': lambda n: lambda *x: [sum(x) % 2**64],
 }
-WORDS = {('N', 'BITS'): [(2, 1), (3, 2), (2, 5), (4, 7), (5, 4)], ('BITS',): [(1,), (3,), (4,), (5,), (9,)], ('N',): [(1,), (2,), (7,), (16,)]}
+WORDS = {('N', 'BITS'): [(2, 1), (3, 2), (2, 5), (4, 7), (5, 4), (4, 16), (9, 9), (6, 33)], ('N',): [(1,), (2,), (7,), (8,), (16,), (31,)],
+         ('BITS',): [(1,), (2,), (3,), (4,), (5,), (7,), (8,), (9,), (16,), (17,), (32,)]}
 
 
 def some_inputs(chance, widths):
@@ -105,30 +109,44 @@ def some_inputs(chance, widths):
     return [chance.choice([0, 2**width - 1, near, near ^ 1, chance.randrange(2**width)]) % 2**width for width in widths]
 
 
-def numbers_from(words, widths):
-    words = iter(words)
-    return [sum(next(words) << place for place in range(width)) for width in widths]
+# Gates on words of bits, of which each belongs to a run of its own.
+ONES = 2**INPUTS - 1
+BY_RUNS = {'XOR': lambda x, y: x ^ y, 'AND': lambda x, y: x & y, 'INV': lambda x: x ^ ONES, 'EQW': lambda x: x, 'EQ': lambda bit: bit * ONES}
 
 
-def compare(chance, circuit, numbers, of_bits=True):
-    """Compares a circuit with what it should come to, over many inputs."""
-    widths = circuit[0] if of_bits else [64] * len(circuit[0])
-    for _ in range(INPUTS):
-        given = some_inputs(chance, widths)
-        words = [number >> place & 1 for number, width in zip(given, widths) for place in range(width)] if of_bits else given
-        found = last_wires(circuit, words, 1 if of_bits else 64)
-        found = numbers_from(found, circuit[1]) if of_bits else found
-        expect(found == numbers(*given), f'{given} comes to {found}, and not to {numbers(*given)}')
+def wires_of(numbers, widths):
+    """From the numbers of each run the word of each wire, which has a bit for each run."""
+    words = []
+    for value, width in enumerate(widths):
+        columns = zip(*(f'{run[value]:0{width}b}' for run in numbers)) if width else []
+        words += [int(''.join(bits), 2) for bits in reversed(list(columns))]
+    return words
+
+
+def compare(chance, text, numbers):
+    """Compares a circuit of bits with what it should come to, over many inputs."""
+    circuit = circuit_of(text.encode())
+    runs = [some_inputs(chance, circuit[0]) for _ in range(INPUTS)]
+    wanted = [numbers(*run) for run in runs]
+    for run, found in zip(runs, wanted):
+        expect(all(number < 2**width for number, width in zip(found, circuit[1], strict=True)), f'{run} comes to {found}, which does not fit')
+    found = last_wires(circuit, wires_of(runs, circuit[0]), INPUTS, BY_RUNS)
+    expect(found == wires_of(wanted, circuit[1]), 'it comes to other numbers')
 
 
 def circuits_are_their_numbers(program, top):
     chance = random.Random(1)
-    expect(set(IN_NUMBERS) == set(CALLS), 'another list of calls')
-    for name, (kinds, _) in CALLS.items():
-        for words in WORDS[tuple(kinds)]:
-            if name not in ('second', 'auction') or words[0] > 1:
-                circuit = circuit_of(circuit_file(name, list(map(str, words))).encode())
-                compare(chance, circuit, IN_NUMBERS[name](*words), name != 'total')
+    expect({*IN_NUMBERS, 'total'} == set(CALLS), 'another list of calls')
+    for name, numbers in IN_NUMBERS.items():
+        for words in WORDS[tuple(CALLS[name][0])]:
+            try:
+                compare(chance, circuit_file(name, list(map(str, words))), numbers(*words))
+            except Wrong as wrong:
+                raise Wrong(f'{name} {words}: {wrong}') from None
+    for count in range(1, 20):
+        words = [chance.randrange(2**64) for _ in range(count)]
+        found = last_wires(circuit_of(circuit_file('total', [str(count)]).encode()), words, 64)
+        expect(found == [sum(words) % 2**64], f'total {count}: {words} come to {found}')
 
 
 def layers_are_together(program, top):
@@ -185,7 +203,7 @@ def write_random_job(chance, folder, of_bits):
 
 def numbers_come_back(program, top):
     """What is written, run and read is what Python's numbers come to."""
-    for number in range(12):
+    for number in range(8):
         folder = os.path.join(top, str(number))
         given, expected = write_random_job(random.Random(number), folder, number % 2 == 0)
         for party, numbers in given.items():
@@ -262,25 +280,22 @@ def outputs_that_fail(program, top):
 
 # Folders.
 
-def odd_job(top, number, changes):
-    """Writes an odd folder, and runs scripts over it."""
-    own = os.path.join(top, str(number))
-    os.mkdir(own)
-    folder = write_folder(own, product_with(changes))
-    name = f'odd folder {number}'
-    expect_one_line(call(NUMBERS, 'write', folder, 'a', '5', '--replace'), name, 'numbers.py: ')
-    if number % 10 == 0:
-        expect_one_line(call(NUMBERS, 'read', folder, given='out 0 0 c 35\n'), name, 'numbers.py: ')
-        expect_one_line(call(AUCTION, 'read', folder, given='out 0 0 c 35\n'), name, 'job.py: ')
-        expect_one_line(call(SPREAD, folder, given='out 0 0 c 35\n'), name, 'spread.py: ')
-        expect_one_line(call(NODES, 'split', folder, os.path.join(own, 'nodes')), name, 'nodes.py: ')
-    shutil.rmtree(own)
-
-
 def odd_folders(program, top):
-    with concurrent.futures.ThreadPoolExecutor(4) as pool:
-        for done in [pool.submit(odd_job, top, number, changes) for number, changes in enumerate(ODD_FOLDERS)]:
-            done.result()
+    """Each is refused by the reader that all scripts have, and some are given to each script."""
+    for number, changes in enumerate(ODD_FOLDERS):
+        folder, name = write_folder(top, product_with(changes)), f'odd folder {number}'
+        try:
+            raise Wrong(f'{name}: {job_folder.read_job(folder)}')
+        except (job_folder.Refusal, OSError):
+            pass
+        if number % 12 == 0:
+            expect_one_line(call(NUMBERS, 'write', folder, 'a', '5', '--replace'), name, 'numbers.py: ')
+            expect_one_line(call(NUMBERS, 'read', folder, given='out 0 0 c 35\n'), name, 'numbers.py: ')
+            expect_one_line(call(AUCTION, 'read', folder, given='out 0 0 c 35\n'), name, 'job.py: ')
+            expect_one_line(call(SPREAD, folder, given='out 0 0 c 35\n'), name, 'spread.py: ')
+            done = call(NODES, 'split', folder, os.path.join(top, f'nodes_{number}'))
+            if done.returncode != 0:
+                expect_one_line(done, name, 'nodes.py: ')
 
 
 def links_and_folders(program, top):
@@ -315,7 +330,7 @@ def changed_jobs_are_read_or_refused(program, top):
         folder = write_folder(top, files)
         with contextlib.suppress(job_folder.Refusal, OSError):
             job = job_folder.read_job(folder)
-            job_folder.job_text(job.fields)
+            job_folder.job_text(job_folder.read_fields(folder))
             list(job_folder.read_outputs(job, ['out 0 0 c 35\n']))
 
 
@@ -344,8 +359,7 @@ def an_auction_of_two(program, top):
 def jobs_of_calls(program, top):
     parties = ['ann', 'bob', 'cleo', 'dan']
     for name, words, given, expected in [('total', ['32'], [7, 5, 1250, 0], 1262), ('greatest', ['16'], [7, 5, 1250, 0], 1250),
-                                         ('second', ['16'], [7, 5, 1250, 0], 7), ('count', [], [1, 0, 1, 1], 3), ('less', ['8'], [3, 4], 1),
-                                         ('choose', ['8'], [0, 3, 4], 4)]:
+                                         ('count', [], [1, 0, 1, 1], 3), ('choose', ['8'], [0, 3, 4], 4)]:
         folder = os.path.join(top, name)
         wrote(CIRCUITS, 'job', folder, name, *words, *parties)
         for party, numbers in zip(parties, [*([number] for number in given), [], []]):
@@ -438,6 +452,17 @@ CASES = [circuits_are_their_numbers, layers_are_together, circuits_have_limits, 
          nodes_beside_one_another, a_node_that_fails_stops_the_others, a_node_that_waits_is_told, nodes_are_split, helps_are_there]
 
 
+def tried(case, program):
+    """Whether a case is as expected, and what is told of it."""
+    name, began = case.__name__.replace('_', ' '), time.monotonic()
+    try:
+        with tempfile.TemporaryDirectory() as top:
+            case(program, top)
+        return True, f'{name}: as expected ({time.monotonic() - began:.1f} s)'
+    except (Wrong, subprocess.TimeoutExpired) as wrong:
+        return False, f'{name}: NOT AS EXPECTED: {wrong}'
+
+
 def main(words):
     if len(words) != 2:
         sys.exit('usage: scripts.py PROGRAM')
@@ -445,16 +470,10 @@ def main(words):
     if not program:
         sys.exit(f'scripts: there is no program {words[1]}')
     status = 0
-    for case in CASES:
-        name = case.__name__.replace('_', ' ')
-        began = time.monotonic()
-        try:
-            with tempfile.TemporaryDirectory() as top:
-                case(program, top)
-            print(f'scripts: {name}: as expected ({time.monotonic() - began:.1f} s)')
-        except (Wrong, subprocess.TimeoutExpired) as wrong:
-            print(f'scripts: {name}: NOT AS EXPECTED: {wrong}')
-            status = 1
+    with concurrent.futures.ThreadPoolExecutor(4) as pool:
+        for good, text in pool.map(tried, CASES, [program] * len(CASES)):
+            print(f'scripts: {text}', flush=True)
+            status = status if good else 1
     return status
 
 

@@ -24,7 +24,7 @@ import time
 
 TOP = pathlib.Path(__file__).resolve().parent.parent.parent
 sys.path.insert(0, str(TOP / 'examples'))
-from job_folder import Refusal, job_text, need, read_bytes, read_job, run_script, write_new  # noqa: E402
+from job_folder import Refusal, job_text, need, read_bytes, read_fields, run_script, write_new  # noqa: E402
 
 HERE = '127.0.0.1'
 MOST_PORT = 65_392
@@ -42,21 +42,20 @@ STOPPING = 5
 
 def split(folder, target, hosts=None, port=None, replace=False):
     """Writes the folders, and gives the parties' names. Hosts and a port that stand in the job are replaced only where that is said."""
-    job = read_job(folder)
-    fields = dict(job.fields)
+    fields = read_fields(folder)
     if hosts is not None:
-        need(len(hosts) == len(job.parties), f'there are {len(job.parties)} parties and {len(hosts)} hosts: each has one')
+        need(len(hosts) == len(fields['parties']), f'there are {len(fields["parties"])} parties and {len(hosts)} hosts: each has one')
         need(replace or not {'hosts', 'port'} & set(fields), 'the job has hosts or a port already')
         fields.update(hosts=hosts, port=port)
     circuits = {session['circuit'] for session in fields['session']}
-    for name in job.parties:
+    for name in fields['parties']:
         own = os.path.join(target, name)
         os.makedirs(own)
         write_new(own, 'job.toml', read_bytes(folder, 'job.toml') if hosts is None else job_text(fields).encode())
         for file in circuits:
             write_new(own, file, read_bytes(folder, file))
         write_new(own, f'party_{name}.toml', read_bytes(folder, f'party_{name}.toml'), 0o600)
-    return job.parties
+    return fields['parties']
 
 
 def is_free(port):
@@ -133,7 +132,7 @@ def run(folder, program):
     checked = subprocess.run([program, 'check', folder], stdin=subprocess.DEVNULL, stdout=subprocess.DEVNULL)
     if checked.returncode != 0:
         return 1
-    parties = read_job(folder).parties
+    parties = read_fields(folder)['parties']
     with tempfile.TemporaryDirectory() as target, contextlib.ExitStack() as stack:
         split(folder, target, [HERE] * len(parties), free_port(len(parties)), replace=True)
         nodes = []
