@@ -298,7 +298,9 @@ def main(words):
     elif words and words[0] != 'job':
         print(circuit_of(words[0], words[1:]), end='')
     else:
-        need(False, 'say CALL [N] [BITS], or job FOLDER CALL [BITS] PARTY ..; --help tells the calls')
+        print(__doc__.split('\n\n')[1], file=sys.stderr)
+        return 2
+    return 0
 
 
 if __name__ == '__main__':

@@ -14,20 +14,21 @@ writes a line for each of them: 'session 0 value 0: anna reads 2975'. With --sig
 --divide, each number is divided by N and rounded to two places, so that the total of N numbers comes out as their mean.
 """
 
-import argparse
 import re
 import sys
 
 from job_folder import lines_of, need, read_job, read_outputs, run_script, write_party
 
 MOST_DIGITS = 40_000
+USAGE = __doc__.split('\n\n')[1]
 
 
-def write(arguments):
-    job = read_job(arguments.job)
-    for word in arguments.numbers:
+def write(folder, party, words):
+    """Writes the party's file."""
+    numbers = [word for word in words if word != '--replace']
+    for word in numbers:
         need(re.fullmatch('[+-]?[0-9]+', word) and len(word) <= MOST_DIGITS, f'{word[:40]!r} is no whole number')
-    write_party(arguments.job, job, arguments.party, [int(word) for word in arguments.numbers], arguments.replace)
+    write_party(folder, read_job(folder), party, [int(word) for word in numbers], len(numbers) < len(words))
 
 
 def divided(number, divisor):
@@ -36,34 +37,29 @@ def divided(number, divisor):
     return f'{"-" if number < 0 < hundredths else ""}{hundredths // 100}.{hundredths % 100:02}'
 
 
-def read(arguments):
-    need(arguments.divide is None or arguments.divide > 0, 'a number is divided by 1 or more')
-    job = read_job(arguments.job)
+def read(folder, signed, divisor):
+    """Writes the numbers of each line of output."""
     found = False
-    for session, value, reader, numbers in read_outputs(job, lines_of(sys.stdin), arguments.signed):
+    for session, value, reader, numbers in read_outputs(read_job(folder), lines_of(sys.stdin), signed):
         found = True
-        texts = [str(number) if arguments.divide is None else divided(number, arguments.divide) for number in numbers]
+        texts = [divided(number, divisor) if divisor else str(number) for number in numbers]
         print(f'session {session} value {value}: {reader} reads {" ".join(texts) or "nothing"}')
     need(found, 'there is no output to read on standard input')
 
 
 def main(words):
-    parser = argparse.ArgumentParser(usage=__doc__.split('\n\n')[1].strip())
-    parser.format_help = lambda: __doc__
-    commands = parser.add_subparsers(required=True, metavar='write | read')
-    command = commands.add_parser('write')
-    command.add_argument('job', metavar='JOB')
-    command.add_argument('party', metavar='PARTY')
-    command.add_argument('numbers', metavar='NUMBER', nargs='*')
-    command.add_argument('--replace', action='store_true')
-    command.set_defaults(call=write)
-    command = commands.add_parser('read')
-    command.add_argument('job', metavar='JOB')
-    command.add_argument('--signed', action='store_true')
-    command.add_argument('--divide', metavar='N', type=int)
-    command.set_defaults(call=read)
-    arguments = parser.parse_args(words)
-    return arguments.call(arguments)
+    options = re.fullmatch(r'((?: --signed)?)(?: --divide ([0-9]{1,18}))?((?: --signed)?)', ''.join(f' {word}' for word in words[2:]))
+    if '-h' in words or '--help' in words:
+        print(__doc__)
+    elif len(words) >= 3 and words[0] == 'write':
+        write(words[1], words[2], words[3:])
+    elif len(words) >= 2 and words[0] == 'read' and options:
+        need(options[2] is None or int(options[2]), 'a number is divided by 1 or more')
+        read(words[1], bool(options[1] or options[3]), int(options[2] or 0))
+    else:
+        print(USAGE, file=sys.stderr)
+        return 2
+    return 0
 
 
 if __name__ == '__main__':

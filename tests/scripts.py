@@ -163,7 +163,7 @@ def layers_are_together(program, top):
 
 def circuits_have_limits(program, top):
     for words in [['add', '1025', '1'], ['multiply', '3000'], ['greatest', '1024', '129'], ['add', '1024', '64'], ['less', '0'], ['less', '-1'],
-                  ['less', 'x'], ['less'], ['less', '4', '4'], ['lesser', '4'], ['second', '1', '4'], ['count', '9' * 50], [], ['job'],
+                  ['less', 'x'], ['less'], ['less', '4', '4'], ['lesser', '4'], ['second', '1', '4'], ['count', '9' * 50],
                   ['job', top, 'less', '4', 'a', 'b'], ['job', top, 'total', '65', 'a', 'b', 'c'], ['job', top, 'less', 'a', 'b', 'c'],
                   ['job', top, 'greatest', '4', 'a', 'b', 'a'], ['job', top, 'greatest', '4', 'a', 'b', 'of'], ['job', top, 'none', '4', 'a']]:
         expect_one_line(call(CIRCUITS, *words), f'circuits.py {words}', 'circuits.py: ')
@@ -440,10 +440,20 @@ def nodes_are_split(program, top):
     expect_one_line(call(NODES, 'run', folder, os.path.join(top, 'none')), 'no program', 'nodes.py: ')
 
 
+# Words that are no call of a script.
+OTHER_WORDS = [(NUMBERS, words) for words in ([], ['write'], ['write', 'j'], ['read'], ['read', 'j', '--divide'], ['read', 'j', '--divide', 'x'],
+                                              ['read', 'j', '--divide', '-4'], ['make', 'j'], ['read', 'j', 'k'])] + [
+    (CIRCUITS, []), (CIRCUITS, ['job']), (CIRCUITS, ['job', 'f']), (AUCTION, []), (AUCTION, ['read']), (AUCTION, ['make']),
+    (NODES, []), (NODES, ['run']), (NODES, ['split', 'j']), (NODES, ['split', 'j', 'f', '--hosts', 'h'])]
+
+
 def helps_are_there(program, top):
-    for script in (NUMBERS, CIRCUITS, NODES):
-        expect(f'{script.name}' in wrote(script, '--help'), f'no help of {script.name}')
+    for script in (NUMBERS, CIRCUITS, AUCTION, SPREAD, NODES):
+        expect(script.name in wrote(script, '--help'), f'no help of {script.name}')
         expect(os.access(script, os.X_OK), f'{script} is no program')
+    for script, words in OTHER_WORDS:
+        done = call(script, *words)
+        expect(done.returncode == 2 and not done.stdout and f'{script.name} '.encode() in done.stderr, f'{script.name} {words}: {done}')
 
 
 CASES = [circuits_are_their_numbers, layers_are_together, circuits_have_limits, numbers_come_back, numbers_are_signed_and_divided,

@@ -56,12 +56,16 @@ def read(folder):
 
 
 def main(words):
-    if len(words) >= 2 and words[0] == 'make':
+    if words in (['-h'], ['--help']):
+        print(__doc__)
+    elif len(words) >= 2 and words[0] == 'make':
         make(words[1], words[2:])
     elif len(words) == 2 and words[0] == 'read':
         read(words[1])
     else:
-        sys.exit(__doc__.split('\n\n')[1])
+        print(__doc__.split('\n\n')[1], file=sys.stderr)
+        return 2
+    return 0
 
 
 if __name__ == '__main__':

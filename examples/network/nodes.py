@@ -158,7 +158,7 @@ def main(words):
     if words in (['-h'], ['--help']):
         print(__doc__)
         return 0
-    sys.stderr.write(__doc__)
+    print(__doc__.split('\n\n')[1], file=sys.stderr)
     return 2
 
 

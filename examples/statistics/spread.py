@@ -15,8 +15,9 @@ from job_folder import lines_of, need, read_job, read_outputs, run_script  # noq
 
 
 def main(words):
-    if len(words) > 1 or words[:1] in (['-h'], ['--help']):
-        sys.exit(__doc__)
+    if len(words) > 1 or words in (['-h'], ['--help']):
+        print(__doc__)
+        return 2 if len(words) > 1 else 0
     job = read_job(words[0] if words else str(HERE))
     found = {}
     for session, _value, _reader, numbers in read_outputs(job, lines_of(sys.stdin)):
@@ -28,6 +29,7 @@ def main(words):
     need(count > 0 and spread >= 0, 'a sum was 2 to ring_bits or more, and came out as its remainder')
     print(f'mean {total / count:.1f}')
     print(f'standard deviation {math.sqrt(spread) / count:.1f}')
+    return 0
 
 
 if __name__ == '__main__':
