@@ -63,9 +63,9 @@ def time_nodes(program, folder, names, expected):
     return taken
 
 
-def row(program, name, job, hosts, port, rounds):
+def row(program, name, job, rounds):
     with tempfile.TemporaryDirectory() as folder:
-        names = nodes.split(job, folder, hosts, port)
+        names = nodes.split(job, folder, [nodes.HERE] * 3, nodes.free_port(3), replace=True)
         run = subprocess.run([program, 'run', job], check=True, capture_output=True, text=True).stdout
         check = subprocess.run([program, 'check', job], check=True, capture_output=True, text=True).stdout
         best = min(time_nodes(program, folder, names, texts_of(run, names)) for _ in range(rounds))
@@ -91,10 +91,10 @@ def main(words):
     rounds = int(os.environ.get('ROUNDS', '20'))
     print('| Job | Messages | Bytes sent | Rounds | Least rounds | Milliseconds, nodes | Milliseconds, one process |')
     print('|---|---|---|---|---|---|---|')
-    row(program, 'auction of three', NETWORK, None, None, rounds)
+    row(program, 'auction of three', NETWORK, rounds)
     with tempfile.TemporaryDirectory() as folder:
         subprocess.run([sys.executable, os.path.join(HERE, 'make_jobs.py'), folder], check=True, capture_output=True)
-        row(program, BITS, os.path.join(folder, BITS), ['127.0.0.1'] * 3, 7450, rounds)
+        row(program, BITS, os.path.join(folder, BITS), rounds)
 
 
 if __name__ == '__main__':

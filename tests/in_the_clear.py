@@ -13,6 +13,7 @@ OPERATE = {
     'AND': lambda x, y: x * y,
     'INV': lambda x: x + 1,
     'EQW': lambda x: x,
+    'EQ': lambda constant: constant,
 }
 
 
@@ -30,21 +31,32 @@ def fields(data):
     return top, sessions
 
 
-def wires_of(data, given, bits):
-    """The words on all wires of a circuit, where each of its input values takes the next words that its owner gives."""
+def circuit_of(data):
+    """The widths of a circuit's input values and of its output values, and its gates: each an operation, its operands and its wire."""
     lines = [line.split() for line in data.decode().splitlines() if line.split()]
-    inputs = [int(width) for width in lines[1][1:]]
-    words = [int(next(owner)) for owner, width in zip(given, inputs) for _ in range(width)]
-    wires = dict(enumerate(words))
+    gates = []
     for *numbers, operation in lines[3:]:
         count = int(numbers[0])
-        operands = [int(number) for number in numbers[2:2 + count]]
-        output = int(numbers[2 + count])
-        value = operands[0] if operation == 'EQ' else OPERATE[operation](*(wires[wire] for wire in operands))
+        gates.append((operation, [int(number) for number in numbers[2:2 + count]], int(numbers[2 + count])))
+    return [int(width) for width in lines[1][1:]], [int(width) for width in lines[2][1:]], int(lines[0][1]), gates
+
+
+def last_wires(circuit, words, bits, operate=OPERATE):
+    """The words on the wires of a circuit's output values, where its input wires have these words."""
+    _, outputs, count, gates = circuit
+    wires = dict(enumerate(words))
+    for operation, operands, output in gates:
+        value = operate[operation](*(operands if operation == 'EQ' else (wires[wire] for wire in operands)))
         wires[output] = value % 2**bits
-    outputs = [int(width) for width in lines[2][1:]]
-    last = range(int(lines[0][1]) - sum(outputs), int(lines[0][1]))
-    return outputs, iter([wires[wire] for wire in last])
+    return [wires[wire] for wire in range(count - sum(outputs), count)]
+
+
+def values_of(data, given, bits):
+    """The widths of a circuit's output values, and their words one after another, where each input value takes the next words that its
+    owner gives."""
+    circuit = circuit_of(data)
+    words = [int(next(owner)) for owner, width in zip(given, circuit[0]) for _ in range(width)]
+    return circuit[1], iter(last_wires(circuit, words, bits))
 
 
 def out_in_the_clear(files):
@@ -55,7 +67,7 @@ def out_in_the_clear(files):
     for number, session in enumerate(sessions):
         words = {name: iter(texts[number].split()) for name, texts in inputs.items()}
         given = [words[owner] for owner in session['owners']]
-        widths, values = wires_of(files[session['circuit']], given, top['ring_bits'])
+        widths, values = values_of(files[session['circuit']], given, top['ring_bits'])
         for value, (width, readers) in enumerate(zip(widths, session['readers'])):
             text = ' '.join(str(next(values)) for _ in range(width))
             out += ''.join(f'out {number} {value} {name} {text}\n' for name in top['parties'] if name in readers)

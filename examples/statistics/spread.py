@@ -1,33 +1,36 @@
 #!/usr/bin/env python3
-"""Mean and spread from the two sums: spread.py [FILE..]
+"""Mean and spread from the two sums: ./mpc run JOB | spread.py [JOB]
 
-Reads what 'mpc run examples/statistics' writes, from the files or from standard input, takes the first sum and the first sum of
-squares in it, and prints the mean of the five numbers and their standard deviation. With both sums below 2^64 they are exact.
+Reads what 'mpc run' writes for the job of this folder, or for one with its circuits, from standard input, takes the first sum and the
+first sum of squares in it, and prints the mean of the numbers and their standard deviation. With both sums below 2^64 they are exact.
 """
 
-import fileinput
 import math
+import pathlib
+import sys
 
-COUNT = 5
+HERE = pathlib.Path(__file__).resolve().parent
+sys.path.insert(0, str(HERE.parent))
+from job_folder import lines_of, need, read_job, read_outputs, run_script  # noqa: E402
 
 
-def sums(lines):
-    """The words of the two sessions' output, by session."""
+def main(words):
+    if len(words) > 1 or words in (['-h'], ['--help']):
+        print(__doc__)
+        return 2 if len(words) > 1 else 0
+    job = read_job(words[0] if words else str(HERE))
     found = {}
-    for line in lines:
-        kind, session, _, _, word = line.split()
-        if kind == 'out':
-            found.setdefault(int(session), int(word))
-    return found
+    for session, _value, _reader, numbers in read_outputs(job, lines_of(sys.stdin)):
+        found.setdefault(session, sum(numbers))
+    need(set(found) == {0, 1}, 'there are no two sums to read on standard input')
+    count, total, squares = len(job.sessions[0].owners), found[0], found[1]
+    # A whole number up to the last step.
+    spread = count * squares - total * total
+    need(count > 0 and spread >= 0, 'a sum was 2 to ring_bits or more, and came out as its remainder')
+    print(f'mean {total / count:.1f}')
+    print(f'standard deviation {math.sqrt(spread) / count:.1f}')
+    return 0
 
 
-def main():
-    found = sums(fileinput.input())
-    total, squares = found[0], found[1]
-    # Numbers as large as squares: whole up to the last step.
-    spread = math.sqrt(COUNT * squares - total * total) / COUNT
-    print(f'mean {total / COUNT:.1f}')
-    print(f'standard deviation {spread:.1f}')
-
-
-main()
+if __name__ == '__main__':
+    run_script(main)

@@ -1,0 +1,307 @@
+#!/usr/bin/env python3
+"""Writes circuits for common tasks:
+
+    examples/circuits.py CALL [N] [BITS] > my-job/circuit.txt
+    examples/circuits.py job FOLDER CALL [BITS] PARTY PARTY PARTY ..
+
+of bits (layout bristol), where numbers are 0 or more and bits stand least first:
+    add N BITS        the sum of N numbers of BITS bits, with all its bits
+    subtract BITS     the first of two numbers less the second, modulo 2 to BITS
+    multiply BITS     the product of two numbers, with all its bits
+    less BITS         1 where the first number is less than the second, or else 0
+    equal BITS        1 where two numbers are equal, or else 0
+    choose BITS       of a bit and two numbers: the first number where the bit is 1, or else the second
+    greatest N BITS   the greatest of N numbers
+    second N BITS     the second greatest of N numbers, which is the greatest where two have that
+    auction N BITS    which of N numbers is the greatest, from 0, the first of equal ones; and the second greatest
+    count N           how many of N bits are 1
+of words (layout ring):
+    total N           the sum of N words
+
+'job' writes the folder of a whole job, but for the parties' files. Each party gives a number and reads the result, and N is how many they
+are. Where a call takes two or three numbers, the first parties give them, and the others give and read nothing. Any two may know
+everything, and one alone learns nothing but the result; change 'formula' in job.toml where it should be more. For 'count' leave BITS
+out; for 'total' they are the ring's.
+
+As a library: c = Circuit([8, 8]) has the numbers c.inputs, each a list of wires; c.text([c.add(*c.inputs)]) is the file.
+"""
+
+import heapq
+import itertools
+import re
+import sys
+
+from job_folder import MOST_VALUES, MOST_WIRES, need, run_script, write_job
+
+MOST_GATES = 65_536
+
+# Numbers of so many bits are compared bit by bit, a product after another, and longer ones in two halves at once. With 4, numbers of 16
+# bits take 29 products in 6 rounds; bit by bit they would take 16 in 16 rounds, and in halves alone 42 in 5.
+SHORT = 4
+
+
+class Circuit:
+    """A circuit of bits. A number is a list of wires, the least bit first, of any length; a wire that it doesn't have is 0. The first
+    wires are the inputs, and each gate sets the next wire. A gate that would have the value of a wire that is there is left out."""
+
+    def __init__(self, widths):
+        need(len(widths) <= MOST_VALUES, f'a circuit has at most {MOST_VALUES} input values')
+        need(sum(widths) <= MOST_WIRES, f'a circuit has at most {MOST_WIRES} wires')
+        self.widths = list(widths)
+        self.gates = [None] * sum(widths)
+        self.depths = [0] * sum(widths)
+        self.known = {}
+        wires = iter(range(sum(widths)))
+        self.inputs = [list(itertools.islice(wires, width)) for width in widths]
+        self.zero, self.one = self.gate('EQ', 0), self.gate('EQ', 1)
+
+    def gate(self, operation, *operands):
+        if (operation, operands) not in self.known:
+            need(len(self.gates) < 4 * MOST_GATES, f'the circuit has more than {MOST_GATES} gates')
+            self.known[operation, operands] = len(self.gates)
+            self.gates.append((operation, operands))
+            depth = max((self.depths[wire] for wire in operands), default=0) if operation != 'EQ' else 0
+            self.depths.append(depth + (operation == 'AND'))
+        return self.known[operation, operands]
+
+    # On bits.
+
+    def invert(self, a):
+        if a in (self.zero, self.one):
+            return self.zero + self.one - a
+        operation, operands = self.gates[a] or ('', ())
+        return operands[0] if operation == 'INV' else self.gate('INV', a)
+
+    def differ(self, a, b):
+        """1 where one of the bits is 1, and the other isn't."""
+        a, b = sorted((a, b))
+        for constant, other in ((a, b), (b, a)):
+            if constant == self.zero:
+                return other
+            if constant == self.one:
+                return self.invert(other)
+        return self.zero if a == b else self.gate('XOR', a, b)
+
+    def both(self, a, b):
+        a, b = sorted((a, b))
+        for constant, other in ((a, b), (b, a)):
+            if constant == self.zero:
+                return self.zero
+            if constant == self.one:
+                return other
+        return a if a == b else self.gate('AND', a, b)
+
+    def all(self, bits):
+        """1 where each of the bits is 1."""
+        if len(bits) < 2:
+            return bits[0] if bits else self.one
+        middle = len(bits) // 2
+        return self.both(self.all(bits[:middle]), self.all(bits[middle:]))
+
+    def most(self, a, b, c):
+        """1 where two or three of the bits are 1: a where a and b are equal, or else c."""
+        return self.differ(self.both(self.differ(a, c), self.differ(b, c)), c)
+
+    # On numbers.
+
+    def constant(self, number, width):
+        return [self.one if number >> place & 1 else self.zero for place in range(width)]
+
+    def pairs(self, x, y):
+        return list(itertools.zip_longest(x, y, fillvalue=self.zero))
+
+    def add_columns(self, columns, width):
+        """The sum of bits, of which those of column i count 2 to i. Three bits of a column, those that are there in the earliest rounds,
+        become one bit of it and one of the next column, by one product, until the column has one."""
+        total, carried = [], []
+        for column in itertools.islice(itertools.chain(columns, itertools.repeat([])), width):
+            bits = [(self.depths[wire], wire) for wire in itertools.chain(column, carried)]
+            heapq.heapify(bits)
+            carried = []
+            while len(bits) > 1:
+                a, b = heapq.heappop(bits)[1], heapq.heappop(bits)[1]
+                c = heapq.heappop(bits)[1] if bits else self.zero
+                carried.append(self.most(a, b, c))
+                rest = self.differ(self.differ(a, b), c)
+                heapq.heappush(bits, (self.depths[rest], rest))
+            total.append(bits[0][1] if bits else self.zero)
+        return total
+
+    def add(self, *numbers):
+        """The sum, of as many bits as it may have."""
+        columns = itertools.zip_longest(*numbers, fillvalue=self.zero)
+        return self.add_columns(columns, sum(2**len(number) - 1 for number in numbers).bit_length())
+
+    def subtract(self, x, y):
+        """The difference, modulo 2 to the bits of the longer one: the sum of x, the inverted y and 1."""
+        columns = [[a, self.invert(b)] for a, b in self.pairs(x, y)]
+        return self.add_columns([[*column, self.one] if place == 0 else column for place, column in enumerate(columns)], len(columns))
+
+    def multiply(self, x, y):
+        """The product, of as many bits as both together."""
+        columns = [[] for _ in range(len(x) + len(y))]
+        for i, a in enumerate(x):
+            for j, b in enumerate(y):
+                columns[i + j].append(self.both(a, b))
+        return self.add_columns(columns, len(columns))
+
+    def count(self, bits):
+        """How many of the bits are 1."""
+        return self.add_columns([bits], len(bits).bit_length())
+
+    def equal(self, x, y):
+        """1 where the numbers are equal."""
+        return self.all([self.invert(self.differ(a, b)) for a, b in self.pairs(x, y)])
+
+    def less(self, x, y):
+        """1 where the number x is less than y. In a short one, from the least bit up, the answer so far becomes the bit of y wherever the
+        two bits differ; of two halves, the upper ones decide, where they aren't equal."""
+        pairs = self.pairs(x, y)
+        if len(pairs) <= SHORT:
+            answer = self.zero
+            for a, b in pairs:
+                answer = self.differ(self.both(self.differ(a, answer), self.differ(b, answer)), b)
+            return answer
+        middle = len(pairs) // 2
+        (low_x, low_y), (high_x, high_y) = zip(*pairs[:middle]), zip(*pairs[middle:])
+        below = self.both(self.equal(high_x, high_y), self.less(low_x, low_y))
+        return self.differ(self.less(high_x, high_y), below)
+
+    def choose(self, bit, x, y):
+        """The number x where the bit is 1, or else y, by one product for each bit."""
+        return [self.differ(self.both(bit, self.differ(a, b)), b) for a, b in self.pairs(x, y)]
+
+    def ranking(self, numbers, first=0):
+        """Which number is the greatest, counted from 'first', the first of equal ones; that number; and the second greatest. The greatest
+        of either half meet, and then the one that lost and the second greatest of the half that won."""
+        if len(numbers) == 1:
+            return self.constant(first, first.bit_length()), numbers[0], []
+        middle = (len(numbers) + 1) // 2
+        place_a, a, second_a = self.ranking(numbers[:middle], first)
+        place_b, b, second_b = self.ranking(numbers[middle:], first + middle)
+        later = self.less(a, b)
+        greatest = self.choose(later, b, a)
+        loser = [self.differ(self.differ(x, y), z) for (x, y), z in zip(self.pairs(a, b), greatest)]
+        beaten = self.choose(later, second_b, second_a)
+        second = self.choose(self.less(loser, beaten), beaten, loser)
+        return self.choose(later, place_b, place_a), greatest, second
+
+    def greatest(self, numbers):
+        return self.ranking(numbers)[1]
+
+    def second_greatest(self, numbers):
+        return self.ranking(numbers)[2]
+
+    def winner(self, numbers):
+        """Which of the numbers is the greatest, from 0, the first of equal ones."""
+        return self.ranking(numbers)[0]
+
+    # The file.
+
+    def in_layers(self, outputs):
+        """The gates that the outputs need. The products of one round stand together, and then what follows from them without one."""
+        needed = set(itertools.chain(*outputs))
+        for wire in range(len(self.gates) - 1, sum(self.widths) - 1, -1):
+            operation, operands = self.gates[wire]
+            if wire in needed and operation != 'EQ':
+                needed.update(operands)
+        gates = [wire for wire in needed if self.gates[wire]]
+        return sorted(gates, key=lambda wire: (self.depths[wire], self.gates[wire][0] != 'AND', wire))
+
+    def text(self, outputs):
+        """The file, with a copy of each output wire at the end, where the output values have their place."""
+        need(len(outputs) <= MOST_VALUES, f'a circuit has at most {MOST_VALUES} output values')
+        wires = {wire: wire for wire in range(sum(self.widths))}
+        lines = []
+
+        def line(operation, *operands):
+            lines.append(f'{len(operands)} 1 {" ".join(map(str, operands))} {sum(self.widths) + len(lines)} {operation}')
+
+        for wire in self.in_layers(outputs):
+            operation, operands = self.gates[wire]
+            wires[wire] = sum(self.widths) + len(lines)
+            line(operation, *(operands if operation == 'EQ' else (wires[operand] for operand in operands)))
+        for wire in itertools.chain(*outputs):
+            line('EQW', wires[wire])
+        return file_text(self.widths, list(map(len, outputs)), lines)
+
+
+def file_text(inputs, outputs, lines):
+    """The file of a circuit with these widths and lines of gates."""
+    need(len(lines) <= MOST_GATES, f'the circuit has more than {MOST_GATES} gates')
+    need(sum(inputs) + len(lines) <= MOST_WIRES, f'the circuit has more than {MOST_WIRES} wires')
+    header = [[len(lines), sum(inputs) + len(lines)], [len(inputs), *inputs], [len(outputs), *outputs]]
+    return '\n'.join([*(' '.join(map(str, numbers)) for numbers in header), *lines]) + '\n'
+
+
+def of_bits(widths, outputs):
+    """The file of the outputs that a call makes from a circuit and its inputs."""
+    circuit = Circuit(widths)
+    return circuit.text(outputs(circuit, *circuit.inputs))
+
+
+def total(count):
+    """The sum of words."""
+    lines = [f'2 1 {count + place - 1 if place else 0} {place + 1} {count + place} ADD' for place in range(count - 1)]
+    return file_text([1] * count, [1], lines or ['1 1 0 1 EQW'])
+
+
+# What each call takes, and its file from that.
+CALLS = {
+    'add': (['N', 'BITS'], lambda n, bits: of_bits([bits] * n, lambda c, *x: [c.add(*x)])),
+    'subtract': (['BITS'], lambda bits: of_bits([bits] * 2, lambda c, x, y: [c.subtract(x, y)])),
+    'multiply': (['BITS'], lambda bits: of_bits([bits] * 2, lambda c, x, y: [c.multiply(x, y)])),
+    'less': (['BITS'], lambda bits: of_bits([bits] * 2, lambda c, x, y: [[c.less(x, y)]])),
+    'equal': (['BITS'], lambda bits: of_bits([bits] * 2, lambda c, x, y: [[c.equal(x, y)]])),
+    'choose': (['BITS'], lambda bits: of_bits([1, bits, bits], lambda c, bit, x, y: [c.choose(bit[0], x, y)])),
+    'greatest': (['N', 'BITS'], lambda n, bits: of_bits([bits] * n, lambda c, *x: [c.greatest(x)])),
+    'second': (['N', 'BITS'], lambda n, bits: of_bits([bits] * n, lambda c, *x: [c.second_greatest(x)])),
+    'auction': (['N', 'BITS'], lambda n, bits: of_bits([bits] * n, lambda c, *x: [c.winner(x), c.second_greatest(x)])),
+    'count': (['N'], lambda n: of_bits([1] * n, lambda c, *x: [c.count(list(itertools.chain(*x)))])),
+    'total': (['N'], total),
+}
+
+
+def circuit_of(call, words):
+    """The file of a call with these words."""
+    need(call in CALLS, f'{call[:40]!r} is none of {", ".join(CALLS)}')
+    names, make = CALLS[call]
+    need(len(words) == len(names), f'{call} wants {" ".join(names)}')
+    least = {'N': 2 if call in ('second', 'auction') else 1, 'BITS': 1}
+    most = {'N': MOST_VALUES, 'BITS': MOST_WIRES}
+    for name, word in zip(names, words):
+        fits = re.fullmatch('[0-9]{1,9}', word) and least[name] <= int(word) <= most[name]
+        need(fits, f'{call}: {name} is a number from {least[name]} to {most[name]}, and not {word[:40]!r}')
+    return make(*map(int, words))
+
+
+def make_job(folder, call, words):
+    """Writes the folder of a job of parties that give the inputs of a call."""
+    bits = []
+    if call == 'total' or 'BITS' in CALLS.get(call, ([], None))[0]:
+        need(words and re.fullmatch('[0-9]{1,9}', words[0]), f'{call} wants BITS before the parties')
+        bits, words = words[:1], words[1:]
+    layout, ring_bits = ('ring', int(bits[0])) if call == 'total' else ('bristol', 1)
+    need(ring_bits <= 64, 'a ring has at most 64 bits')
+    names = CALLS.get(call, ([], None))[0]
+    circuit = circuit_of(call, [str(len(words)) if name == 'N' else bits[0] for name in names])
+    inputs = int(circuit.split('\n', 2)[1].split()[0])
+    need(inputs <= len(words), f'{call} wants {inputs} parties that give a number')
+    write_job(folder, ring_bits, words, words[:inputs], circuit, f'{call}.txt', layout)
+
+
+def main(words):
+    if words in (['-h'], ['--help']):
+        print(__doc__)
+    elif len(words) >= 3 and words[0] == 'job':
+        make_job(words[1], words[2], words[3:])
+    elif words and words[0] != 'job':
+        print(circuit_of(words[0], words[1:]), end='')
+    else:
+        print(__doc__.split('\n\n')[1], file=sys.stderr)
+        return 2
+    return 0
+
+
+if __name__ == '__main__':
+    run_script(main)

@@ -1,0 +1,33 @@
+"""What a job's folder may hold that no script can go on with: changes of the files of the product."""
+
+from product import CIRCUIT, Edit, Whole, Without
+
+LONG = b'9' * 5_000
+
+# Each with a name, and a folder or a link in place of a file as the text of where it leads.
+FILES = [Without, lambda name: Whole(name, b''), lambda name: Whole(name, b'\xff\xfe\x00'), lambda name: Whole(name, bytes(100)),
+         lambda name: Whole(name, b'\n' * 16_777_217)]
+
+# A line of the job, and what stands in its place.
+LINES = [
+    ('version = 1', ['', 'version = 3', 'version = "1"', 'version = true', 'version = 1.0', 'version = ' + '9' * 5_000, 'version = [[1]']),
+    ('ring_bits = 8', ['', 'ring_bits = 0', 'ring_bits = 65', 'ring_bits = -1', 'ring_bits = "8"', 'ring_bits = 8.0', 'ring_bits = 99999999999999999999',
+                       'ring_bits = true', 'ring_bits = 1979-05-27', 'ring_bits = nan']),
+    ('parties = ["a", "b", "c"]', ['', 'parties = []', 'parties = "abc"', 'parties = ["a", 2]', 'parties = ["a", "a"]', 'parties = ["../a", "b", "c"]',
+                                   'parties = ["a\\nb", "b", "c"]', 'parties = {a = 1}', 'parties = [["a"]]', 'parties = ' + '[' * 5_000]),
+    ('[[session]]', ['[session]', 'session = []\n[other]', 'session = [1]\n[other]', 'session = 5\n[other]', '[[session]]\n' * 17]),
+    ('circuit = "mul.txt"', ['', 'circuit = 5', 'circuit = "../mul.txt"', 'circuit = ""', 'circuit = "none.txt"', 'circuit = "job.toml"',
+                             'circuit = "mul\\u0000.txt"']),
+    ('layout = "ring"', ['', 'layout = "Ring"', 'layout = ["ring"]', 'layout = {}', 'layout = "bristol"']),
+    ('owners = ["a", "b"]', ['', 'owners = ["a"]', 'owners = ["a", "x"]', 'owners = ["a", ["b"]]', 'owners = "ab"', 'owners = ["a", "b", "c"]']),
+    ('readers = [["c"]]', ['', 'readers = ["c"]', 'readers = []', 'readers = [["x"]]', 'readers = [["c"], []]', 'readers = [[["c"]]]', 'readers = 1']),
+]
+
+CIRCUITS = ['1 3\n2 1 1\n', '1 3\nx 1 1\n1 1\n', '1 3\n2 1\n1 1\n', '1 3\n2 1 1 1\n1 1\n', '1 3\n-1\n1 1\n', '1 3\n2 1 1\n1 99999999999999999999\n',
+            '1 3\n1025 1 1\n1 1\n', '1 3\n2 1 ' + '9' * 5_000 + '\n1 1\n', '1 3\n2 1 1.0\n1 1\n', '1 3\n2 131072 1\n1 1\n', CIRCUIT.replace('2 1 1', '1 1')]
+
+ODD_FOLDERS = [
+    *[[change(name)] for name in ('job.toml', 'mul.txt') for change in FILES],
+    *[[Edit('job.toml', line, other)] for line, others in LINES for other in others],
+    *[[Whole('mul.txt', text.encode())] for text in CIRCUITS],
+]

@@ -1,0 +1,491 @@
+#!/usr/bin/env python3
+"""Runs the scripts of examples/: scripts.py PROGRAM
+
+Circuits are compared with Python's numbers, and so is what is written by numbers.py, run and read. Over folders with odd contents a script has to
+end with one line on standard error. nodes.py has to find free ports, and to stop all nodes once one fails. Ends with status 1, and
+tells why, where a script ends otherwise. It needs Linux.
+"""
+
+import concurrent.futures
+import contextlib
+import os
+import pathlib
+import random
+import re
+import shutil
+import socket
+import subprocess
+import sys
+import tempfile
+import time
+
+TOP = pathlib.Path(__file__).resolve().parent.parent
+EXAMPLES = TOP / 'examples'
+sys.path[1:1] = [str(EXAMPLES), str(TOP / 'fuzz')]
+
+import job_folder  # noqa: E402
+from circuits import CALLS, Circuit, circuit_of as circuit_file  # noqa: E402
+from in_the_clear import circuit_of, last_wires  # noqa: E402
+from mutate import CHANGES  # noqa: E402
+from odd_folders import ODD_FOLDERS  # noqa: E402
+from product import product_with  # noqa: E402
+
+NUMBERS, CIRCUITS = EXAMPLES / 'numbers.py', EXAMPLES / 'circuits.py'
+AUCTION, SPREAD, NODES = EXAMPLES / 'auction/job.py', EXAMPLES / 'statistics/spread.py', EXAMPLES / 'network/nodes.py'
+MOST_SECONDS = 60
+INPUTS = 2_000
+MUTATED = 1_000
+
+
+class Wrong(Exception):
+    """A script that ended otherwise."""
+
+
+def expect(holds, text):
+    if not holds:
+        raise Wrong(text)
+
+
+def call(script, *words, given=''):
+    """How a script ended that was given this text."""
+    return subprocess.run([sys.executable, '-B', script, *map(str, words)], input=given.encode(), capture_output=True, timeout=MOST_SECONDS)
+
+
+def wrote(script, *words, given=''):
+    """What a script wrote that has to end well. On a busy machine it may tell that it waits."""
+    done = call(script, *words, given=given)
+    told = re.sub(rb'nodes\.py: waiting for [^\n]*\n', b'', done.stderr)
+    expect(done.returncode == 0 and not told, f'{script.name} {words}: status {done.returncode}: {told[-300:]!r}')
+    return done.stdout.decode()
+
+
+def expect_one_line(done, name, beginning=''):
+    """That a script stopped with one line, and with nothing else."""
+    line = done.stderr.decode('utf-8', 'replace')
+    one = line.endswith('\n') and line[:-1].isprintable() and len(line) < 1_000
+    expect(done.returncode == 1 and not done.stdout and one, f'{name}: status {done.returncode}: {done.stdout[:200]!r} {line[-300:]!r}')
+    expect(line.startswith(beginning), f'{name}: {line!r}')
+
+
+def write_folder(top, files):
+    folder = os.path.join(top, 'job')
+    os.makedirs(folder, exist_ok=True)
+    for entry in os.scandir(folder):
+        if entry.is_dir(follow_symlinks=False):
+            shutil.rmtree(entry)
+        else:
+            os.unlink(entry)
+    for name, data in files.items():
+        pathlib.Path(folder, name).write_bytes(data)
+    return folder
+
+
+# Circuits.
+
+def auctioned(*bids):
+    return [bids.index(max(bids)), sorted(bids)[-2]]
+
+
+# What each call comes to, by its words.
+IN_NUMBERS = {
+    'add': lambda n, bits: lambda *x: [sum(x)],
+    'subtract': lambda bits: lambda x, y: [(x - y) % 2**bits],
+    'multiply': lambda bits: lambda x, y: [x * y],
+    'less': lambda bits: lambda x, y: [int(x < y)],
+    'equal': lambda bits: lambda x, y: [int(x == y)],
+    'choose': lambda bits: lambda bit, x, y: [x if bit else y],
+    'greatest': lambda n, bits: lambda *x: [max(x)],
+    'second': lambda n, bits: lambda *x: [sorted(x)[-2]],
+    'auction': lambda n, bits: auctioned,
+    'count': lambda n: lambda *x: [sum(x)],
+}
+WORDS = {('N', 'BITS'): [(2, 1), (3, 2), (2, 5), (4, 7), (5, 4), (4, 16), (9, 9), (6, 33)], ('N',): [(1,), (2,), (7,), (8,), (16,), (31,)],
+         ('BITS',): [(1,), (2,), (3,), (4,), (5,), (7,), (8,), (9,), (16,), (17,), (32,)]}
+
+
+def some_inputs(chance, widths):
+    """Numbers of these widths: at their limits, equal or near to one another, or any."""
+    near = chance.randrange(2**max(widths))
+    return [chance.choice([0, 2**width - 1, near, near ^ 1, chance.randrange(2**width)]) % 2**width for width in widths]
+
+
+# Gates on words of bits, of which each belongs to a run of its own.
+ONES = 2**INPUTS - 1
+BY_RUNS = {'XOR': lambda x, y: x ^ y, 'AND': lambda x, y: x & y, 'INV': lambda x: x ^ ONES, 'EQW': lambda x: x, 'EQ': lambda bit: bit * ONES}
+
+
+def wires_of(numbers, widths):
+    """From the numbers of each run the word of each wire, which has a bit for each run."""
+    words = []
+    for value, width in enumerate(widths):
+        columns = zip(*(f'{run[value]:0{width}b}' for run in numbers)) if width else []
+        words += [int(''.join(bits), 2) for bits in reversed(list(columns))]
+    return words
+
+
+def compare(chance, text, numbers):
+    """Compares a circuit of bits with what it should come to, over many inputs."""
+    circuit = circuit_of(text.encode())
+    runs = [some_inputs(chance, circuit[0]) for _ in range(INPUTS)]
+    wanted = [numbers(*run) for run in runs]
+    for run, found in zip(runs, wanted):
+        expect(all(number < 2**width for number, width in zip(found, circuit[1], strict=True)), f'{run} comes to {found}, which does not fit')
+    found = last_wires(circuit, wires_of(runs, circuit[0]), INPUTS, BY_RUNS)
+    expect(found == wires_of(wanted, circuit[1]), 'it comes to other numbers')
+
+
+def circuits_are_their_numbers(program, top):
+    chance = random.Random(1)
+    expect({*IN_NUMBERS, 'total'} == set(CALLS), 'another list of calls')
+    for name, numbers in IN_NUMBERS.items():
+        for words in WORDS[tuple(CALLS[name][0])]:
+            try:
+                compare(chance, circuit_file(name, list(map(str, words))), numbers(*words))
+            except Wrong as wrong:
+                raise Wrong(f'{name} {words}: {wrong}') from None
+    for count in range(1, 20):
+        words = [chance.randrange(2**64) for _ in range(count)]
+        found = last_wires(circuit_of(circuit_file('total', [str(count)]).encode()), words, 64)
+        expect(found == [sum(words) % 2**64], f'total {count}: {words} come to {found}')
+
+
+def layers_are_together(program, top):
+    """In a file, the products that can be computed at once stand together, and no more layers than the longest path has."""
+    circuit = circuit_of(circuit_file('auction', ['4', '16']).encode())
+    depths = dict.fromkeys(range(sum(circuit[0])), 0)
+    order = []
+    for operation, operands, output in circuit[3]:
+        depths[output] = max((depths[wire] for wire in operands), default=0) + (operation == 'AND')
+        order.append((depths[output], operation != 'AND') if operation != 'EQW' else (max(depths.values()), True))
+    expect(order == sorted(order), 'the gates are not in layers')
+    expect(order[-1][0] == 21, f'{order[-1][0]} layers')
+
+
+def circuits_have_limits(program, top):
+    for words in [['add', '1025', '1'], ['multiply', '3000'], ['greatest', '1024', '129'], ['add', '1024', '64'], ['less', '0'], ['less', '-1'],
+                  ['less', 'x'], ['less'], ['less', '4', '4'], ['lesser', '4'], ['second', '1', '4'], ['count', '9' * 50],
+                  ['job', top, 'less', '4', 'a', 'b'], ['job', top, 'total', '65', 'a', 'b', 'c'], ['job', top, 'less', 'a', 'b', 'c'],
+                  ['job', top, 'greatest', '4', 'a', 'b', 'a'], ['job', top, 'greatest', '4', 'a', 'b', 'of'], ['job', top, 'none', '4', 'a']]:
+        expect_one_line(call(CIRCUITS, *words), f'circuits.py {words}', 'circuits.py: ')
+    wrote(CIRCUITS, 'multiply', '64')
+    expect(not os.listdir(top), f'{os.listdir(top)}')
+
+
+# Numbers.
+
+def write_random_job(chance, folder, of_bits):
+    """Writes a job of three parties and one to three sessions, and gives each party's numbers and the lines of the readers."""
+    parties, bits = ['a', 'b', 'c'], 1 if of_bits else chance.choice([2, 8, 32, 33, 64])
+    given, lines, sessions = {party: [] for party in parties}, [], []
+    os.mkdir(folder)
+    for number in range(chance.randrange(1, 4)):
+        widths = [chance.choice([1, 5, 16, 70]) for _ in range(2)] if of_bits else [1, 1]
+        owners, readers = [chance.choice(parties) for _ in range(2)], [chance.sample(parties, chance.randrange(3)) for _ in range(2)]
+        (x_width, x), (y_width, y) = [(width * bits, chance.randrange(-2**(width * bits - 1), 2**(width * bits))) for width in widths]
+        given[owners[0]].append(x)
+        given[owners[1]].append(y)
+        x, y = x % 2**x_width, y % 2**y_width
+        if of_bits:
+            circuit = Circuit(widths)
+            text = circuit.text([circuit.add(*circuit.inputs), circuit.greatest(circuit.inputs)])
+            found = [x + y, max(x, y)]
+        else:
+            text = '2 4\n2 1 1\n2 1 1\n2 1 0 1 2 ADD\n2 1 0 1 3 MUL\n'
+            found = [(x + y) % 2**bits, x * y % 2**bits]
+        pathlib.Path(folder, f'{number}.txt').write_text(text)
+        sessions.append({'circuit': f'{number}.txt', 'layout': 'bristol' if of_bits else 'ring', 'owners': owners, 'readers': readers})
+        lines += [f'session {number} value {value}: {party} reads {found[value]}\n' for value in range(2) for party in parties
+                  if party in readers[value]]
+    fields = {'version': 1, 'ring_bits': bits, 'parties': parties, 'formula': '2 of (a, b, c)', 'session': sessions}
+    pathlib.Path(folder, 'job.toml').write_text(job_folder.job_text(fields))
+    return given, ''.join(lines)
+
+
+def numbers_come_back(program, top):
+    """What is written, run and read is what Python's numbers come to."""
+    for number in range(8):
+        folder = os.path.join(top, str(number))
+        given, expected = write_random_job(random.Random(number), folder, number % 2 == 0)
+        for party, numbers in given.items():
+            wrote(NUMBERS, 'write', folder, party, *numbers)
+        done = subprocess.run([program, 'run', folder, '--view', 'a'], capture_output=True, text=True, timeout=MOST_SECONDS)
+        expect(done.returncode == 0, f'job {number}: {done.stderr}')
+        if expected:
+            found = wrote(NUMBERS, 'read', folder, given=done.stdout)
+            expect(found == expected, f'job {number}: {found} in place of {expected}')
+
+
+def numbers_are_signed_and_divided(program, top):
+    for words, given, expected in [
+            (['read', EXAMPLES / 'multiply', '--signed'], 'out 0 0 c 255\n', '-1'), (['read', EXAMPLES / 'multiply', '--signed'], 'out 0 0 c 127\n', '127'),
+            (['read', EXAMPLES / 'multiply', '--divide', '4'], 'out 0 0 c 35\n', '8.75'),
+            (['read', EXAMPLES / 'multiply', '--divide', '3'], 'out 0 0 c 35\n', '11.67'),
+            (['read', EXAMPLES / 'multiply', '--divide', '8', '--signed'], 'out 0 0 c 255\n', '-0.13'),
+            (['read', EXAMPLES / 'multiply', '--divide', '999', '--signed'], 'out 0 0 c 255\n', '0.00')]:
+        found = wrote(NUMBERS, *words, given=given)
+        expect(found == f'session 0 value 0: c reads {expected}\n', f'{words}: {found!r}')
+
+
+def numbers_that_do_not_fit(program, top):
+    folder = write_folder(top, product_with([]))
+    for words in [['a', '5'], ['a', '256', '--replace'], ['a', '-129', '--replace'], ['a', '--replace'], ['a', '5', '6', '--replace'],
+                  ['c', '1', '--replace'], ['x', '1'], ['a', '0x5', '--replace'], ['a', '5.0', '--replace'], ['a', '٣', '--replace'],
+                  ['a', '9' * 50_000, '--replace'], ['a', '9' * 30_000, '--replace'], ['../a', '5']]:
+        expect_one_line(call(NUMBERS, 'write', folder, *words), f'numbers.py write {[word[:20] for word in words]}', 'numbers.py: ')
+    expect({name: pathlib.Path(folder, name).read_bytes() for name in os.listdir(folder)} == product_with([]), 'a refused call wrote a file')
+    wrote(NUMBERS, 'write', folder, 'a', '-1', '--replace')
+    first = pathlib.Path(folder, 'party_a.toml').read_text()
+    wrote(NUMBERS, 'write', folder, 'a', '-1', '--replace')
+    second = pathlib.Path(folder, 'party_a.toml').read_text()
+    for text in (first, second):
+        expect(re.fullmatch(r'version = 1\ninputs = \["255"\]\nseed = "[0-9a-f]{64}"\n', text), text)
+    expect(first != second, 'two seeds are the same')
+
+
+# Lines that a run of the product does not write.
+OTHER_LINES = ['out', 'out 0 0', 'out 0 0 c', 'out 0 0 c 35 36', 'out 1 0 c 35', 'out 0 1 c 35', 'out 0 0 x 35', 'out 0 0 c x', 'out 0 0 c -5',
+               'out 0 0 c 256', 'out 0 0 c ' + '9' * 5_000, 'out 0 x c 35', 'out -1 0 c 35', 'out 0 0 c ' + '1 ' * 3_000_000]
+
+
+def other_lines_are_refused(program, top):
+    for line in OTHER_LINES:
+        expect_one_line(call(NUMBERS, 'read', EXAMPLES / 'multiply', given=line + '\n'), f'numbers.py read of {line[:40]!r}', 'numbers.py: ')
+    for text in ['', 'view c\n0 0 0 a c 10\n', ' \n\0\n', 'output 0 0 c 35\n']:
+        for script, words in [(NUMBERS, ['read', EXAMPLES / 'multiply']), (AUCTION, ['read', EXAMPLES / 'auction']), (SPREAD, [])]:
+            expect_one_line(call(script, *words, given=text), f'{script.name} of {text!r}', f'{script.name}: ')
+
+
+def views_are_passed_over(program, top):
+    for job, party, script, words, expected in [
+            ('multiply', 'a', NUMBERS, ['read', EXAMPLES / 'multiply'], 'session 0 value 0: c reads 35\n'),
+            ('statistics', 'north+east', SPREAD, [], 'mean 1102141.0\nstandard deviation 196902.6\n'),
+            ('auction', 'dora', AUCTION, ['read', EXAMPLES / 'auction'],
+             ''.join(f'{name} reads: boris wins and pays 2975\n' for name in ('anna', 'boris', 'chen', 'dora')))]:
+        done = subprocess.run([program, 'run', EXAMPLES / job, '--view', party], capture_output=True, text=True, timeout=MOST_SECONDS)
+        found = wrote(script, *words, given=done.stdout + '\ufeff\n\0 x\n')
+        expect(found == expected, f'{script.name}: {found!r}')
+
+
+def outputs_that_fail(program, top):
+    """Standard output that is full, closed, or whose reader has left."""
+    with open('/dev/full', 'wb') as full:
+        words = [sys.executable, '-B', NUMBERS, 'read', EXAMPLES / 'multiply']
+        done = subprocess.run(words, input=b'out 0 0 c 35\n', stdout=full, stderr=subprocess.PIPE, timeout=MOST_SECONDS)
+    done.stdout = b''
+    expect_one_line(done, 'numbers.py to a full device', 'numbers.py: ')
+    for words in ['{} -B {} less 5000 | head -c 10', '{} -B {} less 5 >&-', '{} -B {} less 5 <&-']:
+        done = subprocess.run(words.format(sys.executable, CIRCUITS), shell=True, capture_output=True, timeout=MOST_SECONDS)
+        expect(done.stderr.count(b'\n') <= 1 and b'Traceback' not in done.stderr, f'{words}: {done.stderr[-200:]!r}')
+
+
+# Folders.
+
+def odd_folders(program, top):
+    """Each is refused by the reader that all scripts have, and some are given to each script."""
+    for number, changes in enumerate(ODD_FOLDERS):
+        folder, name = write_folder(top, product_with(changes)), f'odd folder {number}'
+        try:
+            raise Wrong(f'{name}: {job_folder.read_job(folder)}')
+        except (job_folder.Refusal, OSError):
+            pass
+        if number % 12 == 0:
+            expect_one_line(call(NUMBERS, 'write', folder, 'a', '5', '--replace'), name, 'numbers.py: ')
+            expect_one_line(call(NUMBERS, 'read', folder, given='out 0 0 c 35\n'), name, 'numbers.py: ')
+            expect_one_line(call(AUCTION, 'read', folder, given='out 0 0 c 35\n'), name, 'job.py: ')
+            expect_one_line(call(SPREAD, folder, given='out 0 0 c 35\n'), name, 'spread.py: ')
+            done = call(NODES, 'split', folder, os.path.join(top, f'nodes_{number}'))
+            if done.returncode != 0:
+                expect_one_line(done, name, 'nodes.py: ')
+
+
+def links_and_folders(program, top):
+    for number, (file, target) in enumerate([(file, target) for file in ('job.toml', 'mul.txt') for target in (top, 'none', file, '/dev/zero', '/proc/self/mem')]):
+        folder = write_folder(top, product_with([]))
+        os.remove(os.path.join(folder, file))
+        os.symlink(target.replace(file, os.path.join(folder, file)), os.path.join(folder, file))
+        for script, words in [(NUMBERS, ['write', folder, 'a', '5']), (NODES, ['run', folder, program])]:
+            done = call(script, *words)
+            expect_one_line(done, f'{script.name} with {file} as a link to {target}')
+    folder = write_folder(top, product_with([]))
+    for file in ('party_a.toml', 'party_b.toml'):
+        os.remove(os.path.join(folder, file))
+    os.mkdir(os.path.join(folder, 'party_a.toml'))
+    os.symlink(os.path.join(top, 'none'), os.path.join(folder, 'party_b.toml'))
+    expect_one_line(call(NUMBERS, 'write', folder, 'a', '5'), 'a folder in place of a party', 'numbers.py: ')
+    expect_one_line(call(NUMBERS, 'write', folder, 'a', '5', '--replace'), 'a folder in place of a party', 'numbers.py: ')
+    expect_one_line(call(NUMBERS, 'write', folder, 'b', '5'), 'a link to nothing in place of a party', 'numbers.py: ')
+    expect_one_line(call(NODES, 'split', folder, os.path.join(top, 'nodes')), 'a folder in place of a party', 'nodes.py: ')
+    expect_one_line(call(NUMBERS, 'write', '/dev/null', 'a', '5'), 'a device in place of the job', 'numbers.py: ')
+    expect_one_line(call(AUCTION, 'make', '/dev/null', 'a=5', 'b=6'), 'a device in place of the job', 'job.py: ')
+    expect_one_line(call(AUCTION, 'make', folder, 'a=5', 'b=6'), 'a folder that has a job', 'job.py: ')
+
+
+def changed_jobs_are_read_or_refused(program, top):
+    """Nothing but a refusal comes of changed files."""
+    for number in range(MUTATED):
+        chance = random.Random(number)
+        files = product_with([])
+        for name in chance.choices(['job.toml', 'mul.txt'], k=chance.randrange(1, 3)):
+            files[name] = chance.choice(CHANGES)(files[name], chance)
+        folder = write_folder(top, files)
+        with contextlib.suppress(job_folder.Refusal, OSError):
+            job = job_folder.read_job(folder)
+            job_folder.job_text(job_folder.read_fields(folder))
+            list(job_folder.read_outputs(job, ['out 0 0 c 35\n']))
+
+
+def formulas_are_words(program, top):
+    """A text of formulas has a value of one word for each of its lines 'input' and 'output'."""
+    folder = write_folder(top, {'f.txt': b'input x\ninput y\nlet z = x * y\noutput z\noutput z + x\n'})
+    session = {'circuit': 'f.txt', 'layout': 'expr', 'owners': ['a', 'b'], 'readers': [['c'], ['a']]}
+    fields = {'version': 2, 'ring_bits': 16, 'parties': ['a', 'b', 'c'], 'tolerated': [['a'], ['b']], 'session': [session]}
+    pathlib.Path(folder, 'job.toml').write_text(job_folder.job_text(fields))
+    wrote(NUMBERS, 'write', folder, 'b', '-7')
+    expect('inputs = ["65529"]' in pathlib.Path(folder, 'party_b.toml').read_text(), 'another word')
+    found = wrote(NUMBERS, 'read', folder, '--signed', given='out 0 0 c 65531\nout 0 1 a 8\n')
+    expect(found == 'session 0 value 0: c reads -5\nsession 0 value 1: a reads 8\n', found)
+
+
+# Whole jobs.
+
+def an_auction_of_two(program, top):
+    folder = os.path.join(top, 'auction')
+    wrote(AUCTION, 'make', folder, 'anna=40000', 'boris=39999')
+    done = subprocess.run([program, 'run', folder], capture_output=True, text=True, timeout=MOST_SECONDS)
+    found = wrote(AUCTION, 'read', folder, given=done.stdout)
+    expect(found == 'anna reads: anna wins and pays 39999\nboris reads: anna wins and pays 39999\n', f'{done.stderr} {found}')
+
+
+def jobs_of_calls(program, top):
+    parties = ['ann', 'bob', 'cleo', 'dan']
+    for name, words, given, expected in [('total', ['32'], [7, 5, 1250, 0], 1262), ('greatest', ['16'], [7, 5, 1250, 0], 1250),
+                                         ('count', [], [1, 0, 1, 1], 3), ('choose', ['8'], [0, 3, 4], 4)]:
+        folder = os.path.join(top, name)
+        wrote(CIRCUITS, 'job', folder, name, *words, *parties)
+        for party, numbers in zip(parties, [*([number] for number in given), [], []]):
+            wrote(NUMBERS, 'write', folder, party, *numbers)
+        done = subprocess.run([program, 'run', folder], capture_output=True, text=True, timeout=MOST_SECONDS)
+        expect(done.returncode == 0, f'{name}: {done.stderr}')
+        found = wrote(NUMBERS, 'read', folder, given=done.stdout)
+        expect(found == ''.join(f'session 0 value 0: {party} reads {expected}\n' for party in parties[:len(given)]), f'{name}: {found}')
+
+
+# Nodes.
+
+def ports_of_the_job_are_taken(program, top):
+    with contextlib.ExitStack() as stack:
+        for port in range(7_400, 7_430):
+            listener = stack.enter_context(socket.socket())
+            with contextlib.suppress(OSError):
+                listener.bind(('127.0.0.1', port))
+                listener.listen()
+        found = wrote(NODES, 'run', EXAMPLES / 'network', program)
+    expect(found == (EXAMPLES / 'network/expected_nodes').read_text(), found)
+
+
+def nodes_beside_one_another(program, top):
+    with concurrent.futures.ThreadPoolExecutor(4) as pool:
+        for done in [pool.submit(wrote, NODES, 'run', EXAMPLES / 'multiply', program) for _ in range(6)]:
+            expect(done.result() == 'out 0 0 c 35\n', done.result())
+
+
+def running(program, folder):
+    """The calls of a program that name a folder."""
+    found = []
+    for process in pathlib.Path('/proc').glob('[0-9]*/cmdline'):
+        with contextlib.suppress(OSError):
+            words = process.read_bytes().split(b'\0')
+            if os.fsencode(program) in words and any(os.fsencode(folder) in word for word in words):
+                found.append(words)
+    return found
+
+
+def a_node_that_fails_stops_the_others(program, top):
+    for name, text in [('b', b''), ('c', b'version = 1\ninputs = ["", ""]\ntape = ""\n')]:
+        folder = write_folder(top, {**product_with([]), f'party_{name}.toml': text})
+        spare = os.path.join(top, 'spare')
+        os.makedirs(spare, exist_ok=True)
+        began = time.monotonic()
+        done = subprocess.run([sys.executable, '-B', NODES, 'run', folder, program], env={**os.environ, 'TMPDIR': spare}, capture_output=True,
+                              timeout=MOST_SECONDS)
+        expect_one_line(done, 'a node that fails', f'nodes.py: {name} ended with status 3: refused party ')
+        expect(b'; stopped: ' in done.stderr, f'{done.stderr}')
+        expect(time.monotonic() - began < 20, 'the others were waited for')
+        expect(not os.listdir(spare) and not running(program, spare), f'{os.listdir(spare)} {running(program, spare)}')
+
+
+def a_node_that_waits_is_told(program, top):
+    """A program whose nodes never end. It is ended by the signal that 'timeout' sends."""
+    slow = pathlib.Path(top, 'slow')
+    slow.write_text('#!/bin/sh\n[ "$1" = check ] || [ "$3" = a ] || exec sleep 100\n')
+    slow.chmod(0o755)
+    nodes = subprocess.Popen([sys.executable, '-B', NODES, 'run', EXAMPLES / 'multiply', slow], stdout=subprocess.PIPE, stderr=subprocess.PIPE)
+    line = nodes.stderr.readline()
+    nodes.terminate()
+    nodes.communicate(timeout=MOST_SECONDS)
+    expect(line == b'nodes.py: waiting for b, c\n', f'{line}')
+    expect(nodes.returncode == 1, f'status {nodes.returncode}')
+
+
+def nodes_are_split(program, top):
+    folder, target = write_folder(top, product_with([])), os.path.join(top, 'nodes')
+    wrote(NODES, 'split', folder, target, '--hosts', 'h,i,127.0.0.1', '--port', '4000')
+    text = pathlib.Path(target, 'b', 'job.toml').read_text()
+    expect('hosts = ["h", "i", "127.0.0.1"]\nport = 4000\n' in text, text)
+    expect(sorted(os.listdir(os.path.join(target, 'b'))) == ['job.toml', 'mul.txt', 'party_b.toml'], 'other files')
+    expect_one_line(call(NODES, 'split', folder, target), 'a split into a folder that is there', 'nodes.py: ')
+    expect_one_line(call(NODES, 'split', os.path.join(target, 'b'), target + '2', '--hosts', 'h,i,j', '--port', '1'), 'hosts twice', 'nodes.py: ')
+    expect_one_line(call(NODES, 'split', folder, target + '3', '--hosts', 'h,i', '--port', '1'), 'too few hosts', 'nodes.py: ')
+    expect_one_line(call(NODES, 'split', folder, target + '4', '--hosts', 'h,i,j', '--port', 'x'), 'no port', 'nodes.py: ')
+    expect_one_line(call(NODES, 'run', folder, os.path.join(top, 'none')), 'no program', 'nodes.py: ')
+
+
+# Words that are no call of a script.
+OTHER_WORDS = [(NUMBERS, words) for words in ([], ['write'], ['write', 'j'], ['read'], ['read', 'j', '--divide'], ['read', 'j', '--divide', 'x'],
+                                              ['read', 'j', '--divide', '-4'], ['make', 'j'], ['read', 'j', 'k'])] + [
+    (CIRCUITS, []), (CIRCUITS, ['job']), (CIRCUITS, ['job', 'f']), (AUCTION, []), (AUCTION, ['read']), (AUCTION, ['make']),
+    (NODES, []), (NODES, ['run']), (NODES, ['split', 'j']), (NODES, ['split', 'j', 'f', '--hosts', 'h'])]
+
+
+def helps_are_there(program, top):
+    for script in (NUMBERS, CIRCUITS, AUCTION, SPREAD, NODES):
+        expect(script.name in wrote(script, '--help'), f'no help of {script.name}')
+        expect(os.access(script, os.X_OK), f'{script} is no program')
+    for script, words in OTHER_WORDS:
+        done = call(script, *words)
+        expect(done.returncode == 2 and not done.stdout and f'{script.name} '.encode() in done.stderr, f'{script.name} {words}: {done}')
+
+
+CASES = [circuits_are_their_numbers, layers_are_together, circuits_have_limits, numbers_come_back, numbers_are_signed_and_divided,
+         numbers_that_do_not_fit, other_lines_are_refused, views_are_passed_over, outputs_that_fail, odd_folders, links_and_folders,
+         changed_jobs_are_read_or_refused, formulas_are_words, an_auction_of_two, jobs_of_calls, ports_of_the_job_are_taken,
+         nodes_beside_one_another, a_node_that_fails_stops_the_others, a_node_that_waits_is_told, nodes_are_split, helps_are_there]
+
+
+def tried(case, program):
+    """Whether a case is as expected, and what is told of it."""
+    name, began = case.__name__.replace('_', ' '), time.monotonic()
+    try:
+        with tempfile.TemporaryDirectory() as top:
+            case(program, top)
+        return True, f'{name}: as expected ({time.monotonic() - began:.1f} s)'
+    except (Wrong, subprocess.TimeoutExpired) as wrong:
+        return False, f'{name}: NOT AS EXPECTED: {wrong}'
+
+
+def main(words):
+    if len(words) != 2:
+        sys.exit('usage: scripts.py PROGRAM')
+    program = shutil.which(os.path.abspath(words[1]))
+    if not program:
+        sys.exit(f'scripts: there is no program {words[1]}')
+    status = 0
+    with concurrent.futures.ThreadPoolExecutor(4) as pool:
+        for good, text in pool.map(tried, CASES, [program] * len(CASES)):
+            print(f'scripts: {text}', flush=True)
+            status = status if good else 1
+    return status
+
+
+if __name__ == '__main__':
+    sys.exit(main(sys.argv))
