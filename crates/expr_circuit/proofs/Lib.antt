@@ -2,6 +2,7 @@ pub mod GoodPrograms
 pub mod Wires
 pub mod Netlists
 pub mod PlainValues
+pub mod ValidPrograms
 pub mod MachineRuns
 pub mod Partials
 pub mod Scans

@@ -8,4 +8,5 @@ pub mod Walks
 pub mod Kept
 pub mod Named
 pub mod Keeps
+pub mod FaultTexts
 pub mod Laws
