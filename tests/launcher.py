@@ -34,7 +34,7 @@ BUILT = ['low_one', 'low_two', 'mpc_main', 'upper']
 PROGRAM = '#!/bin/sh\nprintf "[%s]" "$@"\nexit 7\n'
 
 # An rt that acts as `rt ci` does: it is at work on both low crates at once, keeps in $FAKE what it proved, and leaves the program. The file
-# $FAKE/way tells it to fail, or to go on without end, behind the low crates.
+# $FAKE/way tells it to hold at the low crates until there is $FAKE/go, or behind them to fail or to go on without end.
 RT = r'''#!/bin/sh
 PATH=$PATH:/usr/bin:/bin
 [ "$*" = ci ] || exit 9
@@ -43,14 +43,14 @@ echo $$ >>"$FAKE/calls"
 ls crates >"$FAKE/crates"
 ls -A crates/low_one >"$FAKE/parts"
 mkdir crates/low_one/out crates/low_two/out
+while [ "$(cat "$FAKE/way")" = hold ] && [ ! -e "$FAKE/go" ]; do sleep 0.1; done
 if [ -e "$FAKE/kept" ]; then
     echo 'rt: low_one is kept: an earlier run proved it'
     echo 'rt: low_two is kept: an earlier run proved it'
 else
-    sleep 1.3
     printf 'rt: low_one proved\nrt: low_two proved\n'
-    touch "$FAKE/kept"
 fi
+echo low >>"$FAKE/kept"
 mkdir crates/upper/out
 case $(cat "$FAKE/way") in
     fail) printf 'fn upper::sum: no proof\nrt: upper NOT PROVED\n'; exit 1 ;;
@@ -102,6 +102,14 @@ class Repository:
         out, err = started.communicate(timeout=60)
         return started.returncode, out, err
 
+    def await_file(self, name):
+        """Waits until rt has left this file."""
+        for _ in range(600):
+            if (self.fake / name).exists():
+                return
+            time.sleep(0.05)
+        raise AssertionError(f'rt never left the file {name}')
+
     def calls(self):
         """How often rt was called."""
         file = self.fake / 'calls'
@@ -152,12 +160,17 @@ def check_failure(repository):
 
 def check_build(repository):
     """What is built, what is told meanwhile, and that the words come to the program as they are."""
-    repository.put_rt()
+    repository.put_rt('hold')
     words = ['run', 'a  "b" $HOME `x` *\n\\', '--view', "it's"]
-    status, out, err = repository.call(*words)
-    repository.expect((status, out) == (7, ''.join(f'[{word}]' for word in words)), f'the program got {out!r} and gave {status}')
-    repository.expect('0 of 4 crates are built, 0 minutes, at work: low_one low_two\n' in err, f'it does not tell two crates at work: {err}')
-    repository.expect('4 of 4 crates are built, 0 minutes\n' in err, f'it does not tell the end: {err}')
+    started = repository.start(words)
+    line = 'mpc:'
+    while line.startswith('mpc:') and 'at work: low_one low_two\n' not in line:
+        line = started.stderr.readline()
+    (repository.fake / 'go').touch()
+    out, err = started.communicate(timeout=60)
+    repository.expect(line == 'mpc: 0 of 4 crates are built, 0 minutes, at work: low_one low_two\n', f'it does not tell two crates at work: {line}{err}')
+    repository.expect('mpc: 4 of 4 crates are built, 0 minutes\n' in err, f'it does not tell the end: {err}')
+    repository.expect((started.returncode, out) == (7, ''.join(f'[{word}]' for word in words)), f'the program got {out!r} and gave {started.returncode}')
     built = (repository.fake / 'crates').read_text().split()
     repository.expect(built == BUILT, f'it built {built}')
     parts = (repository.fake / 'parts').read_text().split()
@@ -190,10 +203,7 @@ def check_stop(repository):
     """A build that is stopped ends with what it started, and the next one goes on."""
     repository.put_rt('wait')
     started = repository.start(['check', 'd'])
-    for _ in range(200):
-        if (repository.fake / 'waits').exists():
-            break
-        time.sleep(0.05)
+    repository.await_file('waits')
     time.sleep(0.2)
     os.killpg(started.pid, signal.SIGINT)
     _, err = started.communicate(timeout=20)
@@ -205,19 +215,17 @@ def check_stop(repository):
     repository.expect(not pathlib.Path(f'/proc/{rt}').exists(), 'rt goes on')
     repository.put_rt()
     status, _, err = repository.call('check', 'd')
-    repository.expect(status == 7 and 'at work: low_' not in err, f'it began anew: {err}')
+    repository.expect(status == 7 and (repository.fake / 'kept').read_text() == 'low\nlow\n', f'the build after it gave {status}: {err}')
     return 'a build that is stopped'
 
 
 def check_change(repository):
     """A source that changes while it is built has it built once more."""
-    repository.put_rt()
+    repository.put_rt('hold')
     started = repository.start(['check', 'd'])
-    for _ in range(200):
-        if (repository.fake / 'calls').exists():
-            break
-        time.sleep(0.05)
+    repository.await_file('calls')
     (repository.top / 'crates' / 'upper' / 'src' / 'lib.rt').touch()
+    (repository.fake / 'go').touch()
     started.communicate(timeout=60)
     repository.call('check', 'd')
     repository.call('check', 'd')
