@@ -104,7 +104,7 @@ def read_fields(folder):
         raise Refusal(f'{path} is no TOML: {error}') from None
     parties, sessions = fields.get('parties'), fields.get('session')
     need(is_texts(parties) and 1 <= len(parties) <= 12, f'{path}: parties is no list of 1 to 12 names')
-    need(all(map(NAME.fullmatch, parties)) and len(set(parties)) == len(parties), f'{path}: a party has no name, or one has it twice')
+    need(all(map(NAME.fullmatch, parties)) and len(set(parties)) == len(parties), f'{path}: a name of parties is out of form, or stands twice')
     need(isinstance(sessions, list) and 1 <= len(sessions) <= 16, f'{path}: there are not 1 to 16 [[session]]')
     for number, session in enumerate(sessions):
         need(isinstance(session, dict), f'{path}: session {number} is no table')
