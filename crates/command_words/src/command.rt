@@ -19,8 +19,8 @@ pub enum Command<'w> {
     Check {
         dir: &'w str,
     },
-    /// `pair DIR --group GROUP`: runs the job of the folder, and again with the other inputs of the folder and the tapes
-    /// that hide them from the group.
+    /// `pair DIR --group GROUP`: runs the job of the folder, and again with the other inputs of the folder and the
+    /// tapes that hide them from the group.
     Pair {
         dir: &'w str,
         group: &'w str,
@@ -270,9 +270,9 @@ fn command_of(words: &[String]) -> Option<Command<'_>>
 /// # Errors
 ///
 /// `Refused` where the words, after the first, are none of the forms `run DIR [--workers W] [--view GROUP]`,
-/// `check DIR`, `pair DIR --group GROUP`, `node DIR NAME` and `sample N`. The two options of `run` stand in either order,
-/// each at most once. DIR, GROUP and NAME aren't empty and don't begin with `-`. W is one or more digits with a value
-/// from 1 to 16, and N with one from 1 to 65,536.
+/// `check DIR`, `pair DIR --group GROUP`, `node DIR NAME` and `sample N`. The two options of `run` stand in either
+/// order, each at most once. DIR, GROUP and NAME aren't empty and don't begin with `-`. W is one or more digits with a
+/// value from 1 to 16, and N with one from 1 to 65,536.
 pub fn read_command(words: &[String]) -> Result<Command<'_>, Refused>
     ensures taken { IfOk result (λ command. command_of (map string_bytes words.now) ≡ Some (form_of command)) }
     ensures range { IfOk result IsInRange }

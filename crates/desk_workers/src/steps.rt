@@ -79,7 +79,8 @@ fn is_move(stepped: Stepped) -> bool
     matches!(stepped, Stepped::Moved)
 }
 
-// Steps the desk through the gates that come next or, where it makes no move there, once, and answers how often it moved.
+// Steps the desk through the gates that come next or, where it makes no move there, once,
+// and answers how often it moved.
 #[inline(always)]
 fn goes_far<P: Pace>(
     board: &Board<Promised, Box<Desk>>,

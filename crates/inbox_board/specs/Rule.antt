@@ -1,5 +1,6 @@
 -- The rule of an inbox's table, and what its steps tell. Word 0 is the seats' word, word 1 the count, word 2 the mark,
--- and then comes the value of each place. The mark is 0 while the writer goes on, then 1 for a whole inbox, 2 for a fault.
+-- and then comes the value of each place. The mark is 0 while the writer goes on, then 1 for a whole inbox,
+-- 2 for a fault.
 use Rattle.std.specs.Prelude.{◌≡◌, ◌≢◌, ℕ, zero, suc, ◌+◌, ◌<◌, ◌≤◌, List, [], ◌∷◌, ◌++◌, length, slice_index, Some, None}
 use mathlib.Core.Option.{some}
 use lib.ListN.{get_elem?}

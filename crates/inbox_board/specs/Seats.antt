@@ -14,8 +14,8 @@ pub record SeatModel : Type 0 where
   pub id : TableId
   pub view : View
 
--- a seat between two calls, which counts the places that it filled: it has stored no value that isn't counted, and without
--- the pen it has filled no place and given no mark
+-- a seat between two calls, which counts the places that it filled: it has stored no value that isn't counted, and
+-- without the pen it has filled no place and given no mark
 pub record IsAtRest (filled : ℕ) (v : View) : Type 0 where
   pub stored : v.stored ≡ None
   pub length : filled ≡ v.length

@@ -6,7 +6,8 @@ use std::collections::LinkedList;
 pub struct View {
     // 1 where it has the pen, which only the writer has, else 0.
     pub pens: u32,
-    // With the pen: how many places it has filled, the mark that it gave, and the value that it has stored within a push.
+    // With the pen: how many places it has filled, the mark that it gave,
+    // and the value that it has stored within a push.
     pub length: u32,
     pub ended: u64,
     pub stored: Option<u64>,

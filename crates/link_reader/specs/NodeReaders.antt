@@ -64,8 +64,8 @@ ReadsOfAll n words before after =
 abbrev pub HasReadWords : Node → (Key → ℕ) → (ℕ → List ℕ) → Type 0
 HasReadWords n got words = (q : ℕ) → IsPeer n q → HasFirstWords n q got (length (words q)) (words q)
 
--- a party stopped after k of its instructions: what it took was read at its place, and of its posts up to the next one it
--- said a first part, whatever words are still to come
+-- a party stopped after k of its instructions: what it took was read at its place, and of its posts up to the next one
+-- it said a first part, whatever words are still to come
 pub record StoppedShort (n : Node) (before after : LinksReading) : Type 0 where
   pub k : ℕ
   pub within : k ≤ length (acts n)

@@ -12,8 +12,8 @@ use inbox_board::{Inbox, InboxSeat};
 use node_talk::NodeFault;
 use outer_io::Inlet;
 
-// Reads the hello and then frame after frame, and pushes each word, up to the first fault. The party is woken after each
-// push.
+// Reads the hello and then frame after frame, and pushes each word, up to the first fault. The party is woken after
+// each push.
 pub fn read_all<I: Inlet>(
     inlet: &mut I,
     talk: &IncomingTalk,

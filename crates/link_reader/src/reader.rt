@@ -13,8 +13,8 @@ use std::alloc::Global;
 use std::marker::Model;
 use std::sync::Arc;
 
-/// The reading of one peer into an inbox that has a place for each message from it. The party is woken at each word that
-/// came, and at the end.
+/// The reading of one peer into an inbox that has a place for each message from it. The party is woken at each word
+/// that came, and at the end.
 #[derive(Drop)]
 pub struct LinkReader<I: Inlet> {
     inlet: I,

@@ -44,8 +44,8 @@ pub record Talks (job : NodeForm) (before after : Outside) (result : Result Resu
   pub run : (n : Node) → IsNodeOf (share_of job) n
       → node_runs.Runs n (offered job before) kept before.spawner after.spawner result
 
--- The net failed and gave no links, as a steady net does at no meeting that it expects. It has the links that it had, and
--- no reader was started.
+-- The net failed and gave no links, as a steady net does at no meeting that it expects. It has the links that it had,
+-- and no reader was started.
 pub record MeetsNobody (job : NodeForm) (before after : Outside) : Type 0 where
   pub rose : Rose before.net.faults after.net.faults
   pub unexpected : IsTrue before.net.steady → before.net.expects ≡ Some (meeting_of job) → ⊥
@@ -62,8 +62,8 @@ pub record HearsAllQuietly (job : NodeForm) (before after : Outside) : Type 0 wh
       → NoneRose n (offered job before) kept
   pub hears : (n : Node) → IsNodeOf (share_of job) n → HearsAll n (offered job before)
 
--- The net is steady and expects this meeting, the spawner is steady and can count one more refusal, each inlet holds all
--- that is expected of its peer, each outlet has room for the talk, and `out` for the lines of what is read.
+-- The net is steady and expects this meeting, the spawner is steady and can count one more refusal, each inlet holds
+-- all that is expected of its peer, each outlet has room for the talk, and `out` for the lines of what is read.
 pub record LetsTalk (job : NodeForm) (before : Outside) : Type 0 where
   pub net : IsTrue before.net.steady
   pub expects : before.net.expects ≡ Some (meeting_of job)

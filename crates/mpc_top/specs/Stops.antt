@@ -1,5 +1,5 @@
--- What a command comes to: it is done, or it stops. The table of causes: the text of each for `err`, and what it says of
--- words, files, `out`, the net and the spawner.
+-- What a command comes to: it is done, or it stops. The table of causes: the text of each for `err`, and what it says
+-- of words, files, `out`, the net and the spawner.
 use Rattle.std.specs.Prelude.{◌≡◌, ◌⊎◌, ℕ, IsTrue, List, [], Option, None, IsSome, Result, Ok, Err, OnOk, IfErr}
 use Rattle.outer_io.specs.Count.{Rose}
 use Rattle.outer_io.specs.Files.{FilesReading}

@@ -1,4 +1,5 @@
--- The runs that files stand for, where they tell what they hold: a job with what all its parties give, and other inputs.
+-- The runs that files stand for, where they tell what they hold: a job with what all its parties give,
+-- and other inputs.
 use Rattle.std.specs.Prelude.{ℕ, List, [], Option, None, Some}
 use Rattle.party_set.specs.Parties.{Members}
 use Rattle.job_plan.specs.Plans.{Plan}

@@ -42,8 +42,8 @@ where
 
 /// Runs the command of the words over the files, and gives the exit status: 0 where it was done, 2 where the words are
 /// refused, 3 where the files are, 4 where two tolerated groups together are all parties, 5 where the outside failed,
-/// 6 where memory ran out. Workers run in threads of `rt`, and each tells `pace` of its steps. A node reads its peers in
-/// jobs of `spawner`, over links that `net` gives and has back.
+/// 6 where memory ran out. Workers run in threads of `rt`, and each tells `pace` of its steps. A node reads its peers
+/// in jobs of `spawner`, over links that `net` gives and has back.
 pub fn command<
     F: Files,
     O: Sink,

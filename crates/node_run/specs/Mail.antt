@@ -60,8 +60,8 @@ pub record IsRead (x : Mail) (m v : ℕ) : Type 0 where
 abbrev pub place_to : Plan → ℕ → ℕ → ℕ
 place_to plan p m = length (filter (goes (message plan m).sender p) (take m (messages plan)))
 
--- there is an outlet and an inbox for each peer and a cell for each message, each message to the party has its place, and
--- each word was read there
+-- there is an outlet and an inbox for each peer and a cell for each message, each message to the party has its place,
+-- and each word was read there
 pub record IsMail (x : Mail) : Type 0 where
   pub sound : IsSound x.plan
   pub me : x.me < x.plan.parties

@@ -57,8 +57,8 @@ pub record KeepsRoom (bytes : ℕ) (before after : SinkReading) : Type 0 where
   pub steady : IsTrue before.steady → IsTrue after.steady
   pub room : IsTrue before.steady → after.room ≡ before.room - bytes
 
--- what sends leave of the outlet to q: its count of faults never falls, and stays unless a send to q failed; a steady one
--- stays steady, and with room for the talk no send to q fails
+-- what sends leave of the outlet to q: its count of faults never falls, and stays unless a send to q failed; a steady
+-- one stays steady, and with room for the talk no send to q fails
 pub record OutletStays (n : Node) (q : ℕ) (failed : Option ℕ) (before after : SinkReading) : Type 0 where
   pub grows : before.faults ≤ after.faults
   pub calm : failed ≢ Some q → after.faults ≡ before.faults

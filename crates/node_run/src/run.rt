@@ -65,8 +65,8 @@ impl NodeReady {
     ghost use Rattle.node_run.specs.Ready.{IsNodeOf};
     ghost use Rattle.node_run.specs.NodeRuns.{Runs};
 
-    /// Runs the party: it greets its peers, reads them all at once, each in a job of the spawner, and does its sessions in
-    /// order. It hands the links back whatever the answer.
+    /// Runs the party: it greets its peers, reads them all at once, each in a job of the spawner, and does its sessions
+    /// in order. It hands the links back whatever the answer.
     pub fn run<I: Inlet + Drop, O: Outlet, W: Spawner<LinkReader<I>>, R: Wait>(
         self,
         rt: &R,

@@ -48,8 +48,8 @@ fn advance<'p, O: Outlet>(plan: &Plan, desk: &mut Desk, cells: &mut NodeCells<'p
     }
 }
 
-// Waits for the word of this message, and answers whether it may still come: not where the reader of its sender ended by
-// a fault without it.
+// Waits for the word of this message, and answers whether it may still come: not where the reader of its sender ended
+// by a fault without it.
 fn wait_for<'p, O: Outlet, R: Wait>(
     rt: &R,
     cells: &mut NodeCells<'p, O>,

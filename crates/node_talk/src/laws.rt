@@ -11,8 +11,8 @@ ghost use Rattle.node_talk.specs.Talks.{Node, TalkIsSaid, expected, expected_at,
 ghost use Rattle.node_talk.specs.Causes.{Cause};
 ghost use Rattle.node_talk.specs.Runs.{Results, IsDone, TalkedThrough, HearsAll, NoneRose, HearsWorld, IsOfWorld};
 
-/// All instructions of a party together say its talk: its posts to another party are the messages to it, in the order of
-/// their numbers.
+/// All instructions of a party together say its talk: its posts to another party are the messages to it, in the order
+/// of their numbers.
 pub fn a_talk_is_said()
     ensures { (n : Node) → TalkIsSaid n }
 {}
@@ -37,8 +37,8 @@ pub fn no_cause_where_all_is_heard()
         → Cause n before after refused refused' fault → ⊥ }
 {}
 
-/// A node that is done, and whose inlets began with what its peers say in one world, said what it says in that world, and
-/// its outputs are the plain circuit's.
+/// A node that is done, and whose inlets began with what its peers say in one world, said what it says in that world,
+/// and its outputs are the plain circuit's.
 pub fn nodes_among_a_world_are_of_it()
     ensures { (n : Node) (got : Key → ℕ) (r : Results) (before after : LinksReading) → IsWhole n.world
         → n.me < n.world.plan.parties → IsDone n got r → TalkedThrough n got before after → HearsWorld n before

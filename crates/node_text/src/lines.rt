@@ -15,8 +15,8 @@ use output_text::{gather_head, is_read, value_of};
 use party_set::Names;
 use text_parts::gather_word;
 
-/// Writes the lines of party `me`, which is done: `out SESSION VALUE READER` and the words of the value's wires, for each
-/// session and output value that it reads. It takes no memory.
+/// Writes the lines of party `me`, which is done: `out SESSION VALUE READER` and the words of the value's wires, for
+/// each session and output value that it reads. It takes no memory.
 #[tactic(auto, unfolding(crate::specs::NodeText::node_text))]
 pub fn write_node<S: Sink>(
     sink: &mut S,

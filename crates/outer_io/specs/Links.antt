@@ -81,7 +81,8 @@ pub record Connects {Given : Type 0} (shown : Given → LinksReading) (meeting :
   pub same_expects : OnErr result (after.expects ≡ before.expects)
   pub same_offers : OnErr result (after.offers ≡ before.offers)
   pub same_kept : after.kept ≡ before.kept
-  -- a steady net stays steady, gives steady links, and does not fail at the meeting that it expects; it answers no other
+  -- a steady net stays steady, gives steady links, and does not fail at the meeting that it expects;
+  -- it answers no other
   pub keeps_steady : IsTrue before.steady → IsTrue after.steady
   pub steady_links : IsTrue before.steady → IfOk result (λ links. IsTrue (are_steady (shown links)))
   pub by_itself : IsTrue before.steady → before.expects ≡ Some meeting → ¬ IsErrOf result Failed

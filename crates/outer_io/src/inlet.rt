@@ -39,8 +39,8 @@ pub trait Inlet {
         requires { 0 < length into.old }
         ensures { ReadsInto into.new (reading self.old) (reading self.new) result };
 
-    /// Tells the other end that nothing more is read, so that nobody waits there for room. Where the inlet isn't steady, a
-    /// later read may fail.
+    /// Tells the other end that nothing more is read, so that nobody waits there for room. Where the inlet isn't
+    /// steady, a later read may fail.
     fn close(&mut self)
         ensures { reading self.new ≡ reading self.old };
 }

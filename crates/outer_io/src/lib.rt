@@ -1,5 +1,6 @@
-//! The outside, as the program sees it: files by name, sinks for text, links of bytes to other parties, and jobs that are
-//! done beside their caller, each with a count of faults that never falls; and what is told of the steps of workers.
+//! The outside, as the program sees it: files by name, sinks for text, links of bytes to other parties, and jobs that
+//! are done beside their caller, each with a count of faults that never falls;
+//! and what is told of the steps of workers.
 #![tactic(auto)]
 
 mod blocks;

@@ -15,8 +15,9 @@ use outer_io::{Blocks, Failed, Gather, Sink};
 use party_set::{Group, Names};
 use text_parts::gather_word;
 
-/// Writes two runs of a plan that are over: `first`, the outputs of the first and what a group sees of it, `second`, the
-/// same of the second, and then for each party `tape NAME` and the words of its tape in the second. It takes no memory.
+/// Writes two runs of a plan that are over: `first`, the outputs of the first and what a group sees of it, `second`,
+/// the same of the second, and then for each party `tape NAME` and the words of its tape in the second.
+/// It takes no memory.
 pub fn write_pair<S: Sink>(
     sink: &mut S,
     names: &Names,

@@ -74,9 +74,9 @@ impl Desk {
     ghost use Rattle.party_desk.specs.Walks.{IsDeskOfPlan, MayWalk, Computes, Walks, IsBefore};
     ghost use Rattle.party_desk.specs.Walks.{NoneNext, IsAtTake, HasLooked, NothingToCompute};
 
-    /// Does the instructions that come next as long as they are of gates, until one waits for a message, and answers how
-    /// many they were. Afterwards no own product, no sum and no linear gate comes next, nor a take of a product whose word
-    /// the seat knows.
+    /// Does the instructions that come next as long as they are of gates, until one waits for a message, and answers
+    /// how many they were. Afterwards no own product, no sum and no linear gate comes next, nor a take of a product
+    /// whose word the seat knows.
     #[inline(always)]
     pub fn walk_gates<W: Promise, T: SlotItem<W>>(
         &mut self,

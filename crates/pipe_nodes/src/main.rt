@@ -1,5 +1,5 @@
-//! A program for tests: it runs the nodes of all parties of a job beside one another, each node and each of its readers in a
-//! thread, over pipes in memory, and prints for each node its name, its status and what it wrote on both outputs.
+//! A program for tests: it runs the nodes of all parties of a job beside one another, each node and each of its readers
+//! in a thread, over pipes in memory, and prints for each node its name, its status and what it wrote on both outputs.
 #![tactic(auto)]
 
 mod asked;

@@ -1,5 +1,5 @@
--- The sample jobs, one for each number n of gates: parties a, b and c, of which any two are qualified, words of 32 bits,
--- and one session.
+-- The sample jobs, one for each number n of gates: parties a, b and c, of which any two are qualified, words of 32
+-- bits, and one session.
 use Rattle.std.specs.Prelude.{ℕ, ◌+◌, ◌*◌, ◌%◌, ◌==◌, if◌then◌else◌, List, [], ◌∷◌, replicate, codes}
 use Rattle.list_laws.specs.Lists.{listed}
 use Rattle.circuit_model.specs.declared.gate.Gate.{Gate}

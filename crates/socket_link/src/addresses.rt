@@ -3,8 +3,8 @@ ghost use Rattle.std.specs.Prelude.{◌≡◌, ◌↔◌, ◌⊎◌, ◌+◌, �
 
 use outer_io::Hosts;
 
-/// The host and the port to which party `from` connects in order to send to party `to`: the host of `to`, and a port for
-/// each sender and receiver, in twelves from `port` on. None where there is no such host or port.
+/// The host and the port to which party `from` connects in order to send to party `to`: the host of `to`, and a port
+/// for each sender and receiver, in twelves from `port` on. None where there is no such host or port.
 pub fn pipe_address(hosts: &Hosts, port: u16, from: u32, to: u32) -> Option<(&str, u16)>
     ensures host { IfSome result (λ address. slice_get hosts.now to ≡ Some address.0.now) }
     ensures port { IfSome result (λ address. address.1 ≡ port + 12 * to + from) }

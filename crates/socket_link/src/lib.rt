@@ -1,5 +1,5 @@
-//! Links over TCP, and jobs in threads of their own: the traits of the outside over what the system has. What comes over
-//! a link is not told.
+//! Links over TCP, and jobs in threads of their own: the traits of the outside over what the system has. What comes
+//! over a link is not told.
 #![tactic(auto)]
 
 mod addresses;

@@ -21,8 +21,8 @@ pub fn what_is_due_is_given()
     ensures { GivesExactly }
 {}
 
-/// Of two calls in a row over a steady outside, both give the texts that they are due over the files as they were before
-/// the first.
+/// Of two calls in a row over a steady outside, both give the texts that they are due over the files as they were
+/// before the first.
 pub fn two_calls_give_what_both_are_due()
     ensures { AreBothGiven }
 {}

@@ -38,7 +38,8 @@ fn each_end_is_told(rt: HostRuntime) -> Result<(), Fail> {
     Ok(())
 }
 
-/// How many reads bring the hello and the inputs of a peer in pieces of a length, how many bring all of a, and all of b.
+/// How many reads bring the hello and the inputs of a peer in pieces of a length, how many bring all of a,
+/// and all of b.
 struct Reads {
     piece: usize,
     inputs: usize,

@@ -41,8 +41,8 @@ fn another_byte_is_told_in_full(rt: HostRuntime) -> Result<(), Fail> {
     expect_other_byte(&rt, rt.alloc(), 37, 0x1e, OTHER_DIGEST, false)
 }
 
-/// Faults at once: how many bytes a and b say, which send to b fails and which start is refused; then what is told, and how
-/// many bytes a and b took.
+/// Faults at once: how many bytes a and b say, which send to b fails and which start is refused; then what is told, and
+/// how many bytes a and b took.
 struct Faults {
     a_says: usize,
     b_says: usize,

@@ -1,5 +1,5 @@
-//! Calls from their words and files to their bytes, with what no file shows: nodes over links in memory, whole ones and faulty
-//! ones, workers that are held in their first call, and runs beside their circuits in the clear.
+//! Calls from their words and files to their bytes, with what no file shows: nodes over links in memory, whole ones and
+//! faulty ones, workers that are held in their first call, and runs beside their circuits in the clear.
 #![tactic(auto)]
 
 #[cfg(test)]

@@ -89,7 +89,8 @@ fn expect_other_frame<R: Abort + Threads + Wait + Sync>(
     expect_line(rt, alloc, sides, &says, &line, at >= INPUTS)
 }
 
-/// That c tells of each other byte of a frame of the faulty peer, but for the last one, which is the lowest of its word.
+/// That c tells of each other byte of a frame of the faulty peer, but for the last one,
+/// which is the lowest of its word.
 fn expect_other_frames<R: Abort + Threads + Wait + Sync>(
     rt: &R,
     alloc: Global,
@@ -116,7 +117,8 @@ fn each_other_frame_is_told(rt: HostRuntime) -> Result<(), Fail> {
     Ok(())
 }
 
-/// What c writes where the word of a frame is another, and the last summand of its product, which it sends to both peers.
+/// What c writes where the word of a frame is another, and the last summand of its product,
+/// which it sends to both peers.
 struct OtherWord {
     out: &'static str,
     summand: u8,

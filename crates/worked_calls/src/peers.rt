@@ -15,7 +15,8 @@ pub const HELLO: usize = 38;
 /// How many a frame has.
 pub const FRAME: usize = 18;
 
-/// How many bytes c hears of a peer before it sends its frames: the hello, and the frames of the inputs. It says as many.
+/// How many bytes c hears of a peer before it sends its frames: the hello, and the frames of the inputs.
+/// It says as many.
 pub const INPUTS: usize = 74;
 
 /// The lengths of pieces in which bytes come: single bytes, others, frames, and all at once.

@@ -1,5 +1,5 @@
-//! What the parties of the product say to one another: their hellos, with the digest of the job, by Python's `hashlib`, on two
-//! lines, and their frames, whose words were worked out by hand.
+//! What the parties of the product say to one another: their hellos, with the digest of the job, by Python's `hashlib`,
+//! on two lines, and their frames, whose words were worked out by hand.
 
 use std::alloc::{AllocError, Global};
 

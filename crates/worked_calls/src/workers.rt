@@ -166,7 +166,8 @@ fn expect_row<P: Pace, R: Abort + Threads + Wait + Sync>(
     Ok(())
 }
 
-/// That the run of these words over the files with these changes writes this where workers are held so, and that none waited in vain.
+/// That the run of these words over the files with these changes writes this where workers are held so,
+/// and that none waited in vain.
 fn expect_together<R: Abort + Threads + Wait + Sync>(
     rt: &R,
     alloc: Global,

@@ -18,8 +18,8 @@ fn inlet(
     ))
 }
 
-/// What the reads of four places give of seven bytes, where the pieces have 1, 0 and 3 bytes and the third call fails: a
-/// piece of none gives one byte.
+/// What the reads of four places give of seven bytes, where the pieces have 1, 0 and 3 bytes and the third call fails:
+/// a piece of none gives one byte.
 const READS: [Got; 7] = [
     Got::Bytes(1),
     Got::Bytes(1),

@@ -1,4 +1,5 @@
-//! Worked cases of links, of what is said over them, of inboxes and readers, and of jobs that are done beside their caller.
+//! Worked cases of links, of what is said over them, of inboxes and readers,
+//! and of jobs that are done beside their caller.
 #![tactic(auto)]
 
 /// That both are equal; the text of the first stands where they are not, or another one. It is a call, since the

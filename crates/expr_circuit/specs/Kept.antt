@@ -1,0 +1,89 @@
+-- How the parser and the draft are kept, and what their steps answer.
+use Rattle.std.specs.Prelude.{◌≡◌, ℕ, ◌+◌, ◌<◌, ◌^◌, Bool, true, false, List, ◌∷◌, length, take, Option, Some, None, Result, Ok, Err}
+use Rattle.expr_circuit.specs.declared.fault.ExprFault.{ExprFault}
+use Rattle.expr_circuit.specs.declared.fault.ExprFault.TheVariants.{Memory}
+use Rattle.expr_circuit.specs.declared.parser.Parsed.{Parsed}
+use Rattle.expr_circuit.specs.declared.wire.Wire.{Wire}
+use Rattle.expr_circuit.specs.declared.wire.Step.{Step}
+use Rattle.circuit_model.specs.Netlists.{IsCircuit}
+use Rattle.expr_circuit.specs.Circuits.{Draft, Built, number_of, netlist, is_large}
+use Rattle.expr_circuit.specs.Machine.{State}
+use Rattle.expr_circuit.specs.Walks.{Read, Walk}
+
+-- the parser went on to the next state, or tells that there is none
+abbrev pub Advances : Option State → Bool → State → Type 0
+Advances None goes_on new = goes_on ≡ false
+Advances (Some next) goes_on new = (goes_on ≡ true) × (new ≡ next)
+
+-- a line as it is kept
+abbrev pub read_kept : Option Parsed → Option Read
+read_kept None = None
+read_kept (Some p) = Some (record { head = p.head; nodes = p.nodes.items })
+
+-- the fault that is wanted, unless memory ran out
+abbrev pub Fails : {B : Type 0} → ExprFault → Result B ExprFault → Type 0
+Fails Memory wanted = Unit {0}
+Fails fault wanted = wanted ≡ Err fault
+
+-- the answer that is wanted, as it is seen, unless memory ran out
+abbrev pub Shows : {A B : Type 0} → (A → B) → Result A ExprFault → Result B ExprFault → Type 0
+Shows view (Ok a) wanted = wanted ≡ Ok (view a)
+Shows view (Err fault) wanted = Fails fault wanted
+
+-- that answer itself
+abbrev pub Gives : {A : Type 0} → Result A ExprFault → Result A ExprFault → Type 0
+Gives result wanted = Shows (λ a. a) result wanted
+
+-- the wires of gate number g, where there are so many inputs, fit in 32 bits
+pub record IsNarrow (inputs g : ℕ) (s : Step) : Type 0 where
+  pub first : number_of inputs s.first < 2 ^ 32
+  pub second : number_of inputs s.second < 2 ^ 32
+  pub output : inputs + g < 2 ^ 32
+
+-- the circuit of a draft is a valid one, if it is within the limits
+abbrev pub IsSound : ℕ → Draft → Type 0
+IsSound bits d = is_large (netlist bits d) ≡ false → IsCircuit (netlist bits d)
+
+-- what is kept of a draft: the gates and outputs within the limits, and how many there are
+pub record Kept : Type 0 where
+  pub steps : List Step
+  pub gates : ℕ
+  pub inputs : ℕ
+  pub outputs : List Wire
+  pub results : ℕ
+
+abbrev pub kept : Draft → Kept
+kept d =
+    record {
+      steps = take 65536 d.gates;
+      gates = length d.gates;
+      inputs = d.inputs;
+      outputs = take 1024 d.outputs;
+      results = length d.outputs;
+    }
+
+-- this holds, unless memory ran out
+abbrev pub OrMemory : {A : Type 0} → Result A ExprFault → Type 0 → Type 0
+OrMemory (Ok a) P = P
+OrMemory (Err fault) P = fault ≡ Memory
+
+-- the gates and the wires that wait became those of the walk which is wanted, unless memory ran out
+abbrev pub Moves : {A : Type 0} → Draft → Result A ExprFault → Kept → List Wire → Result Walk ExprFault → Type 0
+Moves d (Ok a) new wires wanted = (w : Walk) × (wanted ≡ Ok w) × (new ≡ kept (record d { gates = w.gates })) × (wires ≡ w.wires)
+Moves d (Err fault) new wires wanted = Fails fault wanted
+
+-- a gate was added, and the wire that it sets is told, unless memory ran out
+abbrev pub Builds : Draft → Built → Result Wire ExprFault → Kept → Type 0
+Builds d b (Ok wire) new = (wire ≡ b.wire) × (new ≡ kept (record d { gates = b.gates }))
+Builds d b (Err fault) new = fault ≡ Memory
+
+-- the gates became those of the walk which is wanted, in which this wire stands before those that wait
+abbrev pub Wires : Draft → Result Wire ExprFault → Kept → List Wire → Result Walk ExprFault → Type 0
+Wires d (Ok wire) new wires wanted =
+    (gates : List Step) × (wanted ≡ Ok (record { gates = gates; wires = wire ∷ wires })) × (new ≡ kept (record d { gates = gates }))
+Wires d (Err fault) new wires wanted = Fails fault wanted
+
+-- the gates and the wire of an expression
+abbrev pub Expresses : Draft → Result Wire ExprFault → Kept → Result Built ExprFault → Type 0
+Expresses d (Ok wire) new wanted = (b : Built) × (wanted ≡ Ok b) × (wire ≡ b.wire) × (new ≡ kept (record d { gates = b.gates }))
+Expresses d (Err fault) new wanted = Fails fault wanted

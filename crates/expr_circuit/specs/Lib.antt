@@ -1,0 +1,12 @@
+pub mod Tokens
+pub mod Grammar
+pub mod Programs
+pub mod Faults
+pub mod Circuits
+pub mod Machine
+pub mod Walks
+pub mod Kept
+pub mod Named
+pub mod Keeps
+pub mod FaultTexts
+pub mod Laws

@@ -1,0 +1,164 @@
+-- What the compiler answers, line by line and token by token.
+use Rattle.std.specs.Prelude.{ℕ, ◌+◌, ◌^◌, nat_lt, Bool, true, false, List, [], ◌∷◌, ◌++◌, length, drop, reverse, Option, Some, None, Result, Ok, Err, is_some, if◌then◌else◌}
+use Rattle.std.specs.Str.Lossy.{utf8_valid_len}
+use Rattle.circuit_model.specs.declared.gate.Operation.{Operation}
+use Rattle.circuit_model.specs.declared.gate.Operation.TheVariants.{Add, Sub, Neg, Mul, Eq}
+use Rattle.expr_circuit.specs.declared.fault.ExprFault.{ExprFault}
+use Rattle.expr_circuit.specs.declared.fault.ExprFault.TheVariants.{NotUtf8, Syntax, UnknownName, BadConstant, TooDeep, TwiceNamed, TooLarge}
+use Rattle.expr_circuit.specs.declared.node.Node.{Node}
+use Rattle.expr_circuit.specs.declared.node.Node.TheVariants as nodes
+use Rattle.expr_circuit.specs.declared.node.Head.{Head}
+use Rattle.expr_circuit.specs.declared.node.Head.TheVariants as heads
+use Rattle.expr_circuit.specs.declared.parser.Mode.{Mode}
+use Rattle.expr_circuit.specs.declared.parser.Mode.TheVariants as modes
+use Rattle.expr_circuit.specs.declared.parser.Level.{Level}
+use Rattle.expr_circuit.specs.declared.wire.Wire.{Wire}
+use Rattle.expr_circuit.specs.declared.wire.Wire.TheVariants as wires
+use Rattle.expr_circuit.specs.declared.wire.Step.{Step}
+use Rattle.expr_circuit.specs.Tokens.{Placed, tokens}
+use Rattle.expr_circuit.specs.Programs.{bind, name_at, number_at}
+use Rattle.expr_circuit.specs.Faults.{lines}
+use Rattle.expr_circuit.specs.Circuits.{Built, Draft, add, no_wire, no_lines, netlist, is_large}
+use Rattle.circuit_model.specs.Netlists.{Netlist}
+use Rattle.list_laws.specs.Answers.{◌>>=◌}
+use Rattle.expr_circuit.specs.Machine.{State, start, step, depth, with_sum}
+
+-- the state, or the fault of the token at this place
+abbrev pub stepped : ℕ → ℕ → Option State → Result State ExprFault
+stepped n at None = Err (Syntax n at)
+stepped n at (Some s) = if nat_lt 32 (depth s) then Err (TooDeep n at) else Ok s
+
+-- the state after tokens of line n, or the first fault
+abbrev pub scan : ℕ → State → List Placed → Result State ExprFault
+scan n s [] = Ok s
+scan n s (t ∷ ts) = stepped n t.at (step s t.token) >>= (λ next. scan n next ts)
+
+-- a line that was read: what it begins with, and its expression in postfix order
+pub record Read : Type 0 where
+  pub head : Head
+  pub nodes : List Node
+
+abbrev pub closed : Head → List Level → List Node → Option Read
+closed head [] out = Some (record { head = head; nodes = reverse out })
+closed head (level ∷ frames) out = None
+
+-- the line, if it may end here
+abbrev pub finish_in : Mode → State → Option Read
+finish_in (modes.Ended at) s = Some (record { head = heads.Input at; nodes = reverse s.out })
+finish_in (modes.Have head) s = closed head s.frames (with_sum s.level.sum s.out)
+finish_in _ s = None
+
+abbrev pub finish : State → Option Read
+finish s = finish_in s.mode s
+
+-- the line, if there is one, or else the fault at its end
+abbrev pub or_end : ℕ → ℕ → Option Read → Result (Option Read) ExprFault
+or_end n at None = Err (Syntax n at)
+or_end n at (Some read) = Ok (Some read)
+
+abbrev pub is_first : Mode → Bool
+is_first modes.First = true
+is_first _ = false
+
+abbrev pub line_end : ℕ → ℕ → State → Result (Option Read) ExprFault
+line_end n at s = if is_first s.mode then Ok None else or_end n at (finish s)
+
+-- line n, none where it has no tokens, or the first fault of its tokens
+unfoldable pub parse_in : ℕ → List ℕ → Result (Option Read) ExprFault
+parse_in n line = scan n start (tokens line) >>= line_end n (length line)
+
+-- the gates so far, and the wires that wait, the last one first
+pub record Walk : Type 0 where
+  pub gates : List Step
+  pub wires : List Wire
+
+abbrev pub top : List Wire → Wire
+top [] = no_wire
+top (w ∷ ws) = w
+
+-- a wire more
+abbrev pub put : Built → List Wire → Walk
+put b ws = record { gates = b.gates; wires = b.wire ∷ ws }
+
+abbrev pub named_wire : ℕ → ℕ → Option Wire → Result Wire ExprFault
+named_wire n at None = Err (UnknownName n at)
+named_wire n at (Some w) = Ok w
+
+abbrev pub operator : Walk → Operation → Walk
+operator w o = put (add w.gates o (top (drop 1 w.wires)) (top w.wires) 0) (drop 2 w.wires)
+
+-- what a node makes of the wires before it
+abbrev pub node_in : ℕ → (List ℕ → Option Wire) → ℕ → List ℕ → Node → Walk → Result Walk ExprFault
+node_in q of n line (nodes.Name at) w =
+    named_wire n at (of (name_at line at)) >>= (λ wire. Ok (put (record { gates = w.gates; wire = wire }) w.wires))
+node_in q of n line (nodes.Number at) w =
+    if nat_lt (number_at line at) q then Ok (put (add w.gates Eq no_wire no_wire (number_at line at)) w.wires)
+    else Err (BadConstant n at)
+node_in q of n line nodes.Negate w = Ok (put (add w.gates Neg (top w.wires) no_wire 0) (drop 1 w.wires))
+node_in q of n line nodes.Add w = Ok (operator w Add)
+node_in q of n line nodes.Subtract w = Ok (operator w Sub)
+node_in q of n line nodes.Multiply w = Ok (operator w Mul)
+
+abbrev pub nodes_in : ℕ → (List ℕ → Option Wire) → ℕ → List ℕ → List Node → Walk → Result Walk ExprFault
+nodes_in q of n line [] w = Ok w
+nodes_in q of n line (node ∷ rest) w = node_in q of n line node w >>= nodes_in q of n line rest
+
+-- the gates and the wire of an expression
+unfoldable pub expression_in : ℕ → Draft → ℕ → List ℕ → List Node → Result Built ExprFault
+expression_in q d n line nodes =
+    nodes_in q d.of n line nodes (record { gates = d.gates; wires = [] })
+    >>= (λ w. Ok (record { gates = w.gates; wire = top w.wires }))
+
+-- with a name for a wire, which no line gave before
+abbrev pub bind_in : Draft → ℕ → List ℕ → Wire → Result Draft ExprFault
+bind_in d n x w = if is_some (d.of x) then Err (TwiceNamed n) else Ok (record d { of = bind d.of x (Some w) })
+
+-- with the gates of an expression
+abbrev pub with_gates : Draft → Built → Draft
+with_gates d b = record d { gates = b.gates }
+
+-- with an input more
+abbrev pub input_in : Draft → ℕ → List ℕ → Result Draft ExprFault
+input_in d n x = bind_in d n x (wires.Input d.inputs) >>= (λ e. Ok (record e { inputs = e.inputs + 1 }))
+
+-- with a name for an expression
+abbrev pub define_in : ℕ → Draft → ℕ → List ℕ → List ℕ → List Node → Result Draft ExprFault
+define_in q d n line x nodes = expression_in q d n line nodes >>= (λ b. bind_in (with_gates d b) n x b.wire)
+
+-- with an output more
+abbrev pub output_in : ℕ → Draft → ℕ → List ℕ → List Node → Result Draft ExprFault
+output_in q d n line nodes =
+    expression_in q d n line nodes >>= (λ b. Ok (record d { gates = b.gates; outputs = d.outputs ++ (b.wire ∷ []) }))
+
+-- with one line more
+abbrev pub read_in : ℕ → Draft → ℕ → List ℕ → Head → List Node → Result Draft ExprFault
+read_in q d n line (heads.Input at) nodes = input_in d n (name_at line at)
+read_in q d n line (heads.Let at) nodes = define_in q d n line (name_at line at) nodes
+read_in q d n line heads.Output nodes = output_in q d n line nodes
+
+abbrev pub read_line : ℕ → Draft → ℕ → List ℕ → Option Read → Result Draft ExprFault
+read_line q d n line None = Ok d
+read_line q d n line (Some read) = read_in q d n line read.head read.nodes
+
+-- with line n, or its first fault
+unfoldable pub line_in : ℕ → Draft → ℕ → List ℕ → Result Draft ExprFault
+line_in q d n line = parse_in n line >>= read_line q d n line
+
+-- with the lines from line n on, or the first fault
+unfoldable pub lines_in : ℕ → Draft → ℕ → List (List ℕ) → Result Draft ExprFault
+lines_in q d n [] = Ok d
+lines_in q d n (line ∷ lines) = line_in q d n line >>= (λ e. lines_in q e (n + 1) lines)
+
+-- the same, once the first line was read
+abbrev pub lines_after : ℕ → ℕ → Result Draft ExprFault → List (List ℕ) → Result Draft ExprFault
+lines_after q n read lines = read >>= (λ e. lines_in q e (n + 1) lines)
+
+-- the circuit of a draft, if it is within the limits
+abbrev pub netlist_in : ℕ → Draft → Result Netlist ExprFault
+netlist_in bits d = if is_large (netlist bits d) then Err TooLarge else Ok (netlist bits d)
+
+-- the circuit of the program that a text is, or the first fault
+unfoldable pub compiled_in : ℕ → List ℕ → Result Netlist ExprFault
+compiled_in bits bytes =
+    if nat_lt (utf8_valid_len bytes) (length bytes) then Err (NotUtf8 (utf8_valid_len bytes))
+    else lines_in (2 ^ bits) no_lines 1 (lines bytes) >>= netlist_in bits

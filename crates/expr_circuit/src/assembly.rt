@@ -1,0 +1,80 @@
+//! Assembling a circuit of gates, once it is known how many inputs there are.
+ghost use Rattle.std.specs.Prelude.{◌≡◌, ℕ, ◌<◌, ◌^◌, ◌++◌, length, map, slice_index_or, OnOk, IfOk};
+ghost use Rattle.circuit_model.specs.Netlists.{IsCircuit};
+ghost use Rattle.expr_circuit.specs.Circuits.{number_of, copy, no_wire, gate_of, gates_from, assembled};
+ghost use Rattle.expr_circuit.specs.Kept.{IsNarrow};
+
+use crate::wire::{Step, Wire};
+use circuit_model::{Circuit, Gate, Operation};
+use mpc_ring::Ring;
+use std::alloc::{AllocError, Global};
+
+/// Adds a copy of each of these wires.
+pub(crate) fn push_copies(steps: &mut Vec<Step>, wires: &[Wire]) -> Result<(), AllocError>
+    ensures { OnOk result (steps.new.items ≡ steps.old.items ++ map copy wires.now) }
+{
+    for at in 0..wires.len() {
+        steps.push(Step {
+            operation: Operation::Eqw,
+            first: wires[at],
+            second: Wire::Input(0),
+            constant: 0,
+        })?;
+    }
+    Ok(())
+}
+
+/// The number of a wire.
+fn number(inputs: u64, wire: Wire) -> u32
+    requires { number_of inputs wire < 2 ^ 32 }
+    ensures { result ≡ number_of inputs wire }
+{
+    match wire {
+        Wire::Input(input) => input as u32,
+        Wire::Gate(gate) => (inputs + gate) as u32,
+    }
+}
+
+/// Gate `at` of a circuit.
+fn gate(inputs: u64, at: u64, step: Step) -> Gate
+    requires { IsNarrow inputs at step }
+    ensures { result ≡ gate_of inputs at step }
+{
+    Gate {
+        operation: step.operation,
+        first: number(inputs, step.first),
+        second: number(inputs, step.second),
+        output: (inputs + at) as u32,
+        constant: step.constant,
+    }
+}
+
+/// The gates of a circuit.
+fn gates(alloc: Global, inputs: u64, steps: &[Step]) -> Result<Vec<Gate>, AllocError>
+    requires { (t : ℕ) → t < length steps.now → IsNarrow inputs t (slice_index_or steps.now t (copy no_wire)) }
+    ensures { IfOk result (λ gates. gates.items ≡ gates_from inputs 0 steps.now) }
+{
+    let mut gates = Vec::with_capacity(alloc, steps.len())?;
+    for at in 0..steps.len() {
+        gates.push(gate(inputs, at as u64, steps[at]))?;
+    }
+    Ok(gates)
+}
+
+/// The circuit of gates over so many input values and so many output values, each of width 1.
+pub(crate) fn assemble(
+    alloc: Global,
+    ring: Ring,
+    inputs: u64,
+    steps: &[Step],
+    outputs: usize,
+) -> Result<Circuit, AllocError>
+    requires { IsCircuit (assembled ring inputs steps.now outputs) }
+    ensures { IfOk result (λ c. c ≡ assembled ring inputs steps.now outputs) }
+{
+    let wires = (inputs + steps.len() as u64) as u32;
+    let gates = gates(alloc, inputs, steps)?;
+    let input_widths = vec![in alloc; 1; inputs as usize]?;
+    let output_widths = vec![in alloc; 1; outputs]?;
+    Ok(Circuit::of(ring, gates, wires, input_widths, output_widths))
+}

@@ -1,0 +1,85 @@
+//! Reading a program, and writing its circuit.
+ghost use Rattle.std.specs.Prelude.{◌≡◌, ℕ, ◌+◌, ◌<◌, nat_lt, true, false, Ok, Err, length, MatchResult, if◌then◌else◌};
+ghost use Rattle.std.specs.Str.Lossy.{utf8_valid_len};
+ghost use Rattle.expr_circuit.specs.declared.fault.ExprFault.TheVariants.{NotUtf8};
+ghost use Rattle.expr_circuit.specs.Circuits as circuits;
+ghost use Rattle.expr_circuit.specs.Faults.{lines};
+ghost use Rattle.expr_circuit.specs.Walks.{line_in, lines_in, lines_after, compiled_in};
+ghost use Rattle.expr_circuit.specs.Kept.{Gives};
+ghost use Rattle.expr_circuit.specs.Laws.{IsCircuitOf, IsCompiled, Refuses};
+
+use crate::draft::Draft;
+use crate::fault::ExprFault;
+use crate::line::Line;
+use circuit_file::write;
+use circuit_model::Circuit;
+use mpc_ring::Ring;
+use std::alloc::Global;
+
+/// What stands before the first LF of a text, and what follows it.
+fn cut_line(text: &[u8]) -> (&[u8], &[u8])
+    ensures lines { (q n : ℕ) (d : circuits.Draft) → lines_in q d n (lines text.now)
+        ≡ lines_after q n (line_in q d n result.0.now) (lines result.1.now) }
+    ensures shorter { 0 < length text.now → length result.1.now < length text.now }
+{
+    for at in 0..text.len() {
+        if text[at] == b'\n' {
+            return (&text[..at], &text[at + 1..]);
+        }
+    }
+    (text, &[])
+}
+
+fn check_text(bytes: &[u8]) -> Result<(), ExprFault>
+    ensures { result ≡ (if nat_lt (utf8_valid_len bytes.now) (length bytes.now)
+        then Err (NotUtf8 (utf8_valid_len bytes.now)) else Ok tt) }
+{
+    match str::from_utf8(bytes) {
+        Ok(_) => Ok(()),
+        Err(error) => Err(ExprFault::NotUtf8 {
+            at: error.valid_up_to() as u64,
+        }),
+    }
+}
+
+/// Goes over the lines of a text, and makes the circuit.
+fn read_lines(alloc: Global, bytes: &[u8], ring: Ring) -> Result<Circuit, ExprFault>
+    requires { nat_lt (utf8_valid_len bytes.now) (length bytes.now) ≡ false }
+    ensures { Gives result (compiled_in ring bytes.now) }
+{
+    let mut draft = Draft::new(alloc);
+    let mut rest = bytes;
+    let mut number = 1;
+    while !rest.is_empty() {
+        let (text, after) = cut_line(rest);
+        let line = Line { text, number, ring };
+        match draft.line(alloc, &line) {
+            Ok(()) => {}
+            Err(fault) => return Err(fault),
+        }
+        rest = after;
+        number += 1;
+    }
+    let _ = ring.bits();
+    draft.circuit(alloc, ring)
+}
+
+/// The circuit that a program stands for over a ring, or the program's first fault. It takes time linear in the length
+/// of the text.
+pub fn read(alloc: Global, bytes: &[u8], ring: Ring) -> Result<Circuit, ExprFault>
+    ensures gives { Gives result (compiled_in ring bytes.now) }
+    ensures stands { MatchResult result (IsCircuitOf ring bytes.now) (Refuses ring bytes.now) }
+{
+    match check_text(bytes) {
+        Ok(()) => read_lines(alloc, bytes, ring),
+        Err(fault) => Err(fault),
+    }
+}
+
+/// The text of that circuit, or the program's first fault.
+pub fn compile(alloc: Global, bytes: &[u8], ring: Ring) -> Result<Vec<u8>, ExprFault>
+    ensures { MatchResult result (λ text. IsCompiled ring bytes.now text.items) (Refuses ring bytes.now) }
+{
+    let circuit = read(alloc, bytes, ring)?;
+    Ok(write(alloc, &circuit)?)
+}

@@ -1,0 +1,268 @@
+//! The gates, inputs and outputs of a circuit of which some lines were read.
+ghost use Rattle.std.specs.Prelude.{◌≡◌, ℕ, ◌+◌, ◌^◌, ◌∷◌, ◌++◌, [], nat_lt, drop, OnOk, MatchResult, if◌then◌else◌};
+ghost use Rattle.expr_circuit.specs.declared.fault.ExprFault.TheVariants.{Memory};
+ghost use Rattle.expr_circuit.specs.Circuits.{Draft, add, no_wire, no_lines};
+ghost use Rattle.expr_circuit.specs.Walks.{top, node_in, expression_in, netlist_in};
+ghost use Rattle.expr_circuit.specs.Named.{AreNames};
+ghost use Rattle.expr_circuit.specs.Kept.{kept, OrMemory, Builds, Wires, Moves, Expresses, Gives, IsSound};
+
+use crate::assembly::{assemble, push_copies};
+use crate::fault::ExprFault;
+use crate::line::Line;
+use crate::names::{Names, number_at, run_at};
+use crate::node::Node;
+use crate::token::Run;
+use crate::wire::{Pending, Step, Wire};
+use circuit_model::{Circuit, Operation};
+use mpc_ring::Ring;
+use std::alloc::{AllocError, Global};
+use std::marker::Model;
+
+/// How many gates a circuit may have.
+const MOST_GATES: u64 = 65536;
+
+/// How many input values and how many output values a circuit may have.
+const MOST_VALUES: u64 = 1024;
+
+/// The gates and the wires of outputs. Those that are past a limit are counted, and not kept.
+#[derive(Drop)]
+pub struct Gates {
+    steps: Vec<Step>,
+    gates: u64,
+    inputs: u64,
+    outputs: Vec<Wire>,
+    results: u64,
+}
+
+impl Model for Gates {
+    ghost use Rattle.expr_circuit.specs.Kept.{Kept};
+
+    ghost Value = { Kept };
+
+    ghost view = { λ g. record {
+      steps = g.steps.items;
+      gates = g.gates;
+      inputs = g.inputs;
+      outputs = g.outputs.items;
+      results = g.results;
+    } };
+}
+
+/// One more.
+fn next(count: u64) -> Result<u64, ExprFault>
+    ensures { MatchResult result (λ more. more ≡ count + 1) (λ fault. fault ≡ Memory) }
+{
+    match count.checked_add(1) {
+        Some(more) => Ok(more),
+        None => Err(ExprFault::Memory),
+    }
+}
+
+impl Gates {
+    pub fn new(alloc: Global) -> Gates
+        ensures { result ≡ kept no_lines }
+    {
+        Gates {
+            steps: Vec::new(alloc),
+            gates: 0,
+            inputs: 0,
+            outputs: Vec::new(alloc),
+            results: 0,
+        }
+    }
+
+    /// How many inputs there are.
+    pub fn inputs(&self) -> u64
+        ensures { result ≡ self.now.inputs }
+    {
+        self.inputs
+    }
+
+    /// Adds an input.
+    pub fn input(&mut self) -> Result<(), ExprFault>
+        ensures { OrMemory result (self.new ≡ record self.old { inputs = self.old.inputs + 1 }) }
+    {
+        self.inputs = next(self.inputs)?;
+        Ok(())
+    }
+
+    /// Keeps a gate, unless there are too many.
+    fn keep(&mut self, step: Step) -> Result<(), AllocError>
+        ensures { OnOk result (self.new ≡ record self.old {
+          steps = if nat_lt self.old.gates 65536 then self.old.steps ++ (step ∷ []) else self.old.steps;
+        }) }
+    {
+        if self.gates < MOST_GATES {
+            self.steps.push(step)?;
+        }
+        Ok(())
+    }
+
+    /// Adds a gate, and tells its wire.
+    fn gate(&mut self, step: Step) -> Result<Wire, ExprFault>
+        ensures { (d : Draft) → self.old ≡ kept d
+            → Builds d (add d.gates step.operation step.first step.second step.constant) result self.new }
+    {
+        let wire = Wire::Gate(self.gates);
+        self.keep(step)?;
+        self.gates = next(self.gates)?;
+        Ok(wire)
+    }
+
+    /// Adds the gate of an operator, whose operands are the last two of these wires.
+    fn operator(&mut self, operation: Operation, wires: &mut Pending) -> Result<Wire, ExprFault>
+        ensures built { (d : Draft) → self.old ≡ kept d
+            → Builds d (add d.gates operation (top (drop 1 wires.old)) (top wires.old) 0) result self.new }
+        ensures rest { wires.new ≡ drop 2 wires.old }
+    {
+        let right = wires.pop();
+        let left = wires.pop();
+        self.gate(Step {
+            operation,
+            first: left,
+            second: right,
+            constant: 0,
+        })
+    }
+
+    /// Adds the gate of a number.
+    fn constant(&mut self, constant: u64) -> Result<Wire, ExprFault>
+        ensures { (d : Draft) → self.old ≡ kept d
+            → Builds d (add d.gates Operation.Eq no_wire no_wire constant) result self.new }
+    {
+        self.gate(Step {
+            operation: Operation::Eq,
+            first: Wire::Input(0),
+            second: Wire::Input(0),
+            constant,
+        })
+    }
+
+    /// Adds the gate of a minus sign.
+    fn negate(&mut self, wires: &mut Pending) -> Result<Wire, ExprFault>
+        ensures built { (d : Draft) → self.old ≡ kept d
+            → Builds d (add d.gates Operation.Neg (top wires.old) no_wire 0) result self.new }
+        ensures rest { wires.new ≡ drop 1 wires.old }
+    {
+        let first = wires.pop();
+        self.gate(Step {
+            operation: Operation::Neg,
+            first,
+            second: Wire::Input(0),
+            constant: 0,
+        })
+    }
+
+    /// The wire of a node, whose operands are the last of these wires.
+    fn wire(
+        &mut self,
+        names: &Names<'_>,
+        line: &Line<'_>,
+        node: Node,
+        wires: &mut Pending,
+    ) -> Result<Wire, ExprFault>
+        ensures { (d : Draft) → AreNames names.now d.of → self.old ≡ kept d → Wires d result self.new wires.new
+            (node_in (2 ^ line.now.ring) d.of line.now.number line.now.text.now node (record { gates = d.gates; wires = wires.old })) }
+    {
+        match node {
+            Node::Name(at) => match names.wire(run_at(Run::Word, line.text, at)) {
+                Some(wire) => Ok(wire),
+                None => Err(ExprFault::UnknownName {
+                    line: line.number,
+                    at: at as u64,
+                }),
+            },
+            Node::Number(at) => match number_at(line.text, at, line.ring) {
+                Some(constant) => self.constant(constant),
+                None => Err(ExprFault::BadConstant {
+                    line: line.number,
+                    at: at as u64,
+                }),
+            },
+            Node::Negate => self.negate(wires),
+            Node::Add => self.operator(Operation::Add, wires),
+            Node::Subtract => self.operator(Operation::Sub, wires),
+            Node::Multiply => self.operator(Operation::Mul, wires),
+        }
+    }
+
+    /// Puts the wire of a node in the place of those of its operands.
+    fn node(
+        &mut self,
+        names: &Names<'_>,
+        line: &Line<'_>,
+        node: Node,
+        wires: &mut Pending,
+    ) -> Result<(), ExprFault>
+        ensures { (d : Draft) → AreNames names.now d.of → self.old ≡ kept d → Moves d result self.new wires.new
+            (node_in (2 ^ line.now.ring) d.of line.now.number line.now.text.now node (record { gates = d.gates; wires = wires.old })) }
+    {
+        let wire = self.wire(names, line, node, wires)?;
+        Ok(wires.push(wire)?)
+    }
+
+    /// The wire of an expression.
+    pub fn expression(
+        &mut self,
+        names: &Names<'_>,
+        alloc: Global,
+        line: &Line<'_>,
+        nodes: &[Node],
+    ) -> Result<Wire, ExprFault>
+        ensures { (d : Draft) → AreNames names.now d.of → self.old ≡ kept d → Expresses d result self.new
+            (expression_in (2 ^ line.now.ring) d line.now.number line.now.text.now nodes.now) }
+    {
+        let mut wires = Pending::new(alloc);
+        for node in nodes {
+            match self.node(names, line, *node, &mut wires) {
+                Ok(()) => {}
+                Err(fault) => return Err(fault),
+            }
+        }
+        Ok(wires.pop())
+    }
+
+    /// Keeps an output, unless there are too many.
+    fn keep_output(&mut self, wire: Wire) -> Result<(), AllocError>
+        ensures { OnOk result (self.new ≡ record self.old {
+          outputs = if nat_lt self.old.results 1024 then self.old.outputs ++ (wire ∷ []) else self.old.outputs;
+        }) }
+    {
+        if self.results < MOST_VALUES {
+            self.outputs.push(wire)?;
+        }
+        Ok(())
+    }
+
+    /// Adds an output.
+    pub fn output(&mut self, wire: Wire) -> Result<(), ExprFault>
+        ensures { (d : Draft) → self.old ≡ kept d → OrMemory result
+            (self.new ≡ kept (record d { outputs = d.outputs ++ (wire ∷ []) })) }
+    {
+        self.keep_output(wire)?;
+        self.results = next(self.results)?;
+        Ok(())
+    }
+
+    /// The circuit, if it is within the limits.
+    pub fn circuit(&mut self, alloc: Global, ring: Ring) -> Result<Circuit, ExprFault>
+        requires { (d : Draft) × (self.old ≡ kept d) × IsSound ring d }
+        ensures { (d : Draft) → self.old ≡ kept d → Gives result (netlist_in ring d) }
+    {
+        let inputs = self.inputs;
+        let results = self.results;
+        let gates = self.gates;
+        if inputs > MOST_VALUES {
+            return Err(ExprFault::TooLarge);
+        }
+        if results > MOST_VALUES {
+            return Err(ExprFault::TooLarge);
+        }
+        if gates > MOST_GATES - results {
+            return Err(ExprFault::TooLarge);
+        }
+        let outputs = self.outputs.len();
+        push_copies(&mut self.steps, &self.outputs)?;
+        Ok(assemble(alloc, ring, inputs, &self.steps, outputs)?)
+    }
+}

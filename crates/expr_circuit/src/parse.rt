@@ -1,0 +1,46 @@
+//! Reading one line.
+ghost use Rattle.expr_circuit.specs.Kept.{Shows, read_kept};
+ghost use Rattle.expr_circuit.specs.Walks.{parse_in};
+
+use crate::fault::ExprFault;
+use crate::line::Line;
+use crate::parser::{Parsed, Parser};
+use crate::token::next_token;
+use std::alloc::Global;
+
+/// How many signs may be open.
+const MOST_OPEN: u32 = 32;
+
+/// The line, none where it has no tokens, or the fault of its first token that has one.
+pub(crate) fn parse_line(alloc: Global, line: &Line<'_>) -> Result<Option<Parsed>, ExprFault>
+    ensures { Shows read_kept result (parse_in line.now.number line.now.text.now) }
+{
+    let mut parser = Parser::new(alloc);
+    let mut from = 0;
+    while let Some(cut) = next_token(line.text, from) {
+        let at = cut.at as u64;
+        if !parser.advance(cut.token)? {
+            return Err(ExprFault::Syntax {
+                line: line.number,
+                at,
+            });
+        }
+        if parser.depth() > MOST_OPEN {
+            return Err(ExprFault::TooDeep {
+                line: line.number,
+                at,
+            });
+        }
+        from = cut.end;
+    }
+    if parser.is_empty() {
+        return Ok(None);
+    }
+    match parser.finish()? {
+        Some(parsed) => Ok(Some(parsed)),
+        None => Err(ExprFault::Syntax {
+            line: line.number,
+            at: line.text.len() as u64,
+        }),
+    }
+}
