@@ -261,7 +261,7 @@ def other_lines_are_refused(program, top):
 def views_are_passed_over(program, top):
     for job, party, script, words, expected in [
             ('multiply', 'a', NUMBERS, ['read', EXAMPLES / 'multiply'], 'session 0 value 0: c reads 35\n'),
-            ('statistics', 'north+east', SPREAD, [], 'mean 1102141.0\nstandard deviation 196902.6\n'),
+            ('statistics', 'north+east', SPREAD, [], 'mean 1102141.0\nstandard deviation 196902.6\nweighted score 77.1\n'),
             ('auction', 'dora', AUCTION, ['read', EXAMPLES / 'auction'],
              ''.join(f'{name} reads: boris wins and pays 2975\n' for name in ('anna', 'boris', 'chen', 'dora')))]:
         done = subprocess.run([program, 'run', EXAMPLES / job, '--view', party], capture_output=True, text=True, timeout=MOST_SECONDS)
