@@ -9,9 +9,7 @@ pub mod Scans
 pub mod LineWalks
 pub mod OneLine
 pub mod OneAnswer
-pub mod NextTokens
 pub mod ParseSteps
-pub mod AsciiRuns
 pub mod RingNumbers
 pub mod AssemblySteps
 pub mod GateSteps

@@ -142,7 +142,7 @@ blank_line q d n line h = ap (λ r. r >>= read_line q d n line) (blank_found lin
 fault_found : (q : ℕ) (known : List ℕ → Bool) (d : Draft) (n : ℕ) (line : List ℕ) (f : ExprFault) → Tells known d.of → LineFault q known line n f → line_in q d n line ≡ Err f
 unfolding line_in
 fault_found q known d n line f tells (syntax_fault at e h) = ap (λ r. r >>= read_line q d n line) (stop_answer line n at h) ∙ ap Err (sym e)
-fault_found q known d n line f tells (end_fault at e h) = ap (λ r. r >>= read_line q d n line) (end_found line n at h) ∙ ap Err (sym e)
+fault_found q known d n line f tells (end_fault at e some h) = ap (λ r. r >>= read_line q d n line) (end_found line n at some h) ∙ ap Err (sym e)
 fault_found q known d n line f tells (depth_fault at e h) = ap (λ r. r >>= read_line q d n line) (deep_answer line n at h) ∙ ap Err (sym e)
 fault_found q known d n line f tells (name_fault form h e) =
     ap (λ r. r >>= read_line q d n line) (line_found line n form h)

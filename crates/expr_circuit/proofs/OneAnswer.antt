@@ -3,11 +3,12 @@ use Rattle.std.proofs.Common.{◌≡◌, ℕ, ◌+◌, ◌^◌, ◌<◌, ◌⊎�
 use Rattle.std.proofs.lemmas.Bool.{lt-ltb, ltb-true}
 use Rattle.std.specs.Str.{IsUtf8}
 use Rattle.std.specs.Str.Lossy.{utf8_valid_len}
+use Rattle.run_tokens.specs.Tokens.{bare}
 use Rattle.expr_circuit.specs.declared.fault.ExprFault.{ExprFault}
 use Rattle.expr_circuit.specs.declared.fault.ExprFault.TheVariants.{NotUtf8, TooLarge}
 use Rattle.expr_circuit.specs.Grammar.{Line, spell_line}
 use Rattle.expr_circuit.specs.Programs.{Statement, statement}
-use Rattle.expr_circuit.specs.Faults.{Says, IsBlank, AreLines, knows, none_known, lines, bare}
+use Rattle.expr_circuit.specs.Faults.{Says, IsBlank, AreLines, knows, none_known, lines}
 use Rattle.expr_circuit.specs.Circuits.{Draft, no_lines, draft_of, is_large, circuit}
 use Rattle.circuit_model.specs.Netlists.{Netlist}
 use Rattle.circuit_file.proofs.FileLaws.{text_grounded, text_related}

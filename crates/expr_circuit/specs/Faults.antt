@@ -1,12 +1,15 @@
 -- Programs and first faults of texts.
-use Rattle.std.specs.Prelude.{◌≡◌, ℕ, ◌+◌, ◌≤◌, nat_lt, ◌⊎◌, Bool, true, false, List, [], ◌∷◌, ◌++◌, length, take, drop, map, Option, Some, None, if◌then◌else◌}
+use Rattle.std.specs.Prelude.{◌≡◌, ℕ, ◌+◌, ◌≤◌, nat_lt, ◌⊎◌, Bool, true, false, List, [], ◌∷◌, length, drop, Option, Some, None, if◌then◌else◌}
 use Rattle.std.specs.List.{slice_split}
 use Rattle.std.specs.Option.{option_or}
+use Rattle.run_tokens.specs.Tokens.{tokens}
+use Rattle.run_tokens.specs.FirstFaults as faults
+use Rattle.run_tokens.specs.FirstFaults.{StopsAt, EndsAt}
 use Rattle.expr_circuit.specs.declared.token.Token.{Token}
 use Rattle.expr_circuit.specs.declared.token.Token.TheVariants.{Name, Number, Minus, Open, Close}
 use Rattle.expr_circuit.specs.declared.fault.ExprFault.{ExprFault}
 use Rattle.expr_circuit.specs.declared.fault.ExprFault.TheVariants.{Syntax, UnknownName, BadConstant, TooDeep, TwiceNamed}
-use Rattle.expr_circuit.specs.Tokens.{Placed, tokens, is_line_end}
+use Rattle.expr_circuit.specs.Tokens.{line_language, is_line_end}
 use Rattle.expr_circuit.specs.Grammar.{Expr, Prod, Unary, Line, spell_line, IsViable}
 use Rattle.expr_circuit.specs.Grammar.Expr.{one_prod, plus, minus}
 use Rattle.expr_circuit.specs.Grammar.Prod.{one_unary, times}
@@ -52,36 +55,18 @@ open_signs ts = (after_tokens (record { wanted = true; signs = [] }) ts).signs
 abbrev pub IsShallow : List Token → Type 0
 IsShallow ts = length (open_signs ts) ≤ 32
 
--- none of the tokens has a fault: some line begins with those up to it, after which at most 32 signs are open
-pub record AreFine (ts : List Token) : Type 0 where
+-- the last of the tokens has no fault: some line begins with them, and at most 32 signs are open after them
+pub record IsFine (ts : List Token) : Type 0 where
   pub viable : IsViable ts
-  pub shallow : (k : ℕ) → IsShallow (take k ts)
+  pub shallow : IsShallow ts
 
--- the tokens without their places
-abbrev pub bare : List Placed → List Token
-bare ts = map (λ (t : Placed). t.token) ts
-
--- the token at this place is the first that has a fault, and P holds of the tokens up to it
-pub record StopsAt (line : List ℕ) (at : ℕ) (P : List Token → Type 0) : Type 0 where
-  pub before : List Placed
-  pub here : Placed
-  pub after : List Placed
-  pub cut : tokens line ≡ before ++ (here ∷ after)
-  pub place : here.at ≡ at
-  pub fine : AreFine (bare before)
-  pub fault : P (bare (before ++ (here ∷ [])))
-
--- the line ends here after some tokens of which none has a fault, and it is no line of the grammar
-pub record EndsAt (line : List ℕ) (at : ℕ) : Type 0 where
-  pub place : at ≡ length line
-  pub some : tokens line ≡ [] → ⊥
-  pub fine : AreFine (bare (tokens line))
-  pub none : (l : Line) → spell_line l ≡ bare (tokens line) → ⊥
+-- a line without tokens
+abbrev pub IsBlank : List ℕ → Type 0
+IsBlank line = tokens line_language line ≡ []
 
 -- the line is this one of the grammar, and none of its tokens has a fault
-pub record Parses (line : List ℕ) (l : Line) : Type 0 where
-  pub spelled : spell_line l ≡ bare (tokens line)
-  pub fine : AreFine (bare (tokens line))
+abbrev pub Parses : List ℕ → Line → Type 0
+Parses line l = faults.Parses line_language IsFine spell_line line l
 
 -- the fault of a name that no earlier line gives
 abbrev pub bad_name : (List ℕ → Bool) → List ℕ → ℕ → ℕ → Option ExprFault
@@ -134,14 +119,13 @@ pub record Says (q : ℕ) (known : List ℕ → Bool) (line : List ℕ) (n : ℕ
 -- the first fault of line n: that of its first token that has one, or of its end; else of a name or a number; else of
 -- the name that it gives
 pub data LineFault (q : ℕ) (known : List ℕ → Bool) (line : List ℕ) (n : ℕ) (fault : ExprFault) : Type 0 where
-  syntax_fault : (at : ℕ) → fault ≡ Syntax n at → StopsAt line at (λ ts. IsViable ts → ⊥) → LineFault q known line n fault
-  end_fault : (at : ℕ) → fault ≡ Syntax n at → EndsAt line at → LineFault q known line n fault
-  depth_fault : (at : ℕ) → fault ≡ TooDeep n at → StopsAt line at (λ ts. IsViable ts × (IsShallow ts → ⊥)) → LineFault q known line n fault
+  syntax_fault : (at : ℕ) → fault ≡ Syntax n at → StopsAt line_language IsFine line at (λ ts. IsViable ts → ⊥)
+      → LineFault q known line n fault
+  end_fault : (at : ℕ) → fault ≡ Syntax n at → (IsBlank line → ⊥) → EndsAt line_language IsFine spell_line line at
+      → LineFault q known line n fault
+  depth_fault : (at : ℕ) → fault ≡ TooDeep n at → StopsAt line_language IsFine line at (λ ts. IsViable ts × (IsShallow ts → ⊥))
+      → LineFault q known line n fault
   name_fault : (form : Line) → Parses line form → bad_line q known line n form ≡ Some fault → LineFault q known line n fault
-
--- a line without tokens
-abbrev pub IsBlank : List ℕ → Type 0
-IsBlank line = tokens line ≡ []
 
 -- the lines from line n on say the program, where these names are known
 abbrev pub AreLines : ℕ → (List ℕ → Bool) → ℕ → List (List ℕ) → List Statement → Type 0

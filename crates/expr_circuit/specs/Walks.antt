@@ -3,6 +3,7 @@ use Rattle.std.specs.Prelude.{ℕ, ◌+◌, ◌^◌, nat_lt, Bool, true, false, 
 use Rattle.std.specs.Str.Lossy.{utf8_valid_len}
 use Rattle.circuit_model.specs.declared.gate.Operation.{Operation}
 use Rattle.circuit_model.specs.declared.gate.Operation.TheVariants.{Add, Sub, Neg, Mul, Eq}
+use Rattle.run_tokens.specs.Tokens.{Placed, tokens}
 use Rattle.expr_circuit.specs.declared.fault.ExprFault.{ExprFault}
 use Rattle.expr_circuit.specs.declared.fault.ExprFault.TheVariants.{NotUtf8, Syntax, UnknownName, BadConstant, TooDeep, TwiceNamed, TooLarge}
 use Rattle.expr_circuit.specs.declared.node.Node.{Node}
@@ -15,7 +16,8 @@ use Rattle.expr_circuit.specs.declared.parser.Level.{Level}
 use Rattle.expr_circuit.specs.declared.wire.Wire.{Wire}
 use Rattle.expr_circuit.specs.declared.wire.Wire.TheVariants as wires
 use Rattle.expr_circuit.specs.declared.wire.Step.{Step}
-use Rattle.expr_circuit.specs.Tokens.{Placed, tokens}
+use Rattle.expr_circuit.specs.declared.token.Token.{Token}
+use Rattle.expr_circuit.specs.Tokens.{line_language}
 use Rattle.expr_circuit.specs.Programs.{bind, name_at, number_at}
 use Rattle.expr_circuit.specs.Faults.{lines}
 use Rattle.expr_circuit.specs.Circuits.{Built, Draft, add, no_wire, no_lines, netlist, is_large}
@@ -29,7 +31,7 @@ stepped n at None = Err (Syntax n at)
 stepped n at (Some s) = if nat_lt 32 (depth s) then Err (TooDeep n at) else Ok s
 
 -- the state after tokens of line n, or the first fault
-abbrev pub scan : ℕ → State → List Placed → Result State ExprFault
+abbrev pub scan : ℕ → State → List (Placed Token) → Result State ExprFault
 scan n s [] = Ok s
 scan n s (t ∷ ts) = stepped n t.at (step s t.token) >>= (λ next. scan n next ts)
 
@@ -65,7 +67,7 @@ line_end n at s = if is_first s.mode then Ok None else or_end n at (finish s)
 
 -- line n, none where it has no tokens, or the first fault of its tokens
 unfoldable pub parse_in : ℕ → List ℕ → Result (Option Read) ExprFault
-parse_in n line = scan n start (tokens line) >>= line_end n (length line)
+parse_in n line = scan n start (tokens line_language line) >>= line_end n (length line)
 
 -- the gates so far, and the wires that wait, the last one first
 pub record Walk : Type 0 where

@@ -8,14 +8,14 @@ ghost use Rattle.expr_circuit.specs.Keeps.{Keeps, Becomes};
 use crate::fault::ExprFault;
 use crate::gates::Gates;
 use crate::line::Line;
-use crate::names::{Names, run_at};
+use crate::names::Names;
 use crate::node::{Head, Node};
 use crate::parse::parse_line;
 use crate::parser::Parsed;
-use crate::token::Run;
 use crate::wire::Wire;
 use circuit_model::Circuit;
 use mpc_ring::Ring;
+use run_tokens::word_at;
 use std::alloc::Global;
 
 /// What the lines so far make: the wire of each name, and gates.
@@ -82,9 +82,9 @@ impl<'a> Draft<'a> {
             (read_in (2 ^ line.now.ring) d line.now.number line.now.text.now parsed.now.head parsed.now.nodes.items) }
     {
         match parsed.head {
-            Head::Input(at) => self.input(line.number, run_at(Run::Word, line.text, at)),
+            Head::Input(at) => self.input(line.number, word_at(line.text, at)),
             Head::Let(at) => {
-                let name = run_at(Run::Word, line.text, at);
+                let name = word_at(line.text, at);
                 self.define(alloc, line, name, parsed.nodes.as_slice())
             }
             Head::Output => self.output(alloc, line, parsed.nodes.as_slice()),

@@ -9,12 +9,12 @@ ghost use Rattle.expr_circuit.specs.Kept.{kept, OrMemory, Builds, Wires, Moves, 
 use crate::assembly::{assemble, push_copies};
 use crate::fault::ExprFault;
 use crate::line::Line;
-use crate::names::{Names, number_at, run_at};
+use crate::names::{Names, number_at};
 use crate::node::Node;
-use crate::token::Run;
 use crate::wire::{Pending, Step, Wire};
 use circuit_model::{Circuit, Operation};
 use mpc_ring::Ring;
+use run_tokens::word_at;
 use std::alloc::{AllocError, Global};
 use std::marker::Model;
 
@@ -165,7 +165,7 @@ impl Gates {
             (node_in (2 ^ line.now.ring) d.of line.now.number line.now.text.now node (record { gates = d.gates; wires = wires.old })) }
     {
         match node {
-            Node::Name(at) => match names.wire(run_at(Run::Word, line.text, at)) {
+            Node::Name(at) => match names.wire(word_at(line.text, at)) {
                 Some(wire) => Ok(wire),
                 None => Err(ExprFault::UnknownName {
                     line: line.number,

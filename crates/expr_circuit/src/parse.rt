@@ -5,7 +5,8 @@ ghost use Rattle.expr_circuit.specs.Walks.{parse_in};
 use crate::fault::ExprFault;
 use crate::line::Line;
 use crate::parser::{Parsed, Parser};
-use crate::token::next_token;
+use crate::token::Token;
+use run_tokens::next_token;
 use std::alloc::Global;
 
 /// How many signs may be open.
@@ -17,7 +18,7 @@ pub(crate) fn parse_line(alloc: Global, line: &Line<'_>) -> Result<Option<Parsed
 {
     let mut parser = Parser::new(alloc);
     let mut from = 0;
-    while let Some(cut) = next_token(line.text, from) {
+    while let Some(cut) = next_token::<Token>(line.text, from) {
         let at = cut.at as u64;
         if !parser.advance(cut.token)? {
             return Err(ExprFault::Syntax {

@@ -15,9 +15,13 @@ pub file_named : {C : Type 0} (seen : C → List ℕ) (dir name other : List ℕ
     → ReadsAs seen (λ m. Ends (file_at m dir name)) before after result → ReadsAs seen (λ m. Ends (file_at m dir other)) before after result
 file_named seen dir name other before after result same r = subst (λ n. ReadsAs seen (λ m. Ends (file_at m dir n)) before after result) same r
 
+-- a walk over these bytes
+pub walk_same : {A C : Type 0} (seen : C → A) (walk : List ℕ → Verdict A → Type 0) (bytes other : List ℕ) (result : Result C Stop) → bytes ≡ other → WalksAs seen (walk bytes) result → WalksAs seen (walk other) result
+walk_same seen walk bytes other result same w = subst (λ b. WalksAs seen (walk b) result) same w
+
 -- a verdict over these bytes
 pub bytes_same : {A C : Type 0} (seen : C → A) (verdict : List ℕ → Verdict A) (bytes other : List ℕ) (result : Result C Stop) → bytes ≡ other → WalksAs seen (Ends (verdict bytes)) result → WalksAs seen (Ends (verdict other)) result
-bytes_same seen verdict bytes other result same w = subst (λ b. WalksAs seen (Ends (verdict b)) result) same w
+bytes_same seen verdict bytes other result same w = walk_same seen (λ b. Ends (verdict b)) bytes other result same w
 
 -- the groups that these masks tell, where all are of so many parties
 pub groups_same : (parties : ℕ) (groups : List Members) → All (λ (g : Members). g.parties ≡ parties) groups → groups ≡ groups_in parties (map (λ (g : Members). g.mask) groups)

@@ -10,6 +10,8 @@ use Rattle.maximal_groups.specs.Families.{maximal_structure, is_tolerated_by}
 use Rattle.q2_test.specs.CoveringPairs.{IsFirstCovering}
 use Rattle.circuit_model.specs.Netlists.{Netlist}
 use Rattle.circuit_file.specs.CircuitFiles.{circuit_in}
+use Rattle.expr_circuit.specs.Laws.{IsCircuitOf, IsFault}
+use Rattle.expr_circuit.specs.declared.fault.ExprFault.{ExprFault}
 use Rattle.job_session.specs.Sessions.{Session}
 use Rattle.job_plan.specs.Plans.{Plan, plan_of}
 use Rattle.job_plan.specs.Limits.{IsPlanWithin, IsPlanRefusal}
@@ -18,10 +20,12 @@ use Rattle.plan_faults.specs.declared.part_fault.PartFault.{PartFault}
 use Rattle.plan_faults.specs.declared.plan_fault.PlanFault.{PlanFault}
 use Rattle.plan_faults.specs.declared.plan_fault.PlanFault.TheVariants as plan_fault
 use Rattle.job_file.specs.Forms.{JobForm, SessionForm, AdversaryForm, by_formula, by_list}
+use Rattle.job_file.specs.declared.layout.SessionLayout.{SessionLayout}
+use Rattle.job_file.specs.declared.layout.SessionLayout.TheVariants.{Gates, Expressions}
 use Rattle.job_file.specs.Faults.{job_in}
 use Rattle.group_text.specs.GroupTexts.{group_in}
 use Rattle.party_file.specs.Table.{PartyForm, party_in}
-use Rattle.refusal_text.specs.Lines.{too_long_line, job_line, group_line, formula_line, groups_line, covering_line, circuit_line, session_line, plan_line, party_line}
+use Rattle.refusal_text.specs.Lines.{too_long_line, job_line, group_line, formula_line, groups_line, covering_line, circuit_line, expressions_line, session_line, plan_line, party_line}
 use Rattle.job_walk.specs.Names as file_names
 use Rattle.job_walk.specs.Verdict.{Verdict, accepted, missing, refused, Ends, Then, verdict_of, unless}
 
@@ -111,12 +115,23 @@ abbrev pub part_of : (PartFault → List ℕ) → Netlist → List ℕ → List 
 part_of line circuit owners readers =
     unless (part_fault circuit owners readers) line (session_of circuit owners readers)
 
+-- the circuit of a program of expressions, or the program's first fault
+unfoldable pub ExpressionsOf : (ExprFault → List ℕ) → ℕ → List ℕ → Verdict Netlist → Type 0
+ExpressionsOf line bits text (accepted c) = IsCircuitOf bits text c
+ExpressionsOf line bits text (missing name) = ⊥
+ExpressionsOf line bits text (refused status told) =
+    (fault : ExprFault) × IsFault bits text fault × (status ≡ 3) × (told ≡ line fault)
+
+-- the circuit that the file of session s tells
+unfoldable pub CircuitOf : SessionLayout → List ℕ → ℕ → ℕ → List ℕ → Verdict Netlist → Type 0
+CircuitOf (Gates layout) file s bits bytes = Ends (verdict_of (circuit_line file s) (circuit_in layout bits bytes))
+CircuitOf Expressions file s bits bytes = ExpressionsOf (expressions_line file s) bits bytes
+
 -- session s: its circuit's file, and its counts of owners and readers
 unfoldable pub SessionAt : Contents → List ℕ → JobForm → ℕ → SessionForm → Verdict Session → Type 0
 SessionAt files dir job s form =
     Then (Ends (file_at files dir form.circuit)) (λ bytes.
-    Then (Ends (verdict_of (circuit_line form.circuit s)
-    (circuit_in form.layout job.bits bytes))) (λ circuit.
+    Then (CircuitOf form.layout form.circuit s job.bits bytes) (λ circuit.
     Ends (part_of (session_line s) circuit form.owners
     (groups_in (length job.names) form.readers))))
 

@@ -4,9 +4,9 @@ ghost use Rattle.circuit_model.specs.Checks.{Gives};
 ghost use Rattle.circuit_file.specs.CircuitFiles.{circuit_in};
 ghost use Rattle.job_session.specs.SoundSessions.{IsSoundSession};
 ghost use Rattle.job_file.specs.Jobs.{job_view, session_view, IsJob, IsSession};
-ghost use Rattle.refusal_text.specs.Lines.{circuit_line, session_line};
+ghost use Rattle.refusal_text.specs.Lines.{circuit_line, expressions_line, session_line};
 ghost use Rattle.job_walk.specs.Verdict.{Ends, verdict_of};
-ghost use Rattle.job_walk.specs.JobOf.{part_of, SessionAt, SessionsAfter};
+ghost use Rattle.job_walk.specs.JobOf.{part_of, CircuitOf, ExpressionsOf, SessionAt, SessionsAfter};
 ghost use Rattle.job_walk.specs.FileLogs.{Logs};
 ghost use Rattle.job_walk.specs.NodeOf.{circuit_files};
 ghost use Rattle.job_walk.specs.Reads.{ReadsAs, WalksAs};
@@ -16,13 +16,14 @@ use crate::file::read_file;
 use crate::file_log::FileLog;
 use crate::stop::refusal;
 use circuit_model::{Circuit, CircuitFault, CircuitLayout};
-use job_file::{Job, JobSession};
+use expr_circuit::ExprFault;
+use job_file::{Job, JobSession, SessionLayout};
 use job_plan::SessionPart;
 use mpc_ring::Ring;
 use outer_io::Files;
 use party_set::Group;
 use plan_faults::PartFault;
-use refusal_text::{circuit_line, session_line};
+use refusal_text::{circuit_line, expressions_line, session_line};
 use std::alloc::{AllocError, Global};
 
 /// Reads the circuits of the sessions.
@@ -89,6 +90,8 @@ fn read_circuit(
     }
 }
 
+// The circuit of the file of session s, which has this name.
+#[tactic(auto, unfolding(crate::specs::JobOf::CircuitOf))]
 fn circuit_of(
     alloc: Global,
     bytes: &[u8],
@@ -97,13 +100,48 @@ fn circuit_of(
     s: u32,
 ) -> Result<Circuit, Stop>
     ensures { WalksAs (λ circuit. circuit)
-        (Ends (verdict_of (circuit_line session.now.circuit s)
-        (circuit_in session.now.layout ring bytes.now))) result }
+        (CircuitOf session.now.layout session.now.circuit s ring bytes.now) result }
 {
-    match read_circuit(alloc, bytes, session.layout, ring) {
+    let file = session.circuit.as_str();
+    match session.layout {
+        SessionLayout::Gates(layout) => circuit_of_gates(alloc, bytes, layout, ring, file, s),
+        SessionLayout::Expressions => circuit_of_expressions(alloc, bytes, ring, file, s),
+    }
+}
+
+fn circuit_of_gates(
+    alloc: Global,
+    bytes: &[u8],
+    layout: CircuitLayout,
+    ring: Ring,
+    file: &str,
+    s: u32,
+) -> Result<Circuit, Stop>
+    ensures { WalksAs (λ circuit. circuit)
+        (Ends (verdict_of (circuit_line file.now s) (circuit_in layout ring bytes.now))) result }
+{
+    match read_circuit(alloc, bytes, layout, ring) {
         Ok(circuit) => Ok(circuit),
         Err(CircuitFault::Memory) => Err(Stop::Memory),
-        Err(fault) => Err(refusal(circuit_line(alloc, session.circuit.as_str(), s, fault))),
+        Err(fault) => Err(refusal(circuit_line(alloc, file, s, fault))),
+    }
+}
+
+#[tactic(auto, unfolding(crate::specs::JobOf::ExpressionsOf))]
+fn circuit_of_expressions(
+    alloc: Global,
+    bytes: &[u8],
+    ring: Ring,
+    file: &str,
+    s: u32,
+) -> Result<Circuit, Stop>
+    ensures { WalksAs (λ circuit. circuit)
+        (ExpressionsOf (expressions_line file.now s) ring bytes.now) result }
+{
+    match expr_circuit::read(alloc, bytes, ring) {
+        Ok(circuit) => Ok(circuit),
+        Err(ExprFault::Memory) => Err(Stop::Memory),
+        Err(fault) => Err(refusal(expressions_line(alloc, file, s, fault))),
     }
 }
 

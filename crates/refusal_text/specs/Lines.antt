@@ -9,6 +9,8 @@ use Rattle.group_text.specs.declared.fault.GroupFault.{GroupFault}
 use Rattle.group_text.specs.declared.fault.GroupFault.TheVariants as group
 use Rattle.circuit_model.specs.declared.fault.CircuitFault.{CircuitFault}
 use Rattle.circuit_model.specs.FaultTexts as circuit
+use Rattle.expr_circuit.specs.declared.fault.ExprFault.{ExprFault}
+use Rattle.expr_circuit.specs.FaultTexts as expressions
 use Rattle.plan_faults.specs.declared.plan_fault.PlanFault.{PlanFault}
 use Rattle.plan_faults.specs.declared.plan_fault.PlanFault.TheVariants as plan
 use Rattle.plan_faults.specs.declared.part_fault.PartFault.{PartFault}
@@ -88,6 +90,13 @@ circuit_keys f =
 unfoldable pub circuit_line : List ℕ → ℕ → CircuitFault → List ℕ
 circuit_line file session f =
     line (codes "circuit") (circuit.number_of f) (circuit.name_of f) (file_keys file session ++ circuit_keys f)
+
+-- the expressions of a session's file: the line of the text, and the byte of the line
+unfoldable pub expressions_line : List ℕ → ℕ → ExprFault → List ℕ
+expressions_line file session f =
+    line (codes "expr") (expressions.number_of f) (expressions.name_of f)
+    (file_keys file session
+    ++ (number_key (codes "line") (expressions.line_in f) ++ number_key (codes "at") (expressions.at_in f)))
 
 -- a party, and how many tape words it draws
 abbrev pub words_keys : List ℕ → ℕ → List ℕ

@@ -1,11 +1,11 @@
 //! Lines of circuits.
 ghost use Rattle.std.specs.Prelude.{◌≡◌, ◌++◌, IfOk, OnOk};
-ghost use Rattle.refusal_text.specs.Lines.{circuit_line, file_keys, circuit_keys};
+ghost use Rattle.refusal_text.specs.Lines.{circuit_line, circuit_keys};
 
-use crate::line::wide;
+use crate::line::{push_file_keys, wide};
 use circuit_model::CircuitFault;
 use std::alloc::{AllocError, Global};
-use text_parts::{push_head, push_number_key, push_signed_key, push_text, push_text_key};
+use text_parts::{push_head, push_number_key, push_signed_key, push_text};
 
 /// The line of a fault of the circuit file of a session.
 #[tactic(auto, unfolding(crate::specs::Lines::circuit_line))]
@@ -23,13 +23,6 @@ pub fn circuit_line(
     push_fault_keys(&mut line, fault)?;
     push_text(&mut line, b"\n")?;
     Ok(line)
-}
-
-fn push_file_keys(line: &mut Vec<u8>, file: &str, session: u32) -> Result<(), AllocError>
-    ensures { OnOk result (line.new.items ≡ line.old.items ++ file_keys file.now session) }
-{
-    push_text_key(line, "file", file.as_bytes())?;
-    push_number_key(line, "session", Some(session as u64))
 }
 
 fn push_fault_keys(line: &mut Vec<u8>, fault: CircuitFault) -> Result<(), AllocError>

@@ -2,6 +2,7 @@
 #![tactic(auto)]
 
 mod circuit;
+mod expressions;
 mod job;
 mod line;
 mod masked;
@@ -13,6 +14,7 @@ mod session;
 mod structure;
 
 pub use circuit::circuit_line;
+pub use expressions::expressions_line;
 pub use job::job_line;
 pub use line::too_long_line;
 pub use other::other_line;

@@ -1,6 +1,6 @@
 //! Lines of a head and few keys.
-ghost use Rattle.std.specs.Prelude.{◌≡◌, IfOk};
-ghost use Rattle.refusal_text.specs.Lines.{line, number_line, too_long_line};
+ghost use Rattle.std.specs.Prelude.{◌≡◌, ◌++◌, IfOk, OnOk};
+ghost use Rattle.refusal_text.specs.Lines.{line, number_line, too_long_line, file_keys};
 
 use std::alloc::{AllocError, Global};
 use text_parts::{push_head, push_number_key, push_text, push_text_key};
@@ -51,6 +51,18 @@ pub fn too_long_line(alloc: Global, file: &str) -> Result<Vec<u8>, AllocError>
     push_number_key(&mut line, "limit", Some(16_777_216))?;
     push_text(&mut line, b"\n")?;
     Ok(line)
+}
+
+/// The keys of a session's file.
+pub(crate) fn push_file_keys(
+    line: &mut Vec<u8>,
+    file: &str,
+    session: u32,
+) -> Result<(), AllocError>
+    ensures { OnOk result (line.new.items ≡ line.old.items ++ file_keys file.now session) }
+{
+    push_text_key(line, "file", file.as_bytes())?;
+    push_number_key(line, "session", Some(session as u64))
 }
 
 /// A number in 64 bits.

@@ -4,15 +4,17 @@ use Rattle.party_set.specs.Parties.{Structure, Members}
 use Rattle.job_session.specs.Sessions.{Session}
 use Rattle.job_plan.specs.Plans.{Plan}
 use Rattle.job_file.specs.Forms.{JobForm, SessionForm}
+use Rattle.job_file.specs.declared.layout.SessionLayout.{SessionLayout}
+use Rattle.job_file.specs.declared.layout.SessionLayout.TheVariants.{Gates, Expressions}
 use Rattle.party_file.specs.Table.{PartyForm}
 use Rattle.command_words.specs.Commands.{CommandForm, run, check, pair, node, sample}
 use Rattle.job_walk.specs.Verdict.{EndsOnce}
-use Rattle.job_walk.specs.JobOf.{Contents, JobText, GroupOf, StructureOf, SessionAt, SessionsAfter, PlannedOf, PlanAt, PartyAt, PartiesAfter}
+use Rattle.job_walk.specs.JobOf.{Contents, JobText, GroupOf, StructureOf, CircuitOf, SessionAt, SessionsAfter, PlannedOf, PlanAt, PartyAt, PartiesAfter}
 use Rattle.mpc_top.specs.WholeJobs.{JobAt, OtherAt, PairAt}
 use Rattle.job_walk.specs.NodeOf.{NodeAt}
 use Rattle.mpc_top.specs.Due.{DueOf, IsDue}
 use Rattle.walk_laws.proofs.Walks.{ends_once, then_once}
-use Rattle.walk_laws.proofs.Plans.{groups_once, q2_once, plan_once}
+use Rattle.walk_laws.proofs.Plans.{expressions_once, groups_once, q2_once, plan_once}
 
 structure_once : (job : JobForm) → EndsOnce (StructureOf job)
 unfolding StructureOf
@@ -23,13 +25,18 @@ unfolding GroupOf
 group_once names None = ends_once _
 group_once names (Some text) = then_once _ _ (ends_once _) (λ group. ends_once _)
 
-text_once : (for_node : Bool) (files : Contents) (dir : List ℕ) → EndsOnce (JobText for_node files dir)
+pub text_once : (for_node : Bool) (files : Contents) (dir : List ℕ) → EndsOnce (JobText for_node files dir)
 unfolding JobText
 text_once for_node files dir = then_once _ _ (ends_once _) (λ bytes. ends_once _)
 
+circuit_once : (layout : SessionLayout) (file : List ℕ) (s bits : ℕ) (bytes : List ℕ) → EndsOnce (CircuitOf layout file s bits bytes)
+unfolding CircuitOf
+circuit_once (Gates layout) file s bits bytes = ends_once _
+circuit_once Expressions file s bits bytes = expressions_once _ bits bytes
+
 session_once : (files : Contents) (dir : List ℕ) (job : JobForm) (s : ℕ) (form : SessionForm) → EndsOnce (SessionAt files dir job s form)
 unfolding SessionAt
-session_once files dir job s form = then_once _ _ (ends_once _) (λ bytes. then_once _ _ (ends_once _) (λ circuit. ends_once _))
+session_once files dir job s form = then_once _ _ (ends_once _) (λ bytes. then_once _ _ (circuit_once form.layout form.circuit s job.bits bytes) (λ circuit. ends_once _))
 
 sessions_once : (files : Contents) (dir : List ℕ) (job : JobForm) (before : List Session) (forms : List SessionForm) → EndsOnce (SessionsAfter files dir job before forms)
 unfolding SessionsAfter

@@ -1,5 +1,7 @@
 mod Walks
 mod Plans
 mod Jobs
+mod WholeWorlds
+mod RunValues
 mod Statuses
 mod CallsInARow

@@ -4,6 +4,9 @@ use Rattle.std.specs.Prelude.{slice_index}
 use Rattle.std.proofs.lemmas.Bool.{false≢true, cases_order}
 use Rattle.party_set.specs.Parties.{Structure, IsQ2, covers}
 use Rattle.group_formula.proofs.OneAnswer.{one_answer}
+use Rattle.expr_circuit.specs.declared.fault.ExprFault.{ExprFault}
+use Rattle.expr_circuit.specs.Circuits.{circuit}
+use Rattle.expr_circuit.proofs.OneAnswer.{one_answer as one_program_only}
 use Rattle.q2_test.specs.CoveringPairs.{IsFirstCovering}
 use Rattle.job_plan.specs.Plans.{Plan}
 use Rattle.job_plan.specs.Tallies.{tape_length}
@@ -13,7 +16,7 @@ use Rattle.plan_faults.specs.declared.plan_fault.PlanFault.TheVariants.{TooManyM
 use Rattle.job_file.specs.Forms.{JobForm, AdversaryForm, by_formula, by_list}
 use Rattle.refusal_text.specs.Lines.{formula_line, covering_line, plan_line}
 use Rattle.job_walk.specs.Verdict.{accepted, missing, refused, EndsOnce}
-use Rattle.job_walk.specs.JobOf.{FormulaOf, GroupsOf, Q2Of, PlanOf}
+use Rattle.job_walk.specs.JobOf.{ExpressionsOf, FormulaOf, GroupsOf, Q2Of, PlanOf}
 use Rattle.walk_laws.proofs.Walks.{ends_once, then_once}
 
 formula_once : (names : List (List ℕ)) (text : List ℕ) → EndsOnce (FormulaOf names text)
@@ -26,6 +29,17 @@ formula_once names text (refused s line) (accepted f) (fault, is, three, told) b
 formula_once names text (refused s line) (missing name) a b = absurd b
 formula_once names text (refused s line) (refused s' line') (fault, is, three, told) (fault', is', three', told') =
     ap₂ refused (three ∙ sym three') (told ∙ ap formula_line ((one_answer text names).one_fault fault fault' is is') ∙ sym told')
+
+pub expressions_once : (line : ExprFault → List ℕ) (bits : ℕ) (text : List ℕ) → EndsOnce (ExpressionsOf line bits text)
+unfolding ExpressionsOf
+expressions_once line bits text (accepted c) (accepted d) a b = ap accepted (a.made ∙ ap (circuit bits) ((one_program_only bits text).one_program a.program b.program a.is b.is) ∙ sym b.made)
+expressions_once line bits text (accepted c) (missing name) a b = absurd b
+expressions_once line bits text (accepted c) (refused s told) a (fault, is, three, same) = absurd ((one_program_only bits text).not_both a.program fault a.is is)
+expressions_once line bits text (missing name) w a b = absurd a
+expressions_once line bits text (refused s told) (accepted c) (fault, is, three, same) b = absurd ((one_program_only bits text).not_both b.program fault b.is is)
+expressions_once line bits text (refused s told) (missing name) a b = absurd b
+expressions_once line bits text (refused s told) (refused s' told') (fault, is, three, same) (fault', is', three', same') =
+    ap₂ refused (three ∙ sym three') (same ∙ ap line ((one_program_only bits text).one_fault fault fault' is is') ∙ sym same')
 
 pub groups_once : (names : List (List ℕ)) (adversary : AdversaryForm) → EndsOnce (GroupsOf names adversary)
 unfolding GroupsOf

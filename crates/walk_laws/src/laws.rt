@@ -1,5 +1,7 @@
 //! The laws.
 ghost use Rattle.walk_laws.specs.Once.{AreDueOnce};
+ghost use Rattle.walk_laws.specs.Whole.{JobsAreWhole};
+ghost use Rattle.walk_laws.specs.Expressions.{RunsWriteValues};
 ghost use Rattle.walk_laws.specs.Exact.{GivesExactly};
 ghost use Rattle.walk_laws.specs.Statuses.{StatusesSay};
 ghost use Rattle.walk_laws.specs.InARow.{AreBothGiven, HaveOneStatus};
@@ -31,4 +33,15 @@ pub fn two_calls_give_what_both_are_due()
 /// depends on what the other parties say.
 pub fn a_call_again_has_the_same_status()
     ensures { HaveOneStatus }
+{}
+
+/// The job of files that are all accepted is a whole world: its plan is sound, with the inputs and the tapes that it asks
+/// for.
+pub fn accepted_jobs_are_whole()
+    ensures { JobsAreWhole }
+{}
+
+/// What a run writes for a session of expressions is the values of its output lines at the inputs of the files.
+pub fn a_run_writes_the_value_of_expressions()
+    ensures { RunsWriteValues }
 {}

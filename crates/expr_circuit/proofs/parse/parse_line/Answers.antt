@@ -1,31 +1,32 @@
 use Rattle.std.proofs.Common.{sym, ◌∙◌, ap, arith, length}
 use Rattle.expr_circuit.specs.Kept.{read_kept}
 use Rattle.expr_circuit.specs.Walks.{or_end}
-use Rattle.expr_circuit.specs.Tokens.{tokens_after}
+use Rattle.run_tokens.specs.Tokens.{tokens_after}
+use Rattle.expr_circuit.specs.Tokens.{line_language}
 use Rattle.expr_circuit.proofs.ParseSteps.{stuck_there, deep_there, blank_there, ended_there}
 use Rattle.expr_circuit.proofs.parse.parse_line.Goals as goal
 
 pub returns-then-not-branch : goal.returns-then-not-branch
 returns-then-not-branch c =
     stuck_there c.args.line.now.number c.args.line.now.text.now c.loop-cut.parser c.advance.new.self (record { at = c.in-Some.cut.at; token = c.in-Some.cut.token })
-    (tokens_after c.args.line.now.text.now c.loop-cut.from) (tokens_after c.args.line.now.text.now c.in-Some.cut.end) c.in_ok-advance.field-0 c.loop-cut.invariant.scanned c.in-Some.ensures.found c.in_ok-advance.ensures c.if-not-branch.true
+    (tokens_after line_language c.args.line.now.text.now c.loop-cut.from) (tokens_after line_language c.args.line.now.text.now c.in-Some.cut.end) c.in_ok-advance.field-0 c.loop-cut.invariant.scanned c.in-Some.ensures.found c.in_ok-advance.ensures c.if-not-branch.true
 
 pub returns-then-depth-gt-MOST_OPEN : goal.returns-then-depth-gt-MOST_OPEN
 returns-then-depth-gt-MOST_OPEN c =
     deep_there c.args.line.now.number c.args.line.now.text.now c.loop-cut.parser c.advance.new.self (record { at = c.in-Some.cut.at; token = c.in-Some.cut.token })
-    (tokens_after c.args.line.now.text.now c.loop-cut.from) (tokens_after c.args.line.now.text.now c.in-Some.cut.end) c.in_ok-advance.field-0 c.loop-cut.invariant.scanned c.in-Some.ensures.found c.in_ok-advance.ensures c.if-not-branch.false
+    (tokens_after line_language c.args.line.now.text.now c.loop-cut.from) (tokens_after line_language c.args.line.now.text.now c.in-Some.cut.end) c.in_ok-advance.field-0 c.loop-cut.invariant.scanned c.in-Some.ensures.found c.in_ok-advance.ensures c.if-not-branch.false
     (omega arith)
 
 pub returns-then-is_empty : goal.returns-then-is_empty
 returns-then-is_empty c =
-    blank_there c.args.line.now.number c.args.line.now.text.now c.loop-cut.parser (tokens_after c.args.line.now.text.now c.loop-cut.from) c.loop-cut.invariant.scanned c.in_default.ensures.found (sym c.is_empty.ensures ∙ c.if-is_empty.true)
+    blank_there c.args.line.now.number c.args.line.now.text.now c.loop-cut.parser (tokens_after line_language c.args.line.now.text.now c.loop-cut.from) c.loop-cut.invariant.scanned c.in_default.ensures.found (sym c.is_empty.ensures ∙ c.if-is_empty.true)
 
 pub returns-in-Some-2 : goal.returns-in-Some-2
 returns-in-Some-2 c =
-    ended_there c.args.line.now.number c.args.line.now.text.now c.loop-cut.parser (tokens_after c.args.line.now.text.now c.loop-cut.from) (read_kept c.in_ok-parsed.field-0) c.loop-cut.invariant.scanned c.in_default.ensures.found (sym c.is_empty.ensures ∙ c.if-is_empty.false) (sym c.in_ok-parsed.ensures)
+    ended_there c.args.line.now.number c.args.line.now.text.now c.loop-cut.parser (tokens_after line_language c.args.line.now.text.now c.loop-cut.from) (read_kept c.in_ok-parsed.field-0) c.loop-cut.invariant.scanned c.in_default.ensures.found (sym c.is_empty.ensures ∙ c.if-is_empty.false) (sym c.in_ok-parsed.ensures)
     ∙ ap (λ o. or_end c.args.line.now.number (length c.args.line.now.text.now) (read_kept o)) c.in-Some-2.is
 
 pub returns-in-None : goal.returns-in-None
 returns-in-None c =
-    ended_there c.args.line.now.number c.args.line.now.text.now c.loop-cut.parser (tokens_after c.args.line.now.text.now c.loop-cut.from) (read_kept c.in_ok-parsed.field-0) c.loop-cut.invariant.scanned c.in_default.ensures.found (sym c.is_empty.ensures ∙ c.if-is_empty.false) (sym c.in_ok-parsed.ensures)
+    ended_there c.args.line.now.number c.args.line.now.text.now c.loop-cut.parser (tokens_after line_language c.args.line.now.text.now c.loop-cut.from) (read_kept c.in_ok-parsed.field-0) c.loop-cut.invariant.scanned c.in_default.ensures.found (sym c.is_empty.ensures ∙ c.if-is_empty.false) (sym c.in_ok-parsed.ensures)
     ∙ ap (λ o. or_end c.args.line.now.number (length c.args.line.now.text.now) (read_kept o)) c.in-None.is

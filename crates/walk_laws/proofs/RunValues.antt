@@ -1,0 +1,199 @@
+-- What a run writes for a session of expressions.
+use Rattle.std.proofs.Common.{◌≡◌, ℕ, zero, suc, ◌+◌, ◌-◌, ◌^◌, ◌<◌, ◌≤◌, false, if◌then◌else◌, List, [], ◌∷◌, ◌++◌, length, map, replicate, Option, None, Some, inl, inr, refl, sym, ap, ◌∙◌, subst, arith}
+use Rattle.std.specs.Prelude.{slice_index, slice_index_or, slice_get, nat_lt, sum}
+use Rattle.std.specs.List.{range_with_len}
+use Rattle.std.proofs.lemmas.Bool.{cases_lt}
+use Rattle.std.proofs.lemmas.List.{get_or_append_left, get_or_push, length-append, length-replicate}
+use Rattle.std.proofs.lemmas.List.Folds.{sum_by-replicate}
+use Rattle.std.proofs.lemmas.List.FromFn.{get_or-map-range_with_len, length-map-range_with_len}
+use Rattle.list_laws.specs.Lists.{total, listed}
+use Rattle.party_set.specs.Parties.{Structure, Members}
+use Rattle.circuit_model.specs.Circuits.{values}
+use Rattle.circuit_model.specs.Netlists as netlists
+use Rattle.circuit_model.specs.Netlists.{Netlist, input_wires, output_wires, before_gates}
+use Rattle.expr_circuit.specs.Programs.{Statement, program_value}
+use Rattle.expr_circuit.specs.Circuits.{circuit, netlist, draft_of}
+use Rattle.expr_circuit.specs.Laws.{IsProgram, output_words}
+use Rattle.expr_circuit.proofs.ValidPrograms.{program_has_its_value}
+use Rattle.plan_faults.specs.declared.part_fault.PartFault.{PartFault}
+use Rattle.job_session.specs.Sessions.{Session, no_session, owners, readers, gate, output_wire}
+use Rattle.job_session.specs.Parts.{session_of, part_fault, output_values}
+use Rattle.job_session.proofs.ValueWires.{owners_long, readers_long}
+use Rattle.job_session.proofs.CircuitSessions.{counts_agree}
+use Rattle.job_plan.specs.Plans.{Plan, plan_of, session}
+use Rattle.share_world.specs.Worlds.{World, plain, input_of}
+use Rattle.output_text.specs.OutText.{no_output, output_value, wires_before, value_words}
+use Rattle.job_file.specs.Forms.{JobForm, SessionForm}
+use Rattle.job_file.specs.Faults.{job_in}
+use Rattle.job_file.specs.declared.layout.SessionLayout.{SessionLayout}
+use Rattle.job_file.specs.declared.layout.SessionLayout.TheVariants.{Expressions}
+use Rattle.job_walk.specs.Names as file_names
+use Rattle.job_walk.specs.Verdict.{Verdict, accepted, missing, refused, Ends, Then}
+use Rattle.job_walk.specs.JobOf.{Contents, bytes_of, file_at, groups_in, CircuitOf, ExpressionsOf, SessionAt, SessionsAfter, PlanOf, Planned, PlannedOf, JobText, PlanAt, PartiesAfter}
+use Rattle.mpc_top.specs.WholeJobs.{WholeJob, whole_job, JobAt}
+use Rattle.walk_laws.specs.Expressions.{IsProgramOf, WritesValues, RunsWriteValues}
+use Rattle.walk_laws.proofs.Jobs.{text_once}
+use Rattle.walk_laws.proofs.WholeWorlds.{IsGoodForm, good_job, accepted_is, was_ok, was_none}
+
+-- ---- output values of one word each
+
+ones_sum : (m : ℕ) → sum (replicate m 1) ≡ m
+ones_sum m = sum_by-replicate (λ x. x) m 1 ∙ omega arith
+
+one_wide : (m : ℕ) (gs : List Members) (v : ℕ) → length gs ≡ m → v < m → (slice_index_or (output_values (replicate m 1) gs) v no_output).width ≡ 1
+one_wide zero gs v e l = absurd (omega (arith, l))
+one_wide (suc m) [] v e l = absurd (omega (arith, e))
+one_wide (suc m) (g ∷ gs) zero e l = refl
+one_wide (suc m) (g ∷ gs) (suc v) e l = one_wide m gs v (omega (arith, e)) (omega (arith, l))
+
+ones_before : (m : ℕ) (gs : List Members) (v : ℕ) → length gs ≡ m → v ≤ m → total v (λ u. (slice_index_or (output_values (replicate m 1) gs) u no_output).width) ≡ v
+ones_before m gs zero e l = refl
+ones_before m gs (suc v) e l = omega (arith, ones_before m gs v e (omega (arith, l)), one_wide m gs v e (omega (arith, l)))
+
+many_values : (m : ℕ) (gs : List Members) → length gs ≡ m → length (output_values (replicate m 1) gs) ≡ m
+many_values zero gs e = refl
+many_values (suc m) [] e = absurd (omega (arith, e))
+many_values (suc m) (g ∷ gs) e = ap suc (many_values m gs (omega (arith, e)))
+
+-- ---- the session of a circuit
+
+module _ (w : World) (s : ℕ) (c : Netlist) (given : List ℕ) (read : List Members) (m : ℕ) (is : session w.plan s ≡ session_of c given read) (bits : w.plan.bits ≡ c.bits)
+    (owned : length given ≡ length c.inputs) (many : length read ≡ m) (ones : c.outputs ≡ replicate m 1) where
+  abbrev made : Session
+  made = session_of c given read
+
+  abbrev before : ℕ → ℕ → ℕ
+  before n u = if nat_lt u n then input_of w s u else 0
+
+  -- the plain value of a wire is that of the circuit
+  plain_is : (v : ℕ) → plain w s v ≡ netlists.plain c (input_of w s) v
+  plain_is v =
+      ap (λ (x : Session). values (2 ^ w.plan.bits) (gate x) (before (length (owners x))) (length x.gates) v) is
+      ∙ ap (λ n. values (2 ^ w.plan.bits) (gate made) (before n) (length c.gates) v) (owners_long c.inputs given owned)
+      ∙ ap (λ b. values (2 ^ b) (gate made) (before (input_wires c)) (length c.gates) v) bits
+
+  many_outputs : length read ≡ length c.outputs
+  many_outputs = many ∙ sym (length-replicate {A = ℕ} m 1) ∙ ap length (sym ones)
+
+  outputs_are : made.outputs ≡ output_values (replicate m 1) read
+  outputs_are = ap (λ ws. output_values ws read) ones
+
+  -- output value v is the v-th output wire
+  words_are : (v : ℕ) → v < m → value_words w s v ≡ netlists.plain c (input_of w s) (c.wires - output_wires c + v) ∷ []
+  words_are v l =
+      ap (λ (x : Session). listed (output_value x v).width (λ i. plain w s (output_wire x (wires_before x v + i)))) is
+      ∙ ap (λ k. listed k (λ i. plain w s (output_wire made (wires_before made v + i)))) (ap (λ os. (slice_index_or os v no_output).width) outputs_are ∙ one_wide m read v many l)
+      ∙ ap (λ k. plain w s (c.wires - length (readers made) + (k + 0)) ∷ []) (ap (λ os. total v (λ u. (slice_index_or os u no_output).width)) outputs_are ∙ ones_before m read v many (omega (arith, l)))
+      ∙ ap (λ n. plain w s (c.wires - n + (v + 0)) ∷ []) (readers_long c.outputs read many_outputs)
+      ∙ ap (λ k. plain w s (c.wires - output_wires c + k) ∷ []) (the (v + 0 ≡ v) (omega arith))
+      ∙ ap (λ x. x ∷ []) (plain_is (c.wires - output_wires c + v))
+
+  count_is : length (session w.plan s).outputs ≡ m
+  count_is = ap (λ (x : Session). length x.outputs) is ∙ ap length outputs_are ∙ many_values m read many
+
+  -- where the output words are these values, the session writes them
+  writes : (vs : List ℕ) → output_words c (input_of w s) ≡ vs → WritesValues w s vs
+  writes vs e =
+      let wires : output_wires c ≡ m = ap sum ones ∙ ones_sum m in
+      let long : length vs ≡ m = ap length (sym e) ∙ length-map-range_with_len (netlists.plain c (input_of w s)) (c.wires - output_wires c) (output_wires c) ∙ wires in
+      record {
+        count = count_is ∙ sym long;
+        words = λ v l.
+            words_are v (omega (arith, l, long))
+            ∙ ap (λ x. x ∷ []) (sym (get_or-map-range_with_len (netlists.plain c (input_of w s)) (c.wires - output_wires c) (output_wires c) v (c.wires - output_wires c + v) 0 (omega (arith, l, long, wires)) refl)
+            ∙ ap (λ xs. slice_index xs v) e);
+      }
+
+-- ---- the session of a file
+
+file_is : (found : Option (List ℕ)) (name bytes : List ℕ) → accepted bytes ≡ bytes_of found name → found ≡ Some bytes
+unfolding bytes_of
+file_is None name bytes e = cc
+file_is (Some found) name bytes e = some_is (nat_le (length found) 16777216) e where
+  some_is : (b : Bool) → accepted bytes ≡ (if b then accepted found else refused 3 (too_long_line name)) → Some found ≡ Some bytes
+  some_is true e = ap Some (sym (accepted_is bytes found e))
+  some_is false e = cc
+
+module _ (files : Contents) (dir : List ℕ) (job : JobForm) where
+  -- the sessions that were read stay
+  sessions_stay : (before : List Session) (forms : List SessionForm) (sessions : List Session) → SessionsAfter files dir job before forms (accepted sessions)
+      → (i : ℕ) → i < length before → slice_index_or sessions i no_session ≡ slice_index_or before i no_session
+  unfolding SessionsAfter Then
+  sessions_stay before [] sessions e i l = ap (λ xs. slice_index_or xs i no_session) (accepted_is sessions before e)
+  sessions_stay before (form ∷ forms) sessions (x, at, rest) i l =
+      sessions_stay (before ++ x ∷ []) forms sessions rest i (omega (arith, l, length-append before (x ∷ []))) ∙ get_or_append_left before (x ∷ []) no_session i l
+
+  -- each session is that of its form
+  session_is : (before : List Session) (forms : List SessionForm) (sessions : List Session) → SessionsAfter files dir job before forms (accepted sessions)
+      → (i : ℕ) (form : SessionForm) → slice_get forms i ≡ Some form → SessionAt files dir job (length before + i) form (accepted (slice_index_or sessions (length before + i) no_session))
+  unfolding SessionsAfter Then
+  session_is before [] sessions e i form there = cc
+  session_is before (first ∷ forms) sessions (x, at, rest) zero form there =
+      let here : length before + 0 ≡ length before = omega arith in
+      let same : first ≡ form = cc in
+      let kept : x ≡ slice_index_or sessions (length before) no_session =
+      sym (sessions_stay (before ++ x ∷ []) forms sessions rest (length before) (omega (arith, length-append before (x ∷ []))) ∙ get_or_push before x no_session (length before) refl) in
+      subst (λ n. SessionAt files dir job n form (accepted (slice_index_or sessions n no_session))) (sym here)
+      (subst (λ (y : Session). SessionAt files dir job (length before) form (accepted y)) kept (subst (λ (f : SessionForm). SessionAt files dir job (length before) f (accepted x)) same at))
+  session_is before (first ∷ forms) sessions (x, at, rest) (suc i) form there =
+      let next : length (before ++ x ∷ []) + i ≡ length before + suc i = omega (arith, length-append before (x ∷ [])) in
+      subst (λ n. SessionAt files dir job n form (accepted (slice_index_or sessions n no_session))) next (session_is (before ++ x ∷ []) forms sessions rest i form there)
+
+-- what the session of a form of expressions is
+record IsOfProgram (files : Contents) (dir : List ℕ) (job : JobForm) (form : SessionForm) (x : Session) : Type 0 where
+  program : List Statement
+  of : IsProgramOf files dir job.bits form program
+  owned : length form.owners ≡ length (circuit job.bits program).inputs
+  read : length (groups_in (length job.names) form.readers) ≡ length (circuit job.bits program).outputs
+  made : x ≡ session_of (circuit job.bits program) form.owners (groups_in (length job.names) form.readers)
+
+of_program : (files : Contents) (dir : List ℕ) (job : JobForm) (s : ℕ) (form : SessionForm) (x : Session) (layout : SessionLayout) → form.layout ≡ layout → layout ≡ Expressions
+    → SessionAt files dir job s form (accepted x) → IsOfProgram files dir job form x
+unfolding SessionAt CircuitOf ExpressionsOf Then file_at
+of_program files dir job s form x layout is expressions (bytes, there, (c, told, e)) =
+    let read = subst (λ l. CircuitOf l form.circuit s job.bits bytes (accepted c)) (is ∙ expressions) told in
+    let groups : List Members = groups_in (length job.names) form.readers in
+    let found = was_none (part_fault c form.owners groups) _ x (session_of c form.owners groups) e in
+    let counts = counts_agree (length c.inputs) (length form.owners) (length c.outputs) (length groups) found.0 in
+    record {
+      program = read.program;
+      of = record { text = bytes; file = file_is (files (file_names.path_of dir form.circuit)) form.circuit bytes there; is = read.is };
+      owned = counts.0 ∙ ap (λ (c : Netlist). length c.inputs) read.made;
+      read = counts.1 ∙ ap (λ (c : Netlist). length c.outputs) read.made;
+      made = found.1 ∙ ap (λ (c : Netlist). session_of c form.owners groups) read.made;
+    }
+
+-- ---- the job
+
+output_count : (bits : ℕ) (p : List Statement) → (circuit bits p).outputs ≡ replicate (length (draft_of p).outputs) 1
+unfolding netlist
+output_count bits p = refl
+
+of_bits : (bits : ℕ) (p : List Statement) → (circuit bits p).bits ≡ bits
+unfolding netlist
+of_bits bits p = refl
+
+session_writes : (files : Contents) (dir : List ℕ) (job : JobForm) (form : SessionForm) (w : World) (s : ℕ) (x : Session) → 0 < job.bits → job.bits ≤ 64 → w.plan.bits ≡ job.bits → session w.plan s ≡ x
+    → IsOfProgram files dir job form x → (p : List Statement) × IsProgramOf files dir job.bits form p × WritesValues w s (program_value (2 ^ job.bits) p (input_of w s))
+session_writes files dir job form w s x some few bits at o =
+    let p = o.program in
+    let outputs = length (draft_of p).outputs in
+    let groups : List Members = groups_in (length job.names) form.readers in
+    (
+      p,
+      o.of,
+      writes w s (circuit job.bits p) form.owners groups outputs (at ∙ o.made) (bits ∙ sym (of_bits job.bits p)) o.owned
+      (o.read ∙ ap length (output_count job.bits p) ∙ length-replicate {A = ℕ} outputs 1) (output_count job.bits p)
+      (program_value (2 ^ job.bits) p (input_of w s)) (program_has_its_value job.bits o.of.text p some few (input_of w s) o.of.is),
+    )
+
+pub runs_write_values : RunsWriteValues
+unfolding JobAt PlanAt JobText PlannedOf PlanOf Then
+runs_write_values files dir asked job whole text (planned, (job', text', (group, g, (structure, found, (sessions, read, (plan, (same, within), e))))), (forms, given, is)) s form there layout =
+    let one : job' ≡ job = accepted_is job' job (text_once false files dir (accepted job') (accepted job) text' text) in
+    let good : IsGoodForm job = good_job text.0 job (was_ok _ (job_in false text.0) job text.2) in
+    let world : whole.world.plan ≡ plan_of job.bits structure sessions =
+    ap (λ (whole : WholeJob). whole.world.plan) (accepted_is whole (whole_job planned forms) is) ∙ ap (λ (p : Planned). p.plan) (accepted_is planned _ e) ∙ same ∙ ap (λ (j : JobForm). plan_of j.bits structure sessions) one in
+    let at = session_is files dir job [] job.sessions sessions (subst (λ (j : JobForm). SessionsAfter files dir j [] j.sessions (accepted sessions)) one read) s form there in
+    session_writes files dir job form whole.world s (slice_index_or sessions s no_session) good.some_bits good.few_bits (ap (λ (p : Plan). p.bits) world) (ap (λ (p : Plan). session p s) world)
+    (of_program files dir job s form (slice_index_or sessions s no_session) form.layout refl layout at)
