@@ -86,13 +86,15 @@ def read_widths(folder, name):
     return widths
 
 
-def read_formulas(folder, name):
-    """The widths of a text of formulas: each of its lines 'input' and 'output' is a value of one word."""
-    words = [line.split()[:1] for line in read_text(folder, name).split('\n')]
-    return [[1] * words.count([kind]) for kind in ('input', 'output')]
+def read_expressions(folder, name):
+    """The widths of a text of expressions: each of its lines that begins with 'input' or 'output' is a value of one word."""
+    path, text = os.path.join(folder, name), read_bytes(folder, name)
+    counts = [len(re.findall(rb'(?:^|\n)[ \t\r]*%s(?![A-Za-z0-9_])' % word, text)) for word in (b'input', b'output')]
+    need(max(counts) <= MOST_VALUES, f'{path} has more than {MOST_VALUES} lines of inputs or of outputs')
+    return [[1] * count for count in counts]
 
 
-LAYOUTS = {'bristol': read_widths, 'ring': read_widths, 'expr': read_formulas}
+LAYOUTS = {'bristol': read_widths, 'ring': read_widths, 'expr': read_expressions}
 
 
 def read_fields(folder):
@@ -118,6 +120,7 @@ def read_session(folder, number, fields):
     where = f'{os.path.join(folder, "job.toml")}: session {number}'
     circuit, layout, owners, readers = (fields['session'][number].get(name) for name in ('circuit', 'layout', 'owners', 'readers'))
     need(isinstance(layout, str) and layout in LAYOUTS, f'{where}: layout is none of {", ".join(LAYOUTS)}')
+    need(layout != 'expr' or fields['version'] == 2, f'{where}: the layout expr goes with version = 2')
     need(layout != 'bristol' or fields['ring_bits'] == 1, f'{where}: the layout bristol goes with ring_bits = 1')
     need(is_texts(owners), f'{where}: owners is no list of names')
     need(isinstance(readers, list) and all(is_texts(names) for names in readers), f'{where}: readers is no list of lists of names')

@@ -6,7 +6,7 @@
 
 'write' makes JOB/party_PARTY.toml with a fresh random seed. The numbers are those that the party gives, session by session, and in
 each session in the order of the owners in job.toml: for 'bristol' one number for each value, of as many bits as the circuit's file
-says (bits stand least first); for 'ring' one for each word. A party that gives nothing has no numbers. A negative number counts
+says (bits stand least first); for 'ring' and 'expr' one for each word. A party that gives nothing has no numbers. A negative number counts
 modulo 2 to its bits (two's complement). A file that is there already is left alone, unless --replace is given.
 
 'read' takes what 'mpc run' or 'mpc node' writes from standard input, and passes over all lines but those that begin with 'out'. It

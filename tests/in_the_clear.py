@@ -1,5 +1,5 @@
-"""What the circuits of a job come to in the clear, from the words that its parties give: a reading of the files of its own, which has
-nothing of the program."""
+"""What the circuits and the expressions of a job come to in the clear, from the words that its parties give: a reading of the files of its
+own, which has nothing of the program, and nothing of examples/expressions.py."""
 
 import json
 import re
@@ -51,9 +51,57 @@ def last_wires(circuit, words, bits, operate=OPERATE):
     return [wires[wire] for wire in range(count - sum(outputs), count)]
 
 
-def values_of(data, given, bits):
+def unary_in(tokens, of, modulus):
+    """The value of an operand that the tokens begin with; the last of the list comes first, and those that were read are taken off."""
+    token = tokens.pop()
+    if token == '-':
+        return -unary_in(tokens, of, modulus)
+    if token == '(':
+        value = sum_in(tokens, of, modulus)
+        tokens.pop()
+        return value
+    return int(token) if token.isdigit() else of[token]
+
+
+def product_in(tokens, of, modulus):
+    value = unary_in(tokens, of, modulus)
+    while tokens and tokens[-1] == '*':
+        tokens.pop()
+        value = value * unary_in(tokens, of, modulus) % modulus
+    return value
+
+
+def sum_in(tokens, of, modulus):
+    value = product_in(tokens, of, modulus)
+    while tokens and tokens[-1] in ('+', '-'):
+        sign = 1 if tokens.pop() == '+' else -1
+        value = (value + sign * product_in(tokens, of, modulus)) % modulus
+    return value
+
+
+def expression_values(data, given, bits):
+    """The words of the output lines of a text of expressions, where each input line takes the next word that its owner gives."""
+    of, outputs, given = {}, [], iter(given)
+    for line in data.decode().split('\n'):
+        tokens = re.findall(r'[A-Za-z]\w*|\d+|[-=+*()]', line, re.ASCII)[::-1]
+        kind = tokens.pop() if tokens else None
+        name = tokens.pop() if kind in ('input', 'let') else None
+        if kind == 'input':
+            of[name] = int(next(next(given)))
+        elif kind == 'let':
+            tokens.pop()
+            of[name] = sum_in(tokens, of, 2**bits) % 2**bits
+        elif kind == 'output':
+            outputs.append(sum_in(tokens, of, 2**bits) % 2**bits)
+    return outputs
+
+
+def values_of(data, layout, given, bits):
     """The widths of a circuit's output values, and their words one after another, where each input value takes the next words that its
     owner gives."""
+    if layout == 'expr':
+        outputs = expression_values(data, given, bits)
+        return [1] * len(outputs), iter(outputs)
     circuit = circuit_of(data)
     words = [int(next(owner)) for owner, width in zip(given, circuit[0]) for _ in range(width)]
     return circuit[1], iter(last_wires(circuit, words, bits))
@@ -67,7 +115,7 @@ def out_in_the_clear(files):
     for number, session in enumerate(sessions):
         words = {name: iter(texts[number].split()) for name, texts in inputs.items()}
         given = [words[owner] for owner in session['owners']]
-        widths, values = values_of(files[session['circuit']], given, top['ring_bits'])
+        widths, values = values_of(files[session['circuit']], session['layout'], given, top['ring_bits'])
         for value, (width, readers) in enumerate(zip(widths, session['readers'])):
             text = ' '.join(str(next(values)) for _ in range(width))
             out += ''.join(f'out {number} {value} {name} {text}\n' for name in top['parties'] if name in readers)

@@ -1,27 +1,32 @@
 #!/usr/bin/env python3
 """Runs the nodes of all parties of a job beside one another, over pipes in memory: networks.py PIPE_NODES
 
-The nodes of each accepted small job and of each example must write what its circuits come to in the clear. Of three nodes, where one has
-another job, can't send to another, or is heard wrong, all must end, with a line each. A node that hears nothing of its first peer before the
-second one has said all must still end well. Ends with status 1, and tells why, where nodes end otherwise.
+The nodes of each accepted small job and of each example must write what its circuits come to in the clear, and those of random expressions
+what Python comes to, and so must the nodes of their circuits. Of three nodes, where one has another job, can't send to another, or is heard
+wrong, all must end, with a line each. A node that hears nothing of its first peer before the second one has said all must still end well.
+Ends with status 1, and tells why, where nodes end otherwise.
 """
 
 import json
 import os
 import pathlib
+import random
 import re
 import subprocess
 import sys
 import tempfile
 
 from accepted_runs import ACCEPTED
+from expressions import EXPRESSIONS
 from in_the_clear import fields, out_in_the_clear
 from product import Edit, Whole, product_with
+from random_expressions import random_job, with_circuits
 from tolerated_runs import TOLERATED
 from wide_ring_runs import WIDE_RINGS
 
 EXAMPLES = pathlib.Path(__file__).resolve().parent.parent / 'examples'
 MOST_SECONDS = 60
+RANDOM_JOBS = 30
 
 # Room for a hello, a frame and a few bytes more; and for all that is said over a pipe of the product.
 SMALL = 60
@@ -94,9 +99,18 @@ def expect_faults(ended, begins):
 
 
 def accepted_jobs(program):
-    for row in [*ACCEPTED, *WIDE_RINGS, *TOLERATED]:
-        if row.out.startswith('out '):
+    for row in [*ACCEPTED, *WIDE_RINGS, *TOLERATED, *EXPRESSIONS]:
+        if row.out.startswith('out ') and '--view' not in row.words:
             expect_written(row.files(), run(program, row.files()))
+
+
+def random_expressions(program):
+    for number in range(RANDOM_JOBS):
+        files, out = random_job(random.Random(number))
+        if out_in_the_clear(files) != out:
+            raise Wrong(f'in the clear job {number} writes {out_in_the_clear(files)} in place of {out}')
+        expect_written(files, run(program, files))
+        expect_written(files, run(program, with_circuits(files)))
 
 
 def examples(program):
@@ -172,7 +186,7 @@ def one_that_hears_its_second_peer_first(program):
     expect_written(files, run(program, files, room=LARGE, flaw=('held', SAID_BY_B, 0, 2)))
 
 
-CASES = [accepted_jobs, examples, one_with_another_job, one_that_can_not_send, one_that_hears_another_frame,
+CASES = [accepted_jobs, random_expressions, examples, one_with_another_job, one_that_can_not_send, one_that_hears_another_frame,
          one_that_hears_its_second_peer_first]
 
 

@@ -18,7 +18,7 @@ LINES = [
     ('[[session]]', ['[session]', 'session = []\n[other]', 'session = [1]\n[other]', 'session = 5\n[other]', '[[session]]\n' * 17]),
     ('circuit = "mul.txt"', ['', 'circuit = 5', 'circuit = "../mul.txt"', 'circuit = ""', 'circuit = "none.txt"', 'circuit = "job.toml"',
                              'circuit = "mul\\u0000.txt"']),
-    ('layout = "ring"', ['', 'layout = "Ring"', 'layout = ["ring"]', 'layout = {}', 'layout = "bristol"']),
+    ('layout = "ring"', ['', 'layout = "Ring"', 'layout = ["ring"]', 'layout = {}', 'layout = "bristol"', 'layout = "expr"']),
     ('owners = ["a", "b"]', ['', 'owners = ["a"]', 'owners = ["a", "x"]', 'owners = ["a", ["b"]]', 'owners = "ab"', 'owners = ["a", "b", "c"]']),
     ('readers = [["c"]]', ['', 'readers = ["c"]', 'readers = []', 'readers = [["x"]]', 'readers = [["c"], []]', 'readers = [[["c"]]]', 'readers = 1']),
 ]

@@ -34,6 +34,9 @@ def learned(name):
     return re.escape(''.join(line for line in lines if line.split()[3] == name))
 
 
+# The files of four parties.
+WRITTEN = 'for name in ann=1250 bob=3400 cleo=2975 dan=810; do examples/numbers.py write {} ${{name%=*}} ${{name#*=}}; done'
+
 # What each command writes, as a pattern; a command that isn't a row of its own fails.
 ROWS = {
     './mpc run examples/multiply': 'out 0 0 c 35\n',
@@ -47,15 +50,21 @@ ROWS = {
     './mpc node my-network/anna anna': learned('anna'),
     './mpc node my-network/boris boris': learned('boris'),
     './mpc node my-network/chen chen': learned('chen'),
-    'cp -r examples/multiply my-job': '',
+    'cp -r examples/tariff my-job': '',
     "od -An -tx1 -N32 /dev/urandom | tr -d ' \\n'": '[0-9a-f]{64}',
-    './mpc check my-job': example('multiply/expected_check'),
-    './mpc run my-job': example('multiply/expected'),
-    './mpc pair my-job --group a': 'first\n(.*\n)*second\n(.*\n)*tape a .*\ntape b .*\ntape c .*\n',
+    './mpc check my-job': example('tariff/expected_check'),
+    './mpc run my-job': example('tariff/expected'),
+    './mpc pair my-job --group grid': 'first\n(.*\n)*second\n(.*\n)*tape mill .*\ntape grid .*\ntape notary .*\n',
+    'examples/circuits.py job my-mean total 32 ann bob cleo dan': '(.*\n)*',
+    WRITTEN.format('my-mean'): '(.*\n)*',
+    './mpc run my-mean | examples/numbers.py read my-mean --divide 4': '(.* 2108[.]75\n){4}',
+    'examples/circuits.py job my-maximum greatest 16 ann bob cleo dan': '(.*\n)*',
+    WRITTEN.format('my-maximum'): '(.*\n)*',
+    './mpc run my-maximum | examples/numbers.py read my-maximum': '(.* 3400\n){4}',
 }
 
 # What the text says of them.
-SAID = ['`out 0 0 c 35`', '`anna reads: boris wins and pays 2975`']
+SAID = ['`out 0 0 c 35`', '`anna reads: boris wins and pays 2975`', 'Each of the four reads 2108.75 of the first, and 3400 of the second.']
 
 
 def commands(text):

@@ -16,6 +16,7 @@ import tempfile
 from accepted_runs import ACCEPTED, PRODUCTS_OF_TWO_SESSIONS
 from circuit_faults import CIRCUIT_FAULTS
 from circuit_files import CIRCUIT_FILES
+from expressions import EXPRESSIONS, FAULTY_EXPRESSIONS
 from formulas import FORMULAS
 from in_the_clear import out_in_the_clear
 from job_faults import JOB_FAULTS
@@ -42,6 +43,8 @@ GROUPS = {
     'formulas': FORMULAS,
     'circuits': [*CIRCUIT_FAULTS, *CIRCUIT_FILES],
     'fronts of a circuit': list(front_rows()),
+    'expressions': EXPRESSIONS,
+    'faulty expressions': FAULTY_EXPRESSIONS,
     'parties': [*PARTY_FAULTS, *REFUSED_FILES, *ACCEPTED_FILES],
     'views': VIEWS,
     'other groups': OTHER_GROUPS,
@@ -55,7 +58,7 @@ GROUPS = {
 }
 
 # Those of which each run that writes outputs is computed in the clear.
-IN_THE_CLEAR = ['accepted', 'wide rings', 'tolerated']
+IN_THE_CLEAR = ['accepted', 'wide rings', 'tolerated', 'expressions']
 
 
 def call(program, row):
@@ -81,7 +84,8 @@ def what_is_wrong(found, row):
 
 
 def writes_outputs(row):
-    return row.out.startswith('out ')
+    """Whether it is a run whose outputs are not followed by a view."""
+    return row.out.startswith('out ') and '--view' not in row.words
 
 
 def check_examples():

@@ -25,16 +25,19 @@ sys.path[1:1] = [str(EXAMPLES), str(TOP / 'fuzz')]
 
 import job_folder  # noqa: E402
 from circuits import CALLS, Circuit, circuit_of as circuit_file  # noqa: E402
-from in_the_clear import circuit_of, last_wires  # noqa: E402
+from expressions import EXPRESSIONS, FAULTY_EXPRESSIONS  # noqa: E402
+from in_the_clear import circuit_of, fields as fields_of, last_wires, out_in_the_clear  # noqa: E402
 from mutate import CHANGES  # noqa: E402
 from odd_folders import ODD_FOLDERS  # noqa: E402
 from product import product_with  # noqa: E402
+from random_expressions import SCRIPT, with_circuits  # noqa: E402
 
-NUMBERS, CIRCUITS = EXAMPLES / 'numbers.py', EXAMPLES / 'circuits.py'
+NUMBERS, CIRCUITS, EXPRESSIONS_SCRIPT = (EXAMPLES / name for name in ('numbers.py', 'circuits.py', 'expressions.py'))
 AUCTION, SPREAD, NODES = EXAMPLES / 'auction/job.py', EXAMPLES / 'statistics/spread.py', EXAMPLES / 'network/nodes.py'
 MOST_SECONDS = 60
 INPUTS = 2_000
 MUTATED = 1_000
+LONG = 140_000
 
 
 class Wrong(Exception):
@@ -258,7 +261,7 @@ def other_lines_are_refused(program, top):
 def views_are_passed_over(program, top):
     for job, party, script, words, expected in [
             ('multiply', 'a', NUMBERS, ['read', EXAMPLES / 'multiply'], 'session 0 value 0: c reads 35\n'),
-            ('statistics', 'north+east', SPREAD, [], 'mean 1102141.0\nstandard deviation 196902.6\n'),
+            ('statistics', 'north+east', SPREAD, [], 'mean 1102141.0\nstandard deviation 196902.6\nweighted score 77.1\n'),
             ('auction', 'dora', AUCTION, ['read', EXAMPLES / 'auction'],
              ''.join(f'{name} reads: boris wins and pays 2975\n' for name in ('anna', 'boris', 'chen', 'dora')))]:
         done = subprocess.run([program, 'run', EXAMPLES / job, '--view', party], capture_output=True, text=True, timeout=MOST_SECONDS)
@@ -334,9 +337,20 @@ def changed_jobs_are_read_or_refused(program, top):
             list(job_folder.read_outputs(job, ['out 0 0 c 35\n']))
 
 
-def formulas_are_words(program, top):
-    """A text of formulas has a value of one word for each of its lines 'input' and 'output'."""
-    folder = write_folder(top, {'f.txt': b'input x\ninput y\nlet z = x * y\noutput z\noutput z + x\n'})
+# Texts of expressions in which blanks and words are other ones than they look, and how many inputs and outputs they have.
+COUNTED = [(b'input x\ninput y\nlet z = x * y\noutput z\noutput z + x\n', 2, 2), (b' \t\rinput\tx\r\noutput(x)\noutput-x', 1, 2),
+           (b'let input1 = 5\nlet output_ = 6\r\n\n\toutput\rinput1', 0, 1), (b'input x\routput x', 1, 0), (b'input x\x0b\noutput\xc2\xa0x', 1, 1),
+           (b'\x0cinput x\n\xc2\x85output x', 0, 0), (b'', 0, 0), (b'inputs x\noutput1', 0, 0), (1_024 * b'input\n' + 1_024 * b'\n output', 1_024, 1_024)]
+
+
+def expressions_are_words(program, top):
+    """A text of expressions has a value of one word for each of its lines that begins with 'input' or 'output'."""
+    folder = write_folder(top, {})
+    for text, inputs, outputs in COUNTED:
+        pathlib.Path(folder, 'f.txt').write_bytes(text)
+        found = job_folder.read_expressions(folder, 'f.txt')
+        expect(found == [[1] * inputs, [1] * outputs], f'{text[:60]!r} has {list(map(len, found))} values')
+    folder = write_folder(top, {'f.txt': COUNTED[0][0]})
     session = {'circuit': 'f.txt', 'layout': 'expr', 'owners': ['a', 'b'], 'readers': [['c'], ['a']]}
     fields = {'version': 2, 'ring_bits': 16, 'parties': ['a', 'b', 'c'], 'tolerated': [['a'], ['b']], 'session': [session]}
     pathlib.Path(folder, 'job.toml').write_text(job_folder.job_text(fields))
@@ -344,6 +358,50 @@ def formulas_are_words(program, top):
     expect('inputs = ["65529"]' in pathlib.Path(folder, 'party_b.toml').read_text(), 'another word')
     found = wrote(NUMBERS, 'read', folder, '--signed', given='out 0 0 c 65531\nout 0 1 a 8\n')
     expect(found == 'session 0 value 0: c reads -5\nsession 0 value 1: a reads 8\n', found)
+
+
+# Expressions.
+
+def refusals_are_those_of_the_rows(program, top):
+    for row in FAULTY_EXPRESSIONS:
+        files, due = row.files(), re.fullmatch(r'refused expr (.*) file=mul\.txt session=0(.*)\n', row.err)
+        if due and len(files['mul.txt']) < LONG:
+            try:
+                SCRIPT.compiled(files['mul.txt'], fields_of(files['job.toml'])[0]['ring_bits'])
+                found = ''
+            except job_folder.Refusal as refusal:
+                found = str(refusal)
+            expect(found == due[1] + due[2], f'{row.name}: {found!r} in place of {row.err!r}')
+
+
+def circuits_come_to_the_rows(program, top):
+    for row in EXPRESSIONS:
+        files = row.files()
+        if row.out.startswith('out ') and all(session['layout'] == 'expr' for session in fields_of(files['job.toml'])[1]):
+            found = out_in_the_clear(with_circuits(files))
+            expect(row.out.partition('view ')[0] == found, f'{row.name}: its circuit comes to {found[:100]!r}')
+
+
+def examples_have_their_circuits(program, top):
+    """Beside expressions of an example there is the circuit that they are compiled to."""
+    found = 0
+    for circuit in EXAMPLES.glob('*/circuit/*.txt'):
+        bits = job_folder.read_fields(circuit.parent)['ring_bits']
+        expect(wrote(EXPRESSIONS_SCRIPT, 'compile', circuit.parent.parent / circuit.name, bits) == circuit.read_text(), f'{circuit} is another circuit')
+        found += 1
+    expect(found >= 3, f'{found} circuits')
+
+
+def expressions_are_refused_in_one_line(program, top):
+    path = os.path.join(top, 'e.txt')
+    for text, line in [(b'output x', ': 3 UnknownName line=1 at=7\n'), (b'\xff', ': 1 NotUtf8 at=0\n'), (1_025 * b'output 1\n', ': 7 TooLarge\n'),
+                       (b'\n' * 16_777_217, ' has more than 16777216 bytes\n')]:
+        pathlib.Path(path).write_bytes(text)
+        done = call(EXPRESSIONS_SCRIPT, 'compile', path, '8')
+        expect_one_line(done, f'expressions.py of {text[:20]!r}', f'expressions.py: {path}')
+        expect(done.stderr.decode().endswith(line), f'{done.stderr}')
+    for words in [[path, '0'], [path, '65'], [path, 'x'], [path, '-1'], [path, '9' * 50], [top, '8'], [path + '.none', '8'], ['', '8']]:
+        expect_one_line(call(EXPRESSIONS_SCRIPT, 'compile', *words), f'expressions.py compile {words}', 'expressions.py: ')
 
 
 # Whole jobs.
@@ -443,12 +501,12 @@ def nodes_are_split(program, top):
 # Words that are no call of a script.
 OTHER_WORDS = [(NUMBERS, words) for words in ([], ['write'], ['write', 'j'], ['read'], ['read', 'j', '--divide'], ['read', 'j', '--divide', 'x'],
                                               ['read', 'j', '--divide', '-4'], ['make', 'j'], ['read', 'j', 'k'])] + [
-    (CIRCUITS, []), (CIRCUITS, ['job']), (CIRCUITS, ['job', 'f']), (AUCTION, []), (AUCTION, ['read']), (AUCTION, ['make']),
+    (CIRCUITS, []), (CIRCUITS, ['job']), (CIRCUITS, ['job', 'f']), (EXPRESSIONS_SCRIPT, []), (EXPRESSIONS_SCRIPT, ['compile', 'f']), (AUCTION, []), (AUCTION, ['read']), (AUCTION, ['make']),
     (NODES, []), (NODES, ['run']), (NODES, ['split', 'j']), (NODES, ['split', 'j', 'f', '--hosts', 'h'])]
 
 
 def helps_are_there(program, top):
-    for script in (NUMBERS, CIRCUITS, AUCTION, SPREAD, NODES):
+    for script in (NUMBERS, CIRCUITS, EXPRESSIONS_SCRIPT, AUCTION, SPREAD, NODES):
         expect(script.name in wrote(script, '--help'), f'no help of {script.name}')
         expect(os.access(script, os.X_OK), f'{script} is no program')
     for script, words in OTHER_WORDS:
@@ -458,7 +516,8 @@ def helps_are_there(program, top):
 
 CASES = [circuits_are_their_numbers, layers_are_together, circuits_have_limits, numbers_come_back, numbers_are_signed_and_divided,
          numbers_that_do_not_fit, other_lines_are_refused, views_are_passed_over, outputs_that_fail, odd_folders, links_and_folders,
-         changed_jobs_are_read_or_refused, formulas_are_words, an_auction_of_two, jobs_of_calls, ports_of_the_job_are_taken,
+         changed_jobs_are_read_or_refused, expressions_are_words, refusals_are_those_of_the_rows,
+         circuits_come_to_the_rows, examples_have_their_circuits, expressions_are_refused_in_one_line, an_auction_of_two, jobs_of_calls, ports_of_the_job_are_taken,
          nodes_beside_one_another, a_node_that_fails_stops_the_others, a_node_that_waits_is_told, nodes_are_split, helps_are_there]
 
 

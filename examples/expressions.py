@@ -1,0 +1,204 @@
+#!/usr/bin/env python3
+"""Writes the circuit that a file of expressions stands for, in the layout 'ring':
+
+    examples/expressions.py compile FILE BITS > my-job/circuit.txt
+
+FILE is a file that a session of the layout 'expr' may name, and BITS are the ring's. 'mpc' reads such a file by itself, and needs no
+circuit beside it; this is for those who want to see it, or to go on with it by other means. Byte by byte it is the one that the file
+stands for: a session that names it, with the layout 'ring', is the same session. A file that 'mpc' refuses is refused with the same
+words, as '3 UnknownName line=1 at=7'; docs/FORMATS.md has the language, and each of these.
+
+As a library: compiled(data, bits) is the circuit's file.
+"""
+
+import io
+import itertools
+import re
+import sys
+
+from circuits import MOST_GATES, file_text
+from job_folder import MOST_VALUES, Refusal, need, read_bytes, run_script
+
+MOST_OPEN = 32
+MOST_NAME = 16
+MOST_BITS = 64
+FAULTS = ['NotUtf8', 'Syntax', 'UnknownName', 'BadConstant', 'TooDeep', 'TwiceNamed', 'TooLarge']
+
+# A word, a number, or any other byte; blanks before it are passed over.
+TOKEN = re.compile(rb'[ \t\r]*(?:([A-Za-z][A-Za-z0-9_]*)|([0-9]+)|([^ \t\r]))')
+WORDS = (b'input', b'let', b'output')
+SIGNS = (b'=', b'+', b'-', b'*', b'(', b')')
+
+# The operation of each sign between two operands, and how strongly it binds. A minus before an operand is NEG.
+OPERATIONS = {b'+': ('ADD', 1), b'-': ('SUB', 1), b'*': ('MUL', 2)}
+OPEN = '('
+
+
+class Fault(Refusal):
+    """Why a text is no program."""
+
+    def __init__(self, name, **keys):
+        super().__init__(' '.join([str(1 + FAULTS.index(name)), name, *(f'{key}={value}' for key, value in keys.items())]))
+
+
+def tokens_of(line):
+    """The tokens of a line: what each is, its text, and its place. Last comes the line's end."""
+    at = 0
+    while match := TOKEN.match(line, at):
+        at = match.end()
+        text = match[match.lastindex]
+        if match[1]:
+            kind = text if text in WORDS else b'name' if len(text) <= MOST_NAME else None
+        else:
+            kind = b'number' if match[2] else text if text in SIGNS else None
+        yield kind, text, at - len(text)
+    yield b'end', b'', len(line)
+
+
+class Line:
+    """A line with tokens: the first of them says what it is, and then come a name, an expression, or both. An expression is kept as its
+    names, numbers and operations, each after its operands. What isn't in the grammar is found at the first token that no line has there."""
+
+    def __init__(self, number, line):
+        self.number, self.tokens = number, tokens_of(line)
+        self.kind = self.take(*WORDS)[0]
+        self.name = self.take(b'name')[1] if self.kind != b'output' else None
+        if self.kind == b'let':
+            self.take(b'=')
+        self.nodes = []
+        if self.kind == b'input':
+            self.take(b'end')
+        else:
+            self.read_expression()
+
+    def take(self, *kinds):
+        """The next token, which must be one of these."""
+        token = next(self.tokens)
+        if token[0] not in kinds:
+            raise Fault('Syntax', line=self.number, at=token[2])
+        return token
+
+    def read_expression(self):
+        """Reads to the end of the line. 'signs' are those whose last operand hasn't ended, as operations, and open parentheses."""
+        signs = []
+        while True:
+            kind, text, at = self.take(b'name', b'number', b'-', b'(')
+            if kind in (b'-', b'('):
+                signs.append('NEG' if kind == b'-' else OPEN)
+                if sum(sign in ('NEG', OPEN) for sign in signs) > MOST_OPEN:
+                    raise Fault('TooDeep', line=self.number, at=at)
+            else:
+                self.nodes.append((kind.decode(), text, at))
+                if self.read_operator(signs) == b'end':
+                    return
+
+    def read_operator(self, signs):
+        """Reads what follows an operand: parentheses that close, and then an operator or the end of the line."""
+        while True:
+            self.close(signs, 3)
+            inside = OPEN in signs
+            kind = self.take(*OPERATIONS, b')' if inside else b'end')[0]
+            if kind in OPERATIONS:
+                operation, strength = OPERATIONS[kind]
+                self.close(signs, strength)
+                signs.append(operation)
+                return kind
+            self.close(signs, 0)
+            if kind == b'end':
+                return kind
+            signs.pop()
+
+    def close(self, signs, least):
+        """Ends the operations that bind as strongly, back to a parenthesis."""
+        strengths = {'NEG': 3, **dict(OPERATIONS.values())}
+        while signs and signs[-1] != OPEN and strengths[signs[-1]] >= least:
+            self.nodes.append((signs.pop(), b'', 0))
+
+
+class Program:
+    """What the lines so far have made. Wire i is the input i, and wire ~g that of gate g, since the inputs aren't counted before the last
+    line. Past a limit gates and outputs are counted, and no longer kept."""
+
+    def __init__(self, bits):
+        self.bits = bits
+        self.names = {}
+        self.inputs = self.outputs = self.count = 0
+        self.gates, self.output_wires = [], []
+
+    def gate(self, operation, *operands):
+        if self.count <= MOST_GATES:
+            self.gates.append((operation, operands))
+        self.count += 1
+        return -self.count
+
+    def wire(self, number, kind, text, at, wires):
+        """The wire of a node. Those of its operands are the last of the list, and are taken off."""
+        if kind == 'name':
+            if text not in self.names:
+                raise Fault('UnknownName', line=number, at=at)
+            return self.names[text]
+        if kind == 'number':
+            digits = text.lstrip(b'0') or b'0'
+            if len(digits) > 20 or int(digits) >= 2**self.bits:
+                raise Fault('BadConstant', line=number, at=at)
+            return self.gate('EQ', int(digits))
+        last = wires.pop()
+        return self.gate(kind, last) if kind == 'NEG' else self.gate(kind, wires.pop(), last)
+
+    def add(self, line):
+        """Adds a line."""
+        wires = []
+        for node in line.nodes:
+            wires.append(self.wire(line.number, *node, wires))
+        if line.name in self.names:
+            raise Fault('TwiceNamed', line=line.number)
+        if line.kind == b'output':
+            self.output_wires += wires[:self.outputs <= MOST_VALUES]
+            self.outputs += 1
+        else:
+            self.names[line.name] = wires.pop() if wires else self.inputs
+            self.inputs += line.kind == b'input'
+
+    def text(self):
+        """The file of the circuit, which ends with a copy of each output."""
+        if max(self.inputs, self.outputs) > MOST_VALUES or self.count + self.outputs > MOST_GATES:
+            raise Fault('TooLarge')
+        lines = []
+        for operation, operands in itertools.chain(self.gates, (('EQW', (wire,)) for wire in self.output_wires)):
+            if operation != 'EQ':
+                operands = [wire if wire >= 0 else self.inputs + ~wire for wire in operands]
+            lines.append(f'{len(operands)} 1 {" ".join(map(str, operands))} {self.inputs + len(lines)} {operation}')
+        return file_text([1] * self.inputs, [1] * self.outputs, lines)
+
+
+def compiled(data, bits):
+    """The file of the circuit that the bytes stand for."""
+    try:
+        data.decode()
+    except UnicodeDecodeError as error:
+        raise Fault('NotUtf8', at=error.start) from None
+    program = Program(bits)
+    for number, line in enumerate(io.BytesIO(data), 1):
+        line = line.removesuffix(b'\n')
+        if line.strip(b' \t\r'):
+            program.add(Line(number, line))
+    return program.text()
+
+
+def main(words):
+    if words in (['-h'], ['--help']):
+        print(__doc__)
+    elif len(words) == 3 and words[0] == 'compile':
+        need(re.fullmatch('[0-9]{1,9}', words[2]) and 1 <= int(words[2]) <= MOST_BITS, f'BITS is a number from 1 to {MOST_BITS}, and not {words[2][:40]!r}')
+        try:
+            print(compiled(read_bytes('', words[1]), int(words[2])), end='')
+        except Fault as fault:
+            raise Refusal(f'{words[1]}: {fault}') from None
+    else:
+        print(__doc__.split('\n\n')[1], file=sys.stderr)
+        return 2
+    return 0
+
+
+if __name__ == '__main__':
+    run_script(main)
