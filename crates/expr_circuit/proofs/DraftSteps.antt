@@ -6,7 +6,9 @@ use Rattle.expr_circuit.specs.declared.fault.ExprFault.TheVariants.{NotUtf8, Syn
 use Rattle.expr_circuit.specs.declared.names.Names.{Names}
 use Rattle.expr_circuit.specs.declared.draft.Draft.{Draft as DraftKept}
 use Rattle.expr_circuit.specs.declared.node.Node.{Node}
-use Rattle.expr_circuit.specs.declared.parser.Parsed.{Parsed}
+use Rattle.expr_circuit.specs.declared.node.Head.{Head}
+use Rattle.expr_circuit.specs.Machine.{State}
+use Rattle.std.specs.Prelude.{reverse}
 use Rattle.expr_circuit.specs.declared.wire.Wire.{Wire}
 use Rattle.expr_circuit.specs.declared.wire.Wire.TheVariants as wires
 use Rattle.expr_circuit.specs.Programs.{bind}
@@ -96,20 +98,21 @@ output_fails q d n line nodes gates (Err g) f e h =
     subst (λ k. Fails k (output_in q d n line nodes)) (let s : g ≡ f = cc in s) (fails_then g (expression_in q d n line nodes) (λ (c : Built). Ok (record d { gates = c.gates; outputs = d.outputs ++ (c.wire ∷ []) })) h)
 
 -- a line that was read
-pub line_some : (q : ℕ) (d : Draft) (n : ℕ) (text : List ℕ) (r : Result (Option Parsed) ExprFault) (p : Parsed) → r ≡ Ok (Some p) → Shows read_kept r (parse_in n text) → line_in q d n text ≡ read_in q d n text p.head p.nodes.items
+pub line_some : (q : ℕ) (d : Draft) (n : ℕ) (text : List ℕ) (s : State) (nodes : List Node) (r : Result (Option Head) ExprFault) (head : Head) → r ≡ Ok (Some head) → nodes ≡ reverse s.out → Shows (read_kept s) r (parse_in n text) → line_in q d n text ≡ read_in q d n text head nodes
 unfolding line_in
-line_some q d n text (Err f) p e h = cc
-line_some q d n text (Ok o) p e h = ap (λ r. r >>= read_line q d n text) (h ∙ ap (λ x. Ok (read_kept x)) (let s : o ≡ Some p = cc in s))
+line_some q d n text s nodes (Err f) head e is h = cc
+line_some q d n text s nodes (Ok o) head e is h =
+    ap (λ r. r >>= read_line q d n text) (h ∙ ap (λ x. Ok (read_kept s x)) (let same : o ≡ Some head = cc in same)) ∙ ap (read_in q d n text head) (sym is)
 
-pub line_none : (q : ℕ) (d : Draft) (n : ℕ) (text : List ℕ) (r : Result (Option Parsed) ExprFault) → r ≡ Ok None → Shows read_kept r (parse_in n text) → line_in q d n text ≡ Ok d
+pub line_none : (q : ℕ) (d : Draft) (n : ℕ) (text : List ℕ) (s : State) (r : Result (Option Head) ExprFault) → r ≡ Ok None → Shows (read_kept s) r (parse_in n text) → line_in q d n text ≡ Ok d
 unfolding line_in
-line_none q d n text (Err f) e h = cc
-line_none q d n text (Ok o) e h = ap (λ r. r >>= read_line q d n text) (h ∙ ap (λ x. Ok (read_kept x)) (let s : o ≡ None = cc in s))
+line_none q d n text s (Err f) e h = cc
+line_none q d n text s (Ok o) e h = ap (λ r. r >>= read_line q d n text) (h ∙ ap (λ x. Ok (read_kept s x)) (let same : o ≡ None = cc in same))
 
-pub line_stops : (q : ℕ) (d : Draft) (n : ℕ) (text : List ℕ) (r : Result (Option Parsed) ExprFault) (f : ExprFault) → r ≡ Err f → Shows read_kept r (parse_in n text) → Fails f (line_in q d n text)
+pub line_stops : (q : ℕ) (d : Draft) (n : ℕ) (text : List ℕ) (s : State) (r : Result (Option Head) ExprFault) (f : ExprFault) → r ≡ Err f → Shows (read_kept s) r (parse_in n text) → Fails f (line_in q d n text)
 unfolding line_in
-line_stops q d n text (Ok o) f e h = cc
-line_stops q d n text (Err g) f e h = subst (λ k. Fails k (line_in q d n text)) (let s : g ≡ f = cc in s) (fails_then g (parse_in n text) (read_line q d n text) h)
+line_stops q d n text s (Ok o) f e h = cc
+line_stops q d n text s (Err g) f e h = subst (λ k. Fails k (line_in q d n text)) (let same : g ≡ f = cc in same) (fails_then g (parse_in n text) (read_line q d n text) h)
 
 -- the same, for a draft that is wanted by another name
 pub becomes_same : {A : Type 0} (r : Result A ExprFault) (new : DraftKept) (x y : Result Draft ExprFault) → y ≡ x → Becomes r new x → Becomes r new y

@@ -1,5 +1,5 @@
 -- The circuit of a program is valid, and has the program's value.
-use Rattle.std.proofs.Common.{◌≡◌, ℕ, ◌^◌, ◌<◌, ◌≤◌, List}
+use Rattle.std.proofs.Common.{ℕ, ◌^◌, ◌<◌, ◌≤◌, List}
 use Rattle.circuit_model.specs.Netlists.{IsCircuit}
 use Rattle.circuit_model.proofs.Solutions.{values_solve}
 use Rattle.expr_circuit.specs.Programs.{Statement}

@@ -1,8 +1,8 @@
 -- How the parser and the draft are kept, and what their steps answer.
-use Rattle.std.specs.Prelude.{◌≡◌, ℕ, ◌+◌, ◌<◌, ◌^◌, Bool, true, false, List, ◌∷◌, length, take, Option, Some, None, Result, Ok, Err}
+use Rattle.std.specs.Prelude.{◌≡◌, ℕ, ◌+◌, ◌<◌, ◌^◌, Bool, true, false, List, ◌∷◌, length, take, reverse, Option, Some, None, Result, Ok, Err}
 use Rattle.expr_circuit.specs.declared.fault.ExprFault.{ExprFault}
 use Rattle.expr_circuit.specs.declared.fault.ExprFault.TheVariants.{Memory}
-use Rattle.expr_circuit.specs.declared.parser.Parsed.{Parsed}
+use Rattle.expr_circuit.specs.declared.node.Head.{Head}
 use Rattle.expr_circuit.specs.declared.wire.Wire.{Wire}
 use Rattle.expr_circuit.specs.declared.wire.Step.{Step}
 use Rattle.circuit_model.specs.Netlists.{IsCircuit}
@@ -15,10 +15,10 @@ abbrev pub Advances : Option State → Bool → State → Type 0
 Advances None goes_on new = goes_on ≡ false
 Advances (Some next) goes_on new = (goes_on ≡ true) × (new ≡ next)
 
--- a line as it is kept
-abbrev pub read_kept : Option Parsed → Option Read
-read_kept None = None
-read_kept (Some p) = Some (record { head = p.head; nodes = p.nodes.items })
+-- a line as it is kept: what it begins with, and what the parser has
+abbrev pub read_kept : State → Option Head → Option Read
+read_kept s None = None
+read_kept s (Some head) = Some (record { head = head; nodes = reverse s.out })
 
 -- the fault that is wanted, unless memory ran out
 abbrev pub Fails : {B : Type 0} → ExprFault → Result B ExprFault → Type 0

@@ -11,6 +11,8 @@ ghost use Rattle.expr_circuit.specs.Laws.{IsCircuitOf, IsCompiled, Refuses};
 use crate::draft::Draft;
 use crate::fault::ExprFault;
 use crate::line::Line;
+use crate::parser::Parser;
+use crate::wire::Pending;
 use circuit_file::write;
 use circuit_model::Circuit;
 use mpc_ring::Ring;
@@ -48,12 +50,14 @@ fn read_lines(alloc: Global, bytes: &[u8], ring: Ring) -> Result<Circuit, ExprFa
     ensures { Gives result (compiled_in ring bytes.now) }
 {
     let mut draft = Draft::new(alloc);
+    let mut parser = Parser::new(alloc);
+    let mut wires = Pending::new(alloc);
     let mut rest = bytes;
     let mut number = 1;
     while !rest.is_empty() {
         let (text, after) = cut_line(rest);
         let line = Line { text, number, ring };
-        match draft.line(alloc, &line) {
+        match draft.line(&line, &mut parser, &mut wires) {
             Ok(()) => {}
             Err(fault) => return Err(fault),
         }

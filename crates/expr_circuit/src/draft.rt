@@ -11,11 +11,11 @@ use crate::line::Line;
 use crate::names::Names;
 use crate::node::{Head, Node};
 use crate::parse::parse_line;
-use crate::parser::Parsed;
-use crate::wire::Wire;
+use crate::parser::Parser;
+use crate::wire::{Pending, Wire};
 use circuit_model::Circuit;
 use mpc_ring::Ring;
-use run_tokens::word_at;
+use run_tokens::word_bytes;
 use std::alloc::Global;
 
 /// What the lines so far make: the wire of each name, and gates.
@@ -36,7 +36,7 @@ impl<'a> Draft<'a> {
     }
 
     /// Adds an input.
-    fn input(&mut self, line: u64, name: &'a str) -> Result<(), ExprFault>
+    fn input(&mut self, line: u64, name: &'a [u8]) -> Result<(), ExprFault>
         ensures { (d : circuits.Draft) → Keeps self.old d → Becomes result self.new (input_in d line name.now) }
     {
         match self
@@ -51,53 +51,69 @@ impl<'a> Draft<'a> {
     /// Adds a name for an expression.
     fn define(
         &mut self,
-        alloc: Global,
         line: &Line<'_>,
-        name: &'a str,
+        name: &'a [u8],
         nodes: &[Node],
+        wires: &mut Pending,
     ) -> Result<(), ExprFault>
         ensures { (d : circuits.Draft) → Keeps self.old d → Becomes result self.new
             (define_in (2 ^ line.now.ring) d line.now.number line.now.text.now name.now nodes.now) }
     {
-        match self.gates.expression(&self.names, alloc, line, nodes) {
+        match self.gates.expression(&self.names, line, nodes, wires) {
             Ok(wire) => self.names.bind(line.number, name, wire),
             Err(fault) => Err(fault),
         }
     }
 
     /// Adds an output.
-    fn output(&mut self, alloc: Global, line: &Line<'_>, nodes: &[Node]) -> Result<(), ExprFault>
+    fn output(
+        &mut self,
+        line: &Line<'_>,
+        nodes: &[Node],
+        wires: &mut Pending,
+    ) -> Result<(), ExprFault>
         ensures { (d : circuits.Draft) → Keeps self.old d → Becomes result self.new
             (output_in (2 ^ line.now.ring) d line.now.number line.now.text.now nodes.now) }
     {
-        match self.gates.expression(&self.names, alloc, line, nodes) {
+        match self.gates.expression(&self.names, line, nodes, wires) {
             Ok(wire) => self.gates.output(wire),
             Err(fault) => Err(fault),
         }
     }
 
     /// Adds what was read of a line.
-    fn read(&mut self, alloc: Global, line: &Line<'a>, parsed: &Parsed) -> Result<(), ExprFault>
+    fn read(
+        &mut self,
+        line: &Line<'a>,
+        head: Head,
+        nodes: &[Node],
+        wires: &mut Pending,
+    ) -> Result<(), ExprFault>
         ensures { (d : circuits.Draft) → Keeps self.old d → Becomes result self.new
-            (read_in (2 ^ line.now.ring) d line.now.number line.now.text.now parsed.now.head parsed.now.nodes.items) }
+            (read_in (2 ^ line.now.ring) d line.now.number line.now.text.now head nodes.now) }
     {
-        match parsed.head {
-            Head::Input(at) => self.input(line.number, word_at(line.text, at)),
+        match head {
+            Head::Input(at) => self.input(line.number, word_bytes(line.text, at)),
             Head::Let(at) => {
-                let name = word_at(line.text, at);
-                self.define(alloc, line, name, parsed.nodes.as_slice())
+                let name = word_bytes(line.text, at);
+                self.define(line, name, nodes, wires)
             }
-            Head::Output => self.output(alloc, line, parsed.nodes.as_slice()),
+            Head::Output => self.output(line, nodes, wires),
         }
     }
 
     /// Adds a line.
-    pub fn line(&mut self, alloc: Global, line: &Line<'a>) -> Result<(), ExprFault>
+    pub fn line(
+        &mut self,
+        line: &Line<'a>,
+        parser: &mut Parser,
+        wires: &mut Pending,
+    ) -> Result<(), ExprFault>
         ensures { (d : circuits.Draft) → Keeps self.old d → Becomes result self.new
             (line_in (2 ^ line.now.ring) d line.now.number line.now.text.now) }
     {
-        match parse_line(alloc, line) {
-            Ok(Some(parsed)) => self.read(alloc, line, &parsed),
+        match parse_line(parser, line) {
+            Ok(Some(head)) => self.read(line, head, parser.nodes(), wires),
             Ok(None) => Ok(()),
             Err(fault) => Err(fault),
         }

@@ -14,7 +14,7 @@ use crate::node::Node;
 use crate::wire::{Pending, Step, Wire};
 use circuit_model::{Circuit, Operation};
 use mpc_ring::Ring;
-use run_tokens::word_at;
+use run_tokens::word_bytes;
 use std::alloc::{AllocError, Global};
 use std::marker::Model;
 
@@ -165,7 +165,7 @@ impl Gates {
             (node_in (2 ^ line.now.ring) d.of line.now.number line.now.text.now node (record { gates = d.gates; wires = wires.old })) }
     {
         match node {
-            Node::Name(at) => match names.wire(word_at(line.text, at)) {
+            Node::Name(at) => match names.wire(word_bytes(line.text, at)) {
                 Some(wire) => Ok(wire),
                 None => Err(ExprFault::UnknownName {
                     line: line.number,
@@ -205,16 +205,16 @@ impl Gates {
     pub fn expression(
         &mut self,
         names: &Names<'_>,
-        alloc: Global,
         line: &Line<'_>,
         nodes: &[Node],
+        wires: &mut Pending,
     ) -> Result<Wire, ExprFault>
         ensures { (d : Draft) → AreNames names.now d.of → self.old ≡ kept d → Expresses d result self.new
             (expression_in (2 ^ line.now.ring) d line.now.number line.now.text.now nodes.now) }
     {
-        let mut wires = Pending::new(alloc);
+        wires.clear();
         for node in nodes {
-            match self.node(names, line, *node, &mut wires) {
+            match self.node(names, line, *node, wires) {
                 Ok(()) => {}
                 Err(fault) => return Err(fault),
             }

@@ -4,19 +4,19 @@ ghost use Rattle.expr_circuit.specs.Walks.{parse_in};
 
 use crate::fault::ExprFault;
 use crate::line::Line;
-use crate::parser::{Parsed, Parser};
+use crate::node::Head;
+use crate::parser::Parser;
 use crate::token::Token;
 use run_tokens::next_token;
-use std::alloc::Global;
 
 /// How many signs may be open.
 const MOST_OPEN: u32 = 32;
 
 /// The line, none where it has no tokens, or the fault of its first token that has one.
-pub(crate) fn parse_line(alloc: Global, line: &Line<'_>) -> Result<Option<Parsed>, ExprFault>
-    ensures { Shows read_kept result (parse_in line.now.number line.now.text.now) }
+pub(crate) fn parse_line(parser: &mut Parser, line: &Line<'_>) -> Result<Option<Head>, ExprFault>
+    ensures { Shows (read_kept parser.new) result (parse_in line.now.number line.now.text.now) }
 {
-    let mut parser = Parser::new(alloc);
+    parser.reset();
     let mut from = 0;
     while let Some(cut) = next_token::<Token>(line.text, from) {
         let at = cut.at as u64;
@@ -38,7 +38,7 @@ pub(crate) fn parse_line(alloc: Global, line: &Line<'_>) -> Result<Option<Parsed
         return Ok(None);
     }
     match parser.finish()? {
-        Some(parsed) => Ok(Some(parsed)),
+        Some(head) => Ok(Some(head)),
         None => Err(ExprFault::Syntax {
             line: line.number,
             at: line.text.len() as u64,

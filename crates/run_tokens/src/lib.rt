@@ -7,5 +7,5 @@ mod runs;
 mod token;
 
 pub use cut::{Cut, next_token};
-pub use runs::{number_at, word_at};
+pub use runs::{number_at, word_at, word_bytes};
 pub use token::RunToken;

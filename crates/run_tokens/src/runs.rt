@@ -33,11 +33,18 @@ pub(crate) fn number_length(text: &[u8]) -> usize
 }
 
 /// The letters, digits and `_` that stand at this place, none where the text has ended.
-pub fn word_at(text: &[u8], at: usize) -> &str
+pub fn word_bytes(text: &[u8], at: usize) -> &[u8]
     ensures { result.now ≡ take_while is_word_byte (drop at text.now) }
 {
     let rest = &text[at.min(text.len())..];
-    match str::from_utf8(&rest[..word_length(rest)]) {
+    &rest[..word_length(rest)]
+}
+
+/// The same, as a text.
+pub fn word_at(text: &[u8], at: usize) -> &str
+    ensures { result.now ≡ take_while is_word_byte (drop at text.now) }
+{
+    match str::from_utf8(word_bytes(text, at)) {
         Ok(found) => found,
         Err(_) => "",
     }

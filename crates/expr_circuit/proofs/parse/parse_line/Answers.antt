@@ -23,10 +23,10 @@ returns-then-is_empty c =
 
 pub returns-in-Some-2 : goal.returns-in-Some-2
 returns-in-Some-2 c =
-    ended_there c.args.line.now.number c.args.line.now.text.now c.loop-cut.parser (tokens_after line_language c.args.line.now.text.now c.loop-cut.from) (read_kept c.in_ok-parsed.field-0) c.loop-cut.invariant.scanned c.in_default.ensures.found (sym c.is_empty.ensures ∙ c.if-is_empty.false) (sym c.in_ok-parsed.ensures)
-    ∙ ap (λ o. or_end c.args.line.now.number (length c.args.line.now.text.now) (read_kept o)) c.in-Some-2.is
+    ended_there c.args.line.now.number c.args.line.now.text.now c.loop-cut.parser (tokens_after line_language c.args.line.now.text.now c.loop-cut.from) (read_kept c.finish.new.self c.in_ok-head.field-0) c.loop-cut.invariant.scanned c.in_default.ensures.found (sym c.is_empty.ensures ∙ c.if-is_empty.false) (sym c.in_ok-head.ensures)
+    ∙ ap (λ o. or_end c.args.line.now.number (length c.args.line.now.text.now) (read_kept c.finish.new.self o)) c.in-Some-2.is
 
 pub returns-in-None : goal.returns-in-None
 returns-in-None c =
-    ended_there c.args.line.now.number c.args.line.now.text.now c.loop-cut.parser (tokens_after line_language c.args.line.now.text.now c.loop-cut.from) (read_kept c.in_ok-parsed.field-0) c.loop-cut.invariant.scanned c.in_default.ensures.found (sym c.is_empty.ensures ∙ c.if-is_empty.false) (sym c.in_ok-parsed.ensures)
-    ∙ ap (λ o. or_end c.args.line.now.number (length c.args.line.now.text.now) (read_kept o)) c.in-None.is
+    ended_there c.args.line.now.number c.args.line.now.text.now c.loop-cut.parser (tokens_after line_language c.args.line.now.text.now c.loop-cut.from) (read_kept c.finish.new.self c.in_ok-head.field-0) c.loop-cut.invariant.scanned c.in_default.ensures.found (sym c.is_empty.ensures ∙ c.if-is_empty.false) (sym c.in_ok-head.ensures)
+    ∙ ap (λ o. or_end c.args.line.now.number (length c.args.line.now.text.now) (read_kept c.finish.new.self o)) c.in-None.is

@@ -1,9 +1,7 @@
-use Rattle.std.proofs.Common.{List, ℕ, ◌-◌, take, drop, length, sym, subst}
+use Rattle.std.proofs.Common.{drop, sym, subst}
 use Rattle.std.specs.Str.{IsUtf8}
 use Rattle.run_tokens.proofs.AsciiRuns.{word_utf8}
 use Rattle.run_tokens.proofs.runs.word_at.Goals as goal
 
 pub returns-in-Err : goal.returns-in-Err
-returns-in-Err c =
-    let rest : List ℕ = take (length c.args.text.now - c.min.result) (drop c.min.result c.args.text.now) in
-    absurd (c.in-Err.ensures.cases.0 (subst (λ (k : ℕ). IsUtf8 (take k rest)) (sym c.word_length.ensures.is) (word_utf8 rest)))
+returns-in-Err c = absurd (c.in-Err.ensures.cases.0 (subst IsUtf8 (sym c.word_bytes.ensures) (word_utf8 (drop c.args.at c.args.text.now))))

@@ -4,7 +4,7 @@ use Rattle.expr_circuit.proofs.GateSteps.{node_moves, node_stops, nodes_done}
 use Rattle.expr_circuit.proofs.gates.Gates.expression.Goals as goal
 
 pub loop-node-init : goal.loop-node-init
-loop-node-init c = λ d names is. (record { gates = d.gates; wires = [] }, refl, is, c.new-wires.ensures)
+loop-node-init c = λ d names is. (record { gates = d.gates; wires = [] }, refl, is, c.clear.ensures)
 
 pub returns-in-Err : goal.returns-in-Err
 returns-in-Err c = λ d names is.
