@@ -1,6 +1,6 @@
 //! Files of jobs that are read. The faults of others are rows of `tests/job_files.py`.
 use circuit_model::CircuitLayout;
-use job_file::{Adversary, Job, read_job};
+use job_file::{Adversary, Job, SessionLayout, read_job};
 use party_set::Group;
 use std::alloc::Global;
 use std::process::Abort;
@@ -47,7 +47,7 @@ fn expect_session(rt: &impl Abort, job: &Job) {
     expect_same!(rt; job.sessions.len(), 1);
     for session in &job.sessions {
         expect_same!(rt; session.circuit.as_str(), "mul.txt");
-        assert!(rt; session.layout == CircuitLayout::Ring);
+        assert!(rt; session.layout == SessionLayout::Gates(CircuitLayout::Ring));
         expect_same!(rt; session.owners.as_slice(), [0, 1].as_slice());
         expect_masks(rt, &session.readers, &[4, 0]);
     }
