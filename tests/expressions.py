@@ -245,7 +245,7 @@ LARGE = [
     (XY + b'output x' + 65_536 * b'+y' + b'+', '2 Syntax', f'line=3 at={8 + 2 * 65_536 + 1}'),
     (XY + b'output x' + 65_536 * b'+y' + b'+z', '3 UnknownName', f'line=3 at={8 + 2 * 65_536 + 1}'),
     (many(b'input', 1_025) + b'input i7', '6 TwiceNamed', 'line=1026'),
-    (XY + b'output x' + 1_000_000 * b'+y', '7 TooLarge', ''),
+    (XY + b'output x' + 200_000 * b'+y', '7 TooLarge', ''),
 ]
 
 
