@@ -7,6 +7,7 @@ wrong, all must end, with a line each. A node that hears nothing of its first pe
 Ends with status 1, and tells why, where nodes end otherwise.
 """
 
+import hashlib
 import json
 import os
 import pathlib
@@ -17,7 +18,7 @@ import sys
 import tempfile
 
 from accepted_runs import ACCEPTED
-from expressions import EXPRESSIONS
+from expressions import EXPR, EXPRESSIONS, SQUARE_OF_A_SUM
 from in_the_clear import fields, out_in_the_clear
 from product import Edit, Whole, product_with
 from random_expressions import random_job, with_circuits
@@ -145,6 +146,21 @@ def one_with_another_job(program):
             expect_faults(run(program, product_with([]), odd=odd, other_files=product_with([change])), begins)
 
 
+def hello_to_c(files):
+    """What a says first to c, in hexadecimal: last in it is the digest of the job's files as they were read."""
+    digest, files = hashlib.sha256(), with_places(files)
+    for name in ('job.toml', 'mul.txt'):
+        digest.update(len(files[name]).to_bytes(8, 'big') + files[name])
+    return f'4d5043310002{digest.hexdigest()}'
+
+
+def one_with_other_blanks_in_its_expressions(program):
+    """Both texts stand for one circuit, and are two jobs."""
+    files, other = (product_with([*EXPR, Whole('mul.txt', text)]) for text in (SQUARE_OF_A_SUM, SQUARE_OF_A_SUM + b'\n'))
+    line = f'fault job peer=a ours={hello_to_c(other)} theirs={hello_to_c(files)}\n'
+    expect_faults(run(program, files, odd=2, other_files=other), ['fault ', 'fault ', line])
+
+
 # After how many bytes from a to c the pipe fails, and how the lines of a, b and c begin. The bytes are a hello of 38, and then frames of 18,
 # of which a sends the first one to b before that to c. Where it fails within the hello, a reads nothing, so a send to it may fail.
 CUTS = [
@@ -189,8 +205,8 @@ def one_that_hears_its_second_peer_first(program):
     expect_written(files, run(program, files, room=LARGE, flaw=('held', SAID_BY_B, 0, 2)))
 
 
-CASES = [accepted_jobs, random_expressions, examples, one_with_another_job, one_that_can_not_send, one_that_hears_another_frame,
-         one_that_hears_its_second_peer_first]
+CASES = [accepted_jobs, random_expressions, examples, one_with_another_job, one_with_other_blanks_in_its_expressions, one_that_can_not_send,
+         one_that_hears_another_frame, one_that_hears_its_second_peer_first]
 
 
 def main(words):
