@@ -36,9 +36,15 @@ abbrev pub build : (List ℕ → Option Wire) → List Step → Term → Built
 build of gates (constant n) = add gates Eq no_wire no_wire n
 build of gates (variable x) = record { gates = gates; wire = unwrap_or (of x) no_wire }
 build of gates (negative t) = after_one Neg (build of gates t)
-build of gates (sum s t) = add (build of (build of gates s).gates t).gates Add (build of gates s).wire (build of (build of gates s).gates t).wire 0
-build of gates (subtraction s t) = add (build of (build of gates s).gates t).gates Sub (build of gates s).wire (build of (build of gates s).gates t).wire 0
-build of gates (product s t) = add (build of (build of gates s).gates t).gates Mul (build of gates s).wire (build of (build of gates s).gates t).wire 0
+build of gates (sum s t) =
+    add (build of (build of gates s).gates t).gates Add (build of gates s).wire
+    (build of (build of gates s).gates t).wire 0
+build of gates (subtraction s t) =
+    add (build of (build of gates s).gates t).gates Sub (build of gates s).wire
+    (build of (build of gates s).gates t).wire 0
+build of gates (product s t) =
+    add (build of (build of gates s).gates t).gates Mul (build of gates s).wire
+    (build of (build of gates s).gates t).wire 0
 
 -- what some lines make: the wire of each name that is known, the gates, how many inputs, and the wires of the output lines
 pub record Draft : Type 0 where
@@ -49,8 +55,10 @@ pub record Draft : Type 0 where
 
 abbrev pub after_statement : Draft → Statement → Draft
 after_statement d (input x) = record d { of = bind d.of x (Some (wires.Input d.inputs)); inputs = d.inputs + 1 }
-after_statement d (define x t) = record d { of = bind d.of x (Some (build d.of d.gates t).wire); gates = (build d.of d.gates t).gates }
-after_statement d (output t) = record d { gates = (build d.of d.gates t).gates; outputs = d.outputs ++ ((build d.of d.gates t).wire ∷ []) }
+after_statement d (define x t) =
+    record d { of = bind d.of x (Some (build d.of d.gates t).wire); gates = (build d.of d.gates t).gates }
+after_statement d (output t) =
+    record d { gates = (build d.of d.gates t).gates; outputs = d.outputs ++ ((build d.of d.gates t).wire ∷ []) }
 
 abbrev pub after_statements : Draft → List Statement → Draft
 after_statements d [] = d

@@ -123,9 +123,11 @@ pub data LineFault (q : ℕ) (known : List ℕ → Bool) (line : List ℕ) (n : 
       → LineFault q known line n fault
   end_fault : (at : ℕ) → fault ≡ Syntax n at → (IsBlank line → ⊥) → EndsAt line_language IsFine spell_line line at
       → LineFault q known line n fault
-  depth_fault : (at : ℕ) → fault ≡ TooDeep n at → StopsAt line_language IsFine line at (λ ts. IsViable ts × (IsShallow ts → ⊥))
+  depth_fault : (at : ℕ) → fault ≡ TooDeep n at
+      → StopsAt line_language IsFine line at (λ ts. IsViable ts × (IsShallow ts → ⊥))
       → LineFault q known line n fault
-  name_fault : (form : Line) → Parses line form → bad_line q known line n form ≡ Some fault → LineFault q known line n fault
+  name_fault : (form : Line) → Parses line form → bad_line q known line n form ≡ Some fault
+      → LineFault q known line n fault
 
 -- the lines from line n on say the program, where these names are known
 abbrev pub AreLines : ℕ → (List ℕ → Bool) → ℕ → List (List ℕ) → List Statement → Type 0

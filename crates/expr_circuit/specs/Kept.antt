@@ -69,7 +69,8 @@ OrMemory (Err fault) P = fault ≡ Memory
 
 -- the gates and the wires that wait became those of the walk which is wanted, unless memory ran out
 abbrev pub Moves : {A : Type 0} → Draft → Result A ExprFault → Kept → List Wire → Result Walk ExprFault → Type 0
-Moves d (Ok a) new wires wanted = (w : Walk) × (wanted ≡ Ok w) × (new ≡ kept (record d { gates = w.gates })) × (wires ≡ w.wires)
+Moves d (Ok a) new wires wanted =
+    (w : Walk) × (wanted ≡ Ok w) × (new ≡ kept (record d { gates = w.gates })) × (wires ≡ w.wires)
 Moves d (Err fault) new wires wanted = Fails fault wanted
 
 -- a gate was added, and the wire that it sets is told, unless memory ran out
@@ -80,10 +81,13 @@ Builds d b (Err fault) new = fault ≡ Memory
 -- the gates became those of the walk which is wanted, in which this wire stands before those that wait
 abbrev pub Wires : Draft → Result Wire ExprFault → Kept → List Wire → Result Walk ExprFault → Type 0
 Wires d (Ok wire) new wires wanted =
-    (gates : List Step) × (wanted ≡ Ok (record { gates = gates; wires = wire ∷ wires })) × (new ≡ kept (record d { gates = gates }))
+    (gates : List Step)
+    × (wanted ≡ Ok (record { gates = gates; wires = wire ∷ wires }))
+    × (new ≡ kept (record d { gates = gates }))
 Wires d (Err fault) new wires wanted = Fails fault wanted
 
 -- the gates and the wire of an expression
 abbrev pub Expresses : Draft → Result Wire ExprFault → Kept → Result Built ExprFault → Type 0
-Expresses d (Ok wire) new wanted = (b : Built) × (wanted ≡ Ok b) × (wire ≡ b.wire) × (new ≡ kept (record d { gates = b.gates }))
+Expresses d (Ok wire) new wanted =
+    (b : Built) × (wanted ≡ Ok b) × (wire ≡ b.wire) × (new ≡ kept (record d { gates = b.gates }))
 Expresses d (Err fault) new wanted = Fails fault wanted

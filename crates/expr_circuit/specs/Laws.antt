@@ -23,7 +23,8 @@ pub record IsProgram (bits : ℕ) (text : List ℕ) (p : List Statement) : Type 
 pub data IsFault (bits : ℕ) (text : List ℕ) (fault : ExprFault) : Type 0 where
   not_utf8 : fault ≡ NotUtf8 (utf8_valid_len text) → utf8_valid_len text < length text → IsFault bits text fault
   in_line : IsUtf8 text → IsFaultIn (2 ^ bits) none_known 1 (lines text) fault → IsFault bits text fault
-  too_large : fault ≡ TooLarge → IsUtf8 text → (p : List Statement) → AreLines (2 ^ bits) none_known 1 (lines text) p → is_large (circuit bits p) ≡ true → IsFault bits text fault
+  too_large : fault ≡ TooLarge → IsUtf8 text → (p : List Statement)
+      → AreLines (2 ^ bits) none_known 1 (lines text) p → is_large (circuit bits p) ≡ true → IsFault bits text fault
 
 -- the text of the circuit of a program
 abbrev pub compiled : ℕ → List Statement → List ℕ

@@ -162,7 +162,8 @@ impl Gates {
         wires: &mut Pending,
     ) -> Result<Wire, ExprFault>
         ensures { (d : Draft) → AreNames names.now d.of → self.old ≡ kept d → Wires d result self.new wires.new
-            (node_in (2 ^ line.now.ring) d.of line.now.number line.now.text.now node (record { gates = d.gates; wires = wires.old })) }
+            (node_in (2 ^ line.now.ring) d.of line.now.number line.now.text.now node
+            (record { gates = d.gates; wires = wires.old })) }
     {
         match node {
             Node::Name(at) => match names.wire(word_bytes(line.text, at)) {
@@ -195,7 +196,8 @@ impl Gates {
         wires: &mut Pending,
     ) -> Result<(), ExprFault>
         ensures { (d : Draft) → AreNames names.now d.of → self.old ≡ kept d → Moves d result self.new wires.new
-            (node_in (2 ^ line.now.ring) d.of line.now.number line.now.text.now node (record { gates = d.gates; wires = wires.old })) }
+            (node_in (2 ^ line.now.ring) d.of line.now.number line.now.text.now node
+            (record { gates = d.gates; wires = wires.old })) }
     {
         let wire = self.wire(names, line, node, wires)?;
         Ok(wires.push(wire)?)

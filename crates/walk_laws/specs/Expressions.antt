@@ -14,7 +14,8 @@ use Rattle.job_walk.specs.JobOf.{Contents, JobText}
 use Rattle.mpc_top.specs.WholeJobs.{WholeJob, JobAt}
 
 -- the file of a session is this program
-pub record IsProgramOf (files : Contents) (dir : List ℕ) (bits : ℕ) (form : SessionForm) (p : List Statement) : Type 0 where
+pub record IsProgramOf (files : Contents) (dir : List ℕ) (bits : ℕ) (form : SessionForm) (p : List Statement)
+    : Type 0 where
   pub text : List ℕ
   pub file : files (path_of dir form.circuit) ≡ Some text
   pub is : IsProgram bits text p
