@@ -29,8 +29,9 @@ TOKEN = re.compile(rb'[ \t\r]*(?:([A-Za-z][A-Za-z0-9_]*)|([0-9]+)|([^ \t\r]))')
 WORDS = (b'input', b'let', b'output')
 SIGNS = (b'=', b'+', b'-', b'*', b'(', b')')
 
-# The operation of each sign between two operands, and how strongly it binds. A minus before an operand is NEG.
-OPERATIONS = {b'+': ('ADD', 1), b'-': ('SUB', 1), b'*': ('MUL', 2)}
+# The operation of each sign between two operands. A minus before an operand is NEG.
+OPERATIONS = {b'+': 'ADD', b'-': 'SUB', b'*': 'MUL'}
+STRENGTHS = {'ADD': 1, 'SUB': 1, 'MUL': 2, 'NEG': 3}
 OPEN = '('
 
 
@@ -56,16 +57,16 @@ def tokens_of(line):
 
 
 class Line:
-    """A line with tokens: the first of them says what it is, and then come a name, an expression, or both. An expression is kept as its
-    names, numbers and operations, each after its operands. What isn't in the grammar is found at the first token that no line has there."""
+    """A line with tokens, read from left to right: the first of them says what it is, and then come a name, an expression, or both. The
+    names, numbers and operations of an expression go to 'use', each after its operands. What isn't in the grammar is found at the first
+    token that no line has there."""
 
-    def __init__(self, number, line):
-        self.number, self.tokens = number, tokens_of(line)
+    def __init__(self, number, line, use):
+        self.number, self.tokens, self.use = number, tokens_of(line), use
         self.kind = self.take(*WORDS)[0]
         self.name = self.take(b'name')[1] if self.kind != b'output' else None
         if self.kind == b'let':
             self.take(b'=')
-        self.nodes = []
         if self.kind == b'input':
             self.take(b'end')
         else:
@@ -88,20 +89,19 @@ class Line:
                 if sum(sign in ('NEG', OPEN) for sign in signs) > MOST_OPEN:
                     raise Fault('TooDeep', line=self.number, at=at)
             else:
-                self.nodes.append((kind.decode(), text, at))
+                self.use(kind.decode(), text, at)
                 if self.read_operator(signs) == b'end':
                     return
 
     def read_operator(self, signs):
         """Reads what follows an operand: parentheses that close, and then an operator or the end of the line."""
         while True:
-            self.close(signs, 3)
+            self.close(signs, STRENGTHS['NEG'])
             inside = OPEN in signs
             kind = self.take(*OPERATIONS, b')' if inside else b'end')[0]
             if kind in OPERATIONS:
-                operation, strength = OPERATIONS[kind]
-                self.close(signs, strength)
-                signs.append(operation)
+                self.close(signs, STRENGTHS[OPERATIONS[kind]])
+                signs.append(OPERATIONS[kind])
                 return kind
             self.close(signs, 0)
             if kind == b'end':
@@ -110,20 +110,21 @@ class Line:
 
     def close(self, signs, least):
         """Ends the operations that bind as strongly, back to a parenthesis."""
-        strengths = {'NEG': 3, **dict(OPERATIONS.values())}
-        while signs and signs[-1] != OPEN and strengths[signs[-1]] >= least:
-            self.nodes.append((signs.pop(), b'', 0))
+        while signs and signs[-1] != OPEN and STRENGTHS[signs[-1]] >= least:
+            self.use(signs.pop())
 
 
 class Program:
     """What the lines so far have made. Wire i is the input i, and wire ~g that of gate g, since the inputs aren't counted before the last
-    line. Past a limit gates and outputs are counted, and no longer kept."""
+    line. Past a limit gates and outputs are counted, and no longer kept. The first fault of a line's names and numbers waits for the end of
+    the line: a fault of the grammar comes first, wherever it stands."""
 
     def __init__(self, bits):
         self.bits = bits
         self.names = {}
         self.inputs = self.outputs = self.count = 0
         self.gates, self.output_wires = [], []
+        self.number, self.wires, self.fault = 0, [], None
 
     def gate(self, operation, *operands):
         if self.count <= MOST_GATES:
@@ -131,32 +132,37 @@ class Program:
         self.count += 1
         return -self.count
 
-    def wire(self, number, kind, text, at, wires):
-        """The wire of a node. Those of its operands are the last of the list, and are taken off."""
+    def refuse(self, name, at):
+        self.fault = self.fault or Fault(name, line=self.number, at=at)
+        return 0
+
+    def wire(self, kind, text, at):
+        """The wire of a name, a number or an operation. Those of its operands are the last ones, and are taken off."""
         if kind == 'name':
-            if text not in self.names:
-                raise Fault('UnknownName', line=number, at=at)
-            return self.names[text]
+            return self.names[text] if text in self.names else self.refuse('UnknownName', at)
         if kind == 'number':
             digits = text.lstrip(b'0') or b'0'
-            if len(digits) > 20 or int(digits) >= 2**self.bits:
-                raise Fault('BadConstant', line=number, at=at)
-            return self.gate('EQ', int(digits))
-        last = wires.pop()
-        return self.gate(kind, last) if kind == 'NEG' else self.gate(kind, wires.pop(), last)
+            fits = len(digits) <= 20 and int(digits) < 2**self.bits
+            return self.gate('EQ', int(digits)) if fits else self.refuse('BadConstant', at)
+        last = self.wires.pop()
+        return self.gate(kind, last) if kind == 'NEG' else self.gate(kind, self.wires.pop(), last)
 
-    def add(self, line):
+    def use(self, kind, text=b'', at=0):
+        self.wires.append(self.wire(kind, text, at))
+
+    def add(self, number, data):
         """Adds a line."""
-        wires = []
-        for node in line.nodes:
-            wires.append(self.wire(line.number, *node, wires))
+        self.number, self.wires = number, []
+        line = Line(number, data, self.use)
+        if self.fault:
+            raise self.fault
         if line.name in self.names:
-            raise Fault('TwiceNamed', line=line.number)
+            raise Fault('TwiceNamed', line=number)
         if line.kind == b'output':
-            self.output_wires += wires[:self.outputs <= MOST_VALUES]
+            self.output_wires += self.wires[:self.outputs <= MOST_VALUES]
             self.outputs += 1
         else:
-            self.names[line.name] = wires.pop() if wires else self.inputs
+            self.names[line.name] = self.wires.pop() if self.wires else self.inputs
             self.inputs += line.kind == b'input'
 
     def text(self):
@@ -181,7 +187,7 @@ def compiled(data, bits):
     for number, line in enumerate(io.BytesIO(data), 1):
         line = line.removesuffix(b'\n')
         if line.strip(b' \t\r'):
-            program.add(Line(number, line))
+            program.add(number, line)
     return program.text()
 
 
