@@ -10,7 +10,7 @@ use Rattle.maximal_groups.specs.Families.{maximal_structure, is_tolerated_by}
 use Rattle.q2_test.specs.CoveringPairs.{IsFirstCovering}
 use Rattle.circuit_model.specs.Netlists.{Netlist}
 use Rattle.circuit_file.specs.CircuitFiles.{circuit_in}
-use Rattle.expr_circuit.specs.Laws.{IsCircuitOf, IsFault}
+use Rattle.expr_circuit.specs.Laws.{IsCircuitOf, IsFault as IsProgramFault}
 use Rattle.expr_circuit.specs.declared.fault.ExprFault.{ExprFault}
 use Rattle.job_session.specs.Sessions.{Session}
 use Rattle.job_plan.specs.Plans.{Plan, plan_of}
@@ -120,7 +120,7 @@ unfoldable pub ExpressionsOf : (ExprFault → List ℕ) → ℕ → List ℕ →
 ExpressionsOf line bits text (accepted c) = IsCircuitOf bits text c
 ExpressionsOf line bits text (missing name) = ⊥
 ExpressionsOf line bits text (refused status told) =
-    (fault : ExprFault) × IsFault bits text fault × (status ≡ 3) × (told ≡ line fault)
+    (fault : ExprFault) × IsProgramFault bits text fault × (status ≡ 3) × (told ≡ line fault)
 
 -- the circuit that the file of session s tells
 unfoldable pub CircuitOf : SessionLayout → List ℕ → ℕ → ℕ → List ℕ → Verdict Netlist → Type 0
