@@ -54,11 +54,7 @@ pub fn too_long_line(alloc: Global, file: &str) -> Result<Vec<u8>, AllocError>
 }
 
 /// The keys of a session's file.
-pub(crate) fn push_file_keys(
-    line: &mut Vec<u8>,
-    file: &str,
-    session: u32,
-) -> Result<(), AllocError>
+pub(crate) fn push_file_keys(line: &mut Vec<u8>, file: &str, session: u32) -> Result<(), AllocError>
     ensures { OnOk result (line.new.items ≡ line.old.items ++ file_keys file.now session) }
 {
     push_text_key(line, "file", file.as_bytes())?;

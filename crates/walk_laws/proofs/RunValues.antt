@@ -1,5 +1,5 @@
 -- What a run writes for a session of expressions.
-use Rattle.std.proofs.Common.{◌≡◌, ℕ, zero, suc, ◌+◌, ◌-◌, ◌^◌, ◌<◌, ◌≤◌, false, if◌then◌else◌, List, [], ◌∷◌, ◌++◌, length, map, replicate, Option, None, Some, inl, inr, refl, sym, ap, ◌∙◌, subst, arith}
+use Rattle.std.proofs.Common.{◌≡◌, ℕ, zero, suc, ◌+◌, ◌-◌, ◌^◌, ◌<◌, ◌≤◌, Bool, true, false, cond, if◌then◌else◌, List, [], ◌∷◌, ◌++◌, length, map, replicate, Option, None, Some, inl, inr, refl, sym, ap, ◌∙◌, subst, arith}
 use Rattle.std.specs.Prelude.{slice_index, slice_index_or, slice_get, nat_lt, sum}
 use Rattle.std.specs.List.{range_with_len}
 use Rattle.std.proofs.lemmas.Bool.{cases_lt}
@@ -13,9 +13,10 @@ use Rattle.circuit_model.specs.Netlists as netlists
 use Rattle.circuit_model.specs.Netlists.{Netlist, input_wires, output_wires, before_gates}
 use Rattle.expr_circuit.specs.Programs.{Statement, program_value}
 use Rattle.expr_circuit.specs.Circuits.{circuit, netlist, draft_of}
-use Rattle.expr_circuit.specs.Laws.{IsProgram, output_words}
+use Rattle.expr_circuit.specs.Laws.{IsProgram, IsCircuitOf, output_words}
 use Rattle.expr_circuit.proofs.ValidPrograms.{program_has_its_value}
 use Rattle.plan_faults.specs.declared.part_fault.PartFault.{PartFault}
+use Rattle.refusal_text.specs.Lines.{too_long_line}
 use Rattle.job_session.specs.Sessions.{Session, no_session, owners, readers, gate, output_wire}
 use Rattle.job_session.specs.Parts.{session_of, part_fault, output_values}
 use Rattle.job_session.proofs.ValueWires.{owners_long, readers_long}
@@ -81,11 +82,12 @@ module _ (w : World) (s : ℕ) (c : Netlist) (given : List ℕ) (read : List Mem
   -- output value v is the v-th output wire
   words_are : (v : ℕ) → v < m → value_words w s v ≡ netlists.plain c (input_of w s) (c.wires - output_wires c + v) ∷ []
   words_are v l =
+      let none_more : v + 0 ≡ v = omega arith in
       ap (λ (x : Session). listed (output_value x v).width (λ i. plain w s (output_wire x (wires_before x v + i)))) is
       ∙ ap (λ k. listed k (λ i. plain w s (output_wire made (wires_before made v + i)))) (ap (λ os. (slice_index_or os v no_output).width) outputs_are ∙ one_wide m read v many l)
       ∙ ap (λ k. plain w s (c.wires - length (readers made) + (k + 0)) ∷ []) (ap (λ os. total v (λ u. (slice_index_or os u no_output).width)) outputs_are ∙ ones_before m read v many (omega (arith, l)))
       ∙ ap (λ n. plain w s (c.wires - n + (v + 0)) ∷ []) (readers_long c.outputs read many_outputs)
-      ∙ ap (λ k. plain w s (c.wires - output_wires c + k) ∷ []) (the (v + 0 ≡ v) (omega arith))
+      ∙ ap (λ k. plain w s (c.wires - output_wires c + k) ∷ []) none_more
       ∙ ap (λ x. x ∷ []) (plain_is (c.wires - output_wires c + v))
 
   count_is : length (session w.plan s).outputs ≡ m
@@ -106,13 +108,15 @@ module _ (w : World) (s : ℕ) (c : Netlist) (given : List ℕ) (read : List Mem
 
 -- ---- the session of a file
 
-file_is : (found : Option (List ℕ)) (name bytes : List ℕ) → accepted bytes ≡ bytes_of found name → found ≡ Some bytes
+some_bytes : (fits : Bool) (line bytes found : List ℕ) → cond fits (accepted found) (refused 3 line) ≡ accepted bytes → found ≡ bytes
+some_bytes true line bytes found e = cc
+some_bytes false line bytes found e = absurd (cc)
+
+-- bytes that were read stand there
+bytes_there : (found : Option (List ℕ)) (name bytes : List ℕ) → bytes_of found name ≡ accepted bytes → found ≡ Some bytes
 unfolding bytes_of
-file_is None name bytes e = cc
-file_is (Some found) name bytes e = some_is (nat_le (length found) 16777216) e where
-  some_is : (b : Bool) → accepted bytes ≡ (if b then accepted found else refused 3 (too_long_line name)) → Some found ≡ Some bytes
-  some_is true e = ap Some (sym (accepted_is bytes found e))
-  some_is false e = cc
+bytes_there None name bytes e = absurd (let no : missing name ≡ accepted bytes = e in cc)
+bytes_there (Some found) name bytes e = let same : found ≡ bytes = some_bytes _ (too_long_line name) bytes found e in cc
 
 module _ (files : Contents) (dir : List ℕ) (job : JobForm) where
   -- the sessions that were read stay
@@ -139,6 +143,13 @@ module _ (files : Contents) (dir : List ℕ) (job : JobForm) where
       let next : length (before ++ x ∷ []) + i ≡ length before + suc i = omega (arith, length-append before (x ∷ [])) in
       subst (λ n. SessionAt files dir job n form (accepted (slice_index_or sessions n no_session))) next (session_is (before ++ x ∷ []) forms sessions rest i form there)
 
+  -- each session of a job
+  session_at : (sessions : List Session) → SessionsAfter files dir job [] job.sessions (accepted sessions) → (s : ℕ) (form : SessionForm) → slice_get job.sessions s ≡ Some form
+      → SessionAt files dir job s form (accepted (slice_index_or sessions s no_session))
+  session_at sessions read s form there =
+      let from_none : length {A = Session} [] + s ≡ s = omega arith in
+      subst (λ n. SessionAt files dir job n form (accepted (slice_index_or sessions n no_session))) from_none (session_is [] job.sessions sessions read s form there)
+
 -- what the session of a form of expressions is
 record IsOfProgram (files : Contents) (dir : List ℕ) (job : JobForm) (form : SessionForm) (x : Session) : Type 0 where
   program : List Statement
@@ -151,13 +162,13 @@ of_program : (files : Contents) (dir : List ℕ) (job : JobForm) (s : ℕ) (form
     → SessionAt files dir job s form (accepted x) → IsOfProgram files dir job form x
 unfolding SessionAt CircuitOf ExpressionsOf Then file_at
 of_program files dir job s form x layout is expressions (bytes, there, (c, told, e)) =
-    let read = subst (λ l. CircuitOf l form.circuit s job.bits bytes (accepted c)) (is ∙ expressions) told in
+    let read : IsCircuitOf job.bits bytes c = subst (λ (l : SessionLayout). CircuitOf l form.circuit s job.bits bytes (accepted c)) (is ∙ expressions) told in
     let groups : List Members = groups_in (length job.names) form.readers in
     let found = was_none (part_fault c form.owners groups) _ x (session_of c form.owners groups) e in
     let counts = counts_agree (length c.inputs) (length form.owners) (length c.outputs) (length groups) found.0 in
     record {
       program = read.program;
-      of = record { text = bytes; file = file_is (files (file_names.path_of dir form.circuit)) form.circuit bytes there; is = read.is };
+      of = record { text = bytes; file = bytes_there (files (file_names.path_of dir form.circuit)) form.circuit bytes (sym there); is = read.is };
       owned = counts.0 ∙ ap (λ (c : Netlist). length c.inputs) read.made;
       read = counts.1 ∙ ap (λ (c : Netlist). length c.outputs) read.made;
       made = found.1 ∙ ap (λ (c : Netlist). session_of c form.owners groups) read.made;
@@ -178,13 +189,12 @@ session_writes : (files : Contents) (dir : List ℕ) (job : JobForm) (form : Ses
 session_writes files dir job form w s x some few bits at o =
     let p = o.program in
     let outputs = length (draft_of p).outputs in
-    let groups : List Members = groups_in (length job.names) form.readers in
-    (
+    let groups : List Members = groups_in (length job.names) form.readers in (
       p,
       o.of,
       writes w s (circuit job.bits p) form.owners groups outputs (at ∙ o.made) (bits ∙ sym (of_bits job.bits p)) o.owned
-      (o.read ∙ ap length (output_count job.bits p) ∙ length-replicate {A = ℕ} outputs 1) (output_count job.bits p)
-      (program_value (2 ^ job.bits) p (input_of w s)) (program_has_its_value job.bits o.of.text p some few (input_of w s) o.of.is),
+          (o.read ∙ ap length (output_count job.bits p) ∙ length-replicate {A = ℕ} outputs 1) (output_count job.bits p)
+          (program_value (2 ^ job.bits) p (input_of w s)) (program_has_its_value job.bits o.of.text p some few (input_of w s) o.of.is),
     )
 
 pub runs_write_values : RunsWriteValues
@@ -194,6 +204,6 @@ runs_write_values files dir asked job whole text (planned, (job', text', (group,
     let good : IsGoodForm job = good_job text.0 job (was_ok _ (job_in false text.0) job text.2) in
     let world : whole.world.plan ≡ plan_of job.bits structure sessions =
     ap (λ (whole : WholeJob). whole.world.plan) (accepted_is whole (whole_job planned forms) is) ∙ ap (λ (p : Planned). p.plan) (accepted_is planned _ e) ∙ same ∙ ap (λ (j : JobForm). plan_of j.bits structure sessions) one in
-    let at = session_is files dir job [] job.sessions sessions (subst (λ (j : JobForm). SessionsAfter files dir j [] j.sessions (accepted sessions)) one read) s form there in
+    let at = session_at files dir job sessions (subst (λ (j : JobForm). SessionsAfter files dir j [] j.sessions (accepted sessions)) one read) s form there in
     session_writes files dir job form whole.world s (slice_index_or sessions s no_session) good.some_bits good.few_bits (ap (λ (p : Plan). p.bits) world) (ap (λ (p : Plan). session p s) world)
     (of_program files dir job s form (slice_index_or sessions s no_session) form.layout refl layout at)
