@@ -1,21 +1,19 @@
 -- What a run writes for a session of expressions.
-use Rattle.std.proofs.Common.{◌≡◌, ℕ, zero, suc, ◌+◌, ◌-◌, ◌^◌, ◌<◌, ◌≤◌, Bool, true, false, cond, if◌then◌else◌, List, [], ◌∷◌, ◌++◌, length, map, replicate, Option, None, Some, inl, inr, refl, sym, ap, ◌∙◌, subst, arith}
+use Rattle.std.proofs.Common.{◌≡◌, ℕ, zero, suc, ◌+◌, ◌-◌, ◌^◌, ◌<◌, ◌≤◌, Bool, true, false, cond, if◌then◌else◌, List, [], ◌∷◌, ◌++◌, length, map, replicate, Option, None, Some, refl, sym, ap, ◌∙◌, subst, arith}
 use Rattle.std.specs.Prelude.{slice_index, slice_index_or, slice_get, nat_lt, sum}
 use Rattle.std.specs.List.{range_with_len}
-use Rattle.std.proofs.lemmas.Bool.{cases_lt}
 use Rattle.std.proofs.lemmas.List.{get_or_append_left, get_or_push, length-append, length-replicate}
 use Rattle.std.proofs.lemmas.List.Folds.{sum_by-replicate}
 use Rattle.std.proofs.lemmas.List.FromFn.{get_or-map-range_with_len, length-map-range_with_len}
 use Rattle.list_laws.specs.Lists.{total, listed}
-use Rattle.party_set.specs.Parties.{Structure, Members}
+use Rattle.party_set.specs.Parties.{Members}
 use Rattle.circuit_model.specs.Circuits.{values}
 use Rattle.circuit_model.specs.Netlists as netlists
-use Rattle.circuit_model.specs.Netlists.{Netlist, input_wires, output_wires, before_gates}
+use Rattle.circuit_model.specs.Netlists.{Netlist, input_wires, output_wires}
 use Rattle.expr_circuit.specs.Programs.{Statement, program_value}
 use Rattle.expr_circuit.specs.Circuits.{circuit, netlist, draft_of}
 use Rattle.expr_circuit.specs.Laws.{IsProgram, IsCircuitOf, output_words}
 use Rattle.expr_circuit.proofs.ValidPrograms.{program_has_its_value}
-use Rattle.plan_faults.specs.declared.part_fault.PartFault.{PartFault}
 use Rattle.refusal_text.specs.Lines.{too_long_line}
 use Rattle.job_session.specs.Sessions.{Session, no_session, owners, readers, gate, output_wire}
 use Rattle.job_session.specs.Parts.{session_of, part_fault, output_values}
@@ -29,8 +27,8 @@ use Rattle.job_file.specs.Faults.{job_in}
 use Rattle.job_file.specs.declared.layout.SessionLayout.{SessionLayout}
 use Rattle.job_file.specs.declared.layout.SessionLayout.TheVariants.{Expressions}
 use Rattle.job_walk.specs.Names as file_names
-use Rattle.job_walk.specs.Verdict.{Verdict, accepted, missing, refused, Ends, Then}
-use Rattle.job_walk.specs.JobOf.{Contents, bytes_of, file_at, groups_in, CircuitOf, ExpressionsOf, SessionAt, SessionsAfter, PlanOf, Planned, PlannedOf, JobText, PlanAt, PartiesAfter}
+use Rattle.job_walk.specs.Verdict.{accepted, missing, refused, Then}
+use Rattle.job_walk.specs.JobOf.{Contents, bytes_of, file_at, groups_in, CircuitOf, ExpressionsOf, SessionAt, SessionsAfter, PlanOf, Planned, PlannedOf, JobText, PlanAt}
 use Rattle.mpc_top.specs.WholeJobs.{WholeJob, whole_job, JobAt}
 use Rattle.walk_laws.specs.Expressions.{IsProgramOf, WritesValues, RunsWriteValues}
 use Rattle.walk_laws.proofs.Jobs.{text_once}
