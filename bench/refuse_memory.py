@@ -23,6 +23,7 @@ import tempfile
 HERE = os.path.dirname(os.path.abspath(__file__))
 EXAMPLES = os.path.join(HERE, '..', 'examples')
 JOB = os.path.join(EXAMPLES, 'multiply')
+AUDIT = os.path.join(EXAMPLES, 'audit')
 COMMANDS = [
     ['check', JOB],
     ['run', JOB],
@@ -35,6 +36,7 @@ COMMANDS = [
     ['sample', '1'],
     ['sample', '5'],
     ['sample', '1000'],
+    ['audit', AUDIT],
 ]
 
 # What the allocator counted, as refuse_memory.c says.

@@ -3,7 +3,7 @@
 
 Each of COUNT tries takes the files of an example, changes one to three things in one of them (lines and fields cut, doubled, exchanged
 or joined, bytes flipped, numbers at each limit and past it, other encodings, very long and very deep values), and runs 'check' or
-'run' over them, with workers or a view or without, or 'pair' for one party where the example has other inputs. Whatever the files say, the
+'run' over them, with workers or a view or without, or 'pair' for one party where the example has other inputs, or 'audit' where it has a view. Whatever the files say, the
 program has to end within 2 seconds of processor time and 10 of the clock, and within 300 MB, with a status of its table: 0 with a text on
 standard output and nothing on standard error, or 2 to 5 with nothing on standard output and one line of printable characters on standard
 error. Try N is the same each time; FIRST is the number of the first, and 0 where it isn't given. Prints how often each status came and the
@@ -163,6 +163,8 @@ def some_command(files, chance):
     commands = [['check'], ['run'], ['run', '--view', party], ['run', '--workers', '3']]
     if 'other.toml' in files:
         commands += [['pair', '--group', party], ['pair', '--group', party]]
+    if 'view.txt' in files:
+        commands += [['audit'], ['audit'], ['audit']]
     return chance.choice(commands)
 
 

@@ -9,7 +9,8 @@ USAGE = ('refused words\n'
          '       mpc run DIR [--workers W] [--view GROUP]\n'
          '       mpc pair DIR --group GROUP\n'
          '       mpc node DIR NAME\n'
-         '       mpc sample N\n')
+         '       mpc sample N\n'
+         '       mpc audit DIR\n')
 
 # The lines that let the parties of the product be nodes.
 PLACES = [Edit('job.toml', '[[session]]\n', 'hosts = ["first.example", "second.example", "third.example"]\nport = 4000\n[[session]]\n')]
@@ -25,7 +26,6 @@ REFUSED = [
     ['Run', 'd'],
     ['d'],
     ['walk', 'd'],
-    ['audit', 'd'],
     ['--help', 'd'],
     ['run', 'd', 'd'],
     ['run', 'd', '--workers'],
@@ -50,8 +50,17 @@ REFUSED = [
     ['node', 'd'],
     ['node', 'd', '-a'],
     ['node', 'd', 'a', 'b'],
+    ['node', 'd', 'a', '--view', 'a'],
+    ['node', 'd', '--view', 'a'],
+    ['node', 'd', '--view'],
     ['sample'],
     ['sample', '5', 'd'],
+    ['audit'],
+    ['audit', ''],
+    ['audit', '-d'],
+    ['audit', 'd', 'view.txt'],
+    ['audit', 'd', '--view', 'a'],
+    ['Audit', 'd'],
     *(['sample', count] for count in OTHER_COUNTS_OF_GATES),
 ]
 
@@ -62,4 +71,5 @@ OTHER_WORDS = [
     *(Row(f'{count}_workers', ['run', 'd', '--workers', count], out='out 0 0 c 35\n') for count in ['1', '16', '05', 30 * '0' + '2']),
     Row('workers_and_a_view_of_none', ['run', 'd', '--workers', '3', '--view', '0'], out='out 0 0 c 35\nview 0\n'),
     Row('a_node_of_nobody', ['node', 'd', 'anna'], PLACES, status=3, err='refused name 1 UnknownParty\n'),
+    Row('the_view_of_a_node_of_nobody', ['node', 'd', 'anna', '--view'], PLACES, status=3, err='refused name 1 UnknownParty\n'),
 ]

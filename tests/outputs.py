@@ -13,8 +13,9 @@ import subprocess
 import sys
 import tempfile
 
+from audits import AUDIT, OF_C
 from pairs import NINE_OF_B
-from product import CHECK, Edit, RUN, SEED, TAPE_A, TAPE_B, TAPE_C, Without, product_with
+from product import CHECK, Edit, RUN, SEED, TAPE_A, TAPE_B, TAPE_C, Whole, Without, product_with
 from made_rows import products
 
 MOST_SECONDS = 60
@@ -71,23 +72,27 @@ class Calls:
             return status, err.read()
 
 
+# Other inputs, and the view of c.
+BESIDE = [*NINE_OF_B, Whole('view.txt', OF_C)]
+
 # Commands, and the files that each reads, in order.
 FILES_READ = [
     (RUN, ['job.toml', 'mul.txt', 'party_a.toml', 'party_b.toml', 'party_c.toml']),
     (CHECK, ['job.toml', 'mul.txt']),
     (['pair', 'd', '--group', 'a'], ['job.toml', 'mul.txt', 'party_a.toml', 'party_b.toml', 'party_c.toml', 'other.toml']),
     (['node', 'd', 'c'], ['job.toml']),
+    (AUDIT, ['job.toml', 'mul.txt', 'party_a.toml', 'party_b.toml', 'party_c.toml', 'view.txt']),
     (['sample', '5'], []),
 ]
 
 
 def each_read_that_fails_is_told(program, top):
     """A folder stands in the place of a file. Where it stands in the place of one that a command doesn't read, the command is done."""
-    every = ['job.toml', 'mul.txt', 'party_a.toml', 'party_b.toml', 'party_c.toml', 'other.toml']
+    every = ['job.toml', 'mul.txt', 'party_a.toml', 'party_b.toml', 'party_c.toml', 'other.toml', 'view.txt']
     for words, names in FILES_READ:
         others = [name for name in every if name not in names]
         for name in names:
-            calls = Calls(program, top, NINE_OF_B)
+            calls = Calls(program, top, BESIDE)
             for unread in {name, *others, *names[names.index(name):]}:
                 os.remove(calls.path(f'd/{unread}'))
                 os.mkdir(calls.path(f'd/{unread}'))
@@ -95,7 +100,7 @@ def each_read_that_fails_is_told(program, top):
             expect(found == (5, b'', f'fault files file={name}\n'.encode()), f'{words} without {name}: {found}')
         if words[0] == 'node':
             continue
-        calls = Calls(program, top, NINE_OF_B)
+        calls = Calls(program, top, BESIDE)
         for unread in others:
             os.remove(calls.path(f'd/{unread}'))
             os.mkdir(calls.path(f'd/{unread}'))

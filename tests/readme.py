@@ -55,6 +55,7 @@ ROWS = {
     './mpc check my-job': example('tariff/expected_check'),
     './mpc run my-job': example('tariff/expected'),
     './mpc pair my-job --group grid': 'first\n(.*\n)*second\n(.*\n)*tape mill .*\ntape grid .*\ntape notary .*\n',
+    './mpc audit examples/audit': 'yes [1-9][0-9]*\n',
     'examples/circuits.py job my-mean total 32 ann bob cleo dan': '(.*\n)*',
     WRITTEN.format('my-mean'): '(.*\n)*',
     './mpc run my-mean | examples/numbers.py read my-mean --divide 4': '(.* 2108[.]75\n){4}',

@@ -14,6 +14,7 @@ import sys
 import tempfile
 
 from accepted_runs import ACCEPTED, PRODUCTS_OF_TWO_SESSIONS
+from audits import AUDITS, FAULTY_VIEWS
 from circuit_faults import CIRCUIT_FAULTS
 from circuit_files import CIRCUIT_FILES
 from expressions import EXPRESSIONS, FAULTY_EXPRESSIONS
@@ -48,6 +49,8 @@ GROUPS = {
     'parties': [*PARTY_FAULTS, *REFUSED_FILES, *ACCEPTED_FILES],
     'views': VIEWS,
     'other groups': OTHER_GROUPS,
+    'audits': AUDITS,
+    'faulty views': FAULTY_VIEWS,
     'samples': [*SAMPLES, *MADE_SAMPLES],
     'pairs': PAIRS,
     'other inputs': OTHER_FAULTS,

@@ -2,12 +2,12 @@
 """Runs each party of a job by a node of its own, over TCP.
 
     examples/network/nodes.py split JOB FOLDER [--hosts HOST,HOST,.. --port PORT]
-    examples/network/nodes.py run JOB [PROGRAM]
+    examples/network/nodes.py run JOB [PROGRAM] [--view]
 
 'split' writes a folder for each party, FOLDER/NAME, with the job's file, its circuits and that party's own file alone. With hosts, one
 for each party in order, and a port it adds these to a job that has none. 'run' splits the job into temporary folders, in which this
 machine is each host and the ports are free ones, starts all nodes here, and prints what each of them writes, in the order of the
-parties. It tells which nodes it waits for; once one fails it stops the others, and ends with status 1. The program is ./mpc of this
+parties, with its own view where that is asked for. It tells which nodes it waits for; once one fails it stops the others, and ends with status 1. The program is ./mpc of this
 repository, or the one that is named.
 """
 
@@ -80,10 +80,10 @@ def free_port(count):
 class Node:
     """A node that runs, and the files of what it writes."""
 
-    def __init__(self, program, target, name):
+    def __init__(self, program, target, name, options):
         self.name, self.files = name, [os.path.join(target, f'{name}.{stream}') for stream in ('out', 'err')]
         with open(self.files[0], 'wb') as out, open(self.files[1], 'wb') as err:
-            self.process = subprocess.Popen([program, 'node', os.path.join(target, name), name], stdin=subprocess.DEVNULL,
+            self.process = subprocess.Popen([program, 'node', os.path.join(target, name), name, *options], stdin=subprocess.DEVNULL,
                                             stdout=out, stderr=err)
 
     def runs(self):
@@ -125,8 +125,8 @@ def wait_for(nodes):
         time.sleep(LOOK)
 
 
-def run(folder, program):
-    """Starts a node for each party, and prints what they write."""
+def run(folder, program, options):
+    """Starts a node for each party, with these options, and prints what they write."""
     signal.signal(signal.SIGTERM, lambda *_: sys.exit('nodes.py: terminated'))
     # One call first, so that the program is built, and the job refused, once and not by each node.
     checked = subprocess.run([program, 'check', folder], stdin=subprocess.DEVNULL, stdout=subprocess.DEVNULL)
@@ -137,7 +137,7 @@ def run(folder, program):
         split(folder, target, [HERE] * len(parties), free_port(len(parties)), replace=True)
         nodes = []
         for name in parties:
-            nodes.append(Node(program, target, name))
+            nodes.append(Node(program, target, name, options))
             stack.callback(nodes[-1].stop)
         wait_for(nodes)
         for node in nodes:
@@ -146,8 +146,10 @@ def run(folder, program):
 
 
 def main(words):
-    if len(words) in (2, 3) and words[0] == 'run':
-        return run(words[1], words[2] if len(words) == 3 else str(TOP / 'mpc'))
+    options = words[-1:] if words[:1] == ['run'] and words[-1] == '--view' else []
+    job = words[1:len(words) - len(options)]
+    if len(job) in (1, 2) and words[0] == 'run':
+        return run(job[0], job[1] if len(job) == 2 else str(TOP / 'mpc'), options)
     if len(words) == 3 and words[0] == 'split':
         split(words[1], words[2])
         return 0

@@ -1,32 +1,35 @@
 -- What a command line asks for.
-use Rattle.std.specs.Prelude.{ℕ, ◌<◌, ◌≤◌, ◌==◌, ◌&&◌, nat_le, Bool, false, not, if◌then◌else◌, List, [], ◌∷◌, Option, Some, None, option_and_then, option_map, codes}
+use Rattle.std.specs.Prelude.{ℕ, ◌<◌, ◌≤◌, ◌==◌, ◌&&◌, nat_le, Bool, true, false, not, if◌then◌else◌, List, [], ◌∷◌, Option, Some, None, option_and_then, option_map, codes}
 use Rattle.std.specs.Str.{bytes_eq}
 use Rattle.text_tokens.specs.Numbers.{number_written}
 use Rattle.command_words.specs.declared.command.Command.{Command}
-use Rattle.command_words.specs.declared.command.Command.TheVariants.{Run, Check, Pair, Node, Sample}
+use Rattle.command_words.specs.declared.command.Command.TheVariants.{Run, Check, Pair, Node, Sample, Audit}
 
--- a command, with the bytes of its words; a run may ask for the view of a group
+-- a command, with the bytes of its words; a run may ask for the view of a group, and a node for its own
 pub data CommandForm : Type 0 where
   run : (dir : List ℕ) → (workers : ℕ) → (view : Option (List ℕ)) → CommandForm
   check : (dir : List ℕ) → CommandForm
   pair : (dir : List ℕ) → (group : List ℕ) → CommandForm
-  node : (dir : List ℕ) → (name : List ℕ) → CommandForm
+  node : (dir : List ℕ) → (name : List ℕ) → (view : Bool) → CommandForm
   sample : (count : ℕ) → CommandForm
+  audit : (dir : List ℕ) → CommandForm
 
 abbrev pub form_of : Command → CommandForm
 form_of (Run dir workers view) = run dir.now workers (option_map (λ group. group.now) view)
 form_of (Check dir) = check dir.now
 form_of (Pair dir group) = pair dir.now group.now
-form_of (Node dir name) = node dir.now name.now
+form_of (Node dir name view) = node dir.now name.now view
 form_of (Sample count) = sample count
+form_of (Audit dir) = audit dir.now
 
 -- a run has 1 to 16 workers, and a sample 1 to 65,536 gates
 abbrev pub IsInRange : Command → Type 0
 IsInRange (Run dir workers view) = (0 < workers) × (workers ≤ 16)
 IsInRange (Check dir) = Unit
 IsInRange (Pair dir group) = Unit
-IsInRange (Node dir name) = Unit
+IsInRange (Node dir name view) = Unit
 IsInRange (Sample count) = (0 < count) × (count ≤ 65536)
+IsInRange (Audit dir) = Unit
 
 -- a word that can be a folder, a group or a party: not empty, and not beginning with `-`
 abbrev pub is_plain : List ℕ → Bool
@@ -89,9 +92,14 @@ pair_asked dir options = None
 
 -- ---- a node
 
--- a node of a folder, after which the name of its party stands
+-- a node of this party, and whether its own view is asked for
+abbrev pub named_node : List ℕ → List ℕ → Bool → Option CommandForm
+named_node dir name view = if is_plain name then Some (node dir name view) else None
+
+-- a node of a folder, after which the name of its party stands, and the option of its view, if at all
 abbrev pub node_asked : List ℕ → List (List ℕ) → Option CommandForm
-node_asked dir (name ∷ []) = if is_plain name then Some (node dir name) else None
+node_asked dir (name ∷ []) = named_node dir name false
+node_asked dir (name ∷ option ∷ []) = if is_view option then named_node dir name true else None
 node_asked dir options = None
 
 -- ---- a sample
@@ -100,6 +108,13 @@ node_asked dir options = None
 abbrev pub sample_asked : List ℕ → List (List ℕ) → Option CommandForm
 sample_asked word [] = option_map (λ count. sample count) (count_up_to 65536 word)
 sample_asked word options = None
+
+-- ---- an audit
+
+-- an audit of a folder, after which no word stands
+abbrev pub audit_asked : List ℕ → List (List ℕ) → Option CommandForm
+audit_asked dir [] = Some (audit dir)
+audit_asked dir options = None
 
 -- ---- a command
 
@@ -111,6 +126,7 @@ asked verb dir options =
     else if bytes_eq verb (codes "pair") then pair_asked dir options
     else if bytes_eq verb (codes "node") then node_asked dir options
     else if bytes_eq verb (codes "sample") then sample_asked dir options
+    else if bytes_eq verb (codes "audit") then audit_asked dir options
     else None
 
 -- the command of some words, of which the first is the program's name; none where they are none of the forms

@@ -8,6 +8,10 @@ job_file = codes "job.toml"
 abbrev pub other_file : List ℕ
 other_file = codes "other.toml"
 
+-- the file of a written view
+abbrev pub view_file : List ℕ
+view_file = codes "view.txt"
+
 -- the file of a party
 unfoldable pub party_file : List ℕ → List ℕ
 party_file name = codes "party_" ++ (name ++ codes ".toml")

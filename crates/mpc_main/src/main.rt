@@ -1,7 +1,7 @@
 //! The program `mpc`: the top call over the real files, streams, sockets and threads.
 #![tactic(auto)]
 
-use mpc_top::command;
+use mpc_top::{command, command_alone};
 use outer_io::{NoPace, StdFiles, StdSink};
 use socket_link::{TcpNet, ThreadSpawner};
 use std::alloc::{AllocError, Global};
@@ -36,6 +36,18 @@ fn main(rt: HostRuntime) -> ExitCode {
     let mut files = StdFiles::new(&rt);
     let mut out = StdSink::new(rt.stdout());
     let mut err = StdSink::new(rt.stderr());
+    let alone = command_alone(
+        &rt,
+        rt.alloc(),
+        &words,
+        &mut files,
+        &mut out,
+        &mut err,
+        &NoPace,
+    );
+    if let Some(status) = alone {
+        return ExitCode::from(status);
+    }
     let mut net = TcpNet::new(&rt);
     let mut spawner = ThreadSpawner::new(&rt, rt.alloc());
     let status = command(

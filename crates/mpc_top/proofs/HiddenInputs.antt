@@ -10,7 +10,8 @@ use Rattle.share_world.specs.Worlds.{World}
 use Rattle.share_world.specs.Laws.{IsWhole}
 use Rattle.tape_map.proofs.SeenWords.{same_view}
 use Rattle.output_text.specs.OutText.{out_text}
-use Rattle.output_text.specs.ViewText.{view_text, run_text}
+use Rattle.view_text.specs.ViewText.{view_text}
+use Rattle.output_text.specs.RunText.{run_text}
 use Rattle.job_walk.specs.declared.plan.Planned as code
 use Rattle.job_walk.specs.Verdict.{accepted}
 use Rattle.mpc_top.specs.WholeJobs.{WholeJob, JobAt}

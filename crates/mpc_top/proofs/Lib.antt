@@ -1,5 +1,7 @@
+mod AloneCalls
 mod HiddenInputs
 mod Jobs
+mod Audits
 mod LinkTalks
 mod NodeRuns
 mod Pairs

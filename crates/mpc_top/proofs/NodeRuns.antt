@@ -1,5 +1,5 @@
 -- A node that was read, and what its talk comes to.
-use Rattle.std.proofs.Common.{◌≡◌, ℕ, ◌-◌, List, Result, Ok, Err, Some, refl, sym, ap, subst, ◌∙◌}
+use Rattle.std.proofs.Common.{◌≡◌, ℕ, ◌-◌, Bool, List, Result, Ok, Err, Some, refl, sym, ap, subst, ◌∙◌}
 use Rattle.std.specs.Prelude.{IsErrOf, IsTrue}
 use Rattle.std.proofs.lemmas.Bool.{false≢true}
 use Rattle.outer_io.specs.Files.{FilesReading}
@@ -25,23 +25,26 @@ use Rattle.node_talk.specs.Runs.{Results}
 use Rattle.node_run.specs.NodeRuns as node_runs
 use Rattle.std.specs.Global.{Vec}
 use Rattle.node_run.specs.Ready.{Share, given_words, IsNodeOf}
-use Rattle.mpc_top.specs.NodeTalks.{share_of, lines_of, Talks, HearsAllQuietly}
+use Rattle.mpc_top.specs.NodeTalks.{NodeAsked, share_of, lines_of, Talks, HearsAllQuietly}
 use Rattle.mpc_top.specs.LinkTalks.{Written, TalkedOver}
 use Rattle.mpc_top.specs.Stops.{Runs}
 use Rattle.mpc_top.proofs.Runs.{spawner_kept}
 
-abbrev pub as_talk : NodeJob → Due
-as_talk job = talk (node_view job)
+abbrev pub asked_of : NodeJob → Bool → NodeAsked
+asked_of job view = record { job = node_view job; view = view }
 
-module _ (dir name : List ℕ) (before after : FilesReading) where
+abbrev pub as_talk : Bool → NodeJob → Due
+as_talk view job = talk (asked_of job view)
+
+module _ (dir name : List ℕ) (view : Bool) (before after : FilesReading) where
   -- the node could not be read
-  pub node_stops : (stop : Stop) → ReadsAs {C = NodeJob} node_view (λ m. NodeAt m dir name) before after (Err stop) → ReadsAs as_talk (DueOf (node dir name)) before after (Err stop)
+  pub node_stops : (stop : Stop) → ReadsAs {C = NodeJob} node_view (λ m. NodeAt m dir name) before after (Err stop) → ReadsAs (as_talk view) (DueOf (node dir name view)) before after (Err stop)
   unfolding DueOf
-  node_stops stop r = reads_stop _ _ node_view as_talk before after stop r
+  node_stops stop r = reads_stop _ _ node_view (as_talk view) before after stop r
 
-  pub node_read : (job : NodeJob) → ReadsAs node_view (λ m. NodeAt m dir name) before after (Ok job) → ReadsAs as_talk (DueOf (node dir name)) before after (Ok job)
+  pub node_read : (job : NodeJob) → ReadsAs node_view (λ m. NodeAt m dir name) before after (Ok job) → ReadsAs (as_talk view) (DueOf (node dir name view)) before after (Ok job)
   unfolding DueOf
-  node_read job r = reads_then _ _ node_view as_talk before after after job (Ok job) r (reads_end as_talk after job)
+  node_read job r = reads_then _ _ node_view (as_talk view) before after after job (Ok job) r (reads_end (as_talk view) after job)
 
 -- where no count rose and all is heard, no talk ends with a fault
 pub quiet_talk : (job : NodeForm) (before after : Outside) (fault : NodeFault) → Talks job before after (Err fault) → HearsAllQuietly job before after → ⊥
@@ -55,26 +58,26 @@ memory_is_no_fault result fault is memory failed = cc
 
 -- ---- the talk of a node that was read
 
-module _ (dir name : List ℕ) (files files' : FilesReading) (job : NodeJob) (read : ReadsAs node_view (λ m. NodeAt m dir name) files files' (Ok job)) (err err' : SinkReading) (parties : ℕ) (same : parties ≡ job.plan.parties) where
+module _ (dir name : List ℕ) (view : Bool) (files files' : FilesReading) (job : NodeJob) (read : ReadsAs node_view (λ m. NodeAt m dir name) files files' (Ok job)) (err err' : SinkReading) (parties : ℕ) (same : parties ≡ job.plan.parties) where
   abbrev form : NodeForm
   form = node_view job
 
   abbrev asked : Meeting
   asked = record { hosts = job.hosts; port = job.port; me = job.me; parties = parties }
 
-  abbrev finds : ReadsAs as_talk (DueOf (node dir name)) files files' (Ok job)
-  finds = node_read dir name files files' job read
+  abbrev finds : ReadsAs (as_talk view) (DueOf (node dir name view)) files files' (Ok job)
+  finds = node_read dir name view files files' job read
 
   module _ {Given : Type 0} (shown : Given → LinksReading) (out : SinkReading) (net net' : NetReading) (spawner : SpawnerReading) where
     -- the net failed
     pub meets_nobody : (result : Result Given NetRefusal) → IsErrOf result refusal.Failed → Connects shown asked net net' result
-        → Runs (Some (node dir name)) (record { files = files; out = out; err = err; net = net; spawner = spawner })
+        → Runs (Some (node dir name view)) (record { files = files; out = out; err = err; net = net; spawner = spawner })
         (record { files = files'; out = out; err = err'; net = net'; spawner = spawner }) (Err Net)
     meets_nobody result failed c = record {
       ok = tt;
       hides = tt;
       stop = (
-        form,
+        asked_of job view,
         (finds.ok, (dir, name, refl), finds.quiet),
         record {
           rose = c.failed failed;
@@ -91,7 +94,7 @@ module _ (dir name : List ℕ) (files files' : FilesReading) (job : NodeJob) (re
 
     -- there was no memory for the links
     pub meets_no_memory : (result : Result Given NetRefusal) → ¬ IsErrOf result refusal.Failed → Connects shown asked net net' result
-        → Runs (Some (node dir name)) (record { files = files; out = out; err = err; net = net; spawner = spawner })
+        → Runs (Some (node dir name view)) (record { files = files; out = out; err = err; net = net; spawner = spawner })
         (record { files = files'; out = out; err = err'; net = net'; spawner = spawner }) (Err Memory)
     meets_no_memory result not c = record {
       ok = tt;
@@ -133,19 +136,19 @@ module _ (dir name : List ℕ) (files files' : FilesReading) (job : NodeJob) (re
     spawner_keeps = let stays = (run someone.0 someone.1).steady.spawner_stays in record { refusals_grow = stays.refusals_grow; keeps_steady = λ steady. (stays.steady steady).0 }
 
 -- a talk that came to its end, and its lines were written, or not; or it broke off
-module _ (dir name : List ℕ) (files files' : FilesReading) (job : NodeJob) (read : ReadsAs node_view (λ m. NodeAt m dir name) files files' (Ok job)) (before after : Outside)
+module _ (dir name : List ℕ) (view : Bool) (files files' : FilesReading) (job : NodeJob) (read : ReadsAs node_view (λ m. NodeAt m dir name) files files' (Ok job)) (before after : Outside)
     (at_files : before.files ≡ files) (at_files' : after.files ≡ files') (net : KeepsNet before.net after.net) (spawner : KeepsSpawner before.spawner after.spawner) where
-  found : ReadsAs as_talk (DueOf (node dir name)) before.files after.files (Ok job)
-  found = subst (λ f. ReadsAs as_talk (DueOf (node dir name)) f after.files (Ok job)) (sym at_files) (subst (λ f. ReadsAs as_talk (DueOf (node dir name)) files f (Ok job)) (sym at_files') (node_read dir name files files' job read))
+  found : ReadsAs (as_talk view) (DueOf (node dir name view)) before.files after.files (Ok job)
+  found = subst (λ f. ReadsAs (as_talk view) (DueOf (node dir name view)) f after.files (Ok job)) (sym at_files) (subst (λ f. ReadsAs (as_talk view) (DueOf (node dir name view)) files f (Ok job)) (sym at_files') (node_read dir name view files files' job read))
 
-  pub talk_done : (results : Results) (u : Unit {0}) → Talks (node_view job) before after (Ok results) → Writes (lines_of (node_view job) results) before.out after.out (Ok u) → Runs (Some (node dir name)) before after (Ok u)
-  talk_done results u talks w = record { ok = (talk (node_view job), (found.ok, (dir, name, refl), found.quiet), (results, talks, w)); hides = tt; stop = tt; keeps = found.keeps; keeps_net = net; keeps_spawner = spawner }
+  pub talk_done : (results : Results) (u : Unit {0}) → Talks (node_view job) before after (Ok results) → Writes (lines_of (asked_of job view) results) before.out after.out (Ok u) → Runs (Some (node dir name view)) before after (Ok u)
+  talk_done results u talks w = record { ok = (talk (asked_of job view), (found.ok, (dir, name, refl), found.quiet), (results, talks, w)); hides = tt; stop = tt; keeps = found.keeps; keeps_net = net; keeps_spawner = spawner }
 
-  pub talk_cut : (results : Results) (failed : Failed) → Talks (node_view job) before after (Ok results) → Writes (lines_of (node_view job) results) before.out after.out (Err failed) → Runs (Some (node dir name)) before after (Err Out)
-  talk_cut results failed talks w = record { ok = tt; hides = tt; stop = (talk (node_view job), (found.ok, (dir, name, refl), found.quiet), (results, talks, (failed, w))); keeps = found.keeps; keeps_net = net; keeps_spawner = spawner }
+  pub talk_cut : (results : Results) (failed : Failed) → Talks (node_view job) before after (Ok results) → Writes (lines_of (asked_of job view) results) before.out after.out (Err failed) → Runs (Some (node dir name view)) before after (Err Out)
+  talk_cut results failed talks w = record { ok = tt; hides = tt; stop = (talk (asked_of job view), (found.ok, (dir, name, refl), found.quiet), (results, talks, (failed, w))); keeps = found.keeps; keeps_net = net; keeps_spawner = spawner }
 
-  pub talk_broke : (fault : NodeFault) → Talks (node_view job) before after (Err fault) → after.out ≡ before.out → Runs (Some (node dir name)) before after (Err (Peer job.names fault))
-  talk_broke fault talks out = record { ok = tt; hides = tt; stop = (node_view job, (found.ok, (dir, name, refl), found.quiet), refl, talks, out); keeps = found.keeps; keeps_net = net; keeps_spawner = spawner }
+  pub talk_broke : (fault : NodeFault) → Talks (node_view job) before after (Err fault) → after.out ≡ before.out → Runs (Some (node dir name view)) before after (Err (Peer job.names fault))
+  talk_broke fault talks out = record { ok = tt; hides = tt; stop = (asked_of job view, (found.ok, (dir, name, refl), found.quiet), refl, talks, out); keeps = found.keeps; keeps_net = net; keeps_spawner = spawner }
 
 -- what is ready is the share of the node that was read
 pub ready_share : (job : NodeJob) (ready : Share) (inputs : List (Vec ℕ)) → ready ≡ record { plan = job.plan; me = job.me; given = given_words inputs job.given.tapes.items; digest = job.digest }
@@ -154,7 +157,7 @@ ready_share job ready inputs is same = is ∙ ap (λ (i : List (Vec ℕ)). recor
 
 -- ---- the talk over the links that the net gave
 
-module _ (dir name : List ℕ) (files files' : FilesReading) (job : NodeJob) (read : ReadsAs node_view (λ m. NodeAt m dir name) files files' (Ok job)) (err err' : SinkReading) (parties : ℕ) (same : parties ≡ job.plan.parties)
+module _ (dir name : List ℕ) (view : Bool) (files files' : FilesReading) (job : NodeJob) (read : ReadsAs node_view (λ m. NodeAt m dir name) files files' (Ok job)) (err err' : SinkReading) (parties : ℕ) (same : parties ≡ job.plan.parties)
     {Given : Type 0} (shown : Given → LinksReading) (links : Given) (net mid net' : NetReading) (spawner spawner' : SpawnerReading)
     (c : Connects shown (record { hosts = job.hosts; port = job.port; me = job.me; parties = parties }) net mid (Ok links)) (out out' : SinkReading) where
   abbrev before_talk : Outside
@@ -168,28 +171,28 @@ module _ (dir name : List ℕ) (files files' : FilesReading) (job : NodeJob) (re
 
   of_talk : (kept : LinksReading) (outcome : Result Results NodeFault) (result : Result Unit Stop) → net' ≡ record mid { kept = Some kept }
       → ((n : Node) × IsNodeOf (share_of (node_view job)) n) → ((n : Node) → IsNodeOf (share_of (node_view job)) n → node_runs.Runs n (shown links) kept spawner spawner' outcome)
-      → Written job.names (share_of (node_view job)) outcome out out' result → Runs (Some (node dir name)) before_talk after_talk result
+      → Written job.names (share_of (node_view job)) view outcome out out' result → Runs (Some (node dir name view)) before_talk after_talk result
   of_talk kept (Ok results) (Ok u) back someone run written =
-      talk_done dir name files files' job read before_talk after_talk refl refl
-      (net_keeps dir name files files' job read err err' parties same shown links net mid net' spawner spawner' kept c quiet_net back (Ok results) someone run out out')
-      (spawner_keeps dir name files files' job read err err' parties same shown links net mid net' spawner spawner' kept c quiet_net back (Ok results) someone run out out')
-      results u (talks dir name files files' job read err err' parties same shown links net mid net' spawner spawner' kept c quiet_net back (Ok results) someone run out out') written
+      talk_done dir name view files files' job read before_talk after_talk refl refl
+      (net_keeps dir name view files files' job read err err' parties same shown links net mid net' spawner spawner' kept c quiet_net back (Ok results) someone run out out')
+      (spawner_keeps dir name view files files' job read err err' parties same shown links net mid net' spawner spawner' kept c quiet_net back (Ok results) someone run out out')
+      results u (talks dir name view files files' job read err err' parties same shown links net mid net' spawner spawner' kept c quiet_net back (Ok results) someone run out out') written
   of_talk kept (Ok results) (Err stop) back someone run written =
-      subst (λ s. Runs (Some (node dir name)) before_talk after_talk (Err s)) (sym written.0)
-      (talk_cut dir name files files' job read before_talk after_talk refl refl
-      (net_keeps dir name files files' job read err err' parties same shown links net mid net' spawner spawner' kept c quiet_net back (Ok results) someone run out out')
-      (spawner_keeps dir name files files' job read err err' parties same shown links net mid net' spawner spawner' kept c quiet_net back (Ok results) someone run out out')
-      results written.1.0 (talks dir name files files' job read err err' parties same shown links net mid net' spawner spawner' kept c quiet_net back (Ok results) someone run out out') written.1.1)
+      subst (λ s. Runs (Some (node dir name view)) before_talk after_talk (Err s)) (sym written.0)
+      (talk_cut dir name view files files' job read before_talk after_talk refl refl
+      (net_keeps dir name view files files' job read err err' parties same shown links net mid net' spawner spawner' kept c quiet_net back (Ok results) someone run out out')
+      (spawner_keeps dir name view files files' job read err err' parties same shown links net mid net' spawner spawner' kept c quiet_net back (Ok results) someone run out out')
+      results written.1.0 (talks dir name view files files' job read err err' parties same shown links net mid net' spawner spawner' kept c quiet_net back (Ok results) someone run out out') written.1.1)
   of_talk kept (Err fault) (Ok u) back someone run written = absurd written
   of_talk kept (Err fault) (Err stop) back someone run written =
-      subst (λ s. Runs (Some (node dir name)) before_talk after_talk (Err s)) (sym written.0)
-      (talk_broke dir name files files' job read before_talk after_talk refl refl
-      (net_keeps dir name files files' job read err err' parties same shown links net mid net' spawner spawner' kept c quiet_net back (Err fault) someone run out out')
-      (spawner_keeps dir name files files' job read err err' parties same shown links net mid net' spawner spawner' kept c quiet_net back (Err fault) someone run out out')
-      fault (talks dir name files files' job read err err' parties same shown links net mid net' spawner spawner' kept c quiet_net back (Err fault) someone run out out') written.1)
+      subst (λ s. Runs (Some (node dir name view)) before_talk after_talk (Err s)) (sym written.0)
+      (talk_broke dir name view files files' job read before_talk after_talk refl refl
+      (net_keeps dir name view files files' job read err err' parties same shown links net mid net' spawner spawner' kept c quiet_net back (Err fault) someone run out out')
+      (spawner_keeps dir name view files files' job read err err' parties same shown links net mid net' spawner spawner' kept c quiet_net back (Err fault) someone run out out')
+      fault (talks dir name view files files' job read err err' parties same shown links net mid net' spawner spawner' kept c quiet_net back (Err fault) someone run out out') written.1)
 
-  pub talked : (share : Share) → share ≡ share_of (node_view job) → (result : Result Unit Stop) → TalkedOver share job.names (shown links) mid net' spawner spawner' out out' result
-      → Runs (Some (node dir name)) before_talk after_talk result
+  pub talked : (share : Share) → share ≡ share_of (node_view job) → (result : Result Unit Stop) → TalkedOver share job.names view (shown links) mid net' spawner spawner' out out' result
+      → Runs (Some (node dir name view)) before_talk after_talk result
   talked share is result t =
-      let own = subst (λ s. TalkedOver s job.names (shown links) mid net' spawner spawner' out out' result) is t in
+      let own = subst (λ s. TalkedOver s job.names view (shown links) mid net' spawner spawner' out out' result) is t in
       of_talk own.kept own.outcome result own.has_back own.someone own.run own.written

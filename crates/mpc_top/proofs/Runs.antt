@@ -13,7 +13,7 @@ use Rattle.command_words.specs.Commands.{CommandForm, form_of, run, check}
 use Rattle.party_file.specs.declared.data.PartyData.{PartyData}
 use Rattle.job_run.specs.Parties.{world_of}
 use Rattle.output_text.specs.CheckText.{check_text}
-use Rattle.output_text.specs.ViewText.{run_text}
+use Rattle.output_text.specs.RunText.{run_text}
 use Rattle.job_walk.specs.declared.plan.Planned as code
 use Rattle.job_walk.specs.declared.stop.Stop.{Stop}
 use Rattle.job_walk.specs.declared.stop.Stop.TheVariants.{Memory, Words, Out, Net, Peer, Files, Refused, Covering}

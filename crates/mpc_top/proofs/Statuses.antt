@@ -112,7 +112,7 @@ module _ (words : List (List ℕ)) (before after : Outside) where
     steady = λ s. (accepted (talk cause.0), cause.1.0, λ room. absurd (cause.2.unexpected room.net room.expects));
   }
   given (Peer names fault) status cause tells not = record {
-    quiet = λ none. (accepted (talk cause.0), cause.1.0, λ quiet. absurd (quiet_talk cause.0 before after fault cause.3 quiet));
+    quiet = λ none. (accepted (talk cause.0), cause.1.0, λ quiet. absurd (quiet_talk cause.0.job before after fault cause.3 quiet));
     steady = λ s. (accepted (talk cause.0), cause.1.0, λ room. absurd (steady_talk cause.0 before after fault cause.3 room));
   }
   given (Files name) status cause tells not = record {

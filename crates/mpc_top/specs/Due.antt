@@ -1,10 +1,11 @@
 -- What the words of a call are due over files: a verdict.
-use Rattle.std.specs.Prelude.{◌≡◌, ℕ, List, map, Option, None, Some, IfSome, String, string_bytes}
+use Rattle.std.specs.Prelude.{◌≡◌, ℕ, Bool, List, map, Option, None, Some, IfSome, String, string_bytes}
 use Rattle.std.specs.declared.alloc.Global.{Global}
 use Rattle.outer_io.specs.Files.{Told}
-use Rattle.command_words.specs.Commands.{CommandForm, run, check, pair, node, sample}
+use Rattle.command_words.specs.Commands.{CommandForm, run, check, pair, node, sample, audit}
 use Rattle.output_text.specs.CheckText.{check_text}
-use Rattle.output_text.specs.ViewText.{run_text}
+use Rattle.output_text.specs.AuditText.{yes_text}
+use Rattle.output_text.specs.RunText.{run_text}
 use Rattle.output_text.specs.PairText.{pair_text}
 use Rattle.output_text.specs.SampleText.{sample_text}
 use Rattle.sample_maker.specs.Samples.{sample_names, sample_job}
@@ -13,6 +14,8 @@ use Rattle.job_walk.specs.Verdict.{Verdict, accepted, refused, Ends, Then}
 use Rattle.job_walk.specs.JobOf.{Contents, Planned, PlanAt}
 use Rattle.job_walk.specs.NodeOf.{NodeForm, NodeAt}
 use Rattle.mpc_top.specs.WholeJobs.{WholeJob, PairedJob, second_of, JobAt, PairAt}
+use Rattle.mpc_top.specs.Audits.{AuditAt}
+use Rattle.mpc_top.specs.NodeTalks.{NodeAsked}
 
 -- the bytes of each word
 abbrev pub words_view : List (String Global) → List (List ℕ)
@@ -21,7 +24,7 @@ words_view words = map string_bytes words
 -- what is due where the files are accepted: a text; or a talk of one party with the others, and then its outputs
 pub data Due : Type 0 where
   text : List ℕ → Due
-  talk : NodeForm → Due
+  talk : NodeAsked → Due
 
 -- what a command is due over files; how many workers run a job changes nothing
 unfoldable pub DueOf : CommandForm → Contents → Verdict Due → Type 0
@@ -33,14 +36,26 @@ DueOf (check dir) files =
 DueOf (pair dir group) files =
     Then (PairAt files dir group) (λ (p : PairedJob).
     Ends (accepted (text (pair_text p.names p.first (second_of p) p.group))))
-DueOf (node dir name) files =
-    Then (NodeAt files dir name) (λ (job : NodeForm). Ends (accepted (talk job)))
+DueOf (node dir name view) files =
+    Then (NodeAt files dir name) (λ (job : NodeForm). Ends (accepted (talk (record { job = job; view = view }))))
 DueOf (sample count) files =
     Ends (accepted (text (sample_text sample_names (sample_job count) count)))
+DueOf (audit dir) files =
+    Then (AuditAt files dir) (λ (count : ℕ). Ends (accepted (text (yes_text count))))
+
+-- the words are those of a node
+abbrev pub AsksForNode : Option CommandForm → Type 0
+AsksForNode command = (dir : List ℕ) × (name : List ℕ) × (view : Bool) × (command ≡ Some (node dir name view))
+
+-- a command that is no node's
+abbrev pub IsAlone : CommandForm → Type 0
+IsAlone (node dir name view) = ⊥
+IsAlone command = Unit {0}
 
 -- whatever the files tell, a talk is due to the words of a node alone
 abbrev pub Suits : Option CommandForm → Verdict Due → Type 0
-Suits command (accepted (talk job)) = (dir : List ℕ) × (name : List ℕ) × (command ≡ Some (node dir name))
+Suits command (accepted (talk asked)) =
+    (dir : List ℕ) × (name : List ℕ) × (command ≡ Some (node dir name asked.view))
 Suits command verdict = Unit {0}
 
 -- the verdict that is due, as far as the files tell; words that ask for nothing are refused with the usage

@@ -1,7 +1,7 @@
 -- What a tolerated group sees tells nothing of the inputs of all others.
 use Rattle.std.specs.Prelude.{ℕ, List, Option, None, Some, IfSome}
 use Rattle.outer_io.specs.Files.{Told}
-use Rattle.command_words.specs.Commands.{CommandForm, run, check, pair, node, sample}
+use Rattle.command_words.specs.Commands.{CommandForm, run, check, pair, node, sample, audit}
 use Rattle.party_set.specs.Parties.{Members}
 use Rattle.maximal_groups.specs.Families.{LiesWithin}
 use Rattle.job_plan.specs.Plans.{structure}
@@ -9,7 +9,7 @@ use Rattle.job_plan.specs.InputWords.{AreInputs}
 use Rattle.share_world.specs.Worlds.{World, view}
 use Rattle.tape_map.specs.TapeMaps.{second_world}
 use Rattle.tape_map.specs.Laws.{Agree, CanHide}
-use Rattle.output_text.specs.ViewText.{seen_text}
+use Rattle.output_text.specs.RunText.{seen_text}
 use Rattle.output_text.specs.PairText.{pair_seen}
 use Rattle.job_walk.specs.Verdict.{accepted}
 use Rattle.mpc_top.specs.WholeJobs.{WholeJob, PairedJob, second_of, JobAt, PairAt}
@@ -56,6 +56,7 @@ CommandHides (Some (run dir workers view)) told Written =
 CommandHides (Some (pair dir group)) told Written =
     IfSome told (λ files. (job : PairedJob) × PairAt files dir group (accepted job) × HidesPair job Written)
 CommandHides (Some (check dir)) told Written = Unit {0}
-CommandHides (Some (node dir name)) told Written = Unit {0}
+CommandHides (Some (node dir name view)) told Written = Unit {0}
 CommandHides (Some (sample count)) told Written = Unit {0}
+CommandHides (Some (audit dir)) told Written = Unit {0}
 CommandHides None told Written = Unit {0}

@@ -1,8 +1,9 @@
 pub mod Texts
 pub mod WholeJobs
+pub mod Audits
 pub mod Outside
-pub mod Due
 pub mod NodeTalks
+pub mod Due
 pub mod LinkTalks
 pub mod HiddenInputs
 pub mod Stops

@@ -1,5 +1,5 @@
 -- What a talk over links comes to, once the net gave them.
-use Rattle.std.specs.Prelude.{◌≡◌, ℕ, List, Result, Ok, Err, Some}
+use Rattle.std.specs.Prelude.{◌≡◌, ℕ, Bool, List, Result, Ok, Err, Some}
 use Rattle.outer_io.specs.Jobs.{SpawnerReading}
 use Rattle.outer_io.specs.Links.{LinksReading, NetReading}
 use Rattle.outer_io.specs.Sink.{SinkReading, Writes, FailsToWrite}
@@ -13,21 +13,23 @@ use Rattle.job_walk.specs.declared.stop.Stop.{Stop}
 use Rattle.job_walk.specs.declared.stop.Stop.TheVariants.{Out, Peer}
 
 -- its lines were written, or `out` failed to take them; where the talk ended with a fault, nothing was written
-abbrev pub Written : List (List ℕ) → Share → Result Results NodeFault → SinkReading → SinkReading
+abbrev pub Written : List (List ℕ) → Share → Bool → Result Results NodeFault → SinkReading → SinkReading
     → Result Unit Stop → Type 0
-Written names share (Ok results) out out' (Ok _) = Writes (node_text names share.plan share.me results) out out' (Ok tt)
-Written names share (Ok results) out out' (Err stop) =
-    (stop ≡ Out) × FailsToWrite (node_text names share.plan share.me results) out out'
-Written names share (Err fault) out out' (Ok _) = ⊥
-Written names share (Err fault) out out' (Err stop) = (stop ≡ Peer names fault) × (out' ≡ out)
+Written names share view (Ok results) out out' (Ok _) =
+    Writes (node_text names share.plan share.me view results) out out' (Ok tt)
+Written names share view (Ok results) out out' (Err stop) =
+    (stop ≡ Out) × FailsToWrite (node_text names share.plan share.me view results) out out'
+Written names share view (Err fault) out out' (Ok _) = ⊥
+Written names share view (Err fault) out out' (Err stop) = (stop ≡ Peer names fault) × (out' ≡ out)
 
 -- The run of each node with this share, and there is one, came to the outcome over these links; the net has them back,
 -- and the outcome was written.
-pub record TalkedOver (share : Share) (names : List (List ℕ)) (links : LinksReading) (net net' : NetReading)
-    (spawner spawner' : SpawnerReading) (out out' : SinkReading) (result : Result Unit Stop) : Type 0 where
+pub record TalkedOver (share : Share) (names : List (List ℕ)) (view : Bool) (links : LinksReading)
+    (net net' : NetReading) (spawner spawner' : SpawnerReading) (out out' : SinkReading) (result : Result Unit Stop)
+    : Type 0 where
   pub outcome : Result Results NodeFault
   pub kept : LinksReading
   pub has_back : net' ≡ record net { kept = Some kept }
   pub someone : (n : Node) × IsNodeOf share n
   pub run : (n : Node) → IsNodeOf share n → node_runs.Runs n links kept spawner spawner' outcome
-  pub written : Written names share outcome out out' result
+  pub written : Written names share view outcome out out' result

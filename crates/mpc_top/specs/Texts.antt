@@ -17,4 +17,4 @@ net_fault_line = codes "fault net\n"
 -- words that are refused
 unfoldable pub usage_text : List ℕ
 usage_text =
-    codes "refused words\nusage: mpc check DIR\n       mpc run DIR [--workers W] [--view GROUP]\n       mpc pair DIR --group GROUP\n       mpc node DIR NAME\n       mpc sample N\n"
+    codes "refused words\nusage: mpc check DIR\n       mpc run DIR [--workers W] [--view GROUP]\n       mpc pair DIR --group GROUP\n       mpc node DIR NAME\n       mpc sample N\n       mpc audit DIR\n"

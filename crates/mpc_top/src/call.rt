@@ -1,15 +1,17 @@
-//! The top call.
-ghost use Rattle.std.specs.Prelude.{◌≡◌};
+//! The top call, and the same for words that ask for no node.
+ghost use Rattle.std.specs.Prelude.{◌≡◌, ℕ, List, MatchOption};
+ghost use Rattle.outer_io.specs.Jobs.{SpawnerReading};
+ghost use Rattle.outer_io.specs.Links.{NetReading};
 ghost use Rattle.outer_io.specs.Sink.{SinkReading};
 ghost use Rattle.command_words.specs.Commands.{command_of};
-ghost use Rattle.mpc_top.specs.Due.{words_view};
-ghost use Rattle.mpc_top.specs.Outside.{outside_of};
+ghost use Rattle.mpc_top.specs.Due.{words_view, AsksForNode};
+ghost use Rattle.mpc_top.specs.Outside.{Outside, outside_of};
 ghost use Rattle.mpc_top.specs.Stops.{Runs};
 ghost use Rattle.mpc_top.specs.Command.{Answers};
 
-use crate::run::run_command;
+use crate::run::{run_alone, run_command};
 use crate::told::write_stop;
-use command_words::read_command;
+use command_words::{Command, read_command};
 use job_walk::Stop;
 use link_reader::LinkReader;
 use outer_io::{Files, Net, Pace, Sink, Spawner};
@@ -40,10 +42,25 @@ where
     run_command(rt, alloc, files, out, net, spawner, pace, command)
 }
 
+// The exit status of a run, of which `err` is told where it stopped.
+fn tell<E: Sink>(err: &mut E, ended: Result<(), Stop>) -> u8
+    ensures { (words : List (List ℕ)) (before after : Outside)
+        → ((e e' : SinkReading) → Runs (command_of words) (record before { err = e }) (record after { err = e' }) ended)
+        → Answers words (record before { err = E.reading err.old }) (record after { err = E.reading err.new }) result }
+{
+    match ended {
+        Ok(()) => 0,
+        Err(stop) => match write_stop(err, &stop) {
+            Ok(()) => stop.status(),
+            Err(_) => 5,
+        },
+    }
+}
+
 /// Runs the command of the words over the files, and gives the exit status: 0 where it was done, 2 where the words are
 /// refused, 3 where the files are, 4 where two tolerated groups together are all parties, 5 where the outside failed,
 /// 6 where memory ran out. Workers run in threads of `rt`, and each tells `pace` of its steps. A node reads its peers
-/// in jobs of `spawner`, over links that `net` gives and has back.
+/// in jobs of `spawner`, over links that `net` gives and has back; it may wait for them without end.
 pub fn command<
     F: Files,
     O: Sink,
@@ -72,11 +89,55 @@ where
         (N.reading net.new) (W.reading spawner.new))
         result }
 {
-    match run(rt, alloc, words, files, out, net, spawner, pace) {
-        Ok(()) => 0,
-        Err(stop) => match write_stop(err, &stop) {
-            Ok(()) => stop.status(),
-            Err(_) => 5,
-        },
+    let result = run(rt, alloc, words, files, out, net, spawner, pace);
+    tell(err, result)
+}
+
+// Runs the command of the words, unless it is a node's.
+fn run_words<F: Files, O: Sink, P: Pace, R: Threads + Sync>(
+    rt: &R,
+    alloc: Global,
+    words: &[String],
+    files: &mut F,
+    out: &mut O,
+    pace: &P,
+) -> Option<Result<(), Stop>>
+    ensures { MatchOption result (AsksForNode (command_of (words_view words.now))
+        × (F.reading files.new ≡ F.reading files.old) × (O.reading out.new ≡ O.reading out.old))
+        (λ ended. (¬ AsksForNode (command_of (words_view words.now)))
+        × ((err err' : SinkReading) (net : NetReading) (spawner : SpawnerReading)
+        → Runs (command_of (words_view words.now))
+        (outside_of (F.reading files.old) (O.reading out.old) err net spawner)
+        (outside_of (F.reading files.new) (O.reading out.new) err' net spawner) ended)) }
+{
+    match read_command(words) {
+        Ok(Command::Node { .. }) => None,
+        Ok(command) => Some(run_alone(rt, alloc, files, out, pace, command)),
+        Err(_) => Some(Err(Stop::Words)),
+    }
+}
+
+/// Does what `command` does, unless the words ask for a node: then it does nothing and answers None. It has no net and
+/// no spawner, waits for nobody, and returns.
+pub fn command_alone<F: Files, O: Sink, E: Sink, P: Pace, R: Threads + Sync>(
+    rt: &R,
+    alloc: Global,
+    words: &[String],
+    files: &mut F,
+    out: &mut O,
+    err: &mut E,
+    pace: &P,
+) -> Option<u8>
+    ensures { MatchOption result (AsksForNode (command_of (words_view words.now))
+        × (F.reading files.new ≡ F.reading files.old) × (O.reading out.new ≡ O.reading out.old)
+        × (E.reading err.new ≡ E.reading err.old))
+        (λ status. (¬ AsksForNode (command_of (words_view words.now)))
+        × ((net : NetReading) (spawner : SpawnerReading) → Answers (words_view words.now)
+        (outside_of (F.reading files.old) (O.reading out.old) (E.reading err.old) net spawner)
+        (outside_of (F.reading files.new) (O.reading out.new) (E.reading err.new) net spawner) status)) }
+{
+    match run_words(rt, alloc, words, files, out, pace) {
+        Some(ended) => Some(tell(err, ended)),
+        None => None,
     }
 }

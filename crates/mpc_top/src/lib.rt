@@ -1,6 +1,7 @@
 //! The top call: from the words and the files to the bytes.
 #![tactic(auto)]
 
+mod audit;
 mod call;
 mod node;
 mod other;
@@ -10,5 +11,5 @@ mod run;
 mod sample;
 mod told;
 
-pub use call::command;
+pub use call::{command, command_alone};
 pub use job_walk::Stop;

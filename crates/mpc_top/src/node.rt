@@ -28,6 +28,7 @@ fn talk<O: Sink, N: Net, W: Spawner<LinkReader<N::In>>, R: Wait>(
     plan: &Plan,
     me: u32,
     names: Names,
+    view: bool,
     ready: NodeReady,
     links: Links<N::In, N::Out>,
 ) -> Result<(), Stop>
@@ -38,7 +39,7 @@ where
     requires me { me ≡ ready.me }
     requires names { length names ≡ ready.plan.parties }
     requires peers { HasPeers (ready.plan.parties - 1) (links_reading N.In.reading N.Out.reading links) }
-    ensures { TalkedOver ready names (links_reading N.In.reading N.Out.reading links)
+    ensures { TalkedOver ready names view (links_reading N.In.reading N.Out.reading links)
         (N.reading net.old) (N.reading net.new) (W.reading spawner.old) (W.reading spawner.new)
         (O.reading out.old) (O.reading out.new) result }
 {
@@ -46,13 +47,13 @@ where
     let (result, links) = ready.run(rt, plan, links, spawner);
     net.back(links);
     match result {
-        Ok(done) => Ok(write_node(out, &names, plan, me, &done)?),
+        Ok(done) => Ok(write_node(out, &names, plan, me, view, &done)?),
         Err(fault) => Err(Stop::Peer { names, fault }),
     }
 }
 
 /// Runs the party of this name in the job of a folder, over links that the net gives and has back: the outputs that it
-/// reads. All memory is taken before the first byte goes to a peer.
+/// reads, and its own view, if that is asked for. All memory is taken before the first byte goes to a peer.
 pub(crate) fn run_node<F: Files, O: Sink, N: Net, W: Spawner<LinkReader<N::In>>, R: Wait>(
     rt: &R,
     alloc: Global,
@@ -62,10 +63,11 @@ pub(crate) fn run_node<F: Files, O: Sink, N: Net, W: Spawner<LinkReader<N::In>>,
     spawner: &mut W,
     dir: &str,
     name: &str,
+    view: bool,
 ) -> Result<(), Stop>
 where
     N::In: Drop,
-    ensures { (err err' : SinkReading) → Runs (Some (node dir.now name.now))
+    ensures { (err err' : SinkReading) → Runs (Some (node dir.now name.now view))
         (outside_of (F.reading files.old) (O.reading out.old) err (N.reading net.old) (W.reading spawner.old))
         (outside_of (F.reading files.new) (O.reading out.new) err' (N.reading net.new) (W.reading spawner.new)) result }
 {
@@ -99,7 +101,7 @@ where
             return Err(Stop::Memory);
         }
     };
-    let result = talk(rt, out, net, spawner, &plan, me, names, ready, links);
+    let result = talk(rt, out, net, spawner, &plan, me, names, view, ready, links);
     drop((inputs, plan, hosts));
     result
 }

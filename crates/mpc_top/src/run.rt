@@ -6,9 +6,11 @@ ghost use Rattle.command_words.specs.Commands.{form_of, run, check, IsInRange};
 ghost use Rattle.job_walk.specs.JobOf.{PlanAt};
 ghost use Rattle.job_walk.specs.Reads.{ReadsAs};
 ghost use Rattle.job_walk.specs.Seen.{text_view, planned_view};
+ghost use Rattle.mpc_top.specs.Due.{IsAlone};
 ghost use Rattle.mpc_top.specs.Outside.{outside_of};
 ghost use Rattle.mpc_top.specs.Stops.{Runs, RunsAlone};
 
+use crate::audit::audit_job;
 use crate::node::run_node;
 use crate::pair::run_pair;
 use crate::parties::read_parties;
@@ -49,13 +51,37 @@ where
         (outside_of (F.reading files.new) (O.reading out.new) err' (N.reading net.new) (W.reading spawner.new)) result }
 {
     match command {
+        Command::Node { dir, name, view } => {
+            run_node(rt, alloc, files, out, net, spawner, dir, name, view)
+        }
+        alone => run_alone(rt, alloc, files, out, pace, alone),
+    }
+}
+
+/// Does the same for a command that is no node's: nothing in it waits for others.
+pub(crate) fn run_alone<F: Files, O: Sink, P: Pace, R: Threads + Sync>(
+    rt: &R,
+    alloc: Global,
+    files: &mut F,
+    out: &mut O,
+    pace: &P,
+    command: Command<'_>,
+) -> Result<(), Stop>
+    requires range { IsInRange command }
+    requires alone { IsAlone (form_of command) }
+    ensures alone { IsAlone (form_of command.entry) }
+    ensures runs { RunsAlone (Some (form_of command.entry)) (F.reading files.old) (F.reading files.new)
+        (O.reading out.old) (O.reading out.new) result }
+{
+    match command {
         Command::Run { dir, workers, view } => {
             run_job(rt, alloc, files, out, pace, dir, workers, view)
         }
         Command::Check { dir } => check_job(alloc, files, out, dir),
         Command::Pair { dir, group } => run_pair(rt, alloc, files, out, pace, dir, group),
-        Command::Node { dir, name } => run_node(rt, alloc, files, out, net, spawner, dir, name),
         Command::Sample { count } => run_sample(rt, alloc, files, out, pace, count),
+        Command::Audit { dir } => audit_job(alloc, files, out, dir),
+        Command::Node { .. } => unreachable!(),
     }
 }
 

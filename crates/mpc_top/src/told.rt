@@ -17,7 +17,7 @@ pub(crate) fn write_stop<S: Sink>(sink: &mut S, stop: &Stop) -> Result<(), Faile
     match stop {
         Stop::Memory => Ok(()),
         Stop::Words => sink.write(
-            b"refused words\nusage: mpc check DIR\n       mpc run DIR [--workers W] [--view GROUP]\n       mpc pair DIR --group GROUP\n       mpc node DIR NAME\n       mpc sample N\n",
+            b"refused words\nusage: mpc check DIR\n       mpc run DIR [--workers W] [--view GROUP]\n       mpc pair DIR --group GROUP\n       mpc node DIR NAME\n       mpc sample N\n       mpc audit DIR\n",
         ),
         Stop::Out => sink.write(b"fault out\n"),
         Stop::Net => sink.write(b"fault net\n"),

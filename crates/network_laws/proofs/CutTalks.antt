@@ -35,6 +35,7 @@ use Rattle.node_talk.proofs.Frames.{stream_length, strip, small_64}
 use Rattle.node_talk.proofs.ExpectedPlaces.{placed, Expected, expected_there, between_parties}
 use Rattle.node_talk.proofs.ActPlaces.{joined_within, before_session, at_act, within_acts, posted_there}
 use Rattle.node_talk.proofs.RightRuns.{is_of_world}
+use Rattle.node_talk.proofs.KeptViews.{own_view}
 use Rattle.network_laws.specs.Networks.{Network, node, RanThrough, IsNetwork, SaysWorld, IsRight}
 use Rattle.network_laws.proofs.RunsAsShort.{run_of_all, run_broke}
 use Rattle.network_laws.proofs.FirstParts.{frames_begin, cut_after, cut_frames, short_take, long_take, posted_before}
@@ -274,5 +275,6 @@ module _ (net : Network) (h : IsNetwork net) where
     pub is_right : IsRight net p
     is_right = record {
       words = λ m lm to. run.done.words m lm to ∙ ap Some (got_right m lm to);
+      own_view = own_view (node net p) h.whole lp run.got got_right (net.results p) run.done;
       of_world = is_of_world (node net p) h.whole lp run.got got_right (net.results p) (net.before p) (net.after p) run.done run.talked;
     }

@@ -1,16 +1,16 @@
 -- A network: a node for each party of one world, and a pipe from each party to each other.
-use Rattle.std.specs.Prelude.{◌≡◌, ◌≢◌, ◌⊎◌, ℕ, ◌<◌, List, ◌++◌, length, Some}
+use Rattle.std.specs.Prelude.{◌≡◌, ◌≢◌, ◌⊎◌, ℕ, ◌<◌, ◌^◌, List, ◌++◌, length, Some}
 use Rattle.job_plan.specs.Plans.{Plan}
 use Rattle.job_plan.specs.Messages.{messages}
 use Rattle.job_plan.specs.Numbers.{message}
 use Rattle.job_plan.specs.declared.key.Key.{Key}
-use Rattle.share_world.specs.Worlds.{World, word}
+use Rattle.share_world.specs.Worlds.{World, word, view}
 use Rattle.share_world.specs.Laws.{IsWhole}
 use Rattle.outer_io.specs.Links.{LinksReading}
 use Rattle.outer_io.specs.Sink.{AddedPrefix}
 use Rattle.node_talk.specs.Talks.{Node, talk}
 use Rattle.node_talk.specs.PeerLinks.{in_from, out_to}
-use Rattle.node_talk.specs.Runs.{Results, IsDone, TalkedThrough, BrokeOff, IsOfWorld, word_read}
+use Rattle.node_talk.specs.Runs.{Results, IsDone, TalkedThrough, BrokeOff, IsOfWorld, word_kept, kept_view}
 
 -- a world and a digest; and of each party what its links show before its run and after it, and what it has then
 pub record Network : Type 0 where
@@ -68,8 +68,9 @@ SaysWorld net =
     → AddedPrefix (out_to (node net p) (net.before p) q).told (talk (node net p) q (word net.world))
     (out_to (node net p) (net.after p) q).told
 
--- p got the world's words, said all that it says in the world, and has the plain outputs
+-- p got the world's words, said all that it says in the world, kept its own view in it, and has the plain outputs
 pub record IsRight (net : Network) (p : ℕ) : Type 0 where
   pub words : (m : ℕ) → m < length (messages (plan_of net)) → (message (plan_of net) m).receiver ≡ p
-      → word_read (net.results p) m ≡ Some (word net.world (message (plan_of net) m))
+      → word_kept (net.results p) m ≡ Some (word net.world (message (plan_of net) m))
+  pub own_view : kept_view (plan_of net) p (net.results p) ≡ view net.world (2 ^ p)
   pub of_world : IsOfWorld (node net p) (net.results p) (net.before p) (net.after p)

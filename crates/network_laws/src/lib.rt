@@ -6,8 +6,8 @@ ghost use Rattle.network_laws.specs.Networks.{Network, IsNetwork, RanThrough, Al
 ghost use Rattle.network_laws.specs.Views.{IsSeen};
 
 /// Whatever runs broke off, and whatever pipes lost at their end: what each party said begins what it says in the
-/// world, and each party that ran to its end got the world's words, said all that it says there, and has the plain
-/// circuit's outputs.
+/// world, and each party that ran to its end got the world's words, said all that it says there, kept its own view in
+/// it, and has the plain circuit's outputs.
 pub fn a_network_is_of_one_world()
     ensures said { (net : Network) → IsNetwork net → SaysWorld net }
     ensures right { (net : Network) → IsNetwork net

@@ -7,16 +7,18 @@ use Rattle.std.proofs.Math.ListN.{length-set, length-map}
 use mathlib.Core.Logic.{inl as left', inr as right'}
 use Rattle.message_board.specs.Pairs.{Knows}
 use Rattle.message_board.specs.Plain.{CellContents, plain_cell, plain_put}
-use Rattle.message_board.proofs.CellPosts.{put_length, put_keeps, put_new, put_full}
+use Rattle.message_board.proofs.CellPosts.{cell_set_same, put_is, put_length, put_keeps, put_new, put_full}
 use Rattle.inbox_board.specs.declared.steps.View.{View}
 use Rattle.inbox_board.specs.Rule.{notes}
 use Rattle.inbox_board.specs.Seats.{Looks, mark_as}
+use Rattle.job_plan.specs.Messages.{messages}
 use Rattle.job_plan.specs.Numbers.{message}
 use Rattle.outer_io.specs.Sink.{SinkReading, Writes}
 use Rattle.outer_io.specs.declared.sink.Failed.{Failed}
 use Rattle.node_talk.specs.PeerLinks.{place_among, no_outlet}
 use Rattle.link_reader.proofs.ExpectedMessages.{between_parties}
 use Rattle.node_run.specs.Mail.{Mail, BoxModel, no_box, box_of, IsRead, IsMail, SentTo, failed_after, MayTake, Takes, Looked, LookedAtMark}
+use Rattle.node_run.proofs.KnownWords.{cell_there}
 
 -- ---- places
 
@@ -86,7 +88,7 @@ module _ (c : Mail) (mail : IsMail c) where
     places = mail.places;
     placed = mail.placed;
     room = mail.room;
-    read = λ m v e. let r = mail.read m v e in record { there = r.there; receiver = r.receiver; found = r.found; known = r.known; reduced = r.reduced };
+    read = λ m v to e. let r = mail.read m v to e in record { there = r.there; found = r.found; known = r.known; reduced = r.reduced };
   }
 
   module _ {O : Type 0} (f : O → SinkReading) (outs : List O) (shows : c.outlets ≡ map f outs) (j : ℕ) (x : O) where
@@ -170,7 +172,7 @@ module _ (c : Mail) (mail : IsMail c) (m : ℕ) (may : MayTake c m) (j : ℕ) (a
     places = mail.places;
     placed = mail.placed;
     room = λ r lr to. (let a = mail.room r lr to in let e = (box_grows (message c.plan r).sender).0 in omega arith);
-    read = λ r v e. let x = mail.read r v e in record { there = x.there; receiver = x.receiver; found = x.found; known = (box_grows (message c.plan r).sender).1 (slice_index c.places r) x.found x.known; reduced = x.reduced };
+    read = λ r v to e. let x = mail.read r v to e in record { there = x.there; found = x.found; known = (box_grows (message c.plan r).sender).1 (slice_index c.places r) x.found x.known; reduced = x.reduced };
   }
 
   same_marks : b'.view.noted ≡ b.view.noted → (q : ℕ) → (box_of now q).view.noted ≡ (box_of c q).view.noted
@@ -201,12 +203,29 @@ module _ (c : Mail) (mail : IsMail c) (m : ℕ) (may : MayTake c m) (j : ℕ) (a
 
 -- ---- a word that is kept
 
-module _ (c : Mail) (mail : IsMail c) (m found v : ℕ) (may : MayTake c m) (known : Knows (box_of c (message c.plan m).sender).view.seen (slice_index c.places m) found) (is : v ≡ found % 2 ^ c.plan.bits) (now : CellContents)
-    (put : now ≡ record c.words { cells = plain_put c.words.cells m v }) where
-  lm : m < length c.words.cells
-  lm = let a = may.there in let b = mail.cells in omega arith
+-- a post to a full cell changes nothing
+pub put_again : (cells : List (Option ℕ)) (m v : ℕ) → plain_cell cells m ≡ Some v → plain_put cells m v ≡ cells
+put_again cells m v e = ⊎_elim
+    (λ (a : (plain_cell cells m ≡ None) × (plain_put cells m v ≡ set cells m (Some v))). absurd (let f : None ≡ Some v = sym a.0 ∙ e in cc))
+    (λ (b : (y : ℕ) × (plain_cell cells m ≡ Some y) × (plain_put cells m v ≡ cells)). b.2)
+    (put_is cells m v (cell_there cells m v e))
 
-  cells_are : now.cells ≡ plain_put c.words.cells m v
+-- the cell of a post is full
+pub put_some : (cells : List (Option ℕ)) (m v : ℕ) → m < length cells → (w : ℕ) × (plain_cell (plain_put cells m v) m ≡ Some w)
+put_some cells m v l = ⊎_elim
+    (λ (a : (plain_cell cells m ≡ None) × (plain_put cells m v ≡ set cells m (Some v))). (v, ap (λ z. plain_cell z m) a.1 ∙ cell_set_same cells m v l))
+    (λ (b : (y : ℕ) × (plain_cell cells m ≡ Some y) × (plain_put cells m v ≡ cells)). (b.0, ap (λ z. plain_cell z m) b.2 ∙ b.1))
+    (put_is cells m v l)
+
+-- a word that was found in the sender's inbox, as a number of the ring
+pub is_read : (c : Mail) (m found v : ℕ) → MayTake c m → Knows (box_of c (message c.plan m).sender).view.seen (slice_index c.places m) found → v ≡ found % 2 ^ c.plan.bits → (message c.plan m).receiver ≡ c.me → IsRead c m v
+is_read c m found v may known is to = record { there = may.there; found = found; known = known; reduced = is }
+
+module _ (c : Mail) (mail : IsMail c) (m v : ℕ) (there : m < length (messages c.plan)) (read : (message c.plan m).receiver ≡ c.me → IsRead c m v) (now : CellContents) (put : now ≡ record c.words { cells = plain_put c.words.cells m v }) where
+  lm : m < length c.words.cells
+  lm = let b = mail.cells in omega (arith, there, b)
+
+  pub cells_are : now.cells ≡ plain_put c.words.cells m v
   cells_are = ap (λ z. z.cells) put
 
   pub word_count : length now.cells ≡ length c.words.cells
@@ -223,9 +242,11 @@ module _ (c : Mail) (mail : IsMail c) (m found v : ℕ) (may : MayTake c m) (kno
     places = mail.places;
     placed = mail.placed;
     room = mail.room;
-    read = λ r x e. ⊎_elim
-        (λ old. let y = mail.read r x old in record { there = y.there; receiver = y.receiver; found = y.found; known = y.known; reduced = y.reduced })
-        (λ (new : (r ≡ m) × (x ≡ v)). subst (λ z. IsRead (record c { words = now }) z x) (sym new.0) (record { there = may.there; receiver = may.receiver; found = found; known = known; reduced = new.1 ∙ is }))
+    read = λ r x to e. ⊎_elim
+        (λ old. let y = mail.read r x to old in record { there = y.there; found = y.found; known = y.known; reduced = y.reduced })
+        (λ (new : (r ≡ m) × (x ≡ v)).
+        let y = read (subst (λ z. (message c.plan z).receiver ≡ c.me) new.0 to) in
+        subst (λ z. IsRead (record c { words = now }) z x) (sym new.0) (record { there = y.there; found = y.found; known = y.known; reduced = new.1 ∙ y.reduced }))
         (put_new c.words.cells m v r x lm (ap (λ z. plain_cell z r) (sym cells_are) ∙ e));
   }
 
@@ -248,15 +269,15 @@ place_there c mail m may x is = is ∙ any_default c.places m x (let a = may.the
 -- ---- takes
 
 pub takes_known : (c : Mail) (m v : ℕ) → plain_cell c.words.cells m ≡ Some v → Takes c m (Some v) c
-takes_known c m v e = record { rest = refl; answers = e; count = refl; ids = refl }
+takes_known c m v e = record { rest = refl; answers = (e, sym (put_again c.words.cells m v e)); count = refl; ids = refl }
 
 pub takes_nothing : (c d : Mail) (m : ℕ) → Looked c m None d → Takes c m None d
 takes_nothing c d m h = record { rest = h.rest ∙ ap (λ z. record c { words = z; boxes = d.boxes }) (sym (ap (λ z. z.words) h.rest)); answers = ap (λ z. z.words.cells) h.rest; count = ap (λ z. length z.words.cells) h.rest; ids = h.ids }
 
-pub takes_found : (c d : Mail) (m found v : ℕ) (kept : CellContents) → Looked c m (Some found) d → length kept.cells ≡ length d.words.cells → plain_cell kept.cells m ≡ Some v → Takes c m (Some v) (record d { words = kept })
-takes_found c d m found v kept h count is = record {
+pub takes_found : (c d : Mail) (m found v : ℕ) (kept : CellContents) → Looked c m (Some found) d → length kept.cells ≡ length d.words.cells → plain_cell kept.cells m ≡ Some v → kept.cells ≡ plain_put d.words.cells m v → Takes c m (Some v) (record d { words = kept })
+takes_found c d m found v kept h count is put = record {
   rest = ap (λ (z : Mail). record z { words = kept }) h.rest;
-  answers = is;
+  answers = (is, put ∙ ap (λ (z : Mail). plain_put z.words.cells m v) h.rest);
   count = count ∙ ap (λ (z : Mail). length z.words.cells) h.rest;
   ids = h.ids;
 }

@@ -12,7 +12,7 @@ use Rattle.job_plan.specs.Messages.{messages}
 use Rattle.job_plan.specs.Numbers.{message}
 use Rattle.message_board.specs.Plain.{plain_cell}
 use Rattle.party_program.specs.declared.program.Instruction.{Instruction}
-use Rattle.party_program.specs.declared.program.Instruction.TheVariants.{Take, End}
+use Rattle.party_program.specs.declared.program.Instruction.TheVariants.{Post, Take, End}
 use Rattle.party_program.specs.Programs.{program, at}
 use Rattle.party_program.specs.States.{new_state, state}
 use Rattle.party_program.proofs.InstructionLists.{state_is, run_all}
@@ -28,9 +28,9 @@ use Rattle.outer_io.specs.Links.{LinksReading}
 use Rattle.outer_io.specs.Sink.{added}
 use Rattle.node_talk.specs.Talks.{Node, acts, IsPeer, own_word, expected, place_of}
 use Rattle.node_talk.specs.PeerLinks.{place_among, no_outlet, out_to}
-use Rattle.node_talk.specs.Runs.{Results, IsDone, TalkedThrough, word_read, output_of}
+use Rattle.node_talk.specs.Runs.{Results, IsDone, TalkedThrough, word_kept, output_of}
 use Rattle.node_talk.proofs.MessageOrder.{talk_is_said}
-use Rattle.node_talk.proofs.ExpectedPlaces.{Expected, expected_there}
+use Rattle.node_talk.proofs.ExpectedPlaces.{between_parties, Expected, expected_there}
 use Rattle.node_talk.proofs.ActPlaces.{at_act, within_acts}
 use Rattle.link_reader.specs.NodeReaders.{ReadsFrom, HasFirstWords}
 use Rattle.link_reader.proofs.Runs.{talks_through}
@@ -38,17 +38,16 @@ use Rattle.node_run.specs.Mail.{Mail, outlet_to}
 use Rattle.node_run.specs.Progress.{Begin, Agrees, InOrder, before_session}
 use Rattle.node_run.proofs.KnownWords.{known, agrees_known}
 
--- all sessions are done, all that is expected was read, each word that is kept was heard, and these are the words and the
--- outputs of all desks
+-- all sessions are done, all that is expected was read, each word that is kept of a message to the party was heard, and
+-- these are the words and the outputs of all desks
 pub record RanToEnd (n : Node) (start : Begin) (after : LinksReading) (ds : List Desk) (now : Mail) (r : Results)
     : Type 0 where
   pub order : InOrder n (length n.world.plan.sessions) start ds now
   pub outlets : after.outlets ≡ now.outlets
   pub words : ℕ → List ℕ
   pub read : (q : ℕ) → IsPeer n q → ReadsFrom n q (words q) start.links after (Ok tt)
-  pub heard : (m v : ℕ) → plain_cell now.words.cells m ≡ Some v
-      → (m < length (messages n.world.plan)) × ((message n.world.plan m).receiver ≡ n.me)
-      × (place_of n m < length (words (message n.world.plan m).sender))
+  pub heard : (m v : ℕ) → (message n.world.plan m).receiver ≡ n.me → plain_cell now.words.cells m ≡ Some v
+      → (place_of n m < length (words (message n.world.plan m).sender))
       × (v ≡ slice_index (words (message n.world.plan m).sender) (place_of n m))
   pub kept_words : r.words ≡ now.words.cells
   pub kept_outputs : r.outputs ≡ map (λ (d : Desk). d.memory.outputs.items) ds
@@ -63,6 +62,13 @@ element : {A B : Type 0} (f : A → B) (xs : List A) (j : ℕ) (e : B) → j < l
 element f [] j e l = absurd (omega arith)
 element f (x ∷ xs) zero e l = (x, (λ d. refl), refl)
 element f (x ∷ xs) (suc j) e l = element f xs j e (omega arith)
+
+-- an instruction that isn't the end stands in its list
+inside : (es : List Instruction) (q : ℕ) (i : Instruction) → at es q ≡ i → (End ≡ i → ⊥) → q < length es
+inside es q i is ne = elim (cases_lt q (length es)) [
+  | inl l ↦ l
+  | inr past ↦ absurd (ne (sym (get_or_past es q End past) ∙ is))
+]
 
 module _ (n : Node) (start : Begin) (after : LinksReading) (ds : List Desk) (now : Mail) (r : Results) (h : RanToEnd n start after ds now r) where
   part : IsPart n.world n.me
@@ -82,15 +88,21 @@ module _ (n : Node) (start : Begin) (after : LinksReading) (ds : List Desk) (now
       let key : Key = message n.world.plan m in
       let o = once n.world.plan m lm in
       let takes' : at (program n.world.plan n.me key.session) o.taken.position ≡ Take m key.share = ap (λ z. at (program n.world.plan z key.session) o.taken.position) (sym to) ∙ o.taken.stands in
-      let less : o.taken.position < length (program n.world.plan n.me key.session) = inside (program n.world.plan n.me key.session) o.taken.position m key.share takes' in
+      let less : o.taken.position < length (program n.world.plan n.me key.session) = inside (program n.world.plan n.me key.session) o.taken.position (Take m key.share) takes' (λ f. cc) in
       let lk : before_session n key.session + o.taken.position < length (acts n) = (let a = within_acts n key.session (suc o.taken.position) o.session_there (omega arith) in omega arith) in
       h.order.going.taken (before_session n key.session + o.taken.position) m key.share lk (at_act n key.session o.taken.position o.session_there less ∙ takes')
-    where
-      inside : (es : List Instruction) (q m i : ℕ) → at es q ≡ Take m i → q < length es
-      inside es q m i is = elim (cases_lt q (length es)) [
-        | inl l ↦ l
-        | inr past ↦ absurd (let f : End ≡ Take m i = sym (get_or_past es q End past) ∙ is in cc)
-      ]
+
+  -- a word that it sent is kept, and is its own
+  sent_word : (m : ℕ) → m < length (messages n.world.plan) → (message n.world.plan m).sender ≡ n.me → plain_cell now.words.cells m ≡ Some (own_word n (known n now.words.cells) (message n.world.plan m))
+  sent_word m lm from =
+      let key : Key = message n.world.plan m in
+      let o = once n.world.plan m lm in
+      let posts' : at (program n.world.plan n.me key.session) o.posted.position ≡ Post m key.share = ap (λ z. at (program n.world.plan z key.session) o.posted.position) (sym from) ∙ o.posted.stands in
+      let less : o.posted.position < length (program n.world.plan n.me key.session) = inside (program n.world.plan n.me key.session) o.posted.position (Post m key.share) posts' (λ f. cc) in
+      let lk : before_session n key.session + o.posted.position < length (acts n) = (let a = within_acts n key.session (suc o.posted.position) o.session_there (omega arith) in omega arith) in
+      let v = h.order.going.posted (before_session n key.session + o.posted.position) m key.share lk (at_act n key.session o.posted.position o.session_there less ∙ posts') in
+      let b = between_parties n part m lm in
+      v.1 ∙ ap Some ((h.order.going.own_words m v.0 v.1 (λ to. b.apart (from ∙ sym to))).1 (known n now.words.cells) agrees)
 
   first_words : (q : ℕ) → IsPeer n q → HasFirstWords n q (known n now.words.cells) (length (expected n q)) (h.words q)
   first_words q peer = (
@@ -98,8 +110,8 @@ module _ (n : Node) (start : Begin) (after : LinksReading) (ds : List Desk) (now
     λ place l.
         let x : Expected n q place = expected_there n q place l in
         let v = found x.number x.there x.receiver in
-        let e = h.heard x.number v.0 v.1 in
-        ap (known n now.words.cells) (sym x.same) ∙ agrees x.number v.0 v.1 ∙ e.3 ∙ ap (λ z. slice_index (h.words z) (place_of n x.number)) x.sender ∙ ap (slice_index (h.words q)) x.place_is,
+        let e = h.heard x.number v.0 x.receiver v.1 in
+        ap (known n now.words.cells) (sym x.same) ∙ agrees x.number v.0 x.receiver v.1 ∙ e.1 ∙ ap (λ z. slice_index (h.words z) (place_of n x.number)) x.sender ∙ ap (slice_index (h.words q)) x.place_is,
   )
 
   talked : TalkedThrough n (known n now.words.cells) start.links after
@@ -126,7 +138,8 @@ module _ (n : Node) (start : Begin) (after : LinksReading) (ds : List Desk) (now
   done = record {
     message_count = ap length h.kept_words ∙ h.order.going.own.cells;
     session_count = ap length h.kept_outputs ∙ length-map ds (λ (d : Desk). d.memory.outputs.items) ∙ h.order.many;
-    words = λ m lm to. let v = found m lm to in read_is m ∙ v.1 ∙ ap Some (sym (agrees m v.0 v.1));
+    words = λ m lm to. let v = found m lm to in kept_is m ∙ v.1 ∙ ap Some (sym (agrees m v.0 to v.1));
+    sent = λ m lm from. kept_is m ∙ sent_word m lm from;
     outputs = λ s o ls lo read.
         let x = output_is s o ls in
         let desk = desk_there s x.0 ls x.1 in
@@ -135,19 +148,19 @@ module _ (n : Node) (start : Begin) (after : LinksReading) (ds : List Desk) (now
         let es = program n.world.plan n.me s in
         x.2 ∙ desk.memory.outputs o ∙ ap (λ q. (state l q).outputs o) end ∙ ap (λ σ. σ.outputs o) (state_is l (length es) ∙ run_all l es new_state)
         ∙ (met n.world (part_plan n.world n.me part) (known n now.words.cells) s n.me ls part.party (part_words n.world n.me part s)).1.outputs o lo read;
-    no_word = λ m ne. read_is m ∙ none_there (plain_cell now.words.cells m) m refl ne;
+    no_word = λ m ne ns. kept_is m ∙ none_there (plain_cell now.words.cells m) m refl ne ns;
     no_output = λ s o v ls e.
         let x = output_is s o ls in
         let desk = desk_there s x.0 ls x.1 in
         (opens_right n.world (part_plan n.world n.me part) (known n now.words.cells) s n.me ls part.party (part_words n.world n.me part s) x.0.position o v (sym (desk.memory.outputs o) ∙ sym x.2 ∙ e)).0;
   }
     where
-      read_is : (m : ℕ) → word_read r m ≡ plain_cell now.words.cells m
-      read_is m = ap (λ z. slice_index_or z m None) h.kept_words ∙ cell_is now.words.cells m
+      kept_is : (m : ℕ) → word_kept r m ≡ plain_cell now.words.cells m
+      kept_is m = ap (λ z. slice_index_or z m None) h.kept_words ∙ cell_is now.words.cells m
 
-      none_there : (o : Option ℕ) (m : ℕ) → plain_cell now.words.cells m ≡ o → (message n.world.plan m).receiver ≢ n.me → o ≡ None
-      none_there None m is ne = refl
-      none_there (Some v) m is ne = absurd (ne (h.heard m v is).1)
+      none_there : (o : Option ℕ) (m : ℕ) → plain_cell now.words.cells m ≡ o → (message n.world.plan m).receiver ≢ n.me → (message n.world.plan m).sender ≢ n.me → o ≡ None
+      none_there None m is ne ns = refl
+      none_there (Some v) m is ne ns = absurd (ns (h.order.going.own_words m v is ne).0)
 
   pub is_done : (got : Key → ℕ) × IsDone n got r × TalkedThrough n got start.links after
   is_done = (known n now.words.cells, done, talked)

@@ -146,6 +146,8 @@ all_greeted n start c h = record {
   own = h.own;
   within = omega arith;
   taken = λ j m i l e. absurd (omega arith);
+  posted = λ j m i l e. absurd (omega arith);
+  own_words = λ m v e ne. absurd (let f : None ≡ Some v = sym (h.words m) ∙ e in cc);
   sent = λ got ag q peer. h.sent q peer peer.0 ∙ ap (added (out_to n start.links q).told) (sym (said_nothing n q (own_word n got)));
   calm = h.calm;
   room = λ q peer. h.room q peer peer.0;

@@ -1,4 +1,4 @@
--- The words that a node read, as a function of messages.
+-- The words that a node keeps, as a function of messages.
 use Rattle.std.proofs.Common.{◌≡◌, ◌≢◌, ℕ, zero, suc, ◌<◌, List, [], ◌∷◌, length, refl, sym, ap, ◌∙◌, arith, Bool, true, false, Option, Some, None}
 use Rattle.std.specs.Option.{is_some}
 use Rattle.std.proofs.lemmas.Bool.{cases_eq}
@@ -8,10 +8,10 @@ use Rattle.job_plan.specs.Messages.{messages}
 use Rattle.job_plan.specs.Numbers.{number}
 use Rattle.job_plan.proofs.DistinctMessages.{numbers_are_inverse}
 use Rattle.message_board.specs.Plain.{plain_cell}
-use Rattle.party_program.specs.declared.program.Instruction.TheVariants.{Take}
+use Rattle.party_program.specs.declared.program.Instruction.TheVariants.{Post, Take}
 use Rattle.party_program.specs.Programs.{at}
 use Rattle.node_talk.specs.Talks.{Node, acts}
-use Rattle.node_run.specs.Progress.{Agrees, HasTaken}
+use Rattle.node_run.specs.Progress.{Agrees, HasTaken, HasPosted}
 
 abbrev or_zero : Option ℕ → ℕ
 or_zero None = 0
@@ -26,12 +26,18 @@ cell_there (x ∷ xs) zero v e = omega arith
 cell_there (x ∷ xs) (suc m) v e = let a = cell_there xs m v e in omega (arith, a)
 
 pub agrees_known : (n : Node) (cells : List (Option ℕ)) → length cells ≡ length (messages n.world.plan) → Agrees n cells (known n cells)
-agrees_known n cells long m v e =
+agrees_known n cells long m v to e =
     let there : m < length (messages n.world.plan) = (let a = cell_there cells m v e in omega (arith, a, long)) in
     ap (λ z. or_zero (plain_cell cells z)) ((numbers_are_inverse n.world.plan).0 m there) ∙ ap or_zero e
 
 pub later_taken : (n : Node) (k : ℕ) (cells : List (Option ℕ)) → HasTaken n k cells → ((m i : ℕ) → at (acts n) k ≡ Take m i → (v : ℕ) × (plain_cell cells m ≡ Some v)) → HasTaken n (suc k) cells
 later_taken n k cells h here j m i l e = elim (cases_eq j k) [
+  | inl same ↦ here m i (ap (at (acts n)) (sym same) ∙ e)
+  | inr ne ↦ h j m i (omega arith) e
+]
+
+pub later_posted : (n : Node) (k : ℕ) (cells : List (Option ℕ)) → HasPosted n k cells → ((m i : ℕ) → at (acts n) k ≡ Post m i → (v : ℕ) × (plain_cell cells m ≡ Some v)) → HasPosted n (suc k) cells
+later_posted n k cells h here j m i l e = elim (cases_eq j k) [
   | inl same ↦ here m i (ap (at (acts n)) (sym same) ∙ e)
   | inr ne ↦ h j m i (omega arith) e
 ]

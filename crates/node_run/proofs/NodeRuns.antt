@@ -24,6 +24,7 @@ use Rattle.node_talk.specs.Runs.{Results, IsDone, TalkedThrough, BrokeOff}
 use Rattle.node_talk.proofs.NoCauses.{no_cause}
 use Rattle.node_talk.proofs.RightRuns.{joins}
 use Rattle.node_talk.proofs.ExpectedPlaces.{placed}
+use Rattle.node_talk.proofs.ActPlaces.{taken_by}
 use Rattle.link_reader.specs.NodeReaders.{incoming, ReadsFrom, HasReadWords}
 use Rattle.link_reader.proofs.BrokenOffRuns.{breaks_off}
 use Rattle.link_reader.specs.ReadWords.{Reads, CameShort}
@@ -39,7 +40,7 @@ use Rattle.node_run.proofs.SessionSteps.{stopped_at}
 use Rattle.node_run.proofs.DoneRuns.{is_done}
 use Rattle.node_run.proofs.CellChanges.{place_within}
 use Rattle.node_run.proofs.ReaderRuns.{peer_at, all_stay, spawner_rests}
-use Rattle.node_run.proofs.PeerEnds.{place_there, place_less, words_of, end_at, FirstEnd, first_end, stays_at, PeerRead, peer_read, WordRead, word_read, there, receiver, sender, gave_all}
+use Rattle.node_run.proofs.PeerEnds.{place_there, place_less, words_of, end_at, FirstEnd, first_end, stays_at, PeerRead, peer_read, WordRead, word_read, there, sender, gave_all}
 
 -- ---- the clauses, by the answer
 
@@ -120,7 +121,7 @@ module _ (n : Node) (start : Begin) (after : LinksReading) (now : Mail) (own : I
     read = λ q peer. inl refl;
     taken = λ j m i l e. let v = s.taken j m i l e in absurd (let f : None ≡ Some v.0 = sym (none m) ∙ v.1 in cc);
     sent = λ got has q peer. subst (AddedPrefix (out_to n start.links q).told (said n q (own_word n got) (suc s.k))) (sym (ap (λ z. z.told) (outlet_same q)))
-        (s.sent got (λ m v e. absurd (let f : None ≡ Some v = sym (none m) ∙ e in cc)) q peer);
+        (s.sent got (λ m v to e. absurd (let f : None ≡ Some v = sym (none m) ∙ e in cc)) q peer);
   })
 
   module _ (fault : Option NodeFault) (h : AllEnd n now 0 start.links.inlets after.inlets fault) where
@@ -137,16 +138,16 @@ module _ (n : Node) (start : Begin) (after : LinksReading) (now : Mail) (own : I
         let e = end_at n now 0 start.links.inlets after.inlets fault h (place_among n.me q) (place_among n.me q) (within q peer) (omega arith) in
         (e.result, subst (λ z. PeerRead n now start.links after q z e.result) e.same (peer_read n now start.links after q e.result own.me peer.1 e.end), e.none)
 
-    taken_word : (m v : ℕ) → plain_cell now.words.cells m ≡ Some v → WordRead n m v (words (message n.world.plan m).sender)
-    taken_word m v is =
-        let r = read (message n.world.plan m).sender (sender n start now own mail m v is) in
-        word_read n start now own mail m v is start.links after (words (message n.world.plan m).sender) r.0 r.1
+    taken_word : (m v : ℕ) → (message n.world.plan m).receiver ≡ n.me → plain_cell now.words.cells m ≡ Some v → WordRead n m v (words (message n.world.plan m).sender)
+    taken_word m v to is =
+        let r = read (message n.world.plan m).sender (sender n start now own mail m v to is) in
+        word_read n start now own mail m v to is start.links after (words (message n.world.plan m).sender) r.0 r.1
 
     agrees : (got : Key → ℕ) → HasReadWords n got words → Agrees n now.words.cells got
-    agrees got has m v is =
-        let w = taken_word m v is in
-        let p = placed n m (there n start now own mail m v is) (receiver n start now own mail m v is) in
-        ap got (sym p.1) ∙ (has (message n.world.plan m).sender (sender n start now own mail m v is)).1 (place_of n m) w.within ∙ sym w.word
+    agrees got has m v to is =
+        let w = taken_word m v to is in
+        let p = placed n m (there n start now own mail m v to is) to in
+        ap got (sym p.1) ∙ (has (message n.world.plan m).sender (sender n start now own mail m v to is)).1 (place_of n m) w.within ∙ sym w.word
 
     pub broke_while_read : Stopped n start now → (got : Key → ℕ) × BrokeOff n got start.links after
     broke_while_read s = breaks_off n own.part own.digest start.links after (record {
@@ -154,7 +155,10 @@ module _ (n : Node) (start : Begin) (after : LinksReading) (now : Mail) (own : I
       within = s.within;
       words = words;
       read = λ q peer. let r = read q peer in inr (r.0, r.1.reads);
-      taken = λ j m i l e. let v = s.taken j m i l e in (taken_word m v.0 v.1).within;
+      taken = λ j m i l e.
+          let v = s.taken j m i l e in
+          let t = taken_by n own.part j m i (let b = s.within in omega (arith, l, b)) e in
+          (taken_word m v.0 t.1 v.1).within;
       sent = λ got has q peer. subst (AddedPrefix (out_to n start.links q).told (said n q (own_word n got) (suc s.k))) (sym (ap (λ z. z.told) (outlet_same q))) (s.sent got (agrees got has) q peer);
     })
 
@@ -191,7 +195,7 @@ module _ (n : Node) (start : Begin) (after : LinksReading) (now : Mail) (own : I
       outlets = outlets;
       words = words;
       read = λ q peer. let r = read q peer in whole_reads q (words q) r.0 (r.2 none) r.1.reads;
-      heard = λ m v e. let w = taken_word m v e in (there n start now own mail m v e, receiver n start now own mail m v e, w.within, w.word);
+      heard = λ m v to e. let w = taken_word m v to e in (w.within, w.word);
       kept_words = ap (λ z. z.words) is;
       kept_outputs = ap (λ z. z.outputs) is;
     })

@@ -21,7 +21,7 @@ use Rattle.link_reader.specs.Heard.{StaysSteady}
 use Rattle.link_reader.specs.NodeReaders.{incoming, ReadsFrom}
 use Rattle.link_reader.specs.ReadWords.{Reads}
 use Rattle.link_reader.proofs.Runs.{came_so_far, whole_words}
-use Rattle.node_run.specs.Mail.{Mail, IsRead, IsMail, place_to, no_box, box_of}
+use Rattle.node_run.specs.Mail.{Mail, IsMail, place_to, no_box, box_of}
 use Rattle.node_run.specs.Progress.{Begin, IsOf}
 use Rattle.node_run.specs.Remains.{party_at, PeerEnd, first_of, AllEnd, AllStaySteady}
 use Rattle.node_run.specs.NodeRuns.{GaveAll}
@@ -138,7 +138,7 @@ peer_read n now before after q result me other h = record {
 
 -- ---- words that were taken
 
--- a word that is kept is the one that its sender's reader read, at the message's place
+-- a word that is kept of a message to the party is the one that its sender's reader read, at the message's place
 pub record WordRead (n : Node) (m v : ℕ) (words : List ℕ) : Type 0 where
   pub within : place_of n m < length words
   pub word : v ≡ slice_index words (place_of n m)
@@ -148,25 +148,20 @@ small_word n q words before after result place l reads =
     let c = came_so_far (incoming n q) words (in_from n before q) (in_from n after q) result (omega arith) reads in
     every_at (λ w. w < 2 ^ n.world.plan.bits) words place (pow_pos n.world.plan.bits) c.1.small
 
-module _ (n : Node) (start : Begin) (now : Mail) (own : IsOf n start now) (mail : IsMail now) (m v : ℕ) (is : plain_cell now.words.cells m ≡ Some v) where
-  r : IsRead now m v
-  r = mail.read m v is
+module _ (n : Node) (start : Begin) (now : Mail) (own : IsOf n start now) (mail : IsMail now) (m v : ℕ) (to : (message n.world.plan m).receiver ≡ n.me) (is : plain_cell now.words.cells m ≡ Some v) where
+  receiver : (message now.plan m).receiver ≡ now.me
+  receiver = ap (λ z. (message z m).receiver) own.plan ∙ to ∙ sym own.me
 
   pub there : m < length (messages n.world.plan)
-  there = subst (λ z. m < length (messages z)) own.plan (mail.read m v is).there
-
-  pub receiver : (message n.world.plan m).receiver ≡ n.me
-  receiver = subst (λ z. (message z m).receiver ≡ n.me) own.plan ((mail.read m v is).receiver ∙ own.me)
+  there = subst (λ z. m < length (messages z)) own.plan (mail.read m v receiver is).there
 
   pub sender : IsPeer n (message n.world.plan m).sender
-  sender =
-      let b = between_parties n own.part m (subst (λ z. m < length (messages z)) own.plan (mail.read m v is).there) in
-      (b.sender, λ e. b.apart (e ∙ sym (subst (λ z. (message z m).receiver ≡ n.me) own.plan ((mail.read m v is).receiver ∙ own.me))))
+  sender = let b = between_parties n own.part m there in (b.sender, λ e. b.apart (e ∙ sym to))
 
   pub word_read : (before after : LinksReading) (words : List ℕ) (result : Result (Unit {0}) NodeFault) → PeerRead n now before after (message n.world.plan m).sender words result → WordRead n m v words
   word_read before after words result p =
-      let x = mail.read m v is in
-      let place : slice_index now.places m ≡ place_of n m = mail.placed m x.there x.receiver ∙ ap (λ z. place_to z now.me m) own.plan ∙ ap (λ z. place_to n.world.plan z m) own.me in
+      let x = mail.read m v receiver is in
+      let place : slice_index now.places m ≡ place_of n m = mail.placed m x.there receiver ∙ ap (λ z. place_to z now.me m) own.plan ∙ ap (λ z. place_to n.world.plan z m) own.me in
       let known : Knows (box_of now (message n.world.plan m).sender).view.seen (place_of n m) x.found =
       subst (λ z. Knows (box_of now (message n.world.plan m).sender).view.seen z x.found) place (subst (λ z. Knows (box_of now (message z m).sender).view.seen (slice_index now.places m) x.found) own.plan x.known) in
       let k = p.got.known (place_of n m) x.found known in

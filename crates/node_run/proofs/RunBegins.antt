@@ -86,7 +86,7 @@ module _ (share : Share) (kept : Kept) (h : IsReady share kept) where
             let at = p.each m lm in
             let within = (placed some m lm to).0 in
             omega (arith, places, at, within);
-        read = λ m v e. absurd (let f : None ≡ Some v = sym (h.words.empty m) ∙ e in cc);
+        read = λ m v to e. absurd (let f : None ≡ Some v = sym (h.words.empty m) ∙ e in cc);
       }
 
   -- over an equal plan

@@ -30,7 +30,7 @@ module _ (n : Node) (s : ℕ) (start : Begin) (ds : List Desk) (c : Mail) (h : I
     many = length-set ds s e ∙ h.many;
     done = λ got ag t d l is. elim (cases_eq t s) [
       | inl same ↦ subst (λ z. IsDesk (local_given n.world got z n.me) d) (sym same) (subst (IsDesk (local_given n.world got s n.me)) (set_is t d is same) (i.desk got ag))
-      | inr ne ↦ h.done got (λ m v f. ag m v (keeps m v f)) t d (omega arith) (other_is t d is ne)
+      | inr ne ↦ h.done got (λ m v to f. ag m v to (keeps m v f)) t d (omega arith) (other_is t d is ne)
     ];
     ended = λ t d l is. elim (cases_eq t s) [
       | inl same ↦ ap (λ (z : Desk). z.position) (sym (set_is t d is same)) ∙ end ∙ ap (λ z. length (program n.world.plan n.me z)) (sym same)

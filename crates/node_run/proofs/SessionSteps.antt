@@ -1,5 +1,5 @@
 -- What one step of a desk does to a node.
-use Rattle.std.proofs.Common.{◌≡◌, ◌≢◌, ℕ, suc, ◌+◌, ◌<◌, nat_eq, List, [], ◌∷◌, ◌++◌, length, refl, sym, ap, ◌∙◌, subst, arith, Option, Some, None, Result, Ok, Err}
+use Rattle.std.proofs.Common.{◌≡◌, ◌≢◌, ◌⊎◌, ℕ, suc, ◌+◌, ◌<◌, nat_eq, List, [], ◌∷◌, ◌++◌, length, refl, sym, ap, ◌∙◌, subst, arith, ⊎_elim, Option, Some, None, Result, Ok, Err}
 use Rattle.std.proofs.lemmas.Bool.{cases_eq, cases_lt, cond-true, cond-false, eq-eqb, ne_eqb}
 use Rattle.std.proofs.lemmas.List.{append-nil, take_all, get_or_past}
 use Rattle.std.specs.Prelude.{slice_index_or, ◌^◌}
@@ -9,7 +9,8 @@ use Rattle.job_plan.specs.Plans.{Plan}
 use Rattle.job_plan.specs.declared.key.Key.{Key}
 use Rattle.job_plan.specs.Messages.{messages}
 use Rattle.job_plan.specs.Numbers.{message}
-use Rattle.message_board.specs.Plain.{plain_cell}
+use Rattle.message_board.specs.Plain.{plain_cell, plain_put}
+use Rattle.message_board.proofs.CellPosts.{put_length, put_keeps, put_new}
 use Rattle.message_board.specs.declared.cells.Posted.{Posted}
 use Rattle.message_board.specs.declared.cells.Posted.TheVariants.{Done}
 use Rattle.message_board.specs.declared.cells.Cells.{Ghosts as Meaning}
@@ -38,9 +39,10 @@ use Rattle.node_talk.specs.PeerLinks.{place_among, no_outlet, out_to}
 use Rattle.node_talk.proofs.Frames.{said_step, said_prefix}
 use Rattle.node_talk.proofs.ExpectedPlaces.{between_parties}
 use Rattle.node_talk.proofs.ActPlaces.{at_act, within_acts, taken_there}
-use Rattle.node_run.specs.Mail.{Mail, SentTo, MayPost, MayTake, Takes, failed_after, outlet_to, box_of}
-use Rattle.node_run.specs.Progress.{Begin, Agrees, HasTaken, IsOf, Going, KeepsRoom, OutletStays, Stopped, StopsBy, Halted, InSession, before_session, ids_of, said_bytes}
-use Rattle.node_run.proofs.KnownWords.{known, agrees_known, later_taken}
+use Rattle.node_run.specs.Mail.{Mail, SentTo, MayPost, MayTake, Takes, with_post, failed_after, outlet_to, box_of}
+use Rattle.node_run.specs.Progress.{Begin, Agrees, HasTaken, HasPosted, KeepsOwn, IsOf, Going, KeepsRoom, OutletStays, Stopped, StopsBy, Halted, InSession, before_session, ids_of, said_bytes}
+use Rattle.node_run.proofs.KnownWords.{known, agrees_known, later_taken, later_posted}
+use Rattle.node_run.proofs.CellChanges.{put_some}
 use Rattle.node_run.proofs.OutletSteps.{bytes_more, bytes_within, room_then, room_at, Sent, Unsent, sent_ok, sent_err, going_stays, other_stays, failed_stays}
 
 pub whole_prefix : (a : List ℕ) (told told' : Option (List ℕ)) → told' ≡ added told a → AddedPrefix told a told'
@@ -62,7 +64,7 @@ stopped_at n k start c g = record {
 pub record AreNodeCells (cells : Meaning Mail) : Type 0 where
   pub may_post : (c : Mail) (m w : ℕ) → MayPost c m w → cells.may_post c m w
   pub may_take : (c : Mail) (m : ℕ) → MayTake c m → cells.may_take c m
-  pub put : (c : Mail) (m w : ℕ) (p : Posted) (d : Mail) → cells.put c m w p d → (p ≡ Done) × SentTo (message c.plan m).receiver (frame (message c.plan m) w) c d
+  pub put : (c : Mail) (m w : ℕ) (p : Posted) (d : Mail) → cells.put c m w p d → (p ≡ Done) × SentTo (message c.plan m).receiver (frame (message c.plan m) w) (with_post c m w) d
   pub took : (c : Mail) (m : ℕ) (a : Option ℕ) (d : Mail) → cells.took c m a d → Takes c m a d
   pub got : (c : Mail) (m w : ℕ) → cells.got c m w → plain_cell c.words.cells m ≡ Some w
 
@@ -71,7 +73,7 @@ node_cells = record {
   may_post = MayPost;
   may_take = MayTake;
   got = λ c m w. plain_cell c.words.cells m ≡ Some w;
-  put = λ c m w p d. (p ≡ Done) × SentTo (message c.plan m).receiver (frame (message c.plan m) w) c d;
+  put = λ c m w p d. (p ≡ Done) × SentTo (message c.plan m).receiver (frame (message c.plan m) w) (with_post c m w) d;
   took = Takes;
   below = λ c k. c.plan.bits ≡ k;
 }
@@ -91,7 +93,7 @@ module _ (n : Node) (s : ℕ) (start : Begin) (d : Desk) (c : Mail) (h : InSessi
   pub rested : (c' : Mail) → c' ≡ record c { words = c'.words; boxes = c'.boxes } → c'.words.cells ≡ c.words.cells → ids_of c'.boxes ≡ ids_of c.boxes → InSession n s start d c'
   rested c' rest same ids =
       let outlet_same : (q : ℕ) → outlet_to c' q ≡ outlet_to c q = λ q. ap (λ (z : Mail). outlet_to z q) rest in
-      let before' : (got : Key → ℕ) → Agrees n c'.words.cells got → Agrees n c.words.cells got = λ got ag m v e. ag m v (ap (λ z. plain_cell z m) same ∙ e) in
+      let before' : (got : Key → ℕ) → Agrees n c'.words.cells got → Agrees n c.words.cells got = λ got ag m v to e. ag m v to (ap (λ z. plain_cell z m) same ∙ e) in
       record {
         session = h.session;
         desk = λ got ag. h.desk got (before' got ag);
@@ -106,6 +108,8 @@ module _ (n : Node) (s : ℕ) (start : Begin) (d : Desk) (c : Mail) (h : InSessi
           };
           within = h.going.within;
           taken = subst (HasTaken n (before_session n s + d.position)) (sym same) h.going.taken;
+          posted = subst (HasPosted n (before_session n s + d.position)) (sym same) h.going.posted;
+          own_words = subst (KeepsOwn n) (sym same) h.going.own_words;
           sent = λ got ag q peer. ap (λ z. z.told) (outlet_same q) ∙ h.going.sent got (before' got ag) q peer;
           calm = λ q peer. ap (λ z. z.faults) (outlet_same q) ∙ h.going.calm q peer;
           room = λ q peer. subst (KeepsRoom (said_bytes n q (before_session n s + d.position)) (out_to n start.links q)) (sym (outlet_same q)) (h.going.room q peer);
@@ -193,7 +197,8 @@ module _ (cells : Meaning Mail) (are : AreNodeCells cells) (n : Node) (s : ℕ) 
 
     module _ (c' : Mail) (own : IsOf n start c') (outlets : c'.outlets ≡ c.outlets) (failed : c'.failed ≡ c.failed) (me : c'.me ≡ c.me)
         (keeps : (m v : ℕ) → plain_cell c.words.cells m ≡ Some v → plain_cell c'.words.cells m ≡ Some v)
-        (no_post : (q : ℕ) (word : Key → ℕ) → frames word (post_to plan q e) ≡ []) (took : (m i : ℕ) → e ≡ Take m i → (v : ℕ) × (plain_cell c'.words.cells m ≡ Some v)) where
+        (news : (m v : ℕ) → (message plan m).receiver ≢ n.me → plain_cell c'.words.cells m ≡ Some v → plain_cell c.words.cells m ≡ Some v)
+        (no_post : (q : ℕ) (word : Key → ℕ) → frames word (post_to plan q e) ≡ []) (not_post : (m i : ℕ) → e ≡ Post m i → ⊥) (took : (m i : ℕ) → e ≡ Take m i → (v : ℕ) × (plain_cell c'.words.cells m ≡ Some v)) where
       outlet_same : (q : ℕ) → outlet_to c' q ≡ outlet_to c q
       outlet_same q = ap (λ z. slice_index_or z (place_among c'.me q) no_outlet) outlets ∙ ap (λ z. slice_index_or c.outlets (place_among z q) no_outlet) me
 
@@ -205,8 +210,10 @@ module _ (cells : Meaning Mail) (are : AreNodeCells cells) (n : Node) (s : ℕ) 
         own = own;
         within = (let a = lk in omega arith);
         taken = later_taken n k c'.words.cells (λ j m i l f. let v = h.going.taken j m i l f in (v.0, keeps m v.0 v.1)) (λ m i f. took m i (sym act_is ∙ f));
+        posted = later_posted n k c'.words.cells (λ j m i l f. let v = h.going.posted j m i l f in (v.0, keeps m v.0 v.1)) (λ m i f. absurd (not_post m i (sym act_is ∙ f)));
+        own_words = λ m v f ne. let o = h.going.own_words m v (news m v ne f) ne in (o.0, λ got agrees. o.1 got (λ m' v' to g. agrees m' v' to (keeps m' v' g)));
         sent = λ got agrees q peer.
-            ap (λ z. z.told) (outlet_same q) ∙ h.going.sent got (λ m v f. agrees m v (keeps m v f)) q peer ∙ ap (added (out_to n start.links q).told) (sym (said_same q (own_word n got) (no_post q (own_word n got))));
+            ap (λ z. z.told) (outlet_same q) ∙ h.going.sent got (λ m v to f. agrees m v to (keeps m v f)) q peer ∙ ap (added (out_to n start.links q).told) (sym (said_same q (own_word n got) (no_post q (own_word n got))));
         calm = λ q peer. ap (λ z. z.faults) (outlet_same q) ∙ h.going.calm q peer;
         room = λ q peer. subst (KeepsRoom (said_bytes n q (suc k)) (out_to n start.links q)) (sym (outlet_same q)) (room_at (said_bytes n q k) (said_bytes n q (suc k)) _ _ (no_bytes q) (h.going.room q peer));
         quiet = failed ∙ h.going.quiet;
@@ -215,18 +222,18 @@ module _ (cells : Meaning Mail) (are : AreNodeCells cells) (n : Node) (s : ℕ) 
     -- ---- a post
 
     module _ (m i : ℕ) (is : e ≡ Post m i) (there : m < length (messages n.world.plan)) (sender : (message n.world.plan m).sender ≡ n.me) (c' : Mail)
-        (sents : (got : Key → ℕ) → Agrees n c.words.cells got → SentTo (message n.world.plan m).receiver (frame (message n.world.plan m) (own_word n got (message n.world.plan m))) c c') where
+        (sents : (got : Key → ℕ) → Agrees n c.words.cells got → SentTo (message n.world.plan m).receiver (frame (message n.world.plan m) (own_word n got (message n.world.plan m))) (with_post c m (own_word n got (message n.world.plan m))) c') where
       abbrev to_q : ℕ
       to_q = (message plan m).receiver
 
       abbrev bytes : (Key → ℕ) → List ℕ
       bytes got = frame (message plan m) (own_word n got (message plan m))
 
-      some_sent : SentTo to_q (bytes (known n c.words.cells)) c c'
-      some_sent = sents (known n c.words.cells) (agrees_known n c.words.cells h.going.own.cells)
+      old_agrees : Agrees n c.words.cells (known n c.words.cells)
+      old_agrees = agrees_known n c.words.cells h.going.own.cells
 
-      rest : c' ≡ record c { outlets = c'.outlets; failed = c'.failed }
-      rest = some_sent.rest ∙ ap (λ z. record c { outlets = c'.outlets; failed = z }) (sym (ap (λ z. z.failed) some_sent.rest))
+      some_sent : SentTo to_q (bytes (known n c.words.cells)) (with_post c m (own_word n (known n c.words.cells) (message plan m))) c'
+      some_sent = sents (known n c.words.cells) (agrees_known n c.words.cells h.going.own.cells)
 
       to_peer : IsPeer n to_q
       to_peer = let b = between_parties n h.going.own.part m there in (b.receiver, λ f. b.apart (sender ∙ sym f))
@@ -240,20 +247,57 @@ module _ (cells : Meaning Mail) (are : AreNodeCells cells) (n : Node) (s : ℕ) 
       said_there : (got : Key → ℕ) (q : ℕ) → to_q ≢ q → said n q (own_word n got) (suc k) ≡ said n q (own_word n got) k
       said_there got q ne = said_same q (own_word n got) (ap (λ z. frames (own_word n got) (post_to plan q z)) is ∙ post_there plan m i (own_word n got) q ne)
 
-      words_same : c'.words.cells ≡ c.words.cells
-      words_same = ap (λ z. z.words.cells) rest
+      -- the cells have the word of the message, as the party has it by itself
+      cells_are : (got : Key → ℕ) → Agrees n c.words.cells got → c'.words.cells ≡ plain_put c.words.cells m (own_word n got (message plan m))
+      cells_are got ag = ap (λ (z : Mail). z.words.cells) (sents got ag).rest
+
+      lm : m < length c.words.cells
+      lm = let a = h.going.own.cells in omega (arith, there, a)
+
+      kept_still : (r v : ℕ) → plain_cell c.words.cells r ≡ Some v → plain_cell c'.words.cells r ≡ Some v
+      kept_still r v f = ap (λ z. plain_cell z r) (cells_are (known n c.words.cells) old_agrees) ∙ put_keeps c.words.cells m (own_word n (known n c.words.cells) (message plan m)) r v lm f
 
       agrees_before : (got : Key → ℕ) → Agrees n c'.words.cells got → Agrees n c.words.cells got
-      agrees_before got agrees m' v f = agrees m' v (ap (λ z. plain_cell z m') words_same ∙ f)
+      agrees_before got agrees m' v to f = agrees m' v to (kept_still m' v f)
+
+      -- a word that is kept now was kept before, or is that of the message
+      new_word : (got : Key → ℕ) → Agrees n c.words.cells got → (r v : ℕ) → plain_cell c'.words.cells r ≡ Some v → (plain_cell c.words.cells r ≡ Some v) ⊎ ((r ≡ m) × (v ≡ own_word n got (message plan m)))
+      new_word got ag r v f = put_new c.words.cells m (own_word n got (message plan m)) r v lm (ap (λ z. plain_cell z r) (sym (cells_are got ag)) ∙ f)
 
       outlet_there : (q : ℕ) → IsPeer n q → to_q ≢ q → outlet_to c' q ≡ outlet_to c q
       outlet_there q peer ne = some_sent.others q (subst (λ z. q < z.parties) (sym h.going.own.plan) peer.0) (λ f. peer.1 (f ∙ h.going.own.me)) (λ f. ne (sym f))
 
       own' : IsOf n start c'
-      own' = subst (IsOf n start) (sym rest) (record { part = h.going.own.part; digest = h.going.own.digest; plan = h.going.own.plan; me = h.going.own.me; ids = h.going.own.ids; cells = h.going.own.cells })
+      own' = record {
+        part = h.going.own.part;
+        digest = h.going.own.digest;
+        plan = ap (λ (z : Mail). z.plan) some_sent.rest ∙ h.going.own.plan;
+        me = ap (λ (z : Mail). z.me) some_sent.rest ∙ h.going.own.me;
+        ids = ap (λ (z : Mail). ids_of z.boxes) some_sent.rest ∙ h.going.own.ids;
+        cells = ap length (cells_are (known n c.words.cells) old_agrees) ∙ put_length c.words.cells m (own_word n (known n c.words.cells) (message plan m)) lm ∙ h.going.own.cells;
+      }
 
       taken' : HasTaken n k c'.words.cells
-      taken' = subst (HasTaken n k) (sym words_same) h.going.taken
+      taken' j m' i' l f = let v = h.going.taken j m' i' l f in (v.0, kept_still m' v.0 v.1)
+
+      here : (v : ℕ) × (plain_cell c'.words.cells m ≡ Some v)
+      here =
+          let p = put_some c.words.cells m (own_word n (known n c.words.cells) (message plan m)) lm in
+          (p.0, ap (λ z. plain_cell z m) (cells_are (known n c.words.cells) old_agrees) ∙ p.1)
+
+      posted' : HasPosted n (suc k) c'.words.cells
+      posted' = later_posted n k c'.words.cells (λ j m' i' l f. let v = h.going.posted j m' i' l f in (v.0, kept_still m' v.0 v.1))
+          (λ m' i' f. let same : Post m i ≡ Post m' i' = sym is ∙ sym act_is ∙ f in let one : m ≡ m' = cc in (here.0, ap (plain_cell c'.words.cells) (sym one) ∙ here.1))
+
+      own_words' : KeepsOwn n c'.words.cells
+      own_words' r v f ne = (
+        ⊎_elim (λ before. (h.going.own_words r v before ne).0)
+            (λ (new : (r ≡ m) × (v ≡ own_word n (known n c.words.cells) (message plan m))). ap (λ z. (message plan z).sender) new.0 ∙ sender)
+            (new_word (known n c.words.cells) old_agrees r v f),
+        λ got agrees. ⊎_elim (λ before. (h.going.own_words r v before ne).1 got (agrees_before got agrees))
+            (λ (new : (r ≡ m) × (v ≡ own_word n got (message plan m))). new.1 ∙ ap (λ z. own_word n got (message plan z)) (sym new.0))
+            (new_word got (agrees_before got agrees) r v f),
+      )
 
       -- all of a frame, or a first part of it
       abbrev All : List ℕ → Type 0
@@ -290,6 +334,8 @@ module _ (cells : Meaning Mail) (are : AreNodeCells cells) (n : Node) (s : ℕ) 
         own = own';
         within = (let a = lk in omega arith);
         taken = later_taken n k c'.words.cells taken' (λ m' i' f. absurd (not_take m' i' (sym act_is ∙ f)));
+        posted = posted';
+        own_words = own_words';
         sent = λ got agrees q peer.
             let before' = agrees_before got agrees in
             elim (cases_eq to_q q) [
@@ -341,7 +387,7 @@ module _ (cells : Meaning Mail) (are : AreNodeCells cells) (n : Node) (s : ℕ) 
   module _ (d' : Desk) (c' : Mail) (steps : (given : Given) → MayStep cells n.world.plan c given d → Steps cells given d c d' c' (instruction_at given d) Moved)
       (keeps : (m v : ℕ) → plain_cell c.words.cells m ≡ Some v → plain_cell c'.words.cells m ≡ Some v) where
     step : (got : Key → ℕ) → Agrees n c'.words.cells got → Steps cells (l got) d c d' c' e Moved
-    step got ag = steps (l got) (may_step got (λ m v f. ag m v (keeps m v f)))
+    step got ag = steps (l got) (may_step got (λ m v to f. ag m v to (keeps m v f)))
 
     abbrev Next : Type 0
     Next = (c'.failed ≡ None → InSession n s start d' c') × (c'.failed ≢ None → Halted n start c')
@@ -363,11 +409,15 @@ module _ (cells : Meaning Mail) (are : AreNodeCells cells) (n : Node) (s : ℕ) 
     in_session g desk = record { session = h.session; desk = desk; going = subst (λ z. Going n z start c') (sym next_place) g }
 
     -- an instruction without a message
-    stays : (i : Instruction) → e ≡ i → (i ≡ End → ⊥) → ((q : ℕ) (word : Key → ℕ) → frames word (post_to plan q i) ≡ []) → ((m j : ℕ) → i ≡ Take m j → ⊥) → c' ≡ c → ((got : Key → ℕ) → Agrees n c'.words.cells got → IsDesk (l got) d') → Next
-    stays i is ne no_post no_take same desk =
+    stays : (i : Instruction) → e ≡ i → (i ≡ End → ⊥) → ((q : ℕ) (word : Key → ℕ) → frames word (post_to plan q i) ≡ []) → ((m j : ℕ) → i ≡ Post m j → ⊥) → ((m j : ℕ) → i ≡ Take m j → ⊥) → c' ≡ c → ((got : Key → ℕ) → Agrees n c'.words.cells got → IsDesk (l got) d') → Next
+    stays i is ne no_post not_post no_take same desk =
         let more = inside (λ f. ne (sym is ∙ f)) in
-        let g = goes_on more c' (subst (IsOf n start) (sym same) h.going.own) (ap (λ z. z.outlets) same) (ap (λ z. z.failed) same) (ap (λ z. z.me) same) keeps (λ q word. ap (λ z. frames word (post_to plan q z)) is ∙ no_post q word) (λ m j f. absurd (no_take m j (sym is ∙ f))) in
+        let g = goes_on more c' (subst (IsOf n start) (sym same) h.going.own) (ap (λ z. z.outlets) same) (ap (λ z. z.failed) same) (ap (λ z. z.me) same) keeps (λ m v ne' f. ap (λ (z : Mail). plain_cell z.words.cells m) (sym same) ∙ f) (λ q word. ap (λ z. frames word (post_to plan q z)) is ∙ no_post q word)
+        (λ m j f. not_post m j (sym is ∙ f)) (λ m j f. absurd (no_take m j (sym is ∙ f))) in
         (λ quiet. in_session g desk, λ some. absurd (some (ap (λ z. z.failed) same ∙ h.going.quiet)))
+
+    taken : (m j : ℕ) → e ≡ Take m j → (m < length (messages n.world.plan)) × ((message n.world.plan m).receiver ≡ n.me)
+    taken m j is = taken_there n.world n.me h.going.own.part s h.session d.position m j is
 
     takes : (m j : ℕ) → e ≡ Take m j → Next
     takes m j is =
@@ -383,14 +433,17 @@ module _ (cells : Meaning Mail) (are : AreNodeCells cells) (n : Node) (s : ℕ) 
           ids = t.ids ∙ h.going.own.ids;
           cells = t.count ∙ h.going.own.cells;
         } in
-        let g = goes_on more c' own (ap (λ z. z.outlets) t.rest) (ap (λ z. z.failed) t.rest) (ap (λ z. z.me) t.rest) keeps (λ q word. ap (λ z. frames word (post_to plan q z)) is)
+        let lm : m < length c.words.cells = (let a = (taken m j is).0 in let b = h.going.own.cells in omega (arith, a, b)) in
+        let g = goes_on more c' own (ap (λ z. z.outlets) t.rest) (ap (λ z. z.failed) t.rest) (ap (λ z. z.me) t.rest) keeps
+        (λ r v ne f. ⊎_elim (λ before. before) (λ (new : (r ≡ m) × (v ≡ x.0)). absurd (ne (ap (λ z. (message plan z).receiver) new.0 ∙ (taken m j is).1))) (put_new c.words.cells m x.0 r v lm (ap (λ z. plain_cell z r) (sym t.answers.1) ∙ f)))
+        (λ q word. ap (λ z. frames word (post_to plan q z)) is) (λ m' j' f. (let other : Take m j ≡ Post m' j' = sym is ∙ f in cc))
         (λ m' j' f. let same : Take m j ≡ Take m' j' = sym is ∙ f in let one : m ≡ m' = cc in (x.0, ap (plain_cell c'.words.cells) (sym one) ∙ known_now)) in
         (λ quiet. in_session g (λ got ag. hears got ag), λ some. absurd (some (ap (λ z. z.failed) t.rest ∙ h.going.quiet)))
       where
         hears : (got : Key → ℕ) → Agrees n c'.words.cells got → IsDesk (l got) d'
         hears got ag =
             let y = subst (Does cells (l got) d c d' c') is (step got ag).1 in
-            let w : got (message plan m) ≡ y.0 = ag m y.0 (are.got c' m y.0 y.2) in
+            let w : got (message plan m) ≡ y.0 = ag m y.0 (taken m j is).1 (are.got c' m y.0 y.2) in
             goes_by (with_word (l got) m y.0) (λ r. got (message plan r)) d' y.3 (λ r m' i' less f. elim (cases_eq m' m) [
               | left' same ↦ set_here (λ r. got (message plan r)) m m' y.0 same ∙ sym (ap (λ z. got (message plan z)) same ∙ w)
               | right' ne ↦ set_there (λ r. got (message plan r)) m m' y.0 ne
@@ -403,21 +456,22 @@ module _ (cells : Meaning Mail) (are : AreNodeCells cells) (n : Node) (s : ℕ) 
         let after' = posted more m j is right.0.number right.1.0 c' (λ got ag. sent got ag) in
         (λ quiet. in_session (after'.0 quiet) (λ got ag. (subst (Does cells (l got) d c d' c') is (step got ag).1).1), after'.1)
       where
-        sent : (got : Key → ℕ) → Agrees n c.words.cells got → SentTo (message plan m).receiver (frame (message plan m) (own_word n got (message plan m))) c c'
+        sent : (got : Key → ℕ) → Agrees n c.words.cells got → SentTo (message plan m).receiver (frame (message plan m) (own_word n got (message plan m))) (with_post c m (own_word n got (message plan m))) c'
         sent got ag =
             let x = subst (Does cells (l got) d c d' c') is (steps (l got) (may_step got ag)).1 in
             let put = (are.put c m (word_at (l got) d.position m j) x.0.0 c' x.0.1).1 in
             let own : word_at (l got) d.position m j ≡ own_word n got (message plan m) = (goes_at got (Post m j) is (λ f. cc)).1.1 in
-            subst (λ z. SentTo (message z m).receiver (frame (message z m) (own_word n got (message plan m))) c c') h.going.own.plan (subst (λ z. SentTo (message c.plan m).receiver (frame (message c.plan m) z) c c') own put)
+            subst (λ z. SentTo (message z m).receiver (frame (message z m) (own_word n got (message plan m))) (with_post c m (own_word n got (message plan m))) c') h.going.own.plan
+            (subst (λ z. SentTo (message c.plan m).receiver (frame (message c.plan m) z) (with_post c m z) c') own put)
 
     moved_at : (i : Instruction) → e ≡ i → Next
-    moved_at (Deal k' j) is = stays (Deal k' j) is (λ f. cc) (λ q word. refl) (λ m j' f. cc) (subst (Does cells (l old) d c d' c') is first.1).0 (λ got ag. (subst (Does cells (l got) d c d' c') is (step got ag).1).1)
+    moved_at (Deal k' j) is = stays (Deal k' j) is (λ f. cc) (λ q word. refl) (λ m j' f. cc) (λ m j' f. cc) (subst (Does cells (l old) d c d' c') is first.1).0 (λ got ag. (subst (Does cells (l got) d c d' c') is (step got ag).1).1)
     moved_at (Post m j) is = posts m j is
     moved_at (Take m j) is = takes m j is
-    moved_at (Linear k') is = stays (Linear k') is (λ f. cc) (λ q word. refl) (λ m j' f. cc) (subst (Does cells (l old) d c d' c') is first.1).0 (λ got ag. (subst (Does cells (l got) d c d' c') is (step got ag).1).1)
-    moved_at (Own k') is = stays (Own k') is (λ f. cc) (λ q word. refl) (λ m j' f. cc) (subst (Does cells (l old) d c d' c') is first.1).0 (λ got ag. (subst (Does cells (l got) d c d' c') is (step got ag).1).1)
-    moved_at (Sum k') is = stays (Sum k') is (λ f. cc) (λ q word. refl) (λ m j' f. cc) (subst (Does cells (l old) d c d' c') is first.1).0 (λ got ag. (subst (Does cells (l got) d c d' c') is (step got ag).1).1)
-    moved_at (Deliver k') is = stays (Deliver k') is (λ f. cc) (λ q word. refl) (λ m j' f. cc) (subst (Does cells (l old) d c d' c') is first.1).0 (λ got ag. (subst (Does cells (l got) d c d' c') is (step got ag).1).1)
+    moved_at (Linear k') is = stays (Linear k') is (λ f. cc) (λ q word. refl) (λ m j' f. cc) (λ m j' f. cc) (subst (Does cells (l old) d c d' c') is first.1).0 (λ got ag. (subst (Does cells (l got) d c d' c') is (step got ag).1).1)
+    moved_at (Own k') is = stays (Own k') is (λ f. cc) (λ q word. refl) (λ m j' f. cc) (λ m j' f. cc) (subst (Does cells (l old) d c d' c') is first.1).0 (λ got ag. (subst (Does cells (l got) d c d' c') is (step got ag).1).1)
+    moved_at (Sum k') is = stays (Sum k') is (λ f. cc) (λ q word. refl) (λ m j' f. cc) (λ m j' f. cc) (subst (Does cells (l old) d c d' c') is first.1).0 (λ got ag. (subst (Does cells (l got) d c d' c') is (step got ag).1).1)
+    moved_at (Deliver k') is = stays (Deliver k') is (λ f. cc) (λ q word. refl) (λ m j' f. cc) (λ m j' f. cc) (subst (Does cells (l old) d c d' c') is first.1).0 (λ got ag. (subst (Does cells (l got) d c d' c') is (step got ag).1).1)
     moved_at End is = absurd (subst (Does cells (l old) d c d' c') is first.1)
 
     pub moved : (c'.failed ≡ None → InSession n s start d' c') × (c'.failed ≢ None → Halted n start c')

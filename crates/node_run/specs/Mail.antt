@@ -1,8 +1,9 @@
--- What a node keeps while it runs its sessions: its outlets, the words that it read, and the inboxes of its peers.
+-- What a node keeps while it runs its sessions: its outlets, the words that it sent and read, and the inboxes of its
+-- peers.
 use Rattle.std.specs.Prelude.{◌≡◌, ◌≢◌, ℕ, ◌+◌, ◌%◌, ◌<◌, ◌^◌, Bool, true, [], List, map, filter, length, take, slice_index, slice_index_or, Option, None, Some, Result, Ok, Err}
 use Rattle.atomic_table.specs.Seated.{TableId}
 use Rattle.message_board.specs.Pairs.{Knows}
-use Rattle.message_board.specs.Plain.{CellContents, plain_cell}
+use Rattle.message_board.specs.Plain.{CellContents, plain_cell, plain_put}
 use Rattle.inbox_board.specs.declared.steps.View.{View}
 use Rattle.inbox_board.specs.Rule.{newcomer}
 use Rattle.job_plan.specs.Plans.{Plan}
@@ -51,7 +52,6 @@ box_of x q = slice_index_or x.boxes (place_among x.me q) no_box
 -- a word that was read: it is that at its place in the sender's inbox, as a number of the ring
 pub record IsRead (x : Mail) (m v : ℕ) : Type 0 where
   pub there : m < length (messages x.plan)
-  pub receiver : (message x.plan m).receiver ≡ x.me
   pub found : ℕ
   pub known : Knows (box_of x (message x.plan m).sender).view.seen (slice_index x.places m) found
   pub reduced : v ≡ found % 2 ^ x.plan.bits
@@ -61,7 +61,7 @@ abbrev pub place_to : Plan → ℕ → ℕ → ℕ
 place_to plan p m = length (filter (goes (message plan m).sender p) (take m (messages plan)))
 
 -- there is an outlet and an inbox for each peer and a cell for each message, each message to the party has its place,
--- and each word was read there
+-- and each word that is kept of one was read there
 pub record IsMail (x : Mail) : Type 0 where
   pub sound : IsSound x.plan
   pub me : x.me < x.plan.parties
@@ -74,7 +74,7 @@ pub record IsMail (x : Mail) : Type 0 where
       → slice_index x.places m ≡ place_to x.plan x.me m
   pub room : (m : ℕ) → m < length (messages x.plan) → (message x.plan m).receiver ≡ x.me
       → slice_index x.places m < (box_of x (message x.plan m).sender).places
-  pub read : (m v : ℕ) → plain_cell x.words.cells m ≡ Some v → IsRead x m v
+  pub read : (m v : ℕ) → (message x.plan m).receiver ≡ x.me → plain_cell x.words.cells m ≡ Some v → IsRead x m v
 
 -- ---- what posts and takes do
 
@@ -82,6 +82,10 @@ pub record IsMail (x : Mail) : Type 0 where
 abbrev pub failed_after : ℕ → Result (Unit {0}) Failed → Option ℕ → Option ℕ
 failed_after q (Ok _) before = before
 failed_after q (Err _) before = Some q
+
+-- x with this word kept of message m, where none was
+abbrev pub with_post : Mail → ℕ → ℕ → Mail
+with_post x m word = record x { words = record x.words { cells = plain_put x.words.cells m word } }
 
 -- the outlet to q was given these bytes
 pub record SentTo (q : ℕ) (bytes : List ℕ) (before after : Mail) : Type 0 where
@@ -101,10 +105,10 @@ pub record MayTake (x : Mail) (m : ℕ) : Type 0 where
   pub there : m < length (messages x.plan)
   pub receiver : (message x.plan m).receiver ≡ x.me
 
--- what an answer says of the words: the message has that word now, or nothing changed
+-- what an answer says of the words: that word is kept of the message and the others stay, or nothing changed
 abbrev pub AnswersAs : ℕ → Option ℕ → List (Option ℕ) → List (Option ℕ) → Type 0
 AnswersAs m None before after = after ≡ before
-AnswersAs m (Some v) before after = plain_cell after m ≡ Some v
+AnswersAs m (Some v) before after = (plain_cell after m ≡ Some v) × (after ≡ plain_put before m v)
 
 -- a take of message m read its word, or found its place empty
 pub record Takes (before : Mail) (m : ℕ) (answer : Option ℕ) (after : Mail) : Type 0 where

@@ -4,7 +4,7 @@ use Rattle.message_board.specs.Plain.{plain_cell}
 use Rattle.job_plan.specs.declared.key.Key.{Key}
 use Rattle.job_plan.specs.Messages.{messages}
 use Rattle.job_plan.specs.Numbers.{message}
-use Rattle.party_program.specs.declared.program.Instruction.TheVariants.{Take}
+use Rattle.party_program.specs.declared.program.Instruction.TheVariants.{Post, Take}
 use Rattle.party_program.specs.Programs.{program, at}
 use Rattle.party_desk.specs.declared.desk.Desk.{Desk}
 use Rattle.party_desk.specs.Desks.{IsDesk}
@@ -26,11 +26,24 @@ before_session n s = length (joined s (program n.world.plan n.me))
 
 -- the words that were read are so
 abbrev pub Agrees : Node → List (Option ℕ) → (Key → ℕ) → Type 0
-Agrees n cells got = (m v : ℕ) → plain_cell cells m ≡ Some v → got (message n.world.plan m) ≡ v
+Agrees n cells got =
+    (m v : ℕ) → (message n.world.plan m).receiver ≡ n.me → plain_cell cells m ≡ Some v
+    → got (message n.world.plan m) ≡ v
 
 -- the word of each take among the first k instructions was read
 abbrev pub HasTaken : Node → ℕ → List (Option ℕ) → Type 0
 HasTaken n k cells = (j m i : ℕ) → j < k → at (acts n) j ≡ Take m i → (v : ℕ) × (plain_cell cells m ≡ Some v)
+
+-- the word of each post among the first k instructions is kept
+abbrev pub HasPosted : Node → ℕ → List (Option ℕ) → Type 0
+HasPosted n k cells = (j m i : ℕ) → j < k → at (acts n) j ≡ Post m i → (v : ℕ) × (plain_cell cells m ≡ Some v)
+
+-- each other word that is kept is of a message that the party sends, as it computes it from the words that were read
+abbrev pub KeepsOwn : Node → List (Option ℕ) → Type 0
+KeepsOwn n cells =
+    (m v : ℕ) → plain_cell cells m ≡ Some v → (message n.world.plan m).receiver ≢ n.me
+    → ((message n.world.plan m).sender ≡ n.me)
+    × ((got : Key → ℕ) → Agrees n cells got → v ≡ own_word n got (message n.world.plan m))
 
 -- no word is lost
 abbrev pub KeepsWords : Mail → Mail → Type 0
@@ -79,6 +92,8 @@ pub record Going (n : Node) (k : ℕ) (start : Begin) (now : Mail) : Type 0 wher
   pub own : IsOf n start now
   pub within : k ≤ length (acts n)
   pub taken : HasTaken n k now.words.cells
+  pub posted : HasPosted n k now.words.cells
+  pub own_words : KeepsOwn n now.words.cells
   pub sent : (got : Key → ℕ) → Agrees n now.words.cells got → (q : ℕ) → IsPeer n q
       → (outlet_to now q).told ≡ added (out_to n start.links q).told (said n q (own_word n got) k)
   pub calm : (q : ℕ) → IsPeer n q → (outlet_to now q).faults ≡ (out_to n start.links q).faults

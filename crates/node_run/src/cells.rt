@@ -1,4 +1,4 @@
-//! The cells of a node: a post sends a frame, and a take looks into the sender's inbox.
+//! The cells of a node: a post keeps its word and sends it in a frame, and a take looks into the sender's inbox.
 ghost use Rattle.std.specs.Prelude.{◌≡◌, ◌≢◌, ℕ, ◌<◌};
 ghost use Rattle.node_talk.specs.PeerLinks.{place_among};
 ghost use Rattle.node_run.specs.Mail.{SentTo};
@@ -107,7 +107,7 @@ impl<'p, O: Outlet> Cells for NodeCells<'p, O> {
     ghost use Rattle.message_board.specs.Plain.{plain_cell};
     ghost use Rattle.message_board.specs.declared.cells.Posted.TheVariants.{Done};
     ghost use Rattle.frame_code.specs.Frames.{frame};
-    ghost use Rattle.node_run.specs.Mail.{MayPost, MayTake, SentTo, Takes};
+    ghost use Rattle.node_run.specs.Mail.{MayPost, MayTake, with_post, SentTo, Takes};
 
     ghost may_post = { MayPost };
 
@@ -115,13 +115,15 @@ impl<'p, O: Outlet> Cells for NodeCells<'p, O> {
 
     ghost got = { λ c n w. plain_cell c.words.cells n ≡ Some w };
 
-    ghost put = { λ c n w a d. (a ≡ Done) × SentTo (message c.plan n).receiver (frame (message c.plan n) w) c d };
+    ghost put = { λ c n w a d. (a ≡ Done)
+        × SentTo (message c.plan n).receiver (frame (message c.plan n) w) (with_post c n w) d };
 
     ghost took = { Takes };
 
     ghost below = { λ c k. c.plan.bits ≡ k };
 
     fn post(&mut self, number: u32, word: u64) -> Posted {
+        let _ = self.words.post(number, word);
         let key = self.plan.message(number);
         self.send(key.receiver, &frame(&key, word));
         Posted::Done
@@ -131,11 +133,11 @@ impl<'p, O: Outlet> Cells for NodeCells<'p, O> {
         if let Some(word) = self.words.cell(number) {
             return Some(word);
         }
-        let word = match self.look(number) {
+        let reduced = match self.look(number) {
             Some(found) => self.plan.ring().reduce(found),
             None => return None,
         };
-        let _ = self.words.post(number, word);
-        Some(word)
+        let _ = self.words.post(number, reduced);
+        Some(reduced)
     }
 }

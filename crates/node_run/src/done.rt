@@ -1,12 +1,12 @@
 //! A node after its run.
 ghost use Rattle.std.specs.Prelude.{◌≡◌, ◌<◌, length};
-ghost use Rattle.node_talk.specs.Runs.{word_read, output_of};
+ghost use Rattle.node_talk.specs.Runs.{word_kept, output_of};
 
 use message_board::PlainCells;
 use party_desk::Desk;
 use std::marker::Model;
 
-/// A node that is done. Contracts see the words that it read, and the outputs of each session.
+/// A node that is done. Contracts see the words that it sent and got, and the outputs of each session.
 #[derive(Drop)]
 pub struct NodeDone {
     words: PlainCells,
@@ -29,7 +29,7 @@ impl Model for NodeDone {
 impl NodeDone {
     ghost use Rattle.std.specs.Prelude.{◌≡◌, ◌<◌, length, map};
     ghost use Rattle.party_desk.specs.declared.desk.Desk.{Desk};
-    ghost use Rattle.node_talk.specs.Runs.{word_read, output_of};
+    ghost use Rattle.node_talk.specs.Runs.{word_kept, output_of};
 
     // What these words and desks leave.
     pub(crate) fn new(words: PlainCells, desks: Vec<Desk>) -> NodeDone
@@ -49,10 +49,10 @@ impl NodeDone {
         self.desks[session as usize].delivered(output)
     }
 
-    /// The word that was read of this message, where it is one to this party.
-    pub fn got(&self, number: u32) -> Option<u64>
+    /// The word of this message, where this party sent or got it.
+    pub fn kept(&self, number: u32) -> Option<u64>
         requires { number < length self.now.words }
-        ensures { result ≡ word_read self.now number }
+        ensures { result ≡ word_kept self.now number }
     {
         self.words.cell(number)
     }

@@ -3,5 +3,6 @@ pub mod MessageOrder
 pub mod Frames
 pub mod ExpectedPlaces
 pub mod RightRuns
+pub mod KeptViews
 pub mod NoCauses
 pub mod ActPlaces

@@ -22,25 +22,29 @@ use Rattle.outer_io.specs.Links.{LinksReading}
 use Rattle.frame_code.specs.Frames.{hello}
 use Rattle.node_talk.specs.Talks.{Node, IsPeer, own_word, goes, messages_between, frames, stream, talk, expected, heard}
 use Rattle.node_talk.specs.PeerLinks.{in_from, out_to}
-use Rattle.node_talk.specs.Runs.{Results, IsDone, TalkedThrough, HearsAll, HearsWorld, IsOfWorld}
+use Rattle.node_talk.specs.Runs.{Results, IsDone, TalkedThrough, HearsAll, HearsWorld, GotWorld, IsOfWorld}
 use Rattle.node_talk.proofs.PassedLists.{every_unfilter, every_filtered, every_from_places}
 use Rattle.node_talk.proofs.Frames.{frames_eq, strip, same_frames, small_64, begins_with}
 use Rattle.node_talk.proofs.ExpectedPlaces.{between_parties}
 
-module _ (n : Node) (whole : IsWhole n.world) (lp : n.me < n.world.plan.parties) (got : Key → ℕ)
-    (right : (m : ℕ) → m < length (messages n.world.plan) → (message n.world.plan m).receiver ≡ n.me → got (message n.world.plan m) ≡ word n.world (message n.world.plan m)) where
+module _ (n : Node) (whole : IsWhole n.world) (lp : n.me < n.world.plan.parties) (got : Key → ℕ) (right : GotWorld n got) where
   bound : ℕ → ℕ
   bound s = slots n.world.plan s
 
   all_got : AllByRecursion (λ key. key.receiver ≡ n.me → key.slot < bound key.session → got key ≡ word n.world key) (messages n.world.plan)
   all_got = every_from_places (λ key. key.receiver ≡ n.me → key.slot < bound key.session → got key ≡ word n.world key) (messages n.world.plan) no_key (λ m lm to less. right m lm to)
 
-  pub said_right : (q : ℕ) → AllByRecursion (λ key. own_word n got key ≡ word n.world key) (messages_between n.world.plan n.me q)
+  -- the word of a message that it sends, as it has it by itself, is the world's
+  pub own_right : (m : ℕ) → m < length (messages n.world.plan) → (message n.world.plan m).sender ≡ n.me → own_word n got (message n.world.plan m) ≡ word n.world (message n.world.plan m)
   unfolding bound
+  own_right m lm from =
+      every_place (λ key. key.sender ≡ n.me → key.slot ≤ bound key.session → local_word n.world got n.me key ≡ word n.world key) (messages n.world.plan) m no_key (own_words n.world whole n.me lp got bound all_got) lm
+      from (let o = once n.world.plan m lm in let l = o.slot_there in omega (arith, l))
+
+  pub said_right : (q : ℕ) → AllByRecursion (λ key. own_word n got key ≡ word n.world key) (messages_between n.world.plan n.me q)
   said_right q =
       every_filtered (goes n.me q) (λ key. own_word n got key ≡ word n.world key) (messages n.world.plan) (every_from_places (λ key. goes n.me q key ≡ true → own_word n got key ≡ word n.world key) (messages n.world.plan) no_key (λ m lm g.
-      every_place (λ key. key.sender ≡ n.me → key.slot ≤ bound key.session → local_word n.world got n.me key ≡ word n.world key) (messages n.world.plan) m no_key (own_words n.world whole n.me lp got bound all_got) lm
-      (eqb-true _ _ (and_parts (nat_eq (message n.world.plan m).sender n.me) (nat_eq (message n.world.plan m).receiver q) g).0) (let o = once n.world.plan m lm in let l = o.slot_there in omega (arith, l))))
+      own_right m lm (eqb-true _ _ (and_parts (nat_eq (message n.world.plan m).sender n.me) (nat_eq (message n.world.plan m).receiver q) g).0)))
 
   pub talk_right : (q : ℕ) → talk n q (own_word n got) ≡ talk n q (word n.world)
   talk_right q = ap (λ z. hello n.me q n.digest ++ z) (frames_eq (own_word n got) (word n.world) (messages_between n.world.plan n.me q) (said_right q))
@@ -88,7 +92,7 @@ module _ (n : Node) (whole : IsWhole n.world) where
         (every_weaker (λ key. word n.world key < 2 ^ n.world.plan.bits) (λ key. word n.world key < 2 ^ 64) keys (λ key small. small_64 n.world.plan.bits (word n.world key) few small) (small_words' keys))
         (strip start _ _ (sym his ∙ mine))
 
-    got_right : (m : ℕ) → m < length (messages n.world.plan) → (message n.world.plan m).receiver ≡ n.me → got (message n.world.plan m) ≡ word n.world (message n.world.plan m)
+    got_right : GotWorld n got
     got_right m lm to =
         let key : Key = message n.world.plan m in
         let b = between_parties n (part_of n.world whole n.me lp) m lm in

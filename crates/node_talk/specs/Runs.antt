@@ -1,12 +1,13 @@
 -- What the run of a node comes to.
-use Rattle.std.specs.Prelude.{◌≡◌, ◌≢◌, ℕ, suc, ◌<◌, ◌^◌, true, List, [], length, slice_index_or, Option, None, Some}
+use Rattle.std.specs.Prelude.{◌≡◌, ◌≢◌, ℕ, suc, ◌<◌, ◌^◌, true, List, [], ◌∷◌, length, slice_index_or, Option, None, Some, unwrap_or}
 use Rattle.std.specs.List.{AllByRecursion}
+use Rattle.list_laws.specs.Lists.{joined, only_if}
 use Rattle.job_session.specs.Sessions.{readers, output_wire}
-use Rattle.job_plan.specs.Plans.{session, reads}
+use Rattle.job_plan.specs.Plans.{Plan, session, reads}
 use Rattle.job_plan.specs.Messages.{messages}
 use Rattle.job_plan.specs.Numbers.{message}
 use Rattle.job_plan.specs.declared.key.Key.{Key}
-use Rattle.share_world.specs.Worlds.{word, plain}
+use Rattle.share_world.specs.Worlds.{word, plain, touches}
 use Rattle.share_world.specs.Locals.{local_output}
 use Rattle.party_program.specs.declared.program.Instruction.TheVariants.{Take}
 use Rattle.party_program.specs.Programs.{at}
@@ -19,30 +20,39 @@ use Rattle.node_talk.specs.PeerLinks.{in_from, out_to}
 
 -- ---- what a node that is done has
 
--- the word that was read of each message, and the outputs of each session
+-- the word of each message that the party sent or got, and the outputs of each session
 pub record Results : Type 0 where
   pub words : List (Option ℕ)
   pub outputs : List (List (Option ℕ))
 
--- the word of message m
-abbrev pub word_read : Results → ℕ → Option ℕ
-word_read r m = slice_index_or r.words m None
+-- the word that it kept of message m
+abbrev pub word_kept : Results → ℕ → Option ℕ
+word_kept r m = slice_index_or r.words m None
 
 -- output wire o of session s
 abbrev pub output_of : Results → ℕ → ℕ → Option ℕ
 output_of r s o = slice_index_or (slice_index_or r.outputs s []) o None
 
--- it has the words that it got, and the outputs that it computes from them, and no others
+-- it has the words that it got, and the words that it sent and the outputs, which it computes from those, and no others
 pub record IsDone (n : Node) (got : Key → ℕ) (r : Results) : Type 0 where
   pub message_count : length r.words ≡ length (messages n.world.plan)
   pub session_count : length r.outputs ≡ length n.world.plan.sessions
   pub words : (m : ℕ) → m < length (messages n.world.plan) → (message n.world.plan m).receiver ≡ n.me
-      → word_read r m ≡ Some (got (message n.world.plan m))
+      → word_kept r m ≡ Some (got (message n.world.plan m))
+  pub sent : (m : ℕ) → m < length (messages n.world.plan) → (message n.world.plan m).sender ≡ n.me
+      → word_kept r m ≡ Some (own_word n got (message n.world.plan m))
   pub outputs : (s o : ℕ) → s < length n.world.plan.sessions → o < length (readers (session n.world.plan s))
       → reads n.world.plan n.me s o ≡ true → output_of r s o ≡ Some (local_output n.world got n.me s o)
-  pub no_word : (m : ℕ) → (message n.world.plan m).receiver ≢ n.me → word_read r m ≡ None
+  pub no_word : (m : ℕ) → (message n.world.plan m).receiver ≢ n.me → (message n.world.plan m).sender ≢ n.me
+      → word_kept r m ≡ None
   pub no_output : (s o v : ℕ) → s < length n.world.plan.sessions → output_of r s o ≡ Some v
       → reads n.world.plan n.me s o ≡ true
+
+-- what a party kept of its own view: each message that it sends or gets, in order, with the word that it kept
+abbrev pub kept_view : Plan → ℕ → Results → List (Key × ℕ)
+kept_view plan me r =
+    joined (length (messages plan)) (λ m.
+    only_if (touches (2 ^ me) (message plan m)) ((message plan m, unwrap_or (word_kept r m) 0) ∷ []))
 
 -- ---- what was said and heard
 
@@ -88,6 +98,12 @@ abbrev pub HearsWorld : Node → LinksReading → Type 0
 HearsWorld n links =
     (q : ℕ) → IsPeer n q → (bytes : List ℕ) × ((in_from n links q).told ≡ Some bytes)
     × Begins bytes (heard n q (word n.world))
+
+-- each message to this party came with its word in the world
+abbrev pub GotWorld : Node → (Key → ℕ) → Type 0
+GotWorld n got =
+    (m : ℕ) → m < length (messages n.world.plan) → (message n.world.plan m).receiver ≡ n.me
+    → got (message n.world.plan m) ≡ word n.world (message n.world.plan m)
 
 -- each outlet took what this party says in the world, and its outputs are the plain values
 pub record IsOfWorld (n : Node) (r : Results) (before after : LinksReading) : Type 0 where

@@ -1,12 +1,16 @@
 -- The text of a node that is done: for each session and output value that its party reads, a line with the words of the
--- value's wires.
-use Rattle.std.specs.Prelude.{ℕ, ◌+◌, List, length}
+-- value's wires; and the view of its party alone.
+use Rattle.std.specs.Prelude.{ℕ, ◌+◌, ◌^◌, Bool, List, [], ◌∷◌, ◌++◌, length}
 use Rattle.std.specs.Option.{unwrap_or}
 use Rattle.list_laws.specs.Lists.{joined, listed, only_if}
 use Rattle.party_set.specs.Parties.{has_party}
 use Rattle.party_set.specs.Names.{name_at}
 use Rattle.job_plan.specs.Plans.{Plan, session}
-use Rattle.node_talk.specs.Runs.{Results, output_of}
+use Rattle.job_plan.specs.Numbers.{message}
+use Rattle.job_plan.specs.declared.key.Key.{Key}
+use Rattle.share_world.specs.Worlds.{touches}
+use Rattle.node_talk.specs.Runs.{Results, word_kept, output_of, kept_view}
+use Rattle.view_text.specs.ViewText.{view_text}
 use Rattle.output_text.specs.OutText.{out_line, output_value, wires_before}
 
 -- the words of so many output wires of session s, from this one on
@@ -24,6 +28,17 @@ abbrev pub session_lines : List ℕ → Plan → ℕ → Results → ℕ → Lis
 session_lines reader plan me r s =
     joined (length (session plan s).outputs) (value_line reader plan me r s)
 
-unfoldable pub node_text : List (List ℕ) → Plan → ℕ → Results → List ℕ
-node_text names plan me r =
+-- what it kept of message m, where a member of the group sends or gets it
+abbrev pub kept_message : Plan → ℕ → Results → ℕ → List (Key × ℕ)
+kept_message plan group r m =
+    only_if (touches group (message plan m)) ((message plan m, unwrap_or (word_kept r m) 0) ∷ [])
+
+-- the lines of what it reads
+abbrev pub outputs_text : List (List ℕ) → Plan → ℕ → Results → List ℕ
+outputs_text names plan me r =
     joined (length plan.sessions) (session_lines (name_at names me) plan me r)
+
+-- and then, where it is asked for, the view of its party alone, as it kept it
+unfoldable pub node_text : List (List ℕ) → Plan → ℕ → Bool → Results → List ℕ
+node_text names plan me view r =
+    outputs_text names plan me r ++ only_if view (view_text names (2 ^ me) (kept_view plan me r))

@@ -3,11 +3,13 @@ ghost use Rattle.std.specs.Prelude.{◌≡◌, ◌+◌, ◌<◌, ◌≤◌, leng
 ghost use Rattle.outer_io.specs.Sink.{Writes};
 ghost use Rattle.outer_io.specs.Blocks.{Adds};
 ghost use Rattle.job_plan.specs.Plans.{session};
+ghost use Rattle.job_plan.specs.Messages.{messages};
 ghost use Rattle.job_plan.specs.Sound.{IsSound};
 ghost use Rattle.text_parts.specs.Parts.{words_text};
 ghost use Rattle.output_text.specs.OutText.{wires_before};
-ghost use Rattle.node_text.specs.NodeText.{node_text, session_lines, value_line, output_words};
+ghost use Rattle.node_text.specs.NodeText.{node_text, outputs_text, session_lines, value_line, output_words};
 
+use crate::view::gather_view;
 use job_plan::Plan;
 use node_run::NodeDone;
 use outer_io::{Blocks, Failed, Gather, Sink};
@@ -16,28 +18,52 @@ use party_set::Names;
 use text_parts::gather_word;
 
 /// Writes the lines of party `me`, which is done: `out SESSION VALUE READER` and the words of the value's wires, for
-/// each session and output value that it reads. It takes no memory.
+/// each session and output value that it reads; and then, where `view` is true, the view of the party alone, with the
+/// words that it sent and got. It takes no memory.
 #[tactic(auto, unfolding(crate::specs::NodeText::node_text))]
 pub fn write_node<S: Sink>(
     sink: &mut S,
     names: &Names,
     plan: &Plan,
     me: u32,
+    view: bool,
     done: &NodeDone,
 ) -> Result<(), Failed>
+    requires names { length names.now ≡ plan.now.parties }
     requires party { me < length names.now }
-    requires done { length done.now.outputs ≡ length plan.now.sessions }
-    ensures { Writes (node_text names.now plan.now me done.now) (S.reading sink.old) (S.reading sink.new) result }
+    requires outputs { length done.now.outputs ≡ length plan.now.sessions }
+    requires words { length done.now.words ≡ length (messages plan.now) }
+    ensures { Writes (node_text names.now plan.now me view done.now) (S.reading sink.old) (S.reading sink.new) result }
 {
     let mut blocks = Blocks::new(sink);
-    gather_node(&mut blocks, names, plan, me, done);
+    gather_node(&mut blocks, names, plan, me, view, done);
     blocks.finish()
 }
 
-fn gather_node<G: Gather>(out: &mut G, names: &Names, plan: &Plan, me: u32, done: &NodeDone)
+fn gather_node<G: Gather>(
+    out: &mut G,
+    names: &Names,
+    plan: &Plan,
+    me: u32,
+    view: bool,
+    done: &NodeDone,
+)
+    requires names { length names.now ≡ plan.now.parties }
+    requires party { me < length names.now }
+    requires outputs { length done.now.outputs ≡ length plan.now.sessions }
+    requires words { length done.now.words ≡ length (messages plan.now) }
+    ensures { Adds (node_text names.now plan.now me view done.now) (G.gathered out.old) (G.gathered out.new) }
+{
+    gather_outputs(out, names, plan, me, done);
+    if view {
+        gather_view(out, names, plan, me, done);
+    }
+}
+
+fn gather_outputs<G: Gather>(out: &mut G, names: &Names, plan: &Plan, me: u32, done: &NodeDone)
     requires party { me < length names.now }
     requires done { length done.now.outputs ≡ length plan.now.sessions }
-    ensures { Adds (node_text names.now plan.now me done.now) (G.gathered out.old) (G.gathered out.new) }
+    ensures { Adds (outputs_text names.now plan.now me done.now) (G.gathered out.old) (G.gathered out.new) }
 {
     let _ = names.len();
     let _ = plan.parties();

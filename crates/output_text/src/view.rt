@@ -1,19 +1,20 @@
 //! The text of what a group sees of a run.
-ghost use Rattle.std.specs.Prelude.{◌≡◌, ◌<◌, ◌∷◌, ◌++◌, [], length, codes};
+ghost use Rattle.std.specs.Prelude.{◌≡◌, ◌<◌, ◌∷◌, [], length};
 ghost use Rattle.outer_io.specs.Blocks.{Adds};
 ghost use Rattle.job_plan.specs.Messages.{messages};
 ghost use Rattle.job_plan.specs.Plans.{slots};
 ghost use Rattle.job_plan.specs.Sound.{IsSound};
-ghost use Rattle.share_world.specs.Worlds.{touches, view, word};
+ghost use Rattle.share_world.specs.Worlds.{view};
 ghost use Rattle.desk_workers.specs.Runs.{IsRunOver, OfItsWorld};
-ghost use Rattle.output_text.specs.ViewText.{view_text, view_head, key_place, key_parties, message_lines};
-ghost use Rattle.output_text.specs.Seen.{seen_lines, slot_seen, session_seen, IsMessage};
+ghost use Rattle.view_text.specs.ViewText.{view_text};
+ghost use Rattle.view_text.specs.Seen.{IsMessage};
+ghost use Rattle.output_text.specs.Seen.{seen_lines, slot_seen, session_seen};
 
 use desk_workers::Done;
 use job_plan::{Key, Plan};
 use outer_io::Gather;
 use party_set::{Group, Names};
-use text_parts::{gather_group, gather_number, gather_word};
+use view_text::{gather_message_line, gather_view_head, touches};
 
 /// Adds what a group sees of a run that is over: `view GROUP`, and then for each message that a member sends or
 /// receives, in order, `SESSION SLOT SHARE SENDER RECEIVER WORD`, with the word that its cell holds. It goes through
@@ -33,16 +34,6 @@ pub(crate) fn gather_view<G: Gather>(
 {
     gather_view_head(out, names, group);
     gather_messages(out, names, plan, done, group);
-}
-
-#[tactic(auto, using(outer_io::proofs::GatheredTexts::adds_then))]
-fn gather_view_head<G: Gather>(out: &mut G, names: &Names, group: Group)
-    requires { group.parties ≡ length names.now }
-    ensures { Adds (view_head names.now group.mask) (G.gathered out.old) (G.gathered out.new) }
-{
-    out.push(b"view ");
-    gather_group(out, group, names);
-    out.push(b"\n");
 }
 
 fn gather_messages<G: Gather>(out: &mut G, names: &Names, plan: &Plan, done: &Done, group: Group)
@@ -124,41 +115,7 @@ fn gather_message<G: Gather>(
         (seen_lines names.now w group.mask (key ∷ [])) (G.gathered out.old) (G.gathered out.new)) }
 {
     let _ = plan;
-    if !touches(group, key) {
-        return;
+    if touches(group, key) {
+        gather_message_line(out, names, key, done.cell(n));
     }
-    gather_place(out, key);
-    gather_parties(out, names, key);
-    gather_word(out, done.cell(n));
-    out.push(b"\n");
-}
-
-// Whether a member of the group sends or receives the message.
-fn touches(group: Group, key: Key) -> bool
-    requires sender { key.sender < group.parties }
-    requires receiver { key.receiver < group.parties }
-    ensures { result ≡ touches group.mask key }
-{
-    group.has(key.sender) || group.has(key.receiver)
-}
-
-fn gather_place<G: Gather>(out: &mut G, key: Key)
-    ensures { Adds (key_place key) (G.gathered out.old) (G.gathered out.new) }
-{
-    gather_number(out, key.session as u64);
-    out.push(b" ");
-    gather_number(out, key.slot as u64);
-    out.push(b" ");
-    gather_number(out, key.share as u64);
-}
-
-fn gather_parties<G: Gather>(out: &mut G, names: &Names, key: Key)
-    requires sender { key.sender < length names.now }
-    requires receiver { key.receiver < length names.now }
-    ensures { Adds (key_parties names.now key) (G.gathered out.old) (G.gathered out.new) }
-{
-    out.push(b" ");
-    out.push(names.name(key.sender).as_bytes());
-    out.push(b" ");
-    out.push(names.name(key.receiver).as_bytes());
 }

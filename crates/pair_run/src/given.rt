@@ -36,7 +36,7 @@ fn copy_of(alloc: Global, sessions: &[Vec<u64>]) -> Result<Vec<Vec<u64>>, AllocE
 }
 
 /// The words of the tape of each of these parties, all sessions in order. The parties keep their tapes.
-pub(crate) fn tapes_of(alloc: Global, parties: &[PartyData]) -> Result<Vec<Vec<u64>>, AllocError>
+pub fn tapes_of(alloc: Global, parties: &[PartyData]) -> Result<Vec<Vec<u64>>, AllocError>
     ensures { IfOk result (λ tapes. session_words tapes.items
         ≡ map (λ party. concat party.tapes) (map form_of parties.now)) }
 {

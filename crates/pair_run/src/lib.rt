@@ -6,5 +6,5 @@ mod given;
 mod pair;
 mod pieces;
 
-pub use given::inputs_of;
+pub use given::{inputs_of, tapes_of};
 pub use pair::{Pair, pair_of};

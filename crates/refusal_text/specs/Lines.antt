@@ -24,6 +24,8 @@ use Rattle.other_file.specs.declared.fault.OtherFault.{OtherFault}
 use Rattle.other_file.specs.Faults as other
 use Rattle.tape_map.specs.declared.fault.MapFault.{MapFault}
 use Rattle.tape_map.specs.declared.fault.MapFault.TheVariants as map
+use Rattle.view_check.specs.declared.fault.CheckFault.{CheckFault}
+use Rattle.view_check.specs.FaultTexts as view
 use Rattle.text_parts.specs.Parts.{refusal_head, key_text, group_text}
 
 -- a line from its head and its keys
@@ -188,3 +190,10 @@ pair_line names (map.OutputDiffers session wire recipient first second) =
     line (codes "pair") 3 (codes "OutputDiffers")
     (wire_keys session wire ++ (party_key (codes "recipient") names (Some recipient) ++ difference_keys first second))
 pair_line names map.Memory = []
+
+-- a text that is not the view of its group
+unfoldable pub view_line : CheckFault → List ℕ
+view_line f =
+    line (codes "view") (view.number_of f) (view.name_of f)
+    (number_key (codes "line") (view.line_in f)
+    ++ (number_key (codes "wanted") (view.wanted_in f) ++ number_key (codes "found") (view.found_in f)))

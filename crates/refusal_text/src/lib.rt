@@ -12,6 +12,7 @@ mod party;
 mod plan;
 mod session;
 mod structure;
+mod view;
 
 pub use circuit::circuit_line;
 pub use expressions::expressions_line;
@@ -23,3 +24,4 @@ pub use party::party_line;
 pub use plan::plan_line;
 pub use session::session_line;
 pub use structure::{covering_line, formula_line, group_line, groups_line, name_line};
+pub use view::view_line;

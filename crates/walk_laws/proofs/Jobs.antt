@@ -7,13 +7,18 @@ use Rattle.job_file.specs.Forms.{JobForm, SessionForm}
 use Rattle.job_file.specs.declared.layout.SessionLayout.{SessionLayout}
 use Rattle.job_file.specs.declared.layout.SessionLayout.TheVariants.{Gates, Expressions}
 use Rattle.party_file.specs.Table.{PartyForm}
-use Rattle.command_words.specs.Commands.{CommandForm, run, check, pair, node, sample}
+use Rattle.command_words.specs.Commands.{CommandForm, run, check, pair, node, sample, audit}
+use Rattle.share_world.specs.Worlds.{view}
+use Rattle.view_check.proofs.ToldViews.{told_views}
 use Rattle.job_walk.specs.Verdict.{EndsOnce}
 use Rattle.job_walk.specs.JobOf.{Contents, JobText, GroupOf, StructureOf, CircuitOf, SessionAt, SessionsAfter, PlannedOf, PlanAt, PartyAt, PartiesAfter}
 use Rattle.mpc_top.specs.WholeJobs.{JobAt, OtherAt, PairAt}
 use Rattle.job_walk.specs.NodeOf.{NodeAt}
+use Rattle.mpc_top.specs.Audits.{AuditAt}
 use Rattle.mpc_top.specs.Due.{DueOf, IsDue}
-use Rattle.walk_laws.proofs.Walks.{ends_once, then_once}
+use Rattle.walk_laws.proofs.Walks.{ends_once, then_once, then_once_of}
+use Rattle.walk_laws.proofs.Audits.{judged_once}
+use Rattle.walk_laws.proofs.WholeWorlds.{jobs_are_whole, jobs_are_named}
 use Rattle.walk_laws.proofs.Plans.{expressions_once, groups_once, q2_once, plan_once}
 
 structure_once : (job : JobForm) → EndsOnce (StructureOf job)
@@ -81,13 +86,20 @@ node_once files dir name =
     then_once _ _ (sessions_once files dir job [] job.sessions) (λ sessions. then_once _ _ (plan_once job _) (λ plan.
     then_once _ _ (party_once files dir plan me name) (λ given. ends_once _))))))
 
+audit_once : (files : Contents) (dir : List ℕ) → EndsOnce (AuditAt files dir)
+unfolding AuditAt
+audit_once files dir =
+    then_once_of _ _ (job_once files dir None) (λ job is. then_once _ _ (ends_once _) (λ text.
+    judged_once job.names (view job.world) text (jobs_are_named files dir None job is).0 (told_views job.world (jobs_are_whole files dir None job is) job.names (jobs_are_named files dir None job is).1)))
+
 command_once : (command : CommandForm) (files : Contents) → EndsOnce (DueOf command files)
 unfolding DueOf
 command_once (run dir workers view) files = then_once _ _ (job_once files dir view) (λ job. ends_once _)
 command_once (check dir) files = then_once _ _ (plan_at_once files dir None) (λ planned. ends_once _)
 command_once (pair dir group) files = then_once _ _ (pair_once files dir group) (λ job. ends_once _)
-command_once (node dir name) files = then_once _ _ (node_once files dir name) (λ job. ends_once _)
+command_once (node dir name view) files = then_once _ _ (node_once files dir name) (λ job. ends_once _)
 command_once (sample count) files = ends_once _
+command_once (audit dir) files = then_once _ _ (audit_once files dir) (λ count. ends_once _)
 
 pub due_once : (command : Option CommandForm) (files : Contents) → EndsOnce (IsDue command (Some files))
 due_once None files = ends_once _

@@ -1,7 +1,9 @@
 mod Walks
 mod Plans
-mod Jobs
 mod WholeWorlds
+mod Audits
+mod Jobs
+mod WrittenViews
 mod RunValues
 mod Statuses
 mod CallsInARow

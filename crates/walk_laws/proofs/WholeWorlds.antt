@@ -360,7 +360,7 @@ fold_below names [] mask l h = l
 fold_below names (text ∷ rest) mask l h =
     fold_below names rest (bit_or mask (2 ^ party_of names text)) (or_lt (length names) mask (2 ^ party_of names text) l (pow-lt {i = party_of names text} {j = length names} (party_below names text h.0))) h.1
 
-mask_below : (names texts : List (List ℕ)) → bad_name names [] texts ≡ None → mask_of names texts < 2 ^ length names
+pub mask_below : (names texts : List (List ℕ)) → bad_name names [] texts ≡ None → mask_of names texts < 2 ^ length names
 unfolding mask_of
 mask_below names texts e = fold_below names texts 0 (pow_pos (length names)) (list_named names [] texts e)
 
@@ -394,8 +394,7 @@ sessions_named two names s (fields ∷ rest) e =
 pub record IsGoodForm (job : JobForm) : Type 0 where
   pub some_bits : 0 < job.bits
   pub few_bits : job.bits ≤ 64
-  some_names : 1 ≤ length job.names
-  few_names : length job.names ≤ 12
+  names : AreNames job.names
   few_sessions : length job.sessions ≤ 16
   sessions : AllByRecursion (AreNamed (length job.names)) job.sessions
 
@@ -414,8 +413,7 @@ form_good fields e =
     record {
       some_bits = bits.0;
       few_bits = bits.1;
-      some_names = names.some;
-      few_names = names.few;
+      names = names;
       few_sessions =
           omega
           (arith, (session_count (length (items SessionField fields)) passed.2).1, length-map (tables SessionField fields) (session_form (is_version_two fields) (texts Parties fields)), length-map (items SessionField fields) fields_of);
@@ -463,7 +461,7 @@ plan_at_sound : (files : Contents) (dir : List ℕ) (asked : Option (List ℕ)) 
 unfolding PlanAt JobText Then
 plan_at_sound files dir asked planned (job, (bytes, there, e), (group, g, (s, found, is))) =
     let good : IsGoodForm job = good_job bytes job (was_ok _ (job_in false bytes) job e) in
-    sound_plan files dir job group s planned good (structure_found job s good.some_names good.few_names found) is
+    sound_plan files dir job group s planned good (structure_found job s good.names.some good.names.few found) is
 
 pub jobs_are_whole : JobsAreWhole
 unfolding JobAt Then
@@ -471,3 +469,22 @@ jobs_are_whole files dir asked job (planned, is, (forms, read, e)) =
     let sound = plan_at_sound files dir asked planned is in
     subst (λ (job : WholeJob). IsWhole job.world) (sym (accepted_is job (whole_job planned forms) e))
     (parties_make_whole files dir planned.plan planned.names forms sound.0 sound.1 read)
+
+-- ---- its names
+
+planned_names : (files : Contents) (dir : List ℕ) (job : JobForm) (group : Option Members) (s : Structure) (planned : Planned) → PlannedOf files dir job group s (accepted planned) → planned.names ≡ job.names
+unfolding PlannedOf PlanOf Then
+planned_names files dir job group s planned (sessions, read, (plan, within, e)) = ap (λ (p : Planned). p.names) (accepted_is planned _ e)
+
+plan_named : (files : Contents) (dir : List ℕ) (asked : Option (List ℕ)) (planned : Planned) → PlanAt files dir asked (accepted planned) → AreNames planned.names
+unfolding PlanAt JobText Then
+plan_named files dir asked planned (job, (bytes, there, e), (group, g, (s, found, is))) =
+    let good : IsGoodForm job = good_job bytes job (was_ok _ (job_in false bytes) job e) in
+    subst AreNames (sym (planned_names files dir job group s planned is)) good.names
+
+-- an accepted job has a name for each party
+pub jobs_are_named : (files : Contents) (dir : List ℕ) (asked : Option (List ℕ)) (job : WholeJob) → JobAt files dir asked (accepted job) → AreNames job.names × (length job.names ≡ job.world.plan.parties)
+unfolding JobAt Then
+jobs_are_named files dir asked job (planned, is, (forms, read, e)) =
+    subst (λ (job : WholeJob). AreNames job.names × (length job.names ≡ job.world.plan.parties)) (sym (accepted_is job (whole_job planned forms) e))
+    (plan_named files dir asked planned is, (plan_at_sound files dir asked planned is).1)

@@ -2,6 +2,7 @@
 ghost use Rattle.walk_laws.specs.Once.{AreDueOnce};
 ghost use Rattle.walk_laws.specs.Whole.{JobsAreWhole};
 ghost use Rattle.walk_laws.specs.Expressions.{RunsWriteValues};
+ghost use Rattle.walk_laws.specs.WrittenViews.{WrittenViewsAreAudited};
 ghost use Rattle.walk_laws.specs.Exact.{GivesExactly};
 ghost use Rattle.walk_laws.specs.Statuses.{StatusesSay};
 ghost use Rattle.walk_laws.specs.InARow.{AreBothGiven, HaveOneStatus};
@@ -44,4 +45,9 @@ pub fn accepted_jobs_are_whole()
 /// What a run writes for a session of expressions is the values of its output lines at the inputs of the files.
 pub fn a_run_writes_the_value_of_expressions()
     ensures { RunsWriteValues }
+{}
+
+/// An audit says yes to what a run writes of a view, where the file has no more bytes than a file may have.
+pub fn an_audit_says_yes_to_what_a_run_writes()
+    ensures { WrittenViewsAreAudited }
 {}

@@ -5,3 +5,4 @@ pub mod NextPlaces
 pub mod RowSteps
 pub mod MessageSenders
 pub mod TableWords
+pub mod SentRows

@@ -1,3 +1,4 @@
 pub mod WireTables
 pub mod Places
 pub mod Steps
+pub mod SlotRows

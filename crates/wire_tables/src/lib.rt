@@ -5,11 +5,14 @@
 mod deals;
 mod places;
 mod rows;
+mod sent_rows;
 mod summands;
 mod values;
 mod word;
 
 pub use deals::deals_in;
+pub use places::{first_places, pass_slot};
+pub use sent_rows::slot_rows;
 pub use summands::SummandTable;
 pub use values::{input_list, value_list};
 pub use word::word_of;

@@ -8,7 +8,7 @@ use job_plan::Plan;
 use std::alloc::{AllocError, Global};
 
 /// The places before the first slot of session `s`.
-pub(crate) fn first_places(alloc: Global, plan: &Plan, s: u32) -> Result<Vec<u32>, AllocError>
+pub fn first_places(alloc: Global, plan: &Plan, s: u32) -> Result<Vec<u32>, AllocError>
     requires { s < length plan.now.sessions }
     ensures { IfOk result (λ places. ArePlaces plan.now s 0 places.items) }
 {
@@ -38,7 +38,7 @@ pub(crate) fn places_before(
 }
 
 /// Goes behind what the parties deal in slot `k` of session `s`.
-pub(crate) fn pass_slot(plan: &Plan, s: u32, k: u32, places: &mut [u32])
+pub fn pass_slot(plan: &Plan, s: u32, k: u32, places: &mut [u32])
     requires session { s < length plan.now.sessions }
     requires slot { k < slots plan.now s }
     requires places { ArePlaces plan.now s k places.old }

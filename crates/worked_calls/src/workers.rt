@@ -215,6 +215,7 @@ const USAGE: &str = concat!(
     "       mpc pair DIR --group GROUP\n",
     "       mpc node DIR NAME\n",
     "       mpc sample N\n",
+    "       mpc audit DIR\n",
 );
 
 #[test]

@@ -2,7 +2,7 @@ use Rattle.std.proofs.Common.{List, ℕ, Ok, refl, ◌∙◌}
 use Rattle.outer_io.specs.Sink.{Writes}
 use Rattle.job_run.specs.Parties.{world_of}
 use Rattle.command_words.specs.Commands.{run}
-use Rattle.output_text.specs.ViewText.{run_text}
+use Rattle.output_text.specs.RunText.{run_text}
 use Rattle.mpc_top.specs.Seen.{parties_view}
 use Rattle.job_walk.proofs.Steps.{keeps_then}
 use Rattle.mpc_top.proofs.Runs.{as_text, runs_stop, runs_memory, runs_written, runs_cut, run_stops_later, run_read}

@@ -3,7 +3,7 @@ use Rattle.outer_io.specs.Blocks.{Adds}
 use Rattle.outer_io.proofs.GatheredTexts.{adds_then}
 use Rattle.party_set.specs.Parties.{Members}
 use Rattle.std.specs.Prelude.{Option}
-use Rattle.output_text.specs.ViewText.{run_text}
+use Rattle.output_text.specs.RunText.{run_text}
 use Rattle.output_text.proofs.run.gather_run.Goals as goal
 
 pub returns-in-Some : goal.returns-in-Some

@@ -6,28 +6,29 @@ use Rattle.text_parts.proofs.GatheredTexts.{adds_same, adds_more}
 use Rattle.job_plan.specs.Patterns.{named, lines, pattern_at}
 use Rattle.job_plan.proofs.RankSearch.{no_line}
 use Rattle.output_text.specs.Seen.{seen_lines}
-use Rattle.output_text.proofs.SeenMessages.{slot_is, line_is, number_small}
+use Rattle.view_text.proofs.SeenMessages.{line_is, number_small}
+use Rattle.output_text.proofs.SeenMessages.{slot_is}
 use Rattle.output_text.proofs.view.gather_slot.Goals as goal
 
 pub overflow_cast-i : goal.overflow_cast-i
 overflow_cast-i g c =
     let plan = c.args.plan.now in
     let are : c.lines-lines.result.now ≡ lines plan (pattern_at plan c.args.s c.args.k) = c.lines-lines.ensures ∙ ap (lines plan) c.pattern.ensures.is in
-    let small = number_small plan c.args.s c.args.k c.lines-lines.result.now c.loop-i.i c.requires.sound c.requires.session c.requires.slot are (omega arith) in
+    let small = number_small plan c.args.s c.args.k c.lines-lines.result.now c.requires.sound c.requires.session c.requires.slot are c.loop-i.i (omega arith) in
     omega (arith, small)
 
 pub overflow_add-first : goal.overflow_add-first
 overflow_add-first g c =
     let plan = c.args.plan.now in
     let are : c.lines-lines.result.now ≡ lines plan (pattern_at plan c.args.s c.args.k) = c.lines-lines.ensures ∙ ap (lines plan) c.pattern.ensures.is in
-    let small = number_small plan c.args.s c.args.k c.lines-lines.result.now c.loop-i.i c.requires.sound c.requires.session c.requires.slot are (omega arith) in
+    let small = number_small plan c.args.s c.args.k c.lines-lines.result.now c.requires.sound c.requires.session c.requires.slot are c.loop-i.i (omega arith) in
     omega (arith, small, c.first-first.ensures.is)
 
 pub gather_message-requires-clause-message : goal.gather_message-requires-clause-message
 gather_message-requires-clause-message g c =
     let plan = c.args.plan.now in
     let are : c.lines-lines.result.now ≡ lines plan (pattern_at plan c.args.s c.args.k) = c.lines-lines.ensures ∙ ap (lines plan) c.pattern.ensures.is in
-    line_is plan c.args.s c.args.k c.lines-lines.result.now (c.first-first.result + c.loop-i.i) c.loop-i.i c.named-key.result c.requires.sound c.requires.session c.requires.slot are (omega arith) (omega (arith, c.first-first.ensures.is)) c.named-key.ensures
+    line_is plan c.args.s c.args.k c.lines-lines.result.now c.requires.sound c.requires.session c.requires.slot are c.loop-i.i (omega arith) (c.first-first.result + c.loop-i.i) c.named-key.result (omega (arith, c.first-first.ensures.is)) c.named-key.ensures
 
 pub loop-i-init : goal.loop-i-init
 loop-i-init g c = λ w same f. adds_nothing _

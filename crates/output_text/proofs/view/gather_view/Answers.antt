@@ -1,5 +1,5 @@
 use Rattle.outer_io.proofs.GatheredTexts.{adds_then}
-use Rattle.output_text.specs.ViewText.{view_text}
+use Rattle.view_text.specs.ViewText.{view_text}
 use Rattle.output_text.specs.Seen.{seen_lines}
 use Rattle.output_text.proofs.view.gather_view.Goals as goal
 

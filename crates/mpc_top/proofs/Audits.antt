@@ -1,0 +1,114 @@
+-- An audit that was read, step by step.
+use Rattle.std.proofs.Common.{◌≡◌, ℕ, List, [], None, Result, Ok, Err, Vec, refl, arith}
+use Rattle.std.specs.declared.alloc.Global.{Global}
+use Rattle.outer_io.specs.Files.{FilesReading}
+use Rattle.command_words.specs.Commands.{audit}
+use Rattle.party_file.specs.declared.data.PartyData.{PartyData}
+use Rattle.job_plan.specs.declared.key.Key.{Key}
+use Rattle.share_world.specs.Worlds.{view}
+use Rattle.view_check.specs.declared.fault.CheckFault.{CheckFault}
+use Rattle.view_check.specs.declared.fault.CheckFault.TheVariants.{WrongWord}
+use Rattle.view_check.specs.Views.{verdict}
+use Rattle.view_check.specs.Laws.{IsWrongWord}
+use Rattle.refusal_text.specs.Lines.{view_line}
+use Rattle.output_text.specs.AuditText.{yes_text}
+use Rattle.job_walk.specs.declared.plan.Planned as code
+use Rattle.job_walk.specs.declared.stop.Stop.{Stop}
+use Rattle.job_walk.specs.declared.stop.Stop.TheVariants.{Memory, Words, Out, Net, Peer, Files, Refused, Covering}
+use Rattle.job_walk.specs.Names.{view_file}
+use Rattle.job_walk.specs.Verdict.{Verdict, Ends, refused}
+use Rattle.job_walk.specs.JobOf.{PlanAt, PartiesAfter, file_at}
+use Rattle.job_walk.specs.Seen.{planned_view}
+use Rattle.job_walk.specs.Reads.{ReadsAs, WalksAs, StopsBy}
+use Rattle.mpc_top.specs.WholeJobs.{WholeJob}
+use Rattle.mpc_top.specs.Audits.{Judged, AuditAt}
+use Rattle.mpc_top.specs.Seen.{parties_view}
+use Rattle.mpc_top.specs.Due.{DueOf}
+use Rattle.job_walk.proofs.Steps.{reads_stop, reads_then, reads_walk, reads_end}
+use Rattle.mpc_top.proofs.Runs.{as_text}
+use Rattle.mpc_top.proofs.Jobs.{job_seen, job_stops, job_stops_later, job_read}
+
+abbrev counted : ℕ → ℕ
+counted count = count
+
+-- the bytes that were read
+abbrev pub text_seen : Vec ℕ Global → List ℕ
+text_seen text = text.items
+
+-- ---- the fault of a view
+
+same_line : (line line' : List ℕ) (v w : Verdict ℕ) → v ≡ refused 3 line → w ≡ refused 3 line' → v ≡ w → line ≡ line'
+same_line line line' v w e f same = cc
+
+same_status : (s s' : ℕ) (line line' : List ℕ) (v w : Verdict ℕ) → v ≡ refused s line → w ≡ refused s' line' → v ≡ w → s ≡ s'
+same_status s s' line line' v w e f same = cc
+
+not_covering : {P : Type 0} (line line' : List ℕ) (v w : Verdict ℕ) → v ≡ refused 4 line → w ≡ refused 3 line' → v ≡ w → P
+not_covering line line' v w e f same = absurd (omega (arith, same_status 4 3 line line' v w e f same))
+
+module _ (names : List (List ℕ)) (see : ℕ → List (Key × ℕ)) (text : List ℕ) (fault : CheckFault) (is : verdict names see text ≡ Err fault)
+    (wrong : (n wanted found : ℕ) → fault ≡ WrongWord n wanted found → IsWrongWord names see text n wanted found) where
+  pub fault_stops : (stop : Stop) → StopsBy {A = ℕ} (Ends (refused 3 (view_line fault))) stop → StopsBy (Judged names see text) stop
+  fault_stops Memory cause = tt
+  fault_stops Words cause = cause
+  fault_stops Out cause = cause
+  fault_stops Net cause = cause
+  fault_stops (Peer names fault) cause = cause
+  fault_stops (Files name) cause = cause
+  fault_stops (Refused line) cause = (refl, record { fault = fault; line_is = same_line line.items (view_line fault) (refused 3 line.items) (refused 3 (view_line fault)) refl refl cause; is_fault = is; wrong = wrong })
+  fault_stops (Covering line) cause = not_covering line.items (view_line fault) (refused 4 line.items) (refused 3 (view_line fault)) refl refl cause
+
+-- ---- the steps
+
+module _ (dir : List ℕ) where
+  -- no view could be judged
+  audit_stops : (before after : FilesReading) (stop : Stop) → ReadsAs counted (λ m. AuditAt m dir) before after (Err stop) → ReadsAs as_text (DueOf (audit dir)) before after (Err stop)
+  unfolding DueOf
+  audit_stops before after stop r = reads_stop _ _ counted as_text before after stop r
+
+  -- the plan could not be read
+  pub plan_stops : (before after : FilesReading) (stop : Stop) → ReadsAs {C = code.Planned} planned_view (λ m. PlanAt m dir None) before after (Err stop) → ReadsAs as_text (DueOf (audit dir)) before after (Err stop)
+  unfolding AuditAt
+  plan_stops before after stop r = audit_stops before after stop (reads_stop _ _ (λ job. job) counted before after stop (job_stops dir None before after stop r))
+
+  module _ (planned : code.Planned) (before mid : FilesReading) (read : ReadsAs planned_view (λ m. PlanAt m dir None) before mid (Ok planned)) where
+    abbrev NamedParties : FilesReading → Result (Vec PartyData Global) Stop → Type 0
+    NamedParties after result = ReadsAs parties_view (λ m. PartiesAfter m dir planned.plan [] planned.names) mid after result
+
+    -- a party's file could not be read
+    pub parties_stop : (after : FilesReading) (stop : Stop) → NamedParties after (Err stop) → ReadsAs as_text (DueOf (audit dir)) before after (Err stop)
+    unfolding AuditAt
+    parties_stop after stop r = audit_stops before after stop (reads_stop _ _ (job_seen planned) counted before after stop (job_stops_later dir None planned before mid after read stop r))
+
+    module _ (after : FilesReading) (parties : Vec PartyData Global) (given : NamedParties after (Ok parties)) where
+      abbrev job : WholeJob
+      job = job_seen planned parties
+
+      abbrev ReadsText : FilesReading → Result (Vec ℕ Global) Stop → Type 0
+      ReadsText last result = ReadsAs text_seen (λ m. Ends (file_at m dir view_file)) after last result
+
+      -- the text could not be read
+      pub text_stops : (last : FilesReading) (stop : Stop) → ReadsText last (Err stop) → ReadsAs as_text (DueOf (audit dir)) before last (Err stop)
+      unfolding AuditAt
+      text_stops last stop r =
+          audit_stops before last stop (reads_then _ _ (job_seen planned) counted before after last parties (Err stop) (job_read dir None planned before mid after read parties given)
+          (reads_stop _ _ text_seen counted after last stop r))
+
+      module _ (last : FilesReading) (text : Vec ℕ Global) (found : ReadsText last (Ok text)) where
+        abbrev IsJudged : Result ℕ Stop → Type 0
+        IsJudged result = WalksAs counted (Judged job.names (view job.world) text.items) result
+
+        -- how it is judged decides
+        audit_read : (result : Result ℕ Stop) → IsJudged result → ReadsAs counted (λ m. AuditAt m dir) before last result
+        unfolding AuditAt
+        audit_read result w =
+            reads_then _ _ (job_seen planned) counted before after last parties result (job_read dir None planned before mid after read parties given)
+            (reads_then _ _ text_seen counted after last last text result found
+            (reads_walk counted (Judged job.names (view job.world) text.items) last result w))
+
+        pub judging_stops : (stop : Stop) → IsJudged (Err stop) → ReadsAs as_text (DueOf (audit dir)) before last (Err stop)
+        judging_stops stop w = audit_stops before last stop (audit_read (Err stop) w)
+
+        pub yes_read : (count : ℕ) → IsJudged (Ok count) → ReadsAs as_text (DueOf (audit dir)) before last (Ok (yes_text count))
+        unfolding DueOf
+        yes_read count w = reads_then _ _ counted as_text before last last count (Ok (yes_text count)) (audit_read (Ok count) w) (reads_end as_text last (yes_text count))

@@ -1,0 +1,95 @@
+//! The written view of a job's folder, checked against the job.
+ghost use Rattle.std.specs.Prelude.{◌≡◌, ℕ, Some, None, Ok, length};
+ghost use Rattle.outer_io.specs.Files.{FilesReading};
+ghost use Rattle.command_words.specs.Commands.{audit};
+ghost use Rattle.share_world.specs.Laws.{IsWhole};
+ghost use Rattle.share_world.specs.Worlds.{view};
+ghost use Rattle.wire_tables.specs.WireTables.{world_given};
+ghost use Rattle.view_check.specs.declared.fault.CheckFault.TheVariants.{Memory};
+ghost use Rattle.refusal_text.specs.Lines.{view_line};
+ghost use Rattle.job_walk.specs.Verdict.{Ends, refused};
+ghost use Rattle.job_walk.specs.JobOf.{PlanAt};
+ghost use Rattle.job_walk.specs.Reads.{ReadsAs, WalksAs, StopsBy};
+ghost use Rattle.job_walk.specs.Seen.{planned_view};
+ghost use Rattle.mpc_top.specs.Audits.{Judged};
+ghost use Rattle.mpc_top.specs.Stops.{RunsAlone};
+
+use crate::parties::read_parties;
+use job_plan::Inputs;
+use job_walk::{Planned, Stop, read_file, read_planned, refusal};
+use outer_io::{Files, Sink};
+use output_text::write_yes;
+use pair_run::{inputs_of, tapes_of};
+use refusal_text::view_line;
+use std::alloc::Global;
+use view_check::{CheckFault, check};
+
+/// Checks the written view of a folder against its job: how many messages the view has, where each word is the
+/// protocol's.
+pub(crate) fn audit_job<F: Files, O: Sink>(
+    alloc: Global,
+    files: &mut F,
+    out: &mut O,
+    dir: &str,
+) -> Result<(), Stop>
+    ensures { RunsAlone (Some (audit dir.now)) (F.reading files.old) (F.reading files.new)
+        (O.reading out.old) (O.reading out.new) result }
+{
+    let planned = read_planned(alloc, files, dir, None)?;
+    let result = audit_planned(alloc, files, out, dir, &planned);
+    // By a call, which is one step of the proof.
+    drop(planned);
+    result
+}
+
+// Checks the view of a job that was read.
+fn audit_planned<F: Files, O: Sink>(
+    alloc: Global,
+    files: &mut F,
+    out: &mut O,
+    dir: &str,
+    planned: &Planned,
+) -> Result<(), Stop>
+    requires names { length planned.now.names ≡ planned.now.plan.parties }
+    ensures { (before : FilesReading)
+        → ReadsAs planned_view (λ contents. PlanAt contents dir.now None) before (F.reading files.old) (Ok planned.now)
+        → RunsAlone (Some (audit dir.now)) before (F.reading files.new) (O.reading out.old) (O.reading out.new) result }
+{
+    let _ = planned.plan.parties();
+    let parties = read_parties(alloc, files, dir, &planned.names, &planned.plan)?;
+    let inputs = inputs_of(alloc, &planned.plan, &parties)?;
+    let tapes = tapes_of(alloc, &parties)?;
+    let text = read_file(alloc, files, dir, "view.txt")?;
+    let count = judged(alloc, planned, &inputs, &tapes, &text)?;
+    Ok(write_yes(out, count)?)
+}
+
+// How many messages a view has, where its text is accepted.
+fn judged(
+    alloc: Global,
+    planned: &Planned,
+    inputs: &Inputs,
+    tapes: &[Vec<u64>],
+    text: &[u8],
+) -> Result<u32, Stop>
+    requires names { length planned.now.names ≡ planned.now.plan.parties }
+    requires whole { IsWhole (world_given planned.now.plan inputs.now tapes.now) }
+    ensures { WalksAs (λ count. count)
+        (Judged planned.now.names (view (world_given planned.now.plan inputs.now tapes.now)) text.now) result }
+{
+    match check(alloc, &planned.plan, inputs, tapes, &planned.names, text) {
+        Ok(count) => Ok(count),
+        Err(fault) => Err(view_stop(alloc, fault)),
+    }
+}
+
+// The stop of a fault of a view.
+fn view_stop(alloc: Global, fault: CheckFault) -> Stop
+    ensures memory { fault ≡ Memory → result ≡ Stop.Memory }
+    ensures line { StopsBy {A = ℕ} (Ends (refused 3 (view_line fault))) result }
+{
+    match fault {
+        CheckFault::Memory => Stop::Memory,
+        fault => refusal(view_line(alloc, fault)),
+    }
+}

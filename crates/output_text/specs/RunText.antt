@@ -1,0 +1,16 @@
+-- The text of a run: its outputs, and then what a group sees of it.
+use Rattle.std.specs.Prelude.{ℕ, List, ◌++◌, Option, None, Some}
+use Rattle.party_set.specs.Parties.{Members}
+use Rattle.job_plan.specs.declared.key.Key.{Key}
+use Rattle.share_world.specs.Worlds.{World, view}
+use Rattle.view_text.specs.ViewText.{view_text}
+use Rattle.output_text.specs.OutText.{out_text}
+
+-- the outputs of a run, and then what a group sees of it
+abbrev pub seen_text : List (List ℕ) → World → ℕ → List (Key × ℕ) → List ℕ
+seen_text names w group seen = out_text names w ++ view_text names group seen
+
+-- the outputs of a run, and then what a group sees, if one is given
+unfoldable pub run_text : List (List ℕ) → World → Option Members → List ℕ
+run_text names w None = out_text names w
+run_text names w (Some group) = seen_text names w group.mask (view w group.mask)

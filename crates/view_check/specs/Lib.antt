@@ -1,0 +1,9 @@
+pub mod Lines
+pub mod WrittenLines
+pub mod SixParts
+pub mod MessageLines
+pub mod Heads
+pub mod Views
+pub mod Laws
+pub mod WorldLaws
+pub mod FaultTexts

@@ -1,0 +1,212 @@
+//! The check of a written view.
+ghost use Rattle.std.specs.Prelude.{◌≡◌, ◌⊎◌, ℕ, ◌<◌, ◌∷◌, [], MatchResult, IfOk, IfErr, Ok, Err, length, slice_index, slice_index_or};
+ghost use Rattle.job_plan.specs.InputWords.{session_words};
+ghost use Rattle.list_laws.specs.Lists.{only_if};
+ghost use Rattle.job_plan.specs.Messages.{slot_messages, session_messages, messages};
+ghost use Rattle.job_plan.specs.Plans.{slot, slots};
+ghost use Rattle.share_world.specs.Laws.{IsWhole};
+ghost use Rattle.share_world.specs.Worlds.{touches, view};
+ghost use Rattle.wire_tables.specs.Places.{ArePlaces};
+ghost use Rattle.wire_tables.specs.WireTables.{world_given, summand_rows};
+ghost use Rattle.view_text.specs.Seen.{seen_of};
+ghost use Rattle.view_check.specs.Views.{verdict, Passes, Stops};
+ghost use Rattle.view_check.specs.Laws.{IsView, IsWrongWord};
+ghost use Rattle.view_check.specs.declared.fault.CheckFault.TheVariants.{Memory, WrongWord};
+
+use crate::fault::CheckFault;
+use crate::head::head_group;
+use crate::lines::Lines;
+use crate::view_lines::ViewLines;
+use job_plan::{Inputs, Key, Plan};
+use party_set::{Group, Names};
+use std::alloc::Global;
+use view_text::touches;
+use wire_tables::{SummandTable, first_places, pass_slot, slot_rows};
+
+// Takes the line of a message with this word, where a member of the group sends or receives it.
+fn check_message(
+    rest: &mut ViewLines<'_>,
+    names: &Names,
+    group: Group,
+    key: Key,
+    word: u64,
+) -> Result<(), CheckFault>
+    requires group { group.parties ≡ length names.now }
+    requires sender { key.sender < length names.now }
+    requires receiver { key.receiver < length names.now }
+    ensures { MatchResult result
+        (λ _. Passes names.now (only_if (touches group.mask key) ((key, word) ∷ [])) rest.old rest.new)
+        (λ fault. Stops names.now (only_if (touches group.mask key) ((key, word) ∷ [])) rest.old fault) }
+{
+    if !touches(group, key) {
+        return Ok(());
+    }
+    rest.check_message(names, key, word)
+}
+
+// The word of a message: of its summand, in its sender's row.
+fn word_of(rows: &[Vec<u64>], key: Key) -> u64
+    requires sender { key.sender < length rows.now }
+    requires share { key.share < length (slice_index_or (session_words rows.now) key.sender []) }
+    ensures { result ≡ slice_index (slice_index_or (session_words rows.now) key.sender []) key.share }
+{
+    rows[key.sender as usize][key.share as usize]
+}
+
+// Takes the lines of what the group sees in slot `k` of session `s`.
+fn check_slot(
+    alloc: Global,
+    plan: &Plan,
+    inputs: &Inputs,
+    tapes: &[Vec<u64>],
+    names: &Names,
+    group: Group,
+    table: &SummandTable,
+    places: &[u32],
+    s: u32,
+    k: u32,
+    rest: &mut ViewLines<'_>,
+) -> Result<(), CheckFault>
+    requires names { length names.now ≡ plan.now.parties }
+    requires group { group.parties ≡ length names.now }
+    requires whole { IsWhole (world_given plan.now inputs.now tapes.now) }
+    requires session { s < length plan.now.sessions }
+    requires slot { k < slots plan.now s }
+    requires table { table.now ≡ summand_rows (world_given plan.now inputs.now tapes.now) s }
+    requires places { ArePlaces plan.now s k places.now }
+    ensures { MatchResult result
+        (λ _. Passes names.now (seen_of (world_given plan.now inputs.now tapes.now) group.mask
+        (slot_messages plan.now s k (slot plan.now s k))) rest.old rest.new)
+        (λ fault. (fault ≡ Memory) ⊎ Stops names.now
+        (seen_of (world_given plan.now inputs.now tapes.now) group.mask
+        (slot_messages plan.now s k (slot plan.now s k))) rest.old fault) }
+{
+    let lines = plan.lines(plan.pattern(s, k));
+    let rows = slot_rows(alloc, plan, inputs, tapes, table, places, s, k)?;
+    for i in 0..lines.len() {
+        let key = lines[i].named(s, k);
+        check_message(rest, names, group, key, word_of(&rows, key))?;
+    }
+    Ok(())
+}
+
+// Takes the lines of what the group sees in session `s`.
+fn check_session(
+    alloc: Global,
+    plan: &Plan,
+    inputs: &Inputs,
+    tapes: &[Vec<u64>],
+    names: &Names,
+    group: Group,
+    s: u32,
+    rest: &mut ViewLines<'_>,
+) -> Result<(), CheckFault>
+    requires names { length names.now ≡ plan.now.parties }
+    requires group { group.parties ≡ length names.now }
+    requires whole { IsWhole (world_given plan.now inputs.now tapes.now) }
+    requires session { s < length plan.now.sessions }
+    ensures { MatchResult result
+        (λ _. Passes names.now (seen_of (world_given plan.now inputs.now tapes.now) group.mask
+        (session_messages plan.now s)) rest.old rest.new)
+        (λ fault. (fault ≡ Memory) ⊎ Stops names.now
+        (seen_of (world_given plan.now inputs.now tapes.now) group.mask
+        (session_messages plan.now s)) rest.old fault) }
+{
+    let table = SummandTable::make(alloc, plan, inputs, tapes, s)?;
+    let mut places = first_places(alloc, plan, s)?;
+    for k in 0..plan.slots(s) {
+        check_slot(
+            alloc, plan, inputs, tapes, names, group, &table, &places, s, k, rest,
+        )?;
+        pass_slot(plan, s, k, &mut places);
+    }
+    Ok(())
+}
+
+// Takes the lines of all that the group sees.
+fn check_messages(
+    alloc: Global,
+    plan: &Plan,
+    inputs: &Inputs,
+    tapes: &[Vec<u64>],
+    names: &Names,
+    group: Group,
+    rest: &mut ViewLines<'_>,
+) -> Result<(), CheckFault>
+    requires names { length names.now ≡ plan.now.parties }
+    requires group { group.parties ≡ length names.now }
+    requires whole { IsWhole (world_given plan.now inputs.now tapes.now) }
+    ensures { MatchResult result
+        (λ _. Passes names.now (seen_of (world_given plan.now inputs.now tapes.now) group.mask
+        (messages plan.now)) rest.old rest.new)
+        (λ fault. (fault ≡ Memory) ⊎ Stops names.now
+        (seen_of (world_given plan.now inputs.now tapes.now) group.mask
+        (messages plan.now)) rest.old fault) }
+{
+    for s in 0..plan.sessions() {
+        check_session(alloc, plan, inputs, tapes, names, group, s, rest)?;
+    }
+    Ok(())
+}
+
+// The verdict on a text.
+fn judge(
+    alloc: Global,
+    plan: &Plan,
+    inputs: &Inputs,
+    tapes: &[Vec<u64>],
+    names: &Names,
+    text: &[u8],
+) -> Result<u32, CheckFault>
+    requires names { length names.now ≡ plan.now.parties }
+    requires whole { IsWhole (world_given plan.now inputs.now tapes.now) }
+    ensures { MatchResult result
+        (λ count. verdict names.now (view (world_given plan.now inputs.now tapes.now)) text.now ≡ Ok count)
+        (λ fault. (fault ≡ Memory)
+        ⊎ (verdict names.now (view (world_given plan.now inputs.now tapes.now)) text.now ≡ Err fault)) }
+{
+    let mut lines = Lines::of(text);
+    let Some(head) = lines.next_line() else {
+        return Err(CheckFault::BadHead);
+    };
+    let Some(group) = head_group(alloc, head, names)? else {
+        return Err(CheckFault::BadHead);
+    };
+    let mut rest = ViewLines::of(lines);
+    check_messages(alloc, plan, inputs, tapes, names, group, &mut rest)?;
+    let found = rest.finish()?;
+    Ok(found as u32)
+}
+
+/// How many messages the group of a text's first line sees, where the text has the lines of that group's view. `tapes`
+/// has for each party the words that it draws, all sessions in order. It goes through the text once and through the plan
+/// once, with the summands of one session at a time.
+///
+/// # Errors
+///
+/// The first fault of the text: of its first line, and then line by line, each against the group's next message.
+pub fn check(
+    alloc: Global,
+    plan: &Plan,
+    inputs: &Inputs,
+    tapes: &[Vec<u64>],
+    names: &Names,
+    text: &[u8],
+) -> Result<u32, CheckFault>
+    requires names { length names.now ≡ plan.now.parties }
+    requires whole { IsWhole (world_given plan.now inputs.now tapes.now) }
+    ensures verdict { MatchResult result
+        (λ count. verdict names.now (view (world_given plan.now inputs.now tapes.now)) text.now ≡ Ok count)
+        (λ fault. (fault ≡ Memory)
+        ⊎ (verdict names.now (view (world_given plan.now inputs.now tapes.now)) text.now ≡ Err fault)) }
+    ensures view { IfOk result
+        (IsView names.now (view (world_given plan.now inputs.now tapes.now)) text.now) }
+    ensures accepts { (count : ℕ)
+        → IsView names.now (view (world_given plan.now inputs.now tapes.now)) text.now count
+        → MatchResult result (λ found. found ≡ count) (λ fault. fault ≡ Memory) }
+    ensures wrong { IfErr result (λ fault. (line wanted found : ℕ) → fault ≡ WrongWord line wanted found
+        → IsWrongWord names.now (view (world_given plan.now inputs.now tapes.now)) text.now line wanted found) }
+{
+    let _ = names.len();
+    judge(alloc, plan, inputs, tapes, names, text)
+}

@@ -1,0 +1,2 @@
+pub mod ViewText
+pub mod Seen
