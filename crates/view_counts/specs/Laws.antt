@@ -12,6 +12,7 @@ use Rattle.job_plan.specs.Tallies.{tape_length}
 use Rattle.share_world.specs.Worlds.{World}
 use Rattle.share_world.specs.Laws.{IsWhole, AreTapes}
 use Rattle.tape_map.specs.TapeMaps.{with_inputs, with_tapes, tape_of}
+use Rattle.tape_map.specs.Laws.{Agree}
 use Rattle.view_counts.specs.Counts.{choices, ways, is_view}
 use Rattle.view_counts.specs.Simulators.{known, simulated_ways}
 
@@ -83,3 +84,27 @@ ChoicesAreMany plan group own =
 -- no two choices are the same
 abbrev pub ChoicesDiffer : World → ℕ → Type 0
 ChoicesDiffer w group = AllPairs (λ a b. a ≢ b) (choices w.plan group w.tapes)
+
+-- ---- what a group knows
+
+-- another world of the plan in which the group's members give what they gave, read what they read and have the tapes
+-- that they had
+pub record IsSameFor (w : World) (other : List (List (List ℕ))) (tapes : List (List ℕ)) (group : ℕ) : Type 0 where
+  pub whole : IsWhole w
+  pub inputs : AreInputs w.plan other
+  pub choice : IsChoice w group tapes
+  pub agree : Agree w other group
+
+-- the group knows nothing else: of such a world it knows the same
+abbrev pub KnowsNoMore : Type 0
+KnowsNoMore =
+    (w : World) (other : List (List (List ℕ))) (tapes : List (List ℕ)) (group : ℕ)
+    → IsSameFor w other tapes group → known (with_tapes (with_inputs w other) tapes) group ≡ known w group
+
+-- and it knows all of that: where it knows the same, the world is such
+abbrev pub KnowsNoLess : Type 0
+KnowsNoLess =
+    (w : World) (other : List (List (List ℕ))) (tapes : List (List ℕ)) (group : ℕ)
+    → IsWhole w → AreInputs w.plan other → AreTapes w.plan tapes
+    → known (with_tapes (with_inputs w other) tapes) group ≡ known w group
+    → IsSameFor w other tapes group

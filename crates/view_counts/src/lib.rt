@@ -11,7 +11,7 @@ ghost use Rattle.tape_map.specs.Laws.{CanHide};
 ghost use Rattle.view_counts.specs.Laws.{IsPrivate, ViewsAreEven, TestIsEqual};
 ghost use Rattle.view_counts.specs.Laws.{IsSimulated, CanCompare, KnownDecides};
 ghost use Rattle.view_counts.specs.Laws.{ChoicesAreTapes, TapesAreChoices, ChoicesDiffer};
-ghost use Rattle.view_counts.specs.Laws.{ChoicesAreMany};
+ghost use Rattle.view_counts.specs.Laws.{ChoicesAreMany, KnowsNoMore, KnowsNoLess};
 ghost use Rattle.view_counts.specs.Multiply.{ChoicesForA, WaysForA, WaysForC, WaysForBoth};
 ghost use Rattle.view_counts.specs.Multiply.{KnownToA, KnownToC};
 
@@ -24,6 +24,13 @@ pub fn views_are_simulated()
         → IsWhole w → LiesWithin (structure w.plan) group → IsSimulated w group }
     ensures known { (w : World) (other : List (List (List ℕ))) (tapes : List (List ℕ)) (group : ℕ)
         → CanCompare w other tapes group → KnownDecides w other tapes group }
+{}
+
+/// What the simulator is given of a world is what the members give, what they read and their tapes, and nothing else:
+/// it is the same of another world of the plan exactly where these are.
+pub fn known_is_the_members()
+    ensures no_more { KnowsNoMore }
+    ensures no_less { KnowsNoLess }
 {}
 
 /// With other inputs that can be hidden from it, a group's view passes each test for as many
