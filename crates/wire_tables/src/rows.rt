@@ -1,5 +1,5 @@
 //! The summands of one wire: as they are dealt, and as a gate makes them of other wires.
-ghost use Rattle.std.specs.Prelude.{◌≡◌, ℕ, ◌+◌, ◌%◌, ◌^◌, ◌<◌, ◌≤◌, All, IfOk, true, length};
+ghost use Rattle.std.specs.Prelude.{◌≡◌, ℕ, ◌+◌, ◌%◌, ◌^◌, ◌<◌, ◌≤◌, All, IfOk, OnOk, true, length};
 ghost use Rattle.std.specs.Prelude.{slice_index, take, drop, replicate};
 ghost use Rattle.list_laws.specs.Lists.{listed};
 ghost use Rattle.circuit_model.specs.Circuits.{is_product};
@@ -30,8 +30,31 @@ fn words_at(tape: &[u64], at: usize, count: usize) -> &[u64]
     &tape[at..at + count]
 }
 
-/// The summands of what party `p` deals of `value`, with the words at its place: the words, and
-/// last what is missing to the value (Ito, Saito, Nishizeki 1987; Maurer 2006).
+// Sets `row` to the summands of what party `p` deals of `value`, with the words at its place: the
+// words, and last what is missing to the value (Ito, Saito, Nishizeki 1987; Maurer 2006).
+fn deal_into(
+    plan: &Plan,
+    tapes: &[Vec<u64>],
+    places: &[u32],
+    p: u32,
+    value: u64,
+    row: &mut Vec<u64>,
+) -> Result<(), AllocError>
+    requires value { value < 2 ^ plan.now.bits }
+    requires words { HasDealWords plan.now (session_words tapes.now) places.now p }
+    ensures { OnOk result (row.new.items ≡ listed (length plan.now.groups)
+        (dealt_at (scheme plan.now) (session_words tapes.now) places.now p value)) }
+{
+    let ring = plan.ring();
+    let at = places[p as usize] as usize;
+    let words = words_at(&tapes[p as usize], at, plan.shares() as usize - 1);
+    row.clear();
+    row.extend_from_slice(words)?;
+    row.push(ring.sub(value, ring.sum(words)))?;
+    Ok(())
+}
+
+/// The summands of what party `p` deals of `value`, with the words at its place.
 pub(crate) fn dealt_row(
     alloc: Global,
     plan: &Plan,
@@ -45,11 +68,8 @@ pub(crate) fn dealt_row(
     ensures { IfOk result (λ row. row.items ≡ listed (length plan.now.groups)
         (dealt_at (scheme plan.now) (session_words tapes.now) places.now p value)) }
 {
-    let ring = plan.ring();
-    let at = places[p as usize] as usize;
-    let words = words_at(&tapes[p as usize], at, plan.shares() as usize - 1);
-    let mut row = Vec::from_slice(alloc, words)?;
-    row.push(ring.sub(value, ring.sum(words)))?;
+    let mut row = Vec::new(alloc);
+    deal_into(plan, tapes, places, p, value, &mut row)?;
     Ok(row)
 }
 
@@ -68,70 +88,74 @@ fn add_row(ring: Ring, row: &[u64], sums: &mut [u64])
     }
 }
 
-// The summands of the product of two wires: each party deals its own product, and what is dealt is
-// added up.
-fn product_row(
-    alloc: Global,
+// Sets `sums` to the summands of the product of two wires: each party deals its own product, and
+// what is dealt is added up. `dealt` holds what the last of them dealt.
+fn product_into(
     plan: &Plan,
     tapes: &[Vec<u64>],
     places: &[u32],
     x: &[u64],
     y: &[u64],
-) -> Result<Vec<u64>, AllocError>
+    dealt: &mut Vec<u64>,
+    sums: &mut Vec<u64>,
+) -> Result<(), AllocError>
     requires first { length x.now ≡ length plan.now.groups }
     requires second { length y.now ≡ length plan.now.groups }
     requires tapes { (p : ℕ) → p < plan.now.parties → has_pair (scheme plan.now) p ≡ true
         → HasDealWords plan.now (session_words tapes.now) places.now p }
-    ensures { IfOk result (λ row. row.items ≡ listed (length plan.now.groups)
+    ensures { OnOk result (sums.new.items ≡ listed (length plan.now.groups)
         (product_summand (scheme plan.now)
         (dealt_at (scheme plan.now) (session_words tapes.now) places.now)
         (slice_index x.now) (slice_index y.now))) }
 {
     let ring = plan.ring();
-    let mut sums = zeros(alloc, plan.shares() as usize)?;
+    sums.clear();
+    sums.resize(plan.shares() as usize, 0)?;
     for p in 0..plan.parties() {
         if plan.multiplies(p) {
             let own = own_products(ring, plan.duty(), p, x, y);
-            let row = dealt_row(alloc, plan, tapes, places, p, own)?;
-            add_row(ring, &row, &mut sums);
+            deal_into(plan, tapes, places, p, own, dealt)?;
+            add_row(ring, dealt, sums);
         }
     }
-    Ok(sums)
+    Ok(())
 }
 
-// The summands that a linear gate makes of those of its wires.
-fn linear_row(
-    alloc: Global,
+// Sets `row` to the summands that a linear gate makes of those of its wires.
+fn linear_into(
     ring: Ring,
     gate: Gate,
     x: &[u64],
     y: &[u64],
-) -> Result<Vec<u64>, AllocError>
+    row: &mut Vec<u64>,
+) -> Result<(), AllocError>
     requires long { length x.now ≡ length y.now }
     requires words { All (λ word. word < 2 ^ ring) x.now }
     requires more_words { All (λ word. word < 2 ^ ring) y.now }
-    ensures { IfOk result (λ row. row.items ≡ listed (length x.now) (λ i.
+    ensures { OnOk result (row.new.items ≡ listed (length x.now) (λ i.
         local (2 ^ ring) gate.operation gate.constant i (slice_index x.now i) (slice_index y.now i))) }
 {
-    let mut row = Vec::new(alloc);
+    row.clear();
     for i in 0..x.len() {
         let a = x[i];
         let b = y[i];
         row.push(local_summand(ring, gate.operation, gate.constant, i == 0, a, b))?;
     }
-    Ok(row)
+    Ok(())
 }
 
-/// The summands that a gate makes of those of its wires.
-pub(crate) fn gate_row(
-    alloc: Global,
+/// Sets `row` to the summands that a gate makes of those of its wires. `dealt` is room for what one
+/// party deals.
+pub(crate) fn gate_into(
     plan: &Plan,
     tapes: &[Vec<u64>],
     places: &[u32],
     gate: Gate,
     x: &[u64],
     y: &[u64],
-) -> Result<Vec<u64>, AllocError>
+    dealt: &mut Vec<u64>,
+    row: &mut Vec<u64>,
+) -> Result<(), AllocError>
     requires first { length x.now ≡ length plan.now.groups }
     requires second { length y.now ≡ length plan.now.groups }
     requires words { All (λ word. word < 2 ^ plan.now.bits) x.now }
@@ -139,14 +163,14 @@ pub(crate) fn gate_row(
     requires tapes { is_product gate.operation ≡ true → (p : ℕ) → p < plan.now.parties
         → has_pair (scheme plan.now) p ≡ true
         → HasDealWords plan.now (session_words tapes.now) places.now p }
-    ensures { IfOk result (λ row. row.items ≡ listed (length plan.now.groups)
+    ensures { OnOk result (row.new.items ≡ listed (length plan.now.groups)
         (gate_summand (scheme plan.now)
         (dealt_at (scheme plan.now) (session_words tapes.now) places.now) gate
         (slice_index x.now) (slice_index y.now))) }
 {
     if gate.operation.is_product() {
-        product_row(alloc, plan, tapes, places, x, y)
+        product_into(plan, tapes, places, x, y, dealt, row)
     } else {
-        linear_row(alloc, plan.ring(), gate, x, y)
+        linear_into(plan.ring(), gate, x, y, row)
     }
 }

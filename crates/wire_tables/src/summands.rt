@@ -8,11 +8,12 @@ ghost use Rattle.wire_tables.specs.WireTables.{world_given};
 ghost use Rattle.wire_tables.specs.Steps.{AreRows};
 
 use crate::places::{first_places, pass_slot};
-use crate::rows::{dealt_row, gate_row, zeros};
+use crate::rows::{dealt_row, gate_into, zeros};
 use crate::values::input_list;
 use job_plan::{Inputs, Plan};
 use std::alloc::{AllocError, Global};
 use std::marker::Model;
+use std::mem::swap;
 
 /// The summands of all wires of a session, after all its gates. Contracts see a row for each wire.
 #[derive(Drop)]
@@ -52,12 +53,14 @@ impl SummandTable {
         let first_gate = part.input_wires() as u32;
         let mut places = first_places(alloc, plan, s)?;
         let mut rows = input_rows(alloc, plan, inputs, tapes, s, &mut places)?;
+        let mut dealt = Vec::new(alloc);
+        let mut row = Vec::new(alloc);
         for t in 0..part.gates().len() as u32 {
             let gate = part.gate(t);
             let x = &rows[gate.first as usize];
             let y = &rows[gate.second as usize];
-            let row = gate_row(alloc, plan, tapes, &places, gate, x, y)?;
-            rows[gate.output as usize] = row;
+            gate_into(plan, tapes, &places, gate, x, y, &mut dealt, &mut row)?;
+            swap(&mut rows[gate.output as usize], &mut row);
             pass_slot(plan, s, first_gate + t, &mut places);
         }
         Ok(SummandTable { rows })

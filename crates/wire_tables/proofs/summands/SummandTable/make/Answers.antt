@@ -19,8 +19,8 @@ use Rattle.wire_tables.proofs.RowSteps.{is_row, gate_here, rows_next, rows_last}
 use Rattle.wire_tables.proofs.TableWords.{has_words}
 use Rattle.wire_tables.proofs.summands.SummandTable.make.Goals as goal
 
-pub gate_row-requires : goal.gate_row-requires
-gate_row-requires c =
+pub gate_into-requires : goal.gate_into-requires
+gate_into-requires c =
     let plan = c.args.plan.now in
     let s = c.args.s in
     let t = c.loop-t.t in
@@ -70,18 +70,19 @@ loop-t-preserved c =
     (c.deref-in-loop-t-2.ensures.value ∙ row_read c.loop-t.rows.items c.gate-gate.result.second c.index-y.result.now (omega (arith, h.wires)) c.index-y.ensures ∙ ap (λ v. slice_index_or (session_words c.loop-t.rows.items) v []) second_at) in
     let here : ArePlaces plan s (length (owners x) + t) c.deref.result.now = subst (ArePlaces plan s (length (owners x) + t)) (sym c.deref.ensures.value) c.loop-t.invariant.places in
     let deal = dealt_at (scheme plan) (session_words c.args.tapes.now) c.deref.result.now in
-    let made : (i : ℕ) → i < m → slice_index c.in_ok-row.row.items i ≡ gate_summands (run_of w s) t (summands (run_of w s) t (gate x t).first) (summands (run_of w s) t (gate x t).second) i = λ i li.
-    ap (λ xs. slice_index xs i) c.in_ok-row.ensures
+    let made : (i : ℕ) → i < m → slice_index c.gate_into.new.row.items i ≡ gate_summands (run_of w s) t (summands (run_of w s) t (gate x t).first) (summands (run_of w s) t (gate x t).second) i = λ i li.
+    ap (λ xs. slice_index xs i) c.in_ok-gate_into.ensures
     ∙ listed_at m _ i 0 li
     ∙ ap (λ (g : Gate). gate_summand (scheme plan) deal g (slice_index c.deref-in-loop-t.result.now) (slice_index c.deref-in-loop-t-2.result.now) i) at
     ∙ gate_here w s t c.deref.result.now (slice_index c.deref-in-loop-t.result.now) (slice_index c.deref-in-loop-t-2.result.now) here a.are b.are i li in
-    let next = rows_next w s t c.loop-t.rows.items c.in_ok-row.row h (sound.wired.output t lt) (ap length c.in_ok-row.ensures ∙ length-listed m _) made in
+    let next = rows_next w s t c.loop-t.rows.items c.gate_into.new.row h (sound.wired.output t lt) (ap length c.in_ok-gate_into.ensures ∙ length-listed m _) made in
     let one : suc t ≡ t + 1 = omega arith in
     let slot_next : c.input_wires-first_gate.result + t + 1 ≡ length (owners x) + (t + 1) = omega (arith, c.input_wires-first_gate.ensures) in
     record {
       places = subst (ArePlaces plan s (length (owners x) + (t + 1))) (sym (with_items_is c.loop-t.places c.pass_slot.new.places (omega (arith, c.pass_slot.auto.places, c.deref_mut-in-loop-t.ensures.len))))
           (subst (λ k. ArePlaces plan s k c.pass_slot.new.places) slot_next c.pass_slot.ensures);
-      rows = subst (λ (g : Gate). AreRows w s (t + 1) (set c.loop-t.rows.items g.output c.in_ok-row.row)) (sym at) (subst (λ k. AreRows w s k (set c.loop-t.rows.items (gate x t).output c.in_ok-row.row)) one next);
+      rows = subst (λ row. AreRows w s (t + 1) (set c.loop-t.rows.items c.gate-gate.result.output row)) (sym c.swap.ensures.x_after)
+          (subst (λ (g : Gate). AreRows w s (t + 1) (set c.loop-t.rows.items g.output c.gate_into.new.row)) (sym at) (subst (λ k. AreRows w s k (set c.loop-t.rows.items (gate x t).output c.gate_into.new.row)) one next));
     }
 
 pub returns : goal.returns

@@ -8,7 +8,7 @@ use Rattle.job_plan.specs.Plans.{scheme}
 use Rattle.job_plan.specs.InputWords.{session_words}
 use Rattle.wire_tables.proofs.ListedRows.{row_read}
 use Rattle.wire_tables.proofs.DealtRows.{dealt_list}
-use Rattle.wire_tables.proofs.rows.dealt_row.Goals as goal
+use Rattle.wire_tables.proofs.rows.deal_into.Goals as goal
 
 pub returns : goal.returns
 returns c =
@@ -25,5 +25,5 @@ returns c =
     ∙ ap (difference (2 ^ c.ring-ring.result) c.args.value) (c.sum.ensures.is ∙ ap (λ ws. total (length ws) (slice_index ws) % 2 ^ c.ring-ring.result) words_are)
     ∙ ap (λ b. difference (2 ^ b) c.args.value (total (length (take n (drop at tape))) (slice_index (take n (drop at tape))) % 2 ^ b)) c.ring-ring.ensures.is in
     c.in_ok-push.ensures.items
-    ∙ ap (λ xs. xs ++ c.sub.result ∷ []) (c.in_ok-row.ensures.items ∙ words_are)
+    ∙ ap (λ xs. xs ++ c.sub.result ∷ []) (c.in_ok-extend_from_slice.ensures.items ∙ ap₂ (λ xs ys. xs ++ ys) c.clear.ensures.items words_are)
     ∙ dealt_list (scheme plan) c.args.value at n c.sub.result tape (pow_pos plan.bits) (omega (arith, c.shares.ensures.sound.some_groups)) c.requires.words.enough missing

@@ -15,12 +15,12 @@ use Rattle.job_plan.specs.InputWords.{session_words}
 use Rattle.wire_tables.specs.Places.{dealt_at}
 use Rattle.wire_tables.proofs.ListedRows.{listed_of}
 use Rattle.wire_tables.proofs.DealtRows.{all_listed, total_passed}
-use Rattle.wire_tables.proofs.rows.product_row.Goals as goal
-use Rattle.wire_tables.proofs.rows.product_row.Goals.{then-multiplies+in_ok-row, else-multiplies}
+use Rattle.wire_tables.proofs.rows.product_into.Goals as goal
+use Rattle.wire_tables.proofs.rows.product_into.Goals.{then-multiplies+in_ok-deal_into, else-multiplies}
 
 pub add_row-requires-clause-long : goal.add_row-requires-clause-long
 add_row-requires-clause-long c =
-    ap length (c.deref.ensures.value ∙ c.in_ok-row.ensures) ∙ length-listed _ _ ∙ sym (ap length c.deref_mut.ensures.value ∙ c.loop-p.invariant.long)
+    ap length (c.deref.ensures.value ∙ c.in_ok-deal_into.ensures) ∙ length-listed _ _ ∙ sym (ap length c.deref_mut.ensures.value ∙ c.loop-p.invariant.long)
 
 pub add_row-requires-clause-words : goal.add_row-requires-clause-words
 add_row-requires-clause-words c =
@@ -29,7 +29,7 @@ add_row-requires-clause-words c =
     let has = c.requires.tapes p (omega arith) (sym c.multiplies.ensures ∙ c.if-multiplies.true) in
     let own = c.own_products-own.result in
     let word : ℕ → ℕ = λ i. slice_index (slice_index_or (session_words c.args.tapes.now) p []) (slice_index c.args.places.now p + i) in
-    subst (λ xs. All (λ word. word < 2 ^ c.ring-ring.result) xs) (sym (c.deref.ensures.value ∙ c.in_ok-row.ensures))
+    subst (λ xs. All (λ word. word < 2 ^ c.ring-ring.result) xs) (sym (c.deref.ensures.value ∙ c.in_ok-deal_into.ensures))
     (subst (λ b. All (λ word. word < 2 ^ b) (listed (length plan.groups) (dealt_at (scheme plan) (session_words c.args.tapes.now) c.args.places.now p own))) (sym c.ring-ring.ensures.is)
     (all_listed (length plan.groups) (2 ^ plan.bits) (dealt_at (scheme plan) (session_words c.args.tapes.now) c.args.places.now p own) (λ i l. dealt_small (scheme plan) own word i (pow_pos plan.bits) (λ j. has.below (slice_index c.args.places.now p + j)))))
 
@@ -41,13 +41,13 @@ loop-p-preserved c =
     let own : ℕ → ℕ = λ p. own_product (scheme plan) p (slice_index c.args.x.now) (slice_index c.args.y.now) in
     let dealt : ℕ → ℕ → ℕ = λ p. dealt_at (scheme plan) (session_words c.args.tapes.now) c.args.places.now p (own p) in
     elim c.if-multiplies.branch [
-      | then-multiplies+in_ok-row w ↦
+      | then-multiplies+in_ok-deal_into w ↦
           let long : length w.add_row.new.sums ≡ m = w.add_row.ensures.long ∙ ap length w.deref_mut.ensures.value ∙ c.loop-p.invariant.long in
           let is : c.if-multiplies.sums.items ≡ w.add_row.new.sums = ap (λ (v : Vec ℕ). v.items) w.sums-is ∙ with_items_is c.loop-p.sums w.add_row.new.sums (omega (arith, w.add_row.ensures.long, w.deref_mut.ensures.len)) in
           let pair : has_pair (scheme plan) p ≡ true = sym c.multiplies.ensures ∙ w.if-multiplies.true in
           let own_is : w.own_products-own.result ≡ own p =
           w.own_products-own.ensures.is ∙ ap₂ (λ (bits : ℕ) (structure : Structure). own_product (scheme_of bits structure) p (slice_index c.args.x.now) (slice_index c.args.y.now)) c.ring-ring.ensures.is w.duty.ensures in
-          let row_is : w.deref.result.now ≡ listed m (dealt p) = w.deref.ensures.value ∙ w.in_ok-row.ensures ∙ ap (λ v. listed m (dealt_at (scheme plan) (session_words c.args.tapes.now) c.args.places.now p v)) own_is in record {
+          let row_is : w.deref.result.now ≡ listed m (dealt p) = w.deref.ensures.value ∙ w.in_ok-deal_into.ensures ∙ ap (λ v. listed m (dealt_at (scheme plan) (session_words c.args.tapes.now) c.args.places.now p v)) own_is in record {
             long = ap length is ∙ long;
             small = subst (λ xs. All (λ word. word < 2 ^ plan.bits) xs) (sym is) (subst (λ b. All (λ word. word < 2 ^ b) w.add_row.new.sums) c.ring-ring.ensures.is w.add_row.ensures.sums);
             sums = λ i li.

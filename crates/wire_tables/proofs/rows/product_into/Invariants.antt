@@ -5,7 +5,7 @@ use Rattle.secret_sharing.specs.Schemes.{has_pair, own_product}
 use Rattle.job_plan.specs.Plans.{scheme}
 use Rattle.job_plan.specs.InputWords.{session_words}
 use Rattle.wire_tables.specs.Places.{dealt_at}
-use Rattle.wire_tables.proofs.rows.product_row.Given as goal
+use Rattle.wire_tables.proofs.rows.product_into.Given as goal
 
 -- the sums of what the parties so far deal
 abbrev pub invariant-loop-p : goal.invariant-loop-p
