@@ -7,6 +7,7 @@ pub mod LowBits
 pub mod GroupNames
 pub mod LineBytes
 pub mod MessageTexts
+pub mod WrittenTexts
 pub mod HeadLaws
 pub mod ViewLines
 pub mod ViewLaws

@@ -12,6 +12,7 @@ mod numbers;
 mod parts;
 mod view_line;
 mod view_lines;
+mod written_line;
 
 pub use fault::CheckFault;
 pub use laws::{

@@ -82,6 +82,9 @@ fn check_slot(
         (slot_messages plan.now s k (slot plan.now s k))) rest.old fault) }
 {
     let lines = plan.lines(plan.pattern(s, k));
+    if lines.is_empty() {
+        return Ok(());
+    }
     let rows = slot_rows(alloc, plan, inputs, tapes, table, places, s, k)?;
     for i in 0..lines.len() {
         let key = lines[i].named(s, k);
