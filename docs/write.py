@@ -1,0 +1,44 @@
+#!/usr/bin/env python3
+"""Writes what the documents have from the sources: docs/STATEMENT.md, and the tables of docs/CLAIMS.md. It tells each clause that no row of CLAIMS.md has, each row
+without a function, and each edit that no row names. With --check it writes nothing, and tells each of the two that isn't what it would write. Ends with status 1 where there's
+something to tell."""
+
+import pathlib
+import sys
+
+HERE = pathlib.Path(__file__).resolve().parent
+sys.path.insert(0, str(HERE / 'written'))
+
+from claims import Claims  # noqa: E402
+from sources import Sources  # noqa: E402
+from statement import Statement  # noqa: E402
+
+
+def main(words):
+    if words not in ([], ['--check']):
+        print(__doc__)
+        return 2
+    sources = Sources()
+    statement, claims = Statement(sources), Claims(sources, (HERE / 'CLAIMS.md').read_text(encoding='utf-8'))
+    wrong = [*statement.faults(), *claims.faults()]
+    for page, text in ((HERE / 'STATEMENT.md', statement.text()), (HERE / 'CLAIMS.md', claims.text())):
+        if not words:
+            page.write_text(text, encoding='utf-8')
+        elif not page.exists() or page.read_text(encoding='utf-8') != text:
+            wrong.append(f'docs/{page.name} is not what docs/write.py writes{first_difference(page, text)}')
+    for why in wrong:
+        print(f'written: {why}')
+    print(f'written: {statement.size()} definitions, {claims.size()} rows, {len(wrong)} places that do not fit')
+    return 1 if wrong else 0
+
+
+def first_difference(page, text):
+    """Where a page differs first from what it should be."""
+    found = page.read_text(encoding='utf-8').split('\n') if page.exists() else []
+    wanted = text.split('\n')
+    line = next((n for n, pair in enumerate(zip(found, wanted)) if pair[0] != pair[1]), min(len(found), len(wanted)))
+    return f', from line {line + 1} on: it should be {wanted[line][:120]!r}' if line < len(wanted) else f', which ends at line {line}'
+
+
+if __name__ == '__main__':
+    sys.exit(main(sys.argv[1:]))
