@@ -13,6 +13,7 @@ TOP = pathlib.Path(__file__).resolve().parent.parent.parent
 WORD = re.compile(r"◌[^\s◌(){}\[\];,]+◌|[^\W\d][\w']*(?:[-?][\w']+)*(?:\.[\w']+)*")
 BINDERS = (re.compile(r'[({]([\w\' ]+?) :'), re.compile(r'λ ([^.]*?)\. '), re.compile(r'\blet ([\w\' ]+?) ='))
 USE = re.compile(r'(?m)^\s*(?:ghost )?use ([\w.?]+?)(?:\.\{([^}]*)\})?(?: as (\w+))?;?$')
+KEYWORDS = {'pub', 'data', 'record', 'mutual', 'abbrev', 'unfoldable', 'module', 'where', 'let', 'in', 'if', 'then', 'else'}
 # Types of which no contract that is quoted sees anything.
 OPAQUE = {('link_reader', 'LinkReader')}
 # The operators of the repository's own, and how they are spelled in an import.
@@ -85,7 +86,7 @@ def names_in(code):
     if head:
         return (head[1],)
     heads = re.findall(r'(?:data|abbrev pub|unfoldable pub|^  pub|^abbrev) (\S+)', code, re.M)
-    return tuple(dict.fromkeys(heads + [name for name in found if name != 'pub']))
+    return tuple(name for name in dict.fromkeys(heads + found) if name not in KEYWORDS)
 
 
 def definitions(crate, module, lines, first=1, head=''):
@@ -185,7 +186,7 @@ class Sources:
         self.top = top
         text = (top / 'crates.txt').read_text(encoding='utf-8')
         self.crates = re.findall(r'(?m)^(\w+)(?: may_wait=\S+)?(?: tests_may=\S+)?:', text)
-        self.specs, self.code = {}, {}
+        self.specs, self.code, self.known = {}, {}, {}
         for crate in self.crates:
             folder = top / 'crates' / crate
             for path in sorted((folder / 'specs').glob('*.antt')):
@@ -229,6 +230,11 @@ class Sources:
 
     def reads(self, item):
         """The items that an item names, and the paths of the words of libraries."""
+        if item not in self.known:
+            self.known[item] = self.named_by(item)
+        return self.known[item]
+
+    def named_by(self, item):
         module = self.module_of(item)
         code = '\n'.join(item.bare)
         hidden = self.hidden(item, code)

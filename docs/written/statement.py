@@ -1,5 +1,8 @@
 """Writes docs/STATEMENT.md: every definition that the contract of `command` and the laws of privacy and of networks reach, once, each before it is used."""
 
+import collections
+import re
+
 import glosses
 from sources import WORD, Item
 
@@ -68,6 +71,10 @@ class Statement:
         self.rank = self.ranks()
         self.all_laws = [item for module in sources.code.values() for item in module.items if is_law(sources, item)]
         self.parts = [self.part(part) for part in glosses.PARTS]
+        self.homes = collections.defaultdict(set)
+        for _, order, _, _ in self.parts:
+            for item in order:
+                self.homes[item.name].add((item.crate, item.module))
 
     def ranks(self):
         """The place of each module: by crates, and within a crate after those that it imports."""
@@ -155,13 +162,13 @@ class Statement:
     def faults(self):
         """Words of the page's own that speak of nothing: headings, introductions and glosses whose definitions are gone."""
         places = {(item.crate, item.module) for _, order, _, _ in self.parts for item in order}
-        names = {(item.crate, name) for _, order, _, _ in self.parts for item in order for name in item.names}
+        names = {(item.crate, item.module, item.name) for _, order, _, _ in self.parts for item in order}
         for place in [*glosses.INTRO, *glosses.HEADINGS]:
             if place not in places:
                 yield f'docs/written/glosses.py: the page has nothing of {" ".join(place)}'
         for own in glosses.OWN:
             if own not in names:
-                yield f'docs/written/glosses.py: the page has no {own[1]} of {own[0]}'
+                yield f'docs/written/glosses.py: the page has no {own[2]} of {own[0]}, {own[1]}'
 
     def counts(self):
         rows = ['| Part | Definitions | Lines | With all before |\n|---|---|---|---|\n']
@@ -189,10 +196,25 @@ class Statement:
 
     def other_words(self, group):
         """A line on the words of a section that are imported under other names."""
-        words = dict(pair for item in group if item.kind == 'definition' for pair in renamed(self.sources, item) if pair[0] not in self.told_words.get((item.crate, item.module), ()))
+        notes = [pair for item in group if item.kind == 'definition' for pair in [*renamed(self.sources, item), *self.twofold(item)]]
+        words = dict(pair for pair in notes if pair[0] not in self.told_words.get((group[0].crate, group[0].module), ()))
         for item in group:
             self.told_words.setdefault((item.crate, item.module), set()).update(words)
-        return '\nHere ' + ', '.join(f'`{word}` {meaning}' for word, meaning in words.items()) + '.\n' if words else ''
+        meanings = collections.defaultdict(list)
+        for word, meaning in words.items():
+            meanings[meaning].append(f'`{word}`')
+        said = [f'{" and ".join(found)} {meaning if len(found) == 1 else meaning.replace("is that", "are those")}' for meaning, found in meanings.items()]
+        return '\nHere ' + ', '.join(said) + '.\n' if words else ''
+
+    def twofold(self, item):
+        """The words of an item that mean a definition of another module, where the page has another of the same name."""
+        for other in self.sources.reads(item):
+            if not isinstance(other, Item) or other.kind != 'definition' or other.module == item.module or other.name in item.names:
+                continue
+            homes = self.homes[other.name]
+            is_plain = len(homes) == 1 or other.crate == item.crate and sum(crate == item.crate for crate, _ in homes) == 1
+            if not is_plain and re.search(rf"(?<![\w'.]){re.escape(other.name)}(?![\w'])", '\n'.join(item.bare)):
+                yield other.name, f'is that of `{other.crate}::{other.module}`'
 
     def section(self, place, group):
         crate, name = place
@@ -201,7 +223,7 @@ class Statement:
         title += ', continued' if place in self.places else ''
         intro = glosses.INTRO.get(place) if place not in self.places else None
         self.places.add(place)
-        notes = [f'- `{item.name}`: {glosses.OWN[crate, item.name]}\n' for item in group if (crate, item.name) in glosses.OWN]
+        notes = [f'- `{item.name}`: {glosses.OWN[item.crate, item.module, item.name]}\n' for item in group if (item.crate, item.module, item.name) in glosses.OWN]
         text = f'\n## {title}: `{crate}`, `{name}`\n' + (f'\n{intro}\n' if intro else '') + (('\n' + ''.join(notes)) if notes else '')
         text += self.other_words(group)
         language = head = section = None
