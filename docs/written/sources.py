@@ -176,7 +176,8 @@ def read_source(crate, path):
     uses, aliases = uses_of(text)
     for found, listed in re.findall(r'(?m)^(?:pub )?use ([\w:]+?)(?:::\{([^}]*)\})?;', text):
         for word in listed.split(',') if listed else [found.rpartition('::')[2]]:
-            uses.setdefault(word.strip(), f'rust.{found.split("::")[0]}.{word.strip()}')
+            head = found.split('::')[0]
+            uses.setdefault(word.strip(), f'rust.{crate if head == "crate" else head}.{word.strip()}')
     about = ' '.join(line.lstrip('/!').strip() for line in re.match(r'(?://.*\n)*', text)[0].strip().split('\n'))
     return Module(crate, module, about, list(types_and_laws(crate, path, module, lines)), uses, aliases)
 
@@ -265,7 +266,7 @@ class Sources:
         names = set()
         for binder in BINDERS:
             for group in binder.findall(item.head + '\n' + code):
-                names.update(group.split())
+                names.update(re.sub(r'\(([^:()]*):[^()]*\)', r'\1', group).split())
         if item.kind == 'definition':
             for line in code.split('\n'):
                 left = re.match(rf'\s*(?:{"|".join(map(re.escape, item.names))}) ((?:[^=λ→:]|=(?!\s|$))*) =(?:\s|$)', line)

@@ -46,7 +46,7 @@ only what it asks for, which says nothing of what they mean.
 | `pub record R ..` | all of its fields hold; or it is data with these fields. `record { a = 1 }` is such data, `record r { a = 1 }` is r with another a |
 | `pub data D ..` | one of these constructors |
 | `≡`, `≢` | equal, different |
-| `ℕ`, `Bool`, `List A`, `(a, b)` | natural numbers, Booleans, lists, pairs, whose parts are `.0` and `.1`. A byte is a number, and a text a list of bytes |
+| `ℕ`, `Bool`, `List A`, `(a, b)` | natural numbers, Booleans, lists, pairs, whose parts are `.0` and `.1`. A byte is a number (10 is LF, 32 a blank, 48 `0`), and a text a list of bytes |
 | `[]`, `x ∷ xs`, `xs ++ ys` | the empty list, an item and then a list, two lists joined |
 | `a - b` | 0 where b is greater. `a % b` is the remainder, `a ^ b` the power |
 | `&&`, `\\|\\|`, `not`, `==`, `if a then b else c` | of Booleans; `==` is `nat_eq` |
@@ -58,6 +58,7 @@ only what it asks for, which says nothing of what they mean.
 | `.old`, `.new`, `.now`, `result` | in a contract: an argument before the call, after it, or where it doesn't change; what the function gives. `requires` is what a caller owes, `ensures` what it gets |
 | `F.reading files.old` | what contracts see of a value whose type F is a parameter: a ghost member of its trait, which costs nothing when it runs |
 | `items` | the list of a vector, `Vec` |
+| `impl Model for T` | what definitions see of the type T: `Value` is its type, `view` how it is made of the fields, and `invariant` a fact that each value of T has |
 '''
 
 
@@ -71,6 +72,7 @@ class Statement:
         self.rank = self.ranks()
         self.all_laws = [item for module in sources.code.values() for item in module.items if is_law(sources, item)]
         self.parts = [self.part(part) for part in glosses.PARTS]
+        self.library = {word.rpartition('.')[2] for word in self.words}
         self.homes = collections.defaultdict(set)
         for _, order, _, _ in self.parts:
             for item in order:
@@ -161,7 +163,7 @@ class Statement:
 
     def faults(self):
         """Words of the page's own that speak of nothing: headings, introductions and glosses whose definitions are gone."""
-        places = {(item.crate, item.module) for _, order, _, _ in self.parts for item in order}
+        places = {(item.crate, module) for _, order, _, _ in self.parts for item in order for module in (item.module, 'traits')}
         names = {(item.crate, item.module, item.name) for _, order, _, _ in self.parts for item in order}
         for place in [*glosses.INTRO, *glosses.HEADINGS]:
             if place not in places:
@@ -187,12 +189,18 @@ class Statement:
     def sections(self, order):
         place, group = None, []
         for item in order + [None]:
-            here = (item.crate, item.module) if item and item.kind == 'definition' else place if item and place and item.crate == place[0] else item and (item.crate, item.module)
+            here = self.home(item, place) if item else None
             if here != place or item is None:
                 if group:
                     yield self.section(place, group)
                 place, group = here, []
             group.append(item)
+
+    def home(self, item, place):
+        """The section of an item: a module, the traits of a crate, or for a type the section before it, if that is of its crate."""
+        if item.kind == 'trait':
+            return item.crate, 'traits'
+        return place if item.kind == 'type' and place and item.crate == place[0] else (item.crate, item.module)
 
     def other_words(self, group):
         """A line on the words of a section that are imported under other names."""
@@ -209,16 +217,19 @@ class Statement:
     def twofold(self, item):
         """The words of an item that mean a definition of another module, where the page has another of the same name."""
         for other in self.sources.reads(item):
+            name = other.rpartition('.')[2] if isinstance(other, str) else other.name
+            if isinstance(other, str) and name in self.homes:
+                yield name, f'is that of the library, `{other.split(".")[1]}`'
             if not isinstance(other, Item) or other.kind != 'definition' or other.module == item.module or other.name in item.names:
                 continue
             homes = self.homes[other.name]
-            is_plain = len(homes) == 1 or other.crate == item.crate and sum(crate == item.crate for crate, _ in homes) == 1
+            is_plain = len(homes) == 1 and name not in self.library or other.crate == item.crate and sum(crate == item.crate for crate, _ in homes) == 1
             if not is_plain and re.search(rf"(?<![\w'.]){re.escape(other.name)}(?![\w'])", '\n'.join(item.bare)):
                 yield other.name, f'is that of `{other.crate}::{other.module}`'
 
     def section(self, place, group):
         crate, name = place
-        module = self.sources.specs.get(place) or self.sources.code[place]
+        module = self.sources.specs.get(place) or self.sources.code.get(place) or self.sources.module_of(group[0])
         title = glosses.HEADINGS.get(place) or first_sentence(module.about) or name.replace('_', ' ').capitalize()
         title += ', continued' if place in self.places else ''
         intro = glosses.INTRO.get(place) if place not in self.places else None
@@ -288,7 +299,9 @@ def first_sentence(text):
 
 def library(words):
     """A table of the library's words that come new in a part."""
-    rows = [(word.rpartition('.')[2], glosses.LIBRARY[word.removeprefix('Rattle.')]) for word in sorted(words, key=lambda path: path.rpartition('.')[2].lower()) if word.removeprefix('Rattle.') in glosses.LIBRARY]
+    meanings = {path.rpartition('.')[2]: meaning for path, meaning in glosses.LIBRARY.items()}
+    names = sorted({word.rpartition('.')[2] for word in words}, key=str.lower)
+    rows = [(name, meanings[name]) for name in names if name in meanings]
     if not rows:
         return ''
     return '\nWords of the library that come new here:\n\n| Word | Meaning |\n|---|---|\n' + ''.join(f'| `{name}` | {meaning} |\n' for name, meaning in rows)
