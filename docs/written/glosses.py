@@ -7,8 +7,9 @@ import dataclasses
 class Part:
     title: str
     about: str
-    laws: list  # (crate, function), or (crate, '*') for each law of a crate that no part before has
+    laws: list  # (crate, function), or (crate, '*') for each law of a crate that no part names
     roots: tuple = ()  # (crate, module, name): definitions that the part must have besides
+    without: tuple = ()  # (crate, module, name): a definition that no law that is meant by '*' may reach
 
 
 PARTS = [
@@ -20,8 +21,9 @@ PARTS = [
     Part('The simulator', 'What a tolerated group knows, the view that a simulator makes of it, and how privacy is counted: over all tapes that the other parties may have.',
          [('view_counts', '*')]),
     Part('Files and texts', 'The command that words ask for, the job and the inputs that files stand for, and the text that is due. `IsDue`, at the end, puts them together.',
-         [('walk_laws', 'accepted_jobs_are_whole'), ('walk_laws', 'each_call_is_due_one_verdict'), ('walk_laws', 'a_run_writes_the_value_of_expressions')],
-         (('mpc_top', 'Due', 'IsDue'), ('mpc_top', 'Due', 'words_view'), ('command_words', 'Commands', 'command_of'))),
+         [('walk_laws', 'accepted_jobs_are_whole'), ('walk_laws', 'each_call_is_due_one_verdict'), ('tape_map', 'no_fault_where_it_can_be_hidden'),
+          ('walk_laws', 'a_run_writes_the_value_of_expressions'), ('walk_laws', 'an_audit_says_yes_to_what_a_run_writes'), ('walk_laws', '*')],
+         (('mpc_top', 'Due', 'IsDue'), ('mpc_top', 'Due', 'words_view'), ('command_words', 'Commands', 'command_of')), ('mpc_top', 'Outside', 'Outside')),
     Part('The outside', 'What files, outputs, threads and the net show, what a party says over its links and hears, and the answer of `command`. Then the laws of networks and of '
          'calls in a row.',
          [('mpc_top', 'command'), ('mpc_top', 'command_alone'), ('network_laws', '*'), ('pair_run', '*'), ('tape_map', '*'), ('walk_laws', '*')]),

@@ -108,12 +108,14 @@ class Statement:
             for module in self.sources.code.values():
                 for item in module.items:
                     is_law = item.crate == crate and item.kind == 'function' and name in (item.name, '*')
-                    if is_law and (name != '*' or self.is_free_law(item)):
+                    if is_law and (name != '*' or self.is_free_law(item, part.without)):
                         yield item
 
-    def is_free_law(self, item):
-        named = {law for part in glosses.PARTS for law in part.laws}
-        return is_law(self.sources, item) and (item.crate, item.name) not in glosses.APART | named
+    def is_free_law(self, item, without):
+        """Whether a law is meant by a part's '*': it is named by none, and reaches nothing that the part is without."""
+        named = {law for part in glosses.PARTS for law in part.laws} | glosses.APART
+        reached = {(other.crate, other.module, other.name) for other in reach(self.sources, [item])}
+        return is_law(self.sources, item) and (item.crate, item.name) not in named and item not in self.told and without not in reached
 
     def part(self, part):
         laws = list(dict.fromkeys(self.laws(part)))
