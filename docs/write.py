@@ -1,7 +1,7 @@
 #!/usr/bin/env python3
-"""Writes what the documents have from the sources: docs/STATEMENT.md, and the tables of docs/CLAIMS.md. It tells each clause that no row of CLAIMS.md has, each row
-without a function, and each edit that no row names. With --check it writes nothing, and tells each of the two that isn't what it would write. Ends with status 1 where there's
-something to tell."""
+"""Writes what the documents have from the sources: docs/STATEMENT.md, and the tables of docs/CLAIMS.md. It tells each clause that no row of
+CLAIMS.md has, each row without a function, and each edit that no row names. With --check it writes nothing, and tells each of the two that
+isn't what it would write. Ends with status 1 where there's something to tell."""
 
 import pathlib
 import sys

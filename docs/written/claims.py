@@ -21,7 +21,7 @@ class Row:
 class Section:
     def __init__(self, text, sources):
         self.text = text
-        self.definitions = sources.definitions
+        self.definitions, self.fields = sources.definitions, sources.fields
         self.crates = [crate for crate in re.findall(r'`(\w+)`', text.split('\n')[0]) if crate in sources.crates]
         self.functions, self.edits, self.files = [], [], {}
         for crate in self.crates:
@@ -59,7 +59,8 @@ class Section:
             apt = [row for row in self.rows if self.reaches(row, changed, edit.crate)]
             kept = [row for row in named if row in apt or not row.functions]
             if named and not kept:
-                self.faults.append(f'the edit {edit.name} changes {", ".join(function.path for function in changed)}, on which no row that names it stands')
+                paths = ', '.join(function.path for function in changed)
+                self.faults.append(f'the edit {edit.name} changes {paths}, on which no row that names it stands')
             if not named:
                 apt = [row for row in apt if any(function in changed for function in row.functions)] or apt
                 kept = apt[:1]
@@ -94,8 +95,7 @@ class Section:
         for row in self.rows:
             if not row.functions and not any(self.is_type(word, row) for word in re.findall(r'`([\w:]+)`', row.said)):
                 yield f'a row has no function: {row.claim}'
-            labels = {word for function in row.functions for word in (*function.clauses, function.name)} | self.definitions
-            strange = [word for word in row.words if word not in labels and any(function.clauses for function in row.functions)]
+            strange = [word for word in row.words if not self.is_known(word, row) and any(function.clauses for function in row.functions)]
             yield from (f'a row names a clause {word} that its functions have not: {row.claim}' for word in strange)
         for function in self.functions:
             rows = [row for row in self.rows if function in row.functions]
@@ -113,14 +113,16 @@ class Section:
             return row.said
         types = [f'`{word}`' for word in re.findall(r'`([\w:]+)`', row.said) if self.is_type(word, row)]
         several = len(self.crates) > 1
-        names = [f'`{function.crate}::{function.path}`' if several and self.is_twofold(function) else f'`{function.path}`' for function in row.functions]
+        crates = [f'{function.crate}::' if several and self.is_twofold(function) else '' for function in row.functions]
+        names = [f'`{crate}{function.path}`' for crate, function in zip(crates, row.functions)]
         kind = ' (trait)' if all(function.is_trait for function in row.functions) else ''
         return ', '.join([', '.join(names) + kind, *types])
 
     def is_type(self, word, row):
         """Whether a word is that of a type of the section, and of no function of the row."""
         named = any(function.name == word for function in row.functions)
-        return not named and any(re.search(rf'\b(?:struct|enum|trait) {word}\b', '\n'.join(lines)) for texts in self.files.values() for lines in texts.values())
+        code = '\n'.join(line for texts in self.files.values() for lines in texts.values() for line in lines)
+        return not named and bool(re.search(rf'\b(?:struct|enum|trait) {word}\b', code))
 
     def is_twofold(self, function):
         return sum(other.path == function.path for other in self.functions) > 1
@@ -137,9 +139,16 @@ class Section:
         else:
             labels = unique(label for labels in picked for label in labels if label)
             text = ', '.join(f'`{label}`' for label in labels) + ('; one clause' if any('' in labels for labels in picked) else '')
-        labels = {word for function in row.functions for word in (*function.clauses, function.name)}
-        more = [word for word in row.words if word not in labels and word in self.definitions]
+        more = [word for word in row.words if word not in self.labels(row) and self.is_known(word, row)]
         return ', '.join([text] + [f'`{word}`' for word in unique(more)])
+
+    def labels(self, row):
+        return {word for function in row.functions for word in (*function.clauses, function.name)}
+
+    def is_known(self, word, row):
+        """Whether a word of a row's clauses is a label of them, a definition, or, where no clause has a label, a field of one."""
+        has_labels = any(label for function in row.functions for label in function.clauses)
+        return word in self.labels(row) or word in self.definitions or (word in self.fields and not has_labels)
 
     def picked(self, row, function):
         """The labels of a function's clauses that a row has: those that it names, or else those that no other row names."""
@@ -169,7 +178,8 @@ def unique(items):
 class Claims:
     def __init__(self, sources, text):
         head, *rest = re.split(r'(?m)^(?=## )', text)
-        self.parts = [head] + [Section(part, sources) if any(f'`{crate}`' in part.split('\n')[0] for crate in sources.crates) else part for part in rest]
+        of_crates = [any(f'`{crate}`' in part.split('\n')[0] for crate in sources.crates) for part in rest]
+        self.parts = [head] + [Section(part, sources) if is_of_crates else part for part, is_of_crates in zip(rest, of_crates)]
 
     def text(self):
         return ''.join(part if isinstance(part, str) else part.written() for part in self.parts)

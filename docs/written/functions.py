@@ -4,7 +4,8 @@ import dataclasses
 import re
 
 HEAD = re.compile(r'(?P<indent> *)(?P<pub>pub(?:\(crate\))? )?(?:const )?fn (?P<name>\w+)')
-OWNER = re.compile(r'(?:pub(?:\(crate\))? )?(?:(?P<kind>trait|struct|enum|mod) (?P<name>\w+)|impl(?:<.*?>)? (?:(?P<trait>[\w:]+)(?:<.*>)? for )?(?:&(?:mut )?)?(?P<type>\w+))')
+IMPL = r'impl(?:<.*?>)? (?:(?P<trait>[\w:]+)(?:<.*>)? for )?(?:&(?:mut )?)?(?P<type>\w+)'
+OWNER = re.compile(rf'(?:pub(?:\(crate\))? )?(?:(?P<kind>trait|struct|enum|mod) (?P<name>\w+)|{IMPL})')
 CLAUSE = re.compile(r'(?m)^\s*(requires|ensures)(?: (\w+))? \{')
 
 
@@ -69,7 +70,8 @@ def functions_in(crate, file, lines, shown):
         public = is_public(head, own, is_trait, trait, is_shown, shown, file, is_open)
         clauses = tuple(label or '' for kind, label in CLAUSE.findall(contract) if kind == 'ensures')
         words = frozenset(re.findall(r'\w+', '\n'.join(lines[start:last + 1])))
-        yield Function(crate, file, own, head['name'], n + 1, last + 1, public, trait if own else '', bool(own) and is_trait, clauses, words, contract)
+        of_trait = trait if own else ''
+        yield Function(crate, file, own, head['name'], n + 1, last + 1, public, of_trait, bool(own) and is_trait, clauses, words, contract)
 
 
 def is_public(head, owner, is_trait, trait, is_shown, shown, file, is_open):

@@ -1,8 +1,8 @@
 """Reads the repository's sources: the definitions of specs/, the types, traits and contracts of src/, and what each of them names.
 
-A definition is an `Item`. `Sources.items` has all of them, by crate, module and name; `Item.names` are the words that it defines, its own and those of
-its constructors. `Sources.reads` tells which items an item names: its words are looked up in its module and in what that module imports. A
-word that a binder of the same item hides is none of these.
+A definition is an `Item`. `Sources.items` has all of them, by crate, module and name; `Item.names` are the words that it defines, its own and
+those of its constructors. `Sources.reads` tells which items an item names: its words are looked up in its module and in what that module
+imports. A word that a binder of the same item hides is none of these.
 """
 
 import dataclasses
@@ -124,7 +124,8 @@ def closing(lines, start):
     indent = lines[start][:len(lines[start]) - len(lines[start].lstrip())]
     if lines[start].rstrip().endswith((';', '{}')):
         return start
-    return next(n for n in range(start + 1, len(lines)) if lines[n].startswith((indent + '}', indent + ');', indent + ')')) or lines[n] == indent + '{}')
+    ends = (indent + '}', indent + ')', indent + '{}')
+    return next(n for n in range(start + 1, len(lines)) if lines[n].startswith(ends))
 
 
 def contract_end(lines, start):
@@ -203,10 +204,9 @@ class Sources:
             for item in module.items:
                 for name in item.names:
                     self.items.setdefault((item.crate, module.name, name), item)
-        # The names of definitions and of the fields of records.
         self.definitions = {name for (_, _, name), item in self.items.items() if item.kind == 'definition'}
-        for item in self.items.values():
-            self.definitions |= set(re.findall(r'(?m)^ *pub (\w+) :', item.text)) if item.kind == 'definition' else set()
+        records = [item.text for item in self.items.values() if item.kind == 'definition']
+        self.fields = {name for text in records for name in re.findall(r'(?m)^ *pub (\w+) :', text)}
         self.types = {}
         for module in self.code.values():
             for item in module.items:

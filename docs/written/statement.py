@@ -1,4 +1,5 @@
-"""Writes docs/STATEMENT.md: every definition that the contract of `command` and the laws of privacy and of networks reach, once, each before it is used."""
+"""Writes docs/STATEMENT.md: every definition that the contract of `command` and the laws of privacy and of networks reach, once, each before
+it is used."""
 
 import collections
 import re
@@ -87,13 +88,15 @@ class Statement:
             for module in modules:
                 self.visit(module, done)
             ranks |= {(crate, module.name): (number, place) for place, module in enumerate(done)}
-            ranks |= {(crate, module.name): (number, 10_000) for module in self.sources.code.values() if module.crate == crate and (crate, module.name) not in ranks}
+            code = [name for other, name in self.sources.code if other == crate and (crate, name) not in ranks]
+            ranks |= {(crate, name): (number, len(done)) for name in code}
         return ranks
 
     def visit(self, module, done):
         if module in done:
             return
-        below = sorted({path.split('.')[3] for path in [*module.uses.values(), *module.aliases.values()] if path.startswith(f'Rattle.{module.crate}.specs.')})
+        paths = [*module.uses.values(), *module.aliases.values()]
+        below = sorted({path.split('.')[3] for path in paths if path.startswith(f'Rattle.{module.crate}.specs.')})
         for name in below:
             if (module.crate, name) in self.sources.specs and name != module.name:
                 self.visit(self.sources.specs[module.crate, name], done)
@@ -115,7 +118,8 @@ class Statement:
         """Whether a law is meant by a part's '*': it is named by none, and reaches nothing that the part is without."""
         named = {law for part in glosses.PARTS for law in part.laws} | glosses.APART
         reached = {(other.crate, other.module, other.name) for other in reach(self.sources, [item])}
-        return is_law(self.sources, item) and (item.crate, item.name) not in named and item not in self.told and without not in reached
+        is_free = (item.crate, item.name) not in named and item not in self.told
+        return is_law(self.sources, item) and is_free and without not in reached
 
     def part(self, part):
         laws = list(dict.fromkeys(self.laws(part)))
@@ -155,7 +159,8 @@ class Statement:
     def beside(self, order, read):
         """The laws that no part quotes and that speak of a part's definitions, by them and few others, in a list."""
         reached = {law: reach(self.sources, [law]) for law in self.all_laws if law not in self.told}
-        laws = [law for law, items in reached.items() if any(item in items for item in order) and sum(item not in read for item in items) <= FEW]
+        near = {law: items for law, items in reached.items() if sum(item not in read for item in items) <= FEW}
+        laws = [law for law, items in near.items() if any(item in items for item in order)]
         self.told |= set(laws)
         rows = [f'- `{law.name}` of `{law.crate}`: {first_sentence(comment_of(law))}.\n' for law in laws]
         return '\nLaws beside these definitions, which this page doesn\'t quote:\n\n' + ''.join(rows) if rows else ''
@@ -183,9 +188,11 @@ class Statement:
             rows.append(f'| {number}. {part.title} | {len(order)} | {lines} | {all_items}, {all_lines} lines |\n')
         rows.append('\nWhat each theorem rests on, by itself:\n\n| Theorem | Contract or law | Definitions | Lines |\n|---|---|---|---|\n')
         for sentence, names in glosses.SENTENCES:
-            laws = [item for module in self.sources.code.values() for item in module.items if item.kind == 'function' and (item.crate, item.name) in names]
-            below = [item for item in reach(self.sources, laws) if item not in laws]
-            rows.append(f'| {sentence} | {", ".join(f"`{name}`" for _, name in names)} | {len(below)} | {sum(len(item.bare) for item in below)} |\n')
+            functions = [item for module in self.sources.code.values() for item in module.items if item.kind == 'function']
+            roots = [item for item in functions if (item.crate, item.name) in names]
+            below = [item for item in reach(self.sources, roots) if item not in roots]
+            said = ', '.join(f'`{name}`' for _, name in names)
+            rows.append(f'| {sentence} | {said} | {len(below)} | {sum(len(item.bare) for item in below)} |\n')
         return ''.join(rows)
 
     def sections(self, order):
@@ -213,7 +220,9 @@ class Statement:
         meanings = collections.defaultdict(list)
         for word, meaning in words.items():
             meanings[meaning].append(f'`{word}`')
-        said = [f'{" and ".join(found)} {meaning if len(found) == 1 else meaning.replace("is that", "are those")}' for meaning, found in meanings.items()]
+        said = []
+        for meaning, found in meanings.items():
+            said.append(f'{" and ".join(found)} {meaning if len(found) == 1 else meaning.replace("is that", "are those")}')
         return '\nHere ' + ', '.join(said) + '.\n' if words else ''
 
     def twofold(self, item):
@@ -225,7 +234,8 @@ class Statement:
             if not isinstance(other, Item) or other.kind != 'definition' or other.module == item.module or other.name in item.names:
                 continue
             homes = self.homes[other.name]
-            is_plain = len(homes) == 1 and name not in self.library or other.crate == item.crate and sum(crate == item.crate for crate, _ in homes) == 1
+            is_alone = len(homes) == 1 and name not in self.library
+            is_plain = is_alone or other.crate == item.crate and sum(crate == item.crate for crate, _ in homes) == 1
             if not is_plain and re.search(rf"(?<![\w'.]){re.escape(other.name)}(?![\w'])", '\n'.join(item.bare)):
                 yield other.name, f'is that of `{other.crate}::{other.module}`'
 
@@ -236,7 +246,8 @@ class Statement:
         title += ', continued' if place in self.places else ''
         intro = glosses.INTRO.get(place) if place not in self.places else None
         self.places.add(place)
-        notes = [f'- `{item.name}`: {glosses.OWN[item.crate, item.module, item.name]}\n' for item in group if (item.crate, item.module, item.name) in glosses.OWN]
+        glossed = [(item.name, glosses.OWN.get((item.crate, item.module, item.name))) for item in group]
+        notes = [f'- `{word}`: {gloss}\n' for word, gloss in glossed if gloss]
         text = f'\n## {title}: `{crate}`, `{name}`\n' + (f'\n{intro}\n' if intro else '') + (('\n' + ''.join(notes)) if notes else '')
         text += self.other_words(group)
         language = head = section = None
@@ -276,8 +287,11 @@ def place_of(path):
 
 def is_law(sources, item):
     """A public function with an empty body, whose contract is a theorem."""
+    if item.kind != 'function' or not re.search(r'(?m)^pub fn \w+\(\)$', item.text):
+        return False
     lines = (sources.top / 'crates' / item.crate / item.file).read_text(encoding='utf-8').split('\n')
-    return item.kind == 'function' and lines[item.line - 1].startswith('pub fn') and lines[item.line - 1].endswith('()') and '{}' in lines[item.line:item.line + 60]
+    length = sum(not line.startswith('///') for line in item.text.split('\n'))
+    return lines[item.line - 1 + length] == '{}'
 
 
 def reach(sources, roots):
@@ -306,4 +320,5 @@ def library(words):
     rows = [(name, meanings[name]) for name in names if name in meanings]
     if not rows:
         return ''
-    return '\nWords of the library that come new here:\n\n| Word | Meaning |\n|---|---|\n' + ''.join(f'| `{name}` | {meaning} |\n' for name, meaning in rows)
+    table = ''.join(f'| `{name}` | {meaning} |\n' for name, meaning in rows)
+    return f'\nWords of the library that come new here:\n\n| Word | Meaning |\n|---|---|\n{table}'
