@@ -248,6 +248,7 @@ OWN = {
     ('job_session', 'KeptWires', 'IsInOrder'): 'slots are in time: slot j comes before slot k where j is less',
     ('job_plan', 'key', 'Key'): 'the word that it carries is `word`, below',
     ('tape_map', 'TapeMaps', 'hidden'): 'and where no maximal group has all parties of this one, the number of groups, which is no summand',
+    ('tape_map', 'Laws', 'OthersStay'): 'a word of a tape stays where it isn\'t that of the hidden summand',
     ('view_counts', 'Simulators', 'Known'): 'what a group knows, apart from what it sees',
     ('view_counts', 'Counts', 'ways'): 'a test is any function of a view that gives a Boolean',
     ('party_set', 'Names', 'name_at'): 'name i of a list, and the empty text where there is none',
