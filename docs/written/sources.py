@@ -282,7 +282,9 @@ class Sources:
 
 
 def without_labels(code):
-    """The code without the names of fields and of clauses."""
+    """The code without the names of fields and of clauses, and without texts."""
+    code = re.sub(r'"(?:[^"\\\n]|\\.)*"', '', code)
+    code = re.sub(r'\)\.[\w.]+', ')', code)
     code = re.sub(r'(?m)^(\s*pub) [^\s:(){}]+ :', r'\1 :', code)
     code = re.sub(r"([{;]\s*)[\w']+ =", r'\1 =', code)
     code = re.sub(r'\b(requires|ensures|ghost) \w+ (?=[{=])', r'\1 ', code)
