@@ -10,7 +10,8 @@ from sources import WORD, Item
 HEAD = '''# What must be believed
 
 `docs/write.py` writes this page from the sources, and the gate refuses any other text. It has every definition that the contract of `command` and the laws of
-privacy and of networks reach: each once, and before it is used.
+privacy and of networks reach: each once, and before it is used. It leaves out one type, `LinkReader`, the job in which a node reads a peer, of which nothing here sees anything.
+What functions below `command` promise besides, as of workers, boards and desks, is in their crates, and [CLAIMS](CLAIMS.md) lists it.
 
 ## Believed, checked, trusted
 
