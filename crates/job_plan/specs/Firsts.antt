@@ -6,7 +6,7 @@ use Rattle.job_plan.specs.Plans.{Plan, slot, slots}
 use Rattle.job_plan.specs.Messages.{slot_messages}
 use Rattle.job_plan.specs.Numbers.{deals}
 
--- how many messages stand in a slot, and in a session
+-- how many messages stand in slot k of session s
 abbrev pub count : Plan → ℕ → ℕ → ℕ
 count plan s k = length (slot_messages plan s k (slot plan s k))
 

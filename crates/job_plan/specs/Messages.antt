@@ -1,9 +1,9 @@
 -- The messages of a plan, in the order of their numbers: session by session and slot by slot.
-use Rattle.std.specs.Prelude.{ℕ, ◌&&◌, not, nat_eq, List, [], ◌∷◌, length, slice_index}
+use Rattle.std.specs.Prelude.{ℕ, ◌&&◌, not, nat_eq, List, [], ◌∷◌, length}
 use Rattle.list_laws.specs.Lists.{joined, only_if}
 use Rattle.job_plan.specs.declared.key.Key.{Key}
-use Rattle.job_session.specs.Sessions.{Slot, owners}
-use Rattle.job_plan.specs.Plans.{Plan, holds, least_holder, deals_in, session, slot, slots, opens_to}
+use Rattle.job_session.specs.Sessions.{Slot}
+use Rattle.job_plan.specs.Plans.{Plan, holds, least_holder, deals_in, session, slot, slots, opens_to, giver}
 use Rattle.job_session.specs.Sessions.Slot.{Input, At_gate, Output}
 
 -- summand i of a deal of p, to party q: a message where q is another party that holds it
@@ -24,7 +24,7 @@ open_messages plan s k r =
 
 -- an input is dealt by its owner, a product by each party that has a pair, and an output is opened to each reader
 abbrev pub slot_messages : Plan → ℕ → ℕ → Slot → List Key
-slot_messages plan s k (Input v) = deal_messages plan s k (slice_index (owners (session plan s)) v)
+slot_messages plan s k (Input v) = deal_messages plan s k (giver plan s v)
 slot_messages plan s k (At_gate t) =
     joined plan.parties (λ p. only_if (deals_in plan s p (At_gate t)) (deal_messages plan s k p))
 slot_messages plan s k (Output o) =

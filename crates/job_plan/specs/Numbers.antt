@@ -55,7 +55,7 @@ PlacesDiffer plan p =
     → i' < words_in plan s' p (slot plan s' k')
     → place plan p s k + i ≡ place plan p s' k' + i' → (s ≡ s') × (k ≡ k') × (i ≡ i')
 
--- how many deals of p stand before slot k of session s, and in session s
+-- how many deals of p stand before slot k of session s
 abbrev pub deals_before : Plan → ℕ → ℕ → ℕ → ℕ
 deals_before plan p s k = total k (λ j. if deals_in plan s p (slot plan s j) then 1 else 0)
 

@@ -8,8 +8,8 @@ use Rattle.job_plan.specs.declared.key.Key.{Key}
 use Rattle.job_plan.specs.declared.pattern.Line.{Line}
 use Rattle.job_plan.specs.declared.pattern.Pattern.{Pattern}
 use Rattle.job_plan.specs.declared.pattern.Pattern.TheVariants.{Silent, Dealt, Multiplied, Opened}
-use Rattle.job_session.specs.Sessions.{Slot, owners, readers, gate}
-use Rattle.job_plan.specs.Plans.{Plan, holds, least_holder, scheme, session, slot}
+use Rattle.job_session.specs.Sessions.{Slot, readers, gate}
+use Rattle.job_plan.specs.Plans.{Plan, holds, least_holder, scheme, session, slot, giver}
 use Rattle.job_session.specs.Sessions.Slot.{Input, At_gate, Output}
 use Rattle.job_plan.specs.Messages.{slot_messages}
 
@@ -45,7 +45,7 @@ lines plan (Opened readers) = joined plan.parties (λ r. only_if (has_party read
 
 -- how the messages of this slot of session s go
 abbrev pub pattern : Plan → ℕ → Slot → Pattern
-pattern plan s (Input v) = Dealt (slice_index (owners (session plan s)) v)
+pattern plan s (Input v) = Dealt (giver plan s v)
 pattern plan s (At_gate t) = if is_product (gate (session plan s) t).operation then Multiplied else Silent
 pattern plan s (Output o) = Opened (slice_index (readers (session plan s)) o)
 

@@ -6,6 +6,7 @@ use Rattle.secret_sharing.specs.Schemes.{Scheme, has_pair}
 use Rattle.party_set.specs.Parties.{Structure, IsQ2, has_party}
 use Rattle.job_session.specs.Sessions.{Session, Slot, owners, readers, gate, no_session, session_slot, session_slots}
 use Rattle.job_session.specs.Sessions.Slot.{Input, At_gate, Output}
+use Rattle.job_session.specs.SoundSessions.{Inside}
 use Rattle.share_layout.specs.Layouts as layout
 use Rattle.product_duty.specs.Duties as duties
 
@@ -78,15 +79,32 @@ slot_list plan s =
     ++ listed (length (session plan s).gates) (λ t. At_gate t)
     ++ listed (length (readers (session plan s))) (λ o. Output o)
 
+-- the number of a slot of session s
+abbrev pub slot_number : Plan → ℕ → Slot → ℕ
+slot_number plan s (Input v) = v
+slot_number plan s (At_gate t) = length (owners (session plan s)) + t
+slot_number plan s (Output o) = length (owners (session plan s)) + length (session plan s).gates + o
+
 -- the slots of session s, one after another, are its list
 abbrev pub SlotsAreListed : Plan → ℕ → Type 0
 SlotsAreListed plan s = listed (slots plan s) (slot plan s) ≡ slot_list plan s
 
+-- each slot stands at its number, and each number below the count of slots is one slot's
+pub record SlotsAreNumbered (plan : Plan) (s : ℕ) : Type 0 where
+  pub inside : (k : ℕ) → k < slots plan s → Inside (session plan s) (slot plan s k)
+  pub number : (k : ℕ) → k < slots plan s → slot_number plan s (slot plan s k) ≡ k
+  pub there : (kind : Slot) → Inside (session plan s) kind
+      → (slot_number plan s kind < slots plan s) × (slot plan s (slot_number plan s kind) ≡ kind)
+
 -- ---- what is done in a slot of session s
+
+-- the party that gives input wire v
+abbrev pub giver : Plan → ℕ → ℕ → ℕ
+giver plan s v = slice_index (owners (session plan s)) v
 
 -- party p gives input wire v
 abbrev pub gives : Plan → ℕ → ℕ → ℕ → Bool
-gives plan s p v = nat_eq (slice_index (owners (session plan s)) v) p
+gives plan s p v = nat_eq (giver plan s v) p
 
 -- party p deals: an input of its own, or its part of a product
 abbrev pub deals_in : Plan → ℕ → ℕ → Slot → Bool

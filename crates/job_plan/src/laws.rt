@@ -1,12 +1,14 @@
 //! Laws of slots and of the numbering.
 ghost use Rattle.std.specs.Prelude.{ℕ};
-ghost use Rattle.job_plan.specs.Plans.{Plan, SlotsAreListed};
+ghost use Rattle.job_plan.specs.Plans.{Plan, SlotsAreListed, SlotsAreNumbered};
 ghost use Rattle.job_plan.specs.Numbers.{NumbersAreInverse, PlacesDiffer, PlacesByDeals};
 ghost use Rattle.job_plan.specs.Patterns.{SlotsFollowPatterns};
 
-/// The slots of a session, one after another, are its input wires, its gates and its output wires.
+/// The slots of a session, one after another, are its input wires, its gates and its output wires, and each stands at
+/// its number.
 pub fn slots_are_listed()
-    ensures { (plan : Plan) (s : ℕ) → SlotsAreListed plan s }
+    ensures listed { (plan : Plan) (s : ℕ) → SlotsAreListed plan s }
+    ensures numbered { (plan : Plan) (s : ℕ) → SlotsAreNumbered plan s }
 {}
 
 /// Messages and their numbers are each other's inverse.

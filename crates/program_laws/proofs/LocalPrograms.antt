@@ -73,7 +73,7 @@ module _ (w : World) (h' : IsPlan w.plan) (got : Key → ℕ) (s p : ℕ) (ls : 
   positive = pow_pos plan.bits
 
   -- the tape words of a deal
-  words_are : (k : ℕ) → k < slots w.plan s → deals_in plan s p (slot w.plan s k) ≡ true → (j : ℕ) → j < m - 1 → word_of l (deals_before plan p s k) j ≡ tape_word w s k p j
+  words_are : (k : ℕ) → k < slots w.plan s → deals_in plan s p (slot w.plan s k) ≡ true → (j : ℕ) → j < m - 1 → word_of l (deals_before plan p s k) j ≡ slice_index (slice_index_or w.tapes p []) (place plan p s k + j)
   words_are k lk yes' j lj =
       let c : ℕ → ℕ = λ k. if deals_in plan s p (slot w.plan s k) then 1 else 0 in
       let one : c k ≡ 1 = cond-true (deals_in plan s p (slot w.plan s k)) 1 0 yes' in
@@ -141,13 +141,13 @@ module _ (w : World) (h' : IsPlan w.plan) (got : Key → ℕ) (s p : ℕ) (ls : 
   inputs_before : (v : ℕ) → v ≤ length (owners x) → deals_before plan p s v ≡ total v (λ u. if nat_eq (owner u) p then 1 else 0)
   inputs_before v lv = total_eq v _ _ (λ u lu. ap (λ z. if deals_in plan s p z then 1 else 0) (slot_input x u (omega (arith, lu, lv))))
 
-  start_input : (v i : ℕ) → v < length (owners x) → owner v ≡ p → run.start v i ≡ dealt (scheme plan) (input_of w s v) (tape_word w s v p) i
+  start_input : (v i : ℕ) → v < length (owners x) → owner v ≡ p → run.start v i ≡ dealt (scheme plan) (input_of w s v) (tape_word w s (Input v) p) i
   start_input v i lv e = cond-true (nat_lt v (length (owners x))) _ 0 (lt-ltb v (length (owners x)) lv) ∙ cond-true (nat_eq (owner v) p) _ _ (eq-eqb (owner v) p e)
 
-  start_own : (v i : ℕ) → v < length (owners x) → owner v ≡ p → run.start v i ≡ dealt (scheme plan) (slice_index l.inputs (deals_before plan p s v)) (tape_word w s v p) i
+  start_own : (v i : ℕ) → v < length (owners x) → owner v ≡ p → run.start v i ≡ dealt (scheme plan) (slice_index l.inputs (deals_before plan p s v)) (tape_word w s (Input v) p) i
   start_own v i lv e =
       start_input v i lv e
-      ∙ ap (λ z. dealt (scheme plan) z (tape_word w s v p) i)
+      ∙ ap (λ z. dealt (scheme plan) z (tape_word w s (Input v) p) i)
       (ap (λ z. slice_index (slice_index_or (slice_index_or w.inputs z []) s []) (total v (λ u. if nat_eq (owner u) z then 1 else 0))) e
       ∙ ap (slice_index l.inputs) (sym (inputs_before v (omega (arith, lv)))))
 
@@ -187,7 +187,7 @@ module _ (w : World) (h' : IsPlan w.plan) (got : Key → ℕ) (s p : ℕ) (ls : 
             let deals' : deals_in plan s p (slot w.plan s v) ≡ true = ap (deals_in plan s p) at ∙ eq-eqb (owner v) p e in
             let new : ℕ → ℕ = dealt (scheme plan) (slice_index l.inputs σ.deals) (word_of l σ.deals) in
             let dealt' : (i : ℕ) → σ1.rows v i ≡ run.start v i = λ i. ap (λ f. f i) (set_here σ.rows v v new refl) ∙ ap (λ z. dealt (scheme plan) (slice_index l.inputs z) (word_of l z) i) h.deals
-            ∙ dealt_eq (scheme plan) (slice_index l.inputs d) (word_of l d) (tape_word w s v p) i (λ j lj. words_are v lk deals' j lj) ∙ sym (start_own v i lv e) in
+            ∙ dealt_eq (scheme plan) (slice_index l.inputs d) (word_of l d) (tape_word w s (Input v) p) i (λ j lj. words_are v lk deals' j lj) ∙ sym (start_own v i lv e) in
             let row : RowOf l v ns (σ1.rows v) σ1 (after_all l (takes plan p s v) σ1) = takes_row l v ns (σ1.rows v) σ1 (every_filter _ _ (to plan p) (numbers plan s v) (input_numbers v lv) (λ n f e'. absurd (f.1.2 (eqb-true _ _ e' ∙ sym e)))) in
             subst (λ ys. Leaves good l (ys ++ posts plan p s v ++ takes plan p s v ++ []) (InInputs (suc v)) σ) (sym (cond-true (nat_eq (owner v) p) (Deal v d ∷ []) [] (eq-eqb (owner v) p e)))
             (exchanged v (InInputs (suc v)) σ1
@@ -293,7 +293,7 @@ module _ (w : World) (h' : IsPlan w.plan) (got : Key → ℕ) (s p : ℕ) (ls : 
     lk = omega (arith, lt)
 
     abbrev mine : ℕ → ℕ
-    mine = dealt (scheme plan) (own_value run t p) (tape_word w s k p)
+    mine = dealt (scheme plan) (own_value run t p) (tape_word w s (At_gate t) p)
 
     abbrev begun : ℕ → ℕ
     begun i = if has_pair (scheme plan) p then mine i else 0
@@ -322,7 +322,7 @@ module _ (w : World) (h' : IsPlan w.plan) (got : Key → ℕ) (s p : ℕ) (ls : 
     sums i li held =
         let y : ℕ → ℕ = summands run t g.first in
         let z : ℕ → ℕ = summands run t g.second in
-        let all : ℕ → ℕ = λ d. if has_pair (scheme plan) d then (if nat_eq d p then dealt (scheme plan) (own_product (scheme plan) d y z) (tape_word w s k p) i else got (key k i d p)) else 0 in
+        let all : ℕ → ℕ = λ d. if has_pair (scheme plan) d then (if nat_eq d p then dealt (scheme plan) (own_product (scheme plan) d y z) (tape_word w s (At_gate t) p) i else got (key k i d p)) else 0 in
         let here : all p ≡ begun i = ap (λ a. if has_pair (scheme plan) p then a else 0) (cond-true (nat_eq p p) _ _ (eq-eqb p p refl)) in
         let none : others i p ≡ 0 = ap (λ a. if has_pair (scheme plan) p then a else 0) (cond-true (nat_eq p p) 0 _ (eq-eqb p p refl)) ∙ zeros (has_pair (scheme plan) p) in
         let one : total plan.parties (others i) + all p ≡ total plan.parties all + others i p = total_one plan.parties p (others i) all lp (λ d ld ne.
@@ -377,10 +377,10 @@ module _ (w : World) (h' : IsPlan w.plan) (got : Key → ℕ) (s p : ℕ) (ls : 
               let is1 : next l (Own k) σ ≡ σ1 = ap (λ z. multiplied plan p (gate_in_slot x z) σ) at in
               let σ2 : State = dealt_in plan (word_of l σ.deals) (slice_index l.inputs σ.deals) (At_gate t) σ1 in
               let is2 : next l (Deal k d) (next l (Own k) σ) ≡ σ2 = ap (next l (Deal k d)) is1 ∙ ap (λ z. dealt_in plan (word_of l σ.deals) (slice_index l.inputs σ.deals) z σ1) at in
-              let same : (i : ℕ) → σ2.sums i ≡ mine i = λ i. ap₂ (λ v z. dealt (scheme plan) v (word_of l z) i) own_is h.deals ∙ dealt_eq (scheme plan) (own_value run t p) (word_of l d) (tape_word w s k p) i (λ j lj. words_are k lk deals' j lj) in
+              let same : (i : ℕ) → σ2.sums i ≡ mine i = λ i. ap₂ (λ v z. dealt (scheme plan) v (word_of l z) i) own_is h.deals ∙ dealt_eq (scheme plan) (own_value run t p) (word_of l d) (tape_word w s (At_gate t) p) i (λ j lj. words_are k lk deals' j lj) in
               let begun_is : (i : ℕ) → begun i ≡ mine i = λ i. cond-true (has_pair (scheme plan) p) (mine i) 0 has in
               product_rest σ2 refl
-              (λ i li. same i ∙ sym (ap (λ z. z % 2 ^ plan.bits) (begun_is i) ∙ mod-eq_of_lt (dealt_small (scheme plan) (own_value run t p) (tape_word w s k p) i positive (small k))))
+              (λ i li. same i ∙ sym (ap (λ z. z % 2 ^ plan.bits) (begun_is i) ∙ mod-eq_of_lt (dealt_small (scheme plan) (own_value run t p) (tape_word w s (At_gate t) p) i positive (small (At_gate t)))))
               (λ yes' i. same i)
               (ap (λ z. z + 1) h.deals ∙ sym (deal_more k deals'))
               (subst (λ ys. Leaves good l ys (λ τ. τ ≡ σ2) σ) (sym (cond-true (deals_in plan s p (At_gate t)) (Own k ∷ Deal k d ∷ []) [] (deals_is p ∙ has)))

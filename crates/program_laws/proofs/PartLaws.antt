@@ -4,7 +4,7 @@ use Rattle.std.specs.Prelude.{slice_index_or}
 use Rattle.std.proofs.lemmas.List.{length-drop, length-take-le}
 use Rattle.list_laws.specs.Lists.{total}
 use Rattle.list_laws.proofs.JoinedLists.{total_within}
-use Rattle.job_plan.specs.Plans.{IsPlan, words, place}
+use Rattle.job_plan.specs.Plans.{IsPlan, words, slot_number, place}
 use Rattle.job_plan.specs.declared.key.Key.{Key}
 use Rattle.share_world.specs.Worlds.{World}
 use Rattle.share_world.specs.Laws.{IsWhole}
@@ -28,7 +28,7 @@ module _ (w : World) (p : ℕ) (part : IsPart w p) where
   part_plan = record { bits = part.sound.some_bits; groups = part.sound.some_groups; q2 = part.sound.q2 }
 
   pub part_words : (s : ℕ) → SmallTape w s p
-  part_words s k i = part.small_tape (place w.plan p s k + i)
+  part_words s z i = part.small_tape (place w.plan p s (slot_number w.plan s z) + i)
 
   pub part_suits : (got : Key → ℕ) (s : ℕ) → s < length w.plan.sessions → Suits (local_given w got s p)
   part_suits got s ls =

@@ -73,7 +73,7 @@ module _ (w : World) (whole : IsWhole w) (p : ℕ) (lp : p < w.plan.parties) (go
   start_right : (s v i : ℕ) → s < length w.plan.sessions → i < length w.plan.groups → holds w.plan p i ≡ true → length (owners (session w.plan s)) ≤ bound s → (local_run w got p s).start v i ≡ first_summands w s v i
   start_right s v i ls li has before =
       let owner : ℕ = slice_index (owners (session plan s)) v in
-      let deal : ℕ → ℕ = λ q. dealt (scheme plan) (input_of w s v) (tape_word w s v q) i in
+      let deal : ℕ → ℕ = λ q. dealt (scheme plan) (input_of w s v) (tape_word w s (Input v) q) i in
       elim (cases_lt v (length (owners (session plan s)))) [
         | inl lv ↦ let yes' = lt-ltb v (length (owners (session plan s))) lv in
             cond-true (nat_lt v (length (owners (session plan s)))) _ 0 yes'
@@ -94,9 +94,9 @@ module _ (w : World) (whole : IsWhole w) (p : ℕ) (lp : p < w.plan.parties) (go
       let ih : (v i : ℕ) → i < length w.plan.groups → holds w.plan p i ≡ true → summands (local_run w got p s) t v i ≡ summands (run_of w s) t v i = λ v i li has. run_right s ls t v i (omega arith) li has in
       let own : own_value (local_run w got p s) t p ≡ own_value (run_of w s) t p = holder_own plan valid p _ _ _ _ (ih g.first) (ih g.second) in
       gate_agrees (run_of w s) (local_run w got p s).start (local_run w got p s).product (λ i. holds plan p i ≡ true) t ih
-      (λ product i li has. product_agrees (scheme plan) (λ q v. dealt (scheme plan) v (tape_word w s k q)) (seen w got p s t) _ _ _ _ i (λ q lq pair. elim (cases_eq q p) [
+      (λ product i li has. product_agrees (scheme plan) (λ q v. dealt (scheme plan) v (tape_word w s (At_gate t) q)) (seen w got p s t) _ _ _ _ i (λ q lq pair. elim (cases_eq q p) [
         | inl e ↦ cond-true (nat_eq q p) _ _ (eq-eqb q p e)
-            ∙ ap₂ (λ v r. dealt (scheme plan) v (tape_word w s k r) i) (subst (λ z. own_product (scheme plan) z (summands (local_run w got p s) t g.first) (summands (local_run w got p s) t g.second) ≡ own_value (run_of w s) t z) (sym e) own) (sym e)
+            ∙ ap₂ (λ v r. dealt (scheme plan) v (tape_word w s (At_gate t) r) i) (subst (λ z. own_product (scheme plan) z (summands (local_run w got p s) t g.first) (summands (local_run w got p s) t g.second) ≡ own_value (run_of w s) t z) (sym e) own) (sym e)
         | inr ne ↦ cond-false (nat_eq q p) _ _ (ne_eqb q p ne)
             ∙ of_gate plan Got right s t i q p ls (product_within (session plan s) t product) li lq lp (λ e. ne (sym e)) has (and_from _ _ product pair) refl (omega arith)
             ∙ ap (word_in w (key_of s k i q p)) (slot_gate (session plan s) t (product_within (session plan s) t product))
@@ -112,7 +112,7 @@ module _ (w : World) (whole : IsWhole w) (p : ℕ) (lp : p < w.plan.parties) (go
       let at : slot plan s v ≡ Input v = slot_input (session plan s) v lv in
       every_joined Own (length plan.groups) _ (λ i li. every_joined Own plan.parties _ (λ r lr. every_only_if Own (not (nat_eq r owner) && holds plan r i) (key_of s v i owner r ∷ []) (λ e. (
         λ sender before. ap (local_word_in w got p (key_of s v i owner r)) at
-            ∙ ap (λ q. dealt (scheme plan) (input_of w s v) (tape_word w s v q) i) (sym sender)
+            ∙ ap (λ q. dealt (scheme plan) (input_of w s v) (tape_word w s (Input v) q) i) (sym sender)
             ∙ sym (ap (word_in w (key_of s v i owner r)) at),
         tt,
       ))))
@@ -125,8 +125,8 @@ module _ (w : World) (whole : IsWhole w) (p : ℕ) (lp : p < w.plan.parties) (go
       every_joined Own plan.parties _ (λ d ld. every_only_if Own (deals_in plan s d (At_gate t)) _ (λ deals'.
       every_joined Own (length plan.groups) _ (λ i li. every_joined Own plan.parties _ (λ r lr. every_only_if Own (not (nat_eq r d) && holds plan r i) (key_of s k i d r ∷ []) (λ e. (
         λ sender before. ap (local_word_in w got p (key_of s k i d r)) at
-            ∙ ap (λ z. dealt (scheme plan) z (tape_word w s k p) i) (holder_own plan valid p _ _ _ _ (λ i li has. run_right s ls t g.first i before li has) (λ i li has. run_right s ls t g.second i before li has))
-            ∙ ap (λ z. dealt (scheme plan) (own_value (run_of w s) t z) (tape_word w s k z) i) (sym sender)
+            ∙ ap (λ z. dealt (scheme plan) z (tape_word w s (At_gate t) p) i) (holder_own plan valid p _ _ _ _ (λ i li has. run_right s ls t g.first i before li has) (λ i li has. run_right s ls t g.second i before li has))
+            ∙ ap (λ z. dealt (scheme plan) (own_value (run_of w s) t z) (tape_word w s (At_gate t) z) i) (sym sender)
             ∙ sym (ap (word_in w (key_of s k i d r)) at),
         tt,
       ))))))

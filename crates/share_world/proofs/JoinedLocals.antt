@@ -34,7 +34,7 @@ module _ (w : World) (h : IsPlan w.plan) (got : ℕ → Key → ℕ) (sent : All
       (at_joined (Sent w got) w.plan.parties _ q lq (at_joined (Sent w got) (length w.plan.groups) _ i li all))).0
 
   input_sent : (s v i q : ℕ) → s < length w.plan.sessions → v < length (owners (session w.plan s)) → i < length w.plan.groups → q < w.plan.parties → q ≢ slice_index (owners (session w.plan s)) v → holds w.plan q i ≡ true
-      → got q (key_of s v i (slice_index (owners (session w.plan s)) v) q) ≡ dealt (scheme w.plan) (input_of w s v) (tape_word w s v (slice_index (owners (session w.plan s)) v)) i
+      → got q (key_of s v i (slice_index (owners (session w.plan s)) v) q) ≡ dealt (scheme w.plan) (input_of w s v) (tape_word w s (Input v) (slice_index (owners (session w.plan s)) v)) i
   input_sent s v i q ls lv li lq ne has =
       let owner = slice_index (owners (session w.plan s)) v in
       let at : slot w.plan s v ≡ Input v = slot_input (session w.plan s) v lv in
@@ -42,7 +42,7 @@ module _ (w : World) (h : IsPlan w.plan) (got : ℕ → Key → ℕ) (sent : All
       ∙ ap (local_word_in w (got owner) owner (key_of s v i owner q)) at
 
   gate_sent : (s t i p q : ℕ) → s < length w.plan.sessions → t < length (session w.plan s).gates → i < length w.plan.groups → p < w.plan.parties → q < w.plan.parties → q ≢ p → holds w.plan q i ≡ true → deals_in w.plan s p (At_gate t) ≡ true
-      → got q (key_of s (length (owners (session w.plan s)) + t) i p q) ≡ dealt (scheme w.plan) (own_value (local_run w (got p) p s) t p) (tape_word w s (length (owners (session w.plan s)) + t) p) i
+      → got q (key_of s (length (owners (session w.plan s)) + t) i p q) ≡ dealt (scheme w.plan) (own_value (local_run w (got p) p s) t p) (tape_word w s (At_gate t) p) i
   gate_sent s t i p q ls lt li lp lq ne has deals =
       let k = length (owners (session w.plan s)) + t in
       let at : slot w.plan s k ≡ At_gate t = slot_gate (session w.plan s) t lt in
@@ -79,12 +79,12 @@ module _ (w : World) (h : IsPlan w.plan) (got : ℕ → Key → ℕ) (sent : All
       let own : (q : ℕ) → q < w.plan.parties → own_value (local_run w (got q) q s) t q ≡ own_value (run_of w s) t q = λ q lq.
       holder_own w.plan h q _ _ _ _ (λ i li has. ih q g.first i lq li has) (λ i li has. ih q g.second i lq li has) in
       gate_agrees (run_of w s) (local_run w (got p) p s).start (local_run w (got p) p s).product (λ i. holds w.plan p i ≡ true) t (λ v i li has. ih p v i lp li has)
-      (λ product i li has. product_agrees (scheme w.plan) (λ q v. dealt (scheme w.plan) v (tape_word w s k q)) (seen w (got p) p s t) _ _ _ _ i (λ q lq pair. elim (cases_eq q p) [
+      (λ product i li has. product_agrees (scheme w.plan) (λ q v. dealt (scheme w.plan) v (tape_word w s (At_gate t) q)) (seen w (got p) p s t) _ _ _ _ i (λ q lq pair. elim (cases_eq q p) [
         | inl e ↦ cond-true (nat_eq q p) _ _ (eq-eqb q p e)
-            ∙ ap₂ (λ v r. dealt (scheme w.plan) v (tape_word w s k r) i) (subst (λ z. own_product (scheme w.plan) z (summands (local_run w (got p) p s) t g.first) (summands (local_run w (got p) p s) t g.second) ≡ own_value (run_of w s) t z) (sym e) (own p lp)) (sym e)
+            ∙ ap₂ (λ v r. dealt (scheme w.plan) v (tape_word w s (At_gate t) r) i) (subst (λ z. own_product (scheme w.plan) z (summands (local_run w (got p) p s) t g.first) (summands (local_run w (got p) p s) t g.second) ≡ own_value (run_of w s) t z) (sym e) (own p lp)) (sym e)
         | inr ne ↦ cond-false (nat_eq q p) _ _ (ne_eqb q p ne)
             ∙ gate_sent s t i q p ls (product_within (session w.plan s) t product) li lq lp (λ e. ne (sym e)) has (and_from _ _ product pair)
-            ∙ ap (λ z. dealt (scheme w.plan) z (tape_word w s k q) i) (own q lq)
+            ∙ ap (λ z. dealt (scheme w.plan) z (tape_word w s (At_gate t) q) i) (own q lq)
       ]))
       v i li has
 

@@ -53,7 +53,7 @@ module _ (w : World) (h : IsPlan w.plan) (got : ℕ → Key → ℕ) (held : All
       every_joined Sends w.plan.parties _ (λ p lp. every_only_if Sends (deals_in w.plan s p (At_gate t)) _ (λ deals.
       every_joined Sends (length w.plan.groups) _ (λ i li. every_joined Sends w.plan.parties _ (λ r lr. every_only_if Sends (not (nat_eq r p) && holds w.plan r i) (key_of s k i p r ∷ []) (λ e. (
         ap (local_word_in w (got p) p (key_of s k i p r)) at
-            ∙ ap (λ z. dealt (scheme w.plan) z (tape_word w s k p) i) (holder_own w.plan h p _ _ _ _ (λ i li has. held s t p g.first i ls lp li has) (λ i li has. held s t p g.second i ls lp li has))
+            ∙ ap (λ z. dealt (scheme w.plan) z (tape_word w s (At_gate t) p) i) (holder_own w.plan h p _ _ _ _ (λ i li has. held s t p g.first i ls lp li has) (λ i li has. held s t p g.second i ls lp li has))
             ∙ sym (ap (word_in w (key_of s k i p r)) at),
         tt,
       ))))))

@@ -8,7 +8,7 @@ use Rattle.secret_sharing.specs.Schemes.{summands}
 use Rattle.secret_sharing.proofs.SummandSums.{dealt_small, summands_below}
 use Rattle.job_plan.specs.declared.key.Key.{Key}
 use Rattle.job_session.specs.Sessions.{Slot, owners}
-use Rattle.job_plan.specs.Plans.{scheme, session, slot, place, IsPlan}
+use Rattle.job_plan.specs.Plans.{scheme, session, slot, slot_number, place, IsPlan}
 use Rattle.job_session.specs.Sessions.Slot.{Input, At_gate, Output}
 use Rattle.share_world.specs.Worlds.{World, run_of, input_of, tape_word, first_summands, dealt_value, deal_of, word_in, word}
 use Rattle.share_world.specs.Laws.{IsWorld, IsWhole}
@@ -23,24 +23,24 @@ module _ (w : World) (whole : IsWhole w) where
   pub is_world : IsWorld w
   is_world = record { plan = is_plan; inputs = whole.inputs.below }
 
-  pub small_words : (s p k i : ℕ) → tape_word w s k p i < 2 ^ w.plan.bits
-  small_words s p k i = whole.tapes.below p (place w.plan p s k + i)
+  pub small_words : (s p : ℕ) (z : Slot) (i : ℕ) → tape_word w s z p i < 2 ^ w.plan.bits
+  small_words s p z i = whole.tapes.below p (place w.plan p s (slot_number w.plan s z) + i)
 
-  pub small_deal : (s p k : ℕ) (z : Slot) (i : ℕ) → deal_of w s p k z i < 2 ^ w.plan.bits
-  small_deal s p k z i = dealt_small (scheme w.plan) (dealt_value w s p z) (tape_word w s k p) i positive (small_words s p k)
+  pub small_deal : (s p : ℕ) (z : Slot) (i : ℕ) → deal_of w s p z i < 2 ^ w.plan.bits
+  small_deal s p z i = dealt_small (scheme w.plan) (dealt_value w s p z) (tape_word w s z p) i positive (small_words s p z)
 
   small_start : (s v i : ℕ) → first_summands w s v i < 2 ^ w.plan.bits
   small_start s v i =
       cond_both (nat_lt v (length (owners (session w.plan s)))) _ 0 (λ z. z < 2 ^ w.plan.bits)
-      (λ e. dealt_small (scheme w.plan) (input_of w s v) _ i positive (small_words s (slice_index (owners (session w.plan s)) v) v))
+      (λ e. dealt_small (scheme w.plan) (input_of w s v) _ i positive (small_words s (slice_index (owners (session w.plan s)) v) (Input v)))
       (λ e. positive)
 
   pub small_run : (s t v i : ℕ) → summands (run_of w s) t v i < 2 ^ w.plan.bits
   small_run s = summands_below (run_of w s) positive (small_start s) (λ t x y i. mod-lt _ positive)
 
   small_in : (k : Key) (z : Slot) → word_in w k z < 2 ^ w.plan.bits
-  small_in k (Input v) = small_deal k.session k.sender k.slot (Input v) k.share
-  small_in k (At_gate t) = small_deal k.session k.sender k.slot (At_gate t) k.share
+  small_in k (Input v) = small_deal k.session k.sender (Input v) k.share
+  small_in k (At_gate t) = small_deal k.session k.sender (At_gate t) k.share
   small_in k (Output o) = small_run k.session _ _ k.share
 
   pub small_word : (k : Key) → word w k < 2 ^ w.plan.bits

@@ -7,12 +7,12 @@ use Rattle.circuit_model.specs.declared.gate.Operation.{Operation}
 use Rattle.circuit_model.specs.Circuits.{is_product}
 use Rattle.circuit_model.specs.declared.gate.Operation.TheVariants.{Add, Sub, Neg, Mul, Xor, And, Inv, Eq, Eqw}
 use Rattle.secret_sharing.specs.Schemes.{dealt, local, own_product, own_value, has_pair, gate_summands, summands}
-use Rattle.job_session.specs.Sessions.{owners, Session, gate}
-use Rattle.job_plan.specs.Plans.{scheme, session, slot, slots, deals_in}
-use Rattle.job_session.specs.Sessions.Slot.{Input, At_gate}
+use Rattle.job_session.specs.Sessions.{owners, Session, Slot, gate}
+use Rattle.job_session.specs.SoundSessions.{Inside}
+use Rattle.job_plan.specs.Plans.{scheme, session, deals_in}
+use Rattle.job_session.specs.Sessions.Slot.{Input, At_gate, Output}
 use Rattle.share_world.specs.Worlds.{World, run_of, tape_word, deal_of}
 use Rattle.share_world.specs.Solutions.{reads_first, reads_second, SetBefore, GatesInOrder, SummandsSolve, OnlySolution, IsSolution}
-use Rattle.job_session.proofs.SessionSlots.{slot_input, slot_gate, slot_cases}
 use Rattle.mpc_ring.proofs.Remainders.{same_refl}
 use Rattle.list_laws.proofs.Totals.{total_eq}
 use Rattle.secret_sharing.proofs.Agreement.{own_same}
@@ -61,7 +61,7 @@ local_reads q Mul c i a b a' b' p f s = absurd (both_ways true p refl)
 local_reads q And c i a b a' b' p f s = absurd (both_ways true p refl)
 
 -- the wires that are set before gate t have their summands
-solved : (w : World) (s : ℕ) → GatesInOrder (session w.plan s) → (sh : ℕ → ℕ → ℕ) (dl : ℕ → ℕ → ℕ → ℕ) → SummandsSolve w s sh dl → (t : ℕ) → t ≤ length (session w.plan s).gates
+solved : (w : World) (s : ℕ) → GatesInOrder (session w.plan s) → (sh : ℕ → ℕ → ℕ) (dl : ℕ → Slot → ℕ → ℕ) → SummandsSolve w s sh dl → (t : ℕ) → t ≤ length (session w.plan s).gates
     → (v i : ℕ) → SetBefore (session w.plan s) t v → i < length w.plan.groups → sh v i ≡ summands (run_of w s) t v i
 solved w s c sh dl h zero le v i (inl l) li = h.inputs v i l ∙ h.input_deals v i l ∙ sym (cond-true (nat_lt v (length (owners (session w.plan s)))) _ 0 (lt-ltb v (length (owners (session w.plan s))) l))
 solved w s c sh dl h zero le v i (inr u) li = absurd (omega (arith, u.1))
@@ -77,7 +77,7 @@ solved w s c sh dl h (suc t) le v i set li =
           own_same (scheme w.plan) p _ _ _ _ (λ i j li lj e. same_refl _ _ _ (ap₂ (λ a b. a * b) (ih g.first i (c.first t (omega arith) reads.0) li) (ih g.second j (c.second t (omega arith) reads.1) lj))) in
           h.products t i (omega arith) yes'
           ∙ ap (λ z. z % (scheme w.plan).modulus) (total_eq w.plan.parties _ _ (λ p lp. ap (λ z. if has_pair (scheme w.plan) p then z else 0)
-          (h.product_deals t p i (omega arith) yes' ∙ ap (λ z. dealt (scheme w.plan) z (tape_word w s (length (owners sess) + t) p) i) (own p))))
+          (h.product_deals t p i (omega arith) yes' ∙ ap (λ z. dealt (scheme w.plan) z (tape_word w s (At_gate t) p) i) (own p))))
           ∙ sym (cond-true (is_product g.operation) _ _ yes')
       | inr no' ↦ h.linear t i (omega arith) no'
           ∙ local_reads (scheme w.plan).modulus g.operation g.constant i _ _ _ _ no' (λ e. ih g.first i (c.first t (omega arith) e) li) (λ e. ih g.second i (c.second t (omega arith) e) li)
@@ -98,7 +98,7 @@ unset_zero w s (suc t) v i no' =
     ap (λ f. f i) (cond-false (nat_eq v g.output) _ (summands (run_of w s) t v) (ne_eqb v g.output (λ e. no' (inr (t, omega arith, sym e)))))
     ∙ unset_zero w s t v i (λ b. no' (set_later (session w.plan s) t v b))
 
-wires_are : (w : World) (s : ℕ) → GatesInOrder (session w.plan s) → (sh : ℕ → ℕ → ℕ) (dl : ℕ → ℕ → ℕ → ℕ) → SummandsSolve w s sh dl
+wires_are : (w : World) (s : ℕ) → GatesInOrder (session w.plan s) → (sh : ℕ → ℕ → ℕ) (dl : ℕ → Slot → ℕ → ℕ) → SummandsSolve w s sh dl
     → (v i : ℕ) → i < length w.plan.groups → sh v i ≡ summands (run_of w s) (length (session w.plan s).gates) v i
 wires_are w s c sh dl h v i li = elim (decide_set (session w.plan s) (length (session w.plan s).gates) v) [
   | inl yes' ↦ solved w s c sh dl h (length (session w.plan s).gates) (omega arith) v i yes' li
@@ -106,28 +106,27 @@ wires_are w s c sh dl h v i li = elim (decide_set (session w.plan s) (length (se
 ]
 
 -- what a party deals at a product is of the summands of wires that are set
-gate_deal : (w : World) (s : ℕ) → GatesInOrder (session w.plan s) → (sh : ℕ → ℕ → ℕ) (dl : ℕ → ℕ → ℕ → ℕ) → SummandsSolve w s sh dl
+gate_deal : (w : World) (s : ℕ) → GatesInOrder (session w.plan s) → (sh : ℕ → ℕ → ℕ) (dl : ℕ → Slot → ℕ → ℕ) → SummandsSolve w s sh dl
     → (t p i : ℕ) → t < length (session w.plan s).gates → is_product (gate (session w.plan s) t).operation ≡ true
-    → dl p (length (owners (session w.plan s)) + t) i ≡ deal_of w s p (length (owners (session w.plan s)) + t) (At_gate t) i
+    → dl p (At_gate t) i ≡ deal_of w s p (At_gate t) i
 gate_deal w s c sh dl h t p i lt product =
     let g = gate (session w.plan s) t in
     let reads = product_reads g.operation product in
     let before : (v i : ℕ) → SetBefore (session w.plan s) t v → i < length w.plan.groups → sh v i ≡ summands (run_of w s) t v i = solved w s c sh dl h t (omega arith) in
     h.product_deals t p i lt product
-    ∙ ap (λ z. dealt (scheme w.plan) z (tape_word w s (length (owners (session w.plan s)) + t) p) i)
+    ∙ ap (λ z. dealt (scheme w.plan) z (tape_word w s (At_gate t) p) i)
     (own_same (scheme w.plan) p _ _ _ _ (λ i j li lj e. same_refl _ _ _ (ap₂ (λ a b. a * b) (before g.first i (c.first t lt reads.0) li) (before g.second j (c.second t lt reads.1) lj))))
 
-deals_are : (w : World) (s : ℕ) → GatesInOrder (session w.plan s) → (sh : ℕ → ℕ → ℕ) (dl : ℕ → ℕ → ℕ → ℕ) → SummandsSolve w s sh dl
-    → (p i k : ℕ) → k < slots w.plan s → deals_in w.plan s p (slot w.plan s k) ≡ true → dl p k i ≡ deal_of w s p k (slot w.plan s k) i
-deals_are w s c sh dl h p i = slot_cases (session w.plan s) (λ k z. deals_in w.plan s p z ≡ true → dl p k i ≡ deal_of w s p k z i)
-    (λ v lv owns. subst (λ z. dl z v i ≡ deal_of w s z v (Input v) i) (eqb-true _ _ owns) (h.input_deals v i lv))
-    (λ t lt deals. gate_deal w s c sh dl h t p i lt (and_parts (is_product (gate (session w.plan s) t).operation) _ deals).0)
-    (λ o lo none. absurd (both_ways false refl none))
+deals_are : (w : World) (s : ℕ) → GatesInOrder (session w.plan s) → (sh : ℕ → ℕ → ℕ) (dl : ℕ → Slot → ℕ → ℕ) → SummandsSolve w s sh dl
+    → (p : ℕ) (z : Slot) (i : ℕ) → Inside (session w.plan s) z → deals_in w.plan s p z ≡ true → dl p z i ≡ deal_of w s p z i
+deals_are w s c sh dl h p (Input v) i lv owns = subst (λ z. dl z (Input v) i ≡ deal_of w s z (Input v) i) (eqb-true _ _ owns) (h.input_deals v i lv)
+deals_are w s c sh dl h p (At_gate t) i lt deals = gate_deal w s c sh dl h t p i lt (and_parts (is_product (gate (session w.plan s) t).operation) _ deals).0
+deals_are w s c sh dl h p (Output o) i lo none = absurd (both_ways false refl none)
 
 pub only_solution : (w : World) (s : ℕ) → OnlySolution w s
 only_solution w s c sh dl h = record {
   wires = wires_are w s c sh dl h;
-  deals = λ p k i lk deals. deals_are w s c sh dl h p i k lk deals;
+  deals = λ p z i inside deals. deals_are w s c sh dl h p z i inside deals;
 }
 
 -- ---- the summands at the end solve the equations
@@ -139,18 +138,16 @@ at_end w s c t v le b =
 
 pub is_solution : (w : World) (s : ℕ) → IsSolution w s
 is_solution w s c = record {
-  input_deals = λ v i l. ap (λ z. deal_of w s (slice_index (owners (session w.plan s)) v) v z i) (slot_input (session w.plan s) v l);
-  product_deals = λ t p i l e. deal_is t p i l ∙ ap (λ z. dealt (scheme w.plan) z (tape_word w s (length (owners (session w.plan s)) + t) p) i) (own_at_end t p l e);
-  inputs = λ v i l. ap (λ f. f i) (at_end w s c 0 v (omega arith) (inl l)) ∙ cond-true (nat_lt v (length (owners (session w.plan s)))) _ 0 (lt-ltb v (length (owners (session w.plan s))) l)
-      ∙ sym (ap (λ z. deal_of w s (slice_index (owners (session w.plan s)) v) v z i) (slot_input (session w.plan s) v l));
+  input_deals = λ v i l. refl;
+  product_deals = λ t p i l e. ap (λ z. dealt (scheme w.plan) z (tape_word w s (At_gate t) p) i) (own_at_end t p l e);
+  inputs = λ v i l. ap (λ f. f i) (at_end w s c 0 v (omega arith) (inl l)) ∙ cond-true (nat_lt v (length (owners (session w.plan s)))) _ 0 (lt-ltb v (length (owners (session w.plan s))) l);
   linear = λ t i l e.
       let g = gate (session w.plan s) t in
       output t i l ∙ cond-false (is_product g.operation) _ _ e
       ∙ local_reads (scheme w.plan).modulus g.operation g.constant i _ _ _ _ e
       (λ r. sym (ap (λ f. f i) (at_end w s c t g.first (omega arith) (c.first t l r)))) (λ r. sym (ap (λ f. f i) (at_end w s c t g.second (omega arith) (c.second t l r))));
   products = λ t i l e.
-      output t i l ∙ cond-true (is_product (gate (session w.plan s) t).operation) _ _ e
-      ∙ ap (λ z. z % (scheme w.plan).modulus) (total_eq w.plan.parties _ _ (λ p lp. ap (λ z. if has_pair (scheme w.plan) p then z else 0) (sym (deal_is t p i l))));
+      output t i l ∙ cond-true (is_product (gate (session w.plan s) t).operation) _ _ e;
   unset = λ v i no'. unset_zero w s (length (session w.plan s).gates) v i no';
 }
   where
@@ -160,10 +157,6 @@ is_solution w s c = record {
         let g = gate (session w.plan s) t in
         ap (λ f. f i) (at_end w s c (suc t) g.output (omega arith) (inr (t, omega arith, refl)))
         ∙ ap (λ f. f i) (cond-true (nat_eq g.output g.output) _ (summands (run_of w s) t g.output) (eq-eqb g.output g.output refl))
-
-    deal_is : (t p i : ℕ) → t < length (session w.plan s).gates
-        → deal_of w s p (length (owners (session w.plan s)) + t) (slot w.plan s (length (owners (session w.plan s)) + t)) i ≡ deal_of w s p (length (owners (session w.plan s)) + t) (At_gate t) i
-    deal_is t p i l = ap (λ z. deal_of w s p (length (owners (session w.plan s)) + t) z i) (slot_gate (session w.plan s) t l)
 
     -- the own product is of summands that stay to the end
     own_at_end : (t p : ℕ) → t < length (session w.plan s).gates → is_product (gate (session w.plan s) t).operation ≡ true

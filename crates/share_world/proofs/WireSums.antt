@@ -7,6 +7,7 @@ use Rattle.std.proofs.Math.Nat.{mod-eq_of_lt}
 use mathlib.Core.Logic.{inl, inr}
 use Rattle.secret_sharing.specs.Schemes.{IsRun, AddUp, dealt}
 use Rattle.job_session.specs.Sessions.{owners}
+use Rattle.job_session.specs.Sessions.Slot.{Input, At_gate}
 use Rattle.job_plan.specs.Plans.{scheme, session, IsPlan}
 use Rattle.share_world.specs.Worlds.{World, run_of, first_summands, first_values, input_of, tape_word}
 use Rattle.share_world.specs.Laws.{IsWorld, SumIsPlain}
@@ -19,7 +20,7 @@ pub run_of_is : (w : World) (s : ℕ) → IsPlan w.plan → IsRun (run_of w s)
 run_of_is w s h = record {
   scheme = scheme_is w.plan h;
   products = λ t x y.
-      let words : ℕ → ℕ → ℕ = tape_word w s (length (owners (session w.plan s)) + t) in
+      let words : ℕ → ℕ → ℕ = tape_word w s (At_gate t) in
       mods_of_same (product_sum (scheme w.plan) (scheme_is w.plan h) (λ p v. dealt (scheme w.plan) v (words p)) (λ p v. mods_of_same (dealt_sum (scheme w.plan) (scheme_is w.plan h) v (words p))) x y);
 }
 
@@ -28,10 +29,10 @@ starts_add_up w s h v =
     let q = 2 ^ w.plan.bits in
     let m = length w.plan.groups in
     let owners = (owners (session w.plan s)) in
-    let deal = dealt (scheme w.plan) (input_of w s v) (tape_word w s v (slice_index owners v)) in
+    let deal = dealt (scheme w.plan) (input_of w s v) (tape_word w s (Input v) (slice_index owners v)) in
     elim (cases_Bool (nat_lt v (length owners))) [
       | inl yes' ↦ ap (λ z. z % q) (total_eq m _ deal (λ i l. cond-true (nat_lt v (length owners)) (deal i) 0 yes'))
-          ∙ mods_of_same (dealt_sum (scheme w.plan) (scheme_is w.plan h.plan) (input_of w s v) (tape_word w s v (slice_index owners v)))
+          ∙ mods_of_same (dealt_sum (scheme w.plan) (scheme_is w.plan h.plan) (input_of w s v) (tape_word w s (Input v) (slice_index owners v)))
           ∙ mod-eq_of_lt (h.inputs _ s _)
           ∙ sym (cond-true (nat_lt v (length owners)) (input_of w s v) 0 yes')
       | inr no' ↦ ap (λ z. z % q) (total_zero m _ (λ i l. cond-false (nat_lt v (length owners)) (deal i) 0 no'))

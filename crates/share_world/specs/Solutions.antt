@@ -1,12 +1,14 @@
 -- The equations of the protocol over the wires of a valid circuit.
-use Rattle.std.specs.Prelude.{◌≡◌, ℕ, ◌+◌, ◌%◌, ◌<◌, ◌⊎◌, Bool, true, false, if◌then◌else◌, length, slice_index}
+use Rattle.std.specs.Prelude.{◌≡◌, ℕ, ◌%◌, ◌<◌, ◌⊎◌, Bool, true, false, if◌then◌else◌, length}
 use Rattle.list_laws.specs.Lists.{total}
 use Rattle.circuit_model.specs.declared.gate.Operation.{Operation}
 use Rattle.circuit_model.specs.Circuits.{is_product}
 use Rattle.circuit_model.specs.declared.gate.Operation.TheVariants.{Neg, Inv, Eq, Eqw}
 use Rattle.secret_sharing.specs.Schemes.{dealt, local, own_product, has_pair, summands}
-use Rattle.job_session.specs.Sessions.{owners, Session, gate}
-use Rattle.job_plan.specs.Plans.{scheme, session, slot, slots, deals_in}
+use Rattle.job_session.specs.Sessions.{owners, Session, Slot, gate}
+use Rattle.job_session.specs.Sessions.Slot.{Input, At_gate}
+use Rattle.job_session.specs.SoundSessions.{Inside}
+use Rattle.job_plan.specs.Plans.{scheme, session, deals_in, giver}
 use Rattle.share_world.specs.Worlds.{World, run_of, input_of, tape_word, deal_of}
 
 -- the operation reads the first wire of its gate
@@ -33,17 +35,17 @@ pub record GatesInOrder (s : Session) : Type 0 where
   pub output : (t : ℕ) → t < length s.gates → SetBefore s t (gate s t).output → ⊥
 
 -- summands of the wires, and of the deals by party and slot, as the protocol has them
-pub record SummandsSolve (w : World) (s : ℕ) (summand : ℕ → ℕ → ℕ) (deal : ℕ → ℕ → ℕ → ℕ) : Type 0 where
+pub record SummandsSolve (w : World) (s : ℕ) (summand : ℕ → ℕ → ℕ) (deal : ℕ → Slot → ℕ → ℕ) : Type 0 where
   pub input_deals : (v i : ℕ) → v < length (owners (session w.plan s))
-      → deal (slice_index (owners (session w.plan s)) v) v i
-      ≡ dealt (scheme w.plan) (input_of w s v) (tape_word w s v (slice_index (owners (session w.plan s)) v)) i
+      → deal (giver w.plan s v) (Input v) i
+      ≡ dealt (scheme w.plan) (input_of w s v) (tape_word w s (Input v) (giver w.plan s v)) i
   pub product_deals : (t p i : ℕ) → t < length (session w.plan s).gates
       → is_product (gate (session w.plan s) t).operation ≡ true
-      → deal p (length (owners (session w.plan s)) + t) i
+      → deal p (At_gate t) i
       ≡ dealt (scheme w.plan) (own_product (scheme w.plan) p (summand (gate (session w.plan s) t).first)
-      (summand (gate (session w.plan s) t).second)) (tape_word w s (length (owners (session w.plan s)) + t) p) i
+      (summand (gate (session w.plan s) t).second)) (tape_word w s (At_gate t) p) i
   pub inputs : (v i : ℕ) → v < length (owners (session w.plan s))
-      → summand v i ≡ deal (slice_index (owners (session w.plan s)) v) v i
+      → summand v i ≡ deal (giver w.plan s v) (Input v) i
   pub linear : (t i : ℕ) → t < length (session w.plan s).gates
       → is_product (gate (session w.plan s) t).operation ≡ false
       → summand (gate (session w.plan s) t).output i
@@ -52,22 +54,21 @@ pub record SummandsSolve (w : World) (s : ℕ) (summand : ℕ → ℕ → ℕ) (
   pub products : (t i : ℕ) → t < length (session w.plan s).gates
       → is_product (gate (session w.plan s) t).operation ≡ true
       → summand (gate (session w.plan s) t).output i
-      ≡ total w.plan.parties (λ p. if has_pair (scheme w.plan) p then deal p (length (owners (session w.plan s)) + t) i
+      ≡ total w.plan.parties (λ p. if has_pair (scheme w.plan) p then deal p (At_gate t) i
       else 0) % (scheme w.plan).modulus
   pub unset : (v i : ℕ) → (SetBefore (session w.plan s) (length (session w.plan s).gates) v → ⊥) → summand v i ≡ 0
 
 -- these summands of the wires and of the deals are the world's
-pub record AreSummands (w : World) (s : ℕ) (summand : ℕ → ℕ → ℕ) (deal : ℕ → ℕ → ℕ → ℕ) : Type 0 where
+pub record AreSummands (w : World) (s : ℕ) (summand : ℕ → ℕ → ℕ) (deal : ℕ → Slot → ℕ → ℕ) : Type 0 where
   pub wires : (v i : ℕ) → i < length w.plan.groups
       → summand v i ≡ summands (run_of w s) (length (session w.plan s).gates) v i
-  pub deals : (p k i : ℕ) → k < slots w.plan s
-      → deals_in w.plan s p (slot w.plan s k) ≡ true
-      → deal p k i ≡ deal_of w s p k (slot w.plan s k) i
+  pub deals : (p : ℕ) (kind : Slot) (i : ℕ) → Inside (session w.plan s) kind → deals_in w.plan s p kind ≡ true
+      → deal p kind i ≡ deal_of w s p kind i
 
 -- the world's summands are the only solution
 abbrev pub OnlySolution : World → ℕ → Type 0
 OnlySolution w s =
-    GatesInOrder (session w.plan s) → (summand : ℕ → ℕ → ℕ) (deal : ℕ → ℕ → ℕ → ℕ) → SummandsSolve w s summand deal
+    GatesInOrder (session w.plan s) → (summand : ℕ → ℕ → ℕ) (deal : ℕ → Slot → ℕ → ℕ) → SummandsSolve w s summand deal
     → AreSummands w s summand deal
 
 -- and they are a solution
@@ -75,4 +76,4 @@ abbrev pub IsSolution : World → ℕ → Type 0
 IsSolution w s =
     GatesInOrder (session w.plan s)
     → SummandsSolve w s (summands (run_of w s) (length (session w.plan s).gates))
-    (λ p k. deal_of w s p k (slot w.plan s k))
+    (λ p kind. deal_of w s p kind)

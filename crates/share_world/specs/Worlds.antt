@@ -1,10 +1,10 @@
 -- A world: a plan, the inputs of all parties, and their tapes. Its words, and what a group sees.
-use Rattle.std.specs.Prelude.{ℕ, ◌+◌, ◌^◌, Bool, ◌||◌, nat_eq, nat_lt, if◌then◌else◌, List, [], map, length, slice_index, slice_index_or, filter}
+use Rattle.std.specs.Prelude.{ℕ, ◌+◌, ◌^◌, Bool, ◌||◌, nat_lt, if◌then◌else◌, List, [], map, length, slice_index, slice_index_or, filter}
 use Rattle.list_laws.specs.Lists.{total}
 use Rattle.circuit_model.specs.Circuits.{values}
 use Rattle.secret_sharing.specs.Schemes.{Run, dealt, product_summand, own_value, summands}
 use Rattle.job_session.specs.Sessions.{owners, output_wire, Slot, gate}
-use Rattle.job_plan.specs.Plans.{Plan, scheme, session, slot, place}
+use Rattle.job_plan.specs.Plans.{Plan, scheme, session, slot, slot_number, place, giver, gives}
 use Rattle.job_plan.specs.declared.key.Key.{Key}
 use Rattle.job_plan.specs.Messages.{messages}
 use Rattle.party_set.specs.Parties.{has_party}
@@ -19,14 +19,13 @@ pub record World : Type 0 where
 -- the input of wire v, which is the next of its owner's inputs
 abbrev pub input_of : World → ℕ → ℕ → ℕ
 input_of w s v =
-    let owner = slice_index (owners (session w.plan s)) in
-    let p = owner v in
+    let p = giver w.plan s v in
     slice_index (slice_index_or (slice_index_or w.inputs p []) s [])
-    (total v (λ u. if nat_eq (owner u) p then 1 else 0))
+    (total v (λ u. if gives w.plan s p u then 1 else 0))
 
--- word i of those that party p draws in slot k of session s
-abbrev pub tape_word : World → ℕ → ℕ → ℕ → ℕ → ℕ
-tape_word w s k p i = slice_index (slice_index_or w.tapes p []) (place w.plan p s k + i)
+-- word i of those that party p draws in a slot of session s
+abbrev pub tape_word : World → ℕ → Slot → ℕ → ℕ → ℕ
+tape_word w s kind p i = slice_index (slice_index_or w.tapes p []) (place w.plan p s (slot_number w.plan s kind) + i)
 
 -- the values of the input wires, and 0 for any other wire
 abbrev pub first_values : World → ℕ → ℕ → ℕ
@@ -36,7 +35,7 @@ first_values w s v = if nat_lt v (length (owners (session w.plan s))) then input
 abbrev pub first_summands : World → ℕ → ℕ → ℕ → ℕ
 first_summands w s v i =
     if nat_lt v (length (owners (session w.plan s)))
-    then dealt (scheme w.plan) (input_of w s v) (tape_word w s v (slice_index (owners (session w.plan s)) v)) i
+    then dealt (scheme w.plan) (input_of w s v) (tape_word w s (Input v) (giver w.plan s v)) i
     else 0
 
 -- the gates of session s
@@ -46,8 +45,7 @@ run_of w s = record {
   gates = gate (session w.plan s);
   start = first_summands w s;
   product =
-      λ t. product_summand (scheme w.plan) (λ p v. dealt (scheme w.plan) v
-      (tape_word w s (length (owners (session w.plan s)) + t) p));
+      λ t. product_summand (scheme w.plan) (λ p v. dealt (scheme w.plan) v (tape_word w s (At_gate t) p));
 }
 
 -- the value of wire v before gate t, and at the end
@@ -66,9 +64,9 @@ dealt_value w s p (Input v) = input_of w s v
 dealt_value w s p (At_gate t) = own_value (run_of w s) t p
 dealt_value w s p (Output o) = 0
 
--- summand i of what party p deals in slot k, which is of this kind
-abbrev pub deal_of : World → ℕ → ℕ → ℕ → Slot → ℕ → ℕ
-deal_of w s p k kind = dealt (scheme w.plan) (dealt_value w s p kind) (tape_word w s k p)
+-- summand i of what party p deals in a slot
+abbrev pub deal_of : World → ℕ → ℕ → Slot → ℕ → ℕ
+deal_of w s p kind = dealt (scheme w.plan) (dealt_value w s p kind) (tape_word w s kind p)
 
 -- ---- messages
 
@@ -77,7 +75,7 @@ abbrev pub word_in : World → Key → Slot → ℕ
 word_in w key (Output o) =
     summands (run_of w key.session) (length (session w.plan key.session).gates)
     (output_wire (session w.plan key.session) o) key.share
-word_in w key kind = deal_of w key.session key.sender key.slot kind key.share
+word_in w key kind = deal_of w key.session key.sender kind key.share
 
 -- the word of a message
 abbrev pub word : World → Key → ℕ

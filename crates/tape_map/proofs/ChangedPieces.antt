@@ -18,6 +18,7 @@ use Rattle.job_session.specs.Sessions.{Session, owners, gate}
 use Rattle.job_plan.specs.Plans.{Plan, session, slot, slots, words, words_in, place, deals_in}
 use Rattle.job_session.specs.Sessions.Slot.{At_gate}
 use Rattle.job_plan.specs.InputWords.{AreInputs, session_words}
+use Rattle.job_plan.proofs.Slots.{at_its_number}
 use Rattle.job_session.proofs.SessionSlots.{slot_cases}
 use Rattle.share_world.specs.Laws.{IsWorld, IsWhole}
 use Rattle.share_world.specs.Solutions.{GatesInOrder}
@@ -176,15 +177,15 @@ module _ (w : World) (other : List (List (List ℕ))) (group s : ℕ) (whole : I
         → raised q (hidden w.plan group)
         (if has_party group p then 0
         else difference q (deals_by w.plan s p c.second.items (session_words c.moved.items) (slot w.plan s k)) (deals_by w.plan s p c.first.items c.rows (slot w.plan s k)))
-        (tape_word w s k p) i ≡ moved_words w other group s k p i
+        (tape_word w s (slot w.plan s k) p) i ≡ moved_words w other group s (slot w.plan s k) p i
     moved_word p k i lk e = elim (cases_Bool (has_party group p)) [
       | inl member ↦
-          ap (λ d. raised q (hidden w.plan group) d (tape_word w s k p) i) (cond-true (has_party group p) 0 _ member)
-          ∙ raised_by_none q (hidden w.plan group) (tape_word w s k p) i (small_words w whole s p k i)
-          ∙ sym (ap (λ (f : ℕ → ℕ). f i) (cond-true (has_party group p) (tape_word w s k p) _ member))
+          ap (λ d. raised q (hidden w.plan group) d (tape_word w s (slot w.plan s k) p) i) (cond-true (has_party group p) 0 _ member)
+          ∙ raised_by_none q (hidden w.plan group) (tape_word w s (slot w.plan s k) p) i (small_words w whole s p (slot w.plan s k) i)
+          ∙ sym (ap (λ (f : ℕ → ℕ). f i) (cond-true (has_party group p) (tape_word w s (slot w.plan s k) p) _ member))
       | inr outside ↦
-          ap (λ d. raised q (hidden w.plan group) d (tape_word w s k p) i) (cond-false (has_party group p) 0 _ outside ∙ ap₂ (difference q) (dealt_after p k lk e) (dealt_before p k lk e))
-          ∙ sym (ap (λ (f : ℕ → ℕ). f i) (cond-false (has_party group p) (tape_word w s k p) _ outside))
+          ap (λ d. raised q (hidden w.plan group) d (tape_word w s (slot w.plan s k) p) i) (cond-false (has_party group p) 0 _ outside ∙ ap₂ (difference q) (dealt_after p k lk e) (dealt_before p k lk e))
+          ∙ sym (ap (λ (f : ℕ → ℕ). f i) (cond-false (has_party group p) (tape_word w s (slot w.plan s k) p) _ outside))
     ]
 
     -- the words of a slot of session n, where the summand g is hidden
@@ -196,12 +197,16 @@ module _ (w : World) (other : List (List (List ℕ))) (group s : ℕ) (whole : I
         else difference q (deals_by w.plan n p c.second.items (session_words c.moved.items) kind) (deals_by w.plan n p c.first.items c.rows kind))
         (λ i. slice_index (tape_of w p) (place w.plan p n k + i)))
 
-    slot_grown : (p k : ℕ) → k < slots w.plan s → slot_words p s (hidden w.plan group) k ≡ listed (words_in w.plan s p (slot w.plan s k)) (moved_words w other group s k p)
+    slot_grown : (p k : ℕ) → k < slots w.plan s → slot_words p s (hidden w.plan group) k ≡ listed (words_in w.plan s p (slot w.plan s k)) (moved_words w other group s (slot w.plan s k) p)
     slot_grown p k lk = elim (cases_Bool (deals_in w.plan s p (slot w.plan s k))) [
-      | inl e ↦ listed_eq (words_in w.plan s p (slot w.plan s k)) _ (moved_words w other group s k p) (λ i li. moved_word p k i lk e)
+      | inl e ↦ listed_eq (words_in w.plan s p (slot w.plan s k)) _ (moved_words w other group s (slot w.plan s k) p) (λ i li.
+          ap (λ n. raised q (hidden w.plan group)
+          (if has_party group p then 0
+          else difference q (deals_by w.plan s p c.second.items (session_words c.moved.items) (slot w.plan s k)) (deals_by w.plan s p c.first.items c.rows (slot w.plan s k)))
+          (λ i. slice_index (tape_of w p) (place w.plan p s n + i)) i) (sym (at_its_number w.plan s k lk)) ∙ moved_word p k i lk e)
       | inr e ↦
           let none : words_in w.plan s p (slot w.plan s k) ≡ 0 = cond-false (deals_in w.plan s p (slot w.plan s k)) (length w.plan.groups - 1) 0 e in
-          listed_eq (words_in w.plan s p (slot w.plan s k)) _ (moved_words w other group s k p) (λ i li. absurd (omega arith))
+          listed_eq (words_in w.plan s p (slot w.plan s k)) _ (moved_words w other group s (slot w.plan s k) p) (λ i li. absurd (omega arith))
     ]
 
     -- the piece of a session
@@ -244,8 +249,8 @@ moved_is w other group s share first second rows eg ef es er =
 
 pub piece_long : (w : World) (other : List (List (List ℕ))) (group p s : ℕ) → length (piece_map w other group p s) ≡ words w.plan p s
 piece_long w other group p s =
-    length-joined (slots w.plan s) (λ k. listed (words_in w.plan s p (slot w.plan s k)) (moved_words w other group s k p))
-    ∙ total_eq (slots w.plan s) _ _ (λ k lk. length-listed (words_in w.plan s p (slot w.plan s k)) (moved_words w other group s k p))
+    length-joined (slots w.plan s) (λ k. listed (words_in w.plan s p (slot w.plan s k)) (moved_words w other group s (slot w.plan s k) p))
+    ∙ total_eq (slots w.plan s) _ _ (λ k lk. length-listed (words_in w.plan s p (slot w.plan s k)) (moved_words w other group s (slot w.plan s k) p))
 
 pub pieces_long : (w : World) (other : List (List (List ℕ))) (group p n : ℕ) → length (joined n (piece_map w other group p)) ≡ place w.plan p n 0
 pieces_long w other group p n =

@@ -16,10 +16,11 @@ use Rattle.job_plan.specs.InputWords.{AreInputs}
 use Rattle.job_plan.specs.Tallies.{tape_length}
 use Rattle.job_session.specs.Sessions.{owners}
 use Rattle.job_plan.specs.Plans.{Plan, structure, holds, session, slot, slots, words_in, words, place}
+use Rattle.job_plan.proofs.Slots.{at_its_number}
 use Rattle.share_world.specs.Worlds.{World, input_of, tape_word, dealt_value}
 use Rattle.share_world.specs.Laws.{IsWhole, AreTapes}
 use Rattle.share_world.proofs.SmallWords.{small_words}
-use Rattle.tape_map.specs.TapeMaps.{hidden, with_inputs, with_tapes, raised, moved_words, moved_value, tape_map, changed_tapes}
+use Rattle.tape_map.specs.TapeMaps.{hidden, with_inputs, with_tapes, tape_of, raised, moved_words, moved_value, tape_map, changed_tapes, second_world}
 use Rattle.tape_map.specs.Laws.{IsFirstLacked, CanHide, CanGoBack, WordsMove, InputsChange, SecondIsWhole, AgreesBack}
 use Rattle.tape_map.proofs.RaisedDeals.{raised_small}
 
@@ -77,24 +78,25 @@ len plan p s k = words_in plan s p (slot plan s k)
 
 pub words_move : (w : World) (other : List (List (List ℕ))) (group : ℕ) → WordsMove w other group
 words_move w other group s k p i ls lk lp li =
-    ap (λ z. slice_index z (place w.plan p s k + i)) (listed_at w.plan.parties (tape_map w other group) p [] lp)
-    ∙ laid_at (length w.plan.sessions) (slots w.plan) (len w.plan p) (λ s k i. moved_words w other group s k p i) s k i ls lk li
+    ap (λ n. slice_index (tape_of (second_world w other group) p) (place w.plan p s n + i)) (at_its_number w.plan s k lk)
+    ∙ ap (λ z. slice_index z (place w.plan p s k + i)) (listed_at w.plan.parties (tape_map w other group) p [] lp)
+    ∙ laid_at (length w.plan.sessions) (slots w.plan) (len w.plan p) (λ s k i. moved_words w other group s (slot w.plan s k) p i) s k i ls lk li
 
 length-tape : (w : World) (other : List (List (List ℕ))) (group p : ℕ) → length (tape_map w other group p) ≡ tape_length w.plan p
 length-tape w other group p =
     length-joined (length w.plan.sessions) _
     ∙ total_eq (length w.plan.sessions) _ (words w.plan p) (λ s ls.
     length-joined (slots w.plan s) _
-    ∙ total_eq (slots w.plan s) _ (len w.plan p s) (λ k lk. length-listed (len w.plan p s k) (moved_words w other group s k p)))
+    ∙ total_eq (slots w.plan s) _ (len w.plan p s) (λ k lk. length-listed (len w.plan p s k) (moved_words w other group s (slot w.plan s k) p)))
 
-moved_small : (w : World) (other : List (List (List ℕ))) (group s k p i : ℕ) → IsWhole w → moved_words w other group s k p i < 2 ^ w.plan.bits
+moved_small : (w : World) (other : List (List (List ℕ))) (group s k p i : ℕ) → IsWhole w → moved_words w other group s (slot w.plan s k) p i < 2 ^ w.plan.bits
 moved_small w other group s k p i whole =
     let q = 2 ^ w.plan.bits in
-    let old = tape_word w s k p in
+    let old = tape_word w s (slot w.plan s k) p in
     let z = slot w.plan s k in
     let d = difference q (moved_value w other group s p z) (dealt_value w s p z) in
     let new = raised q (hidden w.plan group) d old in
-    let small : old i < q = small_words w whole s p k i in
+    let small : old i < q = small_words w whole s p (slot w.plan s k) i in
     elim (cases_Bool (has_party group p)) [
       | inl yes' ↦ subst (λ (f : ℕ → ℕ). f i < q) (sym (cond-true (has_party group p) old new yes')) small
       | inr no' ↦ subst (λ (f : ℕ → ℕ). f i < q) (sym (cond-false (has_party group p) old new no'))
@@ -116,7 +118,7 @@ are_tapes w other group whole = record {
     below p i = elim (cases_lt p w.plan.parties) [
       | inl l ↦ subst (λ z. slice_index z i < q) (sym (listed_at w.plan.parties (tape_map w other group) p [] l))
           (every_at (λ z. z < q) (tape_map w other group p) i (pow_pos w.plan.bits)
-          (laid_every (λ z. z < q) (length w.plan.sessions) (slots w.plan) (len w.plan p) (λ s k i. moved_words w other group s k p i)
+          (laid_every (λ z. z < q) (length w.plan.sessions) (slots w.plan) (len w.plan p) (λ s k i. moved_words w other group s (slot w.plan s k) p i)
           (λ s k i. moved_small w other group s k p i whole)))
       | inr past ↦ subst (λ z. slice_index z i < q)
           (sym (get_or_past (changed_tapes w other group) p [] (omega (arith, length-listed w.plan.parties (tape_map w other group), past))))

@@ -90,7 +90,7 @@ module _ (w : World) (other : List (List (List ℕ))) (group : ℕ) (h : CanMove
 
   -- a dealer's words of the second world
   dealers_words : (s k p i : ℕ) → s < length w.plan.sessions → k < slots w.plan s → p < w.plan.parties
-      → deals_in w.plan s p (slot w.plan s k) ≡ true → i < m - 1 → tape_word second s k p i ≡ moved_words w other group s k p i
+      → deals_in w.plan s p (slot w.plan s k) ≡ true → i < m - 1 → tape_word second s (slot w.plan s k) p i ≡ moved_words w other group s (slot w.plan s k) p i
   dealers_words s k p i ls lk lp deals li =
       let many : words_in w.plan s p (slot w.plan s k) ≡ m - 1 = cond-true (deals_in w.plan s p (slot w.plan s k)) (m - 1) 0 deals in
       words_move w other group s k p i ls lk lp (omega (arith, many, li))
@@ -107,12 +107,12 @@ module _ (w : World) (other : List (List (List ℕ))) (group : ℕ) (h : CanMove
 
   deal_in_slot : (s k p i : ℕ) → s < length w.plan.sessions → k < slots w.plan s → p < w.plan.parties → i < m → Stays p i
       → deals_in w.plan s p (slot w.plan s k) ≡ true → DealsRight s p (slot w.plan s k)
-      → deal_of second s p k (slot w.plan s k) i ≡ deal_of w s p k (slot w.plan s k) i
+      → deal_of second s p (slot w.plan s k) i ≡ deal_of w s p (slot w.plan s k) i
   deal_in_slot s k p i ls lk lp li which deals right =
       let sch = scheme w.plan in
       let q = 2 ^ w.plan.bits in
       let z = slot w.plan s k in
-      let words = tape_word w s k p in
+      let words = tape_word w s (slot w.plan s k) p in
       let new = moved_value w other group s p z in
       let old = dealt_value w s p z in
       let changed = raised q g (difference q new old) words in
@@ -126,15 +126,15 @@ module _ (w : World) (other : List (List (List ℕ))) (group : ℕ) (h : CanMove
 
   -- the same of a slot whose kind is known
   deal_alike : (s k p i : ℕ) (z : Slot) → slot w.plan s k ≡ z → s < length w.plan.sessions → k < slots w.plan s → p < w.plan.parties → i < m
-      → Stays p i → deals_in w.plan s p z ≡ true → DealsRight s p z → deal_of second s p k z i ≡ deal_of w s p k z i
+      → Stays p i → deals_in w.plan s p z ≡ true → DealsRight s p z → deal_of second s p z i ≡ deal_of w s p z i
   deal_alike s k p i z at ls lk lp li which =
-      subst (λ z. deals_in w.plan s p z ≡ true → DealsRight s p z → deal_of second s p k z i ≡ deal_of w s p k z i) at
+      subst (λ z. deals_in w.plan s p z ≡ true → DealsRight s p z → deal_of second s p z i ≡ deal_of w s p z i) at
       (deal_in_slot s k p i ls lk lp li which)
 
   pub input_alike : (s v i : ℕ) → s < length w.plan.sessions → v < length (owners (session w.plan s)) → i < m
       → Stays (slice_index (owners (session w.plan s)) v) i
-      → deal_of second s (slice_index (owners (session w.plan s)) v) v (Input v) i
-      ≡ deal_of w s (slice_index (owners (session w.plan s)) v) v (Input v) i
+      → deal_of second s (slice_index (owners (session w.plan s)) v) (Input v) i
+      ≡ deal_of w s (slice_index (owners (session w.plan s)) v) (Input v) i
   input_alike s v i ls lv li which =
       let p = slice_index (owners (session w.plan s)) v in
       deal_alike s v p i (Input v) (slot_input (session w.plan s) v lv) ls (omega (arith, lv)) ((h.whole.sound.sessions s ls).owned v lv) li which
@@ -157,8 +157,8 @@ module _ (w : World) (other : List (List (List ℕ))) (group : ℕ) (h : CanMove
 
   gate_alike_from : (s t p i : ℕ) → Others s t → s < length w.plan.sessions → p < w.plan.parties
       → is_product (gate (session w.plan s) t).operation ≡ true → has_pair (scheme w.plan) p ≡ true → i < m → Stays p i
-      → deal_of second s p (length (owners (session w.plan s)) + t) (At_gate t) i
-      ≡ deal_of w s p (length (owners (session w.plan s)) + t) (At_gate t) i
+      → deal_of second s p (At_gate t) i
+      ≡ deal_of w s p (At_gate t) i
   gate_alike_from s t p i others ls lp product pair li which =
       let x = session w.plan s in
       let lt : t < length x.gates = product_within x t product in
@@ -170,7 +170,7 @@ module _ (w : World) (other : List (List (List ℕ))) (group : ℕ) (h : CanMove
 
   -- what party p deals of a value at gate t
   abbrev deals : World → ℕ → ℕ → ℕ → ℕ → ℕ → ℕ
-  deals u s t p v = dealt (scheme w.plan) v (tape_word u s (length (owners (session w.plan s)) + t) p)
+  deals u s t p v = dealt (scheme w.plan) v (tape_word u s (At_gate t) p)
 
   pub others_stay : (s t v i : ℕ) → s < length w.plan.sessions → i < m → i ≢ g → summands (run_of second s) t v i ≡ summands (run_of w s) t v i
   others_stay s t v i ls li ne =
@@ -183,8 +183,8 @@ module _ (w : World) (other : List (List (List ℕ))) (group : ℕ) (h : CanMove
 
   pub gate_alike : (s t p i : ℕ) → s < length w.plan.sessions → p < w.plan.parties
       → is_product (gate (session w.plan s) t).operation ≡ true → has_pair (scheme w.plan) p ≡ true → i < m → Stays p i
-      → deal_of second s p (length (owners (session w.plan s)) + t) (At_gate t) i
-      ≡ deal_of w s p (length (owners (session w.plan s)) + t) (At_gate t) i
+      → deal_of second s p (At_gate t) i
+      ≡ deal_of w s p (At_gate t) i
   gate_alike s t p i ls = gate_alike_from s t p i (λ v i li ne. others_stay s t v i ls li ne) ls
 
   -- ---- all summands, and what is dealt

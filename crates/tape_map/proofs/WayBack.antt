@@ -1,5 +1,5 @@
 -- The tapes that stay, and the way back.
-use Rattle.std.proofs.Common.{◌≡◌, ℕ, ◌^◌, ◌<◌, true, false, List, [], length, refl, sym, ap, ap₂, ◌∙◌, arith}
+use Rattle.std.proofs.Common.{◌≡◌, ℕ, ◌+◌, ◌^◌, ◌<◌, true, false, List, [], length, refl, sym, ap, ap₂, ◌∙◌, arith}
 use Rattle.std.proofs.lemmas.Bool.{cases_Bool, cond-true, cond-false}
 use Rattle.std.proofs.lemmas.List.{ext_get_or}
 use Rattle.std.proofs.lemmas.Nat.{pow_pos}
@@ -7,7 +7,9 @@ use mathlib.Core.Logic.{inl, inr}
 use Rattle.list_laws.proofs.JoinedLists.{laid, laid_eq, laid_back, length-listed, listed_at}
 use Rattle.mpc_ring.specs.Differences.{difference}
 use Rattle.party_set.specs.Parties.{has_party}
-use Rattle.job_plan.specs.Plans.{session, slot, slots, words_in}
+use Rattle.std.specs.Prelude.{slice_index}
+use Rattle.job_plan.specs.Plans.{session, slot, slots, words_in, place}
+use Rattle.job_plan.proofs.Slots.{at_its_number}
 use Rattle.job_session.proofs.SessionSlots.{slot_cases}
 use Rattle.share_world.specs.Worlds.{World, tape_word, dealt_value}
 use Rattle.share_world.specs.Laws.{IsWhole}
@@ -20,32 +22,33 @@ use Rattle.tape_map.proofs.HiddenSummands.{own_moved, others_stay, values_move}
 
 -- a tape is laid of its words by session and slot
 laid_tape : (w : World) (f : ℕ → ℕ → ℕ → ℕ) (p : ℕ) → IsWhole w → p < w.plan.parties
-    → ((s k i : ℕ) → s < length w.plan.sessions → k < slots w.plan s → i < words_in w.plan s p (slot w.plan s k) → f s k i ≡ tape_word w s k p i)
+    → ((s k i : ℕ) → s < length w.plan.sessions → k < slots w.plan s → i < words_in w.plan s p (slot w.plan s k) → f s k i ≡ tape_word w s (slot w.plan s k) p i)
     → laid (length w.plan.sessions) (slots w.plan) (len w.plan p) f ≡ tape_of w p
 laid_tape w f p whole lp same =
-    laid_eq (length w.plan.sessions) (slots w.plan) (len w.plan p) f (λ s k i. tape_word w s k p i) same
+    laid_eq (length w.plan.sessions) (slots w.plan) (len w.plan p) f (λ s k i. slice_index (tape_of w p) (place w.plan p s k + i))
+    (λ s k i ls lk li. same s k i ls lk li ∙ ap (λ n. slice_index (tape_of w p) (place w.plan p s n + i)) (at_its_number w.plan s k lk))
     ∙ laid_back (length w.plan.sessions) (slots w.plan) (len w.plan p) (tape_of w p) (whole.tapes.lengths p lp)
 
 members_words : (w : World) (other : List (List (List ℕ))) (group s k p i : ℕ) → has_party group p ≡ true
-    → moved_words w other group s k p i ≡ tape_word w s k p i
-members_words w other group s k p i member = ap (λ f. f i) (cond-true (has_party group p) (tape_word w s k p) _ member)
+    → moved_words w other group s (slot w.plan s k) p i ≡ tape_word w s (slot w.plan s k) p i
+members_words w other group s k p i member = ap (λ f. f i) (cond-true (has_party group p) (tape_word w s (slot w.plan s k) p) _ member)
 
 strangers_words : (w : World) (other : List (List (List ℕ))) (group s k p i : ℕ) → has_party group p ≡ false
-    → moved_words w other group s k p i
+    → moved_words w other group s (slot w.plan s k) p i
     ≡ raised (2 ^ w.plan.bits) (hidden w.plan group)
-    (difference (2 ^ w.plan.bits) (moved_value w other group s p (slot w.plan s k)) (dealt_value w s p (slot w.plan s k))) (tape_word w s k p) i
-strangers_words w other group s k p i stranger = ap (λ f. f i) (cond-false (has_party group p) (tape_word w s k p) _ stranger)
+    (difference (2 ^ w.plan.bits) (moved_value w other group s p (slot w.plan s k)) (dealt_value w s p (slot w.plan s k))) (tape_word w s (slot w.plan s k) p) i
+strangers_words w other group s k p i stranger = ap (λ f. f i) (cond-false (has_party group p) (tape_word w s (slot w.plan s k) p) _ stranger)
 
 pub members_stay : (w : World) (other : List (List (List ℕ))) (group : ℕ) → IsWhole w → MembersStay w other group
 members_stay w other group whole p lp member =
-    laid_tape w (λ s k i. moved_words w other group s k p i) p whole lp (λ s k i ls lk li. members_words w other group s k p i member)
+    laid_tape w (λ s k i. moved_words w other group s (slot w.plan s k) p i) p whole lp (λ s k i ls lk li. members_words w other group s k p i member)
 
 pub others_words : (w : World) (other : List (List (List ℕ))) (group : ℕ) → OthersStay w other group
 others_words w other group s k p i ls lk lp li ne =
     words_move w other group s k p i ls lk lp li
     ∙ elim (cases_Bool (has_party group p)) [
       | inl yes' ↦ members_words w other group s k p i yes'
-      | inr no' ↦ strangers_words w other group s k p i no' ∙ raised_other (2 ^ w.plan.bits) (hidden w.plan group) _ (tape_word w s k p) i ne
+      | inr no' ↦ strangers_words w other group s k p i no' ∙ raised_other (2 ^ w.plan.bits) (hidden w.plan group) _ (tape_word w s (slot w.plan s k) p) i ne
     ]
 
 -- ---- the way back
@@ -65,21 +68,21 @@ module _ (w : World) (other : List (List (List ℕ))) (group : ℕ) (h : CanMove
       (λ o lo. refl) k lk
 
   word_back : (s k p i : ℕ) → s < length w.plan.sessions → k < slots w.plan s → p < w.plan.parties → i < words_in w.plan s p (slot w.plan s k)
-      → moved_words second w.inputs group s k p i ≡ tape_word w s k p i
+      → moved_words second w.inputs group s (slot w.plan s k) p i ≡ tape_word w s (slot w.plan s k) p i
   word_back s k p i ls lk lp li =
       let z = slot w.plan s k in
       let q = 2 ^ w.plan.bits in
       let g = hidden w.plan group in
       let old = dealt_value w s p z in
       let new = moved_value w other group s p z in
-      let there : tape_word second s k p i ≡ moved_words w other group s k p i = words_move w other group s k p i ls lk lp li in
+      let there : tape_word second s (slot w.plan s k) p i ≡ moved_words w other group s (slot w.plan s k) p i = words_move w other group s k p i ls lk lp li in
       elim (cases_Bool (has_party group p)) [
         | inl yes' ↦ members_words second w.inputs group s k p i yes' ∙ there ∙ members_words w other group s k p i yes'
         | inr no' ↦ strangers_words second w.inputs group s k p i no'
-            ∙ raised_eq q g _ (difference q old new) (tape_word second s k p) (raised q g (difference q new old) (tape_word w s k p)) i
+            ∙ raised_eq q g _ (difference q old new) (tape_word second s (slot w.plan s k) p) (raised q g (difference q new old) (tape_word w s (slot w.plan s k) p)) i
             (ap₂ (difference q) (values_turn s p k ls lk) (values_move w other group h s k p ls lk))
             (there ∙ strangers_words w other group s k p i no')
-            ∙ raised_back q g old new (tape_word w s k p) i (pow_pos w.plan.bits) (small_words w h.whole s p k i)
+            ∙ raised_back q g old new (tape_word w s (slot w.plan s k) p) i (pow_pos w.plan.bits) (small_words w h.whole s p (slot w.plan s k) i)
       ]
 
   tapes_back : changed_tapes second w.inputs group ≡ w.tapes
@@ -89,7 +92,7 @@ module _ (w : World) (other : List (List (List ℕ))) (group : ℕ) (h : CanMove
       ext_get_or [] all w.tapes (length-listed n (tape_map second w.inputs group) ∙ sym h.whole.tapes.parties) (λ p l.
       let lp : p < n = omega (arith, l, length-listed n (tape_map second w.inputs group)) in
       listed_at n (tape_map second w.inputs group) p [] lp
-      ∙ laid_tape w (λ s k i. moved_words second w.inputs group s k p i) p h.whole lp (λ s k i ls lk li. word_back s k p i ls lk lp li))
+      ∙ laid_tape w (λ s k i. moved_words second w.inputs group s (slot w.plan s k) p i) p h.whole lp (λ s k i ls lk li. word_back s k p i ls lk lp li))
 
   pub goes_back : GoesBack w other group
   goes_back = ap (λ tapes. with_tapes w tapes) tapes_back

@@ -1,5 +1,5 @@
 -- When other inputs can be hidden from a group, and the laws of the change that hides them.
-use Rattle.std.specs.Prelude.{◌≡◌, ◌≢◌, ℕ, ◌^◌, ◌<◌, true, false, List, length, slice_index}
+use Rattle.std.specs.Prelude.{◌≡◌, ◌≢◌, ℕ, ◌^◌, ◌<◌, true, false, List, length}
 use Rattle.std.specs.List.{Contains}
 use Rattle.mpc_ring.specs.Differences.{difference}
 use Rattle.circuit_model.specs.Netlists.{read_by}
@@ -10,7 +10,7 @@ use Rattle.job_plan.specs.InputWords.{AreInputs}
 use Rattle.job_plan.specs.Messages.{messages}
 use Rattle.job_plan.specs.Numbers.{message}
 use Rattle.job_session.specs.Sessions.{owners, readers, gate, output_wire}
-use Rattle.job_plan.specs.Plans.{Plan, structure, holds, session, reads, slot, slots, words_in}
+use Rattle.job_plan.specs.Plans.{Plan, structure, holds, session, reads, slot, slots, words_in, giver}
 use Rattle.share_world.specs.Worlds.{World, input_of, tape_word, dealt_value, run_of, plain, word, touches, view}
 use Rattle.share_world.specs.Laws.{IsWhole, AreTapes}
 use Rattle.tape_map.specs.TapeMaps.{hidden, with_inputs, with_tapes, tape_of, delta, moved_summands, moved_value, moved_words, tape_map, changed_tapes, second_world}
@@ -18,7 +18,7 @@ use Rattle.tape_map.specs.TapeMaps.{hidden, with_inputs, with_tapes, tape_of, de
 -- with the other inputs a group's members give what they gave, and read what they read
 pub record Agree (w : World) (other : List (List (List ℕ))) (group : ℕ) : Type 0 where
   pub inputs : (s v : ℕ) → v < length (owners (session w.plan s))
-      → has_party group (slice_index (owners (session w.plan s)) v) ≡ true
+      → has_party group (giver w.plan s v) ≡ true
       → input_of (with_inputs w other) s v ≡ input_of w s v
   pub outputs : (s o r : ℕ) → o < length (readers (session w.plan s)) → r < w.plan.parties
       → has_party group r ≡ true → reads w.plan r s o ≡ true
@@ -96,14 +96,14 @@ abbrev pub WordsMove : World → List (List (List ℕ)) → ℕ → Type 0
 WordsMove w other group =
     (s k p i : ℕ) → s < length w.plan.sessions → k < slots w.plan s → p < w.plan.parties
     → i < words_in w.plan s p (slot w.plan s k)
-    → tape_word (second_world w other group) s k p i ≡ moved_words w other group s k p i
+    → tape_word (second_world w other group) s (slot w.plan s k) p i ≡ moved_words w other group s (slot w.plan s k) p i
 
--- and it stays where it isn't the hidden summand's
+-- a word of the second world's tapes that isn't the hidden summand's is the first world's
 abbrev pub OthersStay : World → List (List (List ℕ)) → ℕ → Type 0
 OthersStay w other group =
     (s k p i : ℕ) → s < length w.plan.sessions → k < slots w.plan s → p < w.plan.parties
     → i < words_in w.plan s p (slot w.plan s k) → i ≢ hidden w.plan group
-    → tape_word (second_world w other group) s k p i ≡ tape_word w s k p i
+    → tape_word (second_world w other group) s (slot w.plan s k) p i ≡ tape_word w s (slot w.plan s k) p i
 
 -- the summands of the second world's wires are the moved ones
 abbrev pub SummandsMove : World → List (List (List ℕ)) → ℕ → Type 0

@@ -6,7 +6,7 @@ use Rattle.list_laws.specs.Lists.{joined, listed}
 use Rattle.list_laws.specs.Checks.{◌answers◌, first_fault}
 use Rattle.party_set.specs.Parties.{has_party, within}
 use Rattle.job_session.specs.Sessions.{owners, readers, output_wire}
-use Rattle.job_plan.specs.Plans.{Plan, session, reads}
+use Rattle.job_plan.specs.Plans.{Plan, session, reads, giver}
 use Rattle.share_world.specs.Worlds.{World, input_of, plain}
 use Rattle.tape_map.specs.TapeMaps.{with_inputs}
 use Rattle.tape_map.specs.declared.fault.MapFault.{MapFault}
@@ -22,7 +22,7 @@ abbrev pub input_check : World → List (List (List ℕ)) → ℕ → ℕ → �
 input_check w other group s v =
     let first = input_of w s v in
     let second = input_of (with_inputs w other) s v in
-    (has_party group (slice_index (owners (session w.plan s)) v) && not (nat_eq first second))
+    (has_party group (giver w.plan s v) && not (nat_eq first second))
     answers InputDiffers s v first second
 
 -- a member r reads one value on output wire o, and is to read another

@@ -56,21 +56,20 @@ moved_value w other group s p (Output o) = 0
 
 -- ---- the change
 
--- the words that party p draws in slot k of session s: a member's stay, and of any other party's
+-- the words that party p draws in a slot of session s: a member's stay, and of any other party's
 -- the hidden one grows as the value that it deals there
-abbrev pub moved_words : World → List (List (List ℕ)) → ℕ → ℕ → ℕ → ℕ → ℕ → ℕ
-moved_words w other group s k p =
+abbrev pub moved_words : World → List (List (List ℕ)) → ℕ → ℕ → Slot → ℕ → ℕ → ℕ
+moved_words w other group s kind p =
     let q = 2 ^ w.plan.bits in
-    let kind = slot w.plan s k in
-    if has_party group p then tape_word w s k p
+    if has_party group p then tape_word w s kind p
     else raised q (hidden w.plan group)
-    (difference q (moved_value w other group s p kind) (dealt_value w s p kind)) (tape_word w s k p)
+    (difference q (moved_value w other group s p kind) (dealt_value w s p kind)) (tape_word w s kind p)
 
 -- party p's piece of tape for session s, changed, slot by slot
 abbrev pub piece_map : World → List (List (List ℕ)) → ℕ → ℕ → ℕ → List ℕ
 piece_map w other group p s =
     joined (slots w.plan s) (λ k.
-    listed (words_in w.plan s p (slot w.plan s k)) (moved_words w other group s k p))
+    listed (words_in w.plan s p (slot w.plan s k)) (moved_words w other group s (slot w.plan s k) p))
 
 -- party p's tape, changed, session by session
 abbrev pub tape_map : World → List (List (List ℕ)) → ℕ → ℕ → List ℕ

@@ -88,7 +88,7 @@ module _ (w : World) (s : ℕ) (order : GatesInOrder (session w.plan s)) where
 
   -- the summands of an input wire are those that its owner deals
   pub input_summand : (v i : ℕ) → v < length (owners x)
-      → ends v i ≡ dealt (scheme w.plan) (input_of w s v) (tape_word w s v (slice_index (owners x) v)) i
+      → ends v i ≡ dealt (scheme w.plan) (input_of w s v) (tape_word w s (Input v) (slice_index (owners x) v)) i
   input_summand v i l = (is_solution w s order).inputs v i l ∙ (is_solution w s order).input_deals v i l
 
   -- a wire that a product reads has its last summands before it

@@ -12,8 +12,9 @@ use Rattle.circuit_model.specs.Circuits.{is_product}
 use Rattle.circuit_model.proofs.SetAt.{set_here, set_there}
 use Rattle.secret_sharing.specs.Schemes.{dealt, local, own_product, gate_summands, summands}
 use Rattle.secret_sharing.proofs.Agreement.{own_same, product_agrees}
-use Rattle.job_session.specs.Sessions.{owners, gate}
-use Rattle.job_plan.specs.Plans.{scheme, session}
+use Rattle.job_session.specs.Sessions.{owners, gate, Slot}
+use Rattle.job_session.specs.Sessions.Slot.{At_gate}
+use Rattle.job_plan.specs.Plans.{scheme, session, slot_number}
 use Rattle.job_plan.specs.InputWords.{session_words}
 use Rattle.share_world.specs.Worlds.{World, run_of, tape_word, first_summands}
 use Rattle.share_world.specs.Laws.{IsWhole}
@@ -30,9 +31,9 @@ own_alike w p x y x' y' hx hy = own_same (scheme w.plan) p x y x' y' (λ i j li 
 
 module _ (w : World) (s : ℕ) where
   -- what is dealt at the places of slot k is dealt with the words of slot k
-  pub dealt_here : (k : ℕ) (places : List ℕ) → ArePlaces w.plan s k places → (p v i : ℕ) → p < w.plan.parties
-      → dealt_at (scheme w.plan) w.tapes places p v i ≡ dealt (scheme w.plan) v (tape_word w s k p) i
-  dealt_here k places h p v i lp = ap (λ z. dealt (scheme w.plan) v (λ j. slice_index (slice_index_or w.tapes p []) (z + j)) i) (h.are p lp)
+  pub dealt_here : (z : Slot) (places : List ℕ) → ArePlaces w.plan s (slot_number w.plan s z) places → (p v i : ℕ) → p < w.plan.parties
+      → dealt_at (scheme w.plan) w.tapes places p v i ≡ dealt (scheme w.plan) v (tape_word w s z p) i
+  dealt_here z places h p v i lp = ap (λ n. dealt (scheme w.plan) v (λ j. slice_index (slice_index_or w.tapes p []) (n + j)) i) (h.are p lp)
 
   -- the summands that gate t makes of the rows of its wires
   pub gate_here : (t : ℕ) (places : List ℕ) (x y : ℕ → ℕ) → ArePlaces w.plan s (length (owners (session w.plan s)) + t) places
@@ -43,15 +44,14 @@ module _ (w : World) (s : ℕ) where
       ≡ gate_summands (run_of w s) t (summands (run_of w s) t (gate (session w.plan s) t).first) (summands (run_of w s) t (gate (session w.plan s) t).second) i
   gate_here t places x y h hx hy i li =
       let r = run_of w s in
-      let k : ℕ = length (owners (session w.plan s)) + t in
       let g = gate (session w.plan s) t in
       let sch = scheme w.plan in
       elim (cases_Bool (is_product g.operation)) [
         | inl yes' ↦
             cond-true (is_product g.operation) _ _ yes'
-            ∙ product_agrees sch (λ p v. dealt sch v (tape_word w s k p)) (dealt_at sch w.tapes places) (summands r t g.first) (summands r t g.second) x y i
-            (λ p lp pair. dealt_here k places h p (own_product sch p x y) i lp
-            ∙ ap (λ z. dealt sch z (tape_word w s k p) i) (own_alike w p x y (summands r t g.first) (summands r t g.second) hx hy))
+            ∙ product_agrees sch (λ p v. dealt sch v (tape_word w s (At_gate t) p)) (dealt_at sch w.tapes places) (summands r t g.first) (summands r t g.second) x y i
+            (λ p lp pair. dealt_here (At_gate t) places h p (own_product sch p x y) i lp
+            ∙ ap (λ z. dealt sch z (tape_word w s (At_gate t) p) i) (own_alike w p x y (summands r t g.first) (summands r t g.second) hx hy))
             ∙ sym (cond-true (is_product g.operation) _ _ yes')
         | inr no' ↦
             cond-false (is_product g.operation) _ _ no'

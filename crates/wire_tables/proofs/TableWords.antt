@@ -85,7 +85,7 @@ module _ (w : World) (whole : IsWhole w) (key : Key) (st : Stands w.plan key) wh
       let at = slot_of_input x v key.slot st.in_slot z in
       let sender = subst (λ y. Sends w.plan key.session y key.sender) z st.sends in
       ap (word_in w key) z
-      ∙ ap₂ (λ k p. dealt (scheme w.plan) (input_of w key.session v) (tape_word w key.session k p) key.share) at.0 sender
+      ∙ ap (λ p. dealt (scheme w.plan) (input_of w key.session v) (tape_word w key.session (Input v) p) key.share) sender
       ∙ sym (input_summand w key.session ordered v key.share at.1)
 
   gate_there : (t : ℕ) → slot w.plan key.session key.slot ≡ At_gate t → t < length x.gates
@@ -96,12 +96,12 @@ module _ (w : World) (whole : IsWhole w) (key : Key) (st : Stands w.plan key) wh
 
   pub gate_word : (t : ℕ) (a b : ℕ → ℕ) → slot w.plan key.session key.slot ≡ At_gate t
       → ((i : ℕ) → i < length w.plan.groups → a i ≡ ends (gate x t).first i) → ((i : ℕ) → i < length w.plan.groups → b i ≡ ends (gate x t).second i)
-      → word w key ≡ dealt (scheme w.plan) (own_product (scheme w.plan) key.sender a b) (tape_word w key.session key.slot key.sender) key.share
+      → word w key ≡ dealt (scheme w.plan) (own_product (scheme w.plan) key.sender a b) (tape_word w key.session (At_gate t) key.sender) key.share
   gate_word t a b z ha hb =
       let sends = gate_sender t z in
       let product = (and_parts (is_product (gate x t).operation) _ sends.1).0 in
       ap (word_in w key) z
-      ∙ ap (λ v. dealt (scheme w.plan) v (tape_word w key.session key.slot key.sender) key.share) (sym (own_at_end w key.session ordered t key.sender a b (gate_there t z) product ha hb))
+      ∙ ap (λ v. dealt (scheme w.plan) v (tape_word w key.session (At_gate t) key.sender) key.share) (sym (own_at_end w key.session ordered t key.sender a b (gate_there t z) product ha hb))
 
   pub output_word : (o : ℕ) → slot w.plan key.session key.slot ≡ Output o → word w key ≡ ends (output_wire x o) key.share
   output_word o z = ap (word_in w key) z

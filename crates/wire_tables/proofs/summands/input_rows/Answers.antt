@@ -9,6 +9,7 @@ use Rattle.list_laws.proofs.JoinedLists.{length-listed, listed_at, listed_eq}
 use Rattle.secret_sharing.specs.Schemes.{dealt}
 use Rattle.job_plan.specs.InputWords.{session_words}
 use Rattle.job_session.specs.Sessions.{Session, owners}
+use Rattle.job_session.specs.Sessions.Slot.{Input}
 use Rattle.job_plan.specs.Plans.{session, scheme, slot, deals_in}
 use Rattle.job_plan.proofs.GrownLists.{listed_push}
 use Rattle.job_session.proofs.SessionSlots.{slot_input}
@@ -70,8 +71,8 @@ loop-v-preserved c =
     let value : c.index.result.now ≡ input_of w c.args.s v = c.index.ensures ∙ get_or_default_zero c.in_ok-given.given.items v c.index.result.now there ∙ ap (λ xs. slice_index xs v) given ∙ listed_at (length (owners x)) (input_of w c.args.s) v 0 lv in
     let f : ℕ → List ℕ = λ v. listed m (first_summands w c.args.s v) in
     let row : c.in_ok-row.row.items ≡ f v = c.in_ok-row.ensures ∙ listed_eq m _ (first_summands w c.args.s v) (λ i li.
-    dealt_here w c.args.s v c.loop-v.places c.loop-v.invariant.places o c.index.result.now i party
-    ∙ ap₂ (λ z p. dealt (scheme plan) z (tape_word w c.args.s v p) i) value own
+    dealt_here w c.args.s (Input v) c.loop-v.places c.loop-v.invariant.places o c.index.result.now i party
+    ∙ ap₂ (λ z p. dealt (scheme plan) z (tape_word w c.args.s (Input v) p) i) value own
     ∙ sym (cond-true (nat_lt v (length (owners x))) _ 0 (lt-ltb v (length (owners x)) lv))) in
     record {
       places = c.pass_slot.ensures;

@@ -8,6 +8,7 @@ use Rattle.party_set.specs.Parties.{Structure}
 use Rattle.product_duty.specs.Duties.{scheme_of}
 use Rattle.secret_sharing.specs.Schemes.{dealt, own_product, summands}
 use Rattle.job_session.specs.Sessions.{Session, session_slots}
+use Rattle.job_session.specs.Sessions.Slot.{At_gate}
 use Rattle.job_plan.specs.Plans.{scheme, session}
 use Rattle.job_session.specs.SoundSessions.{IsSoundSession}
 use Rattle.job_plan.specs.InputWords.{session_words}
@@ -15,7 +16,7 @@ use Rattle.share_world.specs.Worlds.{World, word, run_of, tape_word}
 use Rattle.wire_tables.specs.Places.{ArePlaces, HasDealWords, dealt_at}
 use Rattle.wire_tables.specs.WireTables.{world_given}
 use Rattle.wire_tables.proofs.RowSteps.{dealt_here}
-use Rattle.wire_tables.proofs.MessageSenders.{stands_so}
+use Rattle.wire_tables.proofs.MessageSenders.{stands_so, slot_of_gate}
 use Rattle.wire_tables.proofs.TableWords.{has_words, table_long, table_row, row_small, row_at, row_long, input_word, gate_word, output_word, read_input, read_gate, read_output}
 use Rattle.wire_tables.proofs.word.word_of.Goals as goal
 
@@ -133,8 +134,8 @@ returns-in-Gate c =
     ∙ get_or_default_zero c.in_ok-row-in-Gate.row.items key.share c.index.result.now there
     ∙ ap (λ xs. slice_index xs key.share) row
     ∙ listed_at m dealt_row key.share 0 st.share
-    ∙ dealt_here w s key.slot c.deref.result.now here key.sender own key.share at.sender
-    ∙ ap (λ v. dealt (scheme plan) v (tape_word w s key.slot key.sender) key.share) own_is
+    ∙ dealt_here w s (At_gate c.in-Gate.t) c.deref.result.now (subst (λ k. ArePlaces plan s k c.deref.result.now) (slot_of_gate x c.in-Gate.t key.slot st.in_slot at.slot_is).0 here) key.sender own key.share at.sender
+    ∙ ap (λ v. dealt (scheme plan) v (tape_word w s (At_gate c.in-Gate.t) key.sender) key.share) own_is
     ∙ sym (gate_word w c.requires.whole key st c.in-Gate.t (slice_index c.row-x.result.now) (slice_index c.row-y.result.now) at.slot_is
     (λ i li. row_at w s c.gate-gate.result.first i c.row-x.result.now a li ∙ ap (λ (g : Gate). summands (run_of w s) (length x.gates) g.first i) at.gate_is)
     (λ i li. row_at w s c.gate-gate.result.second i c.row-y.result.now b li ∙ ap (λ (g : Gate). summands (run_of w s) (length x.gates) g.second i) at.gate_is))
