@@ -25,6 +25,7 @@ pub data AdversaryForm : Type 0 where
   by_formula : List ℕ → AdversaryForm
   by_list : List ℕ → AdversaryForm
 
+-- what a job's file says: the ring, the parties, whom they tolerate, where a node finds its peers, and the sessions
 pub record JobForm : Type 0 where
   pub bits : ℕ
   pub names : List (List ℕ)

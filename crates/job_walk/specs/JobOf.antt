@@ -101,6 +101,7 @@ Q2Of job s (refused status line) =
     × (status ≡ 4)
     × (line ≡ covering_line job.names (slice_index s.groups i) (slice_index s.groups j))
 
+-- the maximal groups of a job, where no two of them together are all parties
 unfoldable pub StructureOf : JobForm → Verdict Structure → Type 0
 StructureOf job = Then (GroupsOf job.names job.adversary) (Q2Of job)
 
@@ -162,6 +163,7 @@ pub record Planned : Type 0 where
   pub group : Option Members
   pub plan : Plan
 
+-- the plan of a job over this structure, where its circuits are accepted and its sessions fit
 unfoldable pub PlannedOf :
     Contents → List ℕ → JobForm → Option Members → Structure → Verdict Planned → Type 0
 PlannedOf files dir job group s =

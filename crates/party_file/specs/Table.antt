@@ -154,6 +154,7 @@ pub record PartyForm : Type 0 where
   pub inputs : List (List ℕ)
   pub tapes : List (List ℕ)
 
+-- what the fields give: the numbers of each session's inputs, and its tape, which is given or made of a seed
 unfoldable pub party_given : Plan → ℕ → Members → PartyForm
 party_given plan p fields =
     record { inputs = map numbers_in (texts_at (codes "inputs") fields); tapes = tapes_of plan p fields }

@@ -16,6 +16,7 @@ use Rattle.view_counts.specs.Counts.{choices}
 
 -- ---- what a group knows
 
+-- what the simulator is given of a world: what a group's members give, read and draw
 pub record Known : Type 0 where
   pub inputs : List (List (List ℕ))  -- by party, session, position; none but of members
   pub outputs : List (List ℕ)  -- by session and output wire; 0 but where a member reads
