@@ -99,7 +99,7 @@ module _ (dir name : List ℕ) (view : Bool) (files files' : FilesReading) (job 
     meets_no_memory result not c = record {
       ok = tt;
       hides = tt;
-      stop = (refl, record { files = finds.quiet; out = refl; net = c.quiet not; same_kept = c.same_kept; same_spawner = refl });
+      stop = (refl, record { files = finds.quiet; out = refl; net = c.quiet not; same_expects = c.same_expects; same_offers = c.same_offers; same_kept = c.same_kept; same_spawner = refl });
       keeps = finds.keeps;
       keeps_net = record { faults_grow = c.faults_grow; keeps_steady = c.keeps_steady };
       keeps_spawner = spawner_kept spawner;

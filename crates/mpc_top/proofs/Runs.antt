@@ -1,6 +1,6 @@
 -- Commands that read all that their text is made of, and then write it.
 use Rattle.std.proofs.Common.{◌≡◌, List, [], ℕ, Result, Ok, Err, refl, sym, subst, arith}
-use Rattle.std.specs.Prelude.{Option, None, Some, IsErrAnd, Vec}
+use Rattle.std.specs.Prelude.{Option, None, Some, IfSome, IsErrAnd, Vec}
 use Rattle.std.specs.declared.alloc.Global.{Global}
 use Rattle.std.proofs.lemmas.Result.{err_from_is_err_and}
 use Rattle.outer_io.specs.Files.{FilesReading}
@@ -17,13 +17,14 @@ use Rattle.output_text.specs.RunText.{run_text}
 use Rattle.job_walk.specs.declared.plan.Planned as code
 use Rattle.job_walk.specs.declared.stop.Stop.{Stop}
 use Rattle.job_walk.specs.declared.stop.Stop.TheVariants.{Memory, Words, Out, Net, Peer, Files, Refused, Covering}
+use Rattle.job_walk.specs.Verdict.{Verdict, accepted, missing, refused}
 use Rattle.job_walk.specs.JobOf.{PlanAt, PartiesAfter}
 use Rattle.mpc_top.specs.WholeJobs.{WholeJob}
 use Rattle.job_walk.specs.Seen.{planned_view}
 use Rattle.mpc_top.specs.Seen.{parties_view}
-use Rattle.job_walk.specs.Reads.{KeepsFiles, ReadsAs, StopsAt}
+use Rattle.job_walk.specs.Reads.{KeepsFiles, ReadsAs, Meets, StopsAt}
 use Rattle.mpc_top.specs.Outside.{Outside, KeepsNet, KeepsSpawner}
-use Rattle.mpc_top.specs.Due.{Due, text, DueOf}
+use Rattle.mpc_top.specs.Due.{Due, text, DueOf, told_to, IsDue}
 use Rattle.mpc_top.specs.HiddenInputs.{CommandHides}
 use Rattle.mpc_top.specs.Stops.{HasCause, Runs, RunsAlone}
 use Rattle.job_walk.proofs.Steps.{reads_stop, reads_then, reads_end}
@@ -43,6 +44,13 @@ module _ (command : CommandForm) (files files' : FilesReading) (out out' : SinkR
   abbrev RunsAs : Result Unit Stop → Type 0
   RunsAs result = RunsAlone (Some command) files files' out out' result
 
+  -- the command looks at what the files tell
+  abbrev Looks : Type 0
+  Looks = told_to command files.told ≡ files.told
+
+  is_due : (verdict : Verdict Due) → Looks → Meets (DueOf command) files files' verdict → IsDue (Some command) files.told verdict
+  is_due verdict looks meets = subst (λ told. IfSome told (λ m. DueOf command m verdict)) (sym looks) meets
+
   module _ (err err' : SinkReading) (net : NetReading) (spawner : SpawnerReading) where
     abbrev at_start : Outside
     at_start = record { files = files; out = out; err = err; net = net; spawner = spawner }
@@ -50,21 +58,21 @@ module _ (command : CommandForm) (files files' : FilesReading) (out out' : SinkR
     abbrev at_end : Outside
     at_end = record { files = files'; out = out'; err = err'; net = net; spawner = spawner }
 
-    cause_of : (stop : Stop) → out' ≡ out → StopsAt (DueOf command) files files' stop → HasCause (Some command) at_start at_end stop
-    cause_of Memory same cause = (refl, record { files = cause; out = same; net = refl; same_kept = refl; same_spawner = refl })
-    cause_of Words same cause = absurd cause
-    cause_of Out same cause = absurd cause
-    cause_of Net same cause = absurd cause
-    cause_of (Peer names fault) same cause = absurd cause
-    cause_of (Files name) same cause = (record { asked = refl; rose = cause.0; is_missing = cause.1 }, (same, (refl, refl)))
-    cause_of (Refused line) same cause = ((cause.1, tt, cause.0), (same, (refl, refl)))
-    cause_of (Covering line) same cause = ((cause.1, tt, cause.0), (same, (refl, refl)))
+    cause_of : (stop : Stop) → out' ≡ out → Looks → StopsAt (DueOf command) files files' stop → HasCause (Some command) at_start at_end stop
+    cause_of Memory same looks cause = (refl, record { files = cause; out = same; net = refl; same_expects = refl; same_offers = refl; same_kept = refl; same_spawner = refl })
+    cause_of Words same looks cause = absurd cause
+    cause_of Out same looks cause = absurd cause
+    cause_of Net same looks cause = absurd cause
+    cause_of (Peer names fault) same looks cause = absurd cause
+    cause_of (Files name) same looks cause = (record { asked = refl; rose = cause.0; is_missing = λ steady. is_due (missing name.items) looks (cause.1 steady) }, (same, (refl, refl)))
+    cause_of (Refused line) same looks cause = ((is_due (refused 3 line.items) looks cause.1, tt, cause.0), (same, (refl, refl)))
+    cause_of (Covering line) same looks cause = ((is_due (refused 4 line.items) looks cause.1, tt, cause.0), (same, (refl, refl)))
 
   -- a reading that stops, with nothing written
-  pub runs_stop : {C : Type 0} (seen : C → Due) (stop : Stop) (result : Result Unit Stop) → IsErrAnd result (λ e. e ≡ stop) → out' ≡ out
+  pub runs_stop : {C : Type 0} (seen : C → Due) (stop : Stop) (result : Result Unit Stop) → IsErrAnd result (λ e. e ≡ stop) → out' ≡ out → Looks
       → ReadsAs seen (DueOf command) files files' (Err stop) → RunsAs result
-  runs_stop seen stop result is same r = λ err err' net spawner.
-      let p = err_from_is_err_and result is in rw (p.1, p.2) (record { ok = tt; hides = tt; stop = cause_of err err' net spawner stop same r.stop; keeps = r.keeps; keeps_net = net_kept net; keeps_spawner = spawner_kept spawner })
+  runs_stop seen stop result is same looks r = λ err err' net spawner.
+      let p = err_from_is_err_and result is in rw (p.1, p.2) (record { ok = tt; hides = tt; stop = cause_of err err' net spawner stop same looks r.stop; keeps = r.keeps; keeps_net = net_kept net; keeps_spawner = spawner_kept spawner })
 
   -- memory ran out after the reading
   pub runs_memory : (result : Result Unit Stop) → IsErrAnd result (λ e. e ≡ Memory) → out' ≡ out → files'.faults ≡ files.faults → KeepsFiles files files' → RunsAs result
@@ -72,22 +80,32 @@ module _ (command : CommandForm) (files files' : FilesReading) (out out' : SinkR
       let p = err_from_is_err_and result is in rw (p.1, p.2) (record {
         ok = tt;
         hides = tt;
-        stop = (refl, record { files = quiet; out = same; net = refl; same_kept = refl; same_spawner = refl });
+        stop = (refl, record { files = quiet; out = same; net = refl; same_expects = refl; same_offers = refl; same_kept = refl; same_spawner = refl });
         keeps = keeps;
         keeps_net = net_kept net;
         keeps_spawner = spawner_kept spawner;
       })
 
-  -- a text that was read, and then written
-  pub runs_written : (due : List ℕ) (u : Unit {0}) → ReadsAs as_text (DueOf command) files files' (Ok due) → Writes due out out' (Ok u)
+  -- a text that is due, and was written
+  pub writes_due : (due : List ℕ) (u : Unit {0}) → IsDue (Some command) files.told (accepted (text due)) → files'.faults ≡ files.faults → KeepsFiles files files' → Writes due out out' (Ok u)
       → CommandHides (Some command) files.told (λ text. Writes text out out' (Ok tt)) → RunsAs (Ok u)
-  runs_written due u r w hides = λ err err' net spawner. record { ok = (text due, (r.ok, tt, r.quiet), (w, (refl, refl))); hides = hides; stop = tt; keeps = r.keeps; keeps_net = net_kept net; keeps_spawner = spawner_kept spawner }
+  writes_due due u is quiet keeps w hides = λ err err' net spawner. record { ok = (text due, (is, tt, quiet), (w, (refl, refl))); hides = hides; stop = tt; keeps = keeps; keeps_net = net_kept net; keeps_spawner = spawner_kept spawner }
+
+  -- a text that is due, and could not be written
+  pub cuts_due : (due : List ℕ) (failed : Failed) (result : Result Unit Stop) → IsErrAnd result (λ e. e ≡ Out)
+      → IsDue (Some command) files.told (accepted (text due)) → files'.faults ≡ files.faults → KeepsFiles files files' → Writes due out out' (Err failed) → RunsAs result
+  cuts_due due failed result is due_is quiet keeps w = λ err err' net spawner.
+      let p = err_from_is_err_and result is in rw (p.1, p.2) (record { ok = tt; hides = tt; stop = (text due, (due_is, tt, quiet), ((failed, w), (refl, refl))); keeps = keeps; keeps_net = net_kept net; keeps_spawner = spawner_kept spawner })
+
+  -- a text that was read, and then written
+  pub runs_written : (due : List ℕ) (u : Unit {0}) → Looks → ReadsAs as_text (DueOf command) files files' (Ok due) → Writes due out out' (Ok u)
+      → CommandHides (Some command) files.told (λ text. Writes text out out' (Ok tt)) → RunsAs (Ok u)
+  runs_written due u looks r w hides = writes_due due u (is_due (accepted (text due)) looks r.ok) r.quiet r.keeps w hides
 
   -- a text that was read, and could not be written
-  pub runs_cut : (due : List ℕ) (failed : Failed) (result : Result Unit Stop) → IsErrAnd result (λ e. e ≡ Out)
+  pub runs_cut : (due : List ℕ) (failed : Failed) (result : Result Unit Stop) → IsErrAnd result (λ e. e ≡ Out) → Looks
       → ReadsAs as_text (DueOf command) files files' (Ok due) → Writes due out out' (Err failed) → RunsAs result
-  runs_cut due failed result is r w = λ err err' net spawner.
-      let p = err_from_is_err_and result is in rw (p.1, p.2) (record { ok = tt; hides = tt; stop = (text due, (r.ok, tt, r.quiet), ((failed, w), (refl, refl))); keeps = r.keeps; keeps_net = net_kept net; keeps_spawner = spawner_kept spawner })
+  runs_cut due failed result is looks r w = cuts_due due failed result is (is_due (accepted (text due)) looks r.ok) r.quiet r.keeps w
 
 -- ---- what is read for each command
 

@@ -58,7 +58,12 @@ Suits command (accepted (talk asked)) =
     (dir : List ℕ) × (name : List ℕ) × (command ≡ Some (node dir name asked.view))
 Suits command verdict = Unit {0}
 
+-- what the files tell, as far as the command looks at it: a sample reads none, so it is as if there were none
+abbrev pub told_to : CommandForm → Told → Told
+told_to (sample count) told = Some (λ name. None)
+told_to command told = told
+
 -- the verdict that is due, as far as the files tell; words that ask for nothing are refused with the usage
 abbrev pub IsDue : Option CommandForm → Told → Verdict Due → Type 0
 IsDue None told verdict = verdict ≡ refused 2 usage_text
-IsDue (Some command) told verdict = IfSome told (λ files. DueOf command files verdict)
+IsDue (Some command) told verdict = IfSome (told_to command told) (λ files. DueOf command files verdict)

@@ -5,6 +5,7 @@ use Rattle.outer_io.specs.Jobs.{SpawnerReading}
 use Rattle.outer_io.specs.Links.{NetReading}
 use Rattle.outer_io.specs.Sink.{SinkReading}
 
+-- the readings of the files, of `out` and `err`, of the net and of the spawner
 pub record Outside : Type 0 where
   pub files : FilesReading
   pub out : SinkReading

@@ -20,6 +20,7 @@ use Rattle.mpc_top.specs.Due.{Due, text, talk, Suits, IsDue}
 use Rattle.mpc_top.specs.NodeTalks.{NodeAsked, lines_of, Talks, MeetsNobody}
 use Rattle.mpc_top.specs.HiddenInputs.{CommandHides}
 
+-- the text of each cause, for `err`
 abbrev pub text_of : Stop → List ℕ
 text_of Words = usage_text
 text_of (Refused line) = line.items
@@ -44,11 +45,13 @@ CutShort (talk asked) before after =
     (results : Results) × Talks asked.job before after (Ok results)
     × FailsToWrite (lines_of asked results) before.out after.out
 
--- memory ran out: nothing went to `out`, and nothing was said to a peer
+-- memory ran out: nothing went to `out`, nothing was said to a peer, and the net has what it had to offer
 pub record RunsOut (before after : Outside) : Type 0 where
   pub files : after.files.faults ≡ before.files.faults
   pub out : after.out ≡ before.out
   pub net : after.net.faults ≡ before.net.faults
+  pub same_expects : after.net.expects ≡ before.net.expects
+  pub same_offers : after.net.offers ≡ before.net.offers
   pub same_kept : after.net.kept ≡ before.net.kept
   pub same_spawner : after.spawner ≡ before.spawner
 
@@ -65,6 +68,7 @@ module _ (command : Option CommandForm) (before after : Outside) where
     pub rose : Rose before.files.faults after.files.faults
     pub is_missing : IsTrue before.files.steady → IsDue command before.files.told (missing name)
 
+  -- what stands of words, files, `out`, the net and the spawner where this is the cause
   abbrev pub HasCause : Stop → Type 0
   HasCause Words = (command ≡ None) × (after.files ≡ before.files) × LeavesAll before after
   HasCause (Refused line) = Finds (refused 3 line.items) × LeavesAll before after

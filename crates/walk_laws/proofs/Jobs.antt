@@ -103,4 +103,9 @@ command_once (audit dir) files = then_once _ _ (audit_once files dir) (λ count.
 
 pub due_once : (command : Option CommandForm) (files : Contents) → EndsOnce (IsDue command (Some files))
 due_once None files = ends_once _
-due_once (Some command) files = command_once command files
+due_once (Some (sample count)) files = command_once (sample count) (λ name. None)
+due_once (Some (run dir workers view)) files = command_once (run dir workers view) files
+due_once (Some (check dir)) files = command_once (check dir) files
+due_once (Some (pair dir group)) files = command_once (pair dir group) files
+due_once (Some (node dir name view)) files = command_once (node dir name view) files
+due_once (Some (audit dir)) files = command_once (audit dir) files

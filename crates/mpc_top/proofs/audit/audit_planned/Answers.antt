@@ -37,7 +37,7 @@ same_world plan parties copied drawn inputs tapes shown c d s i t =
 
 pub returns-in_err-parties : goal.returns-in_err-parties
 returns-in_err-parties g c = λ before read.
-    runs_stop (audit c.args.dir.now) _ _ _ _ as_text _ _ c.from_residual.ensures.1 refl
+    runs_stop (audit c.args.dir.now) _ _ _ _ as_text _ _ c.from_residual.ensures.1 refl refl
     (parties_stop c.args.dir.now c.args.planned.now _ _ read _ _ c.in_err-parties.ensures.reads)
 
 pub inputs_of-requires-clause-fit : goal.inputs_of-requires-clause-fit
@@ -55,7 +55,7 @@ returns-in_err-tapes g c = λ before read.
 
 pub returns-in_err-text : goal.returns-in_err-text
 returns-in_err-text g c = λ before read.
-    runs_stop (audit c.args.dir.now) _ _ _ _ as_text _ _ c.from_residual-in_err-text.ensures.1 refl
+    runs_stop (audit c.args.dir.now) _ _ _ _ as_text _ _ c.from_residual-in_err-text.ensures.1 refl refl
     (text_stops c.args.dir.now c.args.planned.now _ _ read _ c.in_ok-parties.parties c.in_ok-parties.ensures.reads _ _ c.in_err-text.ensures)
 
 pub judged-requires-clause-whole : goal.judged-requires-clause-whole
@@ -68,7 +68,7 @@ pub returns-in_err-count : goal.returns-in_err-count
 returns-in_err-count g c = λ before read.
     let plan = c.args.planned.now.plan in
     let same = same_world plan c.in_ok-parties.parties.items _ _ c.in_ok-inputs.inputs c.in_ok-tapes.tapes.items _ c.deref.ensures.value c.deref-2.ensures.value c.deref-3.ensures.value c.in_ok-inputs.ensures.same c.in_ok-tapes.ensures in
-    runs_stop (audit c.args.dir.now) _ _ _ _ as_text _ _ c.from_residual-in_err-count.ensures.1 refl
+    runs_stop (audit c.args.dir.now) _ _ _ _ as_text _ _ c.from_residual-in_err-count.ensures.1 refl refl
     (judging_stops c.args.dir.now c.args.planned.now _ _ read _ c.in_ok-parties.parties c.in_ok-parties.ensures.reads _ c.in_ok-text.text c.in_ok-text.ensures _
     (same_judged c.args.planned.now.names _ _ _ _ _ same c.deref-4.ensures.value c.in_err-count.ensures))
 
@@ -76,7 +76,7 @@ pub returns-in_err-write_yes : goal.returns-in_err-write_yes
 returns-in_err-write_yes g c = λ before read.
     let plan = c.args.planned.now.plan in
     let same = same_world plan c.in_ok-parties.parties.items _ _ c.in_ok-inputs.inputs c.in_ok-tapes.tapes.items _ c.deref.ensures.value c.deref-2.ensures.value c.deref-3.ensures.value c.in_ok-inputs.ensures.same c.in_ok-tapes.ensures in
-    runs_cut (audit c.args.dir.now) _ _ _ _ (yes_text c.in_ok-count.count) _ _ c.from_residual-in_err-write_yes.ensures.1
+    runs_cut (audit c.args.dir.now) _ _ _ _ (yes_text c.in_ok-count.count) _ _ c.from_residual-in_err-write_yes.ensures.1 refl
     (yes_read c.args.dir.now c.args.planned.now _ _ read _ c.in_ok-parties.parties c.in_ok-parties.ensures.reads _ c.in_ok-text.text c.in_ok-text.ensures c.in_ok-count.count
     (same_judged c.args.planned.now.names _ _ _ _ _ same c.deref-4.ensures.value c.in_ok-count.ensures)) c.in_err-write_yes.ensures
 
@@ -84,6 +84,6 @@ pub returns : goal.returns
 returns g c = λ before read.
     let plan = c.args.planned.now.plan in
     let same = same_world plan c.in_ok-parties.parties.items _ _ c.in_ok-inputs.inputs c.in_ok-tapes.tapes.items _ c.deref.ensures.value c.deref-2.ensures.value c.deref-3.ensures.value c.in_ok-inputs.ensures.same c.in_ok-tapes.ensures in
-    runs_written (audit c.args.dir.now) _ _ _ _ (yes_text c.in_ok-count.count) _
+    runs_written (audit c.args.dir.now) _ _ _ _ (yes_text c.in_ok-count.count) _ refl
     (yes_read c.args.dir.now c.args.planned.now _ _ read _ c.in_ok-parties.parties c.in_ok-parties.ensures.reads _ c.in_ok-text.text c.in_ok-text.ensures c.in_ok-count.count
     (same_judged c.args.planned.now.names _ _ _ _ _ same c.deref-4.ensures.value c.in_ok-count.ensures)) c.in_ok-write_yes.ensures tt

@@ -7,7 +7,7 @@ use Rattle.mpc_top.proofs.node.run_node.Goals as goal
 
 pub returns-in_err-job : goal.returns-in_err-job
 returns-in_err-job g c = λ err err'.
-    runs_stop (node c.args.dir.now c.args.name.now c.args.view) _ _ _ _ (as_talk c.args.view) _ _ c.from_residual.ensures.1 refl
+    runs_stop (node c.args.dir.now c.args.name.now c.args.view) _ _ _ _ (as_talk c.args.view) _ _ c.from_residual.ensures.1 refl refl
     (node_stops c.args.dir.now c.args.name.now c.args.view _ _ _ c.in_err-job.ensures.reads) err err' _ _
 
 pub returns-in-Err : goal.returns-in-Err

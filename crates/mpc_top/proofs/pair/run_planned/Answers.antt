@@ -38,7 +38,7 @@ of_group asked group parties is there = subst (λ o. IfSome o (λ g. g.parties �
 
 pub returns-in_err-parties : goal.returns-in_err-parties
 returns-in_err-parties g c = λ group before read.
-    runs_stop (pair c.args.dir.now group) _ _ _ _ as_text _ _ c.from_residual.ensures.1 refl
+    runs_stop (pair c.args.dir.now group) _ _ _ _ as_text _ _ c.from_residual.ensures.1 refl refl
     (parties_stop c.args.dir.now group c.args.planned.now _ _ read _ _ c.in_err-parties.ensures.reads)
 
 pub inputs_of-requires-clause-fit : goal.inputs_of-requires-clause-fit
@@ -51,7 +51,7 @@ returns-in_err-inputs g c = λ group before read.
 
 pub returns-in_err-other : goal.returns-in_err-other
 returns-in_err-other g c = λ group before read.
-    runs_stop (pair c.args.dir.now group) _ _ _ _ as_text _ _ c.from_residual-in_err-other.ensures.1 refl
+    runs_stop (pair c.args.dir.now group) _ _ _ _ as_text _ _ c.from_residual-in_err-other.ensures.1 refl refl
     (other_stops c.args.dir.now group c.args.planned.now _ _ read _ c.in_ok-parties.parties c.in_ok-parties.ensures.reads
     _ (same_given c.args.planned.now.plan _ _ _ c.deref.ensures.value c.in_ok-inputs.ensures.same) _ _ c.in_err-other.ensures.reads)
 
@@ -60,7 +60,7 @@ hidden_pair-requires-clause-group g c = of_group _ _ _ c.group_of-group.ensures 
 
 pub returns-in_err-pair : goal.returns-in_err-pair
 returns-in_err-pair g c = λ group before read.
-    runs_stop (pair c.args.dir.now group) _ _ _ _ as_text _ _ c.from_residual-in_err-pair.ensures.1 refl
+    runs_stop (pair c.args.dir.now group) _ _ _ _ as_text _ _ c.from_residual-in_err-pair.ensures.1 refl refl
     (hiding_stops c.args.dir.now group c.args.planned.now _ _ read _ c.in_ok-parties.parties c.in_ok-parties.ensures.reads
     _ (same_given c.args.planned.now.plan _ _ _ c.deref.ensures.value c.in_ok-inputs.ensures.same) _ c.in_ok-other.other c.in_ok-other.ensures.reads _ c.in_err-pair.ensures.walks)
 
@@ -93,7 +93,7 @@ returns-in_err-write_pair g c = λ group before read.
     let v = second_world w other c.group_of-group.result.mask in
     let written = c.in_err-write_pair.ensures w refl (c.run-first.ensures w refl made.first) v refl (c.run-second.ensures v refl made.second) (ap session_words c.deref-2.ensures.value ∙ made.tapes) in
     let same : mask_of planned.group ≡ c.group_of-group.result.mask = ap mask_of c.group_of-group.ensures in
-    runs_cut (pair c.args.dir.now group) _ _ _ _ _ _ _ c.from_residual-in_err-write_pair.ensures.1
+    runs_cut (pair c.args.dir.now group) _ _ _ _ _ _ _ c.from_residual-in_err-write_pair.ensures.1 refl
     (text_read c.args.dir.now group planned _ _ read _ parties c.in_ok-parties.ensures.reads _ (same_given c.args.planned.now.plan _ _ _ c.deref.ensures.value c.in_ok-inputs.ensures.same) _ other c.in_ok-other.ensures.reads _ c.in_ok-pair.ensures.walks)
     (same_text planned.names w other _ _ _ _ _ same written)
 
@@ -111,5 +111,5 @@ returns g c = λ group before read.
     let text = subst (λ k. Written (pair_text planned.names w (second_world w other k) k)) (sym same) written in
     let text_is = text_read c.args.dir.now group planned _ _ read _ parties c.in_ok-parties.ensures.reads _ (same_given c.args.planned.now.plan _ _ _ c.deref.ensures.value c.in_ok-inputs.ensures.same) _ other c.in_ok-other.ensures.reads _ c.in_ok-pair.ensures.walks in
     let paired = pair_read c.args.dir.now group planned _ _ read _ parties c.in_ok-parties.ensures.reads _ (same_given c.args.planned.now.plan _ _ _ c.deref.ensures.value c.in_ok-inputs.ensures.same) _ other c.in_ok-other.ensures.reads _ c.in_ok-pair.ensures.walks in
-    runs_written (pair c.args.dir.now group) _ _ _ _ _ _ text_is text
+    runs_written (pair c.args.dir.now group) _ _ _ _ _ _ refl text_is text
     (pair_hides Written c.args.dir.now group _ _ _ _ paired (subst (CanHide w other) (sym same) made.hides) text)

@@ -7,7 +7,7 @@ use Rattle.mpc_top.proofs.run.run_job.Goals as goal
 pub returns-in_err-planned : goal.returns-in_err-planned
 returns-in_err-planned g c =
     let view = text_view c.args.view in
-    runs_stop (run c.args.dir.now c.args.workers view) _ _ _ _ as_text _ _ c.from_residual.ensures.1 refl
+    runs_stop (run c.args.dir.now c.args.workers view) _ _ _ _ as_text _ _ c.from_residual.ensures.1 refl refl
     (run_stops c.args.dir.now _ _ c.args.workers view _ c.in_err-planned.ensures.reads)
 
 pub returns : goal.returns

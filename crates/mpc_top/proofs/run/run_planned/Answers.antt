@@ -12,7 +12,7 @@ use Rattle.mpc_top.proofs.run.run_planned.Goals as goal
 
 pub returns-in_err-parties : goal.returns-in_err-parties
 returns-in_err-parties g c = λ view before read.
-    runs_stop (run c.args.dir.now c.args.workers view) _ _ _ _ as_text _ _ c.from_residual.ensures.1 refl
+    runs_stop (run c.args.dir.now c.args.workers view) _ _ _ _ as_text _ _ c.from_residual.ensures.1 refl refl
     (run_stops_later c.args.dir.now c.args.workers view c.args.planned.now _ _ _ read _ c.in_err-parties.ensures.reads)
 
 pub returns-in_err-ready : goal.returns-in_err-ready
@@ -30,7 +30,7 @@ returns-in_err-write_run g c = λ view before reading.
     let planned = c.args.planned.now in
     let read = run_read c.args.dir.now c.args.workers view planned _ _ _ reading c.in_ok-parties.parties c.in_ok-parties.ensures.reads in
     let w = world_of planned.plan (parties_view c.in_ok-parties.parties) in
-    runs_cut (run c.args.dir.now c.args.workers view) _ _ _ _ (run_text planned.names w planned.group) _ _ c.from_residual-in_err-write_run.ensures.1 read
+    runs_cut (run c.args.dir.now c.args.workers view) _ _ _ _ (run_text planned.names w planned.group) _ _ c.from_residual-in_err-write_run.ensures.1 refl read
     (c.in_err-write_run.ensures w refl (c.run-done.ensures w refl c.in_ok-ready.ensures.ready))
 
 pub returns : goal.returns
@@ -40,6 +40,6 @@ returns g c = λ view before reading.
     let read = run_read c.args.dir.now c.args.workers view planned _ _ _ reading parties c.in_ok-parties.ensures.reads in
     let w = world_of planned.plan (parties_view parties) in
     let written = c.in_ok-write_run.ensures w refl (c.run-done.ensures w refl c.in_ok-ready.ensures.ready) in
-    runs_written (run c.args.dir.now c.args.workers view) _ _ _ _ (run_text planned.names w planned.group) _ read written
+    runs_written (run c.args.dir.now c.args.workers view) _ _ _ _ (run_text planned.names w planned.group) _ refl read written
     (run_hides (λ (text : List ℕ). Writes text (g.O.Sink.reading c.args.out.now) (g.O.Sink.reading c.write_run.new.sink) (Ok tt)) c.args.dir.now c.args.workers view planned parties _ _ c.in_ok-ready.ensures.ready.whole
     (job_read c.args.dir.now view planned _ _ _ reading parties c.in_ok-parties.ensures.reads) written)

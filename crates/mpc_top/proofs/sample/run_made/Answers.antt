@@ -1,5 +1,5 @@
-use Rattle.std.proofs.Common.{◌≡◌, ℕ, ◌<◌, List, Result, Ok, refl, sym, ap, ap₂, ◌∙◌, subst, length, arith}
-use Rattle.outer_io.specs.Files.{FilesReading}
+use Rattle.std.proofs.Common.{◌≡◌, ℕ, ◌<◌, List, Result, Some, refl, sym, ap, ap₂, ◌∙◌, subst, length, arith}
+use Rattle.outer_io.specs.Files.{Told}
 use Rattle.outer_io.specs.Sink.{SinkReading, Writes}
 use Rattle.outer_io.specs.declared.sink.Failed.{Failed}
 use Rattle.job_plan.specs.Plans.{Plan}
@@ -8,16 +8,16 @@ use Rattle.desk_laws.specs.Pieces.{world_of_pieces}
 use Rattle.command_words.specs.Commands.{sample}
 use Rattle.output_text.specs.SampleText.{sample_text}
 use Rattle.sample_maker.specs.Samples.{sample_names, sample_plan, sample_inputs, sample_pieces, sample_job}
-use Rattle.mpc_top.specs.Due.{DueOf}
-use Rattle.job_walk.specs.Reads.{ReadsAs}
-use Rattle.job_walk.proofs.Steps.{keeps_now, reads_end}
-use Rattle.mpc_top.proofs.Runs.{as_text, runs_memory, runs_written, runs_cut}
+use Rattle.mpc_top.specs.Due.{text, DueOf, IsDue}
+use Rattle.job_walk.specs.Verdict.{accepted}
+use Rattle.job_walk.proofs.Steps.{keeps_now}
+use Rattle.mpc_top.proofs.Runs.{runs_memory, writes_due, cuts_due}
 use Rattle.mpc_top.proofs.sample.run_made.Goals as goal
 
--- a sample reads no file
-due : (count : ℕ) (now : FilesReading) → ReadsAs as_text (DueOf (sample count)) now now (Ok (sample_text sample_names (sample_job count) count))
+-- whatever the files tell
+is_due : (count : ℕ) (told : Told) → IsDue (Some (sample count)) told (accepted (text (sample_text sample_names (sample_job count) count)))
 unfolding DueOf
-due count now = reads_end as_text now (sample_text sample_names (sample_job count) count)
+is_due count told = refl
 
 -- what was made is the job of the number
 is_job : (count : ℕ) (plan : Plan) (inputs : List (List (List ℕ))) (pieces : List (List ℕ)) → plan ≡ sample_plan count → inputs ≡ sample_inputs count → pieces ≡ sample_pieces count
@@ -47,13 +47,13 @@ pub returns-in_err-write_sample : goal.returns-in_err-write_sample
 returns-in_err-write_sample g c = λ files.
     let w = world_of_pieces c.args.plan.now c.args.inputs.now c.args.tapes.items in
     let same = is_job c.args.count c.args.plan.now c.args.inputs.now c.args.tapes.items c.requires.plan c.requires.inputs c.requires.tapes in
-    runs_cut (sample c.args.count) _ _ _ _ _ _ _ c.from_residual-in_err-write_sample.ensures.1 (due c.args.count _)
+    cuts_due (sample c.args.count) _ _ _ _ _ _ _ c.from_residual-in_err-write_sample.ensures.1 (is_due c.args.count _) refl (keeps_now _)
     (due_text c.args.count _ w _ _ _ c.requires.names same (c.in_err-write_sample.ensures w refl (c.run-done.ensures w refl c.in_ok-ready.ensures.ready)))
 
 pub returns : goal.returns
 returns g c = λ files.
     let w = world_of_pieces c.args.plan.now c.args.inputs.now c.args.tapes.items in
     let same = is_job c.args.count c.args.plan.now c.args.inputs.now c.args.tapes.items c.requires.plan c.requires.inputs c.requires.tapes in
-    runs_written (sample c.args.count) _ _ _ _ _ _ (due c.args.count _)
+    writes_due (sample c.args.count) _ _ _ _ _ _ (is_due c.args.count _) refl (keeps_now _)
     (due_text c.args.count _ w _ _ _ c.requires.names same (c.in_ok-write_sample.ensures w refl (c.run-done.ensures w refl c.in_ok-ready.ensures.ready)))
     tt
