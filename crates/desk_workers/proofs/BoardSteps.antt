@@ -84,9 +84,9 @@ module _ (board : BoardModel Promised) (s t : Sitting Promised) where
 
   take_keeps : (list : Promised → List ℕ) (n : ℕ) (r : Option ℕ) → HasTaken list board s t n r → Kept s t
   take_keeps list n None h = record {
-    grows = λ j y known. subst (λ v. Knows v.seen j y) (sym h.1) known;
-    seats = ap (λ v. v.seats) h.1;
-    out = ap (λ v. v.out) h.1;
+    grows = λ j y known. subst (λ v. Knows v.seen j y) (sym h.1.2) known;
+    seats = ap (λ v. v.seats) h.1.2;
+    out = ap (λ v. v.out) h.1.2;
   }
   take_keeps list n (Some x) h = record {
     grows = λ j y known. subst (λ v. Knows v.seen j y) (sym h.1) (inr known);

@@ -13,8 +13,7 @@ use Rattle.message_board.specs.declared.steps.View.{View}
 use Rattle.message_board.specs.declared.cells.Posted.TheVariants.{Done, Occupied}
 use Rattle.message_board.specs.Pairs.{Knows, Has, times, total_over}
 use Rattle.message_board.specs.Words.{apart, cell_words, full_word, flag, flag_bit}
-use Rattle.message_board.specs.Rule as rule
-use Rattle.message_board.specs.Rule.{IsBoard, IsHome, IsOut, IsTold, Stand, cell, stores, unstores, finds, unfinds, posts, looks, folds, spent, less_one, one_seat, takes_out, others, brings_home, stored_step, posted_step, found_step, taken_step, out_step, home_step}
+use Rattle.message_board.specs.Rule.{IsBoard, IsHome, IsOut, IsTold, Stand, cell, stores, unstores, finds, unfinds, posts, looks, sees, folds, spent, less_one, one_seat, takes_out, others, brings_home, stored_step, posted_step, found_step, taken_step, out_step, home_step}
 use Rattle.message_board.proofs.FlagBits.{flag_set, flag_else, flag_bit_at, flag_cases}
 use Rattle.message_board.proofs.Pairs.{knows_split, knows_left, knows_right, times_append, total_set, total_snoc, total_at, total_none, times_else, times_more, total_two, length_set, set_there}
 
@@ -321,7 +320,7 @@ module _ {W T : Type 0} (list : W → List ℕ) (good : W → T → ℕ → Type
         let t = h.told id me.0 at in
         let full = t.2 p m k known word one inside in
         let value = full_value s h k inside full in
-        let v' = unfinds (rule.takes me.0 k (Some n)) in (
+        let v' = unfinds (sees me.0 k n) in (
           v',
           keeps,
           tt,
@@ -333,7 +332,7 @@ module _ {W T : Type 0} (list : W → List ℕ) (good : W → T → ℕ → Type
           λ ab j ea ek. let a : k ≡ j = omega arith in let b : ab ≡ about = some_same ab about (sym ea ∙ mine) in (
             refl,
             (λ i. slice_index (list (b i).world) (sym a i)) ∙ sym value,
-            (λ i. unfinds (rule.takes me.0 (a i) (Some n))),
+            (λ i. unfinds (sees me.0 (a i) n)),
             (λ x known. let c = t.0 j x known in sym c.2 ∙ ap (cell s.words) (sym a)),
           ),
         )
@@ -414,7 +413,7 @@ module _ {W T : Type 0} (list : W → List ℕ) (good : W → T → ℕ → Type
             → (u : V) × (a : Act (Option T)) × Valid s.homes me.1 a × R (stepped s (tn i + 1) (cell s.words (tn i)) id me.1 u a) × out_step list good posted (step slots (tn i + 1) 1 0 none) me (cell s.words (tn i)) (u, carried_after me.1 a)
         miss s h here at not (inl home) = absurd (not home.0)
         miss s h here at not (inr away) =
-            let w = looks me.0 (length words + i) in (
+            let w = looks me.0 (length words + i) (cell s.words (tn i)) in (
               w,
               keeps,
               tt,
@@ -422,7 +421,7 @@ module _ {W T : Type 0} (list : W → List ℕ) (good : W → T → ℕ → Type
               λ ab j same e.
                   let b : ab ≡ about = same_about s h at ab same in
                   let q : i ≡ j = (let l : length (list ab.world) ≡ length words = ap (λ (a : About W). length (list a.world)) b in omega arith) in
-                  inr (away.0, ap (looks me.0) (let l : length (list ab.world) ≡ length words = ap (λ (a : About W). length (list a.world)) b in let z : length words + i ≡ length (list ab.world) + j = omega arith in z), refl, λ all. subst (λ k. Has me.0.out k) q (alone s h at away (all ∙ ap (λ (a : About W). a.seats) b))),
+                  inr (away.0, ap (λ z. looks me.0 z (cell s.words (tn i))) (let l : length (list ab.world) ≡ length words = ap (λ (a : About W). length (list a.world)) b in let z : length words + i ≡ length (list ab.world) + j = omega arith in z), refl, λ all. subst (λ k. Has me.0.out k) q (alone s h at away (all ∙ ap (λ (a : About W). a.seats) b))),
             )
 
     pub outs_keep_at : (p : ℕ) → p ≡ tn i + 1 → Allows R slots id me p (λ n. either (eqb n 1) 0 n) (out_step list good posted (step slots p 1 0 none) me)

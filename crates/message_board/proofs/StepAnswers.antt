@@ -41,11 +41,11 @@ module _ {W T : Type 0} (list : W → List ℕ) (good : W → T → ℕ → Type
   abbrev OutTold : Me (Option T) (View W) → ℕ → ℕ → Me (Option T) (View W) → Type 0
   OutTold me i n me' =
       ((n ≡ 1) × ((x : T) × good about.world x i × (me'.0 ≡ takes_out me.0 i (posted about.world x)) × (me'.1 ≡ (apart * i, Some x) ∷ me.1)))
-      ⊎ ((n ≡ 0) × (me'.0 ≡ looks me.0 (length (list about.world) + i)) × (me'.1 ≡ me.1) × (me.0.seats ≡ about.seats → Has me.0.out i))
+      ⊎ ((n ≡ 0) × (me'.0 ≡ looks me.0 (length (list about.world) + i) n) × (me'.1 ≡ me.1) × (me.0.seats ≡ about.seats → Has me.0.out i))
 
-  pub none_told : (me me' : Me (Option T) (View W)) (i n : ℕ) → OutTold me i n me' → n ≡ 0 → (me'.0 ≡ looks me.0 (length (list about.world) + i)) × (me'.1 ≡ me.1) × (me.0.seats ≡ about.seats → Has me.0.out i)
+  pub none_told : (me me' : Me (Option T) (View W)) (i n : ℕ) → OutTold me i n me' → n ≡ 0 → (me'.0 ≡ looks me.0 (length (list about.world) + i) 0) × (me'.1 ≡ me.1) × (me.0.seats ≡ about.seats → Has me.0.out i)
   none_told me me' i n (inl t) z = absurd (let a = t.0 in omega arith)
-  none_told me me' i n (inr t) z = (t.1, t.2, t.3)
+  none_told me me' i n (inr t) z = (t.1 ∙ ap (looks me.0 (length (list about.world) + i)) z, t.2, t.3)
 
   pub some_told : (me me' : Me (Option T) (View W)) (i n : ℕ) → OutTold me i n me' → n ≢ 0 → (x : T) × good about.world x i × (me'.0 ≡ takes_out me.0 i (posted about.world x)) × (me'.1 ≡ (apart * i, Some x) ∷ me.1)
   some_told me me' i n (inl t) z = t.1

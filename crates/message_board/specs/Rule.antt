@@ -17,7 +17,7 @@ abbrev pub cell : List ℕ → ℕ → ℕ
 cell words k = slice_index words (k + 1)
 
 -- all but the first
-abbrev pub others : List ℕ → List ℕ
+abbrev pub others : {X : Type 0} → List X → List X
 others [] = []
 others (x ∷ xs) = xs
 
@@ -37,7 +37,7 @@ module _ {W : Type 0} where
 
   -- after full word p was found to be n, and after that was used
   abbrev pub finds : View W → ℕ → ℕ → View W
-  finds v p n = record v { looked = p ∷ v.looked; found = (p, n) ∷ v.found }
+  finds v p n = record v { looked = (p, n) ∷ v.looked; found = (p, n) ∷ v.found }
 
   abbrev pub unfinds : View W → View W
   unfinds v = record v { looked = others v.looked; found = [] }
@@ -51,14 +51,18 @@ module _ {W : Type 0} where
   posts v k w Done = record v { seen = (k, w) ∷ v.seen; mine = k ∷ v.mine }
   posts v k w (Occupied x) = record v { seen = (k, x) ∷ v.seen }
 
-  -- after a look at a word that told nothing
-  abbrev pub looks : View W → ℕ → View W
-  looks v k = record v { looked = k ∷ v.looked }
+  -- after a look in vain at word p, which was found to be n
+  abbrev pub looks : View W → ℕ → ℕ → View W
+  looks v p n = record v { looked = (p, n) ∷ v.looked }
 
-  -- after a take
-  abbrev pub takes : View W → ℕ → Option ℕ → View W
-  takes v k (Some x) = record v { seen = (k, x) ∷ v.seen }
-  takes v k None = looks v (full_word k)
+  -- after the word x of cell k was found
+  abbrev pub sees : View W → ℕ → ℕ → View W
+  sees v k x = record v { seen = (k, x) ∷ v.seen }
+
+  -- a take of cell k, by its answer: its word, or that its flag is 0 in the full word that was found
+  abbrev pub TakesAs : View W → ℕ → Option ℕ → View W → Type 0
+  TakesAs before k (Some x) after = after ≡ sees before k x
+  TakesAs before k None after = (n : ℕ) × (flag k n ≡ 0) × (after ≡ looks before (full_word k) n)
 
   -- after the fold of another seat, which holds no slot
   abbrev pub folds : View W → View W → View W
@@ -175,7 +179,7 @@ module _ {W T : Type 0} (list : W → List ℕ) (good : W → T → ℕ → Type
   abbrev pub taken_step : Step (Option T) → Sat → ℕ → Sat → Type 0
   taken_step st me n me' =
       (about : About W) (k : ℕ) → me.0.about ≡ Some about → st.word ≡ k + 1
-      → (me'.1 ≡ me.1) × (slice_index (list about.world) k ≡ n) × (me'.0 ≡ unfinds (takes me.0 k (Some n)))
+      → (me'.1 ≡ me.1) × (slice_index (list about.world) k ≡ n) × (me'.0 ≡ unfinds (sees me.0 k n))
       × ((x : ℕ) → Knows me.0.seen k x → x ≡ n)
 
   -- the compare-and-exchange of a turn word, 1 to 0. Where it was 1 the item is the seat's, and good for the slot; else
@@ -185,7 +189,7 @@ module _ {W T : Type 0} (list : W → List ℕ) (good : W → T → ℕ → Type
       (about : About W) (i : ℕ) → me.0.about ≡ Some about → st.word ≡ turn about i + 1
       → ((n ≡ 1) × ((x : T) × good about.world x i × (me'.0 ≡ takes_out me.0 i (posted about.world x))
       × (me'.1 ≡ (apart * i, Some x) ∷ me.1)))
-      ⊎ ((n ≡ 0) × (me'.0 ≡ looks me.0 (length (list about.world) + i)) × (me'.1 ≡ me.1)
+      ⊎ ((n ≡ 0) × (me'.0 ≡ looks me.0 (length (list about.world) + i) n) × (me'.1 ≡ me.1)
       × (me.0.seats ≡ about.seats → Has me.0.out i))
 
   -- the store of 1 into a turn word, as the item comes home

@@ -11,7 +11,7 @@ use Rattle.message_board.specs.declared.cells.Posted.TheVariants.{Done, Occupied
 use Rattle.message_board.specs.Pairs.{Knows, Has, times}
 use Rattle.message_board.specs.Plain.{plain_cell}
 use Rattle.message_board.specs.Words.{apart, cell_words}
-use Rattle.message_board.specs.Rule.{newcomer, posts, takes, looks, takes_out}
+use Rattle.message_board.specs.Rule.{newcomer, posts, TakesAs, looks, takes_out}
 
 -- how many slots a table has
 abbrev pub slots_of : TableId → ℕ
@@ -42,7 +42,7 @@ module _ {W : Type 0} where
   view_coded c =
       coded_via (coded× (coded_option (about_coded c))
       (coded× coded_ℕ (coded× (coded_list (coded× coded_ℕ coded_ℕ))
-      (coded× (coded_list coded_ℕ) (coded× (coded_list coded_ℕ)
+      (coded× (coded_list coded_ℕ) (coded× (coded_list (coded× coded_ℕ coded_ℕ))
       (coded× (coded_list coded_ℕ) (coded× (coded_list (coded× coded_ℕ coded_ℕ)) (coded_list coded_ℕ))))))))
       (λ (v : View W). (v.about, (v.seats, (v.seen, (v.mine, (v.looked, (v.stored, (v.found, v.out))))))))
       (λ x y e i. record {
@@ -122,11 +122,11 @@ abbrev pub HasPosted : {W : Type 0} → BoardModel W → Sitting W → Sitting W
 HasPosted board before after n w r = IsSeatOf board after × (after.view ≡ posts before.view n w r) × IsPostAnswer w r
 
 -- what a take of number n did to a seat, by its answer: the promised word, and the one that the seat knew, if it knew
--- one
+-- one; or a full word was found in which the cell's flag is 0
 abbrev pub HasTaken : {W : Type 0} → (W → List ℕ) → BoardModel W → Sitting W → Sitting W → ℕ → Option ℕ → Type 0
 HasTaken list board before after n r =
     IsSeatOf board after
-    × (after.view ≡ takes before.view n r)
+    × TakesAs before.view n r after.view
     × IfSome r (λ w. slice_get (list board.about.world) n ≡ Some w)
     × ((w : ℕ) → Knows before.view.seen n w → r ≡ Some w)
 
@@ -136,10 +136,10 @@ abbrev pub TookOut : {W T : Type 0} → (W → T → ℕ → Type 0) → (W → 
 TookOut good posted world before after slot x =
     good world x slot × (after.view ≡ takes_out before.view slot (posted world x))
 
--- a seat found a slot out, and holds it itself if it stands for all seats
+-- a seat found the turn word of a slot to be 0, and holds the slot itself if it stands for all seats
 abbrev pub FoundOut : {W : Type 0} → (W → List ℕ) → BoardModel W → Sitting W → Sitting W → ℕ → Type 0
 FoundOut list board before after slot =
-    (after.view ≡ looks before.view (length (list board.about.world) + slot))
+    (after.view ≡ looks before.view (length (list board.about.world) + slot) 0)
     × (before.view.seats ≡ board.about.seats → Has before.view.out slot)
 
 -- each word is below 2 to the k

@@ -79,7 +79,7 @@ impl<W: Promise, T: SlotItem<W>> Board<W, T> {
     ghost use Rattle.message_board.specs.Pairs.{Knows, Grows, times};
     ghost use Rattle.message_board.specs.Plain.{plain_cell};
     ghost use Rattle.message_board.specs.Words.{apart, cell_words};
-    ghost use Rattle.message_board.specs.Rule.{IsBoard, posts, takes, brings_home, others, folds};
+    ghost use Rattle.message_board.specs.Rule.{IsBoard, posts, TakesAs, brings_home, others, folds};
     ghost use Rattle.message_board.specs.Rule.{less_one, one_seat, newcomer};
     ghost use Rattle.message_board.specs.Seats.{IsBoardOf, slots_of, IsSeatOf, IsFreeSeatOf, IsPostAnswer};
     ghost use Rattle.message_board.specs.Seats.{TookOut, FoundOut, AreFresh, AreSeatsOf, CanClose};
@@ -236,13 +236,14 @@ impl<W: Promise, T: SlotItem<W>> Board<W, T> {
         posted_of(flag_of(number, found), word)
     }
 
-    /// The word of a cell, or nothing where it was empty. A cell that the seat knows is never empty.
+    /// The word of a cell, or None where its flag was 0 in the full word that was found. A cell that the seat knows is
+    /// never empty.
     #[inline(always)]
     pub fn take(&self, seat: &mut BoardSeat<W, T>, number: u32) -> Option<u64>
         requires seat { IsSeatOf self.now seat.old }
         requires inside { number < length (W.list self.now.about.world) }
         ensures seat { IsSeatOf self.now seat.new }
-        ensures view { seat.new.view ≡ takes seat.old.view number result }
+        ensures view { TakesAs seat.old.view number result seat.new.view }
         ensures promised { IfSome result (λ w. slice_get (W.list self.now.about.world) number ≡ Some w) }
         ensures known { (w : ℕ) → Knows seat.old.view.seen number w → result ≡ Some w }
     {

@@ -35,9 +35,9 @@ pub struct View<W> {
     pub seen: LinkedList<(u32, u64)>,
     // The numbers of the cells that its own posts filled.
     pub mine: LinkedList<u32>,
-    // What it looked at in vain: by number the full words in which a flag was 0, and the slots that were out, whose
-    // numbers are counted on from the number of cells.
-    pub looked: LinkedList<u32>,
+    // What it looked at in vain, by number, each with what it found there: the full words in which a flag was 0, and the
+    // turn words of slots that were out, whose numbers are counted on from the number of cells.
+    pub looked: LinkedList<(u32, u64)>,
     // Within a post, the number whose value it has stored.
     pub stored: LinkedList<u32>,
     // Within a take, the number of the full word that it loaded, and what it found there.

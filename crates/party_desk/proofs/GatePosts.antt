@@ -6,7 +6,7 @@ use Rattle.job_plan.specs.Plans.{Plan, slots}
 use Rattle.message_board.specs.declared.cells.Posted.{Posted}
 use Rattle.message_board.specs.declared.steps.View.{View}
 use Rattle.message_board.specs.Pairs.{Knows}
-use Rattle.message_board.specs.Rule.{posts, takes}
+use Rattle.message_board.specs.Rule.{posts, looks, sees}
 use Rattle.message_board.specs.Seats.{Sitting, IsPostAnswer}
 use Rattle.party_program.specs.declared.place.Place.{Place}
 use Rattle.party_program.specs.declared.program.Instruction.{Instruction}
@@ -181,7 +181,7 @@ module _ {W : Type 0} where
   -- ---- one take
 
   -- a look at a cell
-  module _ (l : Given) (s t u : Sitting W) (d e : Desk) (k : ℕ) (view : u.view ≡ takes t.view k None) (so_far : Walks l s d t e) where
+  module _ (l : Given) (s t u : Sitting W) (d e : Desk) (k n : ℕ) (view : u.view ≡ looks t.view k n) (so_far : Walks l s d t e) where
     pub look_walks : Walks l s d u e
     look_walks = record {
       desk = so_far.desk;
@@ -193,7 +193,7 @@ module _ {W : Type 0} where
     }
 
   module _ (l : Given) (s t : Sitting W) (e f : Desk) (h : IsDesk l e) (n i w : ℕ) (is : instruction_at l e ≡ Take n i) (word : w ≡ l.got n)
-      (view : t.view ≡ takes s.view n (Some w)) (a : Advanced l.plan w (Take n i) e f) where
+      (view : t.view ≡ sees s.view n w) (a : Advanced l.plan w (Take n i) e f) where
     pub take_walks : Walks l s e t f
     take_walks =
         let more = a.position in

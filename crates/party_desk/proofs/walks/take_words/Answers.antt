@@ -100,7 +100,7 @@ returns-in-Take-matches-clause-walks g c given some may =
     elim c.match-product_step.branch [
       | in-Take+in_default-take w ↦
           subst (λ z. Walks given c.args.seat.now first z e) (sym w.seat-is)
-          (look_walks given c.args.seat.now c.loop-number.seat w.take.new.seat first e w.in-Take.number w.in_default-take.ensures.view so_far)
+          (look_walks given c.args.seat.now c.loop-number.seat w.take.new.seat first e _ _ w.in_default-take.ensures.view.2 so_far)
       | in_default w ↦ subst (λ z. Walks given c.args.seat.now first z e) (sym w.seat-is) so_far
     ]
 
@@ -123,7 +123,7 @@ returns-in_default-matches-clause-walks g c given some may =
     elim c.match-product_step.branch [
       | in-Take+in_default-take w ↦
           subst (λ z. Walks given c.args.seat.now first z e) (sym w.seat-is)
-          (look_walks given c.args.seat.now c.loop-number.seat w.take.new.seat first e w.in-Take.number w.in_default-take.ensures.view so_far)
+          (look_walks given c.args.seat.now c.loop-number.seat w.take.new.seat first e _ _ w.in_default-take.ensures.view.2 so_far)
       | in_default w ↦ subst (λ z. Walks given c.args.seat.now first z e) (sym w.seat-is) so_far
     ]
 
@@ -137,7 +137,7 @@ returns-in-Take-matches-clause-looked g c given some may product n i w is known 
           let both : Take b.in-Take.number b.in-Take.share ≡ Take n i = sym b.in-Take.is ∙ next in
           let number : n ≡ b.in-Take.number = cc in
           let before : Knows c.loop-number.seat.view.seen n w =
-          subst (λ (v : View g.row.W.Denot). Knows v.seen n w) b.in_default-take.ensures.view (subst (λ (z : Sitting g.row.W.Denot). Knows z.view.seen n w) b.seat-is known) in
+          subst (λ (v : View g.row.W.Denot). Knows v.seen n w) b.in_default-take.ensures.view.2 (subst (λ (z : Sitting g.row.W.Denot). Knows z.view.seen n w) b.seat-is known) in
           b.in_default-take.not-Some w (b.take.ensures.known w (subst (λ z. Knows c.loop-number.seat.view.seen z w) number before))
       | in_default b ↦ b.in_default.not-Take n i next
     ]
@@ -152,7 +152,7 @@ returns-in_default-matches-clause-looked g c given some may product n i w is kno
           let both : Take b.in-Take.number b.in-Take.share ≡ Take n i = sym b.in-Take.is ∙ next in
           let number : n ≡ b.in-Take.number = cc in
           let before : Knows c.loop-number.seat.view.seen n w =
-          subst (λ (v : View g.row.W.Denot). Knows v.seen n w) b.in_default-take.ensures.view (subst (λ (z : Sitting g.row.W.Denot). Knows z.view.seen n w) b.seat-is known) in
+          subst (λ (v : View g.row.W.Denot). Knows v.seen n w) b.in_default-take.ensures.view.2 (subst (λ (z : Sitting g.row.W.Denot). Knows z.view.seen n w) b.seat-is known) in
           b.in_default-take.not-Some w (b.take.ensures.known w (subst (λ z. Knows c.loop-number.seat.view.seen z w) number before))
       | in_default b ↦ b.in_default.not-Take n i next
     ]

@@ -1,6 +1,6 @@
 use Rattle.std.proofs.Common.{◌≡◌, ◌<◌, length, Some, ap, sym, refl, ◌∙◌, subst, inl, arith}
 use Rattle.message_board.specs.Pairs.{Knows}
-use Rattle.message_board.specs.Rule.{takes, looks, unfinds, settled}
+use Rattle.message_board.specs.Rule.{sees, looks, unfinds, settled}
 use Rattle.message_board.specs.Words.{blanks, full_word}
 use Rattle.message_board.proofs.RuleSteps.{finds_keep_at, takes_keep}
 use Rattle.message_board.proofs.FlagBits.{full_at, flag_full}
@@ -30,7 +30,7 @@ returns-then-flag-eq0-clause-seat g c =
 pub returns-then-flag-eq0-clause-view : goal.returns-then-flag-eq0-clause-view
 returns-then-flag-eq0-clause-view g c =
     let t = c.load-full.ensures.2 c.args.self.now.about c.args.number (ap (λ s. s.view.about) c.seat.view_is ∙ c.requires.seat.1) (full_at (c.self.invariant.1 ∙ ap (λ p. length (g.W.Promise.list p.about.world)) c.self.view_is) c.full_word_of.ensures) in
-    ap settled t.1 ∙ ap (λ s. looks s.view (full_word c.args.number)) c.seat.view_is
+    (c.load-full.result, sym c.flag_of-flag.ensures ∙ c.if-flag-eq0.true, ap settled t.1 ∙ ap (λ s. looks s.view (full_word c.args.number) c.load-full.result) c.seat.view_is)
 
 pub returns-then-flag-eq0-clause-known : goal.returns-then-flag-eq0-clause-known
 returns-then-flag-eq0-clause-known g c = λ w known.
@@ -53,7 +53,7 @@ pub invariant_of-seat-2 : goal.invariant_of-seat-2
 invariant_of-seat-2 g c =
     let t = c.load-full.ensures.2 c.args.self.now.about c.args.number (ap (λ s. s.view.about) c.seat.view_is ∙ c.requires.seat.1) (full_at (c.self.invariant.1 ∙ ap (λ p. length (g.W.Promise.list p.about.world)) c.self.view_is) c.full_word_of.ensures) in
     let u = c.load-value.ensures.2 c.args.self.now.about c.args.number (ap (λ v. v.about) t.1 ∙ ap (λ s. s.view.about) c.seat.view_is ∙ c.requires.seat.1) refl in
-    let f = u.2 ∙ ap (λ v. unfinds (takes v c.args.number (Some c.load-value.result))) t.1 in
+    let f = u.2 ∙ ap (λ v. unfinds (sees v c.args.number c.load-value.result)) t.1 in
     (u.0 ∙ t.0 ∙ c.seat.invariant.0 ∙ ap (λ v. blanks v.out) (sym f), subst (λ v. 0 < v.seats) (sym f) c.seat.invariant.1)
 
 pub returns-clause-seat : goal.returns-clause-seat
@@ -67,7 +67,7 @@ pub returns-clause-view : goal.returns-clause-view
 returns-clause-view g c =
     let t = c.load-full.ensures.2 c.args.self.now.about c.args.number (ap (λ s. s.view.about) c.seat.view_is ∙ c.requires.seat.1) (full_at (c.self.invariant.1 ∙ ap (λ p. length (g.W.Promise.list p.about.world)) c.self.view_is) c.full_word_of.ensures) in
     let u = c.load-value.ensures.2 c.args.self.now.about c.args.number (ap (λ v. v.about) t.1 ∙ ap (λ s. s.view.about) c.seat.view_is ∙ c.requires.seat.1) refl in
-    ap settled u.2 ∙ ap (λ v. settled (unfinds (takes v c.args.number (Some c.load-value.result)))) t.1 ∙ ap (λ s. takes s.view c.args.number (Some c.load-value.result)) c.seat.view_is
+    ap settled u.2 ∙ ap (λ v. settled (unfinds (sees v c.args.number c.load-value.result))) t.1 ∙ ap (λ s. sees s.view c.args.number c.load-value.result) c.seat.view_is
 
 pub returns-clause-promised : goal.returns-clause-promised
 returns-clause-promised g c =
