@@ -3,3 +3,4 @@ pub mod ToldCauses
 pub mod Runs
 pub mod BrokenOffRuns
 pub mod ExpectedMessages
+pub mod ShutInlets

@@ -4,13 +4,15 @@ use Rattle.std.specs.Prelude.{slice_index, slice_index_or, Result, Ok, Err}
 use Rattle.std.specs.List.{AllByRecursion}
 use Rattle.std.proofs.Math.Seq.{take-length}
 use Rattle.job_plan.specs.declared.key.Key.{Key}
-use Rattle.job_plan.specs.Numbers.{no_key}
+use Rattle.job_plan.specs.Numbers.{no_key, number}
+use Rattle.job_plan.proofs.DistinctMessages.{numbers_are_inverse}
 use Rattle.outer_io.specs.Inlet.{InletReading, ahead}
 use Rattle.frame_code.specs.Frames.{hello, frame}
 use Rattle.node_talk.specs.declared.fault.NodeFault.{NodeFault}
-use Rattle.node_talk.specs.Talks.{Node, expected, heard, frames, stream}
+use Rattle.node_talk.specs.Talks.{Node, expected, expected_at, place_of, heard, frames, stream}
 use Rattle.outer_io.specs.Links.{LinksReading}
 use Rattle.node_talk.specs.PeerLinks.{in_from}
+use Rattle.node_talk.proofs.ExpectedPlaces.{Expected, expected_there}
 use Rattle.node_talk.proofs.Frames.{begins_with}
 use Rattle.link_reader.specs.Expected.{TalkModel}
 use Rattle.link_reader.specs.ReadWords.{framed, Came, CameShort, Reads}
@@ -25,7 +27,7 @@ first_frames got (key ∷ keys) (word ∷ words) (suc c) lk lw h =
     let r = first_frames got keys words c (omega arith) (omega arith) (λ f l. h (suc f) (omega arith)) in
     (r.0, ap₂ (λ w z. frame key w ++ z) (sym (h 0 (omega arith))) r.1 ∙ sym (append_assoc (frame key (got key)) (frames got (take c keys)) r.0))
 
-small_words : (bits : ℕ) (got : Key → ℕ) (keys : List Key) (words : List ℕ) (c : ℕ) → c ≤ length keys → c ≤ length words → ((f : ℕ) → f < c → got (slice_index_or keys f no_key) ≡ slice_index words f)
+pub small_words : (bits : ℕ) (got : Key → ℕ) (keys : List Key) (words : List ℕ) (c : ℕ) → c ≤ length keys → c ≤ length words → ((f : ℕ) → f < c → got (slice_index_or keys f no_key) ≡ slice_index words f)
     → AllByRecursion (λ word. word < 2 ^ bits) words → AllByRecursion (λ key. got key < 2 ^ bits) (take c keys)
 small_words bits got keys words zero lk lw h small = tt
 small_words bits got [] words (suc c) lk lw h small = absurd (omega arith)
@@ -60,10 +62,28 @@ reads_a_run n q got count words bytes before after result told some has h =
 
 -- ---- all that is expected came
 
+-- the frames of some first words, with a function of messages that gives these
+pub framed_taken : (got : Key → ℕ) (keys : List Key) (words : List ℕ) → length words ≤ length keys → ((f : ℕ) → f < length words → got (slice_index_or keys f no_key) ≡ slice_index words f) → framed keys words ≡ frames got (take (length words) keys)
+framed_taken got [] [] l h = refl
+framed_taken got [] (word ∷ words) l h = absurd (omega arith)
+framed_taken got (key ∷ keys) [] l h = refl
+framed_taken got (key ∷ keys) (word ∷ words) l h = ap₂ (λ w z. frame key w ++ z) (sym (h 0 (omega arith))) (framed_taken got keys words (omega arith) (λ f l. h (suc f) (omega arith)))
+
 framed_frames : (got : Key → ℕ) (keys : List Key) (words : List ℕ) → length words ≡ length keys → ((f : ℕ) → f < length keys → got (slice_index_or keys f no_key) ≡ slice_index words f) → framed keys words ≡ frames got keys
-framed_frames got [] words e h = refl
-framed_frames got (key ∷ keys) [] e h = absurd (omega arith)
-framed_frames got (key ∷ keys) (word ∷ words) e h = ap₂ (λ w z. frame key w ++ z) (sym (h 0 (omega arith))) (framed_frames got keys words (omega arith) (λ f l. h (suc f) (omega arith)))
+framed_frames got keys words e h = framed_taken got keys words (omega (arith, e)) (λ f l. h f (omega (arith, e, l))) ∙ ap (frames got) (ap (λ z. take z keys) e ∙ take-length keys)
+
+-- ---- words as a function of messages
+
+-- the word that stands among these at the place of a message
+abbrev pub word_at : Node → List ℕ → Key → ℕ
+word_at n words key = slice_index words (place_of n (number n.world.plan key))
+
+pub word_at_place : (n : Node) (q : ℕ) (words : List ℕ) (place : ℕ) → place < length (expected n q) → word_at n words (expected_at n q place) ≡ slice_index words place
+word_at_place n q words place l =
+    let x : Expected n q place = expected_there n q place l in
+    ap (word_at n words) (sym x.same) ∙ ap (λ z. slice_index words (place_of n z)) ((numbers_are_inverse n.world.plan).0 x.number x.there) ∙ ap (slice_index words) x.place_is
+
+-- ---- an inlet that was read whole
 
 -- an inlet that was read whole gave the hello and all expected frames
 pub whole_words : (n : Node) (q : ℕ) (got : Key → ℕ) (words : List ℕ) (before after : LinksReading) → ReadsFrom n q words before after (Ok tt) → HasFirstWords n q got (length (expected n q)) words

@@ -1,31 +1,20 @@
 -- Why a reader stopped.
-use Rattle.std.proofs.Common.{◌≡◌, ℕ, ◌+◌, ◌*◌, ◌<◌, ◌≤◌, List, [], ◌∷◌, ◌++◌, length, refl, sym, ap, ap₂, ◌∙◌, subst, arith, length-append, inl, ⊎_elim}
-use Rattle.std.specs.Prelude.{Option, Some, None}
-use Rattle.job_plan.specs.declared.key.Key.{Key}
+use Rattle.std.proofs.Common.{◌≡◌, ℕ, ◌<◌, List, ◌++◌, length, take, sym, ap, ◌∙◌, subst, arith, inl, inr, ⊎_elim}
+use Rattle.std.specs.Prelude.{slice_index, slice_index_or}
+use Rattle.job_plan.specs.Numbers.{no_key}
 use Rattle.outer_io.specs.Count.{Rose}
 use Rattle.outer_io.specs.Inlet.{InletReading, ahead}
-use Rattle.outer_io.proofs.FilledPlaces.{ahead-append}
-use Rattle.frame_code.specs.Frames.{hello, frame}
-use Rattle.frame_code.proofs.ReadFrames.{length-hello, length-frame}
+use Rattle.frame_code.specs.Frames.{hello}
 use Rattle.node_talk.specs.declared.fault.NodeFault.{NodeFault}
 use Rattle.node_talk.specs.declared.fault.NodeFault.TheVariants.{Link, Closed, BadFrame, OtherJob, NoThread}
-use Rattle.node_talk.specs.Talks.{Node, IsPeer, expected}
+use Rattle.node_talk.specs.Talks.{Node, IsPeer, expected, stream}
 use Rattle.node_talk.specs.PeerLinks.{in_from}
 use Rattle.outer_io.specs.Links.{LinksReading}
-use Rattle.node_talk.specs.Causes.{Cause}
+use Rattle.node_talk.specs.Causes.{Cause, CameAfter}
 use Rattle.link_reader.specs.Heard.{NoFrame, NoHello}
-use Rattle.link_reader.specs.ReadWords.{framed, Came, CameShort}
+use Rattle.link_reader.specs.ReadWords.{Came, CameShort}
 use Rattle.link_reader.specs.NodeReaders.{incoming, TellsCause}
-
-pub framed_length : (keys : List Key) (words : List ℕ) → length words ≤ length keys → length (framed keys words) ≡ 18 * length words
-framed_length [] [] l = refl
-framed_length [] (word ∷ words) l = absurd (omega arith)
-framed_length (key ∷ keys) [] l = refl
-framed_length (key ∷ keys) (word ∷ words) l = let a = framed_length keys words (omega arith) in omega (arith, length-append (frame key word) (framed keys words), length-frame key word)
-
-ahead_nothing : (told : Option (List ℕ)) → told ≡ ahead [] told
-ahead_nothing None = refl
-ahead_nothing (Some left) = refl
+use Rattle.link_reader.proofs.Runs.{small_words, framed_taken, word_at, word_at_place}
 
 module _ (n : Node) (q : ℕ) (long : length n.digest ≡ 32) (peer : IsPeer n q) (before after : LinksReading) (refused refused' : ℕ) where
   abbrev now : InletReading
@@ -37,30 +26,32 @@ module _ (n : Node) (q : ℕ) (long : length n.digest ≡ 32) (peer : IsPeer n q
   abbrev Causes : NodeFault → Type 0
   Causes fault = Cause n before after refused refused' fault
 
-  -- the hello and the frames of these words
-  abbrev so_far : List ℕ → List ℕ
-  so_far words = hello q n.me n.digest ++ framed (expected n q) words
-
-  length_so_far : (words : List ℕ) → length words ≤ length (expected n q) → length (so_far words) ≡ 38 + 18 * length words
-  length_so_far words few = length-append (hello q n.me n.digest) (framed (expected n q) words) ∙ ap₂ (λ a b. a + b) (length-hello q n.me n.digest long) (framed_length (expected n q) words few)
+  -- after the hello and the frames of these words came these bytes
+  came_after : (words bytes : List ℕ) (mid : InletReading) → Came (incoming n q) words now mid → mid.told ≡ ahead bytes last.told → CameAfter n before after q (length words) bytes
+  came_after words bytes mid h told =
+      let fits : (place : ℕ) → place < length words → word_at n words (slice_index_or (expected n q) place no_key) ≡ slice_index words place = λ place l. word_at_place n q words place (let f = h.few in omega (arith, f, l)) in
+      record {
+        word = word_at n words;
+        small = small_words n.world.plan.bits (word_at n words) (expected n q) words (length words) h.few (omega arith) fits h.small;
+        told = h.told ∙ ap (λ z. ahead (hello q n.me n.digest ++ z) mid.told) (framed_taken (word_at n words) (expected n q) words h.few fits) ∙ ap (ahead (stream n.digest q n.me (word_at n words) (take (length words) (expected n q)))) told;
+      }
 
   of_frame : (fault : NodeFault) (words : List ℕ) (mid : InletReading) → Came (incoming n q) words now mid → length words < length (expected n q)
       → NoFrame (incoming n q) (length words) mid last fault → Causes fault
   of_frame (Link r) words mid h less g = subst (λ z. Causes (Link z)) (sym g.0) (peer, inl (subst (λ z. Rose z last.faults) h.faults g.1))
   of_frame (Closed r at) words mid h less g =
       let e = g.1 in
-      let place : length (so_far words ++ e.front) ≡ at = length-append (so_far words) e.front ∙ ap (λ z. z + length e.front) (length_so_far words h.few) ∙ sym e.in_all in
-      let short = e.short in
-      let in_all = e.in_all in
       subst (λ z. Causes (Closed z at)) (sym g.0) (
         peer,
         record {
-          few = omega arith;
-          came = record {
-            front = so_far words ++ e.front;
-            place = place;
-            told = h.told ∙ ap (ahead (so_far words)) e.told ∙ ahead-append (so_far words) e.front last.told ∙ ap (ahead (so_far words ++ e.front)) (ahead_nothing last.told);
-          };
+          within = inr (record {
+            frame = length words;
+            within = less;
+            piece = e.front;
+            place = e.in_all;
+            short = e.short;
+            came = came_after words e.front mid h e.told;
+          });
           none_left = e.none_left;
           ended = e.ended;
         },
@@ -73,7 +64,7 @@ module _ (n : Node) (q : ℕ) (long : length n.digest ≡ 32) (peer : IsPeer n q
           within = less;
           place = g.1;
           long = g.2.long;
-          came = record { front = so_far words; place = length_so_far words h.few ∙ sym g.1; told = h.told ∙ ap (ahead (so_far words)) g.2.told };
+          came = came_after words bytes mid h g.2.told;
           no_frame = g.2.no_frame;
         },
       )
@@ -84,13 +75,10 @@ module _ (n : Node) (q : ℕ) (long : length n.digest ≡ 32) (peer : IsPeer n q
   of_hello (Link r) g = subst (λ z. Causes (Link z)) (sym g.0) (peer, inl g.1)
   of_hello (Closed r at) g =
       let e = g.1 in
-      let short = e.short in
-      let place : length e.front ≡ at = (let p = e.in_all in omega arith) in
       subst (λ z. Causes (Closed z at)) (sym g.0) (
         peer,
         record {
-          few = omega arith;
-          came = record { front = e.front; place = place; told = e.told ∙ ap (ahead e.front) (ahead_nothing last.told) };
+          within = inl (record { piece = e.front; place = (let p = e.in_all in omega (arith, p)); short = e.short; told = e.told });
           none_left = e.none_left;
           ended = e.ended;
         },
@@ -102,7 +90,7 @@ module _ (n : Node) (q : ℕ) (long : length n.digest ≡ 32) (peer : IsPeer n q
         record {
           expected = g.1;
           long = g.2.long;
-          came = record { front = []; place = refl; told = g.2.told ∙ ahead_nothing (ahead theirs last.told) };
+          told = g.2.told;
           differ = λ e. g.2.differ (e ∙ g.1);
         },
       )

@@ -20,6 +20,11 @@ pub record StaysSteady (before after : InletReading) : Type 0 where
   pub faults_grow : before.faults ≤ after.faults
   pub steady : IsTrue before.steady → IsTrue after.steady × (after.faults ≡ before.faults)
 
+-- the count of faults never falls, and that of a steady inlet stays, which may be closed at the end
+pub record KeepsCalm (before after : InletReading) : Type 0 where
+  pub faults_grow : before.faults ≤ after.faults
+  pub steady : IsTrue before.steady → after.faults ≡ before.faults
+
 -- these bytes came, and nothing failed
 pub record Gave (bytes : List ℕ) (before after : InletReading) : Type 0 where
   pub told : before.told ≡ ahead bytes after.told

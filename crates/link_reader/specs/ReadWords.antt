@@ -1,5 +1,5 @@
 -- What the reader of one peer reads and pushes.
-use Rattle.std.specs.Prelude.{◌≡◌, ℕ, ◌<◌, ◌≤◌, ◌^◌, ◌⊎◌, is_err, List, [], ◌∷◌, ◌++◌, length, Option, None, Some, Result, Ok, Err}
+use Rattle.std.specs.Prelude.{◌≡◌, ℕ, ◌<◌, ◌≤◌, ◌^◌, ◌⊎◌, is_err, IsTrue, List, [], ◌∷◌, ◌++◌, length, Option, None, Some, Result, Ok, Err}
 use Rattle.std.specs.List.{AllByRecursion}
 use Rattle.job_plan.specs.declared.key.Key.{Key}
 use Rattle.outer_io.specs.Inlet.{InletReading, ahead}
@@ -9,7 +9,7 @@ use Rattle.inbox_board.specs.Rule.{newcomer, ends}
 use Rattle.inbox_board.specs.Seats.{InboxModel, SeatModel, mark_of}
 use Rattle.inbox_board.specs.Folds.{pushed}
 use Rattle.link_reader.specs.Expected.{TalkModel}
-use Rattle.link_reader.specs.Heard.{hello_of, StaysSteady, NoFrame, NoHello}
+use Rattle.link_reader.specs.Heard.{hello_of, KeepsCalm, NoFrame, NoHello}
 
 -- the frames of the first messages, with these words
 abbrev pub framed : List Key → List ℕ → List ℕ
@@ -53,13 +53,14 @@ pub record CanWork (reader : ReaderModel) : Type 0 where
   pub places : length reader.talk.keys ≡ reader.inbox.places
   pub new : reader.outcome ≡ None → reader.seat.view ≡ newcomer 1
 
--- what the work of a reader comes to: it pushed the words that it read, left the mark of its outcome and kept that
--- outcome, and nothing else changed
+-- what the work of a reader comes to: it pushed the words that it read, left the mark of its outcome, closed its inlet
+-- and kept that outcome, and nothing else changed
 pub record HasRead (before after : ReaderModel) : Type 0 where
   pub outcome : Result (Unit {0}) NodeFault
   pub words : List ℕ
   pub reads : Reads before.talk words before.inlet after.inlet outcome
-  pub steady : StaysSteady before.inlet after.inlet
+  pub steady : KeepsCalm before.inlet after.inlet
+  pub closed : IsTrue after.inlet.closed
   pub leaves : after
       ≡ record before {
         inlet = after.inlet;

@@ -14,7 +14,7 @@ use std::marker::Model;
 use std::sync::Arc;
 
 /// The reading of one peer into an inbox that has a place for each message from it. The party is woken at each word
-/// that came, and at the end.
+/// that came, and at the end, where the inlet is closed.
 #[derive(Drop)]
 pub struct LinkReader<I: Inlet> {
     inlet: I,
@@ -101,9 +101,7 @@ impl<I: Inlet> Task for LinkReader<I> {
         );
         self.inbox.end(&mut self.seat, outcome.is_err());
         self.waker.unpark();
-        if outcome.is_err() {
-            self.inlet.close();
-        }
+        self.inlet.close();
         self.outcome = Some(outcome);
     }
 }

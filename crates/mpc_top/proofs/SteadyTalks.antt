@@ -8,7 +8,7 @@ use Rattle.std.proofs.lemmas.List.Folds.{list_all_at}
 use mathlib.Core.Logic.{inl, inr}
 use Rattle.outer_io.specs.Count.{Rose}
 use Rattle.outer_io.specs.Inlet.{InletReading}
-use Rattle.outer_io.specs.Sink.{SinkReading}
+use Rattle.outer_io.specs.Outlet.{OutletReading}
 use Rattle.outer_io.specs.Links.{LinksReading, is_fresh_inlet, is_fresh_outlet}
 use Rattle.node_talk.specs.declared.fault.NodeFault.{NodeFault}
 use Rattle.node_talk.specs.Talks.{Node, IsPeer}
@@ -54,7 +54,7 @@ module _ (asked : NodeAsked) (before after : Outside) (fault : NodeFault) (t : T
   placed_out : (q : ℕ) → IsPeer n q → place_among n.me q < length links.outlets
   placed_out q peer = let l = placed q peer in omega (arith, l, t.peers.inlets, t.peers.outlets)
 
-  steady_parts : IsTrue (list_all (λ (i : InletReading). i.steady) links.inlets) × IsTrue (list_all (λ (o : SinkReading). o.steady) links.outlets)
+  steady_parts : IsTrue (list_all (λ (i : InletReading). i.steady) links.inlets) × IsTrue (list_all (λ (o : OutletReading). o.sink.steady) links.outlets)
   steady_parts = and_parts _ _ (t.steady lets.net)
 
   fresh_parts : IsTrue (list_all is_fresh_inlet links.inlets) × IsTrue (list_all is_fresh_outlet links.outlets)
@@ -65,13 +65,13 @@ module _ (asked : NodeAsked) (before after : Outside) (fault : NodeFault) (t : T
       let l = placed q peer in
       let fresh = and_parts _ _ (at_each is_fresh_inlet links.inlets (place_among n.me q) no_inlet l fresh_parts.0) in
       let steady = at_each (λ (i : InletReading). i.steady) links.inlets (place_among n.me q) no_inlet l steady_parts.0 in
-      not_risen _ _ (none_left _ fresh.0) (((t.run n t.someone.1).steady.inlets q peer).steady steady).1
+      not_risen _ _ (none_left _ fresh.0) (((t.run n t.someone.1).steady.inlets q peer).steady steady)
 
   quiet_outlet : (q : ℕ) → IsPeer n q → Rose (out_to n links q).faults (out_to n t.kept q).faults → ⊥
   quiet_outlet q peer =
       let l = placed_out q peer in
       let fresh = and_parts _ _ (at_each is_fresh_outlet links.outlets (place_among n.me q) no_outlet l fresh_parts.1) in
-      let steady = at_each (λ (o : SinkReading). o.steady) links.outlets (place_among n.me q) no_outlet l steady_parts.1 in
+      let steady = at_each (λ (o : OutletReading). o.sink.steady) links.outlets (place_among n.me q) no_outlet l steady_parts.1 in
       not_risen _ _ (none_left _ fresh.0) (((t.run n t.someone.1).steady.outlets q peer).room steady (lets.room n t.someone.1 q peer))
 
   quiet_spawner : Rose before.spawner.refusals after.spawner.refusals → ⊥

@@ -13,11 +13,12 @@ use Rattle.inbox_board.specs.Rule.{notes}
 use Rattle.inbox_board.specs.Seats.{Looks, mark_as}
 use Rattle.job_plan.specs.Messages.{messages}
 use Rattle.job_plan.specs.Numbers.{message}
-use Rattle.outer_io.specs.Sink.{SinkReading, Writes}
+use Rattle.outer_io.specs.Outlet.{OutletReading, Sends}
+use Rattle.outer_io.specs.Sink.{Writes}
 use Rattle.outer_io.specs.declared.sink.Failed.{Failed}
 use Rattle.node_talk.specs.PeerLinks.{place_among, no_outlet}
 use Rattle.link_reader.proofs.ExpectedMessages.{between_parties}
-use Rattle.node_run.specs.Mail.{Mail, BoxModel, no_box, box_of, IsRead, IsMail, SentTo, failed_after, MayTake, Takes, Looked, LookedAtMark}
+use Rattle.node_run.specs.Mail.{Mail, BoxModel, no_box, box_of, IsRead, IsMail, SentTo, failed_after, MayTake, Takes, TakesFrom, Looked, LookedAtMark}
 use Rattle.node_run.proofs.KnownWords.{cell_there}
 
 -- ---- places
@@ -77,7 +78,7 @@ other_sender c mail m may e = (between_parties c.plan mail.sound m may.there).ap
 -- ---- a send
 
 module _ (c : Mail) (mail : IsMail c) where
-  pub with_outlets : (xs : List SinkReading) (o : Option ℕ) → length xs ≡ length c.outlets → IsMail (record c { outlets = xs; failed = o })
+  pub with_outlets : (xs : List OutletReading) (o : Option ℕ) → length xs ≡ length c.outlets → IsMail (record c { outlets = xs; failed = o })
   with_outlets xs o same = record {
     sound = mail.sound;
     me = mail.me;
@@ -91,20 +92,20 @@ module _ (c : Mail) (mail : IsMail c) where
     read = λ m v to e. let r = mail.read m v to e in record { there = r.there; found = r.found; known = r.known; reduced = r.reduced };
   }
 
-  module _ {O : Type 0} (f : O → SinkReading) (outs : List O) (shows : c.outlets ≡ map f outs) (j : ℕ) (x : O) where
+  module _ {O : Type 0} (f : O → OutletReading) (outs : List O) (shows : c.outlets ≡ map f outs) (j : ℕ) (x : O) where
     pub same_count : length (map f (set outs j x)) ≡ length c.outlets
     same_count = length-map (set outs j x) f ∙ length-set outs j x ∙ sym (length-map outs f) ∙ sym (ap length shows)
 
-    pub sent_to : (q : ℕ) → q < c.plan.parties → q ≢ c.me → j ≡ place_among c.me q → (old : O) → old ≡ get_or outs j old → (bytes : List ℕ) (r : Result (Unit {0}) Failed) → Writes bytes (f old) (f x) r
+    pub sent_to : (q : ℕ) → q < c.plan.parties → q ≢ c.me → j ≡ place_among c.me q → (old : O) → old ≡ get_or outs j old → (bytes : List ℕ) (r : Result (Unit {0}) Failed) → Sends bytes (f old) (f x) r
         → (o : Option ℕ) → o ≡ failed_after q r c.failed → SentTo q bytes c (record c { outlets = map f (set outs j x); failed = o })
     sent_to q lq nq at old is bytes r w o kept =
         let within : j < length outs = (let a = place_within c.me q c.plan.parties (length c.outlets) lq nq mail.me mail.outlets in let b : length c.outlets ≡ length outs = ap length shows ∙ length-map outs f in omega arith) in
         record {
           result = r;
           writes =
-              subst (λ z. Writes bytes z (slice_index_or (map f (set outs j x)) (place_among c.me q) no_outlet) r) (sym (ap₂ (λ xs k. slice_index_or xs k no_outlet) shows (sym at) ∙ read_here f outs j old no_outlet within ∙ ap f (sym is)))
-              (subst (λ z. Writes bytes (f old) z r) (sym (ap (λ k. slice_index_or (map f (set outs j x)) k no_outlet) (sym at) ∙ set_here f outs j x no_outlet within)) w);
-          others = λ p lp np ne. set_there f outs j (place_among c.me p) x no_outlet (λ e. places_differ c.me q p nq np ne (e ∙ at)) ∙ ap (λ xs. slice_index_or xs (place_among c.me p) no_outlet) (sym shows);
+              subst (λ z. Writes bytes z.sink (slice_index_or (map f (set outs j x)) (place_among c.me q) no_outlet).sink r) (sym (ap₂ (λ xs k. slice_index_or xs k no_outlet) shows (sym at) ∙ read_here f outs j old no_outlet within ∙ ap f (sym is)))
+              (subst (λ z. Writes bytes (f old).sink z.sink r) (sym (ap (λ k. slice_index_or (map f (set outs j x)) k no_outlet) (sym at) ∙ set_here f outs j x no_outlet within)) w.writes);
+          others = λ p lp np ne. ap (λ z. z.sink) (set_there f outs j (place_among c.me p) x no_outlet (λ e. places_differ c.me q p nq np ne (e ∙ at)) ∙ ap (λ xs. slice_index_or xs (place_among c.me p) no_outlet) (sym shows));
           rest = ap (λ z. record c { outlets = map f (set outs j x); failed = z }) kept;
         }
 
@@ -175,31 +176,47 @@ module _ (c : Mail) (mail : IsMail c) (m : ℕ) (may : MayTake c m) (j : ℕ) (a
     read = λ r v to e. let x = mail.read r v to e in record { there = x.there; found = x.found; known = (box_grows (message c.plan r).sender).1 (slice_index c.places r) x.found x.known; reduced = x.reduced };
   }
 
-  same_marks : b'.view.noted ≡ b.view.noted → (q : ℕ) → (box_of now q).view.noted ≡ (box_of c q).view.noted
-  same_marks noted q = elim (cases_eq (place_among c.me q) j) [
-    | left' e ↦
-        ap (λ (z : BoxModel). z.view.noted) (ap (λ z. slice_index_or (set c.boxes j b') z no_box) e ∙ box_here c.boxes j b' no_box within_boxes) ∙ noted
-        ∙ ap (λ (z : BoxModel). z.view.noted) (sym (ap (λ z. slice_index_or c.boxes z no_box) e ∙ box_read c.boxes j b no_box within_boxes ∙ sym is))
-    | right' ne ↦ ap (λ (z : BoxModel). z.view.noted) (box_there c.boxes j (place_among c.me q) b' no_box ne)
-  ]
+  -- the sender's box before
+  sender_was : box_of c (message c.plan m).sender ≡ b
+  sender_was = ap (λ z. slice_index_or c.boxes z no_box) (sym at) ∙ box_read c.boxes j b no_box within_boxes ∙ sym is
 
-  pub looked : b'.view.noted ≡ b.view.noted → (answer : Option ℕ) → ((w : ℕ) → answer ≡ Some w → Knows b'.view.seen (slice_index c.places m) w) → Looked c m answer (record c { boxes = set c.boxes j b' })
-  looked noted answer found = record { rest = refl; ids = same_ids; marks = same_marks noted; known = λ w e. subst (λ (z : BoxModel). Knows z.view.seen (slice_index c.places m) w) (sym sender_box) (found w e) }
+  other_boxes : (q : ℕ) → q ≢ c.me → q ≢ (message c.plan m).sender → box_of now q ≡ box_of c q
+  other_boxes q nq ne = box_there c.boxes j (place_among c.me q) b' no_box (λ e. places_differ c.me (message c.plan m).sender q (other_sender c mail m may) nq ne (e ∙ at))
 
-  pub looked_at_mark : (answer : Option Bool) → answer ≡ mark_as b'.view.noted → LookedAtMark c m answer (record c { boxes = set c.boxes j b' })
-  looked_at_mark answer told = record { rest = refl; ids = same_ids; fault = λ e. ap (λ (z : BoxModel). z.view.noted) sender_box ∙ fault_is b'.view.noted (sym told ∙ e) }
-    where
-      fault_is : (x : ℕ) → mark_as x ≡ Some true → x ≡ 2
-      fault_is x e = elim (cases_Bool (x == 0)) [
-        | left' zero' ↦ absurd (let f : None ≡ Some true = sym (cond-true (x == 0) None (Some (x == 2)) zero') ∙ e in cc)
-        | right' some ↦ is_two x (some_same (x == 2) true (sym (cond-false (x == 0) None (Some (x == 2)) some) ∙ e))
-      ]
-        where
-          some_same : (a b : Bool) → Some a ≡ Some b → a ≡ b
-          some_same a b f = cc
+  pub looked : (place : ℕ) → place ≡ slice_index c.places m → (answer : Option ℕ) → Looks b.view place answer b'.view → Looked c m answer (record c { boxes = set c.boxes j b' })
+  looked place there answer looks = record {
+    rest = refl;
+    ids = same_ids;
+    looks = subst (λ (z : BoxModel). Looks z.view (slice_index c.places m) answer (box_of now (message c.plan m).sender).view) (sym sender_was)
+        (subst (λ (z : BoxModel). Looks b.view (slice_index c.places m) answer z.view) (sym sender_box) (subst (λ k. Looks b.view k answer b'.view) there looks));
+    others = other_boxes;
+  }
 
-          is_two : (x : ℕ) → (x == 2) ≡ true → x ≡ 2
-          is_two x f = grind (arith, nat_tests)
+  pub looked_at_mark : (answer : Option Bool) → b'.view ≡ notes b.view b'.view.noted → answer ≡ mark_as b'.view.noted → LookedAtMark c m answer (record c { boxes = set c.boxes j b' })
+  looked_at_mark answer noted told = record {
+    rest = refl;
+    ids = same_ids;
+    found = b'.view.noted;
+    answers = told;
+    noted = ap (λ (z : BoxModel). z.view) sender_box ∙ noted ∙ ap (λ (z : BoxModel). notes z.view b'.view.noted) (sym sender_was);
+    others = other_boxes;
+  }
+
+-- a mark that tells a fault is that of one
+pub fault_noted : (c d : Mail) (m : ℕ) → LookedAtMark c m (Some true) d → (box_of d (message c.plan m).sender).view.noted ≡ 2
+fault_noted c d m h = ap (λ (v : View). v.noted) h.noted ∙ fault_is h.found (sym h.answers)
+  where
+    some_same : (a b : Bool) → Some a ≡ Some b → a ≡ b
+    some_same a b f = cc
+
+    is_two : (x : ℕ) → (x == 2) ≡ true → x ≡ 2
+    is_two x f = grind (arith, nat_tests)
+
+    fault_is : (x : ℕ) → mark_as x ≡ Some true → x ≡ 2
+    fault_is x e = elim (cases_Bool (x == 0)) [
+      | left' zero' ↦ absurd (let f : None ≡ Some true = sym (cond-true (x == 0) None (Some (x == 2)) zero') ∙ e in cc)
+      | right' some ↦ is_two x (some_same (x == 2) true (sym (cond-false (x == 0) None (Some (x == 2)) some) ∙ e))
+    ]
 
 -- ---- a word that is kept
 
@@ -269,15 +286,33 @@ place_there c mail m may x is = is ∙ any_default c.places m x (let a = may.the
 -- ---- takes
 
 pub takes_known : (c : Mail) (m v : ℕ) → plain_cell c.words.cells m ≡ Some v → Takes c m (Some v) c
-takes_known c m v e = record { rest = refl; answers = (e, sym (put_again c.words.cells m v e)); count = refl; ids = refl }
+takes_known c m v e = record {
+  rest = refl;
+  answers = (e, sym (put_again c.words.cells m v e));
+  from = subst (λ o. TakesFrom c m o (Some v) c) (sym e) (refl, refl);
+  count = refl;
+  ids = refl;
+}
 
-pub takes_nothing : (c d : Mail) (m : ℕ) → Looked c m None d → Takes c m None d
-takes_nothing c d m h = record { rest = h.rest ∙ ap (λ z. record c { words = z; boxes = d.boxes }) (sym (ap (λ z. z.words) h.rest)); answers = ap (λ z. z.words.cells) h.rest; count = ap (λ z. length z.words.cells) h.rest; ids = h.ids }
+-- what a look found, over the words that were kept
+look_over : (c d : Mail) (m : ℕ) (a : Option ℕ) → Looked c m a d → Looked c m a (record d { words = c.words })
+look_over c d m a h = subst (Looked c m a) (ap (λ z. record d { words = z }) (ap (λ (z : Mail). z.words) h.rest)) h
 
-pub takes_found : (c d : Mail) (m found v : ℕ) (kept : CellContents) → Looked c m (Some found) d → length kept.cells ≡ length d.words.cells → plain_cell kept.cells m ≡ Some v → kept.cells ≡ plain_put d.words.cells m v → Takes c m (Some v) (record d { words = kept })
-takes_found c d m found v kept h count is put = record {
+pub takes_nothing : (c d : Mail) (m : ℕ) → plain_cell c.words.cells m ≡ None → Looked c m None d → Takes c m None d
+takes_nothing c d m e h = record {
+  rest = h.rest ∙ ap (λ z. record c { words = z; boxes = d.boxes }) (sym (ap (λ z. z.words) h.rest));
+  answers = ap (λ z. z.words.cells) h.rest;
+  from = subst (λ o. TakesFrom c m o None d) (sym e) (None, look_over c d m None h, refl);
+  count = ap (λ z. length z.words.cells) h.rest;
+  ids = h.ids;
+}
+
+pub takes_found : (c d : Mail) (m found v : ℕ) (kept : CellContents) → plain_cell c.words.cells m ≡ None → v ≡ found % 2 ^ c.plan.bits → Looked c m (Some found) d → length kept.cells ≡ length d.words.cells
+    → plain_cell kept.cells m ≡ Some v → kept.cells ≡ plain_put d.words.cells m v → Takes c m (Some v) (record d { words = kept })
+takes_found c d m found v kept e reduced h count is put = record {
   rest = ap (λ (z : Mail). record z { words = kept }) h.rest;
   answers = (is, put ∙ ap (λ (z : Mail). plain_put z.words.cells m v) h.rest);
+  from = subst (λ o. TakesFrom c m o (Some v) (record d { words = kept })) (sym e) (Some found, look_over c d m (Some found) h, ap Some reduced);
   count = count ∙ ap (λ (z : Mail). length z.words.cells) h.rest;
   ids = h.ids;
 }
@@ -294,4 +329,4 @@ pub looked_may : (c d : Mail) (m : ℕ) (a : Option ℕ) → Looked c m a d → 
 looked_may c d m a h may = subst (λ (z : Mail). MayTake z m) (sym h.rest) (record { there = may.there; receiver = may.receiver })
 
 pub looked_known : (c d : Mail) (m w : ℕ) → Looked c m (Some w) d → Knows (box_of d (message d.plan m).sender).view.seen (slice_index d.places m) w
-looked_known c d m w h = subst (λ (z : Mail). Knows (box_of d (message z.plan m).sender).view.seen (slice_index z.places m) w) (sym h.rest) (h.known w refl)
+looked_known c d m w h = subst (λ (z : Mail). Knows (box_of d (message z.plan m).sender).view.seen (slice_index z.places m) w) (sym h.rest) (looks_found (box_of c (message c.plan m).sender).view (box_of d (message c.plan m).sender).view (slice_index c.places m) w (Some w) refl h.looks)

@@ -27,7 +27,7 @@ use Rattle.program_laws.proofs.PartLaws.{part_plan, part_words}
 use Rattle.outer_io.specs.Links.{LinksReading}
 use Rattle.outer_io.specs.Sink.{added}
 use Rattle.node_talk.specs.Talks.{Node, acts, IsPeer, own_word, expected, place_of}
-use Rattle.node_talk.specs.PeerLinks.{place_among, no_outlet, out_to}
+use Rattle.node_talk.specs.PeerLinks.{out_to}
 use Rattle.node_talk.specs.Runs.{Results, IsDone, TalkedThrough, word_kept, output_of}
 use Rattle.node_talk.proofs.MessageOrder.{talk_is_said}
 use Rattle.node_talk.proofs.ExpectedPlaces.{between_parties, Expected, expected_there}
@@ -43,7 +43,7 @@ use Rattle.node_run.proofs.KnownWords.{known, agrees_known}
 pub record RanToEnd (n : Node) (start : Begin) (after : LinksReading) (ds : List Desk) (now : Mail) (r : Results)
     : Type 0 where
   pub order : InOrder n (length n.world.plan.sessions) start ds now
-  pub outlets : after.outlets ≡ now.outlets
+  pub told : (q : ℕ) → IsPeer n q → (out_to n after q).told ≡ (outlet_to now q).told
   pub words : ℕ → List ℕ
   pub read : (q : ℕ) → IsPeer n q → ReadsFrom n q (words q) start.links after (Ok tt)
   pub heard : (m v : ℕ) → (message n.world.plan m).receiver ≡ n.me → plain_cell now.words.cells m ≡ Some v
@@ -117,8 +117,7 @@ module _ (n : Node) (start : Begin) (after : LinksReading) (ds : List Desk) (now
   talked : TalkedThrough n (known n now.words.cells) start.links after
   talked = talks_through n (known n now.words.cells) start.links after (record {
     told = λ q peer.
-        let same : out_to n after q ≡ outlet_to now q = ap (λ z. slice_index_or z (place_among n.me q) no_outlet) h.outlets ∙ ap (λ z. slice_index_or now.outlets (place_among z q) no_outlet) (sym h.order.going.own.me) in
-        ap (λ z. z.told) same ∙ h.order.going.sent (known n now.words.cells) agrees q peer ∙ ap (added (out_to n start.links q).told) (talk_is_said n q (own_word n (known n now.words.cells)));
+        h.told q peer ∙ h.order.going.sent (known n now.words.cells) agrees q peer ∙ ap (added (out_to n start.links q).told) (talk_is_said n q (own_word n (known n now.words.cells)));
     words = h.words;
     read = h.read;
     agrees = first_words;

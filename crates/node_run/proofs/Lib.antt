@@ -11,3 +11,4 @@ mod NodeRuns
 mod RunBegins
 mod Shares
 mod ReadyKept
+mod ClosedLinks

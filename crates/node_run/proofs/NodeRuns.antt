@@ -1,6 +1,8 @@
 -- What a run leaves has the clauses of a node's run.
 use Rattle.std.proofs.Common.{◌≡◌, ◌⊎◌, ℕ, suc, ◌+◌, ◌-◌, ◌<◌, false, List, [], length, map, refl, sym, ap, ◌∙◌, subst, arith, Option, Some, None, Result, Ok, Err, inl, inr, ⊎_elim}
-use Rattle.std.specs.Prelude.{slice_index_or, is_err}
+use Rattle.std.specs.Prelude.{slice_index_or, is_err, IsTrue}
+use Rattle.std.specs.List.{list_all}
+use Rattle.std.proofs.Math.ListN.{length-map}
 use Rattle.std.proofs.lemmas.Bool.{cases_eq, false≢true}
 use Rattle.std.proofs.lemmas.List.{append-nil}
 use mathlib.Core.Logic.{inl as left', inr as right'}
@@ -10,9 +12,11 @@ use Rattle.message_board.specs.Plain.{plain_cell}
 use Rattle.party_desk.specs.declared.desk.Desk.{Desk}
 use Rattle.inbox_board.specs.Seats.{mark_of}
 use Rattle.outer_io.specs.Count.{Rose}
-use Rattle.outer_io.specs.Inlet.{InletReading}
+use Rattle.outer_io.specs.Inlet.{InletReading, shut_inlet}
+use Rattle.outer_io.specs.Outlet.{OutletReading, shut_outlet}
+use Rattle.outer_io.proofs.NetRefusals.{both_true}
 use Rattle.outer_io.specs.Jobs.{SpawnerReading}
-use Rattle.outer_io.specs.Links.{LinksReading, HasPeers}
+use Rattle.outer_io.specs.Links.{LinksReading, HasPeers, are_closed}
 use Rattle.outer_io.specs.Sink.{added, AddedPrefix}
 use Rattle.frame_code.specs.Frames.{hello}
 use Rattle.node_talk.specs.declared.fault.NodeFault.{NodeFault}
@@ -32,29 +36,32 @@ use Rattle.link_reader.specs.Expected.{TalkModel}
 use Rattle.link_reader.proofs.ToldCauses.{tells_cause}
 use Rattle.node_run.specs.Mail.{Mail, IsMail, outlet_to, box_of}
 use Rattle.node_run.specs.Progress.{Begin, Agrees, IsOf, Stopped, StopsBy, Halted, Ungreeted, InOrder, OutletStays, before_session}
-use Rattle.node_run.specs.Remains.{RemainsModel, SpawnerStays, AllStaySteady, PeerEnd, AllEnd, EndsAs, Remained, party_at, fault_told, answer}
-use Rattle.node_run.specs.NodeRuns.{Runs, GaveAll, GaveAllBelow, IsFirst, NothingSaid, TellsSends, TellsRefusals, KeepsOutlet, StaySteady}
+use Rattle.node_run.specs.Remains.{RemainsModel, SpawnerStays, AllKeepCalm, PeerEnd, AllEnd, ReadBy, EndsAtRefusal, EndsAs, Remained, party_at, fault_told, answer}
+use Rattle.node_run.specs.NodeRuns.{Runs, GaveAll, GaveAllBelow, IsFirst, IsFirstUnstarted, NothingSaid, TellsSends, TellsRefusals, KeepsOutlet, StaySteady}
 use Rattle.node_run.proofs.KnownWords.{known, agrees_known}
 use Rattle.node_run.proofs.OutletSteps.{going_stays}
 use Rattle.node_run.proofs.SessionSteps.{stopped_at}
 use Rattle.node_run.proofs.DoneRuns.{is_done}
 use Rattle.node_run.proofs.CellChanges.{place_within}
-use Rattle.node_run.proofs.ReaderRuns.{peer_at, all_stay, spawner_rests}
-use Rattle.node_run.proofs.PeerEnds.{place_there, place_less, words_of, end_at, FirstEnd, first_end, stays_at, PeerRead, peer_read, WordRead, word_read, there, sender, gave_all}
+use Rattle.node_run.proofs.ReaderRuns.{peer_at, spawner_rests}
+use Rattle.node_run.proofs.ClosedLinks.{all_shut, inlets_closed, outlets_closed, outlet_shut}
+use Rattle.node_run.proofs.PeerEnds.{party_there, place_there, place_less, RefusedAt, refused_at, words_of, end_at, FirstEnd, first_end, stays_at, PeerRead, peer_read, WordRead, word_read, there, sender, gave_all}
 
 -- ---- the clauses, by the answer
 
 module _ (n : Node) (before after : LinksReading) (spawner spawner' : SpawnerReading) where
-  pub fault_runs : (fault : NodeFault) → length n.digest ≡ 32 → HasPeers (n.world.plan.parties - 1) after → (got : Key → ℕ) × BrokeOff n got before after
+  pub fault_runs : (fault : NodeFault) → length n.digest ≡ 32 → HasPeers (n.world.plan.parties - 1) after → IsTrue (are_closed after) → (got : Key → ℕ) × BrokeOff n got before after
       → Cause n before after spawner.refusals spawner'.refusals fault → IsFirst n before after fault → TellsSends n before after (Err fault) → TellsRefusals spawner.refusals spawner'.refusals (Err fault)
       → NothingSaid n before after fault → StaySteady n before after spawner spawner' → Runs n before after spawner spawner' (Err fault)
-  fault_runs fault long peers broke cause first sends starts unsaid steady = record {
+  fault_runs fault long peers closed broke cause first sends starts unsaid steady = record {
     peers = peers;
+    closed = closed;
     done = tt;
     broke = broke;
     cause = cause;
     least = first;
     sends = sends;
+    reads = λ q peer changed. refl;
     starts = starts;
     unsaid = unsaid;
     completes = λ hears none quiet. absurd (no_cause n before after spawner.refusals spawner'.refusals long hears none quiet fault cause);
@@ -62,15 +69,17 @@ module _ (n : Node) (before after : LinksReading) (spawner spawner' : SpawnerRea
     steady = steady;
   }
 
-  pub done_runs : (r : Results) → n.me < n.world.plan.parties → HasPeers (n.world.plan.parties - 1) after → (got : Key → ℕ) × IsDone n got r × TalkedThrough n got before after
-      → TellsSends n before after (Ok r) → TellsRefusals spawner.refusals spawner'.refusals (Ok r) → StaySteady n before after spawner spawner' → Runs n before after spawner spawner' (Ok r)
-  done_runs r party peers done sends starts steady = record {
+  pub done_runs : (r : Results) → n.me < n.world.plan.parties → HasPeers (n.world.plan.parties - 1) after → IsTrue (are_closed after) → (got : Key → ℕ) × IsDone n got r × TalkedThrough n got before after
+      → ((q : ℕ) → IsPeer n q → (in_from n after q).faults ≡ (in_from n before q).faults) → TellsSends n before after (Ok r) → TellsRefusals spawner.refusals spawner'.refusals (Ok r) → StaySteady n before after spawner spawner' → Runs n before after spawner spawner' (Ok r)
+  done_runs r party peers closed done calm sends starts steady = record {
     peers = peers;
+    closed = closed;
     done = done;
     broke = tt;
     cause = tt;
     least = tt;
     sends = sends;
+    reads = λ q peer changed. absurd (changed (calm q peer));
     starts = starts;
     unsaid = tt;
     completes = λ hears none quiet. refl;
@@ -80,22 +89,26 @@ module _ (n : Node) (before after : LinksReading) (spawner spawner' : SpawnerRea
 
 -- ---- what is left of the links
 
-module _ (n : Node) (start : Begin) (after : LinksReading) (now : Mail) (own : IsOf n start now) (mail : IsMail now) (inlets : length after.inlets ≡ length start.links.inlets) (outlets : after.outlets ≡ now.outlets)
+module _ (n : Node) (start : Begin) (after : LinksReading) (now : Mail) (own : IsOf n start now) (mail : IsMail now) (inlets : length after.inlets ≡ length start.links.inlets) (outlets : after.outlets ≡ map shut_outlet now.outlets)
     (were : HasPeers (n.world.plan.parties - 1) start.links) where
-  pub outlet_same : (q : ℕ) → out_to n after q ≡ outlet_to now q
-  outlet_same q = ap (λ z. slice_index_or z (place_among n.me q) no_outlet) outlets ∙ ap (λ z. slice_index_or now.outlets (place_among z q) no_outlet) (sym own.me)
+  pub outlet_same : (q : ℕ) → out_to n after q ≡ record (outlet_to now q) { steady = false }
+  outlet_same q =
+      ap (λ z. (slice_index_or z (place_among n.me q) no_outlet).sink) outlets ∙ outlet_shut now.outlets (place_among n.me q)
+      ∙ ap (λ z. record (slice_index_or now.outlets (place_among z q) no_outlet).sink { steady = false }) (sym own.me)
+
+  pub all_closed : IsTrue (list_all (λ (i : InletReading). i.closed) after.inlets) → IsTrue (are_closed after)
+  all_closed shut = both_true _ _ shut (subst (λ z. IsTrue (list_all (λ (o : OutletReading). o.closed) z)) (sym outlets) (outlets_closed now.outlets))
 
   pub has_peers : HasPeers (n.world.plan.parties - 1) after
   has_peers = record {
     inlets = inlets ∙ were.inlets;
-    outlets = (let a = mail.outlets in let b = ap (λ z. z.parties) own.plan in let c = ap (λ z. length z) outlets in omega (arith, a, b, c));
+    outlets = (let a = mail.outlets in let b = ap (λ z. z.parties) own.plan in let c = ap (λ z. length z) outlets ∙ length-map now.outlets shut_outlet in omega (arith, a, b, c));
   }
 
   module _ (stays : (q : ℕ) → IsPeer n q → OutletStays n q now.failed (out_to n start.links q) (outlet_to now q)) where
     pub keeps_outlet : (q : ℕ) → IsPeer n q → KeepsOutlet n q (out_to n start.links q) (out_to n after q)
     keeps_outlet q peer = subst (KeepsOutlet n q (out_to n start.links q)) (sym (outlet_same q)) (record {
       faults_grow = (stays q peer).grows;
-      steady = (stays q peer).steady;
       room = λ s fits. (stays q peer).calm ((stays q peer).room s fits);
     })
 
@@ -192,13 +205,16 @@ module _ (n : Node) (start : Begin) (after : LinksReading) (now : Mail) (own : I
         → (got : Key → ℕ) × IsDone n got r × TalkedThrough n got start.links after
     ran none ds r order is = is_done n start after ds now r (record {
       order = order;
-      outlets = outlets;
+      told = λ q peer. ap (λ z. z.told) (outlet_same q);
       words = words;
       read = λ q peer. let r = read q peer in whole_reads q (words q) r.0 (r.2 none) r.1.reads;
       heard = λ m v to e. let w = taken_word m v to e in (w.within, w.word);
       kept_words = ap (λ z. z.words) is;
       kept_outputs = ap (λ z. z.outputs) is;
     })
+
+    pub read_calm : fault ≡ None → (q : ℕ) → IsPeer n q → (in_from n after q).faults ≡ (in_from n start.links q).faults
+    read_calm none q peer = let r = read q peer in (whole_reads q (words q) r.0 (r.2 none) r.1.reads).0.faults
 
     -- a party doesn't stop for a reader that ended by a fault, where none did
     pub no_stop : fault ≡ None → StopsBy n start now None → ⊥
@@ -226,26 +242,29 @@ of_reader talk words before after (BadFrame q at bytes) h = ⊎_elim (λ none. a
 of_reader talk words before after (OtherJob q ours theirs) h = ⊎_elim (λ none. none.1.0) (λ (s : CameShort talk words before after (OtherJob q ours theirs)). absurd s.no_frame) h
 of_reader talk words before after (NoThread q) h = ⊎_elim (λ none. absurd none.1) (λ (s : CameShort talk words before after (NoThread q)). absurd s.no_frame) h
 
-is_first : (n : Node) (before after : LinksReading) (x : NodeFault) (q : ℕ) → peer_of x ≡ q → GaveAllBelow n before after q → IsFirst n before after x
-is_first n before after (Link p) q e h = inr (subst (GaveAllBelow n before after) (sym e) h)
-is_first n before after (Closed p at) q e h = subst (GaveAllBelow n before after) (sym e) h
-is_first n before after (BadFrame p at bytes) q e h = subst (GaveAllBelow n before after) (sym e) h
-is_first n before after (OtherJob p ours theirs) q e h = subst (GaveAllBelow n before after) (sym e) h
-is_first n before after (NoThread p) q e h = tt
-
 -- a reader doesn't tell that it wasn't started
+never_unstarted : (talk : TalkModel) (words : List ℕ) (b a : InletReading) (p : ℕ) → Reads talk words b a (Err (NoThread p)) → ⊥
+never_unstarted talk words b a p h = ⊎_elim (λ none. none.1) (λ (s : CameShort talk words b a (NoThread p)). s.no_frame) h
+
+is_first : (n : Node) (before after : LinksReading) (x : NodeFault) (q : ℕ) → peer_of x ≡ q → GaveAllBelow n before after q → (talk : TalkModel) (words : List ℕ) (b a : InletReading) → Reads talk words b a (Err x) → IsFirst n before after x
+is_first n before after (Link p) q e h talk words b a reads = inr (subst (GaveAllBelow n before after) (sym e) h)
+is_first n before after (Closed p at) q e h talk words b a reads = subst (GaveAllBelow n before after) (sym e) h
+is_first n before after (BadFrame p at bytes) q e h talk words b a reads = subst (GaveAllBelow n before after) (sym e) h
+is_first n before after (OtherJob p ours theirs) q e h talk words b a reads = subst (GaveAllBelow n before after) (sym e) h
+is_first n before after (NoThread p) q e h talk words b a reads = absurd (never_unstarted talk words b a p reads)
+
 nothing_unsaid : (n : Node) (before after : LinksReading) (x : NodeFault) (talk : TalkModel) (words : List ℕ) (b a : InletReading) → Reads talk words b a (Err x) → NothingSaid n before after x
 nothing_unsaid n before after (Link p) talk words b a h = tt
 nothing_unsaid n before after (Closed p at) talk words b a h = tt
 nothing_unsaid n before after (BadFrame p at bytes) talk words b a h = tt
 nothing_unsaid n before after (OtherJob p ours theirs) talk words b a h = tt
-nothing_unsaid n before after (NoThread p) talk words b a h = absurd (⊎_elim (λ none. none.1) (λ (s : CameShort talk words b a (NoThread p)). s.no_frame) h)
+nothing_unsaid n before after (NoThread p) talk words b a h = absurd (never_unstarted talk words b a p h)
 
 -- ---- the run of a node
 
 module _ (n : Node) (start : Begin) (after : LinksReading) (spawner spawner' : SpawnerReading) (were : HasPeers (n.world.plan.parties - 1) start.links) where
   -- what stays steady
-  steady_links : (now : Mail) → IsOf n start now → IsMail now → length after.inlets ≡ length start.links.inlets → after.outlets ≡ now.outlets → AllStaySteady start.links.inlets after.inlets → SpawnerStays spawner spawner'
+  steady_links : (now : Mail) → IsOf n start now → IsMail now → length after.inlets ≡ length start.links.inlets → after.outlets ≡ map shut_outlet now.outlets → AllKeepCalm start.links.inlets after.inlets → SpawnerStays spawner spawner'
       → ((q : ℕ) → IsPeer n q → OutletStays n q now.failed (out_to n start.links q) (outlet_to now q)) → StaySteady n start.links after spawner spawner'
   steady_links now own mail inlets outlets all spawners stays = record {
     inlets = λ q peer. stays_at start.links.inlets after.inlets (place_among n.me q) all;
@@ -254,27 +273,27 @@ module _ (n : Node) (start : Begin) (after : LinksReading) (spawner spawner' : S
   }
 
   -- a send failed
-  send_failed : (now : Mail) → IsMail now → (h : Halted n start now) (q : ℕ) → now.failed ≡ Some q → length after.inlets ≡ length start.links.inlets → after.outlets ≡ now.outlets → AllStaySteady start.links.inlets after.inlets → SpawnerStays spawner spawner'
+  send_failed : (now : Mail) → IsMail now → (h : Halted n start now) (q : ℕ) → now.failed ≡ Some q → length after.inlets ≡ length start.links.inlets → after.outlets ≡ map shut_outlet now.outlets → AllKeepCalm start.links.inlets after.inlets → IsTrue (list_all (λ (i : InletReading). i.closed) after.inlets) → SpawnerStays spawner spawner'
       → spawner'.refusals ≡ spawner.refusals → (got : Key → ℕ) × BrokeOff n got start.links after → Runs n start.links after spawner spawner' (Err (Link q))
-  send_failed now mail h q is inlets outlets all spawners quiet broke =
+  send_failed now mail h q is inlets outlets all shut spawners quiet broke =
       let own = h.stopped.own in
       let why : StopsBy n start now (Some q) = subst (StopsBy n start now) is h.why in
       let rose : Rose (out_to n start.links q).faults (out_to n after q).faults = subst (λ z. Rose (out_to n start.links q).faults z.faults) (sym (outlet_same n start after now own mail inlets outlets were q)) why.1 in
-      fault_runs n start.links after spawner spawner' (Link q) own.digest (has_peers n start after now own mail inlets outlets were) broke (why.0, inr rose) (inl rose)
+      fault_runs n start.links after spawner spawner' (Link q) own.digest (has_peers n start after now own mail inlets outlets were) (all_closed n start after now own mail inlets outlets were shut) broke (why.0, inr rose) (inl rose)
       (tells_sends n start after now own mail inlets outlets were h.outlets (Err (Link q)) (λ p e. ap (λ z. Err (Link z)) (let f : Some q ≡ Some p = sym is ∙ e in cc)))
       (λ changed. absurd (changed quiet)) tt (steady_links now own mail inlets outlets all spawners h.outlets)
 
   -- a hello failed
-  pub ungreeted_runs : (now : Mail) → IsMail now → Ungreeted n start now → after.inlets ≡ start.links.inlets → after.outlets ≡ now.outlets → spawner' ≡ spawner → (fault : Option NodeFault) (r : Results)
+  pub ungreeted_runs : (now : Mail) → IsMail now → Ungreeted n start now → after.inlets ≡ map shut_inlet start.links.inlets → after.outlets ≡ map shut_outlet now.outlets → spawner' ≡ spawner → (fault : Option NodeFault) (r : Results)
       → Runs n start.links after spawner spawner' (answer (fault_told now.failed None fault) r)
   ungreeted_runs now mail u inlets outlets rests fault r = by_failed now.failed refl
     where
       by_failed : (o : Option ℕ) → now.failed ≡ o → Runs n start.links after spawner spawner' (answer (fault_told now.failed None fault) r)
       by_failed None is = absurd (u.some is)
       by_failed (Some q) is =
-          let many = ap (λ (z : List InletReading). length z) inlets in
+          let many = ap (λ (z : List InletReading). length z) inlets ∙ length-map start.links.inlets shut_inlet in
           subst (λ z. Runs n start.links after spawner spawner' (answer (fault_told z None fault) r)) (sym is)
-          (send_failed now mail u.halted q is many outlets (subst (AllStaySteady start.links.inlets) (sym inlets) (all_stay start.links.inlets)) (subst (SpawnerStays spawner) (sym rests) (spawner_rests spawner))
+          (send_failed now mail u.halted q is many outlets (subst (AllKeepCalm start.links.inlets) (sym inlets) (all_shut start.links.inlets)) (subst (λ z. IsTrue (list_all (λ (i : InletReading). i.closed) z)) (sym inlets) (inlets_closed start.links.inlets)) (subst (SpawnerStays spawner) (sym rests) (spawner_rests spawner))
           (ap (λ z. z.refusals) rests) (broke_silent n start after now u.halted.stopped.own mail many outlets were u.words u.halted.stopped))
 
   -- the readers were started, or a start was refused
@@ -285,7 +304,7 @@ module _ (n : Node) (start : Begin) (after : LinksReading) (spawner spawner' : S
     abbrev results : Results
     results = record { words = r.words.cells; outputs = map (λ (d : Desk). d.memory.outputs.items) r.desks }
 
-    outlets' : after.outlets ≡ h.now.outlets
+    outlets' : after.outlets ≡ map shut_outlet h.now.outlets
     outlets' = outs ∙ h.outlets
 
     abbrev Answers : Option NodeFault → Type 0
@@ -294,6 +313,25 @@ module _ (n : Node) (start : Begin) (after : LinksReading) (spawner spawner' : S
     peers' : HasPeers (n.world.plan.parties - 1) after
     peers' = has_peers n start after h.now h.own h.mail h.count outlets' were
 
+    closed' : IsTrue (are_closed after)
+    closed' = all_closed n start after h.now h.own h.mail h.count outlets' were h.closed
+
+    -- the first reader that wasn't started, peer by peer
+    unstarted : (p : ℕ) → IsPeer n p → EndsAtRefusal n p 0 start.links.inlets after.inlets → IsFirstUnstarted n start.links after p
+    unstarted p peer e =
+        let u : RefusedAt n p 0 start.links.inlets after.inlets = refused_at n p 0 start.links.inlets after.inlets e in
+        let place : place_among n.me p ≡ u.k = ap (place_among n.me) (sym (u.at u.k (omega arith))) ∙ place_there n.me u.k in
+        record {
+          below = λ r other l.
+              let less : place_among n.me r < u.k = (let a = place_less n.me p r peer.1 other.1 l in omega (arith, a, place)) in
+              let read = u.below (place_among n.me r) (place_among n.me r) less (omega arith) in
+              (read.0, read.1, subst (λ z. Reads (incoming n z) read.0 (in_from n start.links r) (in_from n after r) read.1) (party_there n.me r other.1) read.2);
+          itself = subst (λ k. (slice_index_or after.inlets k no_inlet ≡ shut_inlet (slice_index_or start.links.inlets k no_inlet)) ⊎ ReadBy (incoming n p) (slice_index_or start.links.inlets k no_inlet) (slice_index_or after.inlets k no_inlet)) (sym place) u.itself;
+          above = λ r other l.
+              let more : u.k < place_among n.me r = (let a = place_less n.me r p other.1 peer.1 l in omega (arith, a, place)) in
+              u.above (place_among n.me r) more (place_within n.me r n.world.plan.parties (length start.links.inlets) other.0 other.1 h.own.part.party (let a = were.inlets in let b = h.own.part.party in omega (arith, a, b)));
+        }
+
     -- a reader wasn't started
     refused_runs : (p : ℕ) → r.refused ≡ Some p → EndsAs n start 0 start.links.inlets after.inlets spawner.refusals spawner'.refusals r h.now (Some p) → Answers (fault_told r.failed r.refused r.fault)
     refused_runs p is e =
@@ -301,7 +339,7 @@ module _ (n : Node) (start : Begin) (after : LinksReading) (spawner spawner' : S
         let stays = going_stays n 0 start h.now e.1 in
         let same = outlet_same n start after h.now h.own h.mail h.count outlets' were in
         subst (λ z. Answers (fault_told z r.refused r.fault)) (sym none) (subst (λ z. Answers (fault_told None z r.fault)) (sym is)
-        (fault_runs n start.links after spawner spawner' (NoThread p) h.own.digest peers' (broke_silent n start after h.now h.own h.mail h.count outlets' were e.2 (stopped_at n 0 start h.now e.1)) (e.0, e.3) tt
+        (fault_runs n start.links after spawner spawner' (NoThread p) h.own.digest peers' closed' (broke_silent n start after h.now h.own h.mail h.count outlets' were e.2 (stopped_at n 0 start h.now e.1)) (e.0, e.3) (unstarted p e.0 e.4)
         (tells_sends n start after h.now h.own h.mail h.count outlets' were stays (Err (NoThread p)) (λ q f. absurd (let x : None ≡ Some q = sym e.1.quiet ∙ f in cc)))
         (λ changed. (p, refl))
         (λ q peer. ap (λ z. z.told) (same q) ∙ e.1.sent (known n h.now.words.cells) (agrees_known n h.now.words.cells h.own.cells) q peer ∙ ap (added (out_to n start.links q).told) (append-nil (hello n.me q n.digest)))
@@ -333,7 +371,7 @@ module _ (n : Node) (start : Begin) (after : LinksReading) (spawner spawner' : S
       sends_failed : (q : ℕ) → h.now.failed ≡ Some q → Answers (Some (Link q))
       sends_failed q is = elim ends [
         | left' order ↦ absurd (let f : None ≡ Some q = sym order.going.quiet ∙ is in cc)
-        | right' halted ↦ send_failed h.now h.mail halted q is h.count outlets' h.inlets h.spawner_stays quiet broke
+        | right' halted ↦ send_failed h.now h.mail halted q is h.count outlets' h.inlets h.closed h.spawner_stays quiet broke
       ]
 
       module _ (calm : h.now.failed ≡ None) where
@@ -344,9 +382,9 @@ module _ (n : Node) (start : Begin) (after : LinksReading) (spawner spawner' : S
         reader_failed : (x : NodeFault) → r.fault ≡ Some x → Answers (Some x)
         reader_failed x is =
             let f = first_fault n start after h.now h.own h.mail h.count outlets' were r.fault all x is in
-            fault_runs n start.links after spawner spawner' x h.own.digest peers' broke
+            fault_runs n start.links after spawner spawner' x h.own.digest peers' closed' broke
             (tells_cause n f.0 h.own.digest f.1 f.2.0 start.links after spawner.refusals spawner'.refusals x f.2.1)
-            (is_first n start.links after x f.0 (of_reader (incoming n f.0) f.2.0 (in_from n start.links f.0) (in_from n after f.0) x f.2.1) f.3)
+            (is_first n start.links after x f.0 (of_reader (incoming n f.0) f.2.0 (in_from n start.links f.0) (in_from n after f.0) x f.2.1) f.3 (incoming n f.0) f.2.0 (in_from n start.links f.0) (in_from n after f.0) f.2.1)
             (sends' (Err x)) (λ changed. absurd (changed quiet))
             (nothing_unsaid n start.links after x (incoming n f.0) f.2.0 (in_from n start.links f.0) (in_from n after f.0) f.2.1) steady'
 
@@ -354,8 +392,9 @@ module _ (n : Node) (start : Begin) (after : LinksReading) (spawner spawner' : S
         all_done : r.fault ≡ None → Answers None
         all_done none = elim ends [
           | left' order ↦
-              done_runs n start.links after spawner spawner' results h.own.part.party peers'
+              done_runs n start.links after spawner spawner' results h.own.part.party peers' closed'
               (ran n start after h.now h.own h.mail h.count outlets' were r.fault all none r.desks results order (ap (λ z. record { words = z.cells; outputs = map (λ (d : Desk). d.memory.outputs.items) r.desks }) h.words))
+              (read_calm n start after h.now h.own h.mail h.count outlets' were r.fault all none)
               (sends' (Ok results)) (λ changed. absurd (changed quiet)) steady'
           | right' halted ↦ absurd (no_stop n start after h.now h.own h.mail h.count outlets' were r.fault all none (subst (StopsBy n start h.now) calm halted.why))
         ]

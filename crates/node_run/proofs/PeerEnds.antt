@@ -1,5 +1,5 @@
 -- What each reader read, from the end of all of them.
-use Rattle.std.proofs.Common.{◌≡◌, ◌≢◌, ℕ, zero, suc, ◌+◌, ◌%◌, ◌<◌, ◌^◌, false, List, [], ◌∷◌, length, refl, sym, ap, ◌∙◌, subst, arith, Option, Some, None, Result, Ok, Err, mod-eq_of_lt, pow_pos}
+use Rattle.std.proofs.Common.{◌≡◌, ◌≢◌, ◌⊎◌, ⊎_elim, ℕ, zero, suc, ◌+◌, ◌%◌, ◌<◌, ◌^◌, false, List, [], ◌∷◌, length, map, refl, sym, ap, ◌∙◌, subst, arith, Option, Some, None, Result, Ok, Err, mod-eq_of_lt, pow_pos}
 use Rattle.std.specs.Prelude.{slice_index, slice_index_or, is_err}
 use Rattle.std.proofs.lemmas.Bool.Decides.{nat_tests}
 use Rattle.list_laws.proofs.JoinedLists.{every_at}
@@ -7,25 +7,23 @@ use Rattle.message_board.specs.Pairs.{Knows}
 use Rattle.message_board.specs.Plain.{plain_cell}
 use Rattle.inbox_board.specs.Seats.{mark_of}
 use Rattle.inbox_board.specs.Folds.{GotWhatWasPushed}
-use Rattle.job_plan.specs.declared.key.Key.{Key}
 use Rattle.job_plan.specs.Messages.{messages}
-use Rattle.job_plan.specs.Numbers.{message, number}
-use Rattle.job_plan.proofs.DistinctMessages.{numbers_are_inverse}
-use Rattle.outer_io.specs.Inlet.{InletReading}
+use Rattle.job_plan.specs.Numbers.{message}
+use Rattle.outer_io.specs.Inlet.{InletReading, shut_inlet}
 use Rattle.outer_io.specs.Links.{LinksReading}
 use Rattle.node_talk.specs.declared.fault.NodeFault.{NodeFault}
-use Rattle.node_talk.specs.Talks.{Node, IsPeer, expected, expected_at, place_of}
+use Rattle.node_talk.specs.Talks.{Node, IsPeer, place_of}
 use Rattle.node_talk.specs.PeerLinks.{place_among, no_inlet, in_from}
-use Rattle.node_talk.proofs.ExpectedPlaces.{between_parties, Expected, expected_there}
-use Rattle.link_reader.specs.Heard.{StaysSteady}
+use Rattle.node_talk.proofs.ExpectedPlaces.{between_parties}
+use Rattle.link_reader.specs.Heard.{KeepsCalm}
 use Rattle.link_reader.specs.NodeReaders.{incoming, ReadsFrom}
 use Rattle.link_reader.specs.ReadWords.{Reads}
-use Rattle.link_reader.proofs.Runs.{came_so_far, whole_words}
+use Rattle.link_reader.proofs.Runs.{came_so_far, whole_words, word_at, word_at_place}
 use Rattle.node_run.specs.Mail.{Mail, IsMail, place_to, no_box, box_of}
 use Rattle.node_run.specs.Progress.{Begin, IsOf}
-use Rattle.node_run.specs.Remains.{party_at, PeerEnd, first_of, AllEnd, AllStaySteady}
+use Rattle.node_run.specs.Remains.{party_at, PeerEnd, first_of, AllEnd, AllKeepCalm, ReadBy, EndsAtRefusal}
 use Rattle.node_run.specs.NodeRuns.{GaveAll}
-use Rattle.node_run.proofs.ReaderRuns.{stays_steady}
+use Rattle.node_run.proofs.ClosedLinks.{calm_same, inlet_shut}
 
 -- ---- places of peers
 
@@ -113,13 +111,60 @@ first_end n now place (b ∷ befores) [] fault x h e = absurd h
 first_end n now place (b ∷ befores) (a ∷ afters) fault x h e =
     first_by n now place b a befores afters h.0 x h.2.0 h.1 (sym e ∙ h.2.2) (λ more. first_end n now (suc place) befores afters h.2.0 x h.2.1 more)
 
--- each inlet stayed steady
-pub stays_at : (befores afters : List InletReading) (k : ℕ) → AllStaySteady befores afters → StaysSteady (slice_index_or befores k no_inlet) (slice_index_or afters k no_inlet)
-stays_at [] [] k h = stays_steady no_inlet
+-- no steady inlet failed
+pub stays_at : (befores afters : List InletReading) (k : ℕ) → AllKeepCalm befores afters → KeepsCalm (slice_index_or befores k no_inlet) (slice_index_or afters k no_inlet)
+stays_at [] [] k h = calm_same no_inlet
 stays_at [] (a ∷ afters) k h = absurd h
 stays_at (b ∷ befores) [] k h = absurd h
 stays_at (b ∷ befores) (a ∷ afters) zero h = h.0
 stays_at (b ∷ befores) (a ∷ afters) (suc k) h = stays_at befores afters k h.1
+
+-- the first reader that wasn't started, with what became of the others
+pub record RefusedAt (n : Node) (q place : ℕ) (befores afters : List InletReading) : Type 0 where
+  pub k : ℕ
+  pub within : k < length befores
+  pub at : (p : ℕ) → p ≡ place + k → party_at n.me p ≡ q
+  pub below : (j p : ℕ) → j < k → p ≡ place + j → ReadBy (incoming n (party_at n.me p)) (slice_index_or befores j no_inlet) (slice_index_or afters j no_inlet)
+  pub itself : (slice_index_or afters k no_inlet ≡ shut_inlet (slice_index_or befores k no_inlet)) ⊎ ReadBy (incoming n q) (slice_index_or befores k no_inlet) (slice_index_or afters k no_inlet)
+  pub above : (j : ℕ) → k < j → j < length befores → slice_index_or afters j no_inlet ≡ shut_inlet (slice_index_or befores j no_inlet)
+
+pub refused_at : (n : Node) (q place : ℕ) (befores afters : List InletReading) → EndsAtRefusal n q place befores afters → RefusedAt n q place befores afters
+refused_at n q place [] [] h = absurd h
+refused_at n q place [] (a ∷ afters) h = absurd h
+refused_at n q place (b ∷ befores) [] h = absurd h
+refused_at n q place (b ∷ befores) (a ∷ afters) h = ⊎_elim
+    (λ (here : (party_at n.me place ≡ q) × ((a ≡ shut_inlet b) ⊎ ReadBy (incoming n q) b a) × (afters ≡ map shut_inlet befores)). record {
+      k = 0;
+      within = omega arith;
+      at = λ p e. ap (party_at n.me) (let x : p ≡ place = omega arith in x) ∙ here.0;
+      below = λ j p l e. absurd (omega arith);
+      itself = here.1;
+      above = λ j l within. above_first here.2 j l within;
+    })
+    (λ later. read_first later.0 (refused_at n q (suc place) befores afters later.1))
+    h
+  where
+    above_first : afters ≡ map shut_inlet befores → (j : ℕ) → 0 < j → j < length (b ∷ befores) → slice_index_or (a ∷ afters) j no_inlet ≡ shut_inlet (slice_index_or (b ∷ befores) j no_inlet)
+    above_first e zero l within = absurd (omega arith)
+    above_first e (suc j) l within = ap (λ (z : List InletReading). slice_index_or z j no_inlet) e ∙ inlet_shut befores j (omega arith)
+
+    read_first : ReadBy (incoming n (party_at n.me place)) b a → RefusedAt n q (suc place) befores afters → RefusedAt n q place (b ∷ befores) (a ∷ afters)
+    read_first read r = record {
+      k = suc r.k;
+      within = (let w = r.within in omega arith);
+      at = λ p e. r.at p (omega arith);
+      below = below;
+      itself = r.itself;
+      above = above;
+    }
+      where
+        below : (j p : ℕ) → j < suc r.k → p ≡ place + j → ReadBy (incoming n (party_at n.me p)) (slice_index_or (b ∷ befores) j no_inlet) (slice_index_or (a ∷ afters) j no_inlet)
+        below zero p l e = subst (λ z. ReadBy (incoming n (party_at n.me z)) b a) (let x : place ≡ p = omega arith in x) read
+        below (suc j) p l e = r.below j p (omega arith) (omega arith)
+
+        above : (j : ℕ) → suc r.k < j → j < length (b ∷ befores) → slice_index_or (a ∷ afters) j no_inlet ≡ shut_inlet (slice_index_or (b ∷ befores) j no_inlet)
+        above zero l within = absurd (omega arith)
+        above (suc j) l within = r.above j (omega arith) (omega arith)
 
 -- ---- peer by peer
 
@@ -170,17 +215,6 @@ module _ (n : Node) (start : Begin) (now : Mail) (own : IsOf n start now) (mail 
         within = k.0;
         word = x.reduced ∙ ap (λ z. x.found % 2 ^ z.bits) own.plan ∙ mod-eq_of_lt small ∙ sym k.1;
       }
-
--- ---- words as a function of messages
-
--- the word that stands among these at the place of a message
-abbrev pub word_at : Node → List ℕ → Key → ℕ
-word_at n words key = slice_index words (place_of n (number n.world.plan key))
-
-pub word_at_place : (n : Node) (q : ℕ) (words : List ℕ) (place : ℕ) → place < length (expected n q) → word_at n words (expected_at n q place) ≡ slice_index words place
-word_at_place n q words place l =
-    let x : Expected n q place = expected_there n q place l in
-    ap (word_at n words) (sym x.same) ∙ ap (λ z. slice_index words (place_of n z)) ((numbers_are_inverse n.world.plan).0 x.number x.there) ∙ ap (slice_index words) x.place_is
 
 -- a reader that read all that is expected gave all
 pub gave_all : (n : Node) (q : ℕ) (words : List ℕ) (before after : LinksReading) → ReadsFrom n q words before after (Ok tt) → GaveAll n before after q

@@ -1,27 +1,33 @@
 -- How a run with its readers is put together.
-use Rattle.std.proofs.Common.{◌≡◌, true, ◌⊎◌, ℕ, zero, suc, ◌+◌, ◌-◌, ◌<◌, List, [], ◌∷◌, ◌++◌, length, take, refl, sym, ap, ◌∙◌, subst, arith, Option, Some, None, ⊎_elim}
-use Rattle.std.specs.Prelude.{◌==◌, slice_index_or, is_err, IsOk, Result, Ok, Err, remove}
+use Rattle.std.proofs.Common.{◌≡◌, true, ◌⊎◌, ℕ, zero, suc, ◌+◌, ◌-◌, ◌<◌, List, [], ◌∷◌, ◌++◌, length, take, refl, sym, ap, ◌∙◌, subst, arith, map, Option, Some, None, inl as left', inr as right', ⊎_elim}
+use Rattle.std.specs.Prelude.{◌==◌, slice_index_or, is_err, IsOk, IsTrue, Result, Ok, Err, remove}
 use Rattle.std.proofs.lemmas.List.{length-take-le}
 use Rattle.std.proofs.lemmas.Bool.{false≢true}
 use Rattle.std.proofs.lemmas.Bool.Decides.{nat_tests}
 use Rattle.std.proofs.Math.ListN.{length-map}
 use mathlib.Core.Logic.{inl, inr}
+use Rattle.std.specs.List.{list_all}
+use Rattle.outer_io.proofs.NetRefusals.{both_true}
+use Rattle.outer_io.specs.Outlet.{shut_outlet}
 use Rattle.atomic_table.specs.Seated.{TableId}
 use Rattle.inbox_board.specs.Rule.{newcomer, ends}
 use Rattle.inbox_board.specs.Seats.{mark_of}
 use Rattle.inbox_board.specs.Folds.{pushed, GotWhatWasPushed}
 use Rattle.party_desk.specs.declared.desk.Desk.{Desk}
 use Rattle.outer_io.specs.Count.{Rose}
-use Rattle.outer_io.specs.Inlet.{InletReading}
+use Rattle.outer_io.specs.Inlet.{InletReading, shut_inlet}
 use Rattle.outer_io.specs.Jobs.{SpawnerReading, Starts}
 use Rattle.node_talk.specs.declared.fault.NodeFault.{NodeFault}
 use Rattle.node_talk.specs.Talks.{Node, IsPeer}
 use Rattle.link_reader.specs.ReadWords.{Reads, ReaderModel, HasRead, Works, WorksFrom}
-use Rattle.link_reader.specs.Heard.{StaysSteady}
+use Rattle.link_reader.specs.Heard.{KeepsCalm}
 use Rattle.link_reader.specs.NodeReaders.{incoming}
 use Rattle.node_run.specs.Mail.{Mail, IsMail, BoxModel, no_box}
 use Rattle.node_run.specs.Progress.{Begin, IsOf, Going, InOrder, Halted, ids_of}
-use Rattle.node_run.specs.Remains.{ReaderPartsModel, RemainsModel, party_at, IsFor, MayRun, PeerEnd, first_of, after_outcome, AllStaySteady, SpawnerStays, EndsAs, Remained}
+use Rattle.node_run.specs.Remains.{ReaderPartsModel, RemainsModel, party_at, IsFor, MayRun, PeerEnd, first_of, after_outcome, AllKeepCalm, ReadBy, EndsAtRefusal, SpawnerStays, EndsAs, Remained}
+use Rattle.node_run.proofs.ClosedLinks.{calm_same, all_shut, inlets_closed}
+use Rattle.link_reader.proofs.ShutInlets.{calm_shut, reads_shut}
+use Rattle.link_reader.specs.Expected.{TalkModel}
 
 -- ---- lists
 
@@ -79,13 +85,6 @@ next_readers n start place (y ∷ readers) x desks now l e h =
 
 -- ---- what is steady
 
-pub stays_steady : (x : InletReading) → StaysSteady x x
-stays_steady x = record { faults_grow = omega arith; steady = λ s. (s, refl) }
-
-pub all_stay : (xs : List InletReading) → AllStaySteady xs xs
-all_stay [] = tt
-all_stay (x ∷ xs) = (stays_steady x, all_stay xs)
-
 pub spawner_rests : (x : SpawnerReading) → SpawnerStays x x
 spawner_rests x = record { refusals_grow = omega arith; steady = λ s. (s, refl) }
 
@@ -103,7 +102,7 @@ pub all_ran : (n : Node) (start : Begin) (place : ℕ) (readers : List ReaderPar
     → MayRun n start place readers desks was → length readers ≡ 0 → length before ≡ 0
     → InOrder n (length n.world.plan.sessions) start desks' now ⊎ Halted n start now
     → IsMail now
-    → r ≡ record { outlets = now.outlets; words = now.words; boxes = take (length now.boxes - 0) now.boxes; desks = desks'; failed = now.failed; refused = None; fault = None }
+    → r ≡ record { outlets = map shut_outlet now.outlets; words = now.words; boxes = take (length now.boxes - 0) now.boxes; desks = desks'; failed = now.failed; refused = None; fault = None }
     → Remained n start place before before spawner spawner r
 all_ran n start place readers desks desks' was now [] spawner r h none short ran mail e =
     let own : IsOf n start now = elim ran [ inl x ↦ x.going.own | inr x ↦ x.stopped.own ] in
@@ -121,6 +120,7 @@ all_ran n start place readers desks desks' was now [] spawner r h none short ran
       boxes = ap (λ k. take k now.boxes) at;
       count = refl;
       inlets = tt;
+      closed = refl;
       spawner_stays = spawner_rests spawner;
       ends = (ran, refl, refl);
     })
@@ -133,10 +133,10 @@ peer_at n place l = grind (arith, nat_tests)
 pub was_refused : (n : Node) (start : Begin) (place : ℕ) (readers : List ReaderPartsModel) (desks : List Desk) (now : Mail)
     (before after : List InletReading) (spawner spawner' : SpawnerReading) (peer waiting : ℕ) (r : RemainsModel)
     → MayRun n start place readers desks now → 0 < length readers → waiting ≡ length readers → peer ≡ party_at n.me place → length after ≡ length before
-    → AllStaySteady before after → Rose spawner.refusals spawner'.refusals × SpawnerStays spawner spawner' → IsMail now
-    → r ≡ record { outlets = now.outlets; words = now.words; boxes = take (length now.boxes - waiting) now.boxes; desks = desks; failed = now.failed; refused = Some peer; fault = None }
+    → AllKeepCalm before after → IsTrue (list_all (λ (i : InletReading). i.closed) after) → (party_at n.me place ≡ peer → EndsAtRefusal n peer place before after) → Rose spawner.refusals spawner'.refusals × SpawnerStays spawner spawner' → IsMail now
+    → r ≡ record { outlets = map shut_outlet now.outlets; words = now.words; boxes = take (length now.boxes - waiting) now.boxes; desks = desks; failed = now.failed; refused = Some peer; fault = None }
     → Remained n start place before after spawner spawner' r
-was_refused n start place readers desks now before after spawner spawner' peer waiting r h some left is count steady refused mail e =
+was_refused n start place readers desks now before after spawner spawner' peer waiting r h some left is count steady closed ended refused mail e =
     let going : Going n 0 start now = h.order.going in
     let many : length now.boxes ≡ length start.ids = sym (length-map now.boxes (λ (b : BoxModel). b.id)) ∙ ap (λ (z : List TableId). length z) going.own.ids in
     let c = h.count in
@@ -154,8 +154,9 @@ was_refused n start place readers desks now before after spawner spawner' peer w
       boxes = ap (λ k. take k now.boxes) at;
       count = count;
       inlets = steady;
+      closed = closed;
       spawner_stays = refused.1;
-      ends = (one, going, h.empty, refused.0);
+      ends = (one, going, h.empty, refused.0, ended (sym is));
     })
 
 -- ---- starts
@@ -171,20 +172,41 @@ has_read {S} may_end before after reader end result s is h new ended =
 
 pub has_refused : {S : Type 0} (may_end : S → ReaderModel → Type 0) (before after : SpawnerReading) (reader back : ReaderModel) (result : Result S ReaderModel)
     → result ≡ Err back → Starts Works may_end reader before after result → reader.outcome ≡ None
-    → (Rose before.refusals after.refusals × SpawnerStays before after) × StaysSteady reader.inlet back.inlet
+    → (Rose before.refusals after.refusals × SpawnerStays before after) × KeepsCalm reader.inlet back.inlet × ((back.inlet ≡ reader.inlet) ⊎ ReadBy reader.talk reader.inlet back.inlet)
 has_refused {S} may_end before after reader back result is h new =
     let g : Starts Works may_end reader before after (Err back) = subst (Starts Works may_end reader before after) is h in
-    let steady : StaysSteady reader.inlet back.inlet = ⊎_elim
-    (λ same. subst (λ (z : ReaderModel). StaysSteady reader.inlet z.inlet) (sym same) (stays_steady reader.inlet))
-    (λ worked. (read_steady reader back (subst (λ o. WorksFrom o reader back) new worked)))
+    let did : KeepsCalm reader.inlet back.inlet × ((back.inlet ≡ reader.inlet) ⊎ ReadBy reader.talk reader.inlet back.inlet) = ⊎_elim
+    (λ same. (subst (λ (z : ReaderModel). KeepsCalm reader.inlet z.inlet) (sym same) (calm_same reader.inlet), left' (ap (λ (z : ReaderModel). z.inlet) same)))
+    (λ worked. (read_by reader back (subst (λ o. WorksFrom o reader back) new worked)))
     g.handed_back in
-    ((g.refused, record { refusals_grow = g.refusals_grow; steady = λ s. absurd (not_ok back (g.by_itself s)) }), steady)
+    ((g.refused, record { refusals_grow = g.refusals_grow; steady = λ s. absurd (not_ok back (g.by_itself s)) }), did.0, did.1)
   where
-    read_steady : (reader back : ReaderModel) → HasRead reader back → StaysSteady reader.inlet back.inlet
-    read_steady reader back h = h.steady
+    read_by : (reader back : ReaderModel) → HasRead reader back → KeepsCalm reader.inlet back.inlet × ((back.inlet ≡ reader.inlet) ⊎ ReadBy reader.talk reader.inlet back.inlet)
+    read_by reader back h = (h.steady, right' (h.words, h.outcome, h.reads))
 
     not_ok : (back : ReaderModel) → IsOk {T = S} {E = ReaderModel} (Err back) → ⊥
     not_ok back e = false≢true e
+
+-- a job that was handed back did nothing, or all its work
+abbrev pub HandedBack : TalkModel → InletReading → InletReading → Type 0
+HandedBack talk before after = KeepsCalm before after × ((after ≡ before) ⊎ ReadBy talk before after)
+
+-- what becomes of the inlets from the place of a refused start on, which are closed
+abbrev pub RefusedInlets : Node → ℕ → ℕ → List InletReading → List InletReading → Type 0
+RefusedInlets n place q befores afters =
+    AllKeepCalm befores afters × IsTrue (list_all (λ (i : InletReading). i.closed) afters) × (party_at n.me place ≡ q → EndsAtRefusal n q place befores afters)
+
+pub refused_inlets : (n : Node) (place q : ℕ) (b back : InletReading) (rest befores afters : List InletReading) → befores ≡ b ∷ rest → afters ≡ map shut_inlet (back ∷ rest) → HandedBack (incoming n (party_at n.me place)) b back
+    → RefusedInlets n place q befores afters
+refused_inlets n place q b back rest befores afters is_b is_a did =
+    subst (λ z. RefusedInlets n place q z afters) (sym is_b) (subst (RefusedInlets n place q (b ∷ rest)) (sym is_a)
+    ((calm_shut b back did.0, all_shut rest), inlets_closed (back ∷ rest), λ e. left' (e, itself e, refl)))
+  where
+    itself : party_at n.me place ≡ q → (shut_inlet back ≡ shut_inlet b) ⊎ ReadBy (incoming n q) b (shut_inlet back)
+    itself e = ⊎_elim
+        (λ same. left' (ap shut_inlet same))
+        (λ read. right' (read.0, read.1, reads_shut (incoming n q) read.0 b back read.1 (subst (λ p. Reads (incoming n p) read.0 b back read.1) e read.2)))
+        did.1
 
 -- ---- after the sessions
 
@@ -213,7 +235,7 @@ ends_more : (n : Node) (start : Begin) (place : ℕ) (befores afters : List Inle
     → (o : Option ℕ) → EndsAs n start (suc place) befores afters was is r now o
     → EndsAs n start place (b ∷ befores) (a ∷ afters) old is (record r { boxes = bs; fault = first_of result r.fault }) now o
 ends_more n start place befores afters b a old was is r bs now result p q None e = (e.0, (result, p, (r.fault, e.1, refl)), e.2 ∙ q)
-ends_more n start place befores afters b a old was is r bs now result p q (Some x) e = (e.0, e.1, e.2, subst (λ z. Rose z is) q e.3)
+ends_more n start place befores afters b a old was is r bs now result p q (Some x) e = (e.0, e.1, e.2, subst (λ z. Rose z is) q e.3, right' ((p.words, result, p.reads), e.4))
 
 -- the reader at this place ended before the later ones, and its seat was folded into its inbox
 pub one_more : (n : Node) (start : Begin) (place : ℕ) (befores afters : List InletReading) (b a : InletReading) (old was is later : SpawnerReading) (r r' : RemainsModel)
@@ -253,9 +275,10 @@ one_more n start place befores afters b a old was is later r r' outcome reader e
       boxes = ap (λ k. take k r.boxes) at ∙ ap (λ (z : List BoxModel). take place z) h.boxes ∙ take_first place h.now.boxes;
       count = ap suc h.count;
       inlets = (
-        subst (λ z. StaysSteady z a) inlet (subst (λ z. StaysSteady reader.inlet z) (sym shows) read.steady),
+        subst (λ z. KeepsCalm z a) inlet (subst (λ z. KeepsCalm reader.inlet z) (sym shows) read.steady),
         h.inlets,
       );
+      closed = both_true _ _ (subst (λ (z : InletReading). IsTrue z.closed) (sym shows) read.closed) h.closed;
       spawner_stays = spawner_then old was is stays h.spawner_stays;
       ends = ends_more n start place befores afters b a old.refusals was.refusals is.refusals r (take (length r.boxes - 1) r.boxes) h.now read.outcome p q r.refused h.ends;
     }))))

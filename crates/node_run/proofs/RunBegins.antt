@@ -10,7 +10,7 @@ use Rattle.job_plan.specs.Numbers.{message}
 use Rattle.program_laws.specs.Parts.{IsPart}
 use Rattle.desk_laws.proofs.Elements.{element_there, stands_at}
 use Rattle.outer_io.specs.Links.{LinksReading, HasPeers}
-use Rattle.outer_io.specs.Sink.{SinkReading}
+use Rattle.outer_io.specs.Outlet.{OutletReading}
 use Rattle.node_talk.specs.Talks.{Node, messages_between}
 use Rattle.node_talk.specs.PeerLinks.{place_among, no_outlet, out_to}
 use Rattle.node_talk.proofs.ExpectedPlaces.{placed}
@@ -27,7 +27,7 @@ use Rattle.node_run.proofs.ReaderRuns.{id_of}
 use Rattle.node_run.proofs.Shares.{is_part, new_desk, new_position}
 
 -- what is kept when a run begins, over these outlets
-abbrev pub first_mail : Share → Kept → List SinkReading → Mail
+abbrev pub first_mail : Share → Kept → List OutletReading → Mail
 first_mail share kept outlets =
     record {
       plan = share.plan;
@@ -59,7 +59,7 @@ module _ (share : Share) (kept : Kept) (h : IsReady share kept) where
   some : Node
   some = record { world = record { plan = share.plan; inputs = []; tapes = [] }; me = share.me; digest = [] }
 
-  pub is_mail : (outlets : List SinkReading) → length outlets ≡ share.plan.parties - 1 → IsMail (first_mail share kept outlets)
+  pub is_mail : (outlets : List OutletReading) → length outlets ≡ share.plan.parties - 1 → IsMail (first_mail share kept outlets)
   unfolding some
   is_mail outlets many =
       let party = h.fits.party in
@@ -90,7 +90,7 @@ module _ (share : Share) (kept : Kept) (h : IsReady share kept) where
       }
 
   -- over an equal plan
-  pub is_mail_at : (plan : Plan) → plan ≡ share.plan → (outlets : List SinkReading) → length outlets ≡ share.plan.parties - 1
+  pub is_mail_at : (plan : Plan) → plan ≡ share.plan → (outlets : List OutletReading) → length outlets ≡ share.plan.parties - 1
       → IsMail (record { plan = plan; me = share.me; outlets = outlets; words = kept.words; boxes = kept.boxes; places = kept.places; failed = None })
   is_mail_at plan same outlets many =
       subst (λ z. IsMail (record { plan = z; me = share.me; outlets = outlets; words = kept.words; boxes = kept.boxes; places = kept.places; failed = None })) (sym same) (is_mail outlets many)
@@ -123,7 +123,7 @@ module _ (share : Share) (kept : Kept) (h : IsReady share kept) where
     }
       where
         same : (r : ℕ) → outlet_to (first_mail share kept before.outlets) r ≡ out_to n before r
-        same r = ap (λ z. slice_index_or before.outlets (place_among z r) no_outlet) (sym of.me)
+        same r = ap (λ z. (slice_index_or before.outlets (place_among z r) no_outlet).sink) (sym of.me)
 
     pub greeted_at : (plan : Plan) → plan ≡ share.plan → Greeted n 0 (record { links = before; ids = ids_of kept.boxes })
         (record { plan = plan; me = share.me; outlets = before.outlets; words = kept.words; boxes = kept.boxes; places = kept.places; failed = None })

@@ -200,7 +200,7 @@ module _ (cells : Meaning Mail) (are : AreNodeCells cells) (n : Node) (s : ℕ) 
         (news : (m v : ℕ) → (message plan m).receiver ≢ n.me → plain_cell c'.words.cells m ≡ Some v → plain_cell c.words.cells m ≡ Some v)
         (no_post : (q : ℕ) (word : Key → ℕ) → frames word (post_to plan q e) ≡ []) (not_post : (m i : ℕ) → e ≡ Post m i → ⊥) (took : (m i : ℕ) → e ≡ Take m i → (v : ℕ) × (plain_cell c'.words.cells m ≡ Some v)) where
       outlet_same : (q : ℕ) → outlet_to c' q ≡ outlet_to c q
-      outlet_same q = ap (λ z. slice_index_or z (place_among c'.me q) no_outlet) outlets ∙ ap (λ z. slice_index_or c.outlets (place_among z q) no_outlet) me
+      outlet_same q = ap (λ z. (slice_index_or z (place_among c'.me q) no_outlet).sink) outlets ∙ ap (λ z. (slice_index_or c.outlets (place_among z q) no_outlet).sink) me
 
       no_bytes : (q : ℕ) → said_bytes n q k ≡ said_bytes n q (suc k)
       no_bytes q = let a = bytes_more n q k (λ (key : Key). 0) [] lk (ap (λ z. frames (λ (key : Key). 0) (post_to plan q z)) act_is ∙ no_post q (λ (key : Key). 0)) in omega (arith, a)

@@ -1,15 +1,18 @@
 -- What a node keeps while it runs its sessions: its outlets, the words that it sent and read, and the inboxes of its
 -- peers.
-use Rattle.std.specs.Prelude.{◌≡◌, ◌≢◌, ℕ, ◌+◌, ◌%◌, ◌<◌, ◌^◌, Bool, true, [], List, map, filter, length, take, slice_index, slice_index_or, Option, None, Some, Result, Ok, Err}
+use Rattle.std.specs.Prelude.{◌≡◌, ◌≢◌, ℕ, ◌+◌, ◌%◌, ◌<◌, ◌^◌, Bool, [], List, map, filter, length, take, slice_index, slice_index_or, Option, None, Some, Result, Ok, Err}
+use Rattle.std.specs.Option.{option_map}
 use Rattle.atomic_table.specs.Seated.{TableId}
 use Rattle.message_board.specs.Pairs.{Knows}
 use Rattle.message_board.specs.Plain.{CellContents, plain_cell, plain_put}
 use Rattle.inbox_board.specs.declared.steps.View.{View}
-use Rattle.inbox_board.specs.Rule.{newcomer}
+use Rattle.inbox_board.specs.Rule.{newcomer, notes}
+use Rattle.inbox_board.specs.Seats.{Looks, mark_as}
 use Rattle.job_plan.specs.Plans.{Plan}
 use Rattle.job_plan.specs.Sound.{IsSound}
 use Rattle.job_plan.specs.Messages.{messages}
 use Rattle.job_plan.specs.Numbers.{message}
+use Rattle.outer_io.specs.Outlet.{OutletReading}
 use Rattle.outer_io.specs.Sink.{SinkReading, Writes}
 use Rattle.outer_io.specs.declared.sink.Failed.{Failed}
 use Rattle.node_talk.specs.Talks.{goes}
@@ -25,7 +28,7 @@ pub record BoxModel : Type 0 where
 pub record Mail : Type 0 where
   pub plan : Plan
   pub me : ℕ
-  pub outlets : List SinkReading
+  pub outlets : List OutletReading
   pub words : CellContents
   pub boxes : List BoxModel
   -- where each message to the party stands in its sender's inbox
@@ -33,9 +36,9 @@ pub record Mail : Type 0 where
   -- the peer to which a send failed
   pub failed : Option ℕ
 
--- the outlet to q
+-- the outlet to q, as a sink
 abbrev pub outlet_to : Mail → ℕ → SinkReading
-outlet_to x q = slice_index_or x.outlets (place_among x.me q) no_outlet
+outlet_to x q = (slice_index_or x.outlets (place_among x.me q) no_outlet).sink
 
 -- what stands for an inbox that isn't there
 abbrev pub no_box : BoxModel
@@ -110,23 +113,36 @@ abbrev pub AnswersAs : ℕ → Option ℕ → List (Option ℕ) → List (Option
 AnswersAs m None before after = after ≡ before
 AnswersAs m (Some v) before after = (plain_cell after m ≡ Some v) × (after ≡ plain_put before m v)
 
+-- a look into the sender's inbox for message m found the word at the message's place, or a count that isn't past it
+pub record Looked (before : Mail) (m : ℕ) (answer : Option ℕ) (after : Mail) : Type 0 where
+  pub rest : after ≡ record before { boxes = after.boxes }
+  pub ids : map (λ (b : BoxModel). b.id) after.boxes ≡ map (λ (b : BoxModel). b.id) before.boxes
+  pub looks : Looks (box_of before (message before.plan m).sender).view (slice_index before.places m) answer
+      (box_of after (message before.plan m).sender).view
+  pub others : (q : ℕ) → q ≢ before.me → q ≢ (message before.plan m).sender → box_of after q ≡ box_of before q
+
+-- a look at the mark of message m's sender found it: that its reader ended, by a fault or not, or that it goes on
+pub record LookedAtMark (before : Mail) (m : ℕ) (answer : Option Bool) (after : Mail) : Type 0 where
+  pub rest : after ≡ record before { boxes = after.boxes }
+  pub ids : map (λ (b : BoxModel). b.id) after.boxes ≡ map (λ (b : BoxModel). b.id) before.boxes
+  pub found : ℕ
+  pub answers : answer ≡ mark_as found
+  pub noted : (box_of after (message before.plan m).sender).view
+      ≡ notes (box_of before (message before.plan m).sender).view found
+  pub others : (q : ℕ) → q ≢ before.me → q ≢ (message before.plan m).sender → box_of after q ≡ box_of before q
+
+-- where a take of message m has its answer from, by the word that was kept of it: that word, or where none was, what a
+-- look found, as a number of the ring
+abbrev pub TakesFrom : Mail → ℕ → Option ℕ → Option ℕ → Mail → Type 0
+TakesFrom before m (Some v) answer after = (answer ≡ Some v) × (after ≡ before)
+TakesFrom before m None answer after =
+    (found : Option ℕ) × Looked before m found (record after { words = before.words })
+    × (answer ≡ option_map (λ w. w % 2 ^ before.plan.bits) found)
+
 -- a take of message m read its word, or found its place empty
 pub record Takes (before : Mail) (m : ℕ) (answer : Option ℕ) (after : Mail) : Type 0 where
   pub rest : after ≡ record before { words = after.words; boxes = after.boxes }
   pub answers : AnswersAs m answer before.words.cells after.words.cells
+  pub from : TakesFrom before m (plain_cell before.words.cells m) answer after
   pub count : length after.words.cells ≡ length before.words.cells
   pub ids : map (λ (b : BoxModel). b.id) after.boxes ≡ map (λ (b : BoxModel). b.id) before.boxes
-
--- a look into the sender's inbox for message m found this word, or nothing
-pub record Looked (before : Mail) (m : ℕ) (answer : Option ℕ) (after : Mail) : Type 0 where
-  pub rest : after ≡ record before { boxes = after.boxes }
-  pub ids : map (λ (b : BoxModel). b.id) after.boxes ≡ map (λ (b : BoxModel). b.id) before.boxes
-  pub marks : (q : ℕ) → (box_of after q).view.noted ≡ (box_of before q).view.noted
-  pub known : (w : ℕ) → answer ≡ Some w
-      → Knows (box_of after (message before.plan m).sender).view.seen (slice_index before.places m) w
-
--- a look at the mark of message m's sender found that its reader ended, by a fault or not
-pub record LookedAtMark (before : Mail) (m : ℕ) (answer : Option Bool) (after : Mail) : Type 0 where
-  pub rest : after ≡ record before { boxes = after.boxes }
-  pub ids : map (λ (b : BoxModel). b.id) after.boxes ≡ map (λ (b : BoxModel). b.id) before.boxes
-  pub fault : answer ≡ Some true → (box_of after (message before.plan m).sender).view.noted ≡ 2

@@ -1,12 +1,12 @@
 -- What a node's run says: its answer, what its links took and gave, and what stays steady.
-use Rattle.std.specs.Prelude.{◌≡◌, ◌≢◌, ◌⊎◌, ℕ, ◌-◌, ◌<◌, ◌≤◌, ◌^◌, IsTrue, IsOk, IfOk, IfErr, OnErr, Result, Err}
+use Rattle.std.specs.Prelude.{◌≡◌, ◌≢◌, ◌⊎◌, ℕ, ◌-◌, ◌<◌, ◌≤◌, ◌^◌, IsTrue, IsOk, IsErr, IfOk, IfErr, OnErr, List, Result, Err}
 use Rattle.std.specs.List.{AllByRecursion}
 use Rattle.job_plan.specs.declared.key.Key.{Key}
 use Rattle.share_world.specs.Laws.{IsWhole}
 use Rattle.outer_io.specs.Count.{Rose}
-use Rattle.outer_io.specs.Inlet.{ahead}
+use Rattle.outer_io.specs.Inlet.{ahead, shut_inlet}
 use Rattle.outer_io.specs.Jobs.{SpawnerReading}
-use Rattle.outer_io.specs.Links.{LinksReading, HasPeers}
+use Rattle.outer_io.specs.Links.{LinksReading, HasPeers, are_closed}
 use Rattle.outer_io.specs.Sink.{SinkReading, added}
 use Rattle.frame_code.specs.Frames.{hello}
 use Rattle.node_talk.specs.declared.fault.NodeFault.{NodeFault}
@@ -15,7 +15,8 @@ use Rattle.node_talk.specs.Talks.{Node, IsPeer, expected, heard}
 use Rattle.node_talk.specs.PeerLinks.{in_from, out_to}
 use Rattle.node_talk.specs.Causes.{Cause}
 use Rattle.node_talk.specs.Runs.{Results, IsDone, TalkedThrough, BrokeOff, HearsAll, NoneRose, HearsWorld, IsOfWorld}
-use Rattle.link_reader.specs.Heard.{StaysSteady}
+use Rattle.link_reader.specs.Heard.{KeepsCalm}
+use Rattle.link_reader.specs.NodeReaders.{ReadsFrom}
 use Rattle.node_run.specs.Progress.{talk_bytes}
 use Rattle.node_run.specs.Remains.{SpawnerStays}
 
@@ -31,19 +32,41 @@ GaveAll n before after q =
 abbrev pub GaveAllBelow : Node → LinksReading → LinksReading → ℕ → Type 0
 GaveAllBelow n before after q = (r : ℕ) → IsPeer n r → r < q → GaveAll n before after r
 
--- the fault is that of the least peer from which not all came, but where a send failed or a start was refused
+-- the reader of q was started, or did its work where it was handed back: it read these words up to its end
+abbrev pub WasRead : Node → LinksReading → LinksReading → ℕ → Type 0
+WasRead n before after q =
+    (words : List ℕ) × (result : Result (Unit {0}) NodeFault) × ReadsFrom n q words before after result
+
+-- nothing was read of q, and its inlet was closed
+abbrev pub Unread : Node → LinksReading → LinksReading → ℕ → Type 0
+Unread n before after q = in_from n after q ≡ shut_inlet (in_from n before q)
+
+-- q is the first peer whose reader wasn't started: the readers before it were, and read, those after it were not, and
+-- its own did nothing or all its work
+pub record IsFirstUnstarted (n : Node) (before after : LinksReading) (q : ℕ) : Type 0 where
+  pub below : (r : ℕ) → IsPeer n r → r < q → WasRead n before after r
+  pub itself : Unread n before after q ⊎ WasRead n before after q
+  pub above : (r : ℕ) → IsPeer n r → q < r → Unread n before after r
+
+-- the fault is that of the least peer from which not all came, but where a send failed; or it names the first peer whose
+-- reader wasn't started
 abbrev pub IsFirst : Node → LinksReading → LinksReading → NodeFault → Type 0
 IsFirst n before after (Link q) =
     Rose (out_to n before q).faults (out_to n after q).faults ⊎ GaveAllBelow n before after q
 IsFirst n before after (Closed q at) = GaveAllBelow n before after q
 IsFirst n before after (BadFrame q at bytes) = GaveAllBelow n before after q
 IsFirst n before after (OtherJob q ours theirs) = GaveAllBelow n before after q
-IsFirst n before after (NoThread q) = Unit {0}
+IsFirst n before after (NoThread q) = IsFirstUnstarted n before after q
 
 -- an outlet whose count of faults changed is the one that is told
 abbrev pub TellsSends : Node → LinksReading → LinksReading → Result Results NodeFault → Type 0
 TellsSends n before after result =
     (q : ℕ) → IsPeer n q → (out_to n after q).faults ≢ (out_to n before q).faults → result ≡ Err (Link q)
+
+-- an inlet whose count of faults changed is answered with a fault
+abbrev pub TellsReads : Node → LinksReading → LinksReading → Result Results NodeFault → Type 0
+TellsReads n before after result =
+    (q : ℕ) → IsPeer n q → (in_from n after q).faults ≢ (in_from n before q).faults → IsErr result
 
 -- ---- a start that was refused
 
@@ -63,15 +86,14 @@ TellsRefusals refusals refusals' result = refusals' ≢ refusals → (q : ℕ) �
 
 -- ---- what stays steady
 
--- The outlet's count of faults never falls, and a steady outlet stays steady. With room for the talk it doesn't fail.
+-- The outlet's count of faults never falls, and that of a steady outlet with room for the talk stays.
 pub record KeepsOutlet (n : Node) (q : ℕ) (before after : SinkReading) : Type 0 where
   pub faults_grow : before.faults ≤ after.faults
-  pub steady : IsTrue before.steady → IsTrue after.steady
   pub room : IsTrue before.steady → talk_bytes n q ≤ before.room → after.faults ≡ before.faults
 
--- no steady inlet or spawner fails, no steady outlet that has room fails, and all of them stay steady
+-- no steady inlet or spawner fails, no steady outlet that has room fails, and a steady spawner stays steady
 pub record StaySteady (n : Node) (before after : LinksReading) (spawner spawner' : SpawnerReading) : Type 0 where
-  pub inlets : (q : ℕ) → IsPeer n q → StaysSteady (in_from n before q) (in_from n after q)
+  pub inlets : (q : ℕ) → IsPeer n q → KeepsCalm (in_from n before q) (in_from n after q)
   pub outlets : (q : ℕ) → IsPeer n q → KeepsOutlet n q (out_to n before q) (out_to n after q)
   pub spawner_stays : SpawnerStays spawner spawner'
 
@@ -80,8 +102,9 @@ pub record StaySteady (n : Node) (before after : LinksReading) (spawner spawner'
 -- what the run of a node says, over links that showed this before it and after it
 pub record Runs (n : Node) (before after : LinksReading) (spawner spawner' : SpawnerReading)
     (result : Result Results NodeFault) : Type 0 where
-  -- there are as many links as before
+  -- there are as many links as before, and all are closed
   pub peers : HasPeers (n.world.plan.parties - 1) after
+  pub closed : IsTrue (are_closed after)
   -- at Ok it said its whole talk and heard all that it expects, and it has the words and the outputs
   pub done : IfOk result (λ r. (got : Key → ℕ) × IsDone n got r × TalkedThrough n got before after)
   -- at a fault it said a first part of its talk, and nothing that stands after a word that didn't come
@@ -90,6 +113,7 @@ pub record Runs (n : Node) (before after : LinksReading) (spawner spawner' : Spa
   pub cause : IfErr result (Cause n before after spawner.refusals spawner'.refusals)
   pub least : IfErr result (IsFirst n before after)
   pub sends : TellsSends n before after result
+  pub reads : TellsReads n before after result
   pub starts : TellsRefusals spawner.refusals spawner'.refusals result
   pub unsaid : IfErr result (NothingSaid n before after)
   -- where it hears all that it expects and nothing fails, it ends well

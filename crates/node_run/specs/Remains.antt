@@ -1,20 +1,21 @@
 -- A run with its readers, and what it leaves.
-use Rattle.std.specs.Prelude.{◌≡◌, ◌⊎◌, ℕ, suc, ◌+◌, ◌≤◌, nat_lt, if◌then◌else◌, is_err, IsTrue, List, [], ◌∷◌, length, take, slice_get, slice_index_or, Option, None, Some, Result, Ok, Err}
+use Rattle.std.specs.Prelude.{◌≡◌, ◌⊎◌, ℕ, suc, ◌+◌, ◌≤◌, nat_lt, if◌then◌else◌, is_err, IsTrue, List, [], ◌∷◌, length, map, take, slice_get, slice_index_or, Option, None, Some, Result, Ok, Err}
+use Rattle.std.specs.List.{list_all}
 use Rattle.atomic_table.specs.Seated.{TableId}
 use Rattle.message_board.specs.Plain.{CellContents, plain_cell}
 use Rattle.inbox_board.specs.Seats.{mark_of}
 use Rattle.inbox_board.specs.Folds.{GotWhatWasPushed}
 use Rattle.party_desk.specs.declared.desk.Desk.{Desk}
 use Rattle.outer_io.specs.Count.{Rose}
-use Rattle.outer_io.specs.Inlet.{InletReading}
+use Rattle.outer_io.specs.Inlet.{InletReading, shut_inlet}
 use Rattle.outer_io.specs.Jobs.{SpawnerReading}
-use Rattle.outer_io.specs.Sink.{SinkReading}
+use Rattle.outer_io.specs.Outlet.{OutletReading, shut_outlet}
 use Rattle.node_talk.specs.declared.fault.NodeFault.{NodeFault}
 use Rattle.node_talk.specs.declared.fault.NodeFault.TheVariants.{Link, NoThread}
 use Rattle.node_talk.specs.Runs.{Results}
 use Rattle.node_talk.specs.Talks.{Node, IsPeer}
 use Rattle.link_reader.specs.Expected.{TalkModel}
-use Rattle.link_reader.specs.Heard.{StaysSteady}
+use Rattle.link_reader.specs.Heard.{KeepsCalm}
 use Rattle.link_reader.specs.ReadWords.{Reads}
 use Rattle.link_reader.specs.NodeReaders.{incoming}
 use Rattle.node_run.specs.Mail.{Mail, IsMail, BoxModel, no_box}
@@ -27,7 +28,7 @@ pub record ReaderPartsModel : Type 0 where
 
 -- what a run leaves: the peer to which a send failed, the one whose reader wasn't started, and the first reader's fault
 pub record RemainsModel : Type 0 where
-  pub outlets : List SinkReading
+  pub outlets : List OutletReading
   pub words : CellContents
   pub boxes : List BoxModel
   pub desks : List Desk
@@ -89,11 +90,25 @@ AllEnd n now place (before ∷ befores) (after ∷ afters) fault =
     × ((later : Option NodeFault) × AllEnd n now (suc place) befores afters later × (fault ≡ first_of result later))
 AllEnd n now place _ _ fault = ⊥
 
--- each inlet stayed steady where it was
-abbrev pub AllStaySteady : List InletReading → List InletReading → Type 0
-AllStaySteady [] [] = Unit {0}
-AllStaySteady (before ∷ befores) (after ∷ afters) = StaysSteady before after × AllStaySteady befores afters
-AllStaySteady _ _ = ⊥
+-- no steady inlet failed
+abbrev pub AllKeepCalm : List InletReading → List InletReading → Type 0
+AllKeepCalm [] [] = Unit {0}
+AllKeepCalm (before ∷ befores) (after ∷ afters) = KeepsCalm before after × AllKeepCalm befores afters
+AllKeepCalm _ _ = ⊥
+
+-- a reader read these words up to its end
+abbrev pub ReadBy : TalkModel → InletReading → InletReading → Type 0
+ReadBy talk before after =
+    (words : List ℕ) × (result : Result (Unit {0}) NodeFault) × Reads talk words before after result
+
+-- The readers from this place on were started, and ended, up to that of q. That was handed back, and did nothing but to
+-- close its inlet, or all its work. The later inlets were closed, and nothing was read of them.
+abbrev pub EndsAtRefusal : Node → ℕ → ℕ → List InletReading → List InletReading → Type 0
+EndsAtRefusal n q place (before ∷ befores) (after ∷ afters) =
+    ((party_at n.me place ≡ q) × ((after ≡ shut_inlet before) ⊎ ReadBy (incoming n q) before after)
+    × (afters ≡ map shut_inlet befores))
+    ⊎ (ReadBy (incoming n (party_at n.me place)) before after × EndsAtRefusal n q (suc place) befores afters)
+EndsAtRefusal n q place _ _ = ⊥
 
 -- the count of refusals never falls, and a steady spawner stays steady and refuses nothing
 pub record SpawnerStays (before after : SpawnerReading) : Type 0 where
@@ -108,17 +123,19 @@ EndsAs n start place before after refusals refusals' r now None =
     × AllEnd n now place before after r.fault × (refusals' ≡ refusals)
 EndsAs n start place before after refusals refusals' r now (Some q) =
     IsPeer n q × Going n 0 start now × ((m : ℕ) → plain_cell now.words.cells m ≡ None) × Rose refusals refusals'
+    × EndsAtRefusal n q place before after
 
 pub record Remained (n : Node) (start : Begin) (place : ℕ) (before after : List InletReading)
     (spawner spawner' : SpawnerReading) (r : RemainsModel) : Type 0 where
   pub now : Mail
   pub mail : IsMail now
   pub own : IsOf n start now
-  pub outlets : r.outlets ≡ now.outlets
+  pub outlets : r.outlets ≡ map shut_outlet now.outlets
   pub words : r.words ≡ now.words
   pub failed : r.failed ≡ now.failed
   pub boxes : r.boxes ≡ take place now.boxes
   pub count : length after ≡ length before
-  pub inlets : AllStaySteady before after
+  pub inlets : AllKeepCalm before after
+  pub closed : IsTrue (list_all (λ (i : InletReading). i.closed) after)
   pub spawner_stays : SpawnerStays spawner spawner'
   pub ends : EndsAs n start place before after spawner.refusals spawner'.refusals r now r.refused

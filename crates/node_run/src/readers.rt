@@ -1,5 +1,7 @@
 //! A run with its readers.
 ghost use Rattle.std.specs.Prelude.{◌≡◌, ◌+◌, ◌<◌, ℕ, ◌∷◌, map, vec_len, vec_capacity};
+ghost use Rattle.outer_io.specs.Inlet.{shut_inlet};
+ghost use Rattle.outer_io.specs.Outlet.{shut_outlet};
 ghost use Rattle.node_talk.specs.Talks.{Node};
 ghost use Rattle.node_run.specs.Progress.{Begin};
 ghost use Rattle.node_run.specs.Remains.{MayRun, Remained};
@@ -88,11 +90,20 @@ impl ReaderParts {
 }
 
 // Closes all outlets.
-fn close_all<O: Outlet>(outlets: &mut [O])
-    ensures { map O.reading outlets.new ≡ map O.reading outlets.old }
+fn close_outlets<O: Outlet>(outlets: &mut [O])
+    ensures { map O.reading outlets.new ≡ map shut_outlet (map O.reading outlets.old) }
 {
     for outlet in outlets.iter_mut() {
         outlet.close();
+    }
+}
+
+/// Closes all inlets.
+pub fn close_inlets<I: Inlet>(inlets: &mut [I])
+    ensures { map I.reading inlets.new ≡ map shut_inlet (map I.reading inlets.old) }
+{
+    for inlet in inlets.iter_mut() {
+        inlet.close();
     }
 }
 
@@ -131,7 +142,8 @@ impl<O: Outlet> Leaves for Remains<O> {
 }
 
 impl<O: Outlet> Remains<O> {
-    ghost use Rattle.std.specs.Prelude.{◌≡◌, ◌-◌, length, take, None};
+    ghost use Rattle.std.specs.Prelude.{◌≡◌, ◌-◌, length, map, take, None};
+    ghost use Rattle.outer_io.specs.Outlet.{shut_outlet};
     ghost use Rattle.node_run.specs.Mail.{Mail, IsMail};
 
     /// What these cells and desks leave, but for as many of the last inboxes as have no reader yet. The outlets are
@@ -143,7 +155,7 @@ impl<O: Outlet> Remains<O> {
         refused: Option<u32>,
     ) -> Remains<O>
         ensures left { ⟦<Remains<O> as Leaves>⟧.left result ≡ record {
-          outlets = cells.entry.outlets;
+          outlets = map shut_outlet cells.entry.outlets;
           words = cells.entry.words;
           boxes = take (length cells.entry.boxes - waiting) cells.entry.boxes;
           desks = desks.items;
@@ -160,7 +172,7 @@ impl<O: Outlet> Remains<O> {
             failed,
             ..
         } = cells;
-        close_all(outlets.as_mut_slice());
+        close_outlets(outlets.as_mut_slice());
         boxes.truncate(boxes.len().saturating_sub(waiting));
         Remains {
             outlets,
@@ -217,7 +229,7 @@ fn put_first<I: Inlet + Drop>(inlets: &mut Vec<I>, inlet: I)
 }
 
 /// Starts the readers of all inlets in order, runs the sessions, and finishes the readers. A start that is refused ends
-/// the run before its sessions.
+/// the run before its sessions. All inlets are closed then.
 pub fn read_peers<'p, I: Inlet + Drop, O: Outlet, W: Spawner<LinkReader<I>>, R: Wait>(
     rt: &R,
     plan: &Plan,
@@ -251,6 +263,7 @@ pub fn read_peers<'p, I: Inlet + Drop, O: Outlet, W: Spawner<LinkReader<I>>, R: 
         Err(back) => {
             let (inlet, _, _) = back.into_parts();
             put_first(inlets, inlet);
+            close_inlets(inlets.as_mut_slice());
             Remains::of(cells, desks, waiting, Some(peer))
         }
         Ok(started) => {

@@ -8,7 +8,7 @@ ghost use Rattle.node_run.specs.NodeRuns.{Runs};
 use crate::cells::NodeCells;
 use crate::done::NodeDone;
 use crate::hellos::greet;
-use crate::readers::{Remains, read_peers};
+use crate::readers::{Remains, close_inlets, read_peers};
 use crate::ready::NodeReady;
 use job_plan::Plan;
 use link_reader::LinkReader;
@@ -66,7 +66,7 @@ impl NodeReady {
     ghost use Rattle.node_run.specs.NodeRuns.{Runs};
 
     /// Runs the party: it greets its peers, reads them all at once, each in a job of the spawner, and does its sessions
-    /// in order. It hands the links back whatever the answer.
+    /// in order. It hands the links back, closed, whatever the answer.
     pub fn run<I: Inlet + Drop, O: Outlet, W: Spawner<LinkReader<I>>, R: Wait>(
         self,
         rt: &R,
@@ -104,6 +104,7 @@ impl NodeReady {
             failed: None,
         };
         if !greet(&mut cells, &digest) {
+            close_inlets(inlets.as_mut_slice());
             return Remains::of(cells, desks, 0, None).into_answer(inlets);
         }
         let remains = read_peers(

@@ -1,5 +1,6 @@
 -- Why a node stops.
-use Rattle.std.specs.Prelude.{◌≡◌, ◌≢◌, ◌⊎◌, ℕ, ◌+◌, ◌*◌, ◌<◌, ◌^◌, IsTrue, List, [], length, Option, None, Some}
+use Rattle.std.specs.Prelude.{◌≡◌, ◌≢◌, ◌⊎◌, ℕ, ◌+◌, ◌*◌, ◌<◌, ◌^◌, IsTrue, List, length, take, Option, None, Some}
+use Rattle.std.specs.List.{AllByRecursion}
 use Rattle.job_plan.specs.declared.key.Key.{Key}
 use Rattle.outer_io.specs.Count.{Rose}
 use Rattle.outer_io.specs.Inlet.{ahead, IsAtEnd}
@@ -7,7 +8,7 @@ use Rattle.frame_code.specs.Frames.{hello, frame}
 use Rattle.node_talk.specs.declared.fault.NodeFault.{NodeFault}
 use Rattle.node_talk.specs.declared.fault.NodeFault.TheVariants.{Link, Closed, BadFrame, OtherJob, NoThread}
 use Rattle.outer_io.specs.Links.{LinksReading}
-use Rattle.node_talk.specs.Talks.{Node, IsPeer, expected, expected_at}
+use Rattle.node_talk.specs.Talks.{Node, IsPeer, stream, expected, expected_at}
 use Rattle.node_talk.specs.PeerLinks.{in_from, out_to}
 
 -- the word of a frame of this message, if the bytes are one with a word of so many bits
@@ -15,33 +16,50 @@ abbrev pub IsWordOf : List ℕ → ℕ → Key → Option ℕ → Type 0
 IsWordOf bytes bits key (Some word) = (word < 2 ^ bits) × (bytes ≡ frame key word)
 IsWordOf bytes bits key None = (word : ℕ) → word < 2 ^ bits → bytes ≢ frame key word
 
--- from q came so many bytes, and then these
-pub record CameAt (n : Node) (before after : LinksReading) (q at : ℕ) (bytes : List ℕ) : Type 0 where
-  pub front : List ℕ
-  pub place : length front ≡ at
-  pub told : (in_from n before q).told ≡ ahead front (ahead bytes (in_from n after q).told)
+-- from q came the hello and the first f expected frames, with words of the ring, and then these bytes
+pub record CameAfter (n : Node) (before after : LinksReading) (q f : ℕ) (bytes : List ℕ) : Type 0 where
+  pub word : Key → ℕ
+  pub small : AllByRecursion (λ key. word key < 2 ^ n.world.plan.bits) (take f (expected n q))
+  pub told : (in_from n before q).told
+      ≡ ahead (stream n.digest q n.me word (take f (expected n q))) (ahead bytes (in_from n after q).told)
 
--- so many bytes came from q, fewer than are expected, and then the end
+-- so many bytes came from q, fewer than the hello has
+pub record EndsInHello (n : Node) (before after : LinksReading) (q at : ℕ) : Type 0 where
+  pub piece : List ℕ
+  pub place : at ≡ length piece
+  pub short : length piece < 38
+  pub told : (in_from n before q).told ≡ ahead piece (in_from n after q).told
+
+-- so many bytes came from q: the hello and some expected frames, and fewer than the next expected frame has
+pub record EndsInFrame (n : Node) (before after : LinksReading) (q at : ℕ) : Type 0 where
+  pub frame : ℕ
+  pub within : frame < length (expected n q)
+  pub piece : List ℕ
+  pub place : at ≡ 38 + 18 * frame + length piece
+  pub short : length piece < 18
+  pub came : CameAfter n before after q frame piece
+
+-- so many bytes came from q, and then the end, within the hello or the frame that is expected next
 pub record ClosedAt (n : Node) (before after : LinksReading) (q at : ℕ) : Type 0 where
-  pub few : at < 38 + 18 * length (expected n q)
-  pub came : CameAt n before after q at []
+  pub within : EndsInHello n before after q at ⊎ EndsInFrame n before after q at
   pub none_left : IsAtEnd (in_from n after q).told
   pub ended : IsTrue (in_from n after q).ended
 
--- at the place of an expected frame came 18 bytes that are not that frame with a word of the ring
+-- after the hello and the frames before it, at the place of an expected frame came 18 bytes that are not that frame
+-- with a word of the ring
 pub record BadAt (n : Node) (before after : LinksReading) (q at : ℕ) (bytes : List ℕ) : Type 0 where
   pub frame : ℕ
   pub within : frame < length (expected n q)
   pub place : at ≡ 38 + 18 * frame
   pub long : length bytes ≡ 18
-  pub came : CameAt n before after q at bytes
+  pub came : CameAfter n before after q frame bytes
   pub no_frame : IsWordOf bytes n.world.plan.bits (expected_at n q frame) None
 
 -- the first 38 bytes from q are not the hello that is expected
 pub record OtherHello (n : Node) (before after : LinksReading) (q : ℕ) (ours theirs : List ℕ) : Type 0 where
   pub expected : ours ≡ hello q n.me n.digest
   pub long : length theirs ≡ 38
-  pub came : CameAt n before after q 0 theirs
+  pub told : (in_from n before q).told ≡ ahead theirs (in_from n after q).told
   pub differ : theirs ≢ ours
 
 -- the cause of each fault. refused and refused' count the refusals to start a reader, before the run and after it.

@@ -1,5 +1,5 @@
 -- Inlets that bytes are read from: what they show, and what one read does.
-use Rattle.std.specs.Prelude.{◌≡◌, ℕ, ◌<◌, ◌≤◌, Bool, IsTrue, List, [], ◌++◌, length, take, Option, None, Some}
+use Rattle.std.specs.Prelude.{◌≡◌, ℕ, ◌<◌, ◌≤◌, Bool, true, false, IsTrue, List, [], ◌++◌, length, take, Option, None, Some}
 use Rattle.std.specs.Option.{option_map}
 use Rattle.outer_io.specs.declared.inlet.Got.{Got}
 use Rattle.outer_io.specs.declared.inlet.Got.TheVariants.{Bytes, End, Failed}
@@ -17,6 +17,12 @@ pub record InletReading : Type 0 where
   pub ended : Bool
   -- none of the coming calls is one that fails by itself
   pub steady : Bool
+  -- it was closed
+  pub closed : Bool
+
+-- what an inlet shows once it is closed, after which each read fails
+abbrev pub shut_inlet : InletReading → InletReading
+shut_inlet inlet = record inlet { steady = false; closed = true }
 
 -- what an inlet told before these bytes came, if it tells this now
 abbrev pub ahead : List ℕ → Option (List ℕ) → Option (List ℕ)
@@ -52,6 +58,9 @@ pub record ReadsInto (into : List ℕ) (before after : InletReading) (result : G
   -- a steady inlet stays steady, and does not fail
   pub keeps_steady : IsTrue before.steady → IsTrue after.steady
   pub by_itself : IsTrue before.steady → ¬ (result ≡ Failed)
+  -- no read closes an inlet, and once it is closed each read fails
+  pub same_closed : after.closed ≡ before.closed
+  pub after_close : IsTrue before.closed → result ≡ Failed
 
 -- what filling a place tells: all of its bytes came; or only the first ones, since the inlet ended or failed
 abbrev pub FilledAs : List ℕ → InletReading → InletReading → Filled → Type 0
@@ -76,3 +85,4 @@ pub record Fills (into : List ℕ) (before after : InletReading) (result : Fille
   pub filled : FilledAs into before after result
   pub faults_grow : before.faults ≤ after.faults
   pub keeps_steady : IsTrue before.steady → IsTrue after.steady
+  pub same_closed : after.closed ≡ before.closed

@@ -3,6 +3,7 @@ pub mod Files
 pub mod Sink
 pub mod Blocks
 pub mod Inlet
+pub mod Outlet
 pub mod Links
 pub mod Jobs
 pub mod Memory

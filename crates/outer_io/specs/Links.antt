@@ -6,15 +6,15 @@ use Rattle.outer_io.specs.declared.net.NetRefusal.{NetRefusal}
 use Rattle.outer_io.specs.declared.net.NetRefusal.TheVariants.{Failed}
 use Rattle.outer_io.specs.Count.{Rose}
 use Rattle.outer_io.specs.Inlet.{InletReading}
-use Rattle.outer_io.specs.Sink.{SinkReading}
+use Rattle.outer_io.specs.Outlet.{OutletReading}
 
 -- what links show: an inlet and an outlet for each peer, in order
 pub record LinksReading : Type 0 where
   pub inlets : List InletReading
-  pub outlets : List SinkReading
+  pub outlets : List OutletReading
 
 -- what links show whose inlets and outlets are read like this
-abbrev pub links_reading : {I O : Type 0} → (I → InletReading) → (O → SinkReading) → Links I O → LinksReading
+abbrev pub links_reading : {I O : Type 0} → (I → InletReading) → (O → OutletReading) → Links I O → LinksReading
 links_reading read_inlet read_outlet links =
     record {
       inlets = map read_inlet links.inlets.items;
@@ -26,9 +26,9 @@ pub record HasPeers (peers : ℕ) (links : LinksReading) : Type 0 where
   pub inlets : length links.inlets ≡ peers
   pub outlets : length links.outlets ≡ peers
 
--- whether nothing was read or sent yet, and nothing has failed
+-- whether nothing was read or sent yet, nothing has failed, and it is open
 abbrev pub is_fresh_inlet : InletReading → Bool
-is_fresh_inlet inlet = (inlet.faults == 0) && not inlet.ended
+is_fresh_inlet inlet = (inlet.faults == 0) && (not inlet.ended && not inlet.closed)
 
 -- whether no bytes are told
 abbrev pub is_empty : Option (List ℕ) → Bool
@@ -36,15 +36,19 @@ is_empty None = true
 is_empty (Some []) = true
 is_empty (Some (byte ∷ bytes)) = false
 
-abbrev pub is_fresh_outlet : SinkReading → Bool
-is_fresh_outlet outlet = (outlet.faults == 0) && is_empty outlet.told
+abbrev pub is_fresh_outlet : OutletReading → Bool
+is_fresh_outlet outlet = (outlet.sink.faults == 0) && (is_empty outlet.sink.told && not outlet.closed)
 
 abbrev pub are_fresh : LinksReading → Bool
 are_fresh links = list_all is_fresh_inlet links.inlets && list_all is_fresh_outlet links.outlets
 
 -- whether none of the coming calls at these links is one that fails by itself
 abbrev pub are_steady : LinksReading → Bool
-are_steady links = list_all (λ inlet. inlet.steady) links.inlets && list_all (λ outlet. outlet.steady) links.outlets
+are_steady links = list_all (λ inlet. inlet.steady) links.inlets && list_all (λ outlet. outlet.sink.steady) links.outlets
+
+-- whether all of these links are closed
+abbrev pub are_closed : LinksReading → Bool
+are_closed links = list_all (λ inlet. inlet.closed) links.inlets && list_all (λ outlet. outlet.closed) links.outlets
 
 -- what a net is asked: the host of each party, the first port, which party asks, and how many there are
 pub record Meeting : Type 0 where

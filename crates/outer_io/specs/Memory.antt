@@ -1,5 +1,5 @@
 -- What the forms in memory show.
-use Rattle.std.specs.Prelude.{ℕ, ◌-◌, nat_lt, Bool, List, Option, Some, String, Vec, vec_len, drop}
+use Rattle.std.specs.Prelude.{ℕ, ◌-◌, nat_lt, Bool, not, ◌&&◌, List, Option, Some, String, Vec, vec_len, drop}
 use Rattle.std.specs.Option.{option_map}
 use Rattle.std.specs.List.{list_all}
 use Rattle.std.specs.BTreeMap.{BTreeMap, get_by_text}
@@ -12,6 +12,7 @@ use Rattle.outer_io.specs.declared.vec_sink.VecSink.{VecSink}
 use Rattle.outer_io.specs.Files.{FilesReading}
 use Rattle.outer_io.specs.Inlet.{InletReading}
 use Rattle.outer_io.specs.Jobs.{SpawnerReading}
+use Rattle.outer_io.specs.Outlet.{OutletReading}
 use Rattle.outer_io.specs.Sink.{SinkReading}
 
 -- none of the listed calls is still to come, after so many calls
@@ -48,8 +49,12 @@ sink_reading s =
 abbrev pub outlet_bytes : VecOutlet → List ℕ
 outlet_bytes o = sink_bytes o.sink
 
-abbrev pub outlet_reading : VecOutlet → SinkReading
-outlet_reading o = sink_reading o.sink
+-- what an outlet over this sink shows, which is steady only while it is open
+abbrev pub over_sink : Bool → SinkReading → OutletReading
+over_sink closed sink = record { sink = record sink { steady = not closed && sink.steady }; closed = closed }
+
+abbrev pub outlet_reading : VecOutlet → OutletReading
+outlet_reading o = over_sink o.closed (sink_reading o.sink)
 
 abbrev pub inlet_reading : ListInlet → InletReading
 inlet_reading i =
@@ -57,7 +62,8 @@ inlet_reading i =
       told = Some (drop i.taken i.bytes.items);
       faults = i.faults;
       ended = i.ended;
-      steady = all_past i.failing.items i.calls;
+      steady = not i.closed && all_past i.failing.items i.calls;
+      closed = i.closed;
     }
 
 abbrev pub spawner_reading : InlineSpawner → SpawnerReading

@@ -4,7 +4,7 @@ ghost use Rattle.outer_io.specs.declared.inlet.Filled.{Filled as Answer};
 ghost use Rattle.outer_io.specs.declared.inlet.Filled.TheVariants.{Full};
 ghost use Rattle.outer_io.specs.declared.inlet.Got.{Got as Read};
 ghost use Rattle.outer_io.specs.declared.inlet.Got.TheVariants.{End, Failed};
-ghost use Rattle.outer_io.specs.Inlet.{InletReading, ReadsInto, Fills};
+ghost use Rattle.outer_io.specs.Inlet.{InletReading, ReadsInto, Fills, shut_inlet};
 
 /// What one read of an inlet gave.
 #[derive(Clone, Copy, Debug, PartialEq, Eq)]
@@ -31,7 +31,7 @@ pub enum Filled {
 /// A place that bytes come from, in pieces of any length.
 pub trait Inlet {
     /// The bytes that are left, where the inlet tells them, how often the outside has failed, whether the end was
-    /// answered, and whether the inlet is steady.
+    /// answered, whether the inlet is steady, and whether it was closed.
     ghost reading: { Self → InletReading };
 
     /// Reads the next bytes into the first places.
@@ -39,10 +39,9 @@ pub trait Inlet {
         requires { 0 < length into.old }
         ensures { ReadsInto into.new (reading self.old) (reading self.new) result };
 
-    /// Tells the other end that nothing more is read, so that nobody waits there for room. Where the inlet isn't
-    /// steady, a later read may fail.
+    /// Tells the other end that nothing more is read, so that nobody waits there for room. Each later read fails.
     fn close(&mut self)
-        ensures { reading self.new ≡ reading self.old };
+        ensures { reading self.new ≡ shut_inlet (reading self.old) };
 }
 
 /// Reads until all places have their bytes, in as many reads as it takes.

@@ -13,6 +13,7 @@ pub struct ListInlet {
     calls: u64,
     faults: u64,
     ended: bool,
+    closed: bool,
     ghost within: { taken ≤ vec_len bytes },
 }
 
@@ -27,6 +28,7 @@ impl ListInlet {
           faults = 0;
           ended = false;
           steady = all_past failing.items 0;
+          closed = false;
         } }
     {
         ListInlet {
@@ -37,6 +39,7 @@ impl ListInlet {
             calls: 0,
             faults: 0,
             ended: false,
+            closed: false,
         }
     }
 
@@ -57,6 +60,10 @@ impl Inlet for ListInlet {
     ghost reading = { inlet_reading };
 
     fn read(&mut self, into: &mut [u8]) -> Got {
+        if self.closed {
+            self.faults = self.faults.saturating_add(1);
+            return Got::Failed;
+        }
         let call = self.calls;
         self.calls = call.saturating_add(1);
         if self.failing.contains(&call) {
@@ -74,5 +81,7 @@ impl Inlet for ListInlet {
         Got::Bytes(count)
     }
 
-    fn close(&mut self) {}
+    fn close(&mut self) {
+        self.closed = true;
+    }
 }

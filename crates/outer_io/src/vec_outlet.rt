@@ -1,5 +1,5 @@
 // An outlet in memory.
-ghost use Rattle.std.specs.Prelude.{◌≡◌, ◌-◌, ◌≤◌, Some, vec_len};
+ghost use Rattle.std.specs.Prelude.{◌≡◌, ◌-◌, ◌≤◌, Some, false, vec_len};
 ghost use Rattle.std.specs.Vec.{vec_capacity};
 
 use crate::{Failed, Outlet, Sink, VecSink};
@@ -8,24 +8,26 @@ use crate::{Failed, Outlet, Sink, VecSink};
 #[derive(Drop)]
 pub struct VecOutlet {
     sink: VecSink,
+    closed: bool,
 }
 
 impl VecOutlet {
-    ghost use Rattle.outer_io.specs.Memory.{outlet_reading, outlet_bytes, all_past};
+    ghost use Rattle.outer_io.specs.Memory.{outlet_reading, outlet_bytes, over_sink, all_past};
 
     /// An outlet that has these bytes, and takes more until it has `limit`. The calls of these numbers fail, counted
     /// from 0.
     pub fn new(bytes: Vec<u8>, limit: usize, failing: Vec<u64>) -> Self
         requires { limit ≤ vec_capacity bytes }
-        ensures { outlet_reading result ≡ record {
+        ensures { outlet_reading result ≡ over_sink false (record {
           told = Some bytes.items;
           faults = 0;
           steady = all_past failing.items 0;
           room = limit - vec_len bytes;
-        } }
+        }) }
     {
         VecOutlet {
             sink: VecSink::new(bytes, limit, failing),
+            closed: false,
         }
     }
 
@@ -43,8 +45,13 @@ impl Outlet for VecOutlet {
     ghost reading = { outlet_reading };
 
     fn send(&mut self, piece: &[u8]) -> Result<(), Failed> {
+        if self.closed {
+            return Err(self.sink.refuse());
+        }
         self.sink.write(piece)
     }
 
-    fn close(&mut self) {}
+    fn close(&mut self) {
+        self.closed = true;
+    }
 }

@@ -1,27 +1,34 @@
 -- What links over TCP show: nothing of what comes and goes.
 use Rattle.std.specs.Prelude.{ℕ, false, replicate, None}
+use Rattle.std.specs.Option.{is_none}
 use Rattle.socket_link.specs.declared.tcp_inlet.TcpInlet.{TcpInlet}
 use Rattle.socket_link.specs.declared.tcp_outlet.TcpOutlet.{TcpOutlet}
 use Rattle.outer_io.specs.Inlet.{InletReading}
 use Rattle.outer_io.specs.Links.{LinksReading, links_reading}
 use Rattle.outer_io.specs.declared.net.Links.{Links}
+use Rattle.outer_io.specs.Outlet.{OutletReading}
 use Rattle.outer_io.specs.Sink.{SinkReading}
 
 abbrev pub inlet_reading : TcpInlet → InletReading
-inlet_reading i = record { told = None; faults = i.faults; ended = i.ended; steady = false }
+inlet_reading i =
+    record { told = None; faults = i.faults; ended = i.ended; steady = false; closed = is_none i.stream }
 
-abbrev pub outlet_reading : TcpOutlet → SinkReading
-outlet_reading o = record { told = None; faults = o.faults; steady = false; room = 0 }
+-- a sink that has failed so often, and tells nothing
+abbrev pub untold : ℕ → SinkReading
+untold faults = record { told = None; faults = faults; steady = false; room = 0 }
+
+abbrev pub outlet_reading : TcpOutlet → OutletReading
+outlet_reading o = record { sink = untold o.faults; closed = is_none o.stream }
 
 abbrev pub tcp_links : Links TcpInlet TcpOutlet → LinksReading
 tcp_links links = links_reading inlet_reading outlet_reading links
 
 -- ends of pipes over which nothing went yet
 abbrev pub unread : InletReading
-unread = record { told = None; faults = 0; ended = false; steady = false }
+unread = record { told = None; faults = 0; ended = false; steady = false; closed = false }
 
-abbrev pub unsent : SinkReading
-unsent = record { told = None; faults = 0; steady = false; room = 0 }
+abbrev pub unsent : OutletReading
+unsent = record { sink = untold 0; closed = false }
 
 -- the links to so many peers
 abbrev pub unused : ℕ → LinksReading

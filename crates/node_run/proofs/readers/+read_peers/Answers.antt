@@ -10,9 +10,9 @@ use Rattle.link_reader.specs.Expected.{TalkModel}
 use Rattle.link_reader.specs.ReadWords.{ReaderModel}
 use Rattle.party_desk.specs.declared.desk.Desk.{Desk}
 use Rattle.node_run.specs.Progress.{InOrder, Halted}
-use Rattle.node_run.specs.Remains.{MayRun, AllStaySteady}
-use Rattle.link_reader.specs.Heard.{StaysSteady}
-use Rattle.node_run.proofs.ReaderRuns.{none_left, whole_first, first_of_rest, all_stay, next_readers, all_ran, was_refused, has_read, has_refused, some_box, in_last, one_more}
+use Rattle.node_run.specs.Remains.{MayRun}
+use Rattle.outer_io.specs.Inlet.{shut_inlet}
+use Rattle.node_run.proofs.ReaderRuns.{none_left, whole_first, first_of_rest, HandedBack, refused_inlets, next_readers, all_ran, was_refused, has_read, has_refused, some_box, in_last, one_more}
 use Rattle.node_run.proofs.readers.+read_peers.Goals as goal
 
 pub returns-then-is_empty-clause-remained : goal.returns-then-is_empty-clause-remained
@@ -90,20 +90,22 @@ pub returns-in-Err-clause-remained : goal.returns-in-Err-clause-remained
 returns-in-Err-clause-remained g t c = λ n start place e h.
     let some : 0 < length c.args.readers.items = omega (arith, c.remove-parts.ensures.len) in
     let next = next_readers n start place c.args.readers.items c.remove-parts.result c.args.desks.items c.args.cells some c.remove-parts.ensures.value h in
-    let befores = map g.I.Inlet.reading c.args.inlets.now.items in
-    let afters = map g.I.Inlet.reading c.put_first.new.inlets.items in
-    let count : length afters ≡ length befores =
-    omega (arith, length-map c.args.inlets.now.items g.I.Inlet.reading, length-map c.put_first.new.inlets.items g.I.Inlet.reading, c.put_first.ensures.len, c.remove.ensures.len) in
     let refused = has_refused g.W.Spawner.may_end _ _ c.with-reader.result c.in-Err.back _ c.in-Err.is c.start.ensures c.with-reader.ensures.outcome in
     let more : 0 < length c.args.inlets.now.items = omega (arith, c.requires.same, some) in
     let was : map g.I.Inlet.reading c.args.inlets.now.items ≡ g.I.Inlet.reading c.remove.result ∷ map g.I.Inlet.reading c.remove.new.self.items =
     ap (map g.I.Inlet.reading) (first_of_rest c.args.inlets.now.items c.remove.result more c.remove.ensures.value ∙ ap (λ z. c.remove.result ∷ z) (sym c.remove.ensures.items)) in
-    let now : map g.I.Inlet.reading c.put_first.new.inlets.items ≡ g.I.Inlet.reading c.into_parts-inlet.result.0 ∷ map g.I.Inlet.reading c.remove.new.self.items =
-    ap (map g.I.Inlet.reading) c.put_first.ensures.items in
-    let steady : AllStaySteady befores afters = subst (λ z. AllStaySteady z afters) (sym was) (subst (AllStaySteady (g.I.Inlet.reading c.remove.result ∷ map g.I.Inlet.reading c.remove.new.self.items)) (sym now)
-    (subst (λ z. StaysSteady z (g.I.Inlet.reading c.into_parts-inlet.result.0)) c.with-reader.ensures.inlet (subst (λ z. StaysSteady c.with-reader.result.inlet z) (sym c.into_parts-inlet.ensures.inlet) refused.1), all_stay _)) in
-    was_refused n start place c.args.readers.items c.args.desks.items c.args.cells befores afters _ _ c.peer-peer.result _ _ h some (omega (arith, c.len-waiting.ensures))
-    (c.peer-peer.ensures ∙ ap (λ (z : TalkModel). z.peer) next.1.talk) count steady refused.0 c.of-in-Err.ensures.mail c.of-in-Err.ensures.left
+    let read = g.I.Inlet.reading in
+    let rest = map read c.remove.new.self.items in
+    let back = read c.into_parts-inlet.result.0 in
+    let slice : map read c.as_mut_slice-in-Err.result.now ≡ back ∷ rest = ap (map read) (c.as_mut_slice-in-Err.ensures.value ∙ c.put_first.ensures.items) in
+    let long : length c.close_inlets.new.inlets ≡ vec_len c.put_first.new.inlets = omega (arith, c.close_inlets.auto.inlets, c.as_mut_slice-in-Err.ensures.len) in
+    let whole = whole_first c.close_inlets.new.inlets (drop (length c.close_inlets.new.inlets) c.put_first.new.inlets.items) (vec_len c.put_first.new.inlets) long in
+    let now = ap (map read) whole ∙ c.close_inlets.ensures ∙ ap (map shut_inlet) slice in
+    let did = subst (λ talk. HandedBack talk (read c.remove.result) back) (c.with-reader.ensures.talk ∙ next.1.talk)
+    (subst (λ z. HandedBack c.with-reader.result.talk z back) c.with-reader.ensures.inlet (subst (λ z. HandedBack c.with-reader.result.talk c.with-reader.result.inlet z) (sym c.into_parts-inlet.ensures.inlet) (refused.1, refused.2))) in
+    let all = refused_inlets n place c.peer-peer.result (read c.remove.result) back rest _ _ was now did in
+    was_refused n start place c.args.readers.items c.args.desks.items c.args.cells _ _ _ _ c.peer-peer.result _ _ h some (omega (arith, c.len-waiting.ensures))
+    (c.peer-peer.ensures ∙ ap (λ (z : TalkModel). z.peer) next.1.talk) (ap (λ z. length z) now ∙ length-map (back ∷ rest) shut_inlet ∙ sym (ap (λ z. length z) was)) all.0 all.1 all.2 refused.0 c.of-in-Err.ensures.mail c.of-in-Err.ensures.left
 
 pub returns-in-Ok-clause-remained : goal.returns-in-Ok-clause-remained
 returns-in-Ok-clause-remained g t c = λ n start place e h.

@@ -10,4 +10,5 @@ loop-count-preserved g c = let v = c.loop-count.invariant in let e = c.in-Bytes.
   faults = e.quiet (λ x. cc) ∙ v.faults;
   ended = e.goes_on (λ x. cc) ∙ v.ended;
   steady = λ s. c.in-Bytes.ensures.keeps_steady (v.steady s);
+  closed = c.in-Bytes.ensures.same_closed ∙ v.closed;
 }

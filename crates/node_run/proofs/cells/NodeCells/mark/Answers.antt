@@ -19,4 +19,4 @@ returns g c =
     let may = subst (λ (z : Mail). MayTake z c.args.number) (sym c.self.view_is) c.requires in
     before_as (λ x y. LookedAtMark x c.args.number c.mark.result y) _ _ _ c.self.view_is
     (looked_at_mark _ c.self.invariant c.args.number may c.peer_place.result (c.peer_place.ensures ∙ ap (λ z. place_among c.self.inside.me z.sender) c.message-sender.ensures.is) c.index_mut.result.now c.mark.new.self c.index_mut.ensures.value c.mark.ensures.same (notes_grow c.index_mut.result.now.view c.mark.new.self.view c.mark.new.self.view.noted c.mark.ensures.notes)
-    c.mark.result c.mark.ensures.mark)
+    c.mark.result c.mark.ensures.notes c.mark.ensures.mark)

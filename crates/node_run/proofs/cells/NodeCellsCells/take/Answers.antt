@@ -22,7 +22,9 @@ returns-clause-took g c =
     let empty : plain_cell c.self-2.inside.words.cells c.args.number ≡ None =
     ap (λ (z : Mail). plain_cell z.words.cells c.args.number) (c.self-2.view_is ∙ c.in-Some-look.ensures.rest) ∙ ap (λ (z : Mail). plain_cell z.words.cells c.args.number) (sym c.self.view_is) ∙ sym c.cell.ensures.is ∙ no_word c.cell.result c.in_default.not-Some in
     subst (λ (z : Mail). Takes c.args.self.now c.args.number (Some c.reduce-reduced.result) (record z { words = c.post.new.self })) (sym c.self-2.view_is)
-    (takes_found c.args.self.now c.look.new.self c.args.number c.in-Some-look.found c.reduce-reduced.result c.post.new.self c.in-Some-look.ensures
+    (takes_found c.args.self.now c.look.new.self c.args.number c.in-Some-look.found c.reduce-reduced.result c.post.new.self
+    (ap (λ (z : Mail). plain_cell z.words.cells c.args.number) (sym c.self.view_is) ∙ sym c.cell.ensures.is ∙ no_word c.cell.result c.in_default.not-Some)
+    (reduced ∙ ap (λ (z : Mail). c.in-Some-look.found % 2 ^ z.plan.bits) (c.self-2.view_is ∙ c.in-Some-look.ensures.rest)) c.in-Some-look.ensures
     (word_count _ c.self-2.invariant c.args.number c.reduce-reduced.result may.there (is_read _ c.args.number c.in-Some-look.found c.reduce-reduced.result may known reduced) c.post.new.self c.post.ensures.put.0 ∙ ap (λ (z : Mail). length z.words.cells) c.self-2.view_is)
     (word_kept _ c.self-2.invariant c.args.number c.reduce-reduced.result may.there (is_read _ c.args.number c.in-Some-look.found c.reduce-reduced.result may known reduced) c.post.new.self c.post.ensures.put.0 empty)
     (cells_are _ c.self-2.invariant c.args.number c.reduce-reduced.result may.there (is_read _ c.args.number c.in-Some-look.found c.reduce-reduced.result may known reduced) c.post.new.self c.post.ensures.put.0 ∙ ap (λ (z : Mail). plain_put z.words.cells c.args.number c.reduce-reduced.result) c.self-2.view_is))

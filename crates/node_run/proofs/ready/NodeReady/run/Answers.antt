@@ -1,4 +1,6 @@
-use Rattle.std.proofs.Common.{◌-◌, map, refl, sym, ap, ◌∙◌, subst}
+use Rattle.std.proofs.Common.{◌≡◌, ◌-◌, vec_len, length, drop, map, refl, sym, ap, ◌∙◌, subst, arith}
+use Rattle.outer_io.specs.Inlet.{shut_inlet}
+use Rattle.node_run.proofs.ReaderRuns.{whole_first}
 use Rattle.outer_io.specs.Links.{LinksReading, HasPeers, links_reading}
 use Rattle.node_run.specs.Progress.{Begin, ids_of}
 use Rattle.node_run.specs.Ready.{Share, IsNodeOf}
@@ -42,13 +44,15 @@ returns-then-not-greet g c = λ n of.
     let links = ap (links_reading g.I.Inlet.reading g.O.Outlet.reading) c.into_answer.ensures.links in
     let after : LinksReading = links_reading g.I.Inlet.reading g.O.Outlet.reading c.into_answer.result.1 in
     let results : Results = record { words = c.of.result.words.cells; outputs = map (λ (d : Desk). d.memory.outputs.items) c.of.result.desks.items } in
+    let long : length c.close_inlets.new.inlets ≡ vec_len c.args.links.inlets = omega (arith, c.close_inlets.auto.inlets, c.as_mut_slice.ensures.len) in
+    let whole = whole_first c.close_inlets.new.inlets (drop (length c.close_inlets.new.inlets) c.args.links.inlets.items) (vec_len c.args.links.inlets) long in
     let told =
     c.into_answer.ensures.answer
     ∙ ap (λ z. answer (fault_told z c.of.result.refused c.of.result.fault) results) (ap (λ (z : RemainsModel). z.failed) c.of.ensures.left)
     ∙ ap (λ z. answer (fault_told c.greet.new.cells.failed z c.of.result.fault) results) (ap (λ (z : RemainsModel). z.refused) c.of.ensures.left) in
     subst (Runs n start.links after (g.W.Spawner.reading c.args.spawner.now) (g.W.Spawner.reading c.args.spawner.now)) (sym told)
     (ungreeted_runs n start after (g.W.Spawner.reading c.args.spawner.now) (g.W.Spawner.reading c.args.spawner.now) (had_peers _ _ c.self.invariant n mine _ peers) c.greet.new.cells c.of.ensures.mail u
-    (ap (λ (z : LinksReading). z.inlets) links) (ap (λ (z : LinksReading). z.outlets) links ∙ ap (λ (z : RemainsModel). z.outlets) c.of.ensures.left) refl c.of.result.fault results)
+    (ap (λ (z : LinksReading). z.inlets) links ∙ ap (map g.I.Inlet.reading) whole ∙ c.close_inlets.ensures ∙ ap (λ z. map shut_inlet (map g.I.Inlet.reading z)) c.as_mut_slice.ensures.value) (ap (λ (z : LinksReading). z.outlets) links ∙ ap (λ (z : RemainsModel). z.outlets) c.of.ensures.left) refl c.of.result.fault results)
 
 pub returns : goal.returns
 returns g c = λ n of.

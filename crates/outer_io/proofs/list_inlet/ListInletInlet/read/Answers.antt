@@ -1,6 +1,8 @@
-use Rattle.std.proofs.Common.{rules, arith, refl, ap, Some, drop, length-append}
+use Rattle.std.proofs.Common.{rules, arith, refl, ap, sym, ◌∙◌, Some, drop, length-append}
+use Rattle.std.proofs.lemmas.Bool.{false≢true}
 use Rattle.std.proofs.lemmas.List.{length-take}
 use Rattle.outer_io.proofs.PastCalls.{all_past-next, all_past-coming}
+use Rattle.outer_io.proofs.NetRefusals.{first_of_both, second_of_both, both_true}
 use Rattle.outer_io.proofs.HandedBytes.{handed, none_left}
 use Rattle.outer_io.proofs.list_inlet.ListInletInlet.read.Goals as goal
 
@@ -12,8 +14,10 @@ returns-then-contains c = record {
   faults_grow = search rules;
   ends = search rules;
   goes_on = search rules;
-  keeps_steady = all_past-next c.args.self.now.failing.items c.args.self.now.calls c.saturating_add-self.result (omega arith) c.saturating_add-self.ensures;
-  by_itself = λ steady failed. all_past-coming _ _ _ _ c.deref.ensures.value c.contains.ensures.value c.if-contains.true steady;
+  keeps_steady = λ steady. both_true _ _ (first_of_both _ _ steady) (all_past-next c.args.self.now.failing.items c.args.self.now.calls c.saturating_add-self-2.result (omega arith) c.saturating_add-self-2.ensures (second_of_both _ _ steady));
+  same_closed = refl;
+  after_close = λ closed. absurd (false≢true (sym c.if-self.false ∙ closed));
+  by_itself = λ steady failed. all_past-coming _ _ _ _ c.deref.ensures.value c.contains.ensures.value c.if-contains.true (second_of_both _ _ steady);
 }
 
 pub returns-then-left-eq0 : goal.returns-then-left-eq0
@@ -24,7 +28,9 @@ returns-then-left-eq0 c = record {
   faults_grow = search rules;
   ends = search rules;
   goes_on = search rules;
-  keeps_steady = all_past-next c.args.self.now.failing.items c.args.self.now.calls c.saturating_add-self.result (omega arith) c.saturating_add-self.ensures;
+  keeps_steady = λ steady. both_true _ _ (first_of_both _ _ steady) (all_past-next c.args.self.now.failing.items c.args.self.now.calls c.saturating_add-self-2.result (omega arith) c.saturating_add-self-2.ensures (second_of_both _ _ steady));
+  same_closed = refl;
+  after_close = λ closed. absurd (false≢true (sym c.if-self.false ∙ closed));
   by_itself = search rules;
 }
 
@@ -40,6 +46,8 @@ returns c = record {
   faults_grow = search rules;
   ends = search rules;
   goes_on = search rules;
-  keeps_steady = all_past-next c.args.self.now.failing.items c.args.self.now.calls c.saturating_add-self.result (omega arith) c.saturating_add-self.ensures;
+  keeps_steady = λ steady. both_true _ _ (first_of_both _ _ steady) (all_past-next c.args.self.now.failing.items c.args.self.now.calls c.saturating_add-self-2.result (omega arith) c.saturating_add-self-2.ensures (second_of_both _ _ steady));
+  same_closed = refl;
+  after_close = λ closed. absurd (false≢true (sym c.if-self.false ∙ closed));
   by_itself = search rules;
 }
