@@ -1,3 +1,3 @@
 mod FaultRows
-mod GivenInputs
+pub mod GivenInputs
 mod FaultParties
