@@ -1,4 +1,4 @@
 mod RunsAsShort
 mod FirstParts
-mod CutTalks
-mod GroupViews
+pub mod CutTalks
+pub mod GroupViews
