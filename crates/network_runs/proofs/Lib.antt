@@ -1,0 +1,3 @@
+pub mod PlayedRuns
+mod WholePlays
+mod SimulatedWires
