@@ -21,7 +21,7 @@ use Rattle.walk_laws.proofs.Audits.{judged_once}
 use Rattle.walk_laws.proofs.WholeWorlds.{jobs_are_whole, jobs_are_named}
 use Rattle.walk_laws.proofs.Plans.{expressions_once, groups_once, q2_once, plan_once}
 
-structure_once : (job : JobForm) → EndsOnce (StructureOf job)
+pub structure_once : (job : JobForm) → EndsOnce (StructureOf job)
 unfolding StructureOf
 structure_once job = then_once _ _ (groups_once job.names job.adversary) (q2_once job)
 
@@ -43,7 +43,7 @@ session_once : (files : Contents) (dir : List ℕ) (job : JobForm) (s : ℕ) (fo
 unfolding SessionAt
 session_once files dir job s form = then_once _ _ (ends_once _) (λ bytes. then_once _ _ (circuit_once form.layout form.circuit s job.bits bytes) (λ circuit. ends_once _))
 
-sessions_once : (files : Contents) (dir : List ℕ) (job : JobForm) (before : List Session) (forms : List SessionForm) → EndsOnce (SessionsAfter files dir job before forms)
+pub sessions_once : (files : Contents) (dir : List ℕ) (job : JobForm) (before : List Session) (forms : List SessionForm) → EndsOnce (SessionsAfter files dir job before forms)
 unfolding SessionsAfter
 sessions_once files dir job before [] = ends_once _
 sessions_once files dir job before (form ∷ forms) = then_once _ _ (session_once files dir job (length before) form) (λ s. sessions_once files dir job (before ++ s ∷ []) forms)
@@ -57,7 +57,7 @@ unfolding PlanAt
 plan_at_once files dir asked =
     then_once _ _ (text_once false files dir) (λ job. then_once _ _ (group_once job.names asked) (λ group. then_once _ _ (structure_once job) (planned_once files dir job group)))
 
-party_once : (files : Contents) (dir : List ℕ) (plan : Plan) (p : ℕ) (name : List ℕ) → EndsOnce (PartyAt files dir plan p name)
+pub party_once : (files : Contents) (dir : List ℕ) (plan : Plan) (p : ℕ) (name : List ℕ) → EndsOnce (PartyAt files dir plan p name)
 unfolding PartyAt
 party_once files dir plan p name = then_once _ _ (ends_once _) (λ bytes. ends_once _)
 

@@ -5,5 +5,9 @@ mod Audits
 mod Jobs
 mod WrittenViews
 mod RunValues
+mod HiddenPairs
+mod NodeWorlds
+mod ToleratedGroups
+mod Headline
 mod Statuses
 mod CallsInARow

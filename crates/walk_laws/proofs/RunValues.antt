@@ -111,7 +111,7 @@ some_bytes true line bytes found e = cc
 some_bytes false line bytes found e = absurd (cc)
 
 -- bytes that were read stand there
-bytes_there : (found : Option (List ℕ)) (name bytes : List ℕ) → bytes_of found name ≡ accepted bytes → found ≡ Some bytes
+pub bytes_there : (found : Option (List ℕ)) (name bytes : List ℕ) → bytes_of found name ≡ accepted bytes → found ≡ Some bytes
 unfolding bytes_of
 bytes_there None name bytes e = absurd (let no : missing name ≡ accepted bytes = e in cc)
 bytes_there (Some found) name bytes e = let same : found ≡ bytes = some_bytes _ (too_long_line name) bytes found e in cc
@@ -199,7 +199,7 @@ pub runs_write_values : RunsWriteValues
 unfolding JobAt PlanAt JobText PlannedOf PlanOf Then
 runs_write_values files dir asked job whole text (planned, (job', text', (group, g, (structure, found, (sessions, read, (plan, (same, within), e))))), (forms, given, is)) s form there layout =
     let one : job' ≡ job = accepted_is job' job (text_once false files dir (accepted job') (accepted job) text' text) in
-    let good : IsGoodForm job = good_job text.0 job (was_ok _ (job_in false text.0) job text.2) in
+    let good : IsGoodForm job = good_job false text.0 job (was_ok _ (job_in false text.0) job text.2) in
     let world : whole.world.plan ≡ plan_of job.bits structure sessions =
     ap (λ (whole : WholeJob). whole.world.plan) (accepted_is whole (whole_job planned forms) is) ∙ ap (λ (p : Planned). p.plan) (accepted_is planned _ e) ∙ same ∙ ap (λ (j : JobForm). plan_of j.bits structure sessions) one in
     let at = session_at files dir job sessions (subst (λ (j : JobForm). SessionsAfter files dir j [] j.sessions (accepted sessions)) one read) s form there in

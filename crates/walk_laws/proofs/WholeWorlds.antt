@@ -24,7 +24,7 @@ use Rattle.circuit_model.specs.Netlists.{Netlist, IsCircuit}
 use Rattle.circuit_file.specs.CircuitFiles.{circuit_in}
 use Rattle.circuit_file.proofs.FileLaws.{file_grounded}
 use Rattle.expr_circuit.proofs.ValidPrograms.{valid_program}
-use Rattle.maximal_groups.specs.Families.{maximal_structure}
+use Rattle.maximal_groups.specs.Families.{IsFamily, maximal_structure}
 use Rattle.maximal_groups.proofs.FoundGroups.{antichain}
 use Rattle.maximal_groups.proofs.Lists.{list_is_family}
 use Rattle.group_formula.specs.Trees.{Meaning, IsSoundTree, tree_of, is_tolerated}
@@ -92,15 +92,15 @@ fits_bytes : (plan : Plan) (p : ℕ) (bytes : List ℕ) (form : PartyForm) → p
 unfolding party_in
 fits_bytes plan p bytes form e = fits_fields plan p form (document_of bytes) e
 
-party_fits : (files : Contents) (dir : List ℕ) (plan : Plan) (p : ℕ) (name : List ℕ) (form : PartyForm) → PartyAt files dir plan p name (accepted form) → FitsPlan plan p form
+pub party_fits : (files : Contents) (dir : List ℕ) (plan : Plan) (p : ℕ) (name : List ℕ) (form : PartyForm) → PartyAt files dir plan p name (accepted form) → FitsPlan plan p form
 unfolding PartyAt Then
 party_fits files dir plan p name form (bytes, there, e) = fits_bytes plan p bytes form (was_ok _ (party_in plan p bytes) form e)
 
-abbrev no_form : PartyForm
+abbrev pub no_form : PartyForm
 no_form = record { inputs = []; tapes = [] }
 
 -- each form fits the plan
-abbrev Fitting : Plan → List PartyForm → Type 0
+abbrev pub Fitting : Plan → List PartyForm → Type 0
 Fitting plan forms = (p : ℕ) → p < length forms → FitsPlan plan p (slice_index_or forms p no_form)
 
 fitting_push : (plan : Plan) (forms : List PartyForm) (form : PartyForm) → Fitting plan forms → FitsPlan plan (length forms) form → Fitting plan (forms ++ form ∷ [])
@@ -184,7 +184,7 @@ module _ (plan : Plan) (forms : List PartyForm) (count : length forms ≡ plan.p
     | inr past ↦ subst (λ (tape : List ℕ). slice_index tape i < 2 ^ plan.bits) (sym (get_or_past tapes p [] (omega (arith, past, many_tapes)))) (pow_pos plan.bits)
   ]
 
-  whole_world : IsSound plan → IsWhole (world_of plan forms)
+  pub whole_world : IsSound plan → IsWhole (world_of plan forms)
   whole_world sound = record { sound = sound; inputs = are_inputs; tapes = record { parties = many_tapes; lengths = tape_long; below = small } }
 
 pub parties_make_whole : (files : Contents) (dir : List ℕ) (plan : Plan) (names : List (List ℕ)) (forms : List PartyForm) → IsSound plan → length names ≡ plan.parties
@@ -195,7 +195,7 @@ parties_make_whole files dir plan names forms sound named is =
 
 -- ---- the structure
 
-few_are : (s : Structure) (b : Bool) (found : Structure) (status : ℕ) (line : List ℕ) → nat_le (length s.groups) 64 ≡ b → accepted found ≡ (if b then accepted s else refused status line) → (found ≡ s) × (length s.groups ≤ 64)
+pub few_are : (s : Structure) (b : Bool) (found : Structure) (status : ℕ) (line : List ℕ) → nat_le (length s.groups) 64 ≡ b → accepted found ≡ (if b then accepted s else refused status line) → (found ≡ s) × (length s.groups ≤ 64)
 few_are s true found status line is e = (accepted_is found s e, leb-true (length s.groups) 64 is)
 few_are s false found status line is e = cc
 
@@ -205,27 +205,27 @@ groups_are n t s some few nobody e =
     let found = few_are (maximal_structure n t) (nat_le (length (maximal_structure n t).groups) 64) s _ _ refl e in
     (subst IsAntichain (sym found.0) (antichain n t some few nobody found.1), ap (λ (s : Structure). s.parties) found.0)
 
-formula_family : (text : List ℕ) (names : List (List ℕ)) (f : Meaning) → IsFormula text names f → is_tolerated f 0 ≡ true
+pub formula_family : (text : List ℕ) (names : List (List ℕ)) (f : Meaning) → IsFormula text names f → IsFamily f.parties (is_tolerated f)
 formula_family text names f is =
     let tree : IsSoundTree (length names) (tree_of f.nodes) =
     subst (IsSoundTree (length names)) (sym is.tree) (sound (reading text names) (length names) (parties_below text names) (shape is.expr) is.good) in
-    (family_of f (subst (λ n. IsSoundTree n (tree_of f.nodes)) (sym is.parties) tree)).nobody
+    family_of f (subst (λ n. IsSoundTree n (tree_of f.nodes)) (sym is.parties) tree)
 
 adversary_groups : (names : List (List ℕ)) (adversary : AdversaryForm) (s : Structure) → 1 ≤ length names → length names ≤ 12 → GroupsOf names adversary (accepted s)
     → IsAntichain s × (s.parties ≡ length names)
 unfolding GroupsOf FormulaOf Then
 adversary_groups names (by_formula text) s some few (f, is, e) =
-    let found = groups_are f.parties (is_tolerated f) s (omega (arith, some, is.parties)) (omega (arith, few, is.parties)) (formula_family text names f is) e in
+    let found = groups_are f.parties (is_tolerated f) s (omega (arith, some, is.parties)) (omega (arith, few, is.parties)) (formula_family text names f is).nobody e in
     (found.0, found.1 ∙ is.parties)
 adversary_groups names (by_list masks) s some few e = groups_are (length names) _ s some few (list_is_family (length names) masks).nobody e
 
 -- what a structure is that was accepted
-record IsFound (names : List (List ℕ)) (s : Structure) : Type 0 where
-  antichain : IsAntichain s
-  q2 : IsQ2 s
-  parties : s.parties ≡ length names
+pub record IsFound (names : List (List ℕ)) (s : Structure) : Type 0 where
+  pub antichain : IsAntichain s
+  pub q2 : IsQ2 s
+  pub parties : s.parties ≡ length names
 
-structure_found : (job : JobForm) (s : Structure) → 1 ≤ length job.names → length job.names ≤ 12 → StructureOf job (accepted s) → IsFound job.names s
+pub structure_found : (job : JobForm) (s : Structure) → 1 ≤ length job.names → length job.names ≤ 12 → StructureOf job (accepted s) → IsFound job.names s
 unfolding StructureOf Q2Of Then
 structure_found job s some few (groups, is, (same, q2)) =
     let found = adversary_groups job.names job.adversary groups some few is in
@@ -238,9 +238,9 @@ structure_found job s some few (groups, is, (same, q2)) =
 -- ---- the sessions
 
 -- the parties of a session's form are parties
-record AreNamed (n : ℕ) (form : SessionForm) : Type 0 where
-  owners : All (λ owner. owner < n) form.owners
-  readers : All (λ mask. mask < 2 ^ n) form.readers
+pub record AreNamed (n : ℕ) (form : SessionForm) : Type 0 where
+  pub owners : All (λ owner. owner < n) form.owners
+  pub readers : All (λ mask. mask < 2 ^ n) form.readers
 
 outputs_within : (n : ℕ) (ws : List ℕ) (masks : List ℕ) → AllByRecursion (λ mask. mask < 2 ^ n) masks
     → AllByRecursion (λ (value : OutputValue). value.readers.mask < 2 ^ value.readers.parties) (output_values ws (groups_in n masks))
@@ -294,7 +294,7 @@ module _ (files : Contents) (dir : List ℕ) (job : JobForm) (some : 0 < job.bit
 
 -- ---- the job's file
 
-head_passed : {F : Type 0} (a : Option F) (rest : List (Option F)) → first_fault (a ∷ rest) ≡ None → (a ≡ None) × (first_fault rest ≡ None)
+pub head_passed : {F : Type 0} (a : Option F) (rest : List (Option F)) → first_fault (a ∷ rest) ≡ None → (a ≡ None) × (first_fault rest ≡ None)
 head_passed None rest e = (refl, e)
 head_passed (Some f) rest e = cc
 
@@ -305,9 +305,9 @@ passed_four a b c d e =
     let three = head_passed c (d ∷ []) two.1 in
     (three.0, (head_passed d [] three.1).0)
 
--- of ten checks that passed, the fourth, the fifth, the seventh and the eighth
+-- of ten checks that passed, the fourth to the eighth
 passed_ten : {F : Type 0} (a b c d e f g h i j : Option F) → first_fault (a ∷ b ∷ c ∷ d ∷ e ∷ f ∷ g ∷ h ∷ i ∷ j ∷ []) ≡ None
-    → (d ≡ None) × (e ≡ None) × (g ≡ None) × (h ≡ None)
+    → (d ≡ None) × (e ≡ None) × (f ≡ None) × (g ≡ None) × (h ≡ None)
 passed_ten a b c d e f g h i j all =
     let one = head_passed a (b ∷ c ∷ d ∷ e ∷ f ∷ g ∷ h ∷ i ∷ j ∷ []) all in
     let two = head_passed b (c ∷ d ∷ e ∷ f ∷ g ∷ h ∷ i ∷ j ∷ []) one.1 in
@@ -316,13 +316,13 @@ passed_ten a b c d e f g h i j all =
     let five = head_passed e (f ∷ g ∷ h ∷ i ∷ j ∷ []) four.1 in
     let six = head_passed f (g ∷ h ∷ i ∷ j ∷ []) five.1 in
     let seven = head_passed g (h ∷ i ∷ j ∷ []) six.1 in
-    (four.0, five.0, seven.0, (head_passed h (i ∷ j ∷ []) seven.1).0)
+    (four.0, five.0, six.0, seven.0, (head_passed h (i ∷ j ∷ []) seven.1).0)
 
-map_none : {A B : Type 0} (f : A → B) (o : Option A) → option_map f o ≡ None → o ≡ None
+pub map_none : {A B : Type 0} (f : A → B) (o : Option A) → option_map f o ≡ None → o ≡ None
 map_none f None e = refl
 map_none f (Some a) e = cc
 
-or_none : {A : Type 0} (a b : Option A) → option_or a b ≡ None → (a ≡ None) × (b ≡ None)
+pub or_none : {A : Type 0} (a b : Option A) → option_or a b ≡ None → (a ≡ None) × (b ≡ None)
 or_none None b e = (refl, e)
 or_none (Some x) b e = cc
 
@@ -347,7 +347,7 @@ bad_step true b n rest e = cc
 bad_step false true n rest e = cc
 bad_step false false n rest e = (refl, e)
 
-list_named : (names before texts : List (List ℕ)) → bad_name names before texts ≡ None → AllByRecursion (λ text. is_no_party names text ≡ false) texts
+pub list_named : (names before texts : List (List ℕ)) → bad_name names before texts ≡ None → AllByRecursion (λ text. is_no_party names text ≡ false) texts
 unfolding bad_name
 list_named names before [] e = tt
 list_named names before (text ∷ rest) e =
@@ -394,73 +394,91 @@ sessions_named two names s (fields ∷ rest) e =
 pub record IsGoodForm (job : JobForm) : Type 0 where
   pub some_bits : 0 < job.bits
   pub few_bits : job.bits ≤ 64
-  names : AreNames job.names
-  few_sessions : length job.sessions ≤ 16
-  sessions : AllByRecursion (AreNamed (length job.names)) job.sessions
+  pub names : AreNames job.names
+  pub few_sessions : length job.sessions ≤ 16
+  pub sessions : AllByRecursion (AreNamed (length job.names)) job.sessions
 
 bits_within : (z : ℤ) → is_within (pos 1) (pos 64) z ≡ true → (0 < nat_abs z) × (nat_abs z ≤ 64)
 bits_within (pos n) e = let both = and_parts (int_le (pos 1) (pos n)) (int_le (pos n) (pos 64)) e in (leb-true 1 n both.0, leb-true n 64 both.1)
 bits_within (negsuc n) e = cc
 
-form_good : (fields : Fields) → job_fault false fields ≡ None → IsGoodForm (job_form fields)
+pub form_good : (node : Bool) (fields : Fields) → job_fault node fields ≡ None → IsGoodForm (job_form fields) × (adversary_fault fields ≡ None)
 unfolding job_fault ring_fault parties_fault job_form
-form_good fields e =
+form_good node fields e =
     let passed =
-    passed_ten (version_fault fields) (unknown_fault None (top_fields (adversary_field fields)) fields) (fields_fault false fields) (ring_fault fields) (parties_fault fields) (adversary_fault fields)
+    passed_ten (version_fault fields) (unknown_fault None (top_fields (adversary_field fields)) fields) (fields_fault node fields) (ring_fault fields) (parties_fault fields) (adversary_fault fields)
     (count_fault (length (items SessionField fields))) (sessions_fault (is_version_two fields) (texts Parties fields) 0 (tables SessionField fields)) (hosts_fault fields) (port_fault fields) e in
     let bits = bits_within (integer RingBits fields) (not_false _ (not_failed (not (is_within (pos 1) (pos 64) (integer RingBits fields))) (BadRing (integer RingBits fields)) passed.0)) in
-    let names : AreNames (texts Parties fields) = no_fault_tells (texts Parties fields) (map_none (λ fault. Names fault) (names_fault (texts Parties fields)) passed.1) in
-    record {
-      some_bits = bits.0;
-      few_bits = bits.1;
-      names = names;
-      few_sessions =
-          omega
-          (arith, (session_count (length (items SessionField fields)) passed.2).1, length-map (tables SessionField fields) (session_form (is_version_two fields) (texts Parties fields)), length-map (items SessionField fields) fields_of);
-      sessions = sessions_named (is_version_two fields) (texts Parties fields) 0 (tables SessionField fields) passed.3;
-    }
+    let names : AreNames (texts Parties fields) = no_fault_tells (texts Parties fields) (map_none (λ fault. Names fault) (names_fault (texts Parties fields)) passed.1) in (
+      record {
+        some_bits = bits.0;
+        few_bits = bits.1;
+        names = names;
+        few_sessions =
+            omega
+            (arith, (session_count (length (items SessionField fields)) passed.3).1, length-map (tables SessionField fields) (session_form (is_version_two fields) (texts Parties fields)), length-map (items SessionField fields) fields_of);
+        sessions = sessions_named (is_version_two fields) (texts Parties fields) 0 (tables SessionField fields) passed.4;
+      },
+      passed.2,
+    )
 
-good_fields : (job : JobForm) (d : Option Fields) → option_map_or (λ fields. or_fault (job_fault false fields) (job_form fields)) d (Err NotToml) ≡ Ok job → IsGoodForm job
-good_fields job None e = cc
-good_fields job (Some fields) e =
-    let both = or_fault-ok (job_fault false fields) (job_form fields) job (sym e) in
-    subst IsGoodForm (sym both.1) (form_good fields both.0)
+-- what the document of a job's file says, where it has no fault
+pub record IsGoodDocument (node : Bool) (bytes : List ℕ) (job : JobForm) : Type 0 where
+  pub fields : Fields
+  pub parsed : document_of bytes ≡ Some fields
+  pub is : job ≡ job_form fields
+  pub no_fault : job_fault node fields ≡ None
 
-pub good_job : (bytes : List ℕ) (job : JobForm) → job_in false bytes ≡ Ok job → IsGoodForm job
+good_fields : (node : Bool) (bytes : List ℕ) (job : JobForm) (d : Option Fields) → document_of bytes ≡ d
+    → option_map_or (λ fields. or_fault (job_fault node fields) (job_form fields)) d (Err NotToml) ≡ Ok job → IsGoodDocument node bytes job
+good_fields node bytes job None is e = cc
+good_fields node bytes job (Some fields) is e =
+    let both = or_fault-ok (job_fault node fields) (job_form fields) job (sym e) in
+    record { fields = fields; parsed = is; is = both.1; no_fault = both.0 }
+
+pub good_document : (node : Bool) (bytes : List ℕ) (job : JobForm) → job_in node bytes ≡ Ok job → IsGoodDocument node bytes job
 unfolding job_in
-good_job bytes job e = good_fields job (document_of bytes) e
+good_document node bytes job e = good_fields node bytes job (document_of bytes) refl e
+
+pub good_job : (node : Bool) (bytes : List ℕ) (job : JobForm) → job_in node bytes ≡ Ok job → IsGoodForm job
+good_job node bytes job e =
+    let good = good_document node bytes job e in
+    subst IsGoodForm (sym good.is) (form_good node good.fields good.no_fault).0
 
 -- ---- the plan, and the job
+
+pub plan_is_sound : (files : Contents) (dir : List ℕ) (job : JobForm) (s : Structure) (sessions : List Session) → IsGoodForm job → IsFound job.names s
+    → SessionsAfter files dir job [] job.sessions (accepted sessions) → IsPlanWithin (plan_of job.bits s sessions) → IsSound (plan_of job.bits s sessions)
+plan_is_sound files dir job s sessions good found read limits =
+    let each = sessions_are_sound files dir job good.some_bits good.few_bits [] job.sessions sessions (λ s l. absurd (omega (arith, l))) good.sessions read in
+    record {
+      some_bits = good.some_bits;
+      bits = good.few_bits;
+      some_parties = found.antichain.some_party;
+      parties = found.antichain.few_parties;
+      some_groups = found.antichain.some_group;
+      groups = found.antichain.few_groups;
+      q2 = found.q2;
+      few_sessions = omega (arith, each.1, good.few_sessions);
+      few_messages = limits.messages;
+      few_words = limits.words;
+      sessions = λ i l. subst (λ n. IsSoundSession n (slice_index_or sessions i no_session)) (sym found.parties) (each.0 i l);
+    }
 
 sound_plan : (files : Contents) (dir : List ℕ) (job : JobForm) (group : Option Members) (s : Structure) (planned : Planned) → IsGoodForm job → IsFound job.names s
     → PlannedOf files dir job group s (accepted planned) → IsSound planned.plan × (length planned.names ≡ planned.plan.parties)
 unfolding PlannedOf PlanOf Then
 sound_plan files dir job group s planned good found (sessions, read, (plan, (same, within), e)) =
-    let each = sessions_are_sound files dir job good.some_bits good.few_bits [] job.sessions sessions (λ s l. absurd (omega (arith, l))) good.sessions read in
     let is : planned ≡ record { names = job.names; group = group; plan = plan_of job.bits s sessions } =
     accepted_is planned _ e ∙ ap (λ (plan : Plan). record { names = job.names; group = group; plan = plan }) same in
     let limits : IsPlanWithin (plan_of job.bits s sessions) = within in
-    subst (λ (planned : Planned). IsSound planned.plan × (length planned.names ≡ planned.plan.parties)) (sym is) (
-      record {
-        some_bits = good.some_bits;
-        bits = good.few_bits;
-        some_parties = found.antichain.some_party;
-        parties = found.antichain.few_parties;
-        some_groups = found.antichain.some_group;
-        groups = found.antichain.few_groups;
-        q2 = found.q2;
-        few_sessions = omega (arith, each.1, good.few_sessions);
-        few_messages = limits.messages;
-        few_words = limits.words;
-        sessions = λ i l. subst (λ n. IsSoundSession n (slice_index_or sessions i no_session)) (sym found.parties) (each.0 i l);
-      },
-      sym found.parties,
-    )
+    subst (λ (planned : Planned). IsSound planned.plan × (length planned.names ≡ planned.plan.parties)) (sym is)
+    (plan_is_sound files dir job s sessions good found read limits, sym found.parties)
 
 plan_at_sound : (files : Contents) (dir : List ℕ) (asked : Option (List ℕ)) (planned : Planned) → PlanAt files dir asked (accepted planned) → IsSound planned.plan × (length planned.names ≡ planned.plan.parties)
 unfolding PlanAt JobText Then
 plan_at_sound files dir asked planned (job, (bytes, there, e), (group, g, (s, found, is))) =
-    let good : IsGoodForm job = good_job bytes job (was_ok _ (job_in false bytes) job e) in
+    let good : IsGoodForm job = good_job false bytes job (was_ok _ (job_in false bytes) job e) in
     sound_plan files dir job group s planned good (structure_found job s good.names.some good.names.few found) is
 
 pub jobs_are_whole : JobsAreWhole
@@ -479,7 +497,7 @@ planned_names files dir job group s planned (sessions, read, (plan, within, e)) 
 plan_named : (files : Contents) (dir : List ℕ) (asked : Option (List ℕ)) (planned : Planned) → PlanAt files dir asked (accepted planned) → AreNames planned.names
 unfolding PlanAt JobText Then
 plan_named files dir asked planned (job, (bytes, there, e), (group, g, (s, found, is))) =
-    let good : IsGoodForm job = good_job bytes job (was_ok _ (job_in false bytes) job e) in
+    let good : IsGoodForm job = good_job false bytes job (was_ok _ (job_in false bytes) job e) in
     subst AreNames (sym (planned_names files dir job group s planned is)) good.names
 
 -- an accepted job has a name for each party

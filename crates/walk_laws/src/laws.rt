@@ -1,6 +1,9 @@
 //! The laws.
 ghost use Rattle.walk_laws.specs.Once.{AreDueOnce};
-ghost use Rattle.walk_laws.specs.Whole.{JobsAreWhole};
+ghost use Rattle.walk_laws.specs.Whole.{JobsAreWhole, PairsCanHide};
+ghost use Rattle.walk_laws.specs.Nodes.{NodesAreShares, NodesShareTheirJob, NodesAgree, SharesMakeAWorld, TalksMakeANetwork};
+ghost use Rattle.walk_laws.specs.Tolerated.{JobsTolerateAsWritten, NodesTolerateAsWritten};
+ghost use Rattle.walk_laws.specs.Headline.{JobsKeepTheHeadline};
 ghost use Rattle.walk_laws.specs.Expressions.{RunsWriteValues};
 ghost use Rattle.walk_laws.specs.WrittenViews.{WrittenViewsAreAudited};
 ghost use Rattle.walk_laws.specs.Exact.{GivesExactly};
@@ -40,6 +43,38 @@ pub fn a_call_again_has_the_same_status()
 /// for.
 pub fn accepted_jobs_are_whole()
     ensures { JobsAreWhole }
+{}
+
+/// The other inputs of an accepted pair can be hidden from its group: they are inputs of the plan, the group is
+/// tolerated, and its members give and read the same.
+pub fn accepted_pairs_can_be_hidden()
+    ensures { PairsCanHide }
+{}
+
+/// What a node's files give is a share that fits its plan, and that of its party in the folder's job. Folders with one
+/// file of the job and one set of circuits give one plan and digest. All parties' shares make a whole world, and their
+/// talks over pipes that invent nothing make a network, in which each party that ended well is right.
+pub fn nodes_have_shares_of_a_world()
+    ensures fits { NodesAreShares }
+    ensures own { NodesShareTheirJob }
+    ensures agree { NodesAgree }
+    ensures whole { SharesMakeAWorld }
+    ensures network { TalksMakeANetwork }
+{}
+
+/// A group lies within a maximal group of an accepted job exactly where the job's file tolerates it: by its formula,
+/// which is false of the group, or by its lists, one of which names all members.
+pub fn tolerated_groups_are_as_written()
+    ensures jobs { JobsTolerateAsWritten }
+    ensures nodes { NodesTolerateAsWritten }
+{}
+
+/// Of every accepted job and every order in which its desks are stepped, each output written is the plain circuit's; no
+/// tape word is drawn twice; and for every group that its file tolerates and any two lists of inputs that agree on the
+/// group's inputs and outputs, a one-to-one change of the others' tapes makes every message that a member sends or
+/// receives the same.
+pub fn accepted_jobs_are_right_and_private()
+    ensures { JobsKeepTheHeadline }
 {}
 
 /// What a run writes for a session of expressions is the values of its output lines at the inputs of the files.
