@@ -1,5 +1,5 @@
 -- The runs of all parties make a network.
-use Rattle.std.proofs.Common.{◌≡◌, ℕ, ◌<◌, ◌⊎◌, Result, Ok, Err, inl, inr, refl}
+use Rattle.std.proofs.Common.{ℕ, ◌<◌, ◌⊎◌, Result, Ok, Err, inl, inr, refl}
 use Rattle.std.specs.Prelude.{IfOk, IsOk, OnErr}
 use Rattle.job_plan.specs.declared.key.Key.{Key}
 use Rattle.outer_io.specs.Links.{LinksReading}
@@ -8,7 +8,7 @@ use Rattle.node_talk.specs.Talks.{Node}
 use Rattle.node_talk.specs.Runs.{BrokeOff, IsDone, Results, TalkedThrough}
 use Rattle.network_laws.specs.Networks.{IsNetwork, RanShort, RanThrough, node}
 use Rattle.network_laws.proofs.CutTalks.{is_right}
-use Rattle.network_runs.specs.Played.{ArePlayed, EndedWell, Played, RunsMakeANetwork, network_of, results_of}
+use Rattle.network_runs.specs.Played.{ArePlayed, Played, RunsMakeANetwork, network_of, results_of}
 
 -- a run that answered Ok went through, and any other broke off
 through : (n : Node) (before after : LinksReading) (result : Result Results NodeFault) → IfOk result (λ r. (got : Key → ℕ) × IsDone n got r × TalkedThrough n got before after) → IsOk result

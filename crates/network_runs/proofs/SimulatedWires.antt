@@ -1,21 +1,18 @@
 -- What the wires of a group's members carry is simulated.
-use Rattle.std.proofs.Common.{◌≡◌, ◌≢◌, ℕ, zero, suc, ◌+◌, ◌<◌, nat_eq, Bool, true, false, not, ◌&&◌, ◌||◌, cond, if◌then◌else◌, List, [], ◌∷◌, ◌++◌, length, Option, Some, inl, inr, refl, sym, ap, ap₂, ◌∙◌, subst, arith}
+use Rattle.std.proofs.Common.{◌≡◌, ◌≢◌, ℕ, suc, ◌+◌, ◌<◌, nat_eq, Bool, true, false, not, ◌||◌, cond, List, [], ◌∷◌, ◌++◌, Option, Some, inl, inr, refl, sym, ap, ◌∙◌, subst, arith}
 use Rattle.std.specs.Prelude.{count_by, fold}
 use Rattle.std.specs.List.{Contains}
-use Rattle.std.proofs.lemmas.Bool.{and_parts, cases_Bool, cond-false, cond-true, eqb-true, not-true, or_cases}
+use Rattle.std.proofs.lemmas.Bool.{and_parts, cases_Bool, cond-false, not-true, or_cases}
 use Rattle.std.proofs.lemmas.Bool.Decides.{eqb_tells}
-use Rattle.list_laws.specs.Lists.{joined, only_if}
+use Rattle.list_laws.specs.Lists.{only_if}
 use Rattle.list_laws.proofs.JoinedLists.{joined_eq}
 use Rattle.party_set.specs.Parties.{has_party}
-use Rattle.maximal_groups.specs.Families.{LiesWithin}
 use Rattle.job_plan.specs.declared.key.Key.{Key}
-use Rattle.job_plan.specs.Plans.{Plan, structure}
+use Rattle.job_plan.specs.Plans.{Plan}
 use Rattle.share_world.specs.Worlds.{World, view, word}
-use Rattle.share_world.specs.Laws.{IsWhole}
 use Rattle.tape_map.specs.TapeMaps.{with_tapes}
 use Rattle.view_counts.specs.Counts.{choices}
 use Rattle.view_counts.specs.Laws.{IsChoice}
-use Rattle.view_counts.specs.Simulators.{known}
 use Rattle.view_counts.proofs.SimulatedViews.{is_simulated}
 use Rattle.view_counts.proofs.TapeChoices.{choices_are_tapes}
 use Rattle.outer_io.specs.Sink.{added}
@@ -26,7 +23,7 @@ use Rattle.network_laws.specs.Networks.{AllRanThrough, IsNetwork, Network, node,
 use Rattle.network_laws.specs.Views.{on_wire}
 use Rattle.network_laws.proofs.CutTalks.{is_right}
 use Rattle.network_laws.proofs.GroupViews.{got_by, sent_by, touches, wire_is}
-use Rattle.network_runs.specs.Wires.{AreNetworksOf, Carries, CarriesTheView, WiresAreSimulated, by_wires, is_wire, wires_of}
+use Rattle.network_runs.specs.Wires.{Carries, CarriesTheView, WiresAreSimulated, by_wires, is_wire, wires_of}
 
 -- ---- a wire of a member
 

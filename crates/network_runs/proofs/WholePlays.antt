@@ -1,7 +1,6 @@
 -- Every whole world is played.
-use Rattle.std.proofs.Common.{◌≡◌, ◌≢◌, ℕ, ◌+◌, ◌-◌, ◌<◌, ◌≤◌, ◌^◌, nat_eq, eq-eqb, ne_eqb, Bool, true, false, ◌||◌, if◌then◌else◌, List, [], ◌++◌, length, Option, None, Some, Ok, inl, inr, refl, sym, ap, ◌∙◌, subst, arith}
+use Rattle.std.proofs.Common.{◌≡◌, ◌≢◌, ℕ, ◌+◌, ◌-◌, ◌<◌, ◌^◌, nat_eq, eq-eqb, ne_eqb, true, ◌||◌, if◌then◌else◌, List, [], length, Option, None, Some, Ok, inl, inr, refl, sym, ap, ◌∙◌, subst, arith}
 use Rattle.std.specs.Prelude.{slice_index_or}
-use Rattle.std.specs.List.{AllByRecursion}
 use Rattle.std.proofs.lemmas.Bool.{cases_Bool, cases_lt, cond-false, cond-true, or_left, or_right}
 use Rattle.std.proofs.lemmas.Bool.Decides.{nat_tests}
 use Rattle.std.proofs.lemmas.List.{append-nil, get_or_past}
@@ -9,15 +8,12 @@ use Rattle.list_laws.specs.Lists.{listed}
 use Rattle.list_laws.proofs.JoinedLists.{length-listed, listed_at}
 use Rattle.job_session.specs.Sessions.{output_wire, readers}
 use Rattle.job_plan.specs.Plans.{reads, session}
-use Rattle.job_plan.specs.declared.key.Key.{Key}
 use Rattle.job_plan.specs.Messages.{messages}
 use Rattle.job_plan.specs.Numbers.{message, no_key}
 use Rattle.share_world.specs.Worlds.{World, plain, word}
 use Rattle.share_world.specs.Laws.{IsWhole, IsWorld}
-use Rattle.share_world.specs.Locals.{local_output}
 use Rattle.share_world.proofs.SentWords.{opened_are_plain}
 use Rattle.share_world.proofs.SmallWords.{small_word}
-use Rattle.program_laws.proofs.PartLaws.{part_of}
 use Rattle.outer_io.specs.Inlet.{InletReading, ahead}
 use Rattle.outer_io.specs.Links.{LinksReading}
 use Rattle.outer_io.specs.Sink.{SinkReading, added}
@@ -30,8 +26,7 @@ use Rattle.node_talk.proofs.RightRuns.{is_of_world, own_right, talk_right}
 use Rattle.node_run.specs.NodeRuns as node_runs
 use Rattle.node_run.specs.NodeRuns.{KeepsOutlet}
 use Rattle.node_run.specs.Remains.{party_at}
-use Rattle.network_laws.specs.Networks.{node}
-use Rattle.network_runs.specs.Played.{ArePlayed, WorldsArePlayed, idle, inlet_with, links_by, network_of, outlet_with, whole_play, words_between, world_results}
+use Rattle.network_runs.specs.Played.{WorldsArePlayed, idle, inlet_with, links_by, outlet_with, words_between, world_results}
 
 -- ---- the links of a party
 

@@ -1,5 +1,5 @@
 -- The runs of all parties of a world, over pipes between them.
-use Rattle.std.specs.Prelude.{◌≡◌, ◌≢◌, ℕ, ◌-◌, ◌<◌, nat_eq, ◌||◌, Bool, true, false, if◌then◌else◌, List, [], length, Option, None, Some, Result, Ok, Err, IsOk}
+use Rattle.std.specs.Prelude.{◌≡◌, ◌≢◌, ℕ, ◌-◌, ◌<◌, nat_eq, ◌||◌, true, false, if◌then◌else◌, List, [], length, None, Some, Result, Ok, Err, IsOk}
 use Rattle.list_laws.specs.Lists.{listed}
 use Rattle.job_session.specs.Sessions.{readers, output_wire}
 use Rattle.job_plan.specs.Plans.{session, reads}
@@ -18,7 +18,8 @@ use Rattle.node_run.specs.NodeRuns as node_runs
 use Rattle.node_run.specs.Remains.{party_at}
 use Rattle.network_laws.specs.Networks.{Network, IsNetwork, IsPipe, IsRight, RanThrough, node}
 
--- a world and a digest; and of each party what its links and its spawner show before its run and after it, and its answer
+-- a world and a digest; and of each party what its links and its spawner show before its run and after it, and what it
+-- answered
 pub record Played : Type 0 where
   pub world : World
   pub digest : List ℕ

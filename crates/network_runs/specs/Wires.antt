@@ -1,6 +1,5 @@
 -- What the wires of a group's members carry, and a simulator of it.
 use Rattle.std.specs.Prelude.{◌≡◌, ℕ, ◌<◌, nat_eq, Bool, true, not, ◌&&◌, ◌||◌, List, [], ◌∷◌, count_by}
-use Rattle.std.specs.List.{Contains}
 use Rattle.list_laws.specs.Lists.{joined, only_if}
 use Rattle.party_set.specs.Parties.{has_party}
 use Rattle.maximal_groups.specs.Families.{LiesWithin}
