@@ -1,7 +1,9 @@
 -- Every whole world is played.
-use Rattle.std.proofs.Common.{◌≡◌, ◌≢◌, ℕ, ◌+◌, ◌-◌, ◌<◌, ◌^◌, nat_eq, eq-eqb, ne_eqb, true, ◌||◌, if◌then◌else◌, List, [], length, Option, None, Some, Ok, inl, inr, refl, sym, ap, ◌∙◌, subst, arith}
+use Rattle.std.proofs.Common.{◌≡◌, ◌≢◌, ℕ, zero, suc, ◌+◌, ◌-◌, ◌<◌, ◌^◌, nat_eq, eq-eqb, ne_eqb, Bool, true, ◌||◌, if◌then◌else◌, List, [], ◌∷◌, ◌++◌, length, Option, None, Some, Ok, inl, inr, refl, sym, ap, ◌∙◌, subst, arith}
 use Rattle.std.specs.Prelude.{slice_index_or}
-use Rattle.std.proofs.lemmas.Bool.{cases_Bool, cases_lt, cond-false, cond-true, or_left, or_right}
+use Rattle.std.specs.List.{list_all}
+use Rattle.std.proofs.lemmas.Bool.{and_from, cases_Bool, cases_lt, cond-false, cond-true, or_left, or_right}
+use Rattle.std.proofs.lemmas.List.Folds.{list_all-append}
 use Rattle.std.proofs.lemmas.Bool.Decides.{nat_tests}
 use Rattle.std.proofs.lemmas.List.{append-nil, get_or_past}
 use Rattle.list_laws.specs.Lists.{listed}
@@ -14,10 +16,11 @@ use Rattle.share_world.specs.Worlds.{World, plain, word}
 use Rattle.share_world.specs.Laws.{IsWhole, IsWorld}
 use Rattle.share_world.proofs.SentWords.{opened_are_plain}
 use Rattle.share_world.proofs.SmallWords.{small_word}
-use Rattle.outer_io.specs.Inlet.{InletReading, ahead}
+use Rattle.outer_io.specs.Inlet.{InletReading, ahead, shut_inlet}
+use Rattle.outer_io.specs.Outlet.{OutletReading, shut_outlet}
 use Rattle.outer_io.specs.Links.{LinksReading}
 use Rattle.outer_io.specs.Sink.{SinkReading, added}
-use Rattle.link_reader.specs.Heard.{StaysSteady}
+use Rattle.link_reader.specs.Heard.{KeepsCalm}
 use Rattle.node_talk.specs.Talks.{IsPeer, Node, messages_between, own_word, talk}
 use Rattle.node_talk.specs.PeerLinks.{in_from, no_inlet, no_outlet, out_to, place_among}
 use Rattle.node_talk.specs.Runs.{IsDone, TalkedThrough, output_of, word_kept}
@@ -30,6 +33,12 @@ use Rattle.network_runs.specs.Played.{WorldsArePlayed, idle, inlet_with, links_b
 
 -- ---- the links of a party
 
+all_listed : {A : Type 0} (test : A → Bool) (n : ℕ) (f : ℕ → A) → ((k : ℕ) → test (f k) ≡ true) → list_all test (listed n f) ≡ true
+all_listed test zero f h = refl
+all_listed test (suc n) f h =
+    list_all-append test (listed n f) (f n ∷ [])
+    ∙ and_from (list_all test (listed n f)) _ (all_listed test n f h) (and_from (test (f n)) true (h n) refl)
+
 place_below : (p q parties n : ℕ) → q < parties → q ≢ p → p < parties → n + 1 ≡ parties → place_among p q < n
 place_below p q parties n lq ne lp is = grind (arith, nat_tests)
 
@@ -39,15 +48,16 @@ place_within parties p q lp lq ne = place_below p q parties (parties - 1) lq ne 
 party_there : (p q : ℕ) → q ≢ p → party_at p (place_among p q) ≡ q
 party_there p q ne = grind (arith, nat_tests)
 
-module _ (w : World) (digest : List ℕ) (p : ℕ) (lp : p < w.plan.parties) (inlet : ℕ → InletReading) (outlet : ℕ → SinkReading) (q : ℕ) (lq : q < w.plan.parties) (ne : q ≢ p) where
+module _ (w : World) (digest : List ℕ) (p : ℕ) (lp : p < w.plan.parties) (inlet : ℕ → InletReading) (outlet : ℕ → OutletReading) (q : ℕ) (lq : q < w.plan.parties) (ne : q ≢ p) where
   abbrev n : Node
   n = record { world = w; me = p; digest = digest }
 
   inlet_is : in_from n (links_by w p inlet outlet) q ≡ inlet q
   inlet_is = listed_at (w.plan.parties - 1) (λ k. inlet (party_at p k)) (place_among p q) no_inlet (place_within w.plan.parties p q lp lq ne) ∙ ap inlet (party_there p q ne)
 
-  outlet_is : out_to n (links_by w p inlet outlet) q ≡ outlet q
-  outlet_is = listed_at (w.plan.parties - 1) (λ k. outlet (party_at p k)) (place_among p q) no_outlet (place_within w.plan.parties p q lp lq ne) ∙ ap outlet (party_there p q ne)
+  outlet_is : out_to n (links_by w p inlet outlet) q ≡ (outlet q).sink
+  outlet_is =
+      ap (λ (o : OutletReading). o.sink) (listed_at (w.plan.parties - 1) (λ k. outlet (party_at p k)) (place_among p q) no_outlet (place_within w.plan.parties p q lp lq ne) ∙ ap outlet (party_there p q ne))
 
 -- ---- a party's results
 
@@ -123,14 +133,14 @@ module _ (w : World) (whole : IsWhole w) (digest : List ℕ) (p : ℕ) (lp : p <
   abbrev inlets_before : ℕ → InletReading
   inlets_before q = inlet_with (words_between w digest q p)
 
-  abbrev outlets_before : ℕ → SinkReading
+  abbrev outlets_before : ℕ → OutletReading
   outlets_before q = outlet_with [] (words_between w digest p q)
 
   abbrev inlets_after : ℕ → InletReading
-  inlets_after q = inlet_with []
+  inlets_after q = shut_inlet (inlet_with [])
 
-  abbrev outlets_after : ℕ → SinkReading
-  outlets_after q = outlet_with (words_between w digest p q) []
+  abbrev outlets_after : ℕ → OutletReading
+  outlets_after q = shut_outlet (outlet_with (words_between w digest p q) [])
 
   abbrev start : LinksReading
   start = links_by w p inlets_before outlets_before
@@ -145,24 +155,27 @@ module _ (w : World) (whole : IsWhole w) (digest : List ℕ) (p : ℕ) (lp : p <
     in_end : in_from me end q ≡ inlets_after q
     in_end = inlet_is w digest p lp inlets_after outlets_after q peer.0 peer.1
 
-    out_start : out_to me start q ≡ outlets_before q
+    out_start : out_to me start q ≡ (outlets_before q).sink
     out_start = outlet_is w digest p lp inlets_before outlets_before q peer.0 peer.1
 
-    out_end : out_to me end q ≡ outlets_after q
+    out_end : out_to me end q ≡ (outlets_after q).sink
     out_end = outlet_is w digest p lp inlets_after outlets_after q peer.0 peer.1
 
     same_faults : (out_to me end q).faults ≡ (out_to me start q).faults
     same_faults = ap (λ (o : SinkReading). o.faults) out_end ∙ sym (ap (λ (o : SinkReading). o.faults) out_start)
 
-    inlet_stays : StaysSteady (in_from me start q) (in_from me end q)
+    same_reads : (in_from me end q).faults ≡ (in_from me start q).faults
+    same_reads = ap (λ (i : InletReading). i.faults) in_end ∙ sym (ap (λ (i : InletReading). i.faults) in_start)
+
+    inlet_stays : KeepsCalm (in_from me start q) (in_from me end q)
     inlet_stays =
-        subst (λ (i : InletReading). StaysSteady i (in_from me end q)) (sym in_start)
-        (subst (λ (i : InletReading). StaysSteady (inlets_before q) i) (sym in_end) (record { faults_grow = omega arith; steady = λ s. (s, refl) }))
+        subst (λ (i : InletReading). KeepsCalm i (in_from me end q)) (sym in_start)
+        (subst (λ (i : InletReading). KeepsCalm (inlets_before q) i) (sym in_end) (record { faults_grow = omega arith; steady = λ s. refl }))
 
     outlet_stays : KeepsOutlet me q (out_to me start q) (out_to me end q)
     outlet_stays =
         subst (λ (o : SinkReading). KeepsOutlet me q o (out_to me end q)) (sym out_start)
-        (subst (λ (o : SinkReading). KeepsOutlet me q (outlets_before q) o) (sym out_end) (record { faults_grow = omega arith; steady = λ s. s; room = λ s l. refl }))
+        (subst (λ (o : SinkReading). KeepsOutlet me q (outlets_before q).sink o) (sym out_end) (record { faults_grow = omega arith; room = λ s l. refl }))
 
   talked : TalkedThrough me (word w) start end
   talked = record {
@@ -183,11 +196,14 @@ module _ (w : World) (whole : IsWhole w) (digest : List ℕ) (p : ℕ) (lp : p <
       inlets = length-listed (w.plan.parties - 1) (λ k. inlets_after (party_at p k));
       outlets = length-listed (w.plan.parties - 1) (λ k. outlets_after (party_at p k));
     };
+    closed = and_from (list_all (λ (i : InletReading). i.closed) end.inlets) _ (all_listed (λ (i : InletReading). i.closed) (w.plan.parties - 1) (λ k. inlets_after (party_at p k)) (λ k. refl))
+        (all_listed (λ (o : OutletReading). o.closed) (w.plan.parties - 1) (λ k. outlets_after (party_at p k)) (λ k. refl));
     done = (word w, done, talked);
     broke = tt;
     cause = tt;
     least = tt;
     sends = λ q peer ne. absurd (ne (same_faults q peer));
+    reads = λ q peer ne. absurd (ne (same_reads q peer));
     starts = λ ne. absurd (ne refl);
     unsaid = tt;
     completes = λ hears none quiet. refl;

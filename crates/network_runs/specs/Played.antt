@@ -7,10 +7,10 @@ use Rattle.job_plan.specs.Messages.{messages}
 use Rattle.job_plan.specs.Numbers.{message}
 use Rattle.share_world.specs.Worlds.{World, plain, word}
 use Rattle.share_world.specs.Laws.{IsWhole}
-use Rattle.outer_io.specs.Inlet.{InletReading}
+use Rattle.outer_io.specs.Inlet.{InletReading, shut_inlet}
 use Rattle.outer_io.specs.Jobs.{SpawnerReading}
 use Rattle.outer_io.specs.Links.{LinksReading}
-use Rattle.outer_io.specs.Sink.{SinkReading}
+use Rattle.outer_io.specs.Outlet.{OutletReading, shut_outlet}
 use Rattle.node_talk.specs.declared.fault.NodeFault.{NodeFault}
 use Rattle.node_talk.specs.Runs.{Results}
 use Rattle.node_talk.specs.Talks.{messages_between, stream}
@@ -73,13 +73,14 @@ words_between w digest p q = stream digest p q (word w) (messages_between w.plan
 
 -- an inlet with these bytes left, and an outlet that took these and has room for those
 abbrev pub inlet_with : List ℕ → InletReading
-inlet_with left = record { told = Some left; faults = 0; ended = false; steady = true }
+inlet_with left = record { told = Some left; faults = 0; ended = false; steady = true; closed = false }
 
-abbrev pub outlet_with : List ℕ → List ℕ → SinkReading
-outlet_with took more = record { told = Some took; faults = 0; steady = true; room = length more }
+abbrev pub outlet_with : List ℕ → List ℕ → OutletReading
+outlet_with took more =
+    record { sink = record { told = Some took; faults = 0; steady = true; room = length more }; closed = false }
 
 -- the links of a party, by the peer at their other end
-abbrev pub links_by : World → ℕ → (ℕ → InletReading) → (ℕ → SinkReading) → LinksReading
+abbrev pub links_by : World → ℕ → (ℕ → InletReading) → (ℕ → OutletReading) → LinksReading
 links_by w me inlet outlet = record {
   inlets = listed (w.plan.parties - 1) (λ k. inlet (party_at me k));
   outlets = listed (w.plan.parties - 1) (λ k. outlet (party_at me k));
@@ -102,13 +103,15 @@ world_results w p = record {
 abbrev pub idle : SpawnerReading
 idle = record { refusals = 0; steady = true }
 
--- each party hears all that its peers say in the world, and says all that it says there
+-- each party hears all that its peers say in the world, says all that it says there, and closes its links
 abbrev pub whole_play : World → List ℕ → Played
 whole_play w digest = record {
   world = w;
   digest = digest;
-  before = λ p. links_by w p (λ q. inlet_with (words_between w digest q p)) (λ q. outlet_with [] (words_between w digest p q));
-  after = λ p. links_by w p (λ q. inlet_with []) (λ q. outlet_with (words_between w digest p q) []);
+  before =
+      λ p. links_by w p (λ q. inlet_with (words_between w digest q p)) (λ q. outlet_with [] (words_between w digest p q));
+  after =
+      λ p. links_by w p (λ q. shut_inlet (inlet_with [])) (λ q. shut_outlet (outlet_with (words_between w digest p q) []));
   spawner = λ p. idle;
   spawner_after = λ p. idle;
   answers = λ p. Ok (world_results w p);
