@@ -26,7 +26,10 @@ PARTS = [
          (('mpc_top', 'Due', 'IsDue'), ('mpc_top', 'Due', 'words_view'), ('command_words', 'Commands', 'command_of')), ('mpc_top', 'Outside', 'Outside')),
     Part('The outside', 'What files, outputs, threads and the net show, what a party says over its links and hears, and the answer of `command`. Then the laws of networks and of '
          'calls in a row.',
-         [('mpc_top', 'command'), ('mpc_top', 'command_alone'), ('network_laws', '*'), ('pair_run', '*'), ('tape_map', '*'), ('walk_laws', '*')]),
+         [('mpc_top', 'command'), ('mpc_top', 'command_alone'), ('network_laws', '*'), ('network_runs', '*'), ('pair_run', '*'), ('tape_map', '*'), ('walk_laws', '*')]),
+    Part('The headline', 'The instructions of a party, what its desk has after each of them, the steps of all desks by a schedule; and the law that joins what the parts before say '
+         'of an accepted job: its outputs are right in every order, no tape word is drawn twice, and a group that its file tolerates learns nothing.',
+         [('walk_laws', 'accepted_jobs_are_right_and_private')]),
 ]
 # Laws that no part has: worked jobs by computation, steps of proofs, and faults of code.
 APART = {('share_world', 'multiply_job'), ('tape_map', 'multiply_job'), ('view_counts', 'multiply_counts'), ('tape_map', 'hidden_summands_move'), ('tape_map', 'delta_is_plain'),
@@ -39,6 +42,8 @@ SENTENCES = [
     ('What it sees has the distribution of what a simulator makes', [('view_counts', 'views_are_simulated')]),
     ('The answer of `command` to any words, over any files, outputs and links', [('mpc_top', 'command')]),
     ('A network of parties is of one world', [('network_laws', 'a_network_is_of_one_world')]),
+    ('What goes over a tolerated group\'s wires has the distribution of what a simulator makes', [('network_runs', 'wires_are_simulated')]),
+    ('The headline, of every accepted job', [('walk_laws', 'accepted_jobs_are_right_and_private')]),
 ]
 
 # Headings in the field's words, by crate and module. A module that isn't here has the first sentence of its file.
@@ -147,6 +152,28 @@ HEADINGS = {
     ('mpc_top', 'Audits'): 'Audits',
     ('mpc_top', 'NodeTalks'): 'The talk of a node',
     ('mpc_top', 'Outside'): 'The outside',
+    ('outer_io', 'Outlet'): 'Outlets, to which bytes are sent',
+    ('network_runs', 'Played'): 'The runs of all parties of a world',
+    ('network_runs', 'Wires'): 'What a group\'s wires carry',
+    ('walk_laws', 'Tolerated'): 'The groups that a job\'s file tolerates',
+    ('walk_laws', 'Whole'): 'Accepted jobs are whole worlds',
+    ('walk_laws', 'Nodes'): 'What the files of a node give',
+    ('walk_laws', 'Headline'): 'What is said of every accepted job',
+    ('job_plan', 'Patterns'): 'Patterns: how the messages of a slot go',
+    ('party_program', 'States'): 'What a party has after its first instructions',
+    ('party_program', 'GivenData'): 'What a party is given in a session',
+    ('party_program', 'PartySteps'): 'What a party does in a slot',
+    ('party_program', 'ProgramPlaces'): 'Where the instructions of a slot stand',
+    ('program_laws', 'Lawful'): 'The desks of a world',
+    ('program_laws', 'WordsRead'): 'The words that a desk still reads',
+    ('party_desk', 'Rows'): 'Rows of summands',
+    ('party_desk', 'Memories'): 'The memory of a desk',
+    ('party_desk', 'Desks'): 'A desk, and what a step does to it',
+    ('desk_laws', 'InWorld'): 'A desk of a world, over any cells',
+    ('desk_laws', 'Pools'): 'All desks of a world, over any cells',
+    ('core_world', 'Schedules'): 'Schedules',
+    ('core_world', 'States'): 'All desks of a world, on plain cells',
+    ('core_world', 'Moments'): 'A world that runs, before and after its steps',
 }
 
 # What a word of the library means, by its path below Rattle, where its name doesn't say it.
