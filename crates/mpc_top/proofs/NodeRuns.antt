@@ -93,10 +93,10 @@ module _ (dir name : List ℕ) (view : Bool) (files files' : FilesReading) (job 
     }
 
     -- there was no memory for the links
-    pub meets_no_memory : (result : Result Given NetRefusal) → ¬ IsErrOf result refusal.Failed → Connects shown asked net net' result
+    pub meets_no_memory : (why : NetRefusal) → ¬ IsErrOf {T = Given} (Err why) refusal.Failed → Connects shown asked net net' (Err why)
         → Runs (Some (node dir name view)) (record { files = files; out = out; err = err; net = net; spawner = spawner })
         (record { files = files'; out = out; err = err'; net = net'; spawner = spawner }) (Err Memory)
-    meets_no_memory result not c = record {
+    meets_no_memory why not c = record {
       ok = tt;
       hides = tt;
       stop = (refl, record { files = finds.quiet; out = refl; net = c.quiet not; same_expects = c.same_expects; same_offers = c.same_offers; same_kept = c.same_kept; same_spawner = refl });

@@ -27,7 +27,7 @@ is_job count plan inputs pieces p i t = ap₂ (λ plan inputs. world_of_pieces p
 -- and so is its text
 due_text : (count : ℕ) (names : List (List ℕ)) (w : World) (before after : SinkReading) (result : Result Unit Failed) → names ≡ sample_names → w ≡ sample_job count
     → Writes (sample_text names w count) before after result → Writes (sample_text sample_names (sample_job count) count) before after result
-due_text count names w before after result n same text = subst (λ t. Writes t before after result) (ap₂ (λ ns v. sample_text ns v count) n same) text
+due_text count names w before after result n same written = subst (λ t. Writes t before after result) (ap₂ (λ ns v. sample_text ns v count) n same) written
 
 pub returns-in_err-ready : goal.returns-in_err-ready
 returns-in_err-ready g c = λ files. runs_memory (sample c.args.count) _ _ _ _ _ c.from_residual.ensures.1 refl refl (keeps_now _)
