@@ -47,13 +47,13 @@ pub returns-in_err-write_sample : goal.returns-in_err-write_sample
 returns-in_err-write_sample g c = λ files.
     let w = world_of_pieces c.args.plan.now c.args.inputs.now c.args.tapes.items in
     let same = is_job c.args.count c.args.plan.now c.args.inputs.now c.args.tapes.items c.requires.plan c.requires.inputs c.requires.tapes in
-    cuts_due (sample c.args.count) _ _ _ _ _ _ _ c.from_residual-in_err-write_sample.ensures.1 (is_due c.args.count _) refl (keeps_now _)
+    cuts_due (sample c.args.count) _ _ _ _ _ _ _ c.from_residual-in_err-write_sample.ensures.1 (is_due c.args.count files.told) refl (keeps_now _)
     (due_text c.args.count _ w _ _ _ c.requires.names same (c.in_err-write_sample.ensures w refl (c.run-done.ensures w refl c.in_ok-ready.ensures.ready)))
 
 pub returns : goal.returns
 returns g c = λ files.
     let w = world_of_pieces c.args.plan.now c.args.inputs.now c.args.tapes.items in
     let same = is_job c.args.count c.args.plan.now c.args.inputs.now c.args.tapes.items c.requires.plan c.requires.inputs c.requires.tapes in
-    writes_due (sample c.args.count) _ _ _ _ _ _ (is_due c.args.count _) refl (keeps_now _)
+    writes_due (sample c.args.count) _ _ _ _ _ _ (is_due c.args.count files.told) refl (keeps_now _)
     (due_text c.args.count _ w _ _ _ c.requires.names same (c.in_ok-write_sample.ensures w refl (c.run-done.ensures w refl c.in_ok-ready.ensures.ready)))
     tt
