@@ -1,7 +1,7 @@
 -- Rows that are given to wires and taken back.
 use Rattle.std.proofs.Common.{◌≡◌, ◌≢◌, ℕ, zero, suc, ◌+◌, ◌<◌, ◌≤◌, Bool, true, false, cond, not, ◌&&◌, ◌||◌, List, [], ◌∷◌, ◌++◌, length, set, inl, inr, Some, None, refl, sym, ◌∙◌, ap, subst, arith, length-set, get_or-set_same, get_or-set_other, length-append}
 use Rattle.std.specs.Prelude.{nat_eq, nat_lt, slice_index, count_by, Option, if◌then◌else◌}
-use Rattle.std.proofs.lemmas.Bool.{cases_order, cases_eq, cases_Bool, and_from, eq-eqb, ne_eqb, lt-ltb, le-ltb, ltb-true, both_ways}
+use Rattle.std.proofs.lemmas.Bool.{cases_order, cases_eq, cases_Bool, and_from, eq-eqb, ne_eqb, lt-ltb, le-ltb, ltb-true, both_ways, and_parts}
 use Rattle.std.proofs.lemmas.List.Sums.{sum_by-append}
 use Rattle.list_laws.specs.Lists.{total}
 use Rattle.list_laws.proofs.Tests.{or_true, or_false}
@@ -25,10 +25,14 @@ holds_some holds w = one_if (holds w)
 count_more : (row r : ℕ) (xs : List ℕ) → count_by (nat_eq row) (xs ++ r ∷ []) ≡ count_by (nat_eq row) xs + one_if (nat_eq row r)
 count_more row r xs = omega (arith, sum_by-append (λ x. cond (nat_eq row x) 1 0) xs (r ∷ []))
 
+-- rows that were made, but the first
+abbrev is_made : ℕ → ℕ → Bool
+is_made made row = nat_lt 0 row && nat_lt row made
+
 -- one more row was made
-below_next : (row made : ℕ) → one_if (nat_lt row made) + one_if (nat_eq row made) ≡ one_if (nat_lt row (made + 1))
-below_next row made = elim (cases_order row made) [
-  | inl same ↦ rw (le-ltb row made (omega (arith, same)), eq-eqb row made same, lt-ltb row (made + 1) (omega (arith, same))) (omega arith)
+below_next : (row made : ℕ) → 0 < made → one_if (is_made made row) + one_if (nat_eq row made) ≡ one_if (is_made (made + 1) row)
+below_next row made some = elim (cases_order row made) [
+  | inl same ↦ rw (le-ltb row made (omega (arith, same)), eq-eqb row made same, lt-ltb row (made + 1) (omega (arith, same)), lt-ltb 0 row (omega (arith, same, some))) (omega arith)
   | inr (inl less) ↦ rw (lt-ltb row made less, ne_eqb row made (λ e. absurd (omega (arith, e, less))), lt-ltb row (made + 1) (omega (arith, less))) (omega arith)
   | inr (inr more) ↦ rw (le-ltb row made (omega (arith, more)), ne_eqb row made (λ e. absurd (omega (arith, e, more))), le-ltb row (made + 1) (omega (arith, more))) (omega arith)
 ]
@@ -113,45 +117,22 @@ held_same : (holds gone : ℕ → Bool) (scan : RowScan) → ((w : ℕ) → gone
 held_same holds gone scan none held = record {
   once = λ row. ap (λ n. n + count_by (nat_eq row) scan.free.items)
       (total_eq (length scan.rows.items) _ _ (λ w l. ap (λ b. one_if (b && nat_eq row (slice_index scan.rows.items w))) (kept_other (holds w) (gone w) (none w)))) ∙ held.once row;
-  all = ap (λ n. n + length scan.free.items)
+  all = ap (λ n. n + length scan.free.items + 1)
       (total_eq (length scan.rows.items) _ _ (λ w l. ap one_if (kept_other (holds w) (gone w) (none w)))) ∙ held.all;
 }
 
 -- ---- giving and taking back
 
--- no wire, and a free row
-pub gives_spare : (scan : RowScan) → 0 < length scan.free.items → GivesRow None scan scan
-gives_spare scan some = record {
+-- no wire
+pub gives_none : (scan : RowScan) → GivesRow None scan scan
+gives_none scan = record {
   wires = refl;
   others = λ w e. refl;
-  made = inl (some, refl);
+  made = inl refl;
   held = λ holds held free. record {
     once = λ row. ap (λ n. n + count_by (nat_eq row) scan.free.items)
         (total_eq (length scan.rows.items) _ _ (λ w l. ap (λ b. one_if (b && nat_eq row (slice_index scan.rows.items w))) (or_false (holds w)))) ∙ held.once row;
-    all = ap (λ n. n + length scan.free.items) (total_eq (length scan.rows.items) _ _ (λ w l. ap one_if (or_false (holds w)))) ∙ held.all;
-  };
-}
-
--- no wire, and a free row that is new
-pub gives_new_spare : (old new : RowScan) → new.rows.items ≡ old.rows.items → old.free.items ≡ [] → new.free.items ≡ old.free.items ++ old.made ∷ [] → new.made ≡ old.made + 1 → GivesRow None old new
-gives_new_spare old new rows none one made = record {
-  wires = ap length rows;
-  others = λ w e. ap (λ xs. slice_index xs w) rows;
-  made = inr (none, made);
-  held = λ holds held free. record {
-    once = λ row.
-        let same : total (length new.rows.items) (holds_row (λ w. holds w || false) new.rows.items row) ≡ total (length old.rows.items) (holds_row holds old.rows.items row) =
-        ap (λ xs. total (length xs) (holds_row (λ w. holds w || false) xs row)) rows
-        ∙ total_eq (length old.rows.items) _ _ (λ w l. ap (λ b. one_if (b && nat_eq row (slice_index old.rows.items w))) (or_false (holds w))) in
-        let empty : count_by (nat_eq row) old.free.items ≡ 0 = ap (count_by (nat_eq row)) none in
-        let more : count_by (nat_eq row) new.free.items ≡ count_by (nat_eq row) old.free.items + one_if (nat_eq row old.made) = ap (count_by (nat_eq row)) one ∙ count_more row old.made old.free.items in
-        let within : one_if (nat_lt row new.made) ≡ one_if (nat_lt row (old.made + 1)) = ap (λ n. one_if (nat_lt row n)) made in
-        omega (arith, same, empty, more, within, below_next row old.made, held.once row);
-    all =
-        let same : total (length new.rows.items) (holds_some (λ w. holds w || false)) ≡ total (length old.rows.items) (holds_some holds) =
-        ap (λ xs. total (length xs) (holds_some (λ w. holds w || false))) rows ∙ total_eq (length old.rows.items) _ _ (λ w l. ap one_if (or_false (holds w))) in
-        let more : length new.free.items ≡ length old.free.items + 1 = ap length one ∙ length-append old.free.items (old.made ∷ []) in
-        omega (arith, same, more, made, held.all);
+    all = ap (λ n. n + length scan.free.items + 1) (total_eq (length scan.rows.items) _ _ (λ w l. ap one_if (or_false (holds w)))) ∙ held.all;
   };
 }
 
@@ -164,14 +145,14 @@ pub gives_free : (wire r : ℕ) (old new : RowScan) → wire < length old.rows.i
 gives_free wire r old new l rows free made = record {
   wires = ap length rows ∙ length-set old.rows.items wire r;
   others = λ w e. ap (λ xs. slice_index xs w) rows ∙ other_row old.rows.items wire r w e;
-  made = inl (omega (arith, ap length free, length-append new.free.items (r ∷ [])), made);
+  made = inl made;
   held = λ holds held unheld. record {
     once = λ row.
         let given = row_given holds old.rows.items wire r row l (unheld wire (eq-eqb wire wire refl)) in
         let same : total (length new.rows.items) (holds_row (λ w. holds w || nat_eq w wire) new.rows.items row) ≡ total (length (set old.rows.items wire r)) (holds_row (λ w. holds w || nat_eq w wire) (set old.rows.items wire r) row) =
         ap (λ xs. total (length xs) (holds_row (λ w. holds w || nat_eq w wire) xs row)) rows in
         let less : count_by (nat_eq row) old.free.items ≡ count_by (nat_eq row) new.free.items + one_if (nat_eq row r) = ap (count_by (nat_eq row)) free ∙ count_more row r new.free.items in
-        let within : one_if (nat_lt row new.made) ≡ one_if (nat_lt row old.made) = ap (λ n. one_if (nat_lt row n)) made in
+        let within : one_if (is_made new.made row) ≡ one_if (is_made old.made row) = ap (λ n. one_if (is_made n row)) made in
         omega (arith, given, same, less, within, held.once row);
     all =
         let given = some_given holds old.rows.items wire r l (unheld wire (eq-eqb wire wire refl)) in
@@ -188,7 +169,7 @@ pub gives_new : (wire : ℕ) (old new : RowScan) → wire < length old.rows.item
 gives_new wire old new l rows none still made = record {
   wires = ap length rows ∙ length-set old.rows.items wire old.made;
   others = λ w e. ap (λ xs. slice_index xs w) rows ∙ other_row old.rows.items wire old.made w e;
-  made = inr (none, made);
+  made = inr (still, made);
   held = λ holds held unheld. record {
     once = λ row.
         let given = row_given holds old.rows.items wire old.made row l (unheld wire (eq-eqb wire wire refl)) in
@@ -196,8 +177,8 @@ gives_new wire old new l rows none still made = record {
         ap (λ xs. total (length xs) (holds_row (λ w. holds w || nat_eq w wire) xs row)) rows in
         let empty : count_by (nat_eq row) old.free.items ≡ 0 = ap (count_by (nat_eq row)) none in
         let still_empty : count_by (nat_eq row) new.free.items ≡ 0 = ap (count_by (nat_eq row)) still in
-        let within : one_if (nat_lt row new.made) ≡ one_if (nat_lt row (old.made + 1)) = ap (λ n. one_if (nat_lt row n)) made in
-        omega (arith, given, same, empty, still_empty, within, below_next row old.made, held.once row);
+        let within : one_if (is_made new.made row) ≡ one_if (is_made (old.made + 1) row) = ap (λ n. one_if (is_made n row)) made in
+        omega (arith, given, same, empty, still_empty, within, below_next row old.made (omega (arith, held.all)), held.once row);
     all =
         let given = some_given holds old.rows.items wire old.made l (unheld wire (eq-eqb wire wire refl)) in
         let same : total (length new.rows.items) (holds_some (λ w. holds w || nat_eq w wire)) ≡ total (length (set old.rows.items wire old.made)) (holds_some (λ w. holds w || nat_eq w wire)) =
@@ -239,7 +220,7 @@ takes_back wire at last old new l here rows free made =
             ap (λ xs. total (length xs) (holds_row (λ w. holds w && not (gone w)) xs row)) rows in
             let more : count_by (nat_eq row) new.free.items ≡ count_by (nat_eq row) old.free.items + one_if (nat_eq row (slice_index old.rows.items wire)) =
             ap (count_by (nat_eq row)) free ∙ count_more row (slice_index old.rows.items wire) old.free.items in
-            let within : one_if (nat_lt row new.made) ≡ one_if (nat_lt row old.made) = ap (λ n. one_if (nat_lt row n)) made in
+            let within : one_if (is_made new.made row) ≡ one_if (is_made old.made row) = ap (λ n. one_if (is_made n row)) made in
             omega (arith, back, same, more, within, held.once row);
         all =
             let back = some_back holds gone (length old.rows.items) wire l (ended wire this) this others in
@@ -270,14 +251,14 @@ one_most : (b : Bool) → one_if b ≤ 1
 one_most true = omega arith
 one_most false = omega arith
 
--- a wire that holds a row holds one that was made
-pub held_below : (holds : ℕ → Bool) (scan : RowScan) (w : ℕ) → AreHeld holds scan → w < length scan.rows.items → holds w ≡ true → slice_index scan.rows.items w < scan.made
-held_below holds scan w held l here =
+-- a wire that holds a row holds one that was made, and not the first
+pub held_made : (holds : ℕ → Bool) (scan : RowScan) (w : ℕ) → AreHeld holds scan → w < length scan.rows.items → holds w ≡ true → (0 < slice_index scan.rows.items w) × (slice_index scan.rows.items w < scan.made)
+held_made holds scan w held l here =
     let row = slice_index scan.rows.items w in
     let mine : holds_row holds scan.rows.items row w ≡ 1 = and_only (holds w) (nat_eq row row) here ∙ ap one_if (eq-eqb row row refl) in
     let sum = total_at (length scan.rows.items) w (holds_row holds scan.rows.items row) l in
-    elim (cases_Bool (nat_lt row scan.made)) [
-      | inl below ↦ ltb-true row scan.made below
+    elim (cases_Bool (is_made scan.made row)) [
+      | inl is ↦ let parts = and_parts (nat_lt 0 row) (nat_lt row scan.made) is in (ltb-true 0 row parts.0, ltb-true row scan.made parts.1)
       | inr above ↦ absurd (omega (arith, mine, sum, held.once row, ap one_if above))
     ]
 
@@ -289,7 +270,7 @@ held_apart holds scan v w held lv lw here there ne same =
     let f = holds_row holds scan.rows.items row in
     let one : f v ≡ 1 = and_only (holds v) (nat_eq row row) here ∙ ap one_if (eq-eqb row row refl) in
     let two : f w ≡ 1 = and_only (holds w) (nat_eq row (slice_index scan.rows.items w)) there ∙ ap one_if (eq-eqb row (slice_index scan.rows.items w) same) in
-    let most = one_most (nat_lt row scan.made) in
+    let most = one_most (is_made scan.made row) in
     elim (cases_order v w) [
       | inl e ↦ absurd (ne e)
       | inr (inl less) ↦ absurd (omega (arith, one, two, most, held.once row, total_two (length scan.rows.items) v w f less lw))
@@ -298,8 +279,8 @@ held_apart holds scan v w held lv lw here there ne same =
 
 -- ---- the same, of a wire that may be none
 
-pub gives_no_wire : (o : Option ℕ) (old new : RowScan) → o ≡ None → GivesRow None old new → GivesRow o old new
-gives_no_wire o old new e h = subst (λ (z : Option ℕ). GivesRow z old new) (sym e) h
+pub gives_no_wire : (o : Option ℕ) (scan : RowScan) → o ≡ None → GivesRow o scan scan
+gives_no_wire o scan e = subst (λ (z : Option ℕ). GivesRow z scan scan) (sym e) (gives_none scan)
 
 pub named_some : (o : Option ℕ) (wire : ℕ) → o ≡ Some wire → is_named o wire ≡ true
 named_some o wire e = subst (λ (z : Option ℕ). is_named z wire ≡ true) (sym e) (eq-eqb wire wire refl)

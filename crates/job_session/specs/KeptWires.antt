@@ -1,5 +1,5 @@
 -- Which wires are kept at which slots, and a row for each wire: those that are kept together have rows of their own.
-use Rattle.std.specs.Prelude.{◌≡◌, ◌≢◌, ℕ, zero, suc, ◌+◌, ◌<◌, ◌≤◌, max, nat_eq, nat_le, Bool, true, false, ◌&&◌, if◌then◌else◌, List, [], ◌∷◌, length, slice_index, All}
+use Rattle.std.specs.Prelude.{◌≡◌, ◌≢◌, ℕ, zero, suc, ◌+◌, ◌<◌, max, nat_eq, nat_le, Bool, true, false, ◌&&◌, if◌then◌else◌, List, [], ◌∷◌, length, slice_index, All}
 use Rattle.std.specs.List.{list_any}
 use Rattle.list_laws.specs.Lists.{total, some_below}
 use Rattle.circuit_model.specs.Netlists.{read_by}
@@ -54,11 +54,18 @@ live s = greatest (session_slots s) (kept s)
 
 -- ---- rows
 
--- a row for each wire: one that slot k sets has another than each that an earlier slot sets and k or a later one reads
+-- some slot reads wire w
+abbrev pub is_read : Session → ℕ → Bool
+is_read s w = some_below (session_slots s) (λ m. slot_reads s m w)
+
+-- a row for each wire: the first for those that no slot reads, and else another than each wire has that an earlier slot sets
+-- and a later one reads
 pub record IsRowTable (s : Session) (rows : List ℕ) : Type 0 where
   pub wires : length rows ≡ s.wires
   pub below : All (λ row. row < live s + 1) rows
-  pub apart : (j k m v w : ℕ) → j < k → k ≤ m → m < session_slots s → slot_sets s j v ≡ true → slot_reads s m v ≡ true
+  pub unread : (w : ℕ) → is_read s w ≡ false → slice_index rows w ≡ 0
+  pub read : (w : ℕ) → is_read s w ≡ true → 0 < slice_index rows w
+  pub apart : (j k m v w : ℕ) → j < k → k < m → m < session_slots s → slot_sets s j v ≡ true → slot_reads s m v ≡ true
       → slot_sets s k w ≡ true → slice_index rows v ≢ slice_index rows w
 
 -- the table gives each wire its row, and has a row more than wires are kept at most

@@ -32,7 +32,7 @@ use Rattle.program_laws.specs.WordsRead.{gate_at, Carries, SetsSummand, ReadsSum
 use Rattle.program_laws.proofs.OncePosted.{there, once}
 use Rattle.program_laws.proofs.ProperPrograms.{proper_at}
 use Rattle.share_world.proofs.Settled.{is_one, of_one}
-use Rattle.program_laws.proofs.Ranks.{rank, is_plan, owned, ranks_rise, each, at_within}
+use Rattle.program_laws.proofs.Ranks.{rank, past, is_plan, owned, ranks_rise, past_rises, each, at_within}
 use Rattle.program_laws.proofs.SlotTakes.{Has}
 use Rattle.program_laws.proofs.SlotTallies.{Any, deal_any, any_number}
 use Rattle.program_laws.proofs.ContainedInstructions.{Contains, contains_left, contains_right, contains_joined}
@@ -198,6 +198,20 @@ module _ (plan : Plan) (sound : IsSound plan) (s p : ℕ) (ls : s < length plan.
     | inr past ↦ absurd (subst (λ e. ReadsSummand plan p s e v i) (get_or_past es q End past) h)
   ]
 
+  -- what sets a wire stands in the slot of an input, or closes its slot
+  how_set : (e : Instruction) (w j : ℕ) → SetsSummand plan s e w j → (slot plan s (named plan e) ≡ Input w) ⊎ (past plan e ≡ 4 * named plan e + 4)
+  how_set (Deal k d) w j h = inl h
+  how_set (Own k) w j h = absurd h
+  how_set (Post n i) w j h = absurd h
+  how_set (Take n i) w j h = inl h.0
+  how_set (Linear k) w j h = inr refl
+  how_set (Sum k) w j h = inr refl
+  how_set (Deliver k) w j h = absurd h
+  how_set End w j h = absurd h
+
+  input_reads_none : (k v w : ℕ) → slot plan s k ≡ Input w → slot_reads x k v ≡ true → ⊥
+  input_reads_none k v w e h = false≢true (subst (λ z. list_any (nat_eq v) (reads_in x z) ≡ true) e h)
+
   -- no instruction sets two wires
   pub one_wire : (q v w i j : ℕ) → SetsSummand plan s (at es q) v i → SetsSummand plan s (at es q) w j → v ≡ w
   one_wire q v w i j a b = one_set x (slot plan s (named plan (at es q))) v w (sets_at q v i a).1 (sets_at q w j b).1
@@ -343,8 +357,17 @@ module _ (plan : Plan) (sound : IsSound plan) (s p : ℕ) (ls : s < length plan.
         let k_o : k ≤ o = named_rises q later.0 (omega arith) inside in
         let apart : n ≢ k = (λ z. ne (one_set x (slot plan s k) v w (subst (λ y. slot_sets x y v ≡ true) z sets_v.1) sets_w.1)) in
         let reading = reads_at later.0 v i later.2 in
+        let sooner : slot_reads x o v ≡ true → k < o = λ reads. elim (how_set (at es q) w j now) [
+          | inl input ↦ elim (cases_eq k o) [
+            | inl same ↦ absurd (input_reads_none k v w input (subst (λ z. slot_reads x z v ≡ true) (sym same) reads))
+            | inr other ↦ omega arith
+          ]
+          | inr closes ↦
+              let a = past_rises plan sound s ls p q later.0 (omega arith) inside in
+              let b = (rank_of (at es later.0)).1 in omega arith
+        ] in
         elim reading.1 [
-          | inl here ↦ table.apart n k o v w (omega arith) k_o reading.0 sets_v.1 here.0 sets_w.1
+          | inl here ↦ table.apart n k o v w (omega arith) (sooner here.0) reading.0 sets_v.1 here.0 sets_w.1
           | inr here ↦ absurd (both_ways (slot_sets x o v) (order.once n o v (omega arith) reading.0 sets_v.1) (input_sets o v here.0))
         ]
 
