@@ -1,11 +1,9 @@
 -- What a desk of a world delivers and draws.
-use Rattle.std.proofs.Common.{◌≡◌, ℕ, zero, suc, ◌-◌, ◌*◌, ◌<◌, ◌≤◌, [], ◌∷◌, drop, List, length, refl, sym, ap, ◌∙◌, arith}
+use Rattle.std.proofs.Common.{◌≡◌, ℕ, zero, suc, ◌-◌, ◌<◌, ◌≤◌, [], ◌∷◌, drop, List, length, refl, sym, ap, ◌∙◌, arith}
 use Rattle.std.specs.Prelude.{false, Option, Some, None}
 use Rattle.std.proofs.lemmas.List.{length-drop}
 use Rattle.std.proofs.lemmas.Bool.{both_ways}
-use Rattle.job_plan.specs.Plans.{reads, words, slots}
-use Rattle.job_plan.specs.Numbers.{deals}
-use Rattle.job_plan.proofs.DistinctMessages.{words_by_deals}
+use Rattle.job_plan.specs.Plans.{reads, words}
 use Rattle.share_world.specs.Worlds.{World, word}
 use Rattle.share_world.specs.Laws.{IsWhole}
 use Rattle.share_world.proofs.SentWords.{opened_are_plain}
@@ -23,12 +21,12 @@ use Rattle.desk_laws.specs.InWorld.{IsRight, IsDeskDone, piece_of}
 
 -- ---- the tape
 
-pub deals_at_end : (w : World) → IsWhole w → (s p : ℕ) → s < length w.plan.sessions → p < w.plan.parties → (state (given_in w s p) (length (program w.plan p s))).deals ≡ deals w.plan p s
-deals_at_end w whole s p ls lp =
+pub drawn_at_end : (w : World) → IsWhole w → (s p : ℕ) → s < length w.plan.sessions → p < w.plan.parties → (state (given_in w s p) (length (program w.plan p s))).drawn ≡ words w.plan p s
+drawn_at_end w whole s p ls lp =
     let l = given_in w s p in
     let es = program w.plan p s in
-    ap (λ σ. σ.deals) (state_is l (length es) ∙ run_all l es new_state)
-    ∙ (met w (is_plan w whole) (word w) s p ls lp (λ k i. small_words w whole s p k i)).1.deals
+    ap (λ σ. σ.drawn) (state_is l (length es) ∙ run_all l es new_state)
+    ∙ (met w (is_plan w whole) (word w) s p ls lp (λ k i. small_words w whole s p k i)).1.drawn
 
 piece_is : (w : World) → IsWhole w → (s p : ℕ) → s < length w.plan.sessions → p < w.plan.parties → length (piece_of w p s) ≡ words w.plan p s
 piece_is w whole s p ls lp = (suits_in w whole s p ls lp).tape
@@ -50,7 +48,7 @@ drop_all (suc n) (x ∷ xs) l = drop_all n xs (omega arith)
 
 module _ (w : World) (s p : ℕ) (d : Desk) (whole : IsWhole w) (h : IsDesk (given_in w s p) d) where
   abbrev past : ℕ
-  past = (state (given_in w s p) d.position).deals * (length w.plan.groups - 1)
+  past = (state (given_in w s p) d.position).drawn
 
   drawn_past : drawn_of d ≡ words w.plan p s - (words w.plan p s - past)
   drawn_past =
@@ -70,10 +68,7 @@ module _ (w : World) (s p : ℕ) (d : Desk) (whole : IsWhole w) (h : IsDesk (giv
 
   module _ (ended : d.position ≡ length (program w.plan p s)) where
     spent : past ≡ words w.plan p s
-    spent =
-        let a = ap (λ q. (state (given_in w s p) q).deals) ended ∙ deals_at_end w whole s p h.suits.session h.suits.party in
-        let b = words_by_deals w.plan p s (slots w.plan s) in
-        ap (λ z. z * (length w.plan.groups - 1)) a ∙ omega (arith, b)
+    spent = ap (λ q. (state (given_in w s p) q).drawn) ended ∙ drawn_at_end w whole s p h.suits.session h.suits.party
 
     tape_is : d.memory.tape ≡ []
     tape_is = h.tape ∙ drop_all past (piece_of w p s) (let a = piece_is w whole s p h.suits.session h.suits.party in let b = spent in omega arith)

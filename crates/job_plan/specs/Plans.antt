@@ -106,6 +106,14 @@ giver plan s v = slice_index (owners (session plan s)) v
 abbrev pub gives : Plan → ℕ → ℕ → ℕ → Bool
 gives plan s p v = nat_eq (giver plan s v) p
 
+-- how many of the input wires before v party p gives
+abbrev pub given_before : Plan → ℕ → ℕ → ℕ → ℕ
+given_before plan p s v = total v (λ u. if gives plan s p u then 1 else 0)
+
+-- how many of all input wires of session s it gives
+abbrev pub input_count : Plan → ℕ → ℕ → ℕ
+input_count plan p s = given_before plan p s (length (owners (session plan s)))
+
 -- party p deals: an input of its own, or its part of a product
 abbrev pub deals_in : Plan → ℕ → ℕ → Slot → Bool
 deals_in plan s p (Input v) = gives plan s p v
@@ -128,10 +136,14 @@ reads plan p s o = opens_to plan s p (Output o)
 abbrev pub words_in : Plan → ℕ → ℕ → Slot → ℕ
 words_in plan s p k = if deals_in plan s p k then length plan.groups - 1 else 0
 
+-- how many p draws in session s before slot k
+abbrev pub words_before : Plan → ℕ → ℕ → ℕ → ℕ
+words_before plan p s k = total k (λ j. words_in plan s p (slot plan s j))
+
 -- how many p draws in session s
 abbrev pub words : Plan → ℕ → ℕ → ℕ
-words plan p s = total (slots plan s) (λ k. words_in plan s p (slot plan s k))
+words plan p s = words_before plan p s (slots plan s)
 
 -- the place on p's tape of the first word that it draws in slot k of session s
 abbrev pub place : Plan → ℕ → ℕ → ℕ → ℕ
-place plan p s k = total s (words plan p) + total k (λ j. words_in plan s p (slot plan s j))
+place plan p s k = total s (words plan p) + words_before plan p s k

@@ -48,10 +48,7 @@ module _ (plan : Plan) (me s : ℕ) (inputs tape : List ℕ) (d : Desk) (new : I
   new_tape : d.memory.tape ≡ tape
   new_tape =
       let given : Given = record { plan = plan; party = me; session = s; inputs = inputs; tape = tape; got = λ m. 0 } in
-      let none : 0 * (length plan.groups - 1) ≡ 0 = omega arith in
-      (new.desk (λ m. 0)).tape
-      ∙ ap (λ q. drop ((state given q).deals * (length plan.groups - 1)) tape) new.position
-      ∙ ap (λ k. drop k tape) none
+      (new.desk (λ m. 0)).tape ∙ ap (λ q. drop (state given q).drawn tape) new.position
 
 -- the desks that were opened have what was given
 pub opened_given : (plan : Plan) (me : ℕ) (given : PartyForm) (desks : List Desk) → length given.inputs ≡ length plan.sessions → length given.tapes ≡ length plan.sessions

@@ -13,7 +13,7 @@ use Rattle.list_laws.specs.Lists.{total, joined, listed}
 use Rattle.list_laws.proofs.Totals.{total_eq}
 use Rattle.list_laws.proofs.JoinedLists.{length-joined, length-listed, listed_at, total_within, every_joined, every_at}
 use Rattle.job_plan.specs.declared.key.Key.{Key}
-use Rattle.job_plan.specs.Plans.{Plan, words, place}
+use Rattle.job_plan.specs.Plans.{Plan, words, place, input_count}
 use Rattle.job_plan.specs.Sound.{IsSound}
 use Rattle.job_plan.specs.Numbers.{message}
 use Rattle.job_plan.specs.InputWords.{AreInputs}
@@ -21,7 +21,6 @@ use Rattle.job_plan.specs.Tallies.{tape_length}
 use Rattle.share_world.specs.Worlds.{World}
 use Rattle.share_world.specs.Laws.{IsWhole, AreTapes}
 use Rattle.party_program.specs.States.{Given}
-use Rattle.party_program.specs.GivenData.{input_count}
 use Rattle.program_laws.specs.Meets.{local_given}
 use Rattle.program_laws.specs.Parts.{IsPart}
 use Rattle.party_desk.specs.declared.desk.Desk.{Desk}

@@ -68,7 +68,7 @@ posted_same plan s (At_gate t) i row_of a b rows sums = sums
 posted_same plan s (Output o) i row_of a b rows sums = rows (output_wire (session plan s) o) refl
 
 remembers : (l : Given) (got : ℕ → ℕ) (q : ℕ) (d : Memory) (σ τ : State) → σ ≡ τ → Remembers l q d σ → Remembers (with_got l got) q d τ
-remembers l got q d σ τ e h = subst (Remembers (with_got l got) q d) e (record { rows = h.rows; own = h.own; sums = h.sums; deals = h.deals; outputs = h.outputs })
+remembers l got q d σ τ e h = subst (Remembers (with_got l got) q d) e (record { rows = h.rows; own = h.own; sums = h.sums; given = h.given; outputs = h.outputs })
 
 -- a desk goes by other words as well, where those of the takes before are the same
 pub goes_by : (l : Given) (got : ℕ → ℕ) (d : Desk) → IsDesk l d → ((p n i : ℕ) → p < d.position → at (program l.plan l.party l.session) p ≡ Take n i → l.got n ≡ got n) → IsDesk (with_got l got) d
@@ -87,7 +87,7 @@ goes_by l got d h same =
       fits = h.fits;
       inputs = h.inputs;
       piece = h.piece;
-      tape = h.tape ∙ ap (λ (σ : State). drop (σ.deals * (length l.plan.groups - 1)) l.tape) e;
+      tape = h.tape ∙ ap (λ (σ : State). drop σ.drawn l.tape) e;
       memory = remembers l got d.position d.memory (state l d.position) (state (with_got l got) d.position) e h.memory;
     }
 
@@ -128,20 +128,20 @@ module _ (l : Given) (d : Desk) (is_desk : IsDesk l d) where
 
   -- ---- the memory allows what the cells allow
 
-  finds : (z : Slot) → HasInput l z (state l d.position).deals → FindsInput d.memory z
-  finds (Input v) f = let a : length d.memory.inputs.items ≡ length l.inputs = ap length is_desk.inputs in let b : d.memory.deals ≡ (state l d.position).deals = is_desk.memory.deals in omega arith
+  finds : (z : Slot) → HasInput l z (state l d.position).given → FindsInput d.memory z
+  finds (Input v) f =
+      let a : length d.memory.inputs.items ≡ length l.inputs = ap length is_desk.inputs in
+      let b : d.memory.given ≡ (state l d.position).given = is_desk.memory.given in
+      let inside = f.0 in let few = f.1 in (omega arith, omega arith)
   finds (At_gate t) f = tt
   finds (Output o) f = f
 
   pub deals : (k j : ℕ) → i ≡ Deal k j → CanDeal l.plan (slot l.plan l.session k) d.memory
   deals k j e =
       let c = can_deal l suits d.position k j e in
-      let b : d.memory.deals ≡ (state l d.position).deals = is_desk.memory.deals in record {
-        words = (let a : length d.memory.tape ≡ length l.tape - (state l d.position).deals * (length l.plan.groups - 1) = ap length is_desk.tape ∙ length-drop ((state l d.position).deals * (length l.plan.groups - 1)) l.tape in
-            let f = c.words in omega arith);
-        count = (let f = c.count in omega arith);
-        input = finds (slot l.plan l.session k) c.input;
-      }
+      let n : ℕ = (state l d.position).drawn in
+      let a : length d.memory.tape ≡ length l.tape - n = ap length is_desk.tape ∙ length-drop n l.tape in
+      record { words = (let f = c.words in omega arith); input = finds (slot l.plan l.session k) c.input }
 
   pub posts_right : (n j : ℕ) → i ≡ Post n j → word_in_memory l.plan d n j ≡ word_at l d.position n j
   posts_right n j e =

@@ -20,7 +20,7 @@ use Rattle.party_program.specs.Programs.{program}
 use Rattle.party_desk.specs.Rows.{row, SameRow, SameRows}
 use Rattle.party_program.specs.ProgramPlaces.{IsPlace, IsProgram}
 use Rattle.party_program.specs.GivenData.{Suits}
-use Rattle.party_program.specs.States.{Given, State, slot_of, state, next, word_of, dealt_in, took_in}
+use Rattle.party_program.specs.States.{Given, State, slot_of, state, next, word_after, dealt_in, took_in}
 use Rattle.party_desk.specs.declared.memory.Memory.{Memory}
 use Rattle.party_desk.specs.Memories.{state_of, row_of, Alike, IsMemoryOf}
 use Rattle.party_desk.specs.Desks.{Advanced, IsDesk, Remembers, after_on_rows, instruction_at, posts_in, takes_in, posts_before, takes_before}
@@ -44,21 +44,21 @@ pub own_eq : (s : Scheme) (p : ℕ) (x y a b : ℕ → ℕ) → SameRow s.shares
 own_eq s p x y a b h k =
     ap (λ z. z % s.modulus) (total_eq s.shares _ _ (λ i li. total_eq s.shares _ _ (λ j lj. ap₂ (λ u v. if nat_eq (s.duty i j) p then u * v else 0) (h i li) (k j lj))))
 
--- the deals that an instruction adds
-deals_in : (l : Given) (k : Slot) (words : ℕ → ℕ) (input c : ℕ) (σ : State) → Deals k → (dealt_in l.plan words input k σ).deals * c ≡ σ.deals * c + c
-deals_in l (Input v) words input c σ h = omega arith
-deals_in l (At_gate t) words input c σ h = omega arith
-deals_in l (Output o) words input c σ h = absurd h
+-- what an instruction draws
+deals_in : (l : Given) (k : Slot) (words : ℕ → ℕ) (input : ℕ) (σ : State) → Deals k → (dealt_in l.plan words input k σ).drawn ≡ σ.drawn + (length l.plan.groups - 1)
+deals_in l (Input v) words input σ h = refl
+deals_in l (At_gate t) words input σ h = refl
+deals_in l (Output o) words input σ h = absurd h
 
-took_deals : (q : ℕ) (k : Slot) (i w : ℕ) (σ : State) → (took_in q k i w σ).deals ≡ σ.deals
-took_deals q (Input v) i w σ = refl
-took_deals q (At_gate t) i w σ = refl
-took_deals q (Output o) i w σ = refl
+took_none : (q : ℕ) (k : Slot) (i w : ℕ) (σ : State) → (took_in q k i w σ).drawn ≡ σ.drawn
+took_none q (Input v) i w σ = refl
+took_none q (At_gate t) i w σ = refl
+took_none q (Output o) i w σ = refl
 
-pub draws : (l : Given) (e : Instruction) (σ : State) → Proper l.plan l.session e → (next l e σ).deals * (length l.plan.groups - 1) ≡ σ.deals * (length l.plan.groups - 1) + drawn_by l.plan e
-draws l (Deal k d) σ h = deals_in l (slot l.plan l.session k) _ _ (length l.plan.groups - 1) σ h.kind
+pub draws : (l : Given) (e : Instruction) (σ : State) → Proper l.plan l.session e → (next l e σ).drawn ≡ σ.drawn + drawn_by l.plan e
+draws l (Deal k d) σ h = deals_in l (slot l.plan l.session k) _ _ σ h.kind
 draws l (Post n i) σ h = omega arith
-draws l (Take n i) σ h = ap (λ z. z * (length l.plan.groups - 1)) (took_deals (2 ^ l.plan.bits) (slot_of l.plan l.session n) i (l.got n) σ) ∙ omega arith
+draws l (Take n i) σ h = took_none (2 ^ l.plan.bits) (slot_of l.plan l.session n) i (l.got n) σ ∙ omega arith
 draws l (Linear k) σ h = omega arith
 draws l (Own k) σ h = omega arith
 draws l (Sum k) σ h = omega arith
@@ -68,7 +68,7 @@ draws l End σ h = omega arith
 -- what is remembered is the same in what is set and still to be read
 same_read : (l : Given) (suits : Suits l) (q : ℕ) (d : Memory) (table : IsRowTable (session l.plan l.session) (arc_value d.table).rows.items) (σ : State) → Remembers l q d σ
     → SameRead l.plan suits.sound l.session l.party suits.session suits.party (arc_value d.table).rows.items table q (state_of (length l.plan.groups) d) σ
-same_read l suits q d table σ h = record { rows = h.rows; own = h.own; sums = h.sums; deals = h.deals; outputs = h.outputs }
+same_read l suits q d table σ h = record { rows = h.rows; own = h.own; sums = h.sums; given = h.given; outputs = h.outputs }
 
 word_right : (l : Given) (w : ℕ) (e : Instruction) → IsGivenWord l w e → IsWordOf l.got w e
 word_right l w (Deal k d) h = tt
@@ -99,20 +99,20 @@ module _ (l : Given) (d e : Desk) (w : ℕ) (h : IsDesk l d) (proper : Proper l.
   more : e.position ≡ suc q
   more = a.position ∙ omega arith
 
-  words : slice_index d.memory.tape ≡ word_of l σ.deals
-  words = ap slice_index h.tape ∙ (λ z j. get_or-drop (σ.deals * (m - 1)) l.tape j 0 z)
+  words : slice_index d.memory.tape ≡ word_after l σ.drawn
+  words = ap slice_index h.tape ∙ (λ z j. get_or-drop σ.drawn l.tape j 0 z)
 
-  input : slice_index d.memory.inputs.items d.memory.deals ≡ slice_index l.inputs σ.deals
-  input = ap₂ slice_index h.inputs h.memory.deals
+  input : slice_index d.memory.inputs.items d.memory.given ≡ slice_index l.inputs σ.given
+  input = ap₂ slice_index h.inputs h.memory.given
 
-  reads : after_rows d.party d.session (slice_index d.memory.tape) (slice_index d.memory.inputs.items d.memory.deals) ≡ after_rows l.party l.session (word_of l σ.deals) (slice_index l.inputs σ.deals)
+  reads : after_rows d.party d.session (slice_index d.memory.tape) (slice_index d.memory.inputs.items d.memory.given) ≡ after_rows l.party l.session (word_after l σ.drawn) (slice_index l.inputs σ.given)
   reads = λ z. after_rows (h.party z) (h.session z) (words z) (input z)
 
-  alike : Alike m (state_of m e.memory) (after_rows l.party l.session (word_of l σ.deals) (slice_index l.inputs σ.deals))
+  alike : Alike m (state_of m e.memory) (after_rows l.party l.session (word_after l σ.drawn) (slice_index l.inputs σ.given))
   alike = subst (Alike m (state_of m e.memory)) reads a.state
 
-  same : SameRead l.plan h.suits.sound l.session l.party h.suits.session h.suits.party (arc_value d.memory.table).rows.items h.fits.table.0 (suc q) (after_rows l.party l.session (word_of l σ.deals) (slice_index l.inputs σ.deals)) (next l i σ)
-  same = goes_on l.plan h.suits.sound l.session l.party h.suits.session h.suits.party (arc_value d.memory.table).rows.items h.fits.table.0 q (state_of m d.memory) σ (same_read l h.suits q d.memory h.fits.table.0 σ h.memory) (word_of l σ.deals) (slice_index l.inputs σ.deals) w l.got (word_right l w i given)
+  same : SameRead l.plan h.suits.sound l.session l.party h.suits.session h.suits.party (arc_value d.memory.table).rows.items h.fits.table.0 (suc q) (after_rows l.party l.session (word_after l σ.drawn) (slice_index l.inputs σ.given)) (next l i σ)
+  same = goes_on l.plan h.suits.sound l.session l.party h.suits.session h.suits.party (arc_value d.memory.table).rows.items h.fits.table.0 q (state_of m d.memory) σ (same_read l h.suits q d.memory h.fits.table.0 σ h.memory) (word_after l σ.drawn) (slice_index l.inputs σ.given) w l.got (word_right l w i given)
 
   rows_stay : row_of e.memory ≡ row_of d.memory
   rows_stay = ap (λ z. slice_index (arc_value {X = RowTable} z).rows.items) a.table
@@ -122,7 +122,7 @@ module _ (l : Given) (d e : Desk) (w : ℕ) (h : IsDesk l d) (proper : Proper l.
     rows = λ v j lj was later. ap (λ z. row m e.memory.rows.items (z v) j) rows_stay ∙ alike.rows (row_of d.memory v) j lj ∙ same.rows v j lj was later;
     own = alike.own ∙ same.own;
     sums = λ j lj. alike.sums j lj ∙ same.sums j lj;
-    deals = alike.deals ∙ same.deals;
+    given = alike.given ∙ same.given;
     outputs = λ o. alike.outputs o ∙ same.outputs o;
   }
 
@@ -140,6 +140,6 @@ module _ (l : Given) (d e : Desk) (w : ℕ) (h : IsDesk l d) (proper : Proper l.
     fits = subst (λ z. IsMemoryOf l.plan z e.memory) h.session a.fits;
     inputs = ap (λ z. z.items) a.inputs ∙ h.inputs;
     piece = a.piece ∙ h.piece;
-    tape = a.tape ∙ ap (drop (drawn_by l.plan i)) h.tape ∙ drop-drop (drawn_by l.plan i) (σ.deals * (m - 1)) l.tape ∙ ap (λ z. drop z l.tape) (sym (draws l i σ proper)) ∙ ap (λ z. drop ((state l z).deals * (m - 1)) l.tape) (sym more);
+    tape = a.tape ∙ ap (drop (drawn_by l.plan i)) h.tape ∙ drop-drop (drawn_by l.plan i) σ.drawn l.tape ∙ ap (λ z. drop z l.tape) (sym (draws l i σ proper)) ∙ ap (λ z. drop (state l z).drawn l.tape) (sym more);
     memory = subst (λ z. Remembers l z e.memory (state l z)) (sym more) remembers;
   }

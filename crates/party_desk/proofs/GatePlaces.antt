@@ -47,7 +47,7 @@ none_ahead d i = let position : d.position ≡ d.position + 0 = omega arith in r
 module _ (l : Given) (d : Desk) (h : IsDesk l d) (i : Instruction) (m : Memory) (place : Place) (is : IsPlace l.plan l.party l.session place (d.position + 1)) (fits : IsMemoryOf l.plan d.session m) (kept : KeepsGiven d.memory m) where
   pub advances_at : posts_in i ≡ 0 → takes_in i ≡ 0 → drawn_by l.plan i ≡ 0
       → Alike (length l.plan.groups) (state_of (length l.plan.groups) m)
-      (after_on_rows (row_of d.memory) l.plan d.party d.session (slice_index d.memory.tape) (slice_index d.memory.inputs.items d.memory.deals) 0 i (state_of (length l.plan.groups) d.memory))
+      (after_on_rows (row_of d.memory) l.plan d.party d.session (slice_index d.memory.tape) (slice_index d.memory.inputs.items d.memory.given) 0 i (state_of (length l.plan.groups) d.memory))
       → Advanced l.plan 0 i d (at_place (record d { position = d.position + 1; memory = m }) place)
   advances_at no_post no_take no_draw state = record {
     party = refl;

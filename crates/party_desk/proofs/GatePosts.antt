@@ -235,7 +235,7 @@ module _ (l : Given) (d : Desk) (moves : ℕ) (more : d.place.done + moves + 1 <
     table = refl;
     inputs = refl;
     tape = refl;
-    state = record { rows = λ v j lj. refl; own = refl; sums = λ j lj. refl; deals = refl; outputs = λ o. refl };
+    state = record { rows = λ v j lj. refl; own = refl; sums = λ j lj. refl; given = refl; outputs = λ o. refl };
   }
 
   pub taken_more : (n i w : ℕ) (m : Memory) → IsDesk l (taken_on d moves) → IsMemoryOf l.plan d.session m → KeepsGiven d.memory m

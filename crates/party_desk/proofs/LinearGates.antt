@@ -68,7 +68,7 @@ same_desk l d table same h = record {
     rows = λ v i less set read. ap (λ xs. row (length l.plan.groups) xs (row_of d.memory v) i) same ∙ h.memory.rows v i less set read;
     own = h.memory.own;
     sums = h.memory.sums;
-    deals = h.memory.deals;
+    given = h.memory.given;
     outputs = h.memory.outputs;
   };
 }
@@ -132,7 +132,7 @@ module _ (plan : Plan) (l : Given) (d : Desk) (slot inputs : ℕ) (part : Sessio
               rows = subst (FillsRow (2 ^ plan.bits) (length plan.groups) (gate_in rest n).operation (gate_on_rows (row_of d.memory) (gate_in rest n)) table.items) (sym is') filled;
               own = refl;
               sums = λ i l'. refl;
-              deals = refl;
+              given = refl;
               outputs = λ o. refl;
             })));
         silent = subst (NoPosts l d.position) next

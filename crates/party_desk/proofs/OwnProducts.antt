@@ -63,7 +63,7 @@ module _ (l : Given) (d : Desk) (h : IsDesk l d) (in_product : InProduct d.place
 
     -- and its deal, in this one
     module _ (n : Memory) (fits' : IsMemoryOf l.plan d.session n) (drew : Drew l.plan m n)
-        (state' : Alike (length l.plan.groups) (state_of (length l.plan.groups) n) (dealt_in l.plan (slice_index m.tape) (slice_index m.inputs.items m.deals) (slot_on_rows (row_of m) (slot l.plan d.session k)) (state_of (length l.plan.groups) m))) where
+        (state' : Alike (length l.plan.groups) (state_of (length l.plan.groups) n) (dealt_in l.plan (slice_index m.tape) (slice_index m.inputs.items m.given) (slot_on_rows (row_of m) (slot l.plan d.session k)) (state_of (length l.plan.groups) m))) where
       deals : Advanced l.plan 0 (Deal k next_deal) (stepped_on d 1 m) (stepped_on d 2 n)
       deals = record {
         party = refl;
@@ -100,7 +100,7 @@ Multiplies plan d g m =
 abbrev pub DealsIn : Plan → Desk → Slot → Memory → Memory → Type 0
 DealsIn plan d k m n =
     IsMemoryOf plan d.session n × Drew plan m n
-    × Alike (length plan.groups) (state_of (length plan.groups) n) (dealt_in plan (slice_index m.tape) (slice_index m.inputs.items m.deals) (slot_on_rows (row_of m) k) (state_of (length plan.groups) m))
+    × Alike (length plan.groups) (state_of (length plan.groups) n) (dealt_in plan (slice_index m.tape) (slice_index m.inputs.items m.given) (slot_on_rows (row_of m) k) (state_of (length plan.groups) m))
 
 module _ (plan : Plan) (l : Given) (d : Desk) (goes : IsDeskOfPlan plan l d) (in_product : InProduct d.place) (starts : d.place.done ≡ 0) (has : has_pair (scheme plan) d.party ≡ true) where
   has_here : has_pair (scheme l.plan) l.party ≡ true

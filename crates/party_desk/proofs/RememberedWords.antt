@@ -115,7 +115,7 @@ module _ (plan : Plan) (sound : IsSound plan) (s p : ℕ) (ls : s < length plan.
     pub rows : (v i : ℕ) → i < m → IsSet plan p s q v i → IsToRead plan p s q v i → τ.rows (row_of v) i ≡ σ.rows v i
     pub own : τ.own ≡ σ.own
     pub sums : SameRow m τ.sums σ.sums
-    pub deals : τ.deals ≡ σ.deals
+    pub given : τ.given ≡ σ.given
     pub outputs : (o : ℕ) → τ.outputs o ≡ σ.outputs o
 
   module _ (q : ℕ) (τ σ : State) (h : SameRead q τ σ) where
@@ -180,21 +180,21 @@ module _ (plan : Plan) (sound : IsSound plan) (s p : ℕ) (ls : s < length plan.
         rows = writes u (dealt (scheme plan) input words) (dealt (scheme plan) input words) (λ i. subst (λ z. SetsSummand plan s z u i) (sym is) e) (λ i li later. refl);
         own = h.own;
         sums = h.sums;
-        deals = ap (λ z. z + 1) h.deals;
+        given = ap (λ z. z + 1) h.given;
         outputs = h.outputs;
       }
       deals_same k d (At_gate t) is e = record {
         rows = stays (λ v i z. let both : At_gate t ≡ Input v = sym e ∙ subst (λ y. SetsSummand plan s y v i) is z in cc);
         own = h.own;
         sums = λ i li. ap (λ z. dealt (scheme plan) z words i) h.own;
-        deals = ap (λ z. z + 1) h.deals;
+        given = h.given;
         outputs = h.outputs;
       }
       deals_same k d (Output o) is e = record {
         rows = stays (λ v i z. let both : Output o ≡ Input v = sym e ∙ subst (λ y. SetsSummand plan s y v i) is z in cc);
         own = h.own;
         sums = h.sums;
-        deals = h.deals;
+        given = h.given;
         outputs = h.outputs;
       }
 
@@ -203,21 +203,21 @@ module _ (plan : Plan) (sound : IsSound plan) (s p : ℕ) (ls : s < length plan.
         rows = puts u j w (subst (λ y. SetsSummand plan s y u j) (sym is) (e, refl)) (λ i z. (subst (λ y. SetsSummand plan s y u i) is z).1);
         own = h.own;
         sums = h.sums;
-        deals = h.deals;
+        given = h.given;
         outputs = h.outputs;
       }
       takes_same n j (At_gate t) is e = record {
         rows = stays (λ v i z. let both : At_gate t ≡ Input v = sym e ∙ (subst (λ y. SetsSummand plan s y v i) is z).0 in cc);
         own = h.own;
         sums = sums_put j w;
-        deals = h.deals;
+        given = h.given;
         outputs = h.outputs;
       }
       takes_same n j (Output o) is e = record {
         rows = stays (λ v i z. let both : Output o ≡ Input v = sym e ∙ (subst (λ y. SetsSummand plan s y v i) is z).0 in cc);
         own = h.own;
         sums = sums_put j w;
-        deals = h.deals;
+        given = h.given;
         outputs = h.outputs;
       }
 
@@ -236,7 +236,7 @@ module _ (plan : Plan) (sound : IsSound plan) (s p : ℕ) (ls : s < length plan.
                 (λ a. known g.first i li (reads_at g.first i a (held i later))) (λ a. known g.second i li (reads_at g.second i a (held i later))));
             own = h.own;
             sums = h.sums;
-            deals = h.deals;
+            given = h.given;
             outputs = h.outputs;
           }
 
@@ -246,7 +246,7 @@ module _ (plan : Plan) (sound : IsSound plan) (s p : ℕ) (ls : s < length plan.
             rows = writes g.output τ.sums σ.sums (λ i. subst (λ y. SetsSummand plan s y g.output i) (sym is) refl) (λ i li later. h.sums i li);
             own = h.own;
             sums = λ i li. refl;
-            deals = h.deals;
+            given = h.given;
             outputs = h.outputs;
           }
 
@@ -262,7 +262,7 @@ module _ (plan : Plan) (sound : IsSound plan) (s p : ℕ) (ls : s < length plan.
             own = own_of_held (scheme plan) (scheme_is plan is_plan) p (τ.rows (row_of g.first)) (τ.rows (row_of g.second)) (σ.rows g.first) (σ.rows g.second)
                 (λ i li has. known g.first i li (reads_at g.first i both.0 has)) (λ i li has. known g.second i li (reads_at g.second i both.1 has));
             sums = h.sums;
-            deals = h.deals;
+            given = h.given;
             outputs = h.outputs;
           }
 
@@ -275,7 +275,7 @@ module _ (plan : Plan) (sound : IsSound plan) (s p : ℕ) (ls : s < length plan.
             rows = stays (λ v i z. subst (λ y. SetsSummand plan s y v i) is z);
             own = h.own;
             sums = λ i li. refl;
-            deals = h.deals;
+            given = h.given;
             outputs = λ u. elim (cases_eq u o) [
               | inl e ↦ set_here τ.outputs o u _ e ∙ ap Some opened_same ∙ sym (set_here σ.outputs o u _ e)
               | inr ne ↦ set_there τ.outputs o u _ ne ∙ h.outputs u ∙ sym (set_there σ.outputs o u _ ne)
@@ -284,13 +284,13 @@ module _ (plan : Plan) (sound : IsSound plan) (s p : ℕ) (ls : s < length plan.
 
       after_same : (e : Instruction) → at es q ≡ e → IsWordOf got w e → SameRead (suc q) (after_on_rows row_of plan p s words input w e τ) (after plan p s words input got e σ)
       after_same (Deal k d) is right = deals_same k d (slot plan s k) is refl
-      after_same (Post n j) is right = record { rows = stays (λ v i z. subst (λ y. SetsSummand plan s y v i) is z); own = h.own; sums = h.sums; deals = h.deals; outputs = h.outputs }
+      after_same (Post n j) is right = record { rows = stays (λ v i z. subst (λ y. SetsSummand plan s y v i) is z); own = h.own; sums = h.sums; given = h.given; outputs = h.outputs }
       after_same (Take n j) is right = subst (λ z. SameRead (suc q) (took_in (2 ^ plan.bits) (slot_on_rows row_of (slot_of plan s n)) j w τ) (took_in (2 ^ plan.bits) (slot_of plan s n) j z σ)) right (takes_same n j (slot_of plan s n) is refl)
       after_same (Linear k) is right = linear_same k (slot plan s k) is refl (proper (Linear k) is).kind
       after_same (Own k) is right = own_same k is
       after_same (Sum k) is right = sum_same k is
       after_same (Deliver k) is right = deliver_same k is
-      after_same End is right = record { rows = stays (λ v i z. subst (λ y. SetsSummand plan s y v i) is z); own = h.own; sums = h.sums; deals = h.deals; outputs = h.outputs }
+      after_same End is right = record { rows = stays (λ v i z. subst (λ y. SetsSummand plan s y v i) is z); own = h.own; sums = h.sums; given = h.given; outputs = h.outputs }
 
       pub goes_on : IsWordOf got w (at es q) → SameRead (suc q) (after_on_rows row_of plan p s words input w (at es q) τ) (after plan p s words input got (at es q) σ)
       goes_on right = after_same (at es q) refl right

@@ -1,8 +1,6 @@
 -- What a party's file gives, and that it fits the plan.
-use Rattle.std.specs.Prelude.{◌≡◌, ℕ, ◌<◌, ◌^◌, if◌then◌else◌, [], length, slice_index, slice_index_or, All}
-use Rattle.list_laws.specs.Lists.{total}
-use Rattle.job_session.specs.Sessions.{owners}
-use Rattle.job_plan.specs.Plans.{Plan, session, words, gives}
+use Rattle.std.specs.Prelude.{◌≡◌, ℕ, ◌<◌, ◌^◌, [], length, slice_index, slice_index_or, All}
+use Rattle.job_plan.specs.Plans.{Plan, words, input_count}
 use Rattle.job_plan.specs.InputWords.{session_words}
 use Rattle.party_file.specs.Table.{PartyForm}
 use Rattle.party_file.specs.declared.data.PartyData.{PartyData}
@@ -15,9 +13,7 @@ form_of found = record { inputs = session_words found.inputs.items; tapes = foun
 pub record FitsPlan (plan : Plan) (p : ℕ) (form : PartyForm) : Type 0 where
   pub sessions : length form.inputs ≡ length plan.sessions
   pub counts : (s : ℕ) → s < length plan.sessions
-      → length (slice_index_or form.inputs s [])
-      ≡ total (length (owners (session plan s)))
-      (λ v. if gives plan s p v then 1 else 0)
+      → length (slice_index_or form.inputs s []) ≡ input_count plan p s
   pub below : (s k : ℕ) → slice_index (slice_index_or form.inputs s []) k < 2 ^ plan.bits
   pub tapes : length form.tapes ≡ length plan.sessions
   pub lengths : (s : ℕ) → s < length plan.sessions → length (slice_index_or form.tapes s []) ≡ words plan p s

@@ -5,7 +5,7 @@ use Rattle.std.specs.List.{AllByRecursion, filter}
 use Rattle.std.proofs.lemmas.Bool.{cases_eq, cases_lt, cases_Bool, cond-true, cond-false, eq-eqb, ne_eqb, eqb-true, lt-ltb, le-ltb, and_parts, both_ways, not_from_true, not_from_false}
 use Rattle.std.proofs.lemmas.List.{get_or-drop}
 use Rattle.std.proofs.lemmas.Nat.{pow_pos}
-use Rattle.std.proofs.Math.Nat.{mod-eq_of_lt, mul-le-mul_left}
+use Rattle.std.proofs.Math.Nat.{mod-eq_of_lt}
 use mathlib.Core.Logic.{inl, inr}
 use Rattle.list_laws.specs.Lists.{total, joined, only_if}
 use Rattle.circuit_model.specs.Circuits.{is_product, set_at}
@@ -13,14 +13,14 @@ use Rattle.circuit_model.specs.declared.gate.Gate.{Gate}
 use Rattle.secret_sharing.proofs.SummandSums.{dealt_eq, dealt_small}
 use Rattle.secret_sharing.specs.Schemes.{Run, dealt, own_product, own_value, has_pair, local, gate_summands, summands}
 use Rattle.job_session.specs.Sessions.{readers, owners, Session, gate, output_wire}
-use Rattle.job_plan.specs.Plans.{Plan, scheme, session, slot, slots, holds, least_holder, deals_in, words, place, IsPlan, opens_to}
+use Rattle.job_plan.specs.Plans.{Plan, scheme, session, slot, slots, holds, least_holder, deals_in, gives, given_before, words_in, words_before, words, place, IsPlan, opens_to}
 use Rattle.job_plan.specs.declared.key.Key.{Key}
 use Rattle.party_set.specs.Parties.{has_party}
 use Rattle.job_plan.specs.Messages.{messages, slot_messages, deal_messages, open_messages}
 use Rattle.job_session.specs.Sessions.Slot.{Input, At_gate, Output}
 use Rattle.share_world.specs.Worlds.{World, input_of, tape_word}
 use Rattle.share_world.specs.Locals.{local_run, local_word, local_word_in, local_output}
-use Rattle.job_plan.specs.Numbers.{no_key, message, deals_before, deals}
+use Rattle.job_plan.specs.Numbers.{no_key, message, deals_before}
 use Rattle.mpc_ring.proofs.Remainders.{same_refl, same_mod, same_trans, mods_of_same}
 use Rattle.list_laws.proofs.Totals.{total_eq, total_one, total_zero}
 use Rattle.mpc_ring.proofs.Totals.{total_same}
@@ -28,15 +28,14 @@ use Rattle.list_laws.proofs.JoinedLists.{every_joined, every_only_if, total_with
 use Rattle.job_session.proofs.SessionSlots.{slot_input, slot_gate, slot_output}
 use Rattle.share_world.proofs.LocalWords.{holder_own}
 use Rattle.job_plan.proofs.PlanSchemes.{least_holds}
-use Rattle.job_plan.proofs.DistinctMessages.{places_by_deals}
 use Rattle.party_program.specs.declared.program.Instruction.{Instruction}
 use Rattle.party_program.specs.declared.program.Instruction.TheVariants.{Deal, Linear, Own, Sum, Deliver}
 use Rattle.party_program.specs.Programs.{program, from, to, post, take_of, opening, closing, posts, takes, slot_program}
 use Rattle.job_plan.specs.Firsts.{numbers}
-use Rattle.party_program.specs.States.{Given, State, next, new_state, after_all, slot_of, posted, word_of, opened, dealt_in, computed, multiplied, summed, delivered, gate_in_slot, output_in_slot}
+use Rattle.party_program.specs.States.{Given, State, next, new_state, after_all, slot_of, posted, word_after, opened, dealt_in, computed, multiplied, summed, delivered, gate_in_slot, output_in_slot}
 use Rattle.party_program.specs.Proper.{IsSessionMessage, Deals, IsGate, IsOutput}
 use Rattle.party_program.specs.Along.{AllAlong}
-use Rattle.program_laws.specs.Meets.{local_given, OpensRight, Goes, SmallTape}
+use Rattle.program_laws.specs.Meets.{local_given, OpensRight, IsNextInput, Goes, SmallTape}
 use Rattle.circuit_model.proofs.SetAt.{set_here, set_there}
 use Rattle.party_program.proofs.InstructionLists.{Leaves, leaves_append, leaves_joined, joined_add, along_posts, after_posts}
 use Rattle.job_plan.proofs.SlotMessages.{each_number, every_filter, keys_are}
@@ -73,27 +72,28 @@ module _ (w : World) (h' : IsPlan w.plan) (got : Key → ℕ) (s p : ℕ) (ls : 
   positive = pow_pos plan.bits
 
   -- the tape words of a deal
-  words_are : (k : ℕ) → k < slots w.plan s → deals_in plan s p (slot w.plan s k) ≡ true → (j : ℕ) → j < m - 1 → word_of l (deals_before plan p s k) j ≡ slice_index (slice_index_or w.tapes p []) (place plan p s k + j)
+  words_are : (k : ℕ) → k < slots w.plan s → deals_in plan s p (slot w.plan s k) ≡ true → (j : ℕ) → j < m - 1 → word_after l (words_before plan p s k) j ≡ slice_index (slice_index_or w.tapes p []) (place plan p s k + j)
   words_are k lk yes' j lj =
-      let c : ℕ → ℕ = λ k. if deals_in plan s p (slot w.plan s k) then 1 else 0 in
-      let one : c k ≡ 1 = cond-true (deals_in plan s p (slot w.plan s k)) 1 0 yes' in
+      let c : ℕ → ℕ = λ k. words_in plan s p (slot w.plan s k) in
+      let drawn : c k ≡ m - 1 = cond-true (deals_in plan s p (slot w.plan s k)) (m - 1) 0 yes' in
       let within : total k c + c k ≤ total (slots w.plan s) c = total_within (slots w.plan s) k c lk in
-      let at0 : place plan p s 0 ≡ (m - 1) * (total s (deals plan p) + 0) = places_by_deals plan p s 0 in
-      let atk : place plan p s k ≡ (m - 1) * (total s (deals plan p) + deals_before plan p s k) = places_by_deals plan p s k in
-      let all : place plan p s (slots w.plan s) ≡ (m - 1) * (total s (deals plan p) + deals plan p s) = places_by_deals plan p s (slots w.plan s) in
-      let whole : place plan p s (slots w.plan s) ≡ place plan p s 0 + words plan p s = omega arith in
-      let more : (m - 1) * (deals_before plan p s k + 1) ≤ (m - 1) * deals plan p s = mul-le-mul_left (m - 1) (omega arith) in
-      let inside : deals_before plan p s k * (m - 1) + j < words plan p s = omega arith in
-      let at : place plan p s 0 + (deals_before plan p s k * (m - 1) + j) ≡ place plan p s k + j = omega arith in
-      get_or-take (words plan p s) (drop (place plan p s 0) (slice_index_or w.tapes p [])) (deals_before plan p s k * (m - 1) + j) 0 inside
-      ∙ get_or-drop (place plan p s 0) (slice_index_or w.tapes p []) (deals_before plan p s k * (m - 1) + j) 0
+      let inside : words_before plan p s k + j < words plan p s = omega arith in
+      let at : place plan p s 0 + (words_before plan p s k + j) ≡ place plan p s k + j = omega arith in
+      get_or-take (words plan p s) (drop (place plan p s 0) (slice_index_or w.tapes p [])) (words_before plan p s k + j) 0 inside
+      ∙ get_or-drop (place plan p s 0) (slice_index_or w.tapes p []) (words_before plan p s k + j) 0
       ∙ ap (slice_index (slice_index_or w.tapes p [])) at
 
-  deal_more : (k : ℕ) → deals_in plan s p (slot w.plan s k) ≡ true → deals_before plan p s (suc k) ≡ deals_before plan p s k + 1
-  deal_more k e = ap (λ z. deals_before plan p s k + z) (cond-true (deals_in plan s p (slot w.plan s k)) 1 0 e)
+  draw_more : (k : ℕ) → deals_in plan s p (slot w.plan s k) ≡ true → words_before plan p s (suc k) ≡ words_before plan p s k + (m - 1)
+  draw_more k e = ap (λ z. words_before plan p s k + z) (cond-true (deals_in plan s p (slot w.plan s k)) (m - 1) 0 e)
 
-  deal_none : (k : ℕ) → deals_in plan s p (slot w.plan s k) ≡ false → deals_before plan p s (suc k) ≡ deals_before plan p s k
-  deal_none k e = ap (λ z. deals_before plan p s k + z) (cond-false (deals_in plan s p (slot w.plan s k)) 1 0 e) ∙ omega arith
+  draw_none : (k : ℕ) → deals_in plan s p (slot w.plan s k) ≡ false → words_before plan p s (suc k) ≡ words_before plan p s k
+  draw_none k e = ap (λ z. words_before plan p s k + z) (cond-false (deals_in plan s p (slot w.plan s k)) (m - 1) 0 e) ∙ omega arith
+
+  give_more : (v : ℕ) → gives plan s p v ≡ true → given_before plan p s (suc v) ≡ given_before plan p s v + 1
+  give_more v e = ap (λ z. given_before plan p s v + z) (cond-true (gives plan s p v) 1 0 e)
+
+  give_none : (v : ℕ) → gives plan s p v ≡ false → given_before plan p s (suc v) ≡ given_before plan p s v
+  give_none v e = ap (λ z. given_before plan p s v + z) (cond-false (gives plan s p v) 1 0 e) ∙ omega arith
 
   -- ---- input slots
 
@@ -103,7 +103,8 @@ module _ (w : World) (h' : IsPlan w.plan) (got : Key → ℕ) (s p : ℕ) (ls : 
   pub record InInputs (v : ℕ) (σ : State) : Type 0 where
     pub rows : (u i : ℕ) → i < m → holds plan p i ≡ true → σ.rows u i ≡ (if nat_lt u v then run.start u i else 0)
     pub sums : (i : ℕ) → i < m → σ.sums i ≡ 0
-    pub deals : σ.deals ≡ deals_before plan p s v
+    pub drawn : σ.drawn ≡ words_before plan p s v
+    pub given : σ.given ≡ given_before plan p s v
 
   abbrev owner : ℕ → ℕ
   owner v = slice_index (owners x) v
@@ -138,18 +139,14 @@ module _ (w : World) (h' : IsPlan w.plan) (got : Key → ℕ) (s p : ℕ) (ls : 
     ]
   ]
 
-  inputs_before : (v : ℕ) → v ≤ length (owners x) → deals_before plan p s v ≡ total v (λ u. if nat_eq (owner u) p then 1 else 0)
-  inputs_before v lv = total_eq v _ _ (λ u lu. ap (λ z. if deals_in plan s p z then 1 else 0) (slot_input x u (omega (arith, lu, lv))))
-
   start_input : (v i : ℕ) → v < length (owners x) → owner v ≡ p → run.start v i ≡ dealt (scheme plan) (input_of w s v) (tape_word w s (Input v) p) i
   start_input v i lv e = cond-true (nat_lt v (length (owners x))) _ 0 (lt-ltb v (length (owners x)) lv) ∙ cond-true (nat_eq (owner v) p) _ _ (eq-eqb (owner v) p e)
 
-  start_own : (v i : ℕ) → v < length (owners x) → owner v ≡ p → run.start v i ≡ dealt (scheme plan) (slice_index l.inputs (deals_before plan p s v)) (tape_word w s (Input v) p) i
+  start_own : (v i : ℕ) → v < length (owners x) → owner v ≡ p → run.start v i ≡ dealt (scheme plan) (slice_index l.inputs (given_before plan p s v)) (tape_word w s (Input v) p) i
   start_own v i lv e =
       start_input v i lv e
       ∙ ap (λ z. dealt (scheme plan) z (tape_word w s (Input v) p) i)
-      (ap (λ z. slice_index (slice_index_or (slice_index_or w.inputs z []) s []) (total v (λ u. if nat_eq (owner u) z then 1 else 0))) e
-      ∙ ap (slice_index l.inputs) (sym (inputs_before v (omega (arith, lv)))))
+      (ap (λ z. slice_index (slice_index_or (slice_index_or w.inputs z []) s []) (given_before plan z s v)) e)
 
   start_other : (v i : ℕ) → v < length (owners x) → owner v ≢ p → run.start v i ≡ got (key v i (owner v) p)
   start_other v i lv ne = cond-true (nat_lt v (length (owners x))) _ 0 (lt-ltb v (length (owners x)) lv) ∙ cond-false (nat_eq (owner v) p) _ _ (ne_eqb (owner v) p ne)
@@ -176,18 +173,20 @@ module _ (w : World) (h' : IsPlan w.plan) (got : Key → ℕ) (s p : ℕ) (ls : 
       let at : slot w.plan s v ≡ Input v = slot_input x v lv in
       let lk : v < slots w.plan s = omega arith in
       let d : ℕ = deals_before plan p s v in
+      let n0 : ℕ = words_before plan p s v in
+      let g0 : ℕ = given_before plan p s v in
       let ns : List ℕ = filter (to plan p) (numbers plan s v) in
       let proper : AllByRecursion (λ n. IsSessionMessage plan s n (message plan n).share) ns = every_filter _ _ (to plan p) (numbers plan s v) (input_numbers v lv) (λ n f e. message_is v n no_key lk f.0 (ap (λ z. z.slot) f.1.0) f.1.1) in
       let slot_is : (n : ℕ) → In v (FromOwner v) n → slot_of plan s n ≡ Input v = λ n f. ap (λ z. slot w.plan s z.slot) f.1.0 ∙ at in
       subst (λ z. Leaves good l (opening plan p s v z ++ posts plan p s v ++ takes plan p s v ++ closing plan p s v z) (InInputs (suc v)) σ) (sym at)
       (elim (cases_eq (owner v) p) [
         | inl e ↦
-            let σ1 : State = dealt_in plan (word_of l σ.deals) (slice_index l.inputs σ.deals) (Input v) σ in
-            let is : next l (Deal v d) σ ≡ σ1 = ap (λ z. dealt_in plan (word_of l σ.deals) (slice_index l.inputs σ.deals) z σ) at in
+            let σ1 : State = dealt_in plan (word_after l σ.drawn) (slice_index l.inputs σ.given) (Input v) σ in
+            let is : next l (Deal v d) σ ≡ σ1 = ap (λ z. dealt_in plan (word_after l σ.drawn) (slice_index l.inputs σ.given) z σ) at in
             let deals' : deals_in plan s p (slot w.plan s v) ≡ true = ap (deals_in plan s p) at ∙ eq-eqb (owner v) p e in
-            let new : ℕ → ℕ = dealt (scheme plan) (slice_index l.inputs σ.deals) (word_of l σ.deals) in
-            let dealt' : (i : ℕ) → σ1.rows v i ≡ run.start v i = λ i. ap (λ f. f i) (set_here σ.rows v v new refl) ∙ ap (λ z. dealt (scheme plan) (slice_index l.inputs z) (word_of l z) i) h.deals
-            ∙ dealt_eq (scheme plan) (slice_index l.inputs d) (word_of l d) (tape_word w s (Input v) p) i (λ j lj. words_are v lk deals' j lj) ∙ sym (start_own v i lv e) in
+            let new : ℕ → ℕ = dealt (scheme plan) (slice_index l.inputs σ.given) (word_after l σ.drawn) in
+            let dealt' : (i : ℕ) → σ1.rows v i ≡ run.start v i = λ i. ap (λ f. f i) (set_here σ.rows v v new refl) ∙ ap₂ (λ y z. dealt (scheme plan) (slice_index l.inputs y) (word_after l z) i) h.given h.drawn
+            ∙ dealt_eq (scheme plan) (slice_index l.inputs g0) (word_after l n0) (tape_word w s (Input v) p) i (λ j lj. words_are v lk deals' j lj) ∙ sym (start_own v i lv e) in
             let row : RowOf l v ns (σ1.rows v) σ1 (after_all l (takes plan p s v) σ1) = takes_row l v ns (σ1.rows v) σ1 (every_filter _ _ (to plan p) (numbers plan s v) (input_numbers v lv) (λ n f e'. absurd (f.1.2 (eqb-true _ _ e' ∙ sym e)))) in
             subst (λ ys. Leaves good l (ys ++ posts plan p s v ++ takes plan p s v ++ []) (InInputs (suc v)) σ) (sym (cond-true (nat_eq (owner v) p) (Deal v d ∷ []) [] (eq-eqb (owner v) p e)))
             (exchanged v (InInputs (suc v)) σ1
@@ -203,10 +202,11 @@ module _ (w : World) (h' : IsPlan w.plan) (got : Key → ℕ) (s p : ℕ) (ls : 
             (record {
               rows = rows_next v σ (after_all l (takes plan p s v) σ1) h (λ u i other. row.others u i other ∙ ap (λ f. f i) (set_there σ.rows v u new other)) (λ i li held. row.kept i refl ∙ dealt' i);
               sums = λ i li. ap (λ f. f i) row.sums ∙ h.sums i li;
-              deals = row.deals ∙ ap (λ z. z + 1) h.deals ∙ sym (deal_more v deals');
+              drawn = row.drawn ∙ ap (λ z. z + (m - 1)) h.drawn ∙ sym (draw_more v deals');
+              given = row.given ∙ ap (λ z. z + 1) h.given ∙ sym (give_more v (eq-eqb (owner v) p e));
             })
             (Deal v d ∷ []) (InInputs (suc v)) σ
-            (((record { slot = lk; kind = subst Deals (sym at) tt }, (h.deals, lk, deals')), tt), is)
+            (((record { slot = lk; kind = subst Deals (sym at) tt }, (h.drawn, lk, deals', subst (λ z. IsNextInput plan s p z σ.given) (sym at) h.given)), tt), is)
             [] (λ τ q. (tt, q)))
         | inr ne ↦
             let g : ℕ → ℕ = λ i. got (key v i (owner v) p) in
@@ -220,7 +220,8 @@ module _ (w : World) (h' : IsPlan w.plan) (got : Key → ℕ) (s p : ℕ) (ls : 
             (record {
               rows = rows_next v σ (after_all l (takes plan p s v) σ) h (λ u i other. row.others u i other) (λ i li held. row.has i (has i li held) ∙ sym (start_other v i lv ne));
               sums = λ i li. ap (λ f. f i) row.sums ∙ h.sums i li;
-              deals = row.deals ∙ h.deals ∙ sym (deal_none v no_deal);
+              drawn = row.drawn ∙ h.drawn ∙ sym (draw_none v no_deal);
+              given = row.given ∙ h.given ∙ sym (give_none v (ne_eqb (owner v) p ne));
             })
             [] (InInputs (suc v)) σ (tt, refl) [] (λ τ q. (tt, q)))
       ])
@@ -230,7 +231,7 @@ module _ (w : World) (h' : IsPlan w.plan) (got : Key → ℕ) (s p : ℕ) (ls : 
   pub record InGates (t : ℕ) (σ : State) : Type 0 where
     pub rows : (u i : ℕ) → i < m → holds plan p i ≡ true → σ.rows u i ≡ summands run t u i
     pub sums : (i : ℕ) → i < m → σ.sums i ≡ 0
-    pub deals : σ.deals ≡ deals_before plan p s (length (owners x) + t)
+    pub drawn : σ.drawn ≡ words_before plan p s (length (owners x) + t)
 
   abbrev slot_k : ℕ → ℕ
   slot_k t = length (owners x) + t
@@ -271,7 +272,7 @@ module _ (w : World) (h' : IsPlan w.plan) (got : Key → ℕ) (s p : ℕ) (ls : 
         rows = rows_set σ.rows (summands run t) g.output _ (gate_summands run t (summands run t g.first) (summands run t g.second)) h.rows
             (λ i li held. ap₂ (local (2 ^ plan.bits) g.operation g.constant i) (h.rows g.first i li held) (h.rows g.second i li held) ∙ sym (cond-false (is_product g.operation) _ _ linear));
         sums = h.sums;
-        deals = h.deals ∙ sym (deal_none k (ap (deals_in plan s p) at ∙ no_deals p)) ∙ (let same : suc k ≡ length (owners x) + suc t = omega arith in ap (deals_before plan p s) same);
+        drawn = h.drawn ∙ sym (draw_none k (ap (deals_in plan s p) at ∙ no_deals p)) ∙ (let same : suc k ≡ length (owners x) + suc t = omega arith in ap (words_before plan p s) same);
       } in
       subst (λ z. Leaves good l (opening plan p s k z ++ posts plan p s k ++ takes plan p s k ++ closing plan p s k z) (InGates (suc t)) σ) (sym at)
       (subst (λ ys. Leaves good l (ys ++ posts plan p s k ++ takes plan p s k ++ closing plan p s k (At_gate t)) (InGates (suc t)) σ) (sym (cond-false (deals_in plan s p (At_gate t)) (Own k ∷ Deal k (deals_before plan p s k) ∷ []) [] (no_deals p)))
@@ -334,9 +335,9 @@ module _ (w : World) (h' : IsPlan w.plan) (got : Key → ℕ) (s p : ℕ) (ls : 
         zeros false = refl
 
     -- from the state in which the posts are made
-    product_rest : (σ2 : State) → σ2.rows ≡ σ.rows → ((i : ℕ) → i < m → σ2.sums i ≡ begun i % 2 ^ plan.bits) → (has_pair (scheme plan) p ≡ true → (i : ℕ) → σ2.sums i ≡ mine i) → σ2.deals ≡ deals_before plan p s (suc k)
+    product_rest : (σ2 : State) → σ2.rows ≡ σ.rows → ((i : ℕ) → i < m → σ2.sums i ≡ begun i % 2 ^ plan.bits) → (has_pair (scheme plan) p ≡ true → (i : ℕ) → σ2.sums i ≡ mine i) → σ2.drawn ≡ words_before plan p s (suc k)
         → Leaves good l (opening plan p s k (At_gate t)) (λ τ. τ ≡ σ2) σ → Leaves good l (slot_program plan p s k) (InGates (suc t)) σ
-    product_rest σ2 rows begin mine' deals' opens =
+    product_rest σ2 rows begin mine' drawn' opens =
         let slot_is : (n : ℕ) → In k (FromDealer t) n → slot_of plan s n ≡ At_gate t = λ n f. ap (λ z. slot w.plan s z.slot) f.1.0 ∙ at in
         let τ : State = after_all l (takes plan p s k) σ2 in
         let took : SumsOf m (2 ^ plan.bits) σ2 τ (λ i. begun i + tally l i ns) = takes_sums l m (At_gate t) ns σ2 begun tt (every_filter _ _ (to plan p) (numbers plan s k) (gate_numbers t lt) (λ n f e. slot_is n f)) begin in
@@ -347,7 +348,7 @@ module _ (w : World) (h' : IsPlan w.plan) (got : Key → ℕ) (s p : ℕ) (ls : 
               (λ u i li held. ap (λ f. f u i) (took.rows ∙ rows) ∙ h.rows u i li held)
               (λ i li held. took.sums i li ∙ sums i li held ∙ sym (cond-true (is_product g.operation) _ _ prod));
           sums = λ i li. refl;
-          deals = took.deals ∙ deals' ∙ (let same : suc k ≡ length (owners x) + suc t = omega arith in ap (deals_before plan p s) same);
+          drawn = took.drawn ∙ drawn' ∙ (let same : suc k ≡ length (owners x) + suc t = omega arith in ap (words_before plan p s) same);
         } in
         subst (λ z. Leaves good l (opening plan p s k z ++ posts plan p s k ++ takes plan p s k ++ closing plan p s k z) (InGates (suc t)) σ) (sym at)
         (subst (λ b. Leaves good l (opening plan p s k (At_gate t) ++ posts plan p s k ++ takes plan p s k ++ (only_if b (Sum k ∷ []) ++ only_if (not b) (Linear k ∷ []))) (InGates (suc t)) σ) (sym prod)
@@ -375,21 +376,21 @@ module _ (w : World) (h' : IsPlan w.plan) (got : Key → ℕ) (s p : ℕ) (ls : 
               let deals' : deals_in plan s p (slot w.plan s k) ≡ true = ap (deals_in plan s p) at ∙ deals_is p ∙ has in
               let σ1 : State = multiplied plan p g σ in
               let is1 : next l (Own k) σ ≡ σ1 = ap (λ z. multiplied plan p (gate_in_slot x z) σ) at in
-              let σ2 : State = dealt_in plan (word_of l σ.deals) (slice_index l.inputs σ.deals) (At_gate t) σ1 in
-              let is2 : next l (Deal k d) (next l (Own k) σ) ≡ σ2 = ap (next l (Deal k d)) is1 ∙ ap (λ z. dealt_in plan (word_of l σ.deals) (slice_index l.inputs σ.deals) z σ1) at in
-              let same : (i : ℕ) → σ2.sums i ≡ mine i = λ i. ap₂ (λ v z. dealt (scheme plan) v (word_of l z) i) own_is h.deals ∙ dealt_eq (scheme plan) (own_value run t p) (word_of l d) (tape_word w s (At_gate t) p) i (λ j lj. words_are k lk deals' j lj) in
+              let σ2 : State = dealt_in plan (word_after l σ.drawn) (slice_index l.inputs σ.given) (At_gate t) σ1 in
+              let is2 : next l (Deal k d) (next l (Own k) σ) ≡ σ2 = ap (next l (Deal k d)) is1 ∙ ap (λ z. dealt_in plan (word_after l σ.drawn) (slice_index l.inputs σ.given) z σ1) at in
+              let same : (i : ℕ) → σ2.sums i ≡ mine i = λ i. ap₂ (λ v z. dealt (scheme plan) v (word_after l z) i) own_is h.drawn ∙ dealt_eq (scheme plan) (own_value run t p) (word_after l (words_before plan p s k)) (tape_word w s (At_gate t) p) i (λ j lj. words_are k lk deals' j lj) in
               let begun_is : (i : ℕ) → begun i ≡ mine i = λ i. cond-true (has_pair (scheme plan) p) (mine i) 0 has in
               product_rest σ2 refl
               (λ i li. same i ∙ sym (ap (λ z. z % 2 ^ plan.bits) (begun_is i) ∙ mod-eq_of_lt (dealt_small (scheme plan) (own_value run t p) (tape_word w s (At_gate t) p) i positive (small (At_gate t)))))
               (λ yes' i. same i)
-              (ap (λ z. z + 1) h.deals ∙ sym (deal_more k deals'))
+              (ap (λ z. z + (m - 1)) h.drawn ∙ sym (draw_more k deals'))
               (subst (λ ys. Leaves good l ys (λ τ. τ ≡ σ2) σ) (sym (cond-true (deals_in plan s p (At_gate t)) (Own k ∷ Deal k d ∷ []) [] (deals_is p ∙ has)))
-              (((record { slot = lk; kind = subst IsGate (sym at) tt }, tt), ((record { slot = lk; kind = subst Deals (sym at) tt }, (ap (λ τ. τ.deals) is1 ∙ h.deals, lk, deals')), tt)), is2))
+              (((record { slot = lk; kind = subst IsGate (sym at) tt }, tt), ((record { slot = lk; kind = subst Deals (sym at) tt }, (ap (λ τ. τ.drawn) is1 ∙ h.drawn, lk, deals', subst (λ z. IsNextInput plan s p z (next l (Own k) σ).given) (sym at) tt)), tt)), is2))
           | inr no' ↦
               product_rest σ refl
               (λ i li. h.sums i li ∙ sym (ap (λ z. z % 2 ^ plan.bits) (cond-false (has_pair (scheme plan) p) (mine i) 0 no') ∙ mod-eq_of_lt positive))
               (λ yes' i. absurd (both_ways (has_pair (scheme plan) p) no' yes'))
-              (h.deals ∙ sym (deal_none k (ap (deals_in plan s p) at ∙ deals_is p ∙ no')))
+              (h.drawn ∙ sym (draw_none k (ap (deals_in plan s p) at ∙ deals_is p ∙ no')))
               (subst (λ ys. Leaves good l ys (λ τ. τ ≡ σ) σ) (sym (cond-false (deals_in plan s p (At_gate t)) (Own k ∷ Deal k d ∷ []) [] (deals_is p ∙ no'))) (tt, refl))
         ]
 
@@ -404,7 +405,7 @@ module _ (w : World) (h' : IsPlan w.plan) (got : Key → ℕ) (s p : ℕ) (ls : 
   pub record InOutputs (o : ℕ) (σ : State) : Type 0 where
     pub rows : (u i : ℕ) → i < m → holds plan p i ≡ true → σ.rows u i ≡ last u i
     pub sums : (i : ℕ) → i < m → σ.sums i ≡ 0
-    pub deals : σ.deals ≡ deals_before plan p s (out_k o)
+    pub drawn : σ.drawn ≡ words_before plan p s (out_k o)
     pub outputs : (u : ℕ) → u < o → opens_to w.plan s p (Output u) ≡ true → σ.outputs u ≡ Some (local_output w got p s u)
 
   module _ (o : ℕ) (lo : o < length (readers x)) (σ : State) (h : InOutputs o σ) where
@@ -478,8 +479,8 @@ module _ (w : World) (h' : IsPlan w.plan) (got : Key → ℕ) (s p : ℕ) (ls : 
     abbrev τo : State
     τo = after_all l (takes plan p s ko) σ
 
-    next_deals : deals_before plan p s (out_k o) ≡ deals_before plan p s (out_k (suc o))
-    next_deals = sym (deal_none ko (ap (deals_in plan s p) ato)) ∙ (let same : suc ko ≡ out_k (suc o) = omega arith in ap (deals_before plan p s) same)
+    no_more : words_before plan p s (out_k o) ≡ words_before plan p s (out_k (suc o))
+    no_more = sym (draw_none ko (ap (deals_in plan s p) ato)) ∙ (let same : suc ko ≡ out_k (suc o) = omega arith in ap (words_before plan p s) same)
 
     output_slot : Leaves good l (slot_program plan p s ko) (InOutputs (suc o)) σ
     output_slot =
@@ -497,7 +498,7 @@ module _ (w : World) (h' : IsPlan w.plan) (got : Key → ℕ) (s p : ℕ) (ls : 
               let after' : InOutputs (suc o) done = record {
                 rows = λ u i li held. ap (λ f. f u i) took.rows ∙ h.rows u i li held;
                 sums = λ i li. refl;
-                deals = took.deals ∙ h.deals ∙ next_deals;
+                drawn = took.drawn ∙ h.drawn ∙ no_more;
                 outputs = λ u lu r. elim (cases_eq u o) [
                   | inl e ↦ set_here τo.outputs o u _ e ∙ ap Some (sum ∙ ap (local_output w got p s) (sym e))
                   | inr ne ↦ set_there τo.outputs o u _ ne ∙ ap (λ f. f u) took.outputs ∙ h.outputs u (omega arith) r
@@ -511,7 +512,7 @@ module _ (w : World) (h' : IsPlan w.plan) (got : Key → ℕ) (s p : ℕ) (ls : 
               let after' : InOutputs (suc o) σ = record {
                 rows = h.rows;
                 sums = h.sums;
-                deals = h.deals ∙ next_deals;
+                drawn = h.drawn ∙ no_more;
                 outputs = λ u lu r. elim (cases_eq u o) [
                   | inl e ↦ absurd (both_ways (has_party mask p) not' (subst (λ z. opens_to w.plan s p (Output z) ≡ true) e r))
                   | inr ne ↦ h.outputs u (omega arith) r
@@ -529,19 +530,20 @@ module _ (w : World) (h' : IsPlan w.plan) (got : Key → ℕ) (s p : ℕ) (ls : 
       let begin : InInputs 0 new_state = record {
         rows = λ u i li held. sym (cond-false (nat_lt u 0) (run.start u i) 0 (le-ltb u 0 (omega arith)));
         sums = λ i li. refl;
-        deals = refl;
+        drawn = refl;
+        given = refl;
       } in
       let inputs : Leaves good l (joined (length (owners x)) f) (InInputs (length (owners x))) new_state = leaves_joined good l f InInputs (length (owners x)) new_state begin (λ v τ lv h. input_slot v lv τ h) in
       let to_gates : (τ : State) → InInputs (length (owners x)) τ → InGates 0 τ = λ τ h. record {
         rows = λ u i li held. h.rows u i li held ∙ starts u i;
         sums = h.sums;
-        deals = h.deals ∙ (let same : length (owners x) ≡ length (owners x) + 0 = omega arith in ap (deals_before plan p s) same);
+        drawn = h.drawn ∙ (let same : length (owners x) ≡ length (owners x) + 0 = omega arith in ap (words_before plan p s) same);
       } in
       let gates : (τ : State) → InGates 0 τ → Leaves good l (joined (length x.gates) (λ t. f (length (owners x) + t))) (InGates (length x.gates)) τ = λ τ h. leaves_joined good l (λ t. f (length (owners x) + t)) InGates (length x.gates) τ h (λ t ρ lt h. gate_slot t lt ρ h) in
       let to_outputs : (τ : State) → InGates (length x.gates) τ → InOutputs 0 τ = λ τ h. record {
         rows = h.rows;
         sums = h.sums;
-        deals = h.deals ∙ (let same : length (owners x) + length x.gates ≡ out_k 0 = omega arith in ap (deals_before plan p s) same);
+        drawn = h.drawn ∙ (let same : length (owners x) + length x.gates ≡ out_k 0 = omega arith in ap (words_before plan p s) same);
         outputs = λ u lu r. absurd (omega arith);
       } in
       let outputs : (τ : State) → InOutputs 0 τ → Leaves good l (joined (length (readers x)) (λ o. f (length (owners x) + length x.gates + o))) (InOutputs (length (readers x))) τ = λ τ h. leaves_joined good l (λ o. f (length (owners x) + length x.gates + o)) InOutputs (length (readers x)) τ h (λ o ρ lo h. output_slot o lo ρ h) in

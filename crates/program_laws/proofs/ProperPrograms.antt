@@ -1,45 +1,44 @@
 -- What a program does with what suits its plan, whatever words it gets.
-use Rattle.std.proofs.Common.{◌≡◌, ℕ, zero, suc, ◌+◌, ◌-◌, ◌*◌, ◌<◌, ◌≤◌, ◌^◌, Bool, true, false, if◌then◌else◌, List, [], length, refl, sym, ap, ◌∙◌, subst, arith}
+use Rattle.std.proofs.Common.{◌≡◌, ℕ, zero, suc, ◌+◌, ◌-◌, ◌<◌, ◌≤◌, ◌^◌, Bool, true, false, if◌then◌else◌, List, [], length, refl, sym, ap, ◌∙◌, subst, arith}
 use Rattle.std.proofs.lemmas.Bool.{cases_lt, cond-true}
 use Rattle.std.proofs.lemmas.List.{get_or_past}
 use Rattle.std.proofs.lemmas.Nat.{pow_pos}
-use Rattle.std.proofs.Math.Nat.{mul-le-mul_left}
 use mathlib.Core.Logic.{inl, inr}
 use Rattle.list_laws.specs.Lists.{total}
-use Rattle.list_laws.proofs.Totals.{total_eq}
 use Rattle.list_laws.proofs.JoinedLists.{total_within}
 use Rattle.job_session.specs.Sessions.{Slot, owners}
-use Rattle.job_plan.specs.Plans.{Plan, session, slot, slots, deals_in, words, place, IsPlan, gives}
+use Rattle.job_plan.specs.Plans.{Plan, session, slot, slots, deals_in, words, IsPlan, gives, words_in, words_before, input_count}
 use Rattle.job_session.specs.Sessions.Slot.{Input, At_gate, Output}
 use Rattle.job_plan.specs.Sound.{IsSound}
 use Rattle.job_plan.specs.declared.key.Key.{Key}
-use Rattle.job_plan.specs.Numbers.{deals_before, deals}
-use Rattle.job_session.proofs.SessionSlots.{slot_input, slot_cases}
-use Rattle.job_plan.proofs.DistinctMessages.{places_by_deals}
+use Rattle.job_session.proofs.SessionSlots.{slot_cases}
 use Rattle.share_world.specs.Worlds.{World}
 use Rattle.party_program.specs.declared.program.Instruction.{Instruction}
 use Rattle.party_program.specs.declared.program.Instruction.TheVariants.{Deal, Post, Take, Linear, Own, Sum, Deliver, End}
 use Rattle.party_program.specs.Programs.{program, at}
 use Rattle.party_program.specs.States.{Given, State, new_state, state, after, dealt_in, took_in, slot_of}
 use Rattle.party_program.specs.Proper.{Proper, CanDealIn, HasInput}
-use Rattle.party_program.specs.GivenData.{Suits, input_count}
+use Rattle.party_program.specs.GivenData.{Suits}
 use Rattle.party_program.proofs.InstructionLists.{along_at, state_is}
-use Rattle.program_laws.specs.Meets.{local_given, Goes, SmallTape}
+use Rattle.program_laws.specs.Meets.{local_given, IsNextInput, Goes, SmallTape}
 use Rattle.program_laws.proofs.LocalPrograms.{met}
 
--- ---- the deals that are done do not hang on what is given
+-- ---- what was drawn and dealt does not hang on what is given
 
-dealt_same : (plan : Plan) (f g : ℕ → ℕ) (x y : ℕ) (z : Slot) (σ τ : State) → σ.deals ≡ τ.deals → (dealt_in plan f x z σ).deals ≡ (dealt_in plan g y z τ).deals
-dealt_same plan f g x y (Input v) σ τ e = ap (λ z. z + 1) e
-dealt_same plan f g x y (At_gate t) σ τ e = ap (λ z. z + 1) e
+abbrev HasDone : State → State → Type 0
+HasDone σ τ = (σ.drawn ≡ τ.drawn) × (σ.given ≡ τ.given)
+
+dealt_same : (plan : Plan) (f g : ℕ → ℕ) (x y : ℕ) (z : Slot) (σ τ : State) → HasDone σ τ → HasDone (dealt_in plan f x z σ) (dealt_in plan g y z τ)
+dealt_same plan f g x y (Input v) σ τ e = (ap (λ z. z + (length plan.groups - 1)) e.0, ap (λ z. z + 1) e.1)
+dealt_same plan f g x y (At_gate t) σ τ e = (ap (λ z. z + (length plan.groups - 1)) e.0, e.1)
 dealt_same plan f g x y (Output o) σ τ e = e
 
-took_same : (q : ℕ) (z : Slot) (i x y : ℕ) (σ τ : State) → σ.deals ≡ τ.deals → (took_in q z i x σ).deals ≡ (took_in q z i y τ).deals
+took_same : (q : ℕ) (z : Slot) (i x y : ℕ) (σ τ : State) → HasDone σ τ → HasDone (took_in q z i x σ) (took_in q z i y τ)
 took_same q (Input v) i x y σ τ e = e
 took_same q (At_gate t) i x y σ τ e = e
 took_same q (Output o) i x y σ τ e = e
 
-after_same : (plan : Plan) (p s : ℕ) (f g : ℕ → ℕ) (x y : ℕ) (got had : ℕ → ℕ) (e : Instruction) (σ τ : State) → σ.deals ≡ τ.deals → (after plan p s f x got e σ).deals ≡ (after plan p s g y had e τ).deals
+after_same : (plan : Plan) (p s : ℕ) (f g : ℕ → ℕ) (x y : ℕ) (got had : ℕ → ℕ) (e : Instruction) (σ τ : State) → HasDone σ τ → HasDone (after plan p s f x got e σ) (after plan p s g y had e τ)
 after_same plan p s f g x y got had (Deal k d) σ τ h = dealt_same plan f g x y (slot plan s k) σ τ h
 after_same plan p s f g x y got had (Post n i) σ τ h = h
 after_same plan p s f g x y got had (Take n i) σ τ h = took_same (2 ^ plan.bits) (slot_of plan s n) i (got n) (had n) σ τ h
@@ -52,9 +51,9 @@ after_same plan p s f g x y got had End σ τ h = h
 abbrev given : Plan → ℕ → ℕ → List ℕ → List ℕ → (ℕ → ℕ) → Given
 given plan p s inputs tape got = record { plan = plan; party = p; session = s; inputs = inputs; tape = tape; got = got }
 
-deals_same : (plan : Plan) (p s : ℕ) (xs ys ts us : List ℕ) (got had : ℕ → ℕ) (q : ℕ) → (state (given plan p s xs ts got) q).deals ≡ (state (given plan p s ys us had) q).deals
-deals_same plan p s xs ys ts us got had zero = refl
-deals_same plan p s xs ys ts us got had (suc q) = after_same plan p s _ _ _ _ got had (at (program plan p s) q) _ _ (deals_same plan p s xs ys ts us got had q)
+done_same : (plan : Plan) (p s : ℕ) (xs ys ts us : List ℕ) (got had : ℕ → ℕ) (q : ℕ) → HasDone (state (given plan p s xs ts got) q) (state (given plan p s ys us had) q)
+done_same plan p s xs ys ts us got had zero = (refl, refl)
+done_same plan p s xs ys ts us got had (suc q) = after_same plan p s _ _ _ _ got had (at (program plan p s) q) _ _ (done_same plan p s xs ys ts us got had q)
 
 -- ---- a world of this plan, without inputs and tapes
 
@@ -96,16 +95,19 @@ module _ (plan : Plan) (h : IsSound plan) (s p : ℕ) (ls : s < length plan.sess
       at_most false = omega arith
 
   module _ (inputs tape : List ℕ) (got : ℕ → ℕ) (many : length inputs ≡ input_count plan p s) (long : length tape ≡ words plan p s) where
-    has_input : (k : ℕ) → k < slots plan s → deals_in plan s p (slot plan s k) ≡ true → HasInput (given plan p s inputs tape got) (slot plan s k) (deals_before plan p s k)
-    has_input = slot_cases (session plan s) (λ k z. deals_in plan s p z ≡ true → HasInput (given plan p s inputs tape got) z (deals_before plan p s k))
-        (λ v lv yes'.
+    -- the input that is dealt is there
+    has_input : (k : ℕ) → k < slots plan s → deals_in plan s p (slot plan s k) ≡ true → (done : ℕ) → IsNextInput plan s p (slot plan s k) done → HasInput (given plan p s inputs tape got) (slot plan s k) done
+    has_input = slot_cases (session plan s) (λ k z. deals_in plan s p z ≡ true → (done : ℕ) → IsNextInput plan s p z done → HasInput (given plan p s inputs tape got) z done)
+        (λ v lv yes' done next'.
         let c : ℕ → ℕ = λ v. if gives plan s p v then 1 else 0 in
-        let before : deals_before plan p s v ≡ total v c = total_eq v _ _ (λ u lu. ap (λ z. if deals_in plan s p z then 1 else 0) (slot_input (session plan s) u (omega (arith, lu, lv)))) in
         let one : c v ≡ 1 = cond-true (gives plan s p v) 1 0 yes' in
         let within : total v c + c v ≤ total (length (owners (session plan s))) c = total_within (length (owners (session plan s))) v c lv in
-        omega arith)
-        (λ t lt yes'. tt)
-        (λ o lo yes'. absurd (no_deal yes'))
+        let few : total v c ≤ v = count_below v (gives plan s p) in
+        let wired = (h.sessions s ls).wired in
+        let most = wired.wires in
+        let inputs = wired.input_wires in (omega arith, omega arith))
+        (λ t lt yes' done next'. tt)
+        (λ o lo yes' done next'. absurd (no_deal yes'))
       where
         no_deal : false ≡ true → ⊥
         no_deal e = cc
@@ -115,28 +117,17 @@ module _ (plan : Plan) (h : IsSound plan) (s p : ℕ) (ls : s < length plan.sess
     deal_at q k d e =
         let g = subst (λ z. Goes bare none s p z (state (local_given bare none s p) q)) e (goes q (inside q (Deal k d) e (λ f. cc))) in
         let m : ℕ = length plan.groups in
-        let done : ℕ = (state (given plan p s inputs tape got) q).deals in
-        let here : done ≡ deals_before plan p s k = deals_same plan p s inputs (local_given bare none s p).inputs tape (local_given bare none s p).tape got (local_given bare none s p).got q ∙ g.1.0 in
+        let σ : State = state (given plan p s inputs tape got) q in
+        let done : HasDone σ (state (local_given bare none s p) q) = done_same plan p s inputs (local_given bare none s p).inputs tape (local_given bare none s p).tape got (local_given bare none s p).got q in
+        let here : σ.drawn ≡ words_before plan p s k = done.0 ∙ g.1.0 in
         let lk : k < slots plan s = g.1.1 in
-        let c : ℕ → ℕ = λ k. if deals_in plan s p (slot plan s k) then 1 else 0 in
-        let one : c k ≡ 1 = cond-true (deals_in plan s p (slot plan s k)) 1 0 g.1.2 in
+        let c : ℕ → ℕ = λ k. words_in plan s p (slot plan s k) in
+        let some : c k ≡ m - 1 = cond-true (deals_in plan s p (slot plan s k)) (m - 1) 0 g.1.2 in
         let within : total k c + c k ≤ total (slots plan s) c = total_within (slots plan s) k c lk in
-        let at0 : place plan p s 0 ≡ (m - 1) * (total s (deals plan p) + 0) = places_by_deals plan p s 0 in
-        let all : place plan p s (slots plan s) ≡ (m - 1) * (total s (deals plan p) + deals plan p s) = places_by_deals plan p s (slots plan s) in
-        let piece : place plan p s (slots plan s) ≡ place plan p s 0 + words plan p s = omega arith in
-        let more : (m - 1) * (deals_before plan p s k + 1) ≤ (m - 1) * deals plan p s = mul-le-mul_left (m - 1) (omega arith) in
-        let few : deals_before plan p s k ≤ k = count_below k (λ k. deals_in plan s p (slot plan s k)) in
-        let sound = h.sessions s ls in
         record {
-          words = enough _ _ _ here long more piece at0 all;
-          count = (let a = sound.wired.wires in let b = sound.wired.gates in let c = sound.wired.input_wires in let d = sound.wired.output_wires in omega arith);
-          input = subst (HasInput (given plan p s inputs tape got) (slot plan s k)) (sym here) (has_input k lk g.1.2);
+          words = omega arith;
+          input = has_input k lk g.1.2 σ.given (subst (IsNextInput plan s p (slot plan s k)) (sym done.1) g.1.3);
         }
-      where
-        enough : (a b t : ℕ) → a ≡ b → t ≡ words plan p s → (length plan.groups - 1) * (b + 1) ≤ (length plan.groups - 1) * deals plan p s → place plan p s (slots plan s) ≡ place plan p s 0 + words plan p s
-            → place plan p s 0 ≡ (length plan.groups - 1) * (total s (deals plan p) + 0) → place plan p s (slots plan s) ≡ (length plan.groups - 1) * (total s (deals plan p) + deals plan p s)
-            → a * (length plan.groups - 1) + (length plan.groups - 1) ≤ t
-        enough a b t e f g h i j = let x : a * (length plan.groups - 1) ≡ b * (length plan.groups - 1) = ap (λ z. z * (length plan.groups - 1)) e in omega arith
 
 -- ---- the same of what suits the plan
 

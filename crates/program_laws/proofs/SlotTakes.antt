@@ -19,7 +19,7 @@ IsOther (At_gate t) = Unit {0}
 IsOther (Output o) = Unit {0}
 
 abbrev pub with_sums : State → (ℕ → ℕ) → State
-with_sums σ f = record { rows = σ.rows; own = σ.own; sums = f; deals = σ.deals; outputs = σ.outputs }
+with_sums σ f = record σ { sums = f }
 
 took_other : (q : ℕ) (z : Slot) (i w : ℕ) (σ : State) → IsOther z → took_in q z i w σ ≡ with_sums σ (set_at σ.sums i ((σ.sums i + w) % q))
 took_other q (Input v) i w σ h = absurd h
@@ -34,13 +34,14 @@ tally l i (n ∷ ns) = (if nat_eq i (message l.plan n).share then l.got n else 0
 -- a state that differs in its sums alone, which are these
 pub record SumsOf (m q : ℕ) (σ τ : State) (x : ℕ → ℕ) : Type 0 where
   pub rows : τ.rows ≡ σ.rows
-  pub deals : τ.deals ≡ σ.deals
+  pub drawn : τ.drawn ≡ σ.drawn
+  pub given : τ.given ≡ σ.given
   pub outputs : τ.outputs ≡ σ.outputs
   pub sums : (i : ℕ) → i < m → τ.sums i ≡ x i % q
 
 pub takes_sums : (l : Given) (m : ℕ) (z : Slot) (ns : List ℕ) (σ : State) (x : ℕ → ℕ) → IsOther z → AllByRecursion (λ n. slot_of l.plan l.session n ≡ z) ns → ((i : ℕ) → i < m → σ.sums i ≡ x i % 2 ^ l.plan.bits)
     → SumsOf m (2 ^ l.plan.bits) σ (after_all l (map (take_of l.plan) ns) σ) (λ i. x i + tally l i ns)
-takes_sums l m z [] σ x o all h = record { rows = refl; deals = refl; outputs = refl; sums = λ i li. h i li ∙ (let same : x i ≡ x i + 0 = omega arith in ap (λ y. y % 2 ^ l.plan.bits) same) }
+takes_sums l m z [] σ x o all h = record { rows = refl; drawn = refl; given = refl; outputs = refl; sums = λ i li. h i li ∙ (let same : x i ≡ x i + 0 = omega arith in ap (λ y. y % 2 ^ l.plan.bits) same) }
 takes_sums l m z (n ∷ ns) σ x o all h =
     let q : ℕ = 2 ^ l.plan.bits in
     let j : ℕ = (message l.plan n).share in
@@ -57,7 +58,8 @@ takes_sums l m z (n ∷ ns) σ x o all h =
     subst (λ a. SumsOf m q σ (after_all l (map (take_of l.plan) ns) a) (λ i. x i + tally l i (n ∷ ns))) (sym is)
     (record {
       rows = rest.rows;
-      deals = rest.deals;
+      drawn = rest.drawn;
+      given = rest.given;
       outputs = rest.outputs;
       sums = λ i li. rest.sums i li ∙ (let same : y i + tally l i ns ≡ x i + tally l i (n ∷ ns) = omega arith in ap (λ a. a % q) same);
     })
@@ -74,12 +76,13 @@ pub record RowOf (l : Given) (v : ℕ) (ns : List ℕ) (g : ℕ → ℕ) (σ τ 
   pub kept : (i : ℕ) → σ.rows v i ≡ g i → τ.rows v i ≡ g i
   pub has : (i : ℕ) → Has l.plan i ns → τ.rows v i ≡ g i
   pub sums : τ.sums ≡ σ.sums
-  pub deals : τ.deals ≡ σ.deals
+  pub drawn : τ.drawn ≡ σ.drawn
+  pub given : τ.given ≡ σ.given
   pub outputs : τ.outputs ≡ σ.outputs
 
 pub takes_row : (l : Given) (v : ℕ) (ns : List ℕ) (g : ℕ → ℕ) (σ : State) → AllByRecursion (λ n. (slot_of l.plan l.session n ≡ Input v) × (l.got n ≡ g (message l.plan n).share)) ns
     → RowOf l v ns g σ (after_all l (map (take_of l.plan) ns) σ)
-takes_row l v [] g σ all = record { others = λ u i ne. refl; kept = λ i h. h; has = λ i h. absurd h; sums = refl; deals = refl; outputs = refl }
+takes_row l v [] g σ all = record { others = λ u i ne. refl; kept = λ i h. h; has = λ i h. absurd h; sums = refl; drawn = refl; given = refl; outputs = refl }
 takes_row l v (n ∷ ns) g σ all =
     let j : ℕ = (message l.plan n).share in
     let w : ℕ = l.got n in
@@ -97,6 +100,7 @@ takes_row l v (n ∷ ns) g σ all =
       ]);
       has = λ i h. elim h [ inl e ↦ rest.kept i (put i e) | inr more ↦ rest.has i more ];
       sums = rest.sums;
-      deals = rest.deals;
+      drawn = rest.drawn;
+      given = rest.given;
       outputs = rest.outputs;
     })

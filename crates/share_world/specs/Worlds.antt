@@ -1,10 +1,9 @@
 -- A world: a plan, the inputs of all parties, and their tapes. Its words, and what a group sees.
 use Rattle.std.specs.Prelude.{ℕ, ◌+◌, ◌^◌, Bool, ◌||◌, nat_lt, if◌then◌else◌, List, [], map, length, slice_index, slice_index_or, filter}
-use Rattle.list_laws.specs.Lists.{total}
 use Rattle.circuit_model.specs.Circuits.{values}
 use Rattle.secret_sharing.specs.Schemes.{Run, dealt, product_summand, own_value, summands}
 use Rattle.job_session.specs.Sessions.{owners, output_wire, Slot, gate}
-use Rattle.job_plan.specs.Plans.{Plan, scheme, session, slot, slot_number, place, giver, gives}
+use Rattle.job_plan.specs.Plans.{Plan, scheme, session, slot, slot_number, place, giver, given_before}
 use Rattle.job_plan.specs.declared.key.Key.{Key}
 use Rattle.job_plan.specs.Messages.{messages}
 use Rattle.party_set.specs.Parties.{has_party}
@@ -20,8 +19,7 @@ pub record World : Type 0 where
 abbrev pub input_of : World → ℕ → ℕ → ℕ
 input_of w s v =
     let p = giver w.plan s v in
-    slice_index (slice_index_or (slice_index_or w.inputs p []) s [])
-    (total v (λ u. if gives w.plan s p u then 1 else 0))
+    slice_index (slice_index_or (slice_index_or w.inputs p []) s []) (given_before w.plan p s v)
 
 -- word i of those that party p draws in a slot of session s
 abbrev pub tape_word : World → ℕ → Slot → ℕ → ℕ → ℕ

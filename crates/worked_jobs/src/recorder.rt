@@ -1,11 +1,10 @@
 //! A desk over cells of another kind: a recorder, which has the words of all messages beforehand and keeps each call.
 ghost use Rattle.std.specs.Prelude.{◌≡◌, ℕ, ◌<◌, ◌^◌, [], ◌∷◌, All, Some, IfOk, length, slice_get};
 ghost use Rattle.job_plan.specs.Multiply as multiply;
-ghost use Rattle.job_plan.specs.Plans.{words};
+ghost use Rattle.job_plan.specs.Plans.{words, input_count};
 ghost use Rattle.share_world.specs.Worlds.{World};
 ghost use Rattle.share_world.specs.Multiply.{multiply_world};
 ghost use Rattle.program_laws.specs.Lawful.{given_in};
-ghost use Rattle.party_program.specs.GivenData.{input_count};
 ghost use Rattle.party_desk.specs.Desks.{IsDesk, IsNew};
 ghost use Rattle.desk_laws.specs.InWorld.{IsDeskDone};
 ghost use Rattle.worked_jobs.specs.RecordedWords.{HasWords};
