@@ -28,7 +28,7 @@ deals_in_pattern plan p (Dealt q) = nat_eq q p
 deals_in_pattern plan p Multiplied = has_pair (scheme plan) p
 deals_in_pattern plan p (Opened readers) = false
 
--- the post of a line with its place in the pattern, and the take
+-- the post of a line with its place in the pattern
 abbrev pub post_step : ℕ × Line → Step
 post_step entry = Post entry.1.share entry.0
 
@@ -36,19 +36,19 @@ post_step entry = Post entry.1.share entry.0
 abbrev pub take_step : ℕ × Line → Step
 take_step entry = Take entry.1.share entry.0
 
--- whether p is the sender of the line, or its receiver
+-- whether p is the sender of the line
 abbrev pub is_from : ℕ → ℕ × Line → Bool
 is_from p entry = nat_eq entry.1.sender p
 
--- p is its receiver
+-- whether p is its receiver
 abbrev pub is_to : ℕ → ℕ × Line → Bool
 is_to p entry = nat_eq entry.1.receiver p
 
--- the posts of p, and its takes
+-- the posts of p in a slot of this pattern
 abbrev pub post_steps : Plan → ℕ → Pattern → List Step
 post_steps plan p pattern = map post_step (filter (is_from p) (enumerate_from 0 (lines plan pattern)))
 
--- the takes of p
+-- its takes there
 abbrev pub take_steps : Plan → ℕ → Pattern → List Step
 take_steps plan p pattern = map take_step (filter (is_to p) (enumerate_from 0 (lines plan pattern)))
 

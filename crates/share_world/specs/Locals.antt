@@ -26,7 +26,8 @@ local_run w got p s = record {
       else got (key_at w.plan s (Input v) i (giver w.plan s v) p))
       else 0;
   product = λ t. product_summand (scheme w.plan) (λ q v i.
-      if nat_eq q p then dealt (scheme w.plan) v (tape_word w s (At_gate t) p) i else got (key_at w.plan s (At_gate t) i q p));
+      if nat_eq q p then dealt (scheme w.plan) v (tape_word w s (At_gate t) p) i
+      else got (key_at w.plan s (At_gate t) i q p));
 }
 
 -- what p deals in a slot: its input, or its own product
