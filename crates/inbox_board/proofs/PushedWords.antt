@@ -1,10 +1,10 @@
 -- Words that are pushed one after another, and what the fold with a reader tells of them.
-use Rattle.std.proofs.Common.{◌≡◌, ℕ, zero, suc, ◌+◌, ◌<◌, List, [], ◌∷◌, ◌++◌, length, refl, sym, ◌∙◌, subst, arith, inl, inr}
+use Rattle.std.proofs.Common.{◌≡◌, ℕ, zero, suc, ◌+◌, ◌<◌, List, [], ◌∷◌, ◌++◌, length, Option, Some, None, refl, sym, ◌∙◌, subst, arith, inl, inr}
 use Rattle.std.specs.Prelude.{slice_index}
 use Rattle.message_board.specs.Pairs.{Knows}
 use Rattle.message_board.proofs.Pairs.{knows_left, knows_right}
 use Rattle.inbox_board.specs.declared.steps.View.{View}
-use Rattle.inbox_board.specs.Rule.{newcomer, pushes, later}
+use Rattle.inbox_board.specs.Rule.{newcomer, pushes, later, later_total}
 use Rattle.inbox_board.specs.Folds.{pushed, FoldTells}
 
 pub pushed_pens : (v : View) (words : List ℕ) → (pushed v words).pens ≡ v.pens
@@ -27,6 +27,10 @@ pushed_noted : (v : View) (words : List ℕ) → (pushed v words).noted ≡ v.no
 pushed_noted v [] = refl
 pushed_noted v (word ∷ words) = pushed_noted (pushes v word) words
 
+pushed_total : (v : View) (words : List ℕ) → (pushed v words).total ≡ v.total
+pushed_total v [] = refl
+pushed_total v (word ∷ words) = pushed_total (pushes v word) words
+
 -- a word that is known stays known
 still_known : (v : View) (words : List ℕ) (p w : ℕ) → Knows v.seen p w → Knows (pushed v words).seen p w
 still_known v [] p w h = h
@@ -40,6 +44,10 @@ pushed_known v (word ∷ words) (suc p) l = subst (λ z. Knows (pushed (pushes v
 later_none : (a n : ℕ) → a ≡ 0 → later a n ≡ n
 later_none a zero e = e
 later_none a (suc n) e = refl
+
+later_total_none : (a b : Option ℕ) → a ≡ None → later_total a b ≡ b
+later_total_none a None e = e
+later_total_none a (Some n) e = refl
 
 pub fold_tells : FoldTells
 fold_tells words given reader none unended h =
@@ -58,4 +66,7 @@ fold_tells words given reader none unended h =
           let same : later v.noted reader.noted ≡ reader.noted = later_none v.noted reader.noted noted in
           let e : later v.noted reader.noted ≡ given + reader.ended = h.mark (omega arith) (λ z. ne (sym same ∙ z)) in
           sym same ∙ e ∙ (let o = unended in omega arith);
+      total = λ n e.
+          let all : n ≡ v.length + reader.length = h.total (omega arith) n (later_total_none v.total reader.total (pushed_total (newcomer 1) words) ∙ e) in
+          omega arith;
     }

@@ -1,5 +1,5 @@
 -- Each step of an inbox keeps its rule.
-use Rattle.std.proofs.Common.{◌≡◌, ◌≢◌, ℕ, zero, suc, ◌+◌, ◌<◌, ◌≤◌, List, [], ◌∷◌, ◌++◌, length, get_or, set, Some, None, sym, refl, ap, ◌∙◌, subst, ⊎_elim, arith, get_or-set_same}
+use Rattle.std.proofs.Common.{◌≡◌, ◌≢◌, ℕ, zero, suc, ◌+◌, ◌<◌, ◌≤◌, List, [], ◌∷◌, ◌++◌, length, get_or, set, Option, Some, None, sym, refl, ap, ◌∙◌, subst, inl, inr, ⊎_elim, ◌⊎◌, arith, get_or-set_same}
 use Rattle.std.proofs.lemmas.List.{get_or-set_other, set-get_or}
 use Rattle.std.proofs.lemmas.Bool.{cases_eq}
 use mathlib.Core.Option.{none, some}
@@ -8,7 +8,7 @@ use Rattle.atomic_table.specs.Table.{State, Me, step, keeps, Allows, Splits, Joi
 use Rattle.atomic_table.proofs.Lists.{at_set, at_snoc, set_again}
 use Rattle.message_board.proofs.Pairs.{knows_split, total_set, total_snoc, total_two, length_set}
 use Rattle.inbox_board.specs.declared.steps.View.{View}
-use Rattle.inbox_board.specs.Rule.{IsInbox, IsWriter, IsTold, count_in, mark_in, value_in, newcomer, stores, counts_it, finds, gets, ends, notes, later, folds, stored_step, counted_step, found_step, got_step, ended_step, noted_step, compared_step}
+use Rattle.inbox_board.specs.Rule.{IsInbox, IsWriter, IsTold, count_in, mark_in, value_in, newcomer, stores, counts_it, finds, gets, ends, notes, total_after, later, later_total, folds, stored_step, counted_step, found_step, got_step, ended_step, noted_step, compared_step}
 
 abbrev St : Type 0
 St = State (Unit {0}) View
@@ -19,21 +19,35 @@ M = Me (Unit {0}) View
 abbrev pens_of : View → ℕ
 pens_of v = v.pens
 
--- what a view knows stays true where the count falls by nothing, the mark stays or was 0, and no value below the count changes
-reads_on : (vs ws : List ℕ) → count_in vs ≤ count_in ws → ((m : ℕ) → m ≢ 0 → m ≡ mark_in vs → m ≡ mark_in ws) → ((p : ℕ) → p < count_in vs → value_in ws p ≡ value_in vs p) → (u : View) → IsTold vs u → IsTold ws u
+-- what a view knows stays true where the count falls by nothing, the mark stays or was 0, where there is a mark the count stays, and no value below the count changes
+reads_on : (vs ws : List ℕ) → count_in vs ≤ count_in ws → ((m : ℕ) → m ≢ 0 → m ≡ mark_in vs → (m ≡ mark_in ws) × (count_in ws ≡ count_in vs)) → ((p : ℕ) → p < count_in vs → value_in ws p ≡ value_in vs p) → (u : View) → IsTold vs u → IsTold ws u
 reads_on vs ws more mark values u h =
     record {
       seen = λ p w known. let r = h.seen p w known in let l = r.0 in (omega arith, values p r.0 ∙ r.1);
       upto = (let a = h.upto in omega arith);
-      noted = λ ne. mark u.noted ne (h.noted ne);
+      noted = λ ne. (mark u.noted ne (h.noted ne)).0;
+      total = λ n e. let t = h.total n e in (t.0, t.1 ∙ sym (mark u.noted t.0 (h.noted t.0)).1);
     }
+
+-- a total that is known is the count just found, after a mark, or was known
+total_found : (noted n : ℕ) (known : Option ℕ) (x : ℕ) → total_after noted n known ≡ Some x → ((noted ≢ 0) × (x ≡ n)) ⊎ (known ≡ Some x)
+total_found zero n known x e = inr e
+total_found (suc noted) n known x e = inl ((λ z. absurd (omega arith)), (let f : Some n ≡ Some x = e in cc))
+
+later_total_is : (a b : Option ℕ) (n : ℕ) → later_total a b ≡ Some n → (a ≡ Some n) ⊎ (b ≡ Some n)
+later_total_is a None n e = inl e
+later_total_is a (Some b) n e = inr e
+
+later_some : (a b : ℕ) → (a ≢ 0) ⊎ (b ≢ 0) → later a b ≢ 0
+later_some a zero h = ⊎_elim (λ l. l) (λ r. absurd (r refl)) h
+later_some a (suc b) h = λ z. absurd (omega arith)
 
 later_is : (a b m : ℕ) → (a ≢ 0 → a ≡ m) → (b ≢ 0 → b ≡ m) → later a b ≢ 0 → later a b ≡ m
 later_is a zero m f g ne = f ne
 later_is a (suc b) m f g ne = g ne
 
 nothing_read : (ws : List ℕ) → IsTold ws (newcomer 0)
-nothing_read ws = record { seen = λ p w known. absurd known; upto = omega arith; noted = λ ne. absurd (ne refl) }
+nothing_read ws = record { seen = λ p w known. absurd known; upto = omega arith; noted = λ ne. absurd (ne refl); total = λ n e. absurd (let f : None ≡ Some n = e in cc) }
 
 module _ (places : ℕ) where
   abbrev R : St → Type 0
@@ -72,13 +86,13 @@ module _ (places : ℕ) where
         let else : (k : ℕ) → k ≢ i → get_or ws k 0 ≡ get_or s.words k 0 = λ k ne. get_or-set_other s.words i k w 0 ne in
         let count : count_in ws ≡ count_in s.words = else 1 (λ e. omega arith) in
         let mark : mark_in ws ≡ mark_in s.words = else 2 (λ e. omega arith) in
-        let on : (u : View) → IsTold s.words u → IsTold ws u = reads_on s.words ws (omega arith) (λ m ne e. e ∙ sym mark) (λ p less. else (p + 3) (λ e. let l = writes.length in omega arith)) in (
+        let on : (u : View) → IsTold s.words u → IsTold ws u = reads_on s.words ws (omega arith) (λ m ne e. (e ∙ sym mark, count)) (λ p less. else (p + 3) (λ e. let l = writes.length in omega arith)) in (
           stores me.0 w,
           keeps,
           tt,
           changed s h id me.0 (stores me.0 w) at refl ws (length_set s.words i w)
               (λ _. record { length = writes.length ∙ sym count; ended = writes.ended ∙ sym mark; stored = λ x e. here ∙ some_same w x e })
-              (let r = on me.0 (h.told id me.0 at) in record { seen = r.seen; upto = r.upto; noted = r.noted })
+              (let r = on me.0 (h.told id me.0 at) in record { seen = r.seen; upto = r.upto; noted = r.noted; total = r.total })
               (λ j u ne there more. absurd (lone s h id me.0 at pen j u ne there more))
               on,
           (refl, refl),
@@ -87,8 +101,8 @@ module _ (places : ℕ) where
         some_same : (a b : ℕ) → Some a ≡ Some b → a ≡ b
         some_same a b e = cc
 
-    pub counts_keep : (w n : ℕ) → 0 < me.0.pens → me.0.stored ≡ Some w → n ≡ me.0.length + 1 → Allows R slots id me 1 (λ _. n) (λ _. counted_step (step slots 1 n 0 none) me n)
-    counts_keep w n pen held next s h _ at _ =
+    pub counts_keep : (w n : ℕ) → 0 < me.0.pens → me.0.ended ≡ 0 → me.0.stored ≡ Some w → n ≡ me.0.length + 1 → Allows R slots id me 1 (λ _. n) (λ _. counted_step (step slots 1 n 0 none) me n)
+    counts_keep w n pen open_ held next s h _ at _ =
         let writes = h.writer id me.0 at pen in
         let reads = h.told id me.0 at in
         let v' = counts_it me.0 w in
@@ -96,7 +110,7 @@ module _ (places : ℕ) where
         let count : count_in ws ≡ n = get_or-set_same s.words 1 n 0 (let z = h.size in omega arith) in
         let mark : mark_in ws ≡ mark_in s.words = get_or-set_other s.words 1 2 n 0 (λ e. omega arith) in
         let value : (p : ℕ) → value_in ws p ≡ value_in s.words p = λ p. get_or-set_other s.words 1 (p + 3) n 0 (λ e. omega arith) in
-        let on : (u : View) → IsTold s.words u → IsTold ws u = reads_on s.words ws (let l = writes.length in omega arith) (λ m ne e. e ∙ sym mark) (λ p less. value p) in
+        let on : (u : View) → IsTold s.words u → IsTold ws u = reads_on s.words ws (let l = writes.length in omega arith) (λ m ne e. absurd (ne (e ∙ sym writes.ended ∙ open_))) (λ p less. value p) in
         let r = on me.0 reads in (
           v',
           keeps,
@@ -107,6 +121,7 @@ module _ (places : ℕ) where
                 seen = λ p x known. ⊎_elim (λ (q : (me.0.length ≡ p) × (w ≡ x)). ((let a = q.0 in omega arith), ap (value_in ws) (sym q.0) ∙ value me.0.length ∙ writes.stored w held ∙ q.1)) (λ old. r.seen p x old) known;
                 upto = r.upto;
                 noted = r.noted;
+                total = r.total;
               }
               (λ j u ne there more. absurd (lone s h id me.0 at pen j u ne there more))
               on,
@@ -128,7 +143,7 @@ module _ (places : ℕ) where
           tt,
           quiet s h id 1 me.0 (finds me.0 n) at refl
               (λ pen. let w = h.writer id me.0 at pen in record { length = w.length; ended = w.ended; stored = w.stored })
-              record { seen = reads.seen; upto = omega arith; noted = reads.noted },
+              record { seen = reads.seen; upto = omega arith; noted = reads.noted; total = λ x e. ⊎_elim (λ now. now) (λ old. reads.total x old) (total_found me.0.noted n me.0.total x e) },
           (refl, refl, λ p w known. (reads.seen p w known).0),
         )
 
@@ -147,6 +162,7 @@ module _ (places : ℕ) where
                 seen = λ q x known. ⊎_elim (λ (t : (p ≡ q) × (n ≡ x)). ((let a = t.0 in omega arith), ap (value_in s.words) (sym t.0) ∙ is ∙ t.1)) (λ old. reads.seen q x old) known;
                 upto = reads.upto;
                 noted = reads.noted;
+                total = reads.total;
               },
           λ q e. let same : p ≡ q = omega arith in (refl, ap (λ k. gets me.0 k n) same, λ w known. sym (reads.seen q w known).1 ∙ ap (value_in s.words) (sym same) ∙ is),
         )
@@ -165,7 +181,7 @@ module _ (places : ℕ) where
           tt,
           changed s h id me.0 (ends me.0 m) at refl ws (length_set s.words 2 m)
               (λ _. record { length = writes.length ∙ sym count; ended = sym mark; stored = λ x e. value me.0.length ∙ writes.stored x e })
-              record { seen = r.seen; upto = r.upto; noted = r.noted }
+              record { seen = r.seen; upto = r.upto; noted = r.noted; total = r.total }
               (λ j u ne there more. absurd (lone s h id me.0 at pen j u ne there more))
               on,
           (refl, refl),
@@ -180,7 +196,7 @@ module _ (places : ℕ) where
           tt,
           quiet s h id 2 me.0 (notes me.0 n) at refl
               (λ pen. let w = h.writer id me.0 at pen in record { length = w.length; ended = w.ended; stored = w.stored })
-              record { seen = reads.seen; upto = reads.upto; noted = λ ne. refl },
+              record { seen = reads.seen; upto = reads.upto; noted = λ ne. refl; total = λ x e. let t = reads.total x e in (λ z. t.0 (reads.noted t.0 ∙ z), t.1) },
           (refl, refl, λ ne. sym (reads.noted ne)),
         )
 
@@ -198,6 +214,7 @@ module _ (places : ℕ) where
               words = λ p w x a b. sym (reads.seen p w a).1 ∙ (reads.seen p x b).1;
               places = λ pen p w known. let l = (h.writer id me.0 at pen).length in let r = (reads.seen p w known).0 in omega arith;
               mark = λ pen ne. reads.noted ne ∙ sym (h.writer id me.0 at pen).ended;
+              total = λ pen n e. (reads.total n e).1 ∙ sym (h.writer id me.0 at pen).length;
             },
           ),
         )
@@ -228,7 +245,7 @@ module _ (places : ℕ) where
       (cases_eq v.pens 0) in
       let a = h.told id v at in
       let b = h.told other u theirs in
-      let reads : IsTold s.words both = record { seen = λ p x known. ⊎_elim (λ l. a.seen p x l) (λ r. b.seen p x r) (knows_split v.seen u.seen p x known); upto = a.upto; noted = later_is v.noted u.noted (mark_in s.words) a.noted b.noted } in
+      let reads : IsTold s.words both = record { seen = λ p x known. ⊎_elim (λ l. a.seen p x l) (λ r. b.seen p x r) (knows_split v.seen u.seen p x known); upto = a.upto; noted = later_is v.noted u.noted (mark_in s.words) a.noted b.noted; total = λ n e. ⊎_elim (λ l. let t = a.total n l in (later_some v.noted u.noted (inl t.0), t.1)) (λ r. let t = b.total n r in (later_some v.noted u.noted (inr t.0), t.1)) (later_total_is v.total u.total n e) } in
       record {
         size = h.size;
         pen = (let c = total_set pens_of s.views id v both at in let d = total_set pens_of views other u (newcomer 0) there in omega arith);

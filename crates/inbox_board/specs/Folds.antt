@@ -1,5 +1,5 @@
 -- What the fold of a writer's seat and a reader's tells.
-use Rattle.std.specs.Prelude.{◌≡◌, ◌≢◌, ℕ, ◌<◌, List, [], ◌∷◌, length, slice_index}
+use Rattle.std.specs.Prelude.{◌≡◌, ◌≢◌, ℕ, ◌<◌, List, [], ◌∷◌, length, slice_index, Some}
 use Rattle.message_board.specs.Pairs.{Knows}
 use Rattle.inbox_board.specs.declared.steps.View.{View}
 use Rattle.inbox_board.specs.Rule.{newcomer, pushes, ends, folds, Agrees}
@@ -9,10 +9,12 @@ abbrev pub pushed : View → List ℕ → View
 pushed v [] = v
 pushed v (word ∷ words) = pushed (pushes v word) words
 
--- each word that a reader got is the one pushed at its place, and a mark that it found is the one given
+-- each word that a reader got is the one pushed at its place, a mark that it found is the one given, and a count that it
+-- found after a mark is that of all words pushed
 pub record GotWhatWasPushed (words : List ℕ) (given : ℕ) (reader : View) : Type 0 where
   pub known : (place w : ℕ) → Knows reader.seen place w → (place < length words) × (slice_index words place ≡ w)
   pub mark : reader.noted ≢ 0 → reader.noted ≡ given
+  pub total : (n : ℕ) → reader.total ≡ Some n → n ≡ length words
 
 -- so it is where the fold of a writer that pushed these words and gave this mark with a reader fits together
 abbrev pub FoldTells : Type 0

@@ -1,7 +1,7 @@
 -- The rule of an inbox's table, and what its steps tell. Word 0 is the seats' word, word 1 the count, word 2 the mark,
 -- and then comes the value of each place. The mark is 0 while the writer goes on, then 1 for a whole inbox,
 -- 2 for a fault.
-use Rattle.std.specs.Prelude.{◌≡◌, ◌≢◌, ℕ, zero, suc, ◌+◌, ◌<◌, ◌≤◌, List, [], ◌∷◌, ◌++◌, length, slice_index, Some, None}
+use Rattle.std.specs.Prelude.{◌≡◌, ◌≢◌, ℕ, zero, suc, ◌+◌, ◌<◌, ◌≤◌, List, [], ◌∷◌, ◌++◌, length, slice_index, Option, Some, None}
 use mathlib.Core.Option.{some}
 use lib.ListN.{get_elem?}
 use Rattle.atomic_table.specs.Table.{State, Me, Step}
@@ -29,6 +29,7 @@ newcomer pens =
       seen = [];
       upto = 0;
       noted = 0;
+      total = None;
       counts = [];
       marks = [];
     }
@@ -45,9 +46,14 @@ counts_it v w = record v { length = v.length + 1; stored = None; seen = (v.lengt
 abbrev pub pushes : View → ℕ → View
 pushes v w = counts_it (stores v w) w
 
+-- the total that is known once a count was found: that count, where this mark had been found, or else what was known
+abbrev pub total_after : ℕ → ℕ → Option ℕ → Option ℕ
+total_after zero n known = known
+total_after (suc noted) n known = Some n
+
 -- after this count was found
 abbrev pub finds : View → ℕ → View
-finds v n = record v { upto = n; counts = n ∷ v.counts }
+finds v n = record v { upto = n; total = total_after v.noted n v.total; counts = n ∷ v.counts }
 
 -- after the value at a place was read
 abbrev pub gets : View → ℕ → ℕ → View
@@ -61,10 +67,14 @@ ends v mark = record v { ended = mark }
 abbrev pub notes : View → ℕ → View
 notes v mark = record v { noted = mark; marks = mark ∷ v.marks }
 
--- the second of two marks, where it was found
+-- the second of two marks, where it was found, and of two totals
 abbrev pub later : ℕ → ℕ → ℕ
 later first zero = first
 later first (suc second) = suc second
+
+abbrev pub later_total : Option ℕ → Option ℕ → Option ℕ
+later_total first None = first
+later_total first (Some second) = Some second
 
 -- after the fold of another seat. At most one has the pen, and the other has filled no place and given no mark
 abbrev pub folds : View → View → View
@@ -75,6 +85,7 @@ folds v u =
       ended = v.ended + u.ended;
       seen = v.seen ++ u.seen;
       noted = later v.noted u.noted;
+      total = later_total v.total u.total;
     }
 
 -- each pair has a place below the count, and that place's value
@@ -87,11 +98,12 @@ pub record IsWriter (words : List ℕ) (v : View) : Type 0 where
   pub ended : v.ended ≡ mark_in words
   pub stored : (w : ℕ) → v.stored ≡ Some w → value_in words v.length ≡ w
 
--- what each view knows: words that stand, a count that was reached, and the mark, if it found one
+-- what each view knows: words that stand, a count that was reached, the mark, if it found one, and the count after it
 pub record IsTold (words : List ℕ) (v : View) : Type 0 where
   pub seen : Stand words v.seen
   pub upto : v.upto ≤ count_in words
   pub noted : v.noted ≢ 0 → v.noted ≡ mark_in words
+  pub total : (n : ℕ) → v.total ≡ Some n → (v.noted ≢ 0) × (n ≡ count_in words)
 
 -- the rule, which holds between any two steps: exactly one view has the pen, and what the views know is so
 pub record IsInbox (places : ℕ) (s : State (Unit {0}) View) : Type 0 where
@@ -130,12 +142,13 @@ ended_step st me n me' = (me'.1 ≡ me.1) × (me'.0 ≡ ends me.0 n)
 abbrev pub noted_step : Step (Unit {0}) → Sat → ℕ → Sat → Type 0
 noted_step st me n me' = (me'.1 ≡ me.1) × (me'.0 ≡ notes me.0 n) × (me.0.noted ≢ 0 → n ≡ me.0.noted)
 
--- what a view knows fits together: a place has one word, and with the pen each place known was filled, and a mark found
--- is the one given
+-- what a view knows fits together: a place has one word, and with the pen each place known was filled, a mark found is
+-- the one given, and a total is the count of the places filled
 pub record Agrees (v : View) : Type 0 where
   pub words : (place w x : ℕ) → Knows v.seen place w → Knows v.seen place x → w ≡ x
   pub places : 0 < v.pens → (place w : ℕ) → Knows v.seen place w → place < v.length
   pub mark : 0 < v.pens → v.noted ≢ 0 → v.noted ≡ v.ended
+  pub total : 0 < v.pens → (n : ℕ) → v.total ≡ Some n → n ≡ v.length
 
 -- a load of the seats' word, which changes nothing and tells that
 abbrev pub compared_step : Step (Unit {0}) → Sat → ℕ → Sat → Type 0

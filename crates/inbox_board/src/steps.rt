@@ -16,6 +16,8 @@ pub struct View {
     // The count that it found last, and the mark, 0 before.
     pub upto: u64,
     pub noted: u64,
+    // The count that it found after a mark, which no push changes any more.
+    pub total: Option<u64>,
     // What it found at each look at the count, and at each look at the mark, the last one first.
     pub counts: LinkedList<u64>,
     pub marks: LinkedList<u64>,

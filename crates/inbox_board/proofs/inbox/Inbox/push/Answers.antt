@@ -25,7 +25,7 @@ store-requires-2 c =
     let from : c.from.result ≡ c.seat.inside.length = c.from.ensures in (
       c.store.ensures.0 ∙ ap (λ s. s.id) c.seat.view_is ∙ c.requires.seat ∙ sym (ap (λ p. p.id) c.self.view_is),
       (let e = c.self.invariant.0 in omega arith),
-      counts_keep _ _ _ _ c.args.word _ (omega arith) (ap (λ v. v.stored) e) (ap (λ n. n + 1) (from ∙ at ∙ sym length)),
+      counts_keep _ _ _ _ c.args.word _ (omega arith) (ap (λ v. v.ended) e ∙ ap (λ s. s.view.ended) c.seat.view_is ∙ c.requires.writes.1) (ap (λ v. v.stored) e) (ap (λ n. n + 1) (from ∙ at ∙ sym length)),
     )
 
 pub overflow_add-seat : goal.overflow_add-seat
