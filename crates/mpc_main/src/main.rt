@@ -33,7 +33,7 @@ fn main(rt: HostRuntime) -> ExitCode {
     let Ok(words) = words(&rt) else {
         return ExitCode::from(6);
     };
-    let mut files = StdFiles::new(&rt);
+    let mut files = StdFiles::new(&rt, rt.alloc());
     let mut out = StdSink::new(rt.stdout());
     let mut err = StdSink::new(rt.stderr());
     let alone = command_alone(

@@ -1,5 +1,5 @@
 -- What the forms in memory show.
-use Rattle.std.specs.Prelude.{ℕ, ◌-◌, nat_lt, Bool, not, ◌&&◌, List, Option, Some, String, Vec, vec_len, drop}
+use Rattle.std.specs.Prelude.{ℕ, ◌-◌, nat_lt, Bool, not, ◌&&◌, List, map, Option, Some, String, string_bytes, Vec, vec_len, drop}
 use Rattle.std.specs.Option.{option_map}
 use Rattle.std.specs.List.{list_all}
 use Rattle.std.specs.BTreeMap.{BTreeMap, get_by_text}
@@ -23,6 +23,10 @@ all_past listed calls = list_all (λ call. nat_lt call calls) listed
 abbrev pub contents : BTreeMap (String Global) (Vec ℕ Global) → List ℕ → Option (List ℕ)
 contents files name = option_map (λ bytes. bytes.items) (get_by_text files name)
 
+-- the names on a list
+abbrev pub names_of : Vec (String Global) Global → List (List ℕ)
+names_of list = map string_bytes list.items
+
 abbrev pub map_reading : MapFiles → FilesReading
 map_reading m =
     record {
@@ -30,6 +34,7 @@ map_reading m =
       faults = m.faults;
       taken = m.taken;
       steady = all_past m.failing.items m.calls;
+      asked = names_of m.asked;
     }
 
 -- the bytes that a sink in memory has

@@ -69,7 +69,7 @@ where
         mut out,
         mut err,
     } = node;
-    let mut files = StdFiles::new(rt);
+    let mut files = StdFiles::new(rt, alloc);
     let status = command(
         rt, alloc, &words, &mut files, &mut out, &mut err, net, spawner, &NoPace,
     );

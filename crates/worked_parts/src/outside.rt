@@ -79,7 +79,7 @@ fn expect_short(rt: &impl Abort, sink: &mut VecSink) {
 fn files_of_the_system(rt: HostRuntime) -> Result<(), Fail> {
     let alloc = rt.alloc();
     fs::write(&rt, "here.txt", "abc")?;
-    let mut files = StdFiles::new(&rt);
+    let mut files = StdFiles::new(&rt, rt.alloc());
     let too_long = Given::Refusal(ReadRefusal::TooLong);
     let failed = Given::Refusal(ReadRefusal::Failed);
     expect_read(&rt, alloc, &mut files, "here.txt", 3, Given::Bytes(b"abc"));
@@ -98,7 +98,7 @@ fn expect_written<S: Sink + Drop>(rt: &impl Abort, mut sink: S) {
 #[test]
 fn a_file_as_a_sink(rt: HostRuntime) -> Result<(), Fail> {
     expect_written(&rt, StdSink::new(fs::create(&rt, "out.txt")?));
-    let mut files = StdFiles::new(&rt);
+    let mut files = StdFiles::new(&rt, rt.alloc());
     expect_read(
         &rt,
         rt.alloc(),
