@@ -11,7 +11,7 @@ use Rattle.run_tokens.specs.FirstFaults.{AreFine, StopsAt, EndsAt}
 use Rattle.run_tokens.proofs.FirstFaults.{bare_last, fine_more, fine_none, fine_last}
 use Rattle.group_formula.specs.Tokens.{formula_language, is_node}
 use Rattle.group_formula.specs.Grammar.{Expr, Term, spell, shape, IsViable}
-use Rattle.group_formula.specs.Trees.{postfix}
+use Rattle.group_formula.specs.Postfix.{postfix}
 use Rattle.group_formula.specs.Grammar.Expr.{one_term, or_term}
 use Rattle.group_formula.specs.Grammar.Factor.{named, grouped, counted}
 use Rattle.group_formula.specs.Machine.{Pending, MachineState, step, join_expr, join_term, join_parts}

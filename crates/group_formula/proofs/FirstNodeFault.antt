@@ -14,7 +14,8 @@ use Rattle.group_formula.specs.declared.fault.FormulaFault.TheVariants.{UnknownN
 use Rattle.text_tokens.specs.Tokens.{is_blank}
 use Rattle.run_tokens.specs.Tokens.{bare, is_word_byte, run_begun, token_at, tokens_from}
 use Rattle.group_formula.specs.Tokens.{formula_language, symbol, word_token}
-use Rattle.group_formula.specs.Trees.{tree_count, postfix, postfix_all}
+use Rattle.group_formula.specs.Trees.{tree_count}
+use Rattle.group_formula.specs.Postfix.{postfix, postfix_all}
 use Rattle.group_formula.specs.Grammar.{Expr, Term, Factor, Parts, spell, spell_term, spell_factor, spell_parts, shape, shape_term, shape_factor, shape_parts}
 use Rattle.group_formula.specs.Grammar.Expr.{one_term, or_term}
 use Rattle.group_formula.specs.Grammar.Term.{one_factor, and_factor}

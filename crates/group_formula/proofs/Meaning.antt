@@ -16,7 +16,8 @@ use Rattle.text_tokens.specs.Tokens.{is_blank}
 use Rattle.run_tokens.specs.Tokens.{bare, tokens}
 use Rattle.run_tokens.proofs.FirstFaults.{fine_last}
 use Rattle.group_formula.specs.Tokens.{formula_language, is_node}
-use Rattle.group_formula.specs.Trees.{Tree, Trees, tree_count, IsSoundTree, AreSound, postfix, postfix_all, tree_of}
+use Rattle.group_formula.specs.Trees.{Tree, Trees, tree_count, IsSoundTree, AreSound}
+use Rattle.group_formula.specs.Postfix.{postfix, postfix_all, tree_of}
 use Rattle.group_formula.specs.Trees.Tree.{leaf, both, either, at_least}
 use Rattle.group_formula.specs.Trees.Trees.{one_tree, more_trees}
 use Rattle.group_formula.specs.Grammar.{Expr, Term, Factor, Parts, spell, spell_term, spell_factor, spell_parts, shape, shape_term, shape_factor, shape_parts}

@@ -7,7 +7,7 @@ use Rattle.list_laws.proofs.Tests.{or_true}
 use Rattle.party_set.specs.Parties.{has_party}
 use Rattle.party_set.proofs.EveryNumber.{every_at, implies_at}
 use Rattle.maximal_groups.specs.Families.{IsClosed, IsFamily}
-use Rattle.group_formula.specs.Trees.{Tree, Trees, Meaning, tree_count, value, true_ones, IsSoundTree, AreSound, tree_of, is_tolerated}
+use Rattle.group_formula.specs.Trees.{Tree, Trees, Meaning, tree_count, value, true_ones, IsSoundTree, AreSound, is_tolerated}
 use Rattle.group_formula.specs.Trees.Tree.{leaf, both, either, at_least}
 use Rattle.group_formula.specs.Trees.Trees.{one_tree, more_trees}
 
@@ -76,9 +76,9 @@ mutual
   none_true n g i (more_trees ts t) s = none_more (value g t) (true_ones g ts) (false_for n g i t s.1) (none_true n g i ts s.0)
 
 -- a part of a tolerated group is tolerated
-closed_of : (f : Meaning) → IsSoundTree f.parties (tree_of f.nodes) → IsClosed f.parties (is_tolerated f)
+closed_of : (f : Meaning) → IsSoundTree f.parties f.tree → IsClosed f.parties (is_tolerated f)
 closed_of f s a b la lb w e =
-    let t : Tree = tree_of f.nodes in
+    let t : Tree = f.tree in
     not_from_false (value (has_party a) t) (false_from_ne_true (value (has_party a) t) (λ va.
     let vb : value (has_party b) t ≡ true = grows f.parties (has_party a) (has_party b) (λ p lp. implies_at (has_party a p) (has_party b p) (every_at f.parties (λ q. not (has_party a q) || has_party b q) w p lp)) t s va in
     let no_b : value (has_party b) t ≡ false = not-true (value (has_party b) t) e in
@@ -88,12 +88,12 @@ zero_bit : (p : ℕ) → has_party 0 p ≡ false
 zero_bit p = ap (λ bit. nat_eq bit 1) (bit_at-zero p)
 
 -- the empty group is tolerated
-nobody_of : (f : Meaning) → IsSoundTree f.parties (tree_of f.nodes) → is_tolerated f 0 ≡ true
-nobody_of f s = not_from_false (value (has_party 0) (tree_of f.nodes)) (false_for f.parties (has_party 0) zero_bit (tree_of f.nodes) s)
+nobody_of : (f : Meaning) → IsSoundTree f.parties f.tree → is_tolerated f 0 ≡ true
+nobody_of f s = not_from_false (value (has_party 0) f.tree) (false_for f.parties (has_party 0) zero_bit f.tree s)
 
 -- the group of all parties is qualified
-pub everybody_of : (f : Meaning) → IsSoundTree f.parties (tree_of f.nodes) → value (has_party (2 ^ f.parties - 1)) (tree_of f.nodes) ≡ true
-everybody_of f s = true_for f.parties (has_party (2 ^ f.parties - 1)) (λ p lp. eq-eqb _ 1 (bit_at_ones f.parties p lp)) (tree_of f.nodes) s
+pub everybody_of : (f : Meaning) → IsSoundTree f.parties f.tree → value (has_party (2 ^ f.parties - 1)) f.tree ≡ true
+everybody_of f s = true_for f.parties (has_party (2 ^ f.parties - 1)) (λ p lp. eq-eqb _ 1 (bit_at_ones f.parties p lp)) f.tree s
 
-pub family_of : (f : Meaning) → IsSoundTree f.parties (tree_of f.nodes) → IsFamily f.parties (is_tolerated f)
+pub family_of : (f : Meaning) → IsSoundTree f.parties f.tree → IsFamily f.parties (is_tolerated f)
 family_of f s = record { parts = closed_of f s; nobody = nobody_of f s }

@@ -8,7 +8,8 @@ use Rattle.std.proofs.lemmas.List.{drop_all}
 use Rattle.party_set.specs.Parties.{has_party}
 use Rattle.group_formula.specs.declared.node.Node.{Node}
 use Rattle.group_formula.specs.declared.node.Node.TheVariants.{Name, And, Or, AtLeast}
-use Rattle.group_formula.specs.Trees.{Tree, Trees, tree_count, value, true_ones, postfix, postfix_all}
+use Rattle.group_formula.specs.Trees.{Tree, Trees, tree_count, value, true_ones}
+use Rattle.group_formula.specs.Postfix.{postfix, postfix_all}
 use Rattle.group_formula.specs.Trees.Tree.{leaf, both, either, at_least}
 use Rattle.group_formula.specs.Trees.Trees.{one_tree, more_trees}
 use Rattle.group_formula.specs.Values.{top, how_many, after_value}

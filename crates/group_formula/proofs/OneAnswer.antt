@@ -15,10 +15,9 @@ use Rattle.group_formula.specs.Machine.{Level, Pending, MachineState, step, join
 use Rattle.group_formula.specs.Machine.Level.{level}
 use Rattle.group_formula.specs.Machine.MachineState.{want, want_of, want_open, have}
 use Rattle.group_formula.specs.Faults.{IsShallow, IsSmall, IsFine, Parses, IsFirstFault}
-use Rattle.group_formula.specs.Trees.{Tree, Meaning, postfix, tree_of}
+use Rattle.group_formula.specs.Trees.{Tree, Meaning}
 use Rattle.group_formula.specs.Formulas.{reading, resolved, bad, IsFormula, IsFault}
 use Rattle.group_formula.specs.Laws.{HasOneAnswer}
-use Rattle.group_formula.proofs.WrittenTrees.{tree_of-postfix}
 use Rattle.group_formula.proofs.MachineSteps.{run}
 use Rattle.group_formula.proofs.MachineRuns.{run_viable, stuck_no, formula_read, run_formula, have_expr, one_formula}
 use Rattle.group_formula.proofs.FaultlessTokens.{frames_in, opened, run_last, fine_nothing}
@@ -105,8 +104,7 @@ decide_second : (text : List ℕ) (names : List (List ℕ)) (e : Expr) (b : Opti
     → ((f : Meaning) × IsFormula text names f) ⊎ ((fault : FormulaFault) × IsFault text names fault)
 decide_second text names e None p is =
     let tree : Tree = resolved (reading text names) (shape e) in
-    let same : tree_of (postfix tree) ≡ tree = tree_of-postfix tree in
-    inl (record { parties = length names; nodes = postfix tree }, record { expr = e; parsed = p; good = is; parties = refl; tree = same; written = ap postfix same })
+    inl (record { parties = length names; tree = tree }, record { expr = e; parsed = p; good = is; parties = refl; tree = refl })
 decide_second text names e (Some fault) p is = inr (fault, inr (record { expr = e; parsed = p; found = is }))
 
 some_answer : (text : List ℕ) (names : List (List ℕ)) → ((f : Meaning) × IsFormula text names f) ⊎ ((fault : FormulaFault) × IsFault text names fault)
@@ -183,8 +181,8 @@ not_both text names f fault p (inr s) =
 
 one_meaning : (text : List ℕ) (names : List (List ℕ)) (f g : Meaning) → IsFormula text names f → IsFormula text names g → f ≡ g
 one_meaning text names f g p q =
-    let tree : tree_of f.nodes ≡ tree_of g.nodes = p.tree ∙ ap (λ e. resolved (reading text names) (shape e)) (same_expr text p.expr q.expr p.parsed q.parsed) ∙ sym q.tree in
-    ap₂ (λ n ns. record { parties = n; nodes = ns }) (p.parties ∙ sym q.parties) (sym p.written ∙ ap postfix tree ∙ q.written)
+    let tree : f.tree ≡ g.tree = p.tree ∙ ap (λ e. resolved (reading text names) (shape e)) (same_expr text p.expr q.expr p.parsed q.parsed) ∙ sym q.tree in
+    ap₂ (λ n t. record { parties = n; tree = t }) (p.parties ∙ sym q.parties) tree
 
 pub one_answer : (text : List ℕ) (names : List (List ℕ)) → HasOneAnswer text names
 one_answer text names = record {

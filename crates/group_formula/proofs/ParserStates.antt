@@ -10,7 +10,8 @@ use Rattle.group_formula.specs.declared.parser.Mode.TheVariants as modes
 use Rattle.group_formula.specs.declared.parser.Bracket.{Bracket}
 use Rattle.group_formula.specs.declared.parser.Bracket.TheVariants as brackets
 use Rattle.group_formula.specs.declared.parser.Frame.{Frame}
-use Rattle.group_formula.specs.Trees.{Tree, Trees, tree_count, postfix, postfix_all}
+use Rattle.group_formula.specs.Trees.{Tree, Trees, tree_count}
+use Rattle.group_formula.specs.Postfix.{postfix, postfix_all}
 use Rattle.group_formula.specs.Trees.Tree.{leaf, both, either, at_least}
 use Rattle.group_formula.specs.Trees.Trees.{one_tree, more_trees}
 use Rattle.group_formula.specs.Grammar.{Expr, Term, Factor, Parts, shape, shape_term, shape_factor, shape_parts}

@@ -2,7 +2,8 @@
 use Rattle.std.proofs.Common.{◌≡◌, suc, ◌+◌, List, [], ◌∷◌, ◌++◌, take, drop, refl, ◌∙◌, ap, ap₂, arith}
 use Rattle.group_formula.specs.declared.node.Node.{Node}
 use Rattle.group_formula.specs.declared.node.Node.TheVariants.{Name, And, Or, AtLeast}
-use Rattle.group_formula.specs.Trees.{Tree, Trees, tree_count, postfix, postfix_all, last, joined_trees, after_node, after_nodes, tree_of}
+use Rattle.group_formula.specs.Trees.{Tree, Trees, tree_count}
+use Rattle.group_formula.specs.Postfix.{postfix, postfix_all, last, joined_trees, after_node, after_nodes, tree_of}
 use Rattle.group_formula.specs.Trees.Tree.{leaf, both, either, at_least}
 use Rattle.group_formula.specs.Trees.Trees.{one_tree, more_trees}
 

@@ -6,7 +6,7 @@ use Rattle.party_set.specs.Names.{party_named}
 use Rattle.run_tokens.specs.Tokens.{is_word_byte}
 use Rattle.group_formula.specs.declared.fault.FormulaFault.{FormulaFault}
 use Rattle.group_formula.specs.declared.fault.FormulaFault.TheVariants.{UnknownName, BadCount, Memory}
-use Rattle.group_formula.specs.Trees.{Tree, Trees, Meaning, tree_count, postfix, tree_of}
+use Rattle.group_formula.specs.Trees.{Tree, Trees, Meaning, tree_count}
 use Rattle.group_formula.specs.Trees.Tree.{leaf, both, either, at_least}
 use Rattle.group_formula.specs.Trees.Trees.{one_tree, more_trees}
 use Rattle.group_formula.specs.Grammar.{Expr, shape}
@@ -81,8 +81,7 @@ pub record IsFormula (text : List ℕ) (names : List (List ℕ)) (f : Meaning) :
   pub parsed : Parses text expr
   pub good : bad (reading text names) (shape expr) ≡ None
   pub parties : f.parties ≡ length names
-  pub tree : tree_of f.nodes ≡ resolved (reading text names) (shape expr)
-  pub written : postfix (tree_of f.nodes) ≡ f.nodes
+  pub tree : f.tree ≡ resolved (reading text names) (shape expr)
 
 -- the text has no fault of the first pass, and this one in the second
 pub record IsSecondFault (text : List ℕ) (names : List (List ℕ)) (fault : FormulaFault) : Type 0 where

@@ -8,7 +8,8 @@ use Rattle.group_formula.specs.declared.parser.Mode.TheVariants as modes
 use Rattle.group_formula.specs.declared.parser.Bracket.{Bracket}
 use Rattle.group_formula.specs.declared.parser.Bracket.TheVariants as brackets
 use Rattle.group_formula.specs.declared.parser.Frame.{Frame}
-use Rattle.group_formula.specs.Trees.{tree_count, postfix, postfix_all}
+use Rattle.group_formula.specs.Trees.{tree_count}
+use Rattle.group_formula.specs.Postfix.{postfix, postfix_all}
 use Rattle.group_formula.specs.Grammar.{Expr, Term, Parts, shape, shape_term, shape_parts}
 use Rattle.group_formula.specs.Machine.{Level, Pending, MachineState}
 use Rattle.group_formula.specs.Machine.Level.{level}

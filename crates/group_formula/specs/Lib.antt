@@ -1,5 +1,7 @@
 pub mod Tokens
 pub mod Trees
+pub mod Stored
+pub mod Postfix
 pub mod Grammar
 pub mod Machine
 pub mod Kept

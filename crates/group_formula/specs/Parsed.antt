@@ -4,7 +4,7 @@ use Rattle.group_formula.specs.declared.node.Node.{Node}
 use Rattle.group_formula.specs.declared.fault.FormulaFault.{FormulaFault}
 use Rattle.group_formula.specs.declared.fault.FormulaFault.TheVariants.{Memory}
 use Rattle.group_formula.specs.Grammar.{Expr, shape}
-use Rattle.group_formula.specs.Trees.{postfix}
+use Rattle.group_formula.specs.Postfix.{postfix}
 use Rattle.group_formula.specs.Faults.{Parses, IsFirstFault}
 
 -- the nodes of the text's formula, by their places

@@ -1,7 +1,8 @@
 //! Formulas as families of tolerated groups.
 ghost use Rattle.std.specs.Prelude.{◌≡◌, ◌-◌, ◌^◌, ◌≤◌, true};
 ghost use Rattle.party_set.specs.Parties.{has_party};
-ghost use Rattle.group_formula.specs.Trees.{value, tree_of, is_tolerated, IsSoundTree, Meaning, WritesFormula};
+ghost use Rattle.group_formula.specs.Trees.{value, is_tolerated, IsSoundTree, Meaning};
+ghost use Rattle.group_formula.specs.Postfix.{tree_of, WritesFormula};
 
 use crate::node::Node;
 use crate::values::evaluate;
@@ -10,7 +11,7 @@ use party_set::Group;
 use std::marker::Model;
 
 /// A monotone formula over 1 to 12 parties, which tells what groups are qualified. Contracts see the number of
-/// parties and the nodes of the formula.
+/// parties and the tree of the formula.
 #[derive(Drop)]
 pub struct Formula {
     parties: u32,
@@ -18,11 +19,15 @@ pub struct Formula {
 }
 
 impl Model for Formula {
-    ghost use Rattle.group_formula.specs.Trees.{Meaning, WritesFormula};
+    ghost use Rattle.group_formula.specs.Trees.{Meaning};
+    ghost use Rattle.group_formula.specs.Postfix.{tree_of, WritesFormula};
+    ghost use Rattle.group_formula.specs.Stored.{formula_coded};
 
     ghost Value = { Meaning };
 
-    ghost view = { λ f. record { parties = f.parties; nodes = f.nodes.items } };
+    ghost coded = { formula_coded };
+
+    ghost view = { λ f. record { parties = f.parties; tree = tree_of f.nodes.items } };
 
     ghost invariant = { λ f. WritesFormula f.parties f.nodes.items };
 }
@@ -31,7 +36,7 @@ impl Formula {
     /// The formula whose nodes stand in postfix order.
     pub(crate) fn of(parties: u32, nodes: Vec<Node>) -> Formula
         requires { WritesFormula parties nodes.items }
-        ensures { result ≡ record { parties = parties; nodes = nodes.items } }
+        ensures { result ≡ record { parties = parties; tree = tree_of nodes.items } }
     {
         Formula { parties, nodes }
     }
@@ -48,7 +53,7 @@ impl Formula {
     /// Whether the formula is true where exactly the names of the group's members are.
     pub fn qualified(&self, g: Group) -> bool
         requires { g.parties ≡ self.now.parties }
-        ensures { result ≡ value (has_party g.mask) (tree_of self.now.nodes) }
+        ensures { result ≡ value (has_party g.mask) self.now.tree }
     {
         evaluate(&self.nodes, g)
     }
@@ -70,6 +75,6 @@ impl Family for Formula {
 
 /// A formula is true where every name is, since it has no negation: the group of all parties is never tolerated.
 pub fn all_parties_are_qualified()
-    ensures { (f : Meaning) → IsSoundTree f.parties (tree_of f.nodes)
-        → value (has_party (2 ^ f.parties - 1)) (tree_of f.nodes) ≡ true }
+    ensures { (f : Meaning) → IsSoundTree f.parties f.tree
+        → value (has_party (2 ^ f.parties - 1)) f.tree ≡ true }
 {}

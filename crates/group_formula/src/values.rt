@@ -1,7 +1,8 @@
 //! The truth of a formula, from its nodes in postfix order.
 ghost use Rattle.std.specs.Prelude.{◌≡◌, ◌≤◌, ◌<◌, ◌+◌, ◌∷◌, [], length, take, drop};
 ghost use Rattle.party_set.specs.Parties.{has_party};
-ghost use Rattle.group_formula.specs.Trees.{Tree, value, postfix};
+ghost use Rattle.group_formula.specs.Trees.{Tree, value};
+ghost use Rattle.group_formula.specs.Postfix.{postfix};
 ghost use Rattle.group_formula.specs.Values.{after_value, how_many, top};
 
 use crate::node::Node;

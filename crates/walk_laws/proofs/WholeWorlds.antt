@@ -27,7 +27,7 @@ use Rattle.expr_circuit.proofs.ValidPrograms.{valid_program}
 use Rattle.maximal_groups.specs.Families.{IsFamily, maximal_structure}
 use Rattle.maximal_groups.proofs.FoundGroups.{antichain}
 use Rattle.maximal_groups.proofs.Lists.{list_is_family}
-use Rattle.group_formula.specs.Trees.{Meaning, IsSoundTree, tree_of, is_tolerated}
+use Rattle.group_formula.specs.Trees.{Meaning, IsSoundTree, is_tolerated}
 use Rattle.group_formula.specs.Formulas.{IsFormula, reading}
 use Rattle.group_formula.specs.Grammar.{shape}
 use Rattle.group_formula.proofs.Meaning.{sound, parties_below}
@@ -207,9 +207,9 @@ groups_are n t s some few nobody e =
 
 pub formula_family : (text : List ℕ) (names : List (List ℕ)) (f : Meaning) → IsFormula text names f → IsFamily f.parties (is_tolerated f)
 formula_family text names f is =
-    let tree : IsSoundTree (length names) (tree_of f.nodes) =
+    let tree : IsSoundTree (length names) f.tree =
     subst (IsSoundTree (length names)) (sym is.tree) (sound (reading text names) (length names) (parties_below text names) (shape is.expr) is.good) in
-    family_of f (subst (λ n. IsSoundTree n (tree_of f.nodes)) (sym is.parties) tree)
+    family_of f (subst (λ n. IsSoundTree n f.tree) (sym is.parties) tree)
 
 adversary_groups : (names : List (List ℕ)) (adversary : AdversaryForm) (s : Structure) → 1 ≤ length names → length names ≤ 12 → GroupsOf names adversary (accepted s)
     → IsAntichain s × (s.parties ≡ length names)

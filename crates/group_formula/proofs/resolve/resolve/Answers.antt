@@ -1,6 +1,7 @@
 use Rattle.std.proofs.Common.{◌≡◌, ℕ, List, length, take, drop, ◌++◌, map, sym, ◌∙◌, ap, subst, arith}
 use Rattle.group_formula.specs.declared.node.Node.{Node}
-use Rattle.group_formula.specs.Trees.{IsSoundTree, postfix, tree_of, Meaning}
+use Rattle.group_formula.specs.Trees.{IsSoundTree, Meaning}
+use Rattle.group_formula.specs.Postfix.{postfix, tree_of}
 use Rattle.group_formula.specs.Formulas.{reading}
 use Rattle.group_formula.specs.Resolved.{resolved_node, least}
 use Rattle.group_formula.proofs.ResolvedNodes.{lent}
@@ -47,7 +48,5 @@ returns-in-None c =
       parsed = c.requires.parsed;
       good = sym (sym c.in-None.is ∙ c.resolve_nodes.ensures.first ∙ ap (least (reading c.args.text.now c.args.names.now)) c.deref_mut.ensures.value ∙ least_is c.args.text.now c.args.names.now c.args.nodes.items c.requires);
       parties = ap (λ (f : Meaning). f.parties) c.of.ensures ∙ c.len.ensures.is;
-      tree = ap (λ (f : Meaning). tree_of f.nodes) c.of.ensures ∙ ap tree_of same ∙ tree_is c.args.text.now c.args.names.now c.args.nodes.items c.resolve_nodes.new.nodes c.requires meant;
-      written = ap (λ (f : Meaning). postfix (tree_of f.nodes)) c.of.ensures ∙ ap (λ ns. postfix (tree_of ns)) same ∙ writes_back c.args.text.now c.args.names.now c.args.nodes.items c.resolve_nodes.new.nodes c.requires meant
-          ∙ sym same ∙ sym (ap (λ (f : Meaning). f.nodes) c.of.ensures);
+      tree = ap (λ (f : Meaning). f.tree) c.of.ensures ∙ ap tree_of same ∙ tree_is c.args.text.now c.args.names.now c.args.nodes.items c.resolve_nodes.new.nodes c.requires meant;
     }
