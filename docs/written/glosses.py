@@ -21,7 +21,7 @@ PARTS = [
     Part('The simulator', 'What a tolerated group knows, the view that a simulator makes of it, and how privacy is counted: over all tapes that the other parties may have.',
          [('view_counts', '*')]),
     Part('Files and texts', 'The command that words ask for, the job and the inputs that files stand for, and the text that is due. `IsDue`, at the end, puts them together.',
-         [('walk_laws', 'accepted_jobs_are_whole'), ('walk_laws', 'each_call_is_due_one_verdict'), ('tape_map', 'no_fault_where_it_can_be_hidden'),
+         [('walk_laws', 'accepted_jobs_are_whole'), ('job_laws', '*'), ('walk_laws', 'each_call_is_due_one_verdict'), ('tape_map', 'no_fault_where_it_can_be_hidden'),
           ('walk_laws', 'a_run_writes_the_value_of_expressions'), ('walk_laws', 'an_audit_says_yes_to_what_a_run_writes'), ('walk_laws', '*')],
          (('mpc_top', 'Due', 'IsDue'), ('mpc_top', 'Due', 'words_view'), ('command_words', 'Commands', 'command_of')), ('mpc_top', 'Outside', 'Outside')),
     Part('The outside', 'What files, outputs, threads and the net show, what a party says over its links and hears, and the answer of `command`. Then the laws of networks and of '
@@ -106,6 +106,7 @@ HEADINGS = {
     ('job_file', 'Forms'): 'What the file of a job gives',
     ('job_file', 'Faults'): 'The faults of the file of a job, in order',
     ('job_file', 'Keys'): 'What the line of a refusal of a job tells',
+    ('job_laws', 'Documents'): 'Jobs within the limits, and the document of each',
     ('group_formula', 'Trees'): 'Formulas, and their truth',
     ('party_file', 'Table'): 'The file of a party: its checks, and what it gives',
     ('other_file', 'Table'): 'The file of other inputs: its checks, and what it gives',

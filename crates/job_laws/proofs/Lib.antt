@@ -1,0 +1,5 @@
+mod MemberNames
+mod DocumentShapes
+mod DocumentFields
+mod DocumentRows
+pub mod ReadJobs
