@@ -12,8 +12,8 @@ use Rattle.job_walk.specs.JobOf.{file_at, groups_in, part_of}
 use Rattle.job_walk.specs.Reads.{ReadsAs, WalksAs}
 
 pub file_named : {C : Type 0} (seen : C → List ℕ) (dir name other : List ℕ) (before after : FilesReading) (result : Result C Stop) → name ≡ other
-    → ReadsAs seen (λ m. Ends (file_at m dir name)) before after result → ReadsAs seen (λ m. Ends (file_at m dir other)) before after result
-file_named seen dir name other before after result same r = subst (λ n. ReadsAs seen (λ m. Ends (file_at m dir n)) before after result) same r
+    → ReadsAs dir (name ∷ []) seen (λ m. Ends (file_at m dir name)) before after result → ReadsAs dir (other ∷ []) seen (λ m. Ends (file_at m dir other)) before after result
+file_named seen dir name other before after result same r = subst (λ n. ReadsAs dir (n ∷ []) seen (λ m. Ends (file_at m dir n)) before after result) same r
 
 -- a walk over these bytes
 pub walk_same : {A C : Type 0} (seen : C → A) (walk : List ℕ → Verdict A → Type 0) (bytes other : List ℕ) (result : Result C Stop) → bytes ≡ other → WalksAs seen (walk bytes) result → WalksAs seen (walk other) result

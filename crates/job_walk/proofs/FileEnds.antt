@@ -1,14 +1,17 @@
 -- What a read of a file says of the walk.
-use Rattle.std.proofs.Common.{◌≡◌, ℕ, ◌<◌, ◌≤◌, List, length, Option, None, Some, Vec, Result, Err, refl, arith, ap, ◌∙◌, sym}
-use Rattle.std.specs.Prelude.{IfSome}
+use Rattle.std.proofs.Common.{◌≡◌, ℕ, ◌<◌, ◌≤◌, List, [], ◌∷◌, ◌++◌, length, Option, None, Some, Vec, Result, Err, refl, arith, ap, ◌∙◌, sym, inl, inr}
+use Rattle.std.specs.Prelude.{◌⊎◌, IfSome, IsErrOf}
+use Rattle.std.proofs.lemmas.List.{append-nil}
 use Rattle.std.specs.declared.alloc.Global.{Global}
 use Rattle.outer_io.specs.declared.files.ReadRefusal.{ReadRefusal}
-use Rattle.outer_io.specs.declared.files.ReadRefusal.TheVariants.{Failed, TooLong}
+use Rattle.outer_io.specs.declared.files.ReadRefusal.TheVariants.{Failed, TooLong, Memory}
 use Rattle.outer_io.specs.Files.{FilesReading, Told, Reads, IsContent, IsLonger, IsThere}
 use Rattle.job_walk.specs.Names.{path_of}
 use Rattle.job_walk.specs.JobOf.{file_at, bytes_of, file_limit}
 use Rattle.job_walk.specs.Verdict.{accepted, missing, refused}
+use Rattle.job_walk.specs.FilesAsked.{AsksFor, AsksPart, IsLast}
 use Rattle.job_walk.specs.Reads.{KeepsFiles}
+use Rattle.job_walk.proofs.Asks.{part_all, part_none}
 use Rattle.refusal_text.specs.Lines.{too_long_line}
 
 pub read_keeps : (name : List ℕ) (limit : ℕ) (before after : FilesReading) (result : Result (Vec ℕ Global) ReadRefusal) → Reads name limit before after result → KeepsFiles before after
@@ -52,3 +55,30 @@ file_missing (Some m) dir name path same not = sym (missing_or (m (path_of dir n
 
 pub long_is_no_fault : (result : Result (Vec ℕ Global) ReadRefusal) (refusal : ReadRefusal) → result ≡ Err refusal → refusal ≡ TooLong → result ≡ Err Failed → ⊥
 long_is_no_fault result refusal is long failed = cc
+
+-- ---- the name that was asked for
+
+module _ (dir file path : List ℕ) (limit : ℕ) (before after : FilesReading) (result : Result (Vec ℕ Global) ReadRefusal) (r : Reads path limit before after result) (same : path ≡ path_of dir file) where
+  of_file : after.asked ≡ before.asked ++ (path ∷ []) → AsksFor dir (file ∷ []) before after
+  of_file asked = asked ∙ ap (λ p. before.asked ++ (p ∷ [])) same
+
+  pub read_asks : ¬ IsErrOf result Memory → AsksFor dir (file ∷ []) before after
+  read_asks room = noted r.asked where
+    noted : (after.asked ≡ before.asked ++ (path ∷ [])) ⊎ (IsErrOf result Memory × (after.asked ≡ before.asked)) → AsksFor dir (file ∷ []) before after
+    noted (inl asked) = of_file asked
+    noted (inr none) = absurd (room none.0)
+
+  pub read_part : AsksPart dir (file ∷ []) before after
+  read_part = noted r.asked where
+    noted : (after.asked ≡ before.asked ++ (path ∷ [])) ⊎ (IsErrOf result Memory × (after.asked ≡ before.asked)) → AsksPart dir (file ∷ []) before after
+    noted (inl asked) = part_all dir (file ∷ []) before after (of_file asked)
+    noted (inr none) = ([], file ∷ [], refl, none.1 ∙ sym (append-nil before.asked))
+
+  pub read_last : (name : List ℕ) → name ≡ file → ¬ IsErrOf result Memory → IsLast dir name after
+  read_last name is room = (before.asked, read_asks room ∙ ap (λ f. before.asked ++ (path_of dir f ∷ [])) (sym is))
+
+pub failed_is_no_memory : (result : Result (Vec ℕ Global) ReadRefusal) (refusal : ReadRefusal) → result ≡ Err refusal → refusal ≡ Failed → result ≡ Err Memory → ⊥
+failed_is_no_memory result refusal is failed memory = cc
+
+pub memory_is_no_fault : (result : Result (Vec ℕ Global) ReadRefusal) (refusal : ReadRefusal) → result ≡ Err refusal → refusal ≡ Memory → result ≡ Err Failed → ⊥
+memory_is_no_fault result refusal is memory failed = cc

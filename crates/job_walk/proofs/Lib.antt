@@ -1,5 +1,7 @@
+pub mod Asks
 pub mod Equal
 pub mod FileEnds
+pub mod JobFiles
 pub mod Logs
 pub mod Loops
 pub mod Steps

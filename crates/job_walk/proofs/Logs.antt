@@ -33,7 +33,7 @@ limited : (b : Bool) (bytes held name : List ℕ) → accepted bytes ≡ (if b t
 limited true bytes held name is = ap bytes_accepted is
 limited false bytes held name is = absurd (subst IsAccepted is tt)
 
-content_held : (content : Option (List ℕ)) (bytes name : List ℕ) → accepted bytes ≡ bytes_of content name → content ≡ Some bytes
+pub content_held : (content : Option (List ℕ)) (bytes name : List ℕ) → accepted bytes ≡ bytes_of content name → content ≡ Some bytes
 unfolding bytes_of
 content_held None bytes name is = absurd (subst IsAccepted is tt)
 content_held (Some there) bytes name is = ap Some (sym (limited (nat_le (length there) file_limit) bytes there name is))

@@ -1,15 +1,17 @@
 -- How the steps of the walk follow each other.
-use Rattle.std.proofs.Common.{◌≡◌, ℕ, ◌≤◌, List, None, Some, Result, Ok, Err, Vec, refl, arith, ◌∙◌, sym, subst, inl, inr}
+use Rattle.std.proofs.Common.{◌≡◌, ℕ, ◌≤◌, List, [], ◌++◌, None, Some, Result, Ok, Err, Vec, refl, arith, ◌∙◌, sym, subst, inl, inr}
 use Rattle.std.specs.Prelude.{IfSome, IfOk, IsErrAnd, IsTrue, MatchResult}
 use Rattle.std.specs.declared.alloc.Global.{Global}
 use Rattle.std.specs.declared.alloc.AllocError.{AllocError}
 use Rattle.std.proofs.lemmas.Result.{err_from_is_err_and}
+use Rattle.std.proofs.lemmas.List.{append-nil}
 use Rattle.outer_io.specs.Count.{Rose}
 use Rattle.outer_io.specs.Files.{FilesReading, Told}
 use Rattle.job_walk.specs.declared.stop.Stop.{Stop}
 use Rattle.job_walk.specs.declared.stop.Stop.TheVariants.{Memory, Words, Out, Net, Peer, Files, Refused, Covering}
 use Rattle.job_walk.specs.Verdict.{Verdict, accepted, missing, refused, Ends, Then}
 use Rattle.job_walk.specs.JobOf.{Contents}
+use Rattle.job_walk.proofs.Asks.{asks_none, asks_then, part_none, part_more, part_then}
 use Rattle.job_walk.specs.Reads.{KeepsFiles, ReadsAs, StopsAt, Meets, WalksAs, StopsBy}
 
 le_trans : {a b c : ℕ} → a ≤ b → b ≤ c → a ≤ c
@@ -75,6 +77,18 @@ module _ {A B : Type 0} (first : Verdict A → Type 0) (next : A → Verdict B �
     walks_then c (Ok d) w v = record { ok = then_goes_on (seen c) (accepted (seen' d)) w.ok v.ok; stop = tt }
     walks_then c (Err stop) w v = record { ok = tt; stop = walk_stops_later (seen c) stop w.ok v.stop }
 
+-- ---- the files that are asked for
+
+module _ {A C : Type 0} {dir : List ℕ} {xs : List (List ℕ)} (seen : C → A) (walk : Contents → Verdict A → Type 0) (ys : List (List ℕ)) (before after : FilesReading) where
+  -- a reading that stopped before more files were read
+  pub reads_more : (stop : Stop) → ReadsAs dir xs seen walk before after (Err stop) → ReadsAs dir (xs ++ ys) seen walk before after (Err stop)
+  reads_more stop r = record { ok = tt; quiet = tt; stop = r.stop; asks = part_more dir xs ys before after r.asks; asks_all = tt; keeps = r.keeps }
+
+-- a reading of the same files
+pub reads_same : {A C : Type 0} {dir : List ℕ} {xs ys : List (List ℕ)} {seen : C → A} {walk : Contents → Verdict A → Type 0} {before after : FilesReading} {result : Result C Stop}
+    → xs ≡ ys → ReadsAs dir xs seen walk before after result → ReadsAs dir ys seen walk before after result
+reads_same {A} {C} {dir} {xs} {ys} {seen} {walk} {before} {after} {result} same r = subst (λ names. ReadsAs dir names seen walk before after result) same r
+
 -- ---- walks through files
 
 module _ {A B : Type 0} (v : Contents → Verdict A → Type 0) (f : Contents → A → Verdict B → Type 0) where
@@ -92,63 +106,82 @@ module _ {A B : Type 0} (v : Contents → Verdict A → Type 0) (f : Contents �
   refused_first None status line is = tt
   refused_first (Some m) status line is = inl is
 
-  stops_first : (before after : FilesReading) (stop : Stop) → StopsAt v before after stop → StopsAt (λ m. Then (v m) (f m)) before after stop
-  stops_first before after Memory cause = cause
-  stops_first before after Words cause = cause
-  stops_first before after Out cause = cause
-  stops_first before after Net cause = cause
-  stops_first before after (Peer names fault) cause = cause
-  stops_first before after (Files name) cause = (cause.0, λ steady. missing_first before.told name.items (cause.1 steady))
-  stops_first before after (Refused line) cause = (cause.0, refused_first before.told 3 line.items cause.1)
-  stops_first before after (Covering line) cause = (cause.0, refused_first before.told 4 line.items cause.1)
+  module _ (dir : List ℕ) where
+    stops_first : (before after : FilesReading) (stop : Stop) → StopsAt v before after dir stop → StopsAt (λ m. Then (v m) (f m)) before after dir stop
+    stops_first before after Memory cause = cause
+    stops_first before after Words cause = cause
+    stops_first before after Out cause = cause
+    stops_first before after Net cause = cause
+    stops_first before after (Peer names fault) cause = cause
+    stops_first before after (Files name) (rose, last, gone) = (rose, last, λ steady. missing_first before.told name.items (gone steady))
+    stops_first before after (Refused line) cause = (cause.0, refused_first before.told 3 line.items cause.1)
+    stops_first before after (Covering line) cause = (cause.0, refused_first before.told 4 line.items cause.1)
 
-  stops_later : (before mid after : FilesReading) (a : A) (stop : Stop)
-      → Meets v before mid (accepted a) → mid.told ≡ before.told → (IsTrue before.steady → IsTrue mid.steady) → mid.faults ≡ before.faults
-      → StopsAt (λ m. f m a) mid after stop → StopsAt (λ m. Then (v m) (f m)) before after stop
-  stops_later before mid after a Memory is same keeps quiet cause = cause ∙ quiet
-  stops_later before mid after a Words is same keeps quiet cause = cause
-  stops_later before mid after a Out is same keeps quiet cause = cause
-  stops_later before mid after a Net is same keeps quiet cause = cause
-  stops_later before mid after a (Peer names fault) is same keeps quiet cause = cause
-  stops_later before mid after a (Files name) is same keeps quiet cause = (
-    subst (λ n. Rose n after.faults) quiet cause.0,
-    λ steady. goes_on before.told a (missing name.items) is (subst (λ told. IfSome told (λ m. f m a (missing name.items))) same (cause.1 (keeps steady))),
-  )
-  stops_later before mid after a (Refused line) is same keeps quiet cause =
-      (cause.0 ∙ quiet, goes_on before.told a (refused 3 line.items) is (subst (λ told. IfSome told (λ m. f m a (refused 3 line.items))) same cause.1))
-  stops_later before mid after a (Covering line) is same keeps quiet cause =
-      (cause.0 ∙ quiet, goes_on before.told a (refused 4 line.items) is (subst (λ told. IfSome told (λ m. f m a (refused 4 line.items))) same cause.1))
+    stops_later : (before mid after : FilesReading) (a : A) (stop : Stop)
+        → Meets v before mid (accepted a) → mid.told ≡ before.told → (IsTrue before.steady → IsTrue mid.steady) → mid.faults ≡ before.faults
+        → StopsAt (λ m. f m a) mid after dir stop → StopsAt (λ m. Then (v m) (f m)) before after dir stop
+    stops_later before mid after a Memory is same keeps quiet cause = cause ∙ quiet
+    stops_later before mid after a Words is same keeps quiet cause = cause
+    stops_later before mid after a Out is same keeps quiet cause = cause
+    stops_later before mid after a Net is same keeps quiet cause = cause
+    stops_later before mid after a (Peer names fault) is same keeps quiet cause = cause
+    stops_later before mid after a (Files name) is same keeps quiet (rose, last, gone) = (
+      subst (λ n. Rose n after.faults) quiet rose,
+      last,
+      λ steady. goes_on before.told a (missing name.items) is (subst (λ told. IfSome told (λ m. f m a (missing name.items))) same (gone (keeps steady))),
+    )
+    stops_later before mid after a (Refused line) is same keeps quiet cause =
+        (cause.0 ∙ quiet, goes_on before.told a (refused 3 line.items) is (subst (λ told. IfSome told (λ m. f m a (refused 3 line.items))) same cause.1))
+    stops_later before mid after a (Covering line) is same keeps quiet cause =
+        (cause.0 ∙ quiet, goes_on before.told a (refused 4 line.items) is (subst (λ told. IfSome told (λ m. f m a (refused 4 line.items))) same cause.1))
 
-  module _ {C D : Type 0} (seen : C → A) (seen' : D → B) where
+  module _ {dir : List ℕ} {C D : Type 0} (seen : C → A) (seen' : D → B) where
     -- a step that stops stops the whole
-    pub reads_stop : (before after : FilesReading) (stop : Stop) → ReadsAs seen v before after (Err stop) → ReadsAs seen' (λ m. Then (v m) (f m)) before after (Err stop)
+    pub reads_stop : {xs : List (List ℕ)} (before after : FilesReading) (stop : Stop) → ReadsAs dir xs seen v before after (Err stop) → ReadsAs dir xs seen' (λ m. Then (v m) (f m)) before after (Err stop)
     reads_stop before after stop r = record {
       ok = tt;
       quiet = tt;
-      stop = stops_first before after stop r.stop;
+      stop = stops_first dir before after stop r.stop;
+      asks = r.asks;
+      asks_all = tt;
       keeps = r.keeps;
     }
 
     -- the same at the exit of a `?`
-    pub reads_exit : (before after : FilesReading) (stop : Stop) (result : Result D Stop) → IsErrAnd result (λ e. e ≡ stop)
-        → ReadsAs seen v before after (Err stop) → ReadsAs seen' (λ m. Then (v m) (f m)) before after result
-    reads_exit before after stop result is r = let p = err_from_is_err_and result is in rw (p.1, p.2) (reads_stop before after stop r)
+    pub reads_leave : {xs : List (List ℕ)} (before after : FilesReading) (stop : Stop) (result : Result D Stop) → IsErrAnd result (λ e. e ≡ stop)
+        → ReadsAs dir xs seen v before after (Err stop) → ReadsAs dir xs seen' (λ m. Then (v m) (f m)) before after result
+    reads_leave before after stop result is r = let p = err_from_is_err_and result is in rw (p.1, p.2) (reads_stop before after stop r)
+
+    -- and where more files were to be read
+    pub reads_exit : {xs : List (List ℕ)} (ys : List (List ℕ)) (before after : FilesReading) (stop : Stop) (result : Result D Stop) → IsErrAnd result (λ e. e ≡ stop)
+        → ReadsAs dir xs seen v before after (Err stop) → ReadsAs dir (xs ++ ys) seen' (λ m. Then (v m) (f m)) before after result
+    reads_exit {xs} ys before after stop result is r =
+        let p = err_from_is_err_and result is in rw (p.1, p.2) (reads_more seen' (λ m. Then (v m) (f m)) ys before after stop (reads_stop before after stop r))
 
     -- what follows a step that accepted decides for the whole
-    pub reads_then : (before mid after : FilesReading) (c : C) (result : Result D Stop) → ReadsAs seen v before mid (Ok c)
-        → ReadsAs seen' (λ m. f m (seen c)) mid after result → ReadsAs seen' (λ m. Then (v m) (f m)) before after result
-    reads_then before mid after c (Ok d) r s = record {
+    pub reads_then : {xs ys : List (List ℕ)} (before mid after : FilesReading) (c : C) (result : Result D Stop) → ReadsAs dir xs seen v before mid (Ok c)
+        → ReadsAs dir ys seen' (λ m. f m (seen c)) mid after result → ReadsAs dir (xs ++ ys) seen' (λ m. Then (v m) (f m)) before after result
+    reads_then {xs} {ys} before mid after c (Ok d) r s = record {
       ok = goes_on before.told (seen c) (accepted (seen' d)) r.ok (subst (λ told. IfSome told (λ m. f m (seen c) (accepted (seen' d)))) r.keeps.same_told s.ok);
       quiet = s.quiet ∙ r.quiet;
       stop = tt;
+      asks = part_then dir xs ys before mid after r.asks_all s.asks;
+      asks_all = asks_then dir xs ys before mid after r.asks_all s.asks_all;
       keeps = keeps_then before mid after r.keeps s.keeps;
     }
-    reads_then before mid after c (Err stop) r s = record {
+    reads_then {xs} {ys} before mid after c (Err stop) r s = record {
       ok = tt;
       quiet = tt;
-      stop = stops_later before mid after (seen c) stop r.ok r.keeps.same_told r.keeps.keeps_steady r.quiet s.stop;
+      stop = stops_later dir before mid after (seen c) stop r.ok r.keeps.same_told r.keeps.keeps_steady r.quiet s.stop;
+      asks = part_then dir xs ys before mid after r.asks_all s.asks;
+      asks_all = tt;
       keeps = keeps_then before mid after r.keeps s.keeps;
     }
+
+    -- the same where what follows reads no more files
+    pub reads_on : {xs : List (List ℕ)} (before mid after : FilesReading) (c : C) (result : Result D Stop) → ReadsAs dir xs seen v before mid (Ok c)
+        → ReadsAs dir [] seen' (λ m. f m (seen c)) mid after result → ReadsAs dir xs seen' (λ m. Then (v m) (f m)) before after result
+    reads_on {xs} before mid after c result r s = reads_same (append-nil xs) (reads_then before mid after c result r s)
 
 -- ---- steps that read nothing
 
@@ -156,8 +189,8 @@ any_told : {P : Contents → Type 0} (told : Told) → ((m : Contents) → P m) 
 any_told None all = tt
 any_told (Some m) all = all m
 
-module _ {A C : Type 0} (seen : C → A) where
-  walk_stop : (walk : Verdict A → Type 0) (now : FilesReading) (stop : Stop) → StopsBy walk stop → StopsAt (λ m. walk) now now stop
+module _ {A : Type 0} (dir : List ℕ) where
+  walk_stop : (walk : Verdict A → Type 0) (now : FilesReading) (stop : Stop) → StopsBy walk stop → StopsAt (λ m. walk) now now dir stop
   walk_stop walk now Memory cause = refl
   walk_stop walk now Words cause = cause
   walk_stop walk now Out cause = cause
@@ -167,30 +200,38 @@ module _ {A C : Type 0} (seen : C → A) where
   walk_stop walk now (Refused line) cause = (refl, any_told now.told (λ m. cause))
   walk_stop walk now (Covering line) cause = (refl, any_told now.told (λ m. cause))
 
+module _ {A C : Type 0} {dir : List ℕ} (seen : C → A) where
   -- a step that reads no file
-  pub reads_walk : (walk : Verdict A → Type 0) (now : FilesReading) (result : Result C Stop) → WalksAs seen walk result → ReadsAs seen (λ m. walk) now now result
+  pub reads_walk : (walk : Verdict A → Type 0) (now : FilesReading) (result : Result C Stop) → WalksAs seen walk result → ReadsAs dir [] seen (λ m. walk) now now result
   reads_walk walk now (Ok c) w = record {
     ok = any_told now.told (λ m. w.ok);
     quiet = refl;
     stop = tt;
+    asks = part_none dir [] now;
+    asks_all = asks_none dir now;
     keeps = keeps_now now;
   }
   reads_walk walk now (Err stop) w = record {
     ok = tt;
     quiet = tt;
-    stop = walk_stop walk now stop w.stop;
+    stop = walk_stop dir walk now stop w.stop;
+    asks = part_none dir [] now;
+    asks_all = tt;
     keeps = keeps_now now;
   }
 
   -- memory ran out, whatever the walk
-  pub reads_memory : (walk : Contents → Verdict A → Type 0) (now : FilesReading) (result : Result C Stop) → IsErrAnd result (λ stop. stop ≡ Memory) → ReadsAs seen walk now now result
-  reads_memory walk now result is = let p = err_from_is_err_and result is in rw (p.1, p.2) (record {
+  pub reads_memory : {xs : List (List ℕ)} (walk : Contents → Verdict A → Type 0) (now : FilesReading) (result : Result C Stop) → IsErrAnd result (λ stop. stop ≡ Memory) → ReadsAs dir xs seen walk now now result
+  reads_memory {xs} walk now result is = let p = err_from_is_err_and result is in rw (p.1, p.2) (record {
     ok = tt;
     quiet = tt;
     stop = refl;
+    asks = part_none dir xs now;
+    asks_all = tt;
     keeps = keeps_now now;
   })
 
+module _ {A C : Type 0} (seen : C → A) where
   pub walks_memory : (walk : Verdict A → Type 0) (result : Result C Stop) → IsErrAnd result (λ stop. stop ≡ Memory) → WalksAs seen walk result
   walks_memory walk result is = let p = err_from_is_err_and result is in rw (p.1, p.2) (record { ok = tt; stop = tt })
 
@@ -209,26 +250,26 @@ module _ (line : Result (Vec ℕ Global) AllocError) (stop : Stop) (text : List 
     line_walks (Err e) made written = subst (StopsBy walk) (sym made) tt
 
   -- and of a walk through files
-  pub refusal_stops : {A : Type 0} (walk : Contents → Verdict A → Type 0) (before after : FilesReading) → after.faults ≡ before.faults → Meets walk before after (refused 3 text) → StopsAt walk before after stop
-  refusal_stops walk before after quiet is = line_stops line made written where
-    line_stops : (line : Result (Vec ℕ Global) AllocError) → MatchResult line (λ l. stop ≡ Refused l) (λ e. stop ≡ Memory) → IfOk line (λ l. l.items ≡ text) → StopsAt walk before after stop
-    line_stops (Ok l) made written = subst (StopsAt walk before after) (sym made) (quiet, subst (λ t. Meets walk before after (refused 3 t)) (sym written) is)
-    line_stops (Err e) made written = subst (StopsAt walk before after) (sym made) quiet
+  pub refusal_stops : {A : Type 0} (dir : List ℕ) (walk : Contents → Verdict A → Type 0) (before after : FilesReading) → after.faults ≡ before.faults → Meets walk before after (refused 3 text) → StopsAt walk before after dir stop
+  refusal_stops dir walk before after quiet is = line_stops line made written where
+    line_stops : (line : Result (Vec ℕ Global) AllocError) → MatchResult line (λ l. stop ≡ Refused l) (λ e. stop ≡ Memory) → IfOk line (λ l. l.items ≡ text) → StopsAt walk before after dir stop
+    line_stops (Ok l) made written = subst (StopsAt walk before after dir) (sym made) (quiet, subst (λ t. Meets walk before after (refused 3 t)) (sym written) is)
+    line_stops (Err e) made written = subst (StopsAt walk before after dir) (sym made) quiet
 
 -- nothing is left to read
-pub reads_end : {A C : Type 0} (seen : C → A) (now : FilesReading) (c : C) → ReadsAs seen (λ m. Ends (accepted (seen c))) now now (Ok c)
+pub reads_end : {A C : Type 0} {dir : List ℕ} (seen : C → A) (now : FilesReading) (c : C) → ReadsAs dir [] seen (λ m. Ends (accepted (seen c))) now now (Ok c)
 reads_end seen now c = reads_walk seen (Ends (accepted (seen c))) now (Ok c) (record { ok = refl; stop = tt })
 
 -- the same where what is known depends on the files
-pub reads_known : {A C : Type 0} (seen : C → A) (walk : Contents → Verdict A → Type 0) (now : FilesReading) (c : C) → IfSome now.told (λ m. walk m (accepted (seen c))) → ReadsAs seen walk now now (Ok c)
-reads_known seen walk now c known = record { ok = known; quiet = refl; stop = tt; keeps = keeps_now now }
+pub reads_known : {A C : Type 0} {dir : List ℕ} (seen : C → A) (walk : Contents → Verdict A → Type 0) (now : FilesReading) (c : C) → IfSome now.told (λ m. walk m (accepted (seen c))) → ReadsAs dir [] seen walk now now (Ok c)
+reads_known {A} {C} {dir} seen walk now c known = record { ok = known; quiet = refl; stop = tt; asks = part_none dir [] now; asks_all = asks_none dir now; keeps = keeps_now now }
 
 -- ---- readings that are seen otherwise
 
-module _ {A C D : Type 0} (seen : C → A) (seen' : D → A) (walk : Contents → Verdict A → Type 0) (before after : FilesReading) where
-  pub reads_seen : (c : C) (d : D) → seen c ≡ seen' d → ReadsAs seen walk before after (Ok c) → ReadsAs seen' walk before after (Ok d)
-  reads_seen c d same r = record { ok = subst (λ a. Meets walk before after (accepted a)) same r.ok; quiet = r.quiet; stop = tt; keeps = r.keeps }
+module _ {A C D : Type 0} {dir : List ℕ} {xs : List (List ℕ)} (seen : C → A) (seen' : D → A) (walk : Contents → Verdict A → Type 0) (before after : FilesReading) where
+  pub reads_seen : (c : C) (d : D) → seen c ≡ seen' d → ReadsAs dir xs seen walk before after (Ok c) → ReadsAs dir xs seen' walk before after (Ok d)
+  reads_seen c d same r = record { ok = subst (λ a. Meets walk before after (accepted a)) same r.ok; quiet = r.quiet; stop = tt; asks = r.asks; asks_all = r.asks_all; keeps = r.keeps }
 
   -- one that stopped, at the exit of a `?`
-  pub stop_seen : (stop : Stop) (result : Result D Stop) → IsErrAnd result (λ e. e ≡ stop) → ReadsAs seen walk before after (Err stop) → ReadsAs seen' walk before after result
-  stop_seen stop result is r = let p = err_from_is_err_and result is in rw (p.1, p.2) (record { ok = tt; quiet = tt; stop = r.stop; keeps = r.keeps })
+  pub stop_seen : (stop : Stop) (result : Result D Stop) → IsErrAnd result (λ e. e ≡ stop) → ReadsAs dir xs seen walk before after (Err stop) → ReadsAs dir xs seen' walk before after result
+  stop_seen stop result is r = let p = err_from_is_err_and result is in rw (p.1, p.2) (record { ok = tt; quiet = tt; stop = r.stop; asks = r.asks; asks_all = tt; keeps = r.keeps })

@@ -3,6 +3,8 @@ pub mod Verdict
 pub mod JobOf
 pub mod NodeOf
 pub mod Stops
+pub mod FilesAsked
 pub mod Reads
 pub mod FileLogs
 pub mod Seen
+pub mod JobReads

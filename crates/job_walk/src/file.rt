@@ -1,5 +1,5 @@
 //! Reads the files of a job.
-ghost use Rattle.std.specs.Prelude.{◌≡◌, IfOk, string_bytes};
+ghost use Rattle.std.specs.Prelude.{◌≡◌, [], ◌∷◌, IfOk, string_bytes};
 ghost use Rattle.job_walk.specs.Names.{path_of};
 ghost use Rattle.job_walk.specs.Verdict.{Ends};
 ghost use Rattle.job_walk.specs.JobOf.{file_at};
@@ -31,7 +31,8 @@ pub fn read_file<F: Files>(
     dir: &str,
     name: &str,
 ) -> Result<Vec<u8>, Stop>
-    ensures { ReadsAs (λ bytes. bytes.items) (λ contents. Ends (file_at contents dir.now name.now))
+    ensures { ReadsAs dir.now (name.now ∷ []) (λ bytes. bytes.items)
+        (λ contents. Ends (file_at contents dir.now name.now))
         (F.reading files.old) (F.reading files.new) result }
 {
     let (path, missing) = match names_of(alloc, dir, name) {

@@ -6,6 +6,7 @@ ghost use Rattle.refusal_text.specs.Lines.{job_line};
 ghost use Rattle.job_walk.specs.Verdict.{Ends, verdict_of};
 ghost use Rattle.job_walk.specs.JobOf.{JobText};
 ghost use Rattle.job_walk.specs.Names.{job_file};
+ghost use Rattle.job_walk.specs.FilesAsked.{HasJob};
 ghost use Rattle.job_walk.specs.FileLogs.{Logs};
 ghost use Rattle.job_walk.specs.Reads.{ReadsAs, WalksAs};
 
@@ -26,8 +27,9 @@ pub(crate) fn read_job_text<F: Files, L: FileLog>(
     dir: &str,
     node: bool,
 ) -> Result<Job, Stop>
-    ensures reads { ReadsAs job_view (λ contents. JobText node contents dir.now)
+    ensures reads { ReadsAs dir.now (job_file ∷ []) job_view (λ contents. JobText node contents dir.now)
         (F.reading files.old) (F.reading files.new) result }
+    ensures told { IfOk result (λ job. HasJob node (F.reading files.old).told dir.now (job_view job)) }
     ensures is { IfOk result IsJob }
     ensures log { OnOk result (Logs L.has (F.reading files.old).told dir.now (job_file ∷ []) log.old log.new) }
 {

@@ -1,18 +1,20 @@
 //! One party of a job, by itself.
-ghost use Rattle.std.specs.Prelude.{◌≡◌, ◌<◌, true, [], ◌∷◌, Ok, IfOk, length};
+ghost use Rattle.std.specs.Prelude.{◌≡◌, ◌<◌, true, [], ◌∷◌, ◌++◌, Ok, IfOk, length};
 ghost use Rattle.outer_io.specs.Files.{FilesReading};
 ghost use Rattle.party_set.specs.Names.{party_named};
 ghost use Rattle.party_file.specs.Forms.{form_of, FitsPlan};
 ghost use Rattle.job_digest.specs.Digests.{HasFiles};
 ghost use Rattle.job_digest.specs.declared.JobDigest.{JobDigest};
 ghost use Rattle.job_file.specs.Jobs.{job_view, IsJob};
-ghost use Rattle.job_walk.specs.Names.{job_file};
+ghost use Rattle.job_walk.specs.Names.{job_file, party_file};
+ghost use Rattle.job_walk.specs.FilesAsked.{plan_files};
+ghost use Rattle.job_walk.specs.JobReads.{ReadsNode};
 ghost use Rattle.job_walk.specs.FileLogs.{Logs};
 ghost use Rattle.job_walk.specs.Verdict.{Ends};
 ghost use Rattle.job_walk.specs.JobOf.{JobText};
 ghost use Rattle.job_walk.specs.NodeOf.{party_of, NodeAt};
 ghost use Rattle.job_walk.specs.Reads.{ReadsAs, WalksAs};
-ghost use Rattle.job_walk.specs.Seen.{node_view, node_with};
+ghost use Rattle.job_walk.specs.Seen.{node_with};
 
 use crate::Stop;
 use crate::job::read_job_text;
@@ -50,8 +52,7 @@ pub fn read_node<F: Files>(
     dir: &str,
     name: &str,
 ) -> Result<NodeJob, Stop>
-    ensures reads { ReadsAs node_view (λ contents. NodeAt contents dir.now name.now)
-        (F.reading files.old) (F.reading files.new) result }
+    ensures reads { ReadsNode dir.now name.now (F.reading files.old) (F.reading files.new) result }
     ensures names { IfOk result (λ job. length job.names ≡ job.plan.parties) }
     ensures party { IfOk result (λ job. job.me < job.plan.parties) }
     ensures fits { IfOk result (λ job. FitsPlan job.plan job.me (form_of job.given)) }
@@ -104,9 +105,10 @@ fn read_rest<F: Files>(
     requires { IsJob job.now }
     ensures reads { (before : FilesReading) (start : JobDigest) → HasFiles start []
         → Logs HasFiles before.told dir.now (job_file ∷ []) start digest
-        → ReadsAs job_view (λ contents. JobText true contents dir.now) before (F.reading files.old) (Ok job.now)
-        → ReadsAs (node_with job.now) (λ contents. NodeAt contents dir.now name.now)
-        before (F.reading files.new) result }
+        → ReadsAs dir.now (job_file ∷ []) job_view (λ contents. JobText true contents dir.now)
+        before (F.reading files.old) (Ok job.now)
+        → ReadsAs dir.now (plan_files (job_view job.now) ++ (party_file name.now ∷ [])) (node_with job.now)
+        (λ contents. NodeAt contents dir.now name.now) before (F.reading files.new) result }
     ensures names { IfOk result (λ rest. length job.now.names ≡ rest.plan.parties) }
     ensures party { IfOk result (λ rest. rest.me < rest.plan.parties) }
     ensures fits { IfOk result (λ rest. FitsPlan rest.plan rest.me (form_of rest.given)) }

@@ -1,5 +1,5 @@
 //! The file of a party.
-ghost use Rattle.std.specs.Prelude.{◌≡◌, ◌<◌, IfOk, string_bytes};
+ghost use Rattle.std.specs.Prelude.{◌≡◌, ◌<◌, [], ◌∷◌, IfOk, string_bytes};
 ghost use Rattle.party_file.specs.Forms.{form_of, FitsPlan};
 ghost use Rattle.party_file.specs.Table.{party_in};
 ghost use Rattle.refusal_text.specs.Lines.{party_line};
@@ -27,7 +27,8 @@ pub fn read_party_file<F: Files>(
     name: &str,
 ) -> Result<PartyData, Stop>
     requires { p < plan.now.parties }
-    ensures reads { ReadsAs form_of (λ contents. PartyAt contents dir.now plan.now p name.now)
+    ensures reads { ReadsAs dir.now (party_file name.now ∷ []) form_of
+        (λ contents. PartyAt contents dir.now plan.now p name.now)
         (F.reading files.old) (F.reading files.new) result }
     ensures fits { IfOk result (λ party. FitsPlan plan.now p (form_of party)) }
 {

@@ -1,5 +1,5 @@
 //! The plan of a job.
-ghost use Rattle.std.specs.Prelude.{◌≡◌, ◌≤◌, false, All, Ok, IfOk, IfSome, length};
+ghost use Rattle.std.specs.Prelude.{◌≡◌, ◌≤◌, false, [], ◌∷◌, All, Ok, IfOk, IfSome, length};
 ghost use Rattle.std.specs.Option.{is_some};
 ghost use Rattle.party_set.specs.Parties.{IsQ2};
 ghost use Rattle.job_plan.specs.Plans.{plan_of, structure};
@@ -7,7 +7,10 @@ ghost use Rattle.job_session.specs.SoundSessions.{IsSoundSession};
 ghost use Rattle.outer_io.specs.Files.{FilesReading};
 ghost use Rattle.job_file.specs.Jobs.{job_view, IsJob};
 ghost use Rattle.job_walk.specs.JobOf.{JobText, PlanOf, PlanAt};
-ghost use Rattle.job_walk.specs.Seen.{planned_view, planned_with, text_view};
+ghost use Rattle.job_walk.specs.Names.{job_file};
+ghost use Rattle.job_walk.specs.FilesAsked.{plan_files};
+ghost use Rattle.job_walk.specs.JobReads.{ReadsPlan};
+ghost use Rattle.job_walk.specs.Seen.{planned_with, text_view};
 ghost use Rattle.job_walk.specs.Reads.{ReadsAs, WalksAs};
 
 use crate::Stop;
@@ -43,9 +46,7 @@ pub fn read_planned<F: Files>(
     dir: &str,
     asked: Option<&str>,
 ) -> Result<Planned, Stop>
-    ensures reads { ReadsAs planned_view
-        (λ contents. PlanAt contents dir.now (text_view asked.entry))
-        (F.reading files.old) (F.reading files.new) result }
+    ensures reads { ReadsPlan dir.now (text_view asked.entry) (F.reading files.old) (F.reading files.new) result }
     ensures names { IfOk result (λ planned. length planned.names ≡ planned.plan.parties) }
     ensures group { IfOk result (λ planned. IfSome planned.group
         (λ group. group.parties ≡ length planned.names)) }
@@ -87,9 +88,10 @@ fn read_rest<F: Files>(
 ) -> Result<PlanRest, Stop>
     requires { IsJob job.now }
     ensures reads { (before : FilesReading)
-        → ReadsAs job_view (λ contents. JobText false contents dir.now) before (F.reading files.old) (Ok job.now)
-        → ReadsAs (planned_with job.now) (λ contents. PlanAt contents dir.now (text_view asked.entry))
-        before (F.reading files.new) result }
+        → ReadsAs dir.now (job_file ∷ []) job_view (λ contents. JobText false contents dir.now)
+        before (F.reading files.old) (Ok job.now)
+        → ReadsAs dir.now (plan_files (job_view job.now)) (planned_with job.now)
+        (λ contents. PlanAt contents dir.now (text_view asked.entry)) before (F.reading files.new) result }
     ensures names { IfOk result (λ rest. length job.now.names ≡ rest.plan.parties) }
     ensures group { IfOk result (λ rest. IfSome rest.group
         (λ group. group.parties ≡ length job.now.names)) }

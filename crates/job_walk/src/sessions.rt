@@ -35,7 +35,7 @@ pub(crate) fn read_sessions<F: Files, L: FileLog>(
     job: &Job,
 ) -> Result<Vec<SessionPart>, Stop>
     requires { IsJob job.now }
-    ensures reads { ReadsAs (λ parts. parts.items)
+    ensures reads { ReadsAs dir.now (circuit_files (job_view job.now)) (λ parts. parts.items)
         (λ contents. SessionsAfter contents dir.now (job_view job.now) []
         (job_view job.now).sessions)
         (F.reading files.old) (F.reading files.new) result }
@@ -63,7 +63,7 @@ fn read_session<F: Files, L: FileLog>(
 ) -> Result<SessionPart, Stop>
     requires job { IsJob job.now }
     requires session { IsSession (length job.now.names) session.now }
-    ensures reads { ReadsAs (λ part. part)
+    ensures reads { ReadsAs dir.now (session.now.circuit ∷ []) (λ part. part)
         (λ contents. SessionAt contents dir.now (job_view job.now) s (session_view session.now))
         (F.reading files.old) (F.reading files.new) result }
     ensures sound { IfOk result (IsSoundSession (length job.now.names)) }

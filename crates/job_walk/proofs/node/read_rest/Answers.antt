@@ -13,14 +13,14 @@ pub returns-in_err-me-clause-reads : goal.returns-in_err-me-clause-reads
 unfolding NodeAt
 returns-in_err-me-clause-reads g c = λ before start none logs read.
     reads_then _ _ _ _ _ _ _ _ _ read
-    (reads_exit _ _ _ _ _ _ _ _ c.from_residual.ensures.1 (reads_walk _ _ _ _ c.in_err-me.ensures.walks))
+    (reads_exit _ _ _ _ _ _ _ _ _ c.from_residual.ensures.1 (reads_walk _ _ _ _ c.in_err-me.ensures.walks))
 
 pub returns-in_err-groups-clause-reads : goal.returns-in_err-groups-clause-reads
 unfolding NodeAt
 returns-in_err-groups-clause-reads g c = λ before start none logs read.
     reads_then _ _ _ _ _ _ _ _ _ read
     (reads_then _ _ _ _ _ _ _ _ _ (reads_walk _ _ _ _ c.in_ok-me.ensures.walks)
-    (reads_exit _ _ _ _ _ _ _ _ c.from_residual-in_err-groups.ensures.1 (reads_walk _ _ _ _ c.in_err-groups.ensures.walks)))
+    (reads_exit _ _ _ _ _ _ _ _ _ c.from_residual-in_err-groups.ensures.1 (reads_walk _ _ _ _ c.in_err-groups.ensures.walks)))
 
 pub returns-in_err-parts-clause-reads : goal.returns-in_err-parts-clause-reads
 unfolding NodeAt
@@ -28,7 +28,7 @@ returns-in_err-parts-clause-reads g c = λ before start none logs read.
     reads_then _ _ _ _ _ _ _ _ _ read
     (reads_then _ _ _ _ _ _ _ _ _ (reads_walk _ _ _ _ c.in_ok-me.ensures.walks)
     (reads_then _ _ _ _ _ _ _ _ _ (reads_walk _ _ _ _ c.in_ok-groups.ensures.walks)
-    (reads_exit _ _ _ _ _ _ _ _ c.from_residual-in_err-parts.ensures.1 c.in_err-parts.ensures.reads)))
+    (reads_exit _ _ _ _ _ _ _ _ _ c.from_residual-in_err-parts.ensures.1 c.in_err-parts.ensures.reads)))
 
 pub returns-in_err-plan-clause-reads : goal.returns-in_err-plan-clause-reads
 unfolding NodeAt
@@ -37,7 +37,7 @@ returns-in_err-plan-clause-reads g c = λ before start none logs read.
     (reads_then _ _ _ _ _ _ _ _ _ (reads_walk _ _ _ _ c.in_ok-me.ensures.walks)
     (reads_then _ _ _ _ _ _ _ _ _ (reads_walk _ _ _ _ c.in_ok-groups.ensures.walks)
     (reads_then _ _ _ _ _ _ _ _ _ c.in_ok-parts.ensures.reads
-    (reads_exit _ _ _ _ _ _ _ _ c.from_residual-in_err-plan.ensures.1 (reads_walk _ _ _ _ c.in_err-plan.ensures.walks)))))
+    (reads_exit _ _ _ _ _ _ _ _ _ c.from_residual-in_err-plan.ensures.1 (reads_walk _ _ _ _ c.in_err-plan.ensures.walks)))))
 
 pub returns-in_err-given-clause-reads : goal.returns-in_err-given-clause-reads
 unfolding NodeAt
@@ -47,7 +47,7 @@ returns-in_err-given-clause-reads g c = λ before start none logs read.
     (reads_then _ _ _ _ _ _ _ _ _ (reads_walk _ _ _ _ c.in_ok-groups.ensures.walks)
     (reads_then _ _ _ _ _ _ _ _ _ c.in_ok-parts.ensures.reads
     (reads_then _ _ _ _ _ _ _ _ _ (reads_walk _ _ _ _ c.in_ok-plan.ensures.walks)
-    (reads_exit _ _ _ _ _ _ _ _ c.from_residual-in_err-given.ensures.1 c.in_err-given.ensures.reads)))))
+    (reads_exit _ _ _ _ _ _ _ _ _ c.from_residual-in_err-given.ensures.1 c.in_err-given.ensures.reads)))))
 
 pub returns-clause-reads : goal.returns-clause-reads
 unfolding NodeAt

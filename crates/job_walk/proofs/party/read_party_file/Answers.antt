@@ -12,7 +12,7 @@ pub returns-in_err-bytes-clause-reads : goal.returns-in_err-bytes-clause-reads
 unfolding PartyAt
 returns-in_err-bytes-clause-reads g c =
     let name : c.as_str.result.now ≡ party_file c.args.name.now = c.as_str.ensures.value ∙ c.in_ok-file.ensures in
-    reads_exit _ _ _ _ _ _ _ _ c.from_residual-in_err-bytes.ensures.1 (file_named _ _ _ _ _ _ _ name c.in_err-bytes.ensures)
+    reads_exit _ _ _ _ _ _ _ _ _ c.from_residual-in_err-bytes.ensures.1 (file_named _ _ _ _ _ _ _ name c.in_err-bytes.ensures)
 
 pub returns-clause-reads : goal.returns-clause-reads
 unfolding PartyAt

@@ -7,7 +7,7 @@ use Rattle.job_walk.proofs.sessions.read_session.Goals as goal
 
 pub returns-in_err-bytes-clause-reads : goal.returns-in_err-bytes-clause-reads
 unfolding SessionAt
-returns-in_err-bytes-clause-reads g c = reads_exit _ _ _ _ _ _ _ _ c.from_residual.ensures.1 (file_named _ _ _ _ _ _ _ c.as_str.ensures c.in_err-bytes.ensures)
+returns-in_err-bytes-clause-reads g c = reads_exit _ _ _ _ _ _ _ _ _ c.from_residual.ensures.1 (file_named _ _ _ _ _ _ _ c.as_str.ensures c.in_err-bytes.ensures)
 
 pub returns-in_err-circuit-clause-reads : goal.returns-in_err-circuit-clause-reads
 unfolding SessionAt

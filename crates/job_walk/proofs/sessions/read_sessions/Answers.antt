@@ -11,7 +11,7 @@ use Rattle.job_walk.specs.Reads.{ReadsAs}
 use Rattle.job_walk.specs.FileLogs.{Logs}
 use Rattle.job_walk.proofs.Logs.{circuits_of, circuits_are, circuits_more, logs_none, logs_then}
 use Rattle.job_walk.proofs.Steps.{reads_memory}
-use Rattle.job_walk.proofs.Loops.{session_next, session_stops, sessions_end, parts_same}
+use Rattle.job_walk.proofs.Loops.{circuits, session_next, session_stops, sessions_end, parts_same}
 use Rattle.job_walk.proofs.sessions.read_sessions.Goals as goal
 
 pub read_session-requires-clause-session : goal.read_session-requires-clause-session
@@ -46,7 +46,7 @@ loop-s-preserved g c = record {
 pub loop-s-init : goal.loop-s-init
 loop-s-init g c = record {
   reads = λ after result rest.
-      subst (λ (parts : List Session). ReadsAs (λ (parts : Vec Session Global). parts.items) (λ m. SessionsAfter m c.args.dir.now (job_view c.args.job.now) parts (map session_view c.args.job.now.sessions.items)) (g.F.Files.reading c.args.files.now) after result)
+      subst (λ (parts : List Session). ReadsAs c.args.dir.now (circuits (map session_view c.args.job.now.sessions.items)) (λ (parts : Vec Session Global). parts.items) (λ m. SessionsAfter m c.args.dir.now (job_view c.args.job.now) parts (map session_view c.args.job.now.sessions.items)) (g.F.Files.reading c.args.files.now) after result)
       c.new-parts.ensures.items rest;
   count = ap length c.new-parts.ensures.items;
   sound = subst (All (IsSoundSession (length c.args.job.now.names))) (sym c.new-parts.ensures.items) (All-nil (IsSoundSession (length c.args.job.now.names)));

@@ -9,14 +9,15 @@ use Rattle.job_walk.specs.JobOf.{SessionsAfter}
 use Rattle.job_walk.specs.FileLogs.{Logs}
 use Rattle.job_walk.specs.Reads.{ReadsAs}
 use Rattle.job_walk.proofs.Logs.{circuits_of}
+use Rattle.job_walk.proofs.Loops.{circuits}
 use Rattle.job_walk.proofs.sessions.read_sessions.Given as goal
 
 -- whatever reads the sessions that are left reads them all
 abbrev pub invariant-loop-s : goal.invariant-loop-s
 invariant-loop-s g l = record {
   reads : (after : FilesReading) (result : Result (Vec Session Global) Stop)
-      → ReadsAs (λ (parts : Vec Session Global). parts.items) (λ m. SessionsAfter m l.dir (job_view l.job) l.parts.items (drop l.s (map session_view l.job.sessions.items))) (g.F.Files.reading l.files) after result
-      → ReadsAs (λ (parts : Vec Session Global). parts.items) (λ m. SessionsAfter m l.dir (job_view l.job) [] (map session_view l.job.sessions.items)) (g.F.Files.reading l.initial.files) after result;
+      → ReadsAs l.dir (circuits (drop l.s (map session_view l.job.sessions.items))) (λ (parts : Vec Session Global). parts.items) (λ m. SessionsAfter m l.dir (job_view l.job) l.parts.items (drop l.s (map session_view l.job.sessions.items))) (g.F.Files.reading l.files) after result
+      → ReadsAs l.dir (circuits (map session_view l.job.sessions.items)) (λ (parts : Vec Session Global). parts.items) (λ m. SessionsAfter m l.dir (job_view l.job) [] (map session_view l.job.sessions.items)) (g.F.Files.reading l.initial.files) after result;
   count : length l.parts.items ≡ l.s;
   sound : All (IsSoundSession (length l.job.names)) l.parts.items;
   told : (g.F.Files.reading l.files).told ≡ (g.F.Files.reading l.initial.files).told;
