@@ -2,7 +2,7 @@
 use Rattle.std.specs.Prelude.{◌≡◌, ◌≢◌, ℕ, ◌<◌, List, [], ◌∷◌, length, slice_index, Some}
 use Rattle.message_board.specs.Pairs.{Knows}
 use Rattle.inbox_board.specs.declared.steps.View.{View}
-use Rattle.inbox_board.specs.Rule.{newcomer, pushes, ends, folds, Agrees}
+use Rattle.inbox_board.specs.Rule.{newcomer, pushes, ends, folds, FitsTogether}
 
 -- a writer's view after it pushed these words in order
 abbrev pub pushed : View → List ℕ → View
@@ -20,4 +20,4 @@ pub record GotWhatWasPushed (words : List ℕ) (given : ℕ) (reader : View) : T
 abbrev pub FoldTells : Type 0
 FoldTells =
     (words : List ℕ) (given : ℕ) (reader : View) → reader.length ≡ 0 → reader.ended ≡ 0
-    → Agrees (folds (ends (pushed (newcomer 1) words) given) reader) → GotWhatWasPushed words given reader
+    → FitsTogether (folds (ends (pushed (newcomer 1) words) given) reader) → GotWhatWasPushed words given reader

@@ -144,7 +144,7 @@ noted_step st me n me' = (me'.1 ≡ me.1) × (me'.0 ≡ notes me.0 n) × (me.0.n
 
 -- what a view knows fits together: a place has one word, and with the pen each place known was filled, a mark found is
 -- the one given, and a total is the count of the places filled
-pub record Agrees (v : View) : Type 0 where
+pub record FitsTogether (v : View) : Type 0 where
   pub words : (place w x : ℕ) → Knows v.seen place w → Knows v.seen place x → w ≡ x
   pub places : 0 < v.pens → (place w : ℕ) → Knows v.seen place w → place < v.length
   pub mark : 0 < v.pens → v.noted ≢ 0 → v.noted ≡ v.ended
@@ -152,4 +152,4 @@ pub record Agrees (v : View) : Type 0 where
 
 -- a load of the seats' word, which changes nothing and tells that
 abbrev pub compared_step : Step (Unit {0}) → Sat → ℕ → Sat → Type 0
-compared_step st me n me' = (me'.1 ≡ me.1) × (me'.0 ≡ me.0) × Agrees me.0
+compared_step st me n me' = (me'.1 ≡ me.1) × (me'.0 ≡ me.0) × FitsTogether me.0

@@ -63,7 +63,7 @@ fn mark_found(found: u64) -> Option<bool>
 
 impl Inbox {
     ghost use Rattle.message_board.specs.Pairs.{Knows};
-    ghost use Rattle.inbox_board.specs.Rule.{newcomer, pushes, ends, notes, folds, Agrees};
+    ghost use Rattle.inbox_board.specs.Rule.{newcomer, pushes, ends, notes, folds, FitsTogether};
     ghost use Rattle.inbox_board.specs.Seats.{MayWrite, Looks};
 
     /// An inbox of so many empty places, with the seat that writes and one that reads.
@@ -161,7 +161,7 @@ impl Inbox {
         requires pen { seat.view.pens + other.view.pens ≤ 1 }
         ensures seat { result.id ≡ self.now.id }
         ensures view { result.view ≡ folds seat.view other.view }
-        ensures agrees { Agrees result.view }
+        ensures agrees { FitsTogether result.view }
     {
         let InboxSeat {
             seat: spent,

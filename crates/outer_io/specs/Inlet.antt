@@ -34,20 +34,20 @@ IsAtEnd None = Unit {0}
 IsAtEnd (Some left) = left ≡ []
 
 -- the first bytes of a place came: one at least, and no more than the place has
-pub record Came (before after : Option (List ℕ)) (into : List ℕ) (count : ℕ) : Type 0 where
+pub record CameInto (before after : Option (List ℕ)) (into : List ℕ) (count : ℕ) : Type 0 where
   pub some : 1 ≤ count
   pub within : count ≤ length into
   pub bytes : before ≡ ahead (take count into) after
 
 -- what one answer tells: bytes came, or none are left, or nothing was taken
-abbrev pub Answers : Option (List ℕ) → Option (List ℕ) → List ℕ → Got → Type 0
-Answers before after into (Bytes count) = Came before after into count
-Answers before after into End = (after ≡ before) × IsAtEnd before
-Answers before after into Failed = after ≡ before
+abbrev pub ReadGives : Option (List ℕ) → Option (List ℕ) → List ℕ → Got → Type 0
+ReadGives before after into (Bytes count) = CameInto before after into count
+ReadGives before after into End = (after ≡ before) × IsAtEnd before
+ReadGives before after into Failed = after ≡ before
 
 -- What one read into a place does.
 pub record ReadsInto (into : List ℕ) (before after : InletReading) (result : Got) : Type 0 where
-  pub answers : Answers before.told after.told into result
+  pub answers : ReadGives before.told after.told into result
   -- it fails only where the count of faults rose, and at every other answer that count stays
   pub failed : result ≡ Failed → Rose before.faults after.faults
   pub quiet : ¬ (result ≡ Failed) → after.faults ≡ before.faults

@@ -1,6 +1,6 @@
 use Rattle.std.proofs.Common.{◌≡◌, ap, sym, ◌∙◌, subst}
 use Rattle.inbox_board.specs.declared.steps.View.{View}
-use Rattle.inbox_board.specs.Rule.{folds, ends, newcomer, Agrees}
+use Rattle.inbox_board.specs.Rule.{folds, ends, newcomer, FitsTogether}
 use Rattle.inbox_board.specs.Folds.{pushed}
 use Rattle.inbox_board.proofs.PushedWords.{fold_tells}
 use Rattle.node_run.specs.Mail.{BoxModel}
@@ -12,4 +12,4 @@ returns c = λ words mark e.
     fold_tells words mark c.args.self.view
     (ap (λ (v : View). v.length) (sym same) ∙ c.self.invariant.2)
     (ap (λ (v : View). v.ended) (sym same) ∙ c.self.invariant.3)
-    (subst Agrees (c.fold.ensures.view ∙ ap (λ v. folds v c.self.inside.seat.view) e ∙ ap (λ v. folds (ends (pushed (newcomer 1) words) mark) v) same) c.fold.ensures.agrees)
+    (subst FitsTogether (c.fold.ensures.view ∙ ap (λ v. folds v c.self.inside.seat.view) e ∙ ap (λ v. folds (ends (pushed (newcomer 1) words) mark) v) same) c.fold.ensures.agrees)
