@@ -4,3 +4,4 @@ pub mod Runs
 pub mod BrokenOffRuns
 pub mod ExpectedMessages
 pub mod ShutInlets
+pub mod NoMore

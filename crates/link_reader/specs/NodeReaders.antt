@@ -1,16 +1,13 @@
 -- What the readers of a party tell, one for each of its peers.
-use Rattle.std.specs.Prelude.{◌≡◌, ◌⊎◌, ℕ, suc, ◌<◌, ◌≤◌, List, [], length, slice_index, Some, Result, Ok, Err}
+use Rattle.std.specs.Prelude.{◌≡◌, ◌⊎◌, ℕ, ◌<◌, ◌≤◌, List, [], length, slice_index, Some, Result, Ok, Err}
 use Rattle.outer_io.specs.Sink.{added, AddedPrefix}
 use Rattle.job_plan.specs.declared.key.Key.{Key}
 use Rattle.node_talk.specs.declared.fault.NodeFault.{NodeFault}
-use Rattle.job_plan.specs.Numbers.{message}
-use Rattle.party_program.specs.declared.program.Instruction.TheVariants.{Take}
-use Rattle.party_program.specs.Programs.{at}
-use Rattle.node_talk.specs.Talks.{Node, IsPeer, IsRun, acts, own_word, said, talk, expected, expected_at, place_of}
+use Rattle.node_talk.specs.Talks.{Node, IsPeer, IsRun, own_word, said, talk, expected, expected_at}
 use Rattle.node_talk.specs.PeerLinks.{in_from, out_to}
 use Rattle.outer_io.specs.Links.{LinksReading}
 use Rattle.node_talk.specs.Causes.{Cause}
-use Rattle.node_talk.specs.Runs.{TalkedThrough, BrokeOff}
+use Rattle.node_talk.specs.Runs.{TalkedThrough, TakesWhatCame, StopsAfter, NoSendRose, AllStarted, BrokeOff}
 use Rattle.link_reader.specs.Expected.{TalkModel}
 use Rattle.link_reader.specs.ReadWords.{Reads}
 
@@ -64,19 +61,27 @@ ReadsOfAll n words before after =
 abbrev pub HasReadWords : Node → (Key → ℕ) → (ℕ → List ℕ) → Type 0
 HasReadWords n got words = (q : ℕ) → IsPeer n q → HasFirstWords n q got (length (words q)) (words q)
 
--- a party stopped after k of its instructions: what it took was read at its place, and of its posts up to the next one
--- it said a first part, whatever words are still to come
-pub record StoppedShort (n : Node) (before after : LinksReading) : Type 0 where
+-- all peers were read, and the party said all that its first k instructions say: the next one takes a word that wasn't
+-- read
+pub record SaidWhatItCould (n : Node) (words : ℕ → List ℕ) (k : ℕ) (before after : LinksReading) : Type 0 where
+  pub read : (q : ℕ) → IsPeer n q → (result : Result (Unit {0}) NodeFault) × ReadsFrom n q (words q) before after result
+  pub told : (got : Key → ℕ) → HasReadWords n got words → (q : ℕ) → IsPeer n q
+      → (out_to n after q).told ≡ added (out_to n before q).told (said n q (own_word n got) k)
+  pub stops : StopsAfter n (λ q. length (words q)) k
+
+-- a party stopped at a fault: of what its first k instructions say it said a first part, whatever words are still to
+-- come, and they take only words that were read. Where no send failed and all readers were started, it said what it could
+pub record StoppedShort (n : Node) (before after : LinksReading) (fault : NodeFault) : Type 0 where
   pub k : ℕ
-  pub within : k ≤ length (acts n)
   pub words : ℕ → List ℕ
   pub read : ReadsOfAll n words before after
-  pub taken : (j m i : ℕ) → j < k → at (acts n) j ≡ Take m i
-      → place_of n m < length (words (message n.world.plan m).sender)
+  pub takes : TakesWhatCame n (λ q. length (words q)) k
   pub sent : (got : Key → ℕ) → HasReadWords n got words → (q : ℕ) → IsPeer n q
-      → AddedPrefix (out_to n before q).told (said n q (own_word n got) (suc k)) (out_to n after q).told
+      → AddedPrefix (out_to n before q).told (said n q (own_word n got) k) (out_to n after q).told
+  pub all : AllStarted fault → NoSendRose n before after → SaidWhatItCould n words k before after
 
 -- so it broke off
 abbrev pub BreaksOff : Node → Type 0
 BreaksOff n =
-    (before after : LinksReading) → StoppedShort n before after → (got : Key → ℕ) × BrokeOff n got before after
+    (before after : LinksReading) (fault : NodeFault) → StoppedShort n before after fault
+    → (got : Key → ℕ) × BrokeOff n got before after fault

@@ -2,7 +2,6 @@
 ghost use Rattle.std.specs.Prelude.{◌≡◌, ℕ, length};
 ghost use Rattle.node_talk.specs.Talks.{Node, IsPeer};
 ghost use Rattle.link_reader.specs.NodeReaders.{TellsCause, ReadsARun, TalksThrough, BreaksOff};
-ghost use Rattle.program_laws.specs.Parts.{IsPart};
 
 /// A reader's fault is a cause of the end of the party's run.
 pub fn a_reader_tells_its_cause()
@@ -21,5 +20,5 @@ pub fn readers_talk_through()
 
 /// A party that stopped before its end, while its readers read, broke its talk off.
 pub fn readers_break_off()
-    ensures { (n : Node) → IsPart n.world n.me → length n.digest ≡ 32 → BreaksOff n }
+    ensures { (n : Node) → length n.digest ≡ 32 → BreaksOff n }
 {}

@@ -26,7 +26,9 @@ use Rattle.std.proofs.lemmas.List.{get_or_past}
 use Rattle.outer_io.specs.Sink.{added, AddedPrefix}
 use Rattle.frame_code.specs.Frames.{hello, frame}
 use Rattle.frame_code.proofs.ReadFrames.{word_in, word_back, length-hello}
-use Rattle.node_talk.specs.Talks.{Node, acts, messages_between, frames, stream, talk, said, posts_to, post_to, place_of, IsRun, EndsBefore}
+use Rattle.node_talk.specs.declared.fault.NodeFault.{NodeFault}
+use Rattle.node_talk.specs.declared.fault.NodeFault.TheVariants.{NoThread}
+use Rattle.node_talk.specs.Talks.{Node, acts, messages_between, frames, stream, talk, said, posts_to, post_to, place_of, IsRun}
 use Rattle.node_talk.specs.PeerLinks.{out_to}
 use Rattle.node_talk.specs.Runs.{BrokeOff}
 use Rattle.node_talk.proofs.PassedLists.{every_from_places, take_place}
@@ -37,7 +39,7 @@ use Rattle.node_talk.proofs.ActPlaces.{joined_within, before_session, at_act, wi
 use Rattle.node_talk.proofs.RightRuns.{is_of_world}
 use Rattle.node_talk.proofs.KeptViews.{own_view}
 use Rattle.network_laws.specs.Networks.{Network, node, RanThrough, IsNetwork, SaysWorld, IsRight}
-use Rattle.network_laws.proofs.RunsAsShort.{run_of_all, run_broke}
+use Rattle.network_laws.proofs.RunsAsShort.{run_of_all, run_broke, part_of_more, part_of_talk}
 use Rattle.network_laws.proofs.FirstParts.{frames_begin, cut_after, cut_frames, short_take, long_take, posted_before}
 
 module _ (net : Network) (h : IsNetwork net) where
@@ -57,12 +59,12 @@ module _ (net : Network) (h : IsNetwork net) where
   part : (p : ℕ) → p < plan.parties → IsPart net.world p
   part p lp = part_of w h.whole p lp
 
-  any_run : (p : ℕ) → p < plan.parties → (got : Key → ℕ) × BrokeOff (node net p) got (net.before p) (net.after p)
-  any_run p lp = ⊎_elim (λ (r : RanThrough net p). (r.got, run_broke (node net p) (part p lp) r.got (net.before p) (net.after p) r.talked)) (λ b. (b.got, b.broke)) (h.runs p lp)
+  any_run : (p : ℕ) → p < plan.parties → (fault : NodeFault) × (got : Key → ℕ) × BrokeOff (node net p) got (net.before p) (net.after p) fault
+  any_run p lp = ⊎_elim (λ (r : RanThrough net p). (NoThread p, r.got, run_broke (node net p) (part p lp) r.got (net.before p) (net.after p) r.talked (NoThread p))) (λ b. (b.fault, b.got, b.broke)) (h.runs p lp)
 
-  got_of : (p : ℕ) → (got : Key → ℕ) × (p < plan.parties → BrokeOff (node net p) got (net.before p) (net.after p))
+  got_of : (p : ℕ) → (got : Key → ℕ) × (p < plan.parties → (fault : NodeFault) × BrokeOff (node net p) got (net.before p) (net.after p) fault)
   got_of p = elim (cases_lt p plan.parties) [
-    | left' lp ↦ let r = any_run p lp in (r.0, λ l. r.1)
+    | left' lp ↦ let r = any_run p lp in (r.1, λ l. (r.0, r.2))
     | right' past ↦ (λ key. 0, λ l. absurd (omega arith))
   ]
 
@@ -72,8 +74,15 @@ module _ (net : Network) (h : IsNetwork net) where
   abbrev own : ℕ → Key → ℕ
   own p = local_word net.world ((got_of p).0) p
 
-  broke : (p : ℕ) → p < plan.parties → BrokeOff (node net p) (got p) (net.before p) (net.after p)
-  broke p lp = (got_of p).1 lp
+  fault : (p : ℕ) → p < plan.parties → NodeFault
+  fault p lp = ((got_of p).1 lp).0
+
+  broke : (p : ℕ) (lp : p < plan.parties) → BrokeOff (node net p) (got p) (net.before p) (net.after p) (((got_of p).1 lp).0)
+  broke p lp = ((got_of p).1 lp).1
+
+  -- what was said by the first instructions is a first part of the talk
+  told : (p q : ℕ) (lp : p < plan.parties) → q < plan.parties → p ≢ q → AddedPrefix (out_to (node net p) (net.before p) q).told (talk (node net p) q (own p)) (out_to (node net p) (net.after p) q).told
+  told p q lp lq ne = part_of_talk (node net p) q (own p) (broke p lp).k _ _ ((broke p lp).told q (lq, λ e. ne (sym e)))
 
   -- what p's outlet to q took
   abbrev taken : (p q : ℕ) (lp : p < plan.parties) (lq : q < plan.parties) (ne : p ≢ q) → List ℕ
@@ -96,7 +105,7 @@ module _ (net : Network) (h : IsNetwork net) where
       let pipe = h.pipes p q lp lq ne in
       let start : List ℕ = hello p q net.digest in
       let text : List ℕ = talk (node net p) q (own p) in
-      let t = first_part p q lp lq ne text ((broke p lp).told q (lq, λ e. ne (sym e))) in
+      let t = first_part p q lp lq ne text (told p q lp lq ne) in
       let front : List ℕ = frames word' (take f (keys p q)) in
       let whole : start ++ (front ++ (run.begins.0 ++ (pipe.lost ++ drop t.0 text))) ≡ start ++ frames (own p) (keys p q) =
       sym (
@@ -177,33 +186,39 @@ module _ (net : Network) (h : IsNetwork net) where
       ]
 
       got_before : (m' : ℕ) → m' < length (messages plan) → (m : ℕ) → message plan m ≡ key_at p q j → (message plan m').receiver ≡ p → ((message plan m').session ≡ (message plan m).session) × ((message plan m').slot < N) → got p (message plan m') ≡ word w (message plan m')
-      got_before m' lm' m is to early = elim (cases_eq (got p (message plan m')) (word w (message plan m'))) [
-        | left' e ↦ e
-        | right' wrong ↦ absurd (
-            let n : Node = node net p in
-            let key : Key = message plan m' in
-            let b = between_parties n (part p lp) m' lm' in
-            let r : ℕ = key.sender in
-            let apart : r ≢ p = (λ e. b.apart (e ∙ sym to)) in
-            let o = once plan m' lm' in
-            let u : ℕ = o.taken.position in
-            let takes' : at (program plan p key.session) u ≡ Take m' key.share = ap (λ z. at (program plan z key.session) u) (sym to) ∙ o.taken.stands in
-            let less : u < length (program plan p key.session) = inside u takes' in
-            let k : ℕ = before_session n key.session + u in
-            let lk : k < length (acts n) = (let a = within_acts n key.session (suc u) o.session_there (omega arith) in omega arith) in
-            let stands : at (acts n) k ≡ Take m' key.share = at_act n key.session u o.session_there less ∙ takes' in
-            let pipe = h.pipes r p b.sender lp apart in
-            let place = placed n m' lm' to in
-            let ends : EndsBefore n r pipe.held (suc (place_of n m')) = (λ word' run.
-            let heard_as : got p (key_at r p (place_of n m')) ≡ word' (key_at r p (place_of n m')) = (broke p lp).hears r (b.sender, apart) pipe.held pipe.inlet (suc (place_of n m')) word' run (place_of n m') (omega arith) in
-            let slot_below : (key_at r p (place_of n m')).slot < N = subst (λ z. z.slot < N) (sym place.1) early.1 in
-            let known = below r p b.sender lp apart (suc (place_of n m')) word' run (place_of n m') (omega arith) slot_below in
-            wrong (subst (λ z. got p z ≡ word w z) place.1 (heard_as ∙ known))) in
-            too_late p q lp lq ne N j m' lm' lj slot_is (sym (ap (λ z. z.session) is) ∙ sym early.0) long to early.1 u refl (omega arith) lk
-            ((broke p lp).waits r q m' key.share k (b.sender, apart) (lq, λ e. ne (sym e)) lk stands refl pipe.held pipe.inlet ends)
-            )
-      ]
+      got_before m' lm' m is to early =
+          let n : Node = node net p in
+          let key : Key = message plan m' in
+          let b = between_parties n (part p lp) m' lm' in
+          let r : ℕ = key.sender in
+          let apart : r ≢ p = (λ e. b.apart (e ∙ sym to)) in
+          let pipe = h.pipes r p b.sender lp apart in
+          let place = placed n m' lm' to in
+          let x = broke p lp in
+          elim (cases_lt (place_of n m') (x.came r)) [
+            -- it came, and stands in the bytes
+            | left' came ↦
+                let run = x.hears r (b.sender, apart) pipe.held pipe.inlet (omega arith) in
+                let slot_below : (key_at r p (place_of n m')).slot < N = subst (λ z. z.slot < N) (sym place.1) early.1 in
+                subst (λ z. got p z ≡ word w z) place.1 (below r p b.sender lp apart (x.came r) (got p) run (place_of n m') came slot_below)
+            -- it didn't come, and what is posted after its take wasn't said
+            | right' none ↦ absurd (
+                let o = once plan m' lm' in
+                let u : ℕ = o.taken.position in
+                let takes' : at (program plan p key.session) u ≡ Take m' key.share = ap (λ z. at (program plan z key.session) u) (sym to) ∙ o.taken.stands in
+                let less : u < length (program plan p key.session) = inside u takes' in
+                let k : ℕ = before_session n key.session + u in
+                let lk : k < length (acts n) = (let a = within_acts n key.session (suc u) o.session_there (omega arith) in omega arith) in
+                let stands : at (acts n) k ≡ Take m' key.share = at_act n key.session u o.session_there less ∙ takes' in
+                let stopped : x.k ≤ k = not_taken x.k k (λ l. let came : place_of n m' < x.came r = x.takes k m' key.share l stands in absurd (omega arith)) in
+                too_late p q lp lq ne N j m' lm' lj slot_is (sym (ap (λ z. z.session) is) ∙ sym early.0) long to early.1 u refl (omega arith) lk
+                (part_of_more n q (own p) x.k k stopped _ _ (x.told q (lq, λ e. ne (sym e))))
+                )
+          ]
         where
+          not_taken : (a b : ℕ) → (b < a → ⊥) → a ≤ b
+          not_taken a b never = omega arith
+
           inside : (u : ℕ) → at (program plan p (message plan m').session) u ≡ Take m' (message plan m').share → u < length (program plan p (message plan m').session)
           inside u is' = elim (cases_lt u (length (program plan p (message plan m').session))) [
             | left' l ↦ l
@@ -248,7 +263,7 @@ module _ (net : Network) (h : IsNetwork net) where
       let pipe = h.pipes p q lp lq ne in
       let start : List ℕ = hello p q net.digest in
       let text : List ℕ = talk (node net p) q (own p) in
-      let t = first_part p q lp lq ne text ((broke p lp).told q (lq, λ e. ne (sym e))) in
+      let t = first_part p q lp lq ne text (told p q lp lq ne) in
       let count : length text ≡ 38 + 18 * length (keys p q) = stream_length net.digest p q (own p) (keys p q) h.digest in
       let same : take t.0 text ≡ take t.0 (talk (node net p) q (word w)) =
       cut_after start (frames (own p) (keys p q)) (frames (word w) (keys p q)) t.0 (λ n is.

@@ -1,25 +1,38 @@
 -- What a run that ended well tells, a run that broke off tells too.
-use Rattle.std.proofs.Common.{◌≡◌, ℕ, suc, ◌<◌, ◌≤◌, ◌^◌, List, ◌++◌, take, drop, length, sym, ap, ◌∙◌, subst, arith, append_assoc, Option, Some}
-use Rattle.std.specs.List.{AllByRecursion}
-use Rattle.std.proofs.lemmas.List.{take-append-drop, take_all, length-take-le}
-use Rattle.list_laws.proofs.JoinedLists.{every_weaker}
+use Rattle.std.proofs.Common.{◌≡◌, ℕ, ◌<◌, ◌≤◌, ◌^◌, List, ◌++◌, take, drop, length, refl, sym, ap, ◌∙◌, subst, inl, arith, append_assoc, Option, Some}
+use Rattle.std.specs.List.{flat_map}
+use Rattle.std.proofs.lemmas.Bool.{cases_lt}
+use Rattle.std.proofs.lemmas.List.{take-append-drop, take_all}
+use mathlib.Core.Logic.{inl as left', inr as right'}
 use Rattle.job_plan.specs.declared.key.Key.{Key}
-use Rattle.job_plan.specs.Numbers.{no_key}
-use Rattle.job_plan.proofs.DistinctMessages.{every_place}
 use Rattle.program_laws.specs.Parts.{IsPart}
 use Rattle.outer_io.specs.Links.{LinksReading}
 use Rattle.outer_io.specs.Sink.{added, AddedPrefix}
-use Rattle.frame_code.specs.Frames.{hello}
-use Rattle.node_talk.specs.Talks.{Node, IsPeer, own_word, talk, expected, frames, stream, heard, IsRun, place_of}
+use Rattle.outer_io.proofs.WrittenPieces.{prefix_first}
+use Rattle.node_talk.specs.declared.fault.NodeFault.{NodeFault}
+use Rattle.node_talk.specs.Talks.{Node, IsPeer, acts, own_word, talk, said, post_to, expected, frames, stream, heard, IsRun}
 use Rattle.node_talk.specs.PeerLinks.{in_from, out_to}
 use Rattle.node_talk.specs.Runs.{TalkedThrough, BrokeOff}
-use Rattle.node_talk.proofs.PassedLists.{every_taken, take_place}
-use Rattle.node_talk.proofs.Frames.{stream_append, strip, same_frames, small_64, begins_with}
+use Rattle.node_talk.proofs.PassedLists.{every_taken}
+use Rattle.node_talk.proofs.Frames.{stream_append, begins_with, said_prefix}
 use Rattle.node_talk.proofs.ExpectedPlaces.{placed}
 use Rattle.node_talk.proofs.ActPlaces.{taken_by}
+use Rattle.node_talk.proofs.MessageOrder.{talk_is_said}
 
 whole_prefix : (a : List ℕ) (told told' : Option (List ℕ)) → told' ≡ added told a → AddedPrefix told a told'
 whole_prefix a told told' is = (length a, is ∙ ap (added told) (sym (take_all (length a) a (omega arith))))
+
+-- a first part of what is said by some instructions is one of what is said by more, and of the talk
+pub part_of_more : (n : Node) (q : ℕ) (word : Key → ℕ) (k j : ℕ) → k ≤ j → (told told' : Option (List ℕ)) → AddedPrefix told (said n q word k) told' → AddedPrefix told (said n q word j) told'
+part_of_more n q word k j le told told' x =
+    let s = said_prefix n q word k j le in
+    subst (λ z. AddedPrefix told z told') (sym s.1) (prefix_first (said n q word k) s.0 told told' x)
+
+pub part_of_talk : (n : Node) (q : ℕ) (word : Key → ℕ) (k : ℕ) → (told told' : Option (List ℕ)) → AddedPrefix told (said n q word k) told' → AddedPrefix told (talk n q word) told'
+part_of_talk n q word k told told' x = subst (λ z. AddedPrefix told z told') (talk_is_said n q word) (elim (cases_lt k (length (acts n))) [
+  | left' less ↦ part_of_more n q word k (length (acts n)) (omega arith) told told' x
+  | right' past ↦ subst (λ z. AddedPrefix told z told') (ap (λ z. stream n.digest n.me q word (flat_map (post_to n.world.plan q) z)) (take_all k (acts n) (omega arith) ∙ sym (take_all (length (acts n)) (acts n) (omega arith)))) x
+])
 
 module _ (n : Node) (part : IsPart n.world n.me) (got : Key → ℕ) (before after : LinksReading) (h : TalkedThrough n got before after) where
   -- the bytes hold a run of any count of frames
@@ -38,25 +51,19 @@ module _ (n : Node) (part : IsPart n.world n.me) (got : Key → ℕ) (before aft
         );
       }
 
-  heard_as : (q : ℕ) → IsPeer n q → (bytes : List ℕ) → (in_from n before q).told ≡ Some bytes → (f : ℕ) (word : Key → ℕ) → IsRun n q bytes f word → AllByRecursion (λ key. got key ≡ word key) (take f (expected n q))
-  heard_as q peer bytes told f word run =
-      let mine = run_of_all q peer bytes told f run.count in
-      let start : List ℕ = hello q n.me n.digest in
-      let keys : List Key = take f (expected n q) in
-      let in_64 : (g : Key → ℕ) → AllByRecursion (λ key. g key < 2 ^ n.world.plan.bits) keys → AllByRecursion (λ key. g key < 2 ^ 64) keys =
-      λ g. every_weaker (λ key. g key < 2 ^ n.world.plan.bits) (λ key. g key < 2 ^ 64) keys (λ key l. small_64 n.world.plan.bits (g key) part.sound.bits l) in
-      same_frames got word keys mine.begins.0 run.begins.0 (in_64 got mine.small) (in_64 word run.small)
-      (strip start _ _ (sym (append_assoc start (frames got keys) mine.begins.0) ∙ sym mine.begins.1 ∙ run.begins.1 ∙ append_assoc start (frames word keys) run.begins.0))
-
-  pub run_broke : BrokeOff n got before after
-  run_broke = record {
-    told = λ q peer. whole_prefix (talk n q (own_word n got)) (out_to n before q).told (out_to n after q).told (h.told q peer);
-    hears = λ q peer bytes told f word run place less.
-        subst (λ z. got z ≡ word z) (take_place (expected n q) f place no_key less)
-        (every_place (λ z. got z ≡ word z) (take f (expected n q)) place no_key (heard_as q peer bytes told f word run) (let few = run.count in omega (arith, length-take-le f (expected n q) few, less)));
-    waits = λ q r m i k peer peer' l is sender bytes told ends. absurd (
-        let t = taken_by n part k m i l is in
-        let p = placed n m t.0 t.1 in
-        let within : place_of n m < length (expected n q) = subst (λ z. place_of n m < length (expected n z)) sender p.0 in
-        ends got (run_of_all q peer bytes told (suc (place_of n m)) (omega arith)));
+  pub run_broke : (fault : NodeFault) → BrokeOff n got before after fault
+  run_broke fault = record {
+    came = λ q. length (expected n q);
+    k = length (acts n);
+    hears = λ q peer bytes told some. run_of_all q peer bytes told (length (expected n q)) (omega arith);
+    takes = λ j m i l e. let t = taken_by n part j m i l e in (placed n m t.0 t.1).0;
+    told = λ q peer. whole_prefix (said n q (own_word n got) (length (acts n))) (out_to n before q).told (out_to n after q).told (told_all q peer);
+    all = λ started calm. record {
+      told = told_all;
+      stops = inl refl;
+      most = λ q peer still bytes told word run. absurd (let c = run.count in omega arith);
+    };
   }
+    where
+      told_all : (q : ℕ) → IsPeer n q → (out_to n after q).told ≡ added (out_to n before q).told (said n q (own_word n got) (length (acts n)))
+      told_all q peer = h.told q peer ∙ ap (added (out_to n before q).told) (sym (talk_is_said n q (own_word n got)))

@@ -8,6 +8,7 @@ use Rattle.share_world.specs.Worlds.{World, word, view}
 use Rattle.share_world.specs.Laws.{IsWhole}
 use Rattle.outer_io.specs.Links.{LinksReading}
 use Rattle.outer_io.specs.Sink.{AddedPrefix}
+use Rattle.node_talk.specs.declared.fault.NodeFault.{NodeFault}
 use Rattle.node_talk.specs.Talks.{Node, talk}
 use Rattle.node_talk.specs.PeerLinks.{in_from, out_to}
 use Rattle.node_talk.specs.Runs.{Results, IsDone, TalkedThrough, BrokeOff, IsOfWorld, word_kept, kept_view}
@@ -35,8 +36,9 @@ pub record RanThrough (net : Network) (p : ℕ) : Type 0 where
 
 -- p's run ended at a fault
 pub record RanShort (net : Network) (p : ℕ) : Type 0 where
+  pub fault : NodeFault
   pub got : Key → ℕ
-  pub broke : BrokeOff (node net p) got (net.before p) (net.after p)
+  pub broke : BrokeOff (node net p) got (net.before p) (net.after p) fault
 
 -- a pipe may lose what comes last, and invents nothing: what q's inlet from p holds is a first part of what p's outlet
 -- to q took

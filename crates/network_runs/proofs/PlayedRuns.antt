@@ -1,6 +1,6 @@
 -- The runs of all parties make a network.
 use Rattle.std.proofs.Common.{ℕ, ◌<◌, ◌⊎◌, Result, Ok, Err, inl, inr, refl}
-use Rattle.std.specs.Prelude.{IfOk, IsOk, OnErr}
+use Rattle.std.specs.Prelude.{IfOk, IfErr, IsOk}
 use Rattle.job_plan.specs.declared.key.Key.{Key}
 use Rattle.outer_io.specs.Links.{LinksReading}
 use Rattle.node_talk.specs.declared.fault.NodeFault.{NodeFault}
@@ -16,9 +16,9 @@ through : (n : Node) (before after : LinksReading) (result : Result Results Node
 through n before after (Ok r) done is = done
 through n before after (Err fault) done is = cc
 
-short : (n : Node) (before after : LinksReading) (result : Result Results NodeFault) → OnErr result ((got : Key → ℕ) × BrokeOff n got before after) → (IsOk result → ⊥) → (got : Key → ℕ) × BrokeOff n got before after
+short : (n : Node) (before after : LinksReading) (result : Result Results NodeFault) → IfErr result (λ fault. (got : Key → ℕ) × BrokeOff n got before after fault) → (IsOk result → ⊥) → (fault : NodeFault) × (got : Key → ℕ) × BrokeOff n got before after fault
 short n before after (Ok r) broke not = absurd (not refl)
-short n before after (Err fault) broke not = broke
+short n before after (Err fault) broke not = (fault, broke.0, broke.1)
 
 ok_or_not : (result : Result Results NodeFault) → IsOk result ⊎ (IsOk result → ⊥)
 ok_or_not (Ok r) = inl refl
@@ -31,7 +31,7 @@ module _ (x : Played) (are : ArePlayed x) where
       record { got = t.0; done = t.1; talked = t.2 }
 
   broke : (p : ℕ) → p < x.world.plan.parties → (IsOk (x.answers p) → ⊥) → RanShort (network_of x) p
-  broke p l not = (let t = short (node (network_of x) p) (x.before p) (x.after p) (x.answers p) (are.runs p l).broke not in record { got = t.0; broke = t.1 })
+  broke p l not = (let t = short (node (network_of x) p) (x.before p) (x.after p) (x.answers p) (are.runs p l).broke not in record { fault = t.0; got = t.1; broke = t.2 })
 
   network : IsNetwork (network_of x)
   network = record {

@@ -1,5 +1,5 @@
 -- What posts and takes change, and that all stays as it must be.
-use Rattle.std.proofs.Common.{◌≡◌, ◌≢◌, ℕ, zero, suc, ◌+◌, ◌%◌, ◌<◌, ◌^◌, Bool, true, false, List, [], ◌∷◌, length, get_or, set, map, Option, Some, None, Result, Ok, Err, refl, sym, ap, ap₂, ◌∙◌, subst, arith, inl, inr, ⊎_elim}
+use Rattle.std.proofs.Common.{◌≡◌, ◌≢◌, ℕ, zero, suc, ◌+◌, ◌%◌, ◌<◌, ◌≤◌, ◌^◌, Bool, true, false, List, [], ◌∷◌, length, get_or, set, map, Option, Some, None, Result, Ok, Err, refl, sym, ap, ap₂, ◌∙◌, subst, arith, inl, inr, ⊎_elim}
 use Rattle.std.specs.Prelude.{slice_index, slice_index_or, is_err, ◌==◌}
 use Rattle.std.proofs.lemmas.Bool.{cases_eq, cases_Bool, cond-true, cond-false, false≢true}
 use Rattle.std.proofs.lemmas.Bool.Decides.{nat_tests}
@@ -9,7 +9,7 @@ use Rattle.message_board.specs.Pairs.{Knows}
 use Rattle.message_board.specs.Plain.{CellContents, plain_cell, plain_put}
 use Rattle.message_board.proofs.CellPosts.{cell_set_same, put_is, put_length, put_keeps, put_new, put_full}
 use Rattle.inbox_board.specs.declared.steps.View.{View}
-use Rattle.inbox_board.specs.Rule.{notes}
+use Rattle.inbox_board.specs.Rule.{notes, total_after}
 use Rattle.inbox_board.specs.Seats.{Looks, mark_as}
 use Rattle.job_plan.specs.Messages.{messages}
 use Rattle.job_plan.specs.Numbers.{message}
@@ -18,7 +18,7 @@ use Rattle.outer_io.specs.Sink.{Writes}
 use Rattle.outer_io.specs.declared.sink.Failed.{Failed}
 use Rattle.node_talk.specs.PeerLinks.{place_among, no_outlet}
 use Rattle.link_reader.proofs.ExpectedMessages.{between_parties}
-use Rattle.node_run.specs.Mail.{Mail, BoxModel, no_box, box_of, IsRead, IsMail, SentTo, failed_after, MayTake, Takes, TakesFrom, Looked, LookedAtMark}
+use Rattle.node_run.specs.Mail.{Mail, BoxModel, no_box, box_of, IsRead, IsMail, SentTo, failed_after, MayTake, Takes, TakesFrom, Looked, LookedAtMark, NeverComes}
 use Rattle.node_run.proofs.KnownWords.{cell_there}
 
 -- ---- places
@@ -127,10 +127,6 @@ pub looks_found : (v u : View) (place : ℕ) (w : ℕ) (r : Option ℕ) → r �
 looks_found v u place w None e h = absurd (let f : None ≡ Some w = e in cc)
 looks_found v u place w (Some x) e h = let same : x ≡ w = cc in subst (λ (z : View). Knows z.seen place w) (sym h.2) (inl (refl, same))
 
-pub looks_noted : (v u : View) (place : ℕ) (r : Option ℕ) → Looks v place r u → u.noted ≡ v.noted
-looks_noted v u place None h = ap (λ (z : View). z.noted) h.2
-looks_noted v u place (Some x) h = ap (λ (z : View). z.noted) h.2
-
 pub notes_grow : (v u : View) (mark : ℕ) → u ≡ notes v mark → (p w : ℕ) → Knows v.seen p w → Knows u.seen p w
 notes_grow v u mark is p w k = subst (λ (z : View). Knows z.seen p w) (sym is) k
 
@@ -217,6 +213,21 @@ fault_noted c d m h = ap (λ (v : View). v.noted) h.noted ∙ fault_is h.found (
       | left' zero' ↦ absurd (let f : None ≡ Some true = sym (cond-true (x == 0) None (Some (x == 2)) zero') ∙ e in cc)
       | right' some ↦ is_two x (some_same (x == 2) true (sym (cond-false (x == 0) None (Some (x == 2)) some) ∙ e))
     ]
+
+-- a look after the mark of a fault that didn't find the word
+total_of : (noted n : ℕ) (known : Option ℕ) → noted ≡ 2 → total_after noted n known ≡ Some n
+total_of zero n known e = absurd (omega arith)
+total_of (suc noted) n known e = refl
+
+pub never_comes : (c d : Mail) (m : ℕ) → (box_of c (message c.plan m).sender).view.noted ≡ 2 → Looked c m None d → NeverComes d m
+never_comes c d m noted h =
+    let before : View = (box_of c (message c.plan m).sender).view in
+    record {
+      ended = subst (λ (z : Mail). (box_of d (message z.plan m).sender).view.noted ≡ 2) (sym h.rest) (ap (λ (v : View). v.noted) h.looks.2 ∙ noted);
+      total = h.looks.0;
+      found = subst (λ (z : Mail). (box_of d (message z.plan m).sender).view.total ≡ Some h.looks.0) (sym h.rest) (ap (λ (v : View). v.total) h.looks.2 ∙ total_of before.noted h.looks.0 before.total noted);
+      few = subst (λ (z : Mail). h.looks.0 ≤ slice_index z.places m) (sym h.rest) h.looks.1;
+    }
 
 -- ---- a word that is kept
 

@@ -9,12 +9,11 @@ use Rattle.message_board.specs.Plain.{plain_cell}
 use Rattle.outer_io.specs.Count.{Rose}
 use Rattle.outer_io.specs.Sink.{Writes, added, AddedPrefix}
 use Rattle.outer_io.specs.declared.sink.Failed.{Failed}
-use Rattle.outer_io.proofs.WrittenPieces.{prefix_first, added-nil}
+use Rattle.outer_io.proofs.WrittenPieces.{added-nil}
 use Rattle.frame_code.specs.Frames.{hello}
 use Rattle.frame_code.proofs.ReadFrames.{length-hello}
 use Rattle.node_talk.specs.Talks.{Node, IsPeer, own_word, said}
 use Rattle.node_talk.specs.PeerLinks.{out_to}
-use Rattle.node_talk.proofs.Frames.{said_prefix}
 use Rattle.node_run.specs.Mail.{Mail, SentTo, failed_after, outlet_to}
 use Rattle.node_run.specs.Progress.{Begin, IsOf, Going, KeepsRoom, OutletStays, StopsBy, Halted, Greeted, Ungreeted}
 use Rattle.node_run.proofs.SessionSteps.{whole_prefix}
@@ -95,20 +94,18 @@ module _ (n : Node) (q : ℕ) (start : Begin) (c : Mail) (h : Greeted n q start 
       quiet = quiet;
     }
 
-    -- a first part of a hello is a first part of what is said by the first instruction
-    in_said : (r : ℕ) (word : Key → ℕ) (told told' : Option (List ℕ)) → AddedPrefix told (hello n.me r n.digest) told' → AddedPrefix told (said n r word 1) told'
-    in_said r word told told' p =
-        let s = said_prefix n r word 0 1 (omega arith) in
-        subst (λ z. AddedPrefix told z told') (sym s.1) (prefix_first (said n r word 0) s.0 told told' (subst (λ z. AddedPrefix told z told') (sym (said_nothing n r word)) p))
+    -- what is said by no instruction is the hello
+    in_said : (r : ℕ) (word : Key → ℕ) (told told' : Option (List ℕ)) → AddedPrefix told (hello n.me r n.digest) told' → AddedPrefix told (said n r word 0) told'
+    in_said r word told told' p = subst (λ z. AddedPrefix told z told') (sym (said_nothing n r word)) p
 
     nothing_said : (r : ℕ) (told : Option (List ℕ)) → AddedPrefix told (hello n.me r n.digest) told
     nothing_said r told = (0, added-nil told)
 
     halted : d.failed ≢ None → Halted n start d
     halted some = record {
+      k = 0;
       stopped = record {
         own = own';
-        k = 0;
         within = omega arith;
         taken = λ j m i l e. absurd (omega arith);
         sent = λ got ag r peer. in_said r (own_word n got) _ _ (elim (cases_eq r q) [
@@ -116,7 +113,7 @@ module _ (n : Node) (q : ℕ) (start : Begin) (c : Mail) (h : Greeted n q start 
           | inr ne ↦ subst (λ z. AddedPrefix (out_to n start.links r).told (hello n.me r n.digest) z.told) (sym (there r peer ne)) (before_here r peer)
         ]);
       };
-      why = subst (StopsBy n start d) (sym (written.1 some).2) ((lq, other), subst (λ z. Rose z (outlet_to d q).faults) (h.calm q (lq, other)) (written.1 some).1);
+      why = subst (StopsBy n 0 start d) (sym (written.1 some).2) ((lq, other), subst (λ z. Rose z (outlet_to d q).faults) (h.calm q (lq, other)) (written.1 some).1);
       outlets = λ r peer. elim (cases_eq q r) [
         | inl e ↦ subst (λ z. OutletStays n z d.failed (out_to n start.links z) (outlet_to d z)) e
             (failed_stays n q d.failed 0 (hello n.me q n.digest) _ (outlet_to c q) _ (written.1 some).2 (h.calm q (lq, other)) (subst (λ z. KeepsRoom 0 z (outlet_to c q)) fresh (room_kept (outlet_to c q)))

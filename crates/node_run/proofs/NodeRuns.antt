@@ -1,5 +1,5 @@
 -- What a run leaves has the clauses of a node's run.
-use Rattle.std.proofs.Common.{◌≡◌, ◌⊎◌, ℕ, suc, ◌+◌, ◌-◌, ◌<◌, false, List, [], length, map, refl, sym, ap, ◌∙◌, subst, arith, Option, Some, None, Result, Ok, Err, inl, inr, ⊎_elim}
+use Rattle.std.proofs.Common.{◌≡◌, ◌⊎◌, ℕ, ◌+◌, ◌-◌, ◌<◌, false, List, [], length, map, refl, sym, ap, ◌∙◌, subst, arith, Option, Some, None, Result, Ok, Err, inl, inr, ⊎_elim}
 use Rattle.std.specs.Prelude.{slice_index_or, is_err, IsTrue}
 use Rattle.std.specs.List.{list_all}
 use Rattle.std.proofs.Math.ListN.{length-map}
@@ -24,18 +24,18 @@ use Rattle.node_talk.specs.declared.fault.NodeFault.TheVariants.{Link, Closed, B
 use Rattle.node_talk.specs.Talks.{Node, IsPeer, own_word, said, place_of}
 use Rattle.node_talk.specs.PeerLinks.{place_among, no_inlet, no_outlet, in_from, out_to}
 use Rattle.node_talk.specs.Causes.{Cause}
-use Rattle.node_talk.specs.Runs.{Results, IsDone, TalkedThrough, BrokeOff}
+use Rattle.node_talk.specs.Runs.{Results, IsDone, TalkedThrough, StopsAfter, NoSendRose, AllStarted, BrokeOff}
 use Rattle.node_talk.proofs.NoCauses.{no_cause}
 use Rattle.node_talk.proofs.RightRuns.{joins}
 use Rattle.node_talk.proofs.ExpectedPlaces.{placed}
 use Rattle.node_talk.proofs.ActPlaces.{taken_by}
-use Rattle.link_reader.specs.NodeReaders.{incoming, ReadsFrom, HasReadWords}
+use Rattle.link_reader.specs.NodeReaders.{incoming, ReadsFrom, HasReadWords, SaidWhatItCould}
 use Rattle.link_reader.proofs.BrokenOffRuns.{breaks_off}
 use Rattle.link_reader.specs.ReadWords.{Reads, CameShort}
 use Rattle.link_reader.specs.Expected.{TalkModel}
 use Rattle.link_reader.proofs.ToldCauses.{tells_cause}
 use Rattle.node_run.specs.Mail.{Mail, IsMail, outlet_to, box_of}
-use Rattle.node_run.specs.Progress.{Begin, Agrees, IsOf, Stopped, StopsBy, Halted, Ungreeted, InOrder, OutletStays, before_session}
+use Rattle.node_run.specs.Progress.{Begin, Agrees, IsOf, Going, Stopped, StopsBy, Halted, Ungreeted, InOrder, OutletStays, before_session}
 use Rattle.node_run.specs.Remains.{RemainsModel, SpawnerStays, AllKeepCalm, PeerEnd, AllEnd, ReadBy, EndsAtRefusal, EndsAs, Remained, party_at, fault_told, answer}
 use Rattle.node_run.specs.NodeRuns.{Runs, GaveAll, GaveAllBelow, IsFirst, IsFirstUnstarted, NothingSaid, TellsSends, TellsRefusals, KeepsOutlet, StaySteady}
 use Rattle.node_run.proofs.KnownWords.{known, agrees_known}
@@ -45,12 +45,12 @@ use Rattle.node_run.proofs.DoneRuns.{is_done}
 use Rattle.node_run.proofs.CellChanges.{place_within}
 use Rattle.node_run.proofs.ReaderRuns.{peer_at, spawner_rests}
 use Rattle.node_run.proofs.ClosedLinks.{all_shut, inlets_closed, outlets_closed, outlet_shut}
-use Rattle.node_run.proofs.PeerEnds.{party_there, place_there, place_less, RefusedAt, refused_at, words_of, end_at, FirstEnd, first_end, stays_at, PeerRead, peer_read, WordRead, word_read, there, sender, gave_all}
+use Rattle.node_run.proofs.PeerEnds.{party_there, place_there, place_less, RefusedAt, refused_at, words_of, end_at, FirstEnd, first_end, stays_at, PeerRead, peer_read, WordRead, word_read, there, sender, from_peer, not_read, gave_all}
 
 -- ---- the clauses, by the answer
 
 module _ (n : Node) (before after : LinksReading) (spawner spawner' : SpawnerReading) where
-  pub fault_runs : (fault : NodeFault) → length n.digest ≡ 32 → HasPeers (n.world.plan.parties - 1) after → IsTrue (are_closed after) → (got : Key → ℕ) × BrokeOff n got before after
+  pub fault_runs : (fault : NodeFault) → length n.digest ≡ 32 → HasPeers (n.world.plan.parties - 1) after → IsTrue (are_closed after) → (got : Key → ℕ) × BrokeOff n got before after fault
       → Cause n before after spawner.refusals spawner'.refusals fault → IsFirst n before after fault → TellsSends n before after (Err fault) → TellsRefusals spawner.refusals spawner'.refusals (Err fault)
       → NothingSaid n before after fault → StaySteady n before after spawner spawner' → Runs n before after spawner spawner' (Err fault)
   fault_runs fault long peers closed broke cause first sends starts unsaid steady = record {
@@ -125,17 +125,21 @@ module _ (n : Node) (start : Begin) (after : LinksReading) (now : Mail) (own : I
 
   -- ---- a run that was broken off
 
-  -- where no word was taken
-  pub broke_silent : ((m : ℕ) → plain_cell now.words.cells m ≡ None) → Stopped n start now → (got : Key → ℕ) × BrokeOff n got start.links after
-  broke_silent none s = breaks_off n own.part own.digest start.links after (record {
-    k = s.k;
-    within = s.within;
+  -- where no word was taken, and a send or a start failed
+  pub broke_silent : ((m : ℕ) → plain_cell now.words.cells m ≡ None) → (k : ℕ) → Stopped n k start now → (fault : NodeFault) → (AllStarted fault → ¬ NoSendRose n start.links after) → (got : Key → ℕ) × BrokeOff n got start.links after fault
+  broke_silent none k s fault hindered = breaks_off n own.digest start.links after fault (record {
+    k = k;
     words = λ q. [];
     read = λ q peer. inl refl;
-    taken = λ j m i l e. let v = s.taken j m i l e in absurd (let f : None ≡ Some v.0 = sym (none m) ∙ v.1 in cc);
-    sent = λ got has q peer. subst (AddedPrefix (out_to n start.links q).told (said n q (own_word n got) (suc s.k))) (sym (ap (λ z. z.told) (outlet_same q)))
+    takes = λ j m i l e. let v = s.taken j m i l e in absurd (let f : None ≡ Some v.0 = sym (none m) ∙ v.1 in cc);
+    sent = λ got has q peer. subst (AddedPrefix (out_to n start.links q).told (said n q (own_word n got) k)) (sym (ap (λ z. z.told) (outlet_same q)))
         (s.sent got (λ m v to e. absurd (let f : None ≡ Some v = sym (none m) ∙ e in cc)) q peer);
+    all = λ started calm. absurd (hindered started calm);
   })
+
+  -- a send that failed
+  pub rose_at : (k : ℕ) (q : ℕ) → StopsBy n k start now (Some q) → IsPeer n q × Rose (out_to n start.links q).faults (out_to n after q).faults
+  rose_at k q why = (why.0, subst (λ z. Rose (out_to n start.links q).faults z.faults) (sym (outlet_same q)) why.1)
 
   module _ (fault : Option NodeFault) (h : AllEnd n now 0 start.links.inlets after.inlets fault) where
     abbrev words : ℕ → List ℕ
@@ -162,18 +166,38 @@ module _ (n : Node) (start : Begin) (after : LinksReading) (now : Mail) (own : I
         let p = placed n m (there n start now own mail m v to is) to in
         ap got (sym p.1) ∙ (has (message n.world.plan m).sender (sender n start now own mail m v to is)).1 (place_of n m) w.within ∙ sym w.word
 
-    pub broke_while_read : Stopped n start now → (got : Key → ℕ) × BrokeOff n got start.links after
-    broke_while_read s = breaks_off n own.part own.digest start.links after (record {
-      k = s.k;
-      within = s.within;
+    pub broke_while_read : (k : ℕ) → Stopped n k start now → (told : NodeFault) → (AllStarted told → NoSendRose n start.links after → SaidWhatItCould n words k start.links after) → (got : Key → ℕ) × BrokeOff n got start.links after told
+    broke_while_read k s told all = breaks_off n own.digest start.links after told (record {
+      k = k;
       words = words;
       read = λ q peer. let r = read q peer in inr (r.0, r.1.reads);
-      taken = λ j m i l e.
+      takes = λ j m i l e.
           let v = s.taken j m i l e in
           let t = taken_by n own.part j m i (let b = s.within in omega (arith, l, b)) e in
           (taken_word m v.0 t.1 v.1).within;
-      sent = λ got has q peer. subst (AddedPrefix (out_to n start.links q).told (said n q (own_word n got) (suc s.k))) (sym (ap (λ z. z.told) (outlet_same q))) (s.sent got (agrees got has) q peer);
+      sent = λ got has q peer. subst (AddedPrefix (out_to n start.links q).told (said n q (own_word n got) k)) (sym (ap (λ z. z.told) (outlet_same q))) (s.sent got (agrees got has) q peer);
+      all = all;
     })
+
+    said_could : (k : ℕ) → Going n k start now → StopsAfter n (λ q. length (words q)) k → SaidWhatItCould n words k start.links after
+    said_could k going stops = record {
+      read = λ q peer. let r = read q peer in (r.0, r.1.reads);
+      told = λ got has q peer. ap (λ z. z.told) (outlet_same q) ∙ going.sent got (agrees got has) q peer;
+      stops = stops;
+    }
+
+    -- the sessions ran to their end, or the party waited for a word that doesn't come
+    pub broke_at_end : (told : NodeFault) → Going n (before_session n (length n.world.plan.sessions)) start now → (got : Key → ℕ) × BrokeOff n got start.links after told
+    broke_at_end told going =
+        let k : ℕ = before_session n (length n.world.plan.sessions) in
+        broke_while_read k (stopped_at n k start now going) told (λ started calm. said_could k going (inl refl))
+
+    pub broke_at_take : (told : NodeFault) (k : ℕ) → StopsBy n k start now None → (got : Key → ℕ) × BrokeOff n got start.links after told
+    broke_at_take told k why =
+        let m : ℕ = why.1.0 in
+        let r = read (message n.world.plan m).sender (from_peer n start now own mail k m why.1.1 why.1.2) in
+        broke_while_read k (stopped_at n k start now why.0) told (λ started calm. said_could k why.0
+        (inr (m, why.1.1, why.1.2, not_read n start now own mail k m why.1.1 why.1.2 why.1.3 start.links after (words (message n.world.plan m).sender) r.0 r.1)))
 
     -- ---- the first fault of a reader
 
@@ -217,10 +241,12 @@ module _ (n : Node) (start : Begin) (after : LinksReading) (now : Mail) (own : I
     read_calm none q peer = let r = read q peer in (whole_reads q (words q) r.0 (r.2 none) r.1.reads).0.faults
 
     -- a party doesn't stop for a reader that ended by a fault, where none did
-    pub no_stop : fault ≡ None → StopsBy n start now None → ⊥
-    no_stop none s =
-        let r = read s.0 s.1 in
-        not_whole r.0 (r.2 none) (let n : (box_of now s.0).view.noted ≡ 2 = s.2 in sym n ∙ r.1.got.mark (λ z. absurd (omega (arith, n, z))))
+    pub no_stop : fault ≡ None → (k : ℕ) → StopsBy n k start now None → ⊥
+    no_stop none k s =
+        let m : ℕ = s.1.0 in
+        let r = read (message n.world.plan m).sender (from_peer n start now own mail k m s.1.1 s.1.2) in
+        let noted : (box_of now (message n.world.plan m).sender).view.noted ≡ 2 = subst (λ z. (box_of now (message z m).sender).view.noted ≡ 2) own.plan s.1.3.ended in
+        not_whole r.0 (r.2 none) (sym noted ∙ r.1.got.mark (λ z. absurd (omega (arith, noted, z))))
       where
         not_whole : (result : Result (Unit {0}) NodeFault) → is_err result ≡ false → 2 ≡ mark_of (is_err result) → ⊥
         not_whole (Ok u) e f = omega (arith, f)
@@ -274,12 +300,11 @@ module _ (n : Node) (start : Begin) (after : LinksReading) (spawner spawner' : S
 
   -- a send failed
   send_failed : (now : Mail) → IsMail now → (h : Halted n start now) (q : ℕ) → now.failed ≡ Some q → length after.inlets ≡ length start.links.inlets → after.outlets ≡ map shut_outlet now.outlets → AllKeepCalm start.links.inlets after.inlets → IsTrue (list_all (λ (i : InletReading). i.closed) after.inlets) → SpawnerStays spawner spawner'
-      → spawner'.refusals ≡ spawner.refusals → (got : Key → ℕ) × BrokeOff n got start.links after → Runs n start.links after spawner spawner' (Err (Link q))
+      → spawner'.refusals ≡ spawner.refusals → (got : Key → ℕ) × BrokeOff n got start.links after (Link q) → Runs n start.links after spawner spawner' (Err (Link q))
   send_failed now mail h q is inlets outlets all shut spawners quiet broke =
       let own = h.stopped.own in
-      let why : StopsBy n start now (Some q) = subst (StopsBy n start now) is h.why in
-      let rose : Rose (out_to n start.links q).faults (out_to n after q).faults = subst (λ z. Rose (out_to n start.links q).faults z.faults) (sym (outlet_same n start after now own mail inlets outlets were q)) why.1 in
-      fault_runs n start.links after spawner spawner' (Link q) own.digest (has_peers n start after now own mail inlets outlets were) (all_closed n start after now own mail inlets outlets were shut) broke (why.0, inr rose) (inl rose)
+      let why = rose_at n start after now own mail inlets outlets were h.k q (subst (StopsBy n h.k start now) is h.why) in
+      fault_runs n start.links after spawner spawner' (Link q) own.digest (has_peers n start after now own mail inlets outlets were) (all_closed n start after now own mail inlets outlets were shut) broke (why.0, inr why.1) (inl why.1)
       (tells_sends n start after now own mail inlets outlets were h.outlets (Err (Link q)) (λ p e. ap (λ z. Err (Link z)) (let f : Some q ≡ Some p = sym is ∙ e in cc)))
       (λ changed. absurd (changed quiet)) tt (steady_links now own mail inlets outlets all spawners h.outlets)
 
@@ -292,9 +317,10 @@ module _ (n : Node) (start : Begin) (after : LinksReading) (spawner spawner' : S
       by_failed None is = absurd (u.some is)
       by_failed (Some q) is =
           let many = ap (λ (z : List InletReading). length z) inlets ∙ length-map start.links.inlets shut_inlet in
+          let rose = rose_at n start after now u.halted.stopped.own mail many outlets were u.halted.k q (subst (StopsBy n u.halted.k start now) is u.halted.why) in
           subst (λ z. Runs n start.links after spawner spawner' (answer (fault_told z None fault) r)) (sym is)
           (send_failed now mail u.halted q is many outlets (subst (AllKeepCalm start.links.inlets) (sym inlets) (all_shut start.links.inlets)) (subst (λ z. IsTrue (list_all (λ (i : InletReading). i.closed) z)) (sym inlets) (inlets_closed start.links.inlets)) (subst (SpawnerStays spawner) (sym rests) (spawner_rests spawner))
-          (ap (λ z. z.refusals) rests) (broke_silent n start after now u.halted.stopped.own mail many outlets were u.words u.halted.stopped))
+          (ap (λ z. z.refusals) rests) (broke_silent n start after now u.halted.stopped.own mail many outlets were u.words u.halted.k u.halted.stopped (Link q) (λ started calm. calm q rose.0 rose.1)))
 
   -- the readers were started, or a start was refused
   module _ (r : RemainsModel) (h : Remained n start 0 start.links.inlets after.inlets spawner spawner' r) (outs : after.outlets ≡ r.outlets) where
@@ -339,7 +365,7 @@ module _ (n : Node) (start : Begin) (after : LinksReading) (spawner spawner' : S
         let stays = going_stays n 0 start h.now e.1 in
         let same = outlet_same n start after h.now h.own h.mail h.count outlets' were in
         subst (λ z. Answers (fault_told z r.refused r.fault)) (sym none) (subst (λ z. Answers (fault_told None z r.fault)) (sym is)
-        (fault_runs n start.links after spawner spawner' (NoThread p) h.own.digest peers' closed' (broke_silent n start after h.now h.own h.mail h.count outlets' were e.2 (stopped_at n 0 start h.now e.1)) (e.0, e.3) (unstarted p e.0 e.4)
+        (fault_runs n start.links after spawner spawner' (NoThread p) h.own.digest peers' closed' (broke_silent n start after h.now h.own h.mail h.count outlets' were e.2 0 (stopped_at n 0 start h.now e.1) (NoThread p) (λ started calm. started)) (e.0, e.3) (unstarted p e.0 e.4)
         (tells_sends n start after h.now h.own h.mail h.count outlets' were stays (Err (NoThread p)) (λ q f. absurd (let x : None ≡ Some q = sym e.1.quiet ∙ f in cc)))
         (λ changed. (p, refl))
         (λ q peer. ap (λ z. z.told) (same q) ∙ e.1.sent (known n h.now.words.cells) (agrees_known n h.now.words.cells h.own.cells) q peer ∙ ap (added (out_to n start.links q).told) (append-nil (hello n.me q n.digest)))
@@ -349,20 +375,11 @@ module _ (n : Node) (start : Begin) (after : LinksReading) (spawner spawner' : S
       told_is : (failed : Option ℕ) → h.now.failed ≡ failed → fault_told failed None r.fault ≡ fault_told r.failed r.refused r.fault
       told_is failed is = ap (λ z. fault_told z None r.fault) (sym is ∙ sym h.failed) ∙ ap (λ z. fault_told r.failed z r.fault) (sym unrefused)
 
-      stopped : Stopped n start h.now
-      stopped = elim ends [
-        | left' order ↦ stopped_at n (before_session n (length n.world.plan.sessions)) start h.now order.going
-        | right' halted ↦ halted.stopped
-      ]
-
       stays' : (q : ℕ) → IsPeer n q → OutletStays n q h.now.failed (out_to n start.links q) (outlet_to h.now q)
       stays' = elim ends [
         | left' order ↦ going_stays n (before_session n (length n.world.plan.sessions)) start h.now order.going
         | right' halted ↦ halted.outlets
       ]
-
-      broke : (got : Key → ℕ) × BrokeOff n got start.links after
-      broke = broke_while_read n start after h.now h.own h.mail h.count outlets' were r.fault all stopped
 
       steady' : StaySteady n start.links after spawner spawner'
       steady' = steady_links h.now h.own h.mail h.count outlets' h.inlets h.spawner_stays stays'
@@ -371,18 +388,27 @@ module _ (n : Node) (start : Begin) (after : LinksReading) (spawner spawner' : S
       sends_failed : (q : ℕ) → h.now.failed ≡ Some q → Answers (Some (Link q))
       sends_failed q is = elim ends [
         | left' order ↦ absurd (let f : None ≡ Some q = sym order.going.quiet ∙ is in cc)
-        | right' halted ↦ send_failed h.now h.mail halted q is h.count outlets' h.inlets h.closed h.spawner_stays quiet broke
+        | right' halted ↦
+            let rose = rose_at n start after h.now h.own h.mail h.count outlets' were halted.k q (subst (StopsBy n halted.k start h.now) is halted.why) in
+            send_failed h.now h.mail halted q is h.count outlets' h.inlets h.closed h.spawner_stays quiet
+            (broke_while_read n start after h.now h.own h.mail h.count outlets' were r.fault all halted.k halted.stopped (Link q) (λ started calm. absurd (calm q rose.0 rose.1)))
       ]
 
       module _ (calm : h.now.failed ≡ None) where
         sends' : (result : Result Results NodeFault) → TellsSends n start.links after result
         sends' result = tells_sends n start after h.now h.own h.mail h.count outlets' were stays' result (λ q f. absurd (let x : None ≡ Some q = sym calm ∙ f in cc))
 
+        broke : (x : NodeFault) → (got : Key → ℕ) × BrokeOff n got start.links after x
+        broke x = elim ends [
+          | left' order ↦ broke_at_end n start after h.now h.own h.mail h.count outlets' were r.fault all x order.going
+          | right' halted ↦ broke_at_take n start after h.now h.own h.mail h.count outlets' were r.fault all x halted.k (subst (StopsBy n halted.k start h.now) calm halted.why)
+        ]
+
         -- a reader ended by a fault
         reader_failed : (x : NodeFault) → r.fault ≡ Some x → Answers (Some x)
         reader_failed x is =
             let f = first_fault n start after h.now h.own h.mail h.count outlets' were r.fault all x is in
-            fault_runs n start.links after spawner spawner' x h.own.digest peers' closed' broke
+            fault_runs n start.links after spawner spawner' x h.own.digest peers' closed' (broke x)
             (tells_cause n f.0 h.own.digest f.1 f.2.0 start.links after spawner.refusals spawner'.refusals x f.2.1)
             (is_first n start.links after x f.0 (of_reader (incoming n f.0) f.2.0 (in_from n start.links f.0) (in_from n after f.0) x f.2.1) f.3 (incoming n f.0) f.2.0 (in_from n start.links f.0) (in_from n after f.0) f.2.1)
             (sends' (Err x)) (λ changed. absurd (changed quiet))
@@ -396,7 +422,7 @@ module _ (n : Node) (start : Begin) (after : LinksReading) (spawner spawner' : S
               (ran n start after h.now h.own h.mail h.count outlets' were r.fault all none r.desks results order (ap (λ z. record { words = z.cells; outputs = map (λ (d : Desk). d.memory.outputs.items) r.desks }) h.words))
               (read_calm n start after h.now h.own h.mail h.count outlets' were r.fault all none)
               (sends' (Ok results)) (λ changed. absurd (changed quiet)) steady'
-          | right' halted ↦ absurd (no_stop n start after h.now h.own h.mail h.count outlets' were r.fault all none (subst (StopsBy n start h.now) calm halted.why))
+          | right' halted ↦ absurd (no_stop n start after h.now h.own h.mail h.count outlets' were r.fault all none halted.k (subst (StopsBy n halted.k start h.now) calm halted.why))
         ]
 
         by_fault : (fault : Option NodeFault) → r.fault ≡ fault → Answers r.fault

@@ -1,7 +1,10 @@
 -- What each reader read, from the end of all of them.
 use Rattle.std.proofs.Common.{◌≡◌, ◌≢◌, ◌⊎◌, ⊎_elim, ℕ, zero, suc, ◌+◌, ◌%◌, ◌<◌, ◌^◌, false, List, [], ◌∷◌, length, map, refl, sym, ap, ◌∙◌, subst, arith, Option, Some, None, Result, Ok, Err, mod-eq_of_lt, pow_pos}
 use Rattle.std.specs.Prelude.{slice_index, slice_index_or, is_err}
+use Rattle.std.proofs.lemmas.Bool.{cases_lt}
 use Rattle.std.proofs.lemmas.Bool.Decides.{nat_tests}
+use Rattle.std.proofs.lemmas.List.{get_or_past}
+use mathlib.Core.Logic.{inl as left', inr as right'}
 use Rattle.list_laws.proofs.JoinedLists.{every_at}
 use Rattle.message_board.specs.Pairs.{Knows}
 use Rattle.message_board.specs.Plain.{plain_cell}
@@ -9,17 +12,20 @@ use Rattle.inbox_board.specs.Seats.{mark_of}
 use Rattle.inbox_board.specs.Folds.{GotWhatWasPushed}
 use Rattle.job_plan.specs.Messages.{messages}
 use Rattle.job_plan.specs.Numbers.{message}
+use Rattle.party_program.specs.declared.program.Instruction.TheVariants.{Take, End}
+use Rattle.party_program.specs.Programs.{at}
 use Rattle.outer_io.specs.Inlet.{InletReading, shut_inlet}
 use Rattle.outer_io.specs.Links.{LinksReading}
 use Rattle.node_talk.specs.declared.fault.NodeFault.{NodeFault}
-use Rattle.node_talk.specs.Talks.{Node, IsPeer, place_of}
+use Rattle.node_talk.specs.Talks.{Node, IsPeer, acts, place_of}
 use Rattle.node_talk.specs.PeerLinks.{place_among, no_inlet, in_from}
 use Rattle.node_talk.proofs.ExpectedPlaces.{between_parties}
+use Rattle.node_talk.proofs.ActPlaces.{taken_by}
 use Rattle.link_reader.specs.Heard.{KeepsCalm}
 use Rattle.link_reader.specs.NodeReaders.{incoming, ReadsFrom}
 use Rattle.link_reader.specs.ReadWords.{Reads}
 use Rattle.link_reader.proofs.Runs.{came_so_far, whole_words, word_at, word_at_place}
-use Rattle.node_run.specs.Mail.{Mail, IsMail, place_to, no_box, box_of}
+use Rattle.node_run.specs.Mail.{Mail, IsMail, NeverComes, place_to, no_box, box_of}
 use Rattle.node_run.specs.Progress.{Begin, IsOf}
 use Rattle.node_run.specs.Remains.{party_at, PeerEnd, first_of, AllEnd, AllKeepCalm, ReadBy, EndsAtRefusal}
 use Rattle.node_run.specs.NodeRuns.{GaveAll}
@@ -168,7 +174,7 @@ refused_at n q place (b ∷ befores) (a ∷ afters) h = ⊎_elim
 
 -- ---- peer by peer
 
--- what was read of q, and that the party got no other words and no other mark of its inbox
+-- what was read of q, and that what the party found in its inbox is what was pushed and left there
 pub record PeerRead (n : Node) (now : Mail) (before after : LinksReading) (q : ℕ) (words : List ℕ) (result : Result (Unit {0}) NodeFault) : Type 0 where
   pub reads : ReadsFrom n q words before after result
   pub got : GotWhatWasPushed words (mark_of (is_err result)) (box_of now q).view
@@ -215,6 +221,28 @@ module _ (n : Node) (start : Begin) (now : Mail) (own : IsOf n start now) (mail 
         within = k.0;
         word = x.reduced ∙ ap (λ z. x.found % 2 ^ z.bits) own.plan ∙ mod-eq_of_lt small ∙ sym k.1;
       }
+
+-- ---- a word that won't come
+
+module _ (n : Node) (start : Begin) (now : Mail) (own : IsOf n start now) (mail : IsMail now) (k m i : ℕ) (is : at (acts n) k ≡ Take m i) where
+  pub awaited : (m < length (messages n.world.plan)) × ((message n.world.plan m).receiver ≡ n.me)
+  awaited = elim (cases_lt k (length (acts n))) [
+    | left' l ↦ taken_by n own.part k m i l is
+    | right' past ↦ absurd (let f : End ≡ Take m i = sym (get_or_past (acts n) k End past) ∙ is in cc)
+  ]
+
+  pub from_peer : IsPeer n (message n.world.plan m).sender
+  from_peer = let b = between_parties n own.part m awaited.0 in (b.sender, λ e. b.apart (e ∙ sym awaited.1))
+
+  -- its sender's reader didn't read it
+  pub not_read : NeverComes now m → (before after : LinksReading) (words : List ℕ) (result : Result (Unit {0}) NodeFault) → PeerRead n now before after (message n.world.plan m).sender words result → ¬ (place_of n m < length words)
+  not_read never before after words result p less =
+      let there : m < length (messages now.plan) = subst (λ z. m < length (messages z)) (sym own.plan) awaited.0 in
+      let to : (message now.plan m).receiver ≡ now.me = ap (λ z. (message z m).receiver) own.plan ∙ awaited.1 ∙ sym own.me in
+      let place : slice_index now.places m ≡ place_of n m = mail.placed m there to ∙ ap (λ z. place_to z now.me m) own.plan ∙ ap (λ z. place_to n.world.plan z m) own.me in
+      let all : never.total ≡ length words = p.got.total never.total (subst (λ z. (box_of now (message z m).sender).view.total ≡ Some never.total) own.plan never.found) in
+      let few = never.few in
+      absurd (omega (arith, place, all, few, less))
 
 -- a reader that read all that is expected gave all
 pub gave_all : (n : Node) (q : ℕ) (words : List ℕ) (before after : LinksReading) → ReadsFrom n q words before after (Ok tt) → GaveAll n before after q

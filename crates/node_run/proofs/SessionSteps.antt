@@ -32,15 +32,16 @@ use Rattle.party_desk.proofs.AllowedSteps.{goes_by}
 use Rattle.outer_io.specs.Count.{Rose}
 use Rattle.outer_io.specs.Sink.{Writes, added, AddedPrefix}
 use Rattle.outer_io.specs.declared.sink.Failed.{Failed}
-use Rattle.outer_io.proofs.WrittenPieces.{added-append, prefix_first, prefix_second}
+use Rattle.outer_io.proofs.WrittenPieces.{added-append, prefix_second}
 use Rattle.frame_code.specs.Frames.{frame}
 use Rattle.node_talk.specs.Talks.{Node, acts, IsPeer, own_word, said, frames, post_to}
 use Rattle.node_talk.specs.PeerLinks.{place_among, no_outlet, out_to}
-use Rattle.node_talk.proofs.Frames.{said_step, said_prefix}
+use Rattle.node_talk.proofs.Frames.{said_step}
 use Rattle.node_talk.proofs.ExpectedPlaces.{between_parties}
 use Rattle.node_talk.proofs.ActPlaces.{at_act, within_acts, taken_there}
-use Rattle.node_run.specs.Mail.{Mail, SentTo, MayPost, MayTake, Takes, with_post, failed_after, outlet_to, box_of}
+use Rattle.node_run.specs.Mail.{Mail, SentTo, MayPost, MayTake, Takes, NeverComes, with_post, failed_after, outlet_to}
 use Rattle.node_run.specs.Progress.{Begin, Agrees, HasTaken, HasPosted, KeepsOwn, IsOf, Going, KeepsRoom, OutletStays, Stopped, StopsBy, Halted, InSession, before_session, ids_of, said_bytes}
+use Rattle.node_run.specs.Turns.{Awaits}
 use Rattle.node_run.proofs.KnownWords.{known, agrees_known, later_taken, later_posted}
 use Rattle.node_run.proofs.CellChanges.{put_some}
 use Rattle.node_run.proofs.OutletSteps.{bytes_more, bytes_within, room_then, room_at, Sent, Unsent, sent_ok, sent_err, going_stays, other_stays, failed_stays}
@@ -48,16 +49,13 @@ use Rattle.node_run.proofs.OutletSteps.{bytes_more, bytes_within, room_then, roo
 pub whole_prefix : (a : List ℕ) (told told' : Option (List ℕ)) → told' ≡ added told a → AddedPrefix told a told'
 whole_prefix a told told' is = (length a, is ∙ ap (added told) (sym (take_all (length a) a (omega arith))))
 
--- what is said by the first instructions is a first part of what is said by one more
-pub stopped_at : (n : Node) (k : ℕ) (start : Begin) (c : Mail) → Going n k start c → Stopped n start c
+-- all that is said by the first instructions is a first part of it
+pub stopped_at : (n : Node) (k : ℕ) (start : Begin) (c : Mail) → Going n k start c → Stopped n k start c
 stopped_at n k start c g = record {
   own = g.own;
-  k = k;
   within = g.within;
   taken = g.taken;
-  sent = λ got ag q peer.
-      let r = said_prefix n q (own_word n got) k (suc k) (omega arith) in
-      subst (λ z. AddedPrefix (out_to n start.links q).told z (outlet_to c q).told) (sym r.1) (prefix_first (said n q (own_word n got) k) r.0 _ _ (whole_prefix _ _ _ (g.sent got ag q peer)));
+  sent = λ got ag q peer. whole_prefix _ _ _ (g.sent got ag q peer);
 }
 
 -- the meaning of cells is that of a node's
@@ -122,16 +120,14 @@ module _ (n : Node) (s : ℕ) (start : Begin) (d : Desk) (c : Mail) (h : InSessi
     waits_for = rested c' (rest ∙ ap (λ z. record c { words = z; boxes = c'.boxes }) (sym (ap (λ (z : Mail). z.words) rest))) (ap (λ (z : Mail). z.words.cells) rest) ids
 
 -- where a word is not to come, it stops
-pub stops_here : (n : Node) (s : ℕ) (start : Begin) (d : Desk) (c : Mail) → InSession n s start d c → (m : ℕ) → MayTake c m → (c' : Mail) → c' ≡ record c { boxes = c'.boxes } → ids_of c'.boxes ≡ ids_of c.boxes
-    → (box_of c' (message c.plan m).sender).view.noted ≡ 2 → Halted n start c'
-stops_here n s start d c h m may c' rest ids noted =
+pub stops_here : (n : Node) (s : ℕ) (start : Begin) (d : Desk) (c : Mail) → InSession n s start d c → (m : ℕ) → Awaits n s d m → (c' : Mail) → c' ≡ record c { boxes = c'.boxes } → ids_of c'.boxes ≡ ids_of c.boxes
+    → NeverComes c' m → Halted n start c'
+stops_here n s start d c h m next c' rest ids never =
     let i = waits_for n s start d c h c' rest ids in
-    let there : m < length (messages n.world.plan) = subst (λ z. m < length (messages z)) h.going.own.plan may.there in
-    let b = between_parties n h.going.own.part m there in
-    let to : (message n.world.plan m).receiver ≡ n.me = ap (λ z. (message z m).receiver) (sym h.going.own.plan) ∙ may.receiver ∙ h.going.own.me in
     record {
+      k = before_session n s + d.position;
       stopped = stopped_at n (before_session n s + d.position) start c' i.going;
-      why = subst (StopsBy n start c') (sym i.going.quiet) ((message n.world.plan m).sender, (b.sender, λ e. b.apart (e ∙ sym to)), subst (λ z. (box_of c' (message z m).sender).view.noted ≡ 2) h.going.own.plan noted);
+      why = subst (StopsBy n (before_session n s + d.position) start c') (sym i.going.quiet) (i.going, (m, next.0, next.1, never));
       outlets = λ q peer. going_stays n (before_session n s + d.position) start c' i.going q peer;
     }
 
@@ -357,11 +353,11 @@ module _ (cells : Meaning Mail) (are : AreNodeCells cells) (n : Node) (s : ℕ) 
 
       posted_err : c'.failed ≢ None → Halted n start c'
       posted_err some = record {
+        k = suc k;
         stopped = record {
           own = own';
-          k = k;
-          within = h.going.within;
-          taken = taken';
+          within = (let a = lk in omega arith);
+          taken = later_taken n k c'.words.cells taken' (λ m' i' f. absurd (not_take m' i' (sym act_is ∙ f)));
           sent = λ got agrees q peer.
               let before' = agrees_before got agrees in
               elim (cases_eq to_q q) [
@@ -370,7 +366,7 @@ module _ (cells : Meaning Mail) (are : AreNodeCells cells) (n : Node) (s : ℕ) 
                 | right' ne ↦ whole_prefix (said n q (own_word n got) (suc k)) _ _ (ap (λ z. z.told) (outlet_there q peer ne) ∙ h.going.sent got before' q peer ∙ ap (added (out_to n start.links q).told) (sym (said_there got q ne)))
               ];
         };
-        why = subst (StopsBy n start c') (sym (some_written.1 some).2) (to_peer, subst (λ z. Rose z (outlet_to c' to_q).faults) (h.going.calm to_q to_peer) (some_written.1 some).1);
+        why = subst (StopsBy n (suc k) start c') (sym (some_written.1 some).2) (to_peer, subst (λ z. Rose z (outlet_to c' to_q).faults) (h.going.calm to_q to_peer) (some_written.1 some).1);
         outlets = λ q peer. elim (cases_eq to_q q) [
           | left' eq ↦ subst (λ z. OutletStays n z c'.failed (out_to n start.links z) (outlet_to c' z)) eq
               (failed_stays n to_q c'.failed (said_bytes n to_q k) (bytes old_words) _ _ _ (some_written.1 some).2 (h.going.calm to_q to_peer) (h.going.room to_q to_peer)
@@ -480,7 +476,7 @@ module _ (cells : Meaning Mail) (are : AreNodeCells cells) (n : Node) (s : ℕ) 
   -- ---- a step that did nothing
 
   module _ (d' : Desk) (c' : Mail) (m : ℕ) (steps : (given : Given) → MayStep cells n.world.plan c given d → Steps cells given d c d' c' (instruction_at given d) (NotYet m)) where
-    waited_at : (i : Instruction) → e ≡ i → Waits cells d c d' c' m i → InSession n s start d' c' × MayTake c' m
+    waited_at : (i : Instruction) → e ≡ i → Waits cells d c d' c' m i → InSession n s start d' c' × MayTake c' m × Awaits n s d' m
     waited_at (Take m' j) is x =
         let t = are.took c m' None c' x.2 in
         let r = rested n s start d c h c' t.rest t.answers t.ids in
@@ -490,6 +486,7 @@ module _ (cells : Meaning Mail) (are : AreNodeCells cells) (n : Node) (s : ℕ) 
             there = subst (λ z. m' < length (messages z)) (sym r.going.own.plan) there.0;
             receiver = ap (λ z. (message z m').receiver) r.going.own.plan ∙ there.1 ∙ sym r.going.own.me;
           }),
+          subst (Awaits n s d') (sym x.0) (subst (λ z. Awaits n s z m') (sym x.1) (j, act_is (inside (λ f. (let g : Take m' j ≡ End = sym is ∙ f in cc))) ∙ is)),
         )
     waited_at (Deal k' j) is x = absurd x
     waited_at (Post m' j) is x = absurd x
@@ -499,7 +496,7 @@ module _ (cells : Meaning Mail) (are : AreNodeCells cells) (n : Node) (s : ℕ) 
     waited_at (Deliver k') is x = absurd x
     waited_at End is x = absurd x
 
-    pub waited : InSession n s start d' c' × MayTake c' m
+    pub waited : InSession n s start d' c' × MayTake c' m × Awaits n s d' m
     waited = waited_at e refl (steps (l (known n c.words.cells)) (may_step (known n c.words.cells) (agrees_known n c.words.cells h.going.own.cells)))
 
   module _ (d' : Desk) (c' : Mail) (steps : (given : Given) → MayStep cells n.world.plan c given d → Steps cells given d c d' c' (instruction_at given d) Ended) where

@@ -1,6 +1,6 @@
 -- What a node keeps while it runs its sessions: its outlets, the words that it sent and read, and the inboxes of its
 -- peers.
-use Rattle.std.specs.Prelude.{◌≡◌, ◌≢◌, ℕ, ◌+◌, ◌%◌, ◌<◌, ◌^◌, Bool, [], List, map, filter, length, take, slice_index, slice_index_or, Option, None, Some, Result, Ok, Err}
+use Rattle.std.specs.Prelude.{◌≡◌, ◌≢◌, ℕ, ◌+◌, ◌%◌, ◌<◌, ◌≤◌, ◌^◌, Bool, [], List, map, filter, length, take, slice_index, slice_index_or, Option, None, Some, Result, Ok, Err}
 use Rattle.std.specs.Option.{option_map}
 use Rattle.atomic_table.specs.Seated.{TableId}
 use Rattle.message_board.specs.Pairs.{Knows}
@@ -130,6 +130,14 @@ pub record LookedAtMark (before : Mail) (m : ℕ) (answer : Option Bool) (after 
   pub noted : (box_of after (message before.plan m).sender).view
       ≡ notes (box_of before (message before.plan m).sender).view found
   pub others : (q : ℕ) → q ≢ before.me → q ≢ (message before.plan m).sender → box_of after q ≡ box_of before q
+
+-- the word of message m won't come: its sender's reader ended by a fault, and a look after that found how many words it
+-- had pushed, which are too few
+pub record NeverComes (x : Mail) (m : ℕ) : Type 0 where
+  pub ended : (box_of x (message x.plan m).sender).view.noted ≡ 2
+  pub total : ℕ
+  pub found : (box_of x (message x.plan m).sender).view.total ≡ Some total
+  pub few : total ≤ slice_index x.places m
 
 -- where a take of message m has its answer from, by the word that was kept of it: that word, or where none was, what a
 -- look found, as a number of the ring

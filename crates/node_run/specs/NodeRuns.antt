@@ -1,5 +1,5 @@
 -- What a node's run says: its answer, what its links took and gave, and what stays steady.
-use Rattle.std.specs.Prelude.{◌≡◌, ◌≢◌, ◌⊎◌, ℕ, ◌-◌, ◌<◌, ◌≤◌, ◌^◌, IsTrue, IsOk, IsErr, IfOk, IfErr, OnErr, List, Result, Err}
+use Rattle.std.specs.Prelude.{◌≡◌, ◌≢◌, ◌⊎◌, ℕ, ◌-◌, ◌<◌, ◌≤◌, ◌^◌, IsTrue, IsOk, IsErr, IfOk, IfErr, List, Result, Err}
 use Rattle.std.specs.List.{AllByRecursion}
 use Rattle.job_plan.specs.declared.key.Key.{Key}
 use Rattle.share_world.specs.Laws.{IsWhole}
@@ -107,8 +107,9 @@ pub record Runs (n : Node) (before after : LinksReading) (spawner spawner' : Spa
   pub closed : IsTrue (are_closed after)
   -- at Ok it said its whole talk and heard all that it expects, and it has the words and the outputs
   pub done : IfOk result (λ r. (got : Key → ℕ) × IsDone n got r × TalkedThrough n got before after)
-  -- at a fault it said a first part of its talk, and nothing that stands after a word that didn't come
-  pub broke : OnErr result ((got : Key → ℕ) × BrokeOff n got before after)
+  -- at a fault it said a first part of its talk, up to the first take of a word that didn't come, and where no send
+  -- failed and all readers were started, all of that
+  pub broke : IfErr result (λ fault. (got : Key → ℕ) × BrokeOff n got before after fault)
   -- the fault has its cause, and is the first
   pub cause : IfErr result (Cause n before after spawner.refusals spawner'.refusals)
   pub least : IfErr result (IsFirst n before after)

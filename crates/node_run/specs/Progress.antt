@@ -1,5 +1,5 @@
 -- How far a node has come.
-use Rattle.std.specs.Prelude.{◌≡◌, ◌≢◌, ℕ, suc, ◌+◌, ◌-◌, ◌*◌, ◌<◌, ◌≤◌, IsTrue, List, length, map, slice_get, Option, None, Some}
+use Rattle.std.specs.Prelude.{◌≡◌, ◌≢◌, ℕ, ◌+◌, ◌-◌, ◌*◌, ◌<◌, ◌≤◌, IsTrue, List, length, map, slice_get, Option, None, Some}
 use Rattle.message_board.specs.Plain.{plain_cell}
 use Rattle.job_plan.specs.declared.key.Key.{Key}
 use Rattle.job_plan.specs.Messages.{messages}
@@ -18,7 +18,7 @@ use Rattle.node_talk.specs.Talks.{Node, acts, IsPeer, own_word, messages_between
 use Rattle.node_talk.specs.PeerLinks.{out_to}
 use Rattle.list_laws.specs.Lists.{joined}
 use Rattle.atomic_table.specs.Seated.{TableId}
-use Rattle.node_run.specs.Mail.{Mail, BoxModel, outlet_to, box_of}
+use Rattle.node_run.specs.Mail.{Mail, BoxModel, NeverComes, outlet_to}
 
 -- how many instructions stand before session s
 abbrev pub before_session : Node → ℕ → ℕ
@@ -100,23 +100,24 @@ pub record Going (n : Node) (k : ℕ) (start : Begin) (now : Mail) : Type 0 wher
   pub room : (q : ℕ) → IsPeer n q → KeepsRoom (said_bytes n q k) (out_to n start.links q) (outlet_to now q)
   pub quiet : now.failed ≡ None
 
--- k instructions are done, and of the posts up to the next one a first part was sent
-pub record Stopped (n : Node) (start : Begin) (now : Mail) : Type 0 where
+-- of what the first k instructions say a first part was sent, and each word that they take was read
+pub record Stopped (n : Node) (k : ℕ) (start : Begin) (now : Mail) : Type 0 where
   pub own : IsOf n start now
-  pub k : ℕ
   pub within : k ≤ length (acts n)
   pub taken : HasTaken n k now.words.cells
   pub sent : (got : Key → ℕ) → Agrees n now.words.cells got → (q : ℕ) → IsPeer n q
-      → AddedPrefix (out_to n start.links q).told (said n q (own_word n got) (suc k)) (outlet_to now q).told
+      → AddedPrefix (out_to n start.links q).told (said n q (own_word n got) k) (outlet_to now q).told
 
--- a send to a peer failed, or the reader of a peer ended by a fault
-abbrev pub StopsBy : Node → Begin → Mail → Option ℕ → Type 0
-StopsBy n start now (Some q) = IsPeer n q × Rose (out_to n start.links q).faults (outlet_to now q).faults
-StopsBy n start now None = (q : ℕ) × IsPeer n q × ((box_of now q).view.noted ≡ 2)
+-- a send to a peer failed; or none did, and the next instruction takes a word that won't come
+abbrev pub StopsBy : Node → ℕ → Begin → Mail → Option ℕ → Type 0
+StopsBy n k start now (Some q) = IsPeer n q × Rose (out_to n start.links q).faults (outlet_to now q).faults
+StopsBy n k start now None =
+    Going n k start now × ((m : ℕ) × (i : ℕ) × (at (acts n) k ≡ Take m i) × NeverComes now m)
 
 pub record Halted (n : Node) (start : Begin) (now : Mail) : Type 0 where
-  pub stopped : Stopped n start now
-  pub why : StopsBy n start now now.failed
+  pub k : ℕ
+  pub stopped : Stopped n k start now
+  pub why : StopsBy n k start now now.failed
   pub outlets : (q : ℕ) → IsPeer n q → OutletStays n q now.failed (out_to n start.links q) (outlet_to now q)
 
 -- ---- hellos

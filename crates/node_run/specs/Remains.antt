@@ -65,7 +65,7 @@ pub record MayRun (n : Node) (start : Begin) (place : ℕ) (readers : List Reade
   pub count : place + length readers ≡ length start.ids
   pub parts : (k : ℕ) (d : ReaderPartsModel) → slice_get readers k ≡ Some d → IsFor n start (place + k) d
 
--- how a reader ended: what it read, and that the party got no other words and no other mark of its inbox
+-- how a reader ended: what it read, and that what the party found in its inbox is what was pushed and left there
 pub record PeerEnd (n : Node) (now : Mail) (place : ℕ) (before after : InletReading)
     (result : Result (Unit {0}) NodeFault) : Type 0 where
   pub words : List ℕ

@@ -2,8 +2,7 @@
 ghost use Rattle.std.specs.Prelude.{◌≡◌, ℕ, ◌<◌, length, true, false};
 ghost use Rattle.party_program.specs.Programs.{program};
 ghost use Rattle.node_talk.specs.Talks.{Node};
-ghost use Rattle.job_plan.specs.Numbers.{message};
-ghost use Rattle.node_run.specs.Mail.{MayTake, box_of};
+ghost use Rattle.node_run.specs.Mail.{MayTake, NeverComes};
 ghost use Rattle.node_run.specs.Progress.{Begin, InSession, InOrder, Halted, KeepsWords, ids_of};
 ghost use Rattle.node_run.specs.Turns.{Turns};
 
@@ -49,7 +48,7 @@ fn advance<'p, O: Outlet>(plan: &Plan, desk: &mut Desk, cells: &mut NodeCells<'p
 }
 
 // Waits for the word of this message, and answers whether it may still come: not where the reader of its sender ended
-// by a fault without it.
+// by a fault, and a look after that didn't find it.
 fn wait_for<'p, O: Outlet, R: Wait>(
     rt: &R,
     cells: &mut NodeCells<'p, O>,
@@ -59,7 +58,7 @@ fn wait_for<'p, O: Outlet, R: Wait>(
     requires { MayTake cells.old number }
     ensures rest { cells.new ≡ record cells.old { boxes = cells.new.boxes } }
     ensures ids { ids_of cells.new.boxes ≡ ids_of cells.old.boxes }
-    ensures stops { result ≡ false → (box_of cells.new (message cells.old.plan number).sender).view.noted ≡ 2 }
+    ensures stops { result ≡ false → NeverComes cells.new number }
 {
     match cells.mark(number) {
         None => {

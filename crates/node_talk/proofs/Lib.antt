@@ -6,3 +6,5 @@ pub mod RightRuns
 pub mod KeptViews
 pub mod NoCauses
 pub mod ActPlaces
+pub mod LongestRuns
+pub mod StopPlaces

@@ -22,7 +22,7 @@ pub ahead_nothing : (told : Option (List ℕ)) → told ≡ ahead [] told
 ahead_nothing None = refl
 ahead_nothing (Some left) = refl
 
-left_of : (bytes front piece : List ℕ) (told : Option (List ℕ)) → Some bytes ≡ ahead front (ahead piece told) → (left : List ℕ) × (told ≡ Some left) × (bytes ≡ front ++ (piece ++ left))
+pub left_of : (bytes front piece : List ℕ) (told : Option (List ℕ)) → Some bytes ≡ ahead front (ahead piece told) → (left : List ℕ) × (told ≡ Some left) × (bytes ≡ front ++ (piece ++ left))
 left_of bytes front piece None e = absurd (let f : Some bytes ≡ None = e in cc)
 left_of bytes front piece (Some left) e = (left, refl, (let f : Some bytes ≡ Some (front ++ (piece ++ left)) = e in cc))
 

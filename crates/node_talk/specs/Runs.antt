@@ -1,5 +1,5 @@
 -- What the run of a node comes to.
-use Rattle.std.specs.Prelude.{◌≡◌, ◌≢◌, ℕ, suc, ◌<◌, ◌^◌, true, List, [], ◌∷◌, length, slice_index_or, Option, None, Some, unwrap_or}
+use Rattle.std.specs.Prelude.{◌≡◌, ◌≢◌, ◌⊎◌, ℕ, suc, ◌<◌, ◌^◌, true, List, [], ◌∷◌, length, slice_index_or, Option, None, Some, unwrap_or}
 use Rattle.std.specs.List.{AllByRecursion}
 use Rattle.list_laws.specs.Lists.{joined, only_if}
 use Rattle.job_session.specs.Sessions.{readers, output_wire}
@@ -15,7 +15,9 @@ use Rattle.outer_io.specs.Count.{Rose}
 use Rattle.outer_io.specs.Inlet.{ahead}
 use Rattle.outer_io.specs.Sink.{added, AddedPrefix}
 use Rattle.outer_io.specs.Links.{LinksReading}
-use Rattle.node_talk.specs.Talks.{Node, IsPeer, own_word, talk, expected, expected_at, place_of, heard, acts, said, Begins, IsRun, EndsBefore}
+use Rattle.node_talk.specs.declared.fault.NodeFault.{NodeFault}
+use Rattle.node_talk.specs.declared.fault.NodeFault.TheVariants.{NoThread}
+use Rattle.node_talk.specs.Talks.{Node, IsPeer, own_word, talk, expected, place_of, heard, acts, said, Begins, IsRun, EndsBefore}
 use Rattle.node_talk.specs.PeerLinks.{in_from, out_to}
 
 -- ---- what a node that is done has
@@ -64,18 +66,56 @@ pub record TalkedThrough (n : Node) (got : Key → ℕ) (before after : LinksRea
   pub heard : (q : ℕ) → IsPeer n q → (in_from n before q).told ≡ ahead (heard n q got) (in_from n after q).told
   pub small : (q : ℕ) → IsPeer n q → AllByRecursion (λ key. got key < 2 ^ n.world.plan.bits) (expected n q)
 
--- Each outlet took a first part of what the party says where it got these words, and these are the words of each run.
--- Of what stands after the take of a message that is in no run, nothing was said.
-pub record BrokeOff (n : Node) (got : Key → ℕ) (before after : LinksReading) : Type 0 where
+-- ---- where a run breaks off
+
+-- message m is among the first ones that came from each peer, so many of each
+abbrev pub HasCome : Node → (ℕ → ℕ) → ℕ → Type 0
+HasCome n came m = place_of n m < came (message n.world.plan m).sender
+
+-- the first k instructions take only words that came
+abbrev pub TakesWhatCame : Node → (ℕ → ℕ) → ℕ → Type 0
+TakesWhatCame n came k = (j m i : ℕ) → j < k → at (acts n) j ≡ Take m i → HasCome n came m
+
+-- the instruction after the first k takes a word that didn't come, or there is none
+abbrev pub StopsAfter : Node → (ℕ → ℕ) → ℕ → Type 0
+StopsAfter n came k = (k ≡ length (acts n)) ⊎ ((m : ℕ) × (i : ℕ) × (at (acts n) k ≡ Take m i) × ¬ HasCome n came m)
+
+-- so there is one place where it stops, by what came
+abbrev pub StopsAtOnePlace : Node → Type 0
+StopsAtOnePlace n =
+    (came : ℕ → ℕ) (j k : ℕ) → TakesWhatCame n came j → StopsAfter n came j → TakesWhatCame n came k
+    → StopsAfter n came k → j ≡ k
+
+-- no send failed
+abbrev pub NoSendRose : Node → LinksReading → LinksReading → Type 0
+NoSendRose n before after = (q : ℕ) → IsPeer n q → ¬ Rose (out_to n before q).faults (out_to n after q).faults
+
+-- the fault isn't that a reader wasn't started
+abbrev pub AllStarted : NodeFault → Type 0
+AllStarted (NoThread q) = ⊥
+AllStarted _ = Unit {0}
+
+-- it said all that the first k instructions say, and the next one takes a word that didn't come; the bytes of an inlet
+-- that is told, and of which no read failed, hold no more frames than came
+pub record SaidAll (n : Node) (got : Key → ℕ) (came : ℕ → ℕ) (k : ℕ) (before after : LinksReading) : Type 0 where
   pub told : (q : ℕ) → IsPeer n q
-      → AddedPrefix (out_to n before q).told (talk n q (own_word n got)) (out_to n after q).told
-  pub hears : (q : ℕ) → IsPeer n q → (bytes : List ℕ) → (in_from n before q).told ≡ Some bytes
-      → (f : ℕ) (word : Key → ℕ) → IsRun n q bytes f word → (place : ℕ) → place < f
-      → got (expected_at n q place) ≡ word (expected_at n q place)
-  pub waits : (q r m i k : ℕ) → IsPeer n q → IsPeer n r → k < length (acts n) → at (acts n) k ≡ Take m i
-      → (message n.world.plan m).sender ≡ q → (bytes : List ℕ) → (in_from n before q).told ≡ Some bytes
-      → EndsBefore n q bytes (suc (place_of n m))
-      → AddedPrefix (out_to n before r).told (said n r (own_word n got) k) (out_to n after r).told
+      → (out_to n after q).told ≡ added (out_to n before q).told (said n q (own_word n got) k)
+  pub stops : StopsAfter n came k
+  pub most : (q : ℕ) → IsPeer n q → ¬ Rose (in_from n before q).faults (in_from n after q).faults
+      → (bytes : List ℕ) → (in_from n before q).told ≡ Some bytes → EndsBefore n q bytes (suc (came q))
+
+-- So many frames came from each peer, with the words that the party got: an inlet that is told holds them. Each outlet
+-- took a first part of what the party says by its first k instructions, which take only words that came. Where no send
+-- failed and all readers were started, it said all that it could.
+pub record BrokeOff (n : Node) (got : Key → ℕ) (before after : LinksReading) (fault : NodeFault) : Type 0 where
+  pub came : ℕ → ℕ
+  pub k : ℕ
+  pub hears : (q : ℕ) → IsPeer n q → (bytes : List ℕ) → (in_from n before q).told ≡ Some bytes → 0 < came q
+      → IsRun n q bytes (came q) got
+  pub takes : TakesWhatCame n came k
+  pub told : (q : ℕ) → IsPeer n q
+      → AddedPrefix (out_to n before q).told (said n q (own_word n got) k) (out_to n after q).told
+  pub all : AllStarted fault → NoSendRose n before after → SaidAll n got came k before after
 
 -- ---- when nothing stops a run
 

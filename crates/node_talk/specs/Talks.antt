@@ -1,5 +1,5 @@
 -- A party by itself: what it says to each other party over a pipe, and what it hears from it.
-use Rattle.std.specs.Prelude.{◌≡◌, ◌≢◌, ℕ, ◌<◌, ◌≤◌, ◌^◌, Bool, ◌&&◌, nat_eq, List, [], ◌∷◌, ◌++◌, filter, length, take, slice_index_or}
+use Rattle.std.specs.Prelude.{◌≡◌, ◌≢◌, ℕ, suc, ◌<◌, ◌≤◌, ◌^◌, Bool, ◌&&◌, nat_eq, List, [], ◌∷◌, ◌++◌, filter, length, take, slice_index_or}
 use Rattle.std.specs.List.{flat_map, AllByRecursion}
 use Rattle.list_laws.specs.Lists.{joined, only_if}
 use Rattle.job_plan.specs.Plans.{Plan}
@@ -107,3 +107,15 @@ pub record IsRun (n : Node) (q : ℕ) (bytes : List ℕ) (f : ℕ) (word : Key �
 -- the bytes hold no run of so many frames
 abbrev pub EndsBefore : Node → ℕ → List ℕ → ℕ → Type 0
 EndsBefore n q bytes f = (word : Key → ℕ) → IsRun n q bytes f word → ⊥
+
+-- two runs in the same bytes have the same words, as far as both go
+abbrev pub RunsAgree : Node → ℕ → Type 0
+RunsAgree n q =
+    (bytes : List ℕ) (f g : ℕ) (v w : Key → ℕ) → IsRun n q bytes f v → IsRun n q bytes g w
+    → (place : ℕ) → place < f → place < g → v (expected_at n q place) ≡ w (expected_at n q place)
+
+-- and two that can't be longer are as long
+abbrev pub OneIsLongest : Node → ℕ → Type 0
+OneIsLongest n q =
+    (bytes : List ℕ) (f g : ℕ) (v w : Key → ℕ) → IsRun n q bytes f v → IsRun n q bytes g w
+    → EndsBefore n q bytes (suc f) → EndsBefore n q bytes (suc g) → f ≡ g

@@ -1,5 +1,5 @@
 //! Laws of what a node says and hears.
-ghost use Rattle.std.specs.Prelude.{◌≡◌, ℕ, ◌<◌, ◌^◌, length};
+ghost use Rattle.std.specs.Prelude.{◌≡◌, ℕ, ◌<◌, ◌≤◌, ◌^◌, length};
 ghost use Rattle.job_plan.specs.Messages.{messages};
 ghost use Rattle.job_plan.specs.Numbers.{message};
 ghost use Rattle.job_plan.specs.declared.key.Key.{Key};
@@ -8,9 +8,9 @@ ghost use Rattle.share_world.specs.Laws.{IsWhole};
 ghost use Rattle.outer_io.specs.Count.{Rose};
 ghost use Rattle.outer_io.specs.Links.{LinksReading};
 ghost use Rattle.node_talk.specs.declared.fault.NodeFault.{NodeFault};
-ghost use Rattle.node_talk.specs.Talks.{Node, TalkIsSaid, expected, expected_at, place_of};
+ghost use Rattle.node_talk.specs.Talks.{Node, TalkIsSaid, expected, expected_at, place_of, RunsAgree, OneIsLongest};
 ghost use Rattle.node_talk.specs.Causes.{Cause};
-ghost use Rattle.node_talk.specs.Runs.{Results, IsDone, kept_view, TalkedThrough, HearsAll, NoneRose, HearsWorld, GotWorld, IsOfWorld};
+ghost use Rattle.node_talk.specs.Runs.{Results, IsDone, kept_view, TalkedThrough, StopsAtOnePlace, HearsAll, NoneRose, HearsWorld, GotWorld, IsOfWorld};
 
 /// All instructions of a party together say its talk: its posts to another party are the messages to it, in the order
 /// of their numbers.
@@ -24,6 +24,18 @@ pub fn messages_stand_at_their_places()
         → place_of n m < length (expected n (message n.world.plan m).sender) }
     ensures at { (n : Node) (m : ℕ) → m < length (messages n.world.plan) → (message n.world.plan m).receiver ≡ n.me
         → expected_at n (message n.world.plan m).sender (place_of n m) ≡ message n.world.plan m }
+{}
+
+/// The bytes of an inlet hold one longest run: runs in the same bytes have the same words, as far as both go, and two
+/// that can't be longer are as long.
+pub fn an_inlet_holds_one_longest_run()
+    ensures words { (n : Node) (q : ℕ) → n.world.plan.bits ≤ 64 → length n.digest ≡ 32 → RunsAgree n q }
+    ensures longest { (n : Node) (q : ℕ) → OneIsLongest n q }
+{}
+
+/// There is one place in its instructions where a run stops, by what came.
+pub fn a_run_stops_at_one_place()
+    ensures { (n : Node) → StopsAtOnePlace n }
 {}
 
 /// A node whose inlets hold what its peers say in the world hears all that it expects.

@@ -25,7 +25,7 @@ wait_for-requires g c =
 pub returns-then-not-wait_for-clause-halted : goal.returns-then-not-wait_for-clause-halted
 returns-then-not-wait_for-clause-halted g c = λ n s start e h no.
     let t = subst (Turns n s start c.advance.new.desk c.advance.new.cells) c.in-Waits.is (c.advance.ensures.turns n s start e (c.loop.invariant.state n s start e h)) in
-    stops_here n s start c.advance.new.desk c.advance.new.cells t.0 c.in-Waits.number t.1 c.wait_for.new.cells c.wait_for.ensures.rest c.wait_for.ensures.ids (c.wait_for.ensures.stops c.if-not-wait_for.true)
+    stops_here n s start c.advance.new.desk c.advance.new.cells t.0 c.in-Waits.number t.2 c.wait_for.new.cells c.wait_for.ensures.rest c.wait_for.ensures.ids (c.wait_for.ensures.stops c.if-not-wait_for.true)
 
 pub returns-then-not-wait_for-clause-keeps : goal.returns-then-not-wait_for-clause-keeps
 returns-then-not-wait_for-clause-keeps g c = λ m v e. ap (λ (z : Mail). plain_cell z.words.cells m) c.wait_for.ensures.rest ∙ c.advance.ensures.keeps m v (c.loop.invariant.keeps m v e)
