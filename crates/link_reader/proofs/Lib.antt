@@ -5,3 +5,4 @@ pub mod BrokenOffRuns
 pub mod ExpectedMessages
 pub mod ShutInlets
 pub mod NoMore
+pub mod Tokens

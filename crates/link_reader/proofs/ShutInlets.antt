@@ -1,5 +1,5 @@
 -- What was read of an inlet, once it is closed.
-use Rattle.std.proofs.Common.{◌≡◌, ℕ, Bool, false, List, Option, Some, None, Result, Ok, Err, refl, sym, ◌∙◌, subst, inl, inr, ⊎_elim}
+use Rattle.std.proofs.Common.{◌≡◌, ℕ, suc, length, Bool, false, List, Option, Some, None, Result, Ok, Err, refl, sym, ◌∙◌, subst, inl, inr, ⊎_elim}
 use Rattle.std.specs.Prelude.{IsTrue, is_err, is_some}
 use Rattle.std.proofs.lemmas.Bool.{false≢true}
 use Rattle.inbox_board.specs.Rule.{newcomer, ends}
@@ -10,6 +10,7 @@ use Rattle.node_talk.specs.declared.fault.NodeFault.{NodeFault}
 use Rattle.node_talk.specs.declared.fault.NodeFault.TheVariants.{Link, Closed, BadFrame, OtherJob, NoThread}
 use Rattle.link_reader.specs.Expected.{TalkModel}
 use Rattle.link_reader.specs.Heard.{StaysSteady, KeepsCalm, EndedWithin, NoFrame, NoHello}
+use Rattle.link_reader.specs.Wakers.{WakerModel, gives}
 use Rattle.link_reader.specs.ReadWords.{CameShort, Reads, ReaderModel, Works, WorksFrom}
 
 pub calm : (before after : InletReading) → StaysSteady before after → KeepsCalm before after
@@ -51,16 +52,16 @@ none_kept None b e f = refl
 none_kept (Some x) b e f = absurd (false≢true (sym f ∙ e))
 
 -- a new reader that read these words, and whose inlet was closed then, did its work
-pub works_new : (before was : ReaderModel) → before ≡ was → (mid last : InletReading) (seat : SeatModel) (words : List ℕ) (outcome : Result (Unit {0}) NodeFault) → before.outcome ≡ None → Reads before.talk words before.inlet mid outcome → StaysSteady before.inlet mid
-    → last ≡ shut_inlet mid → seat.id ≡ before.seat.id → seat.view ≡ ends (pushed (newcomer 1) words) (mark_of (is_err outcome)) → Works was (record before { inlet = last; seat = seat; outcome = Some outcome })
-works_new before was same mid last seat words outcome new reads steady is id view =
-    subst (λ z. Works z (record before { inlet = last; seat = seat; outcome = Some outcome })) same
-    (subst (λ o. WorksFrom o before (record before { inlet = last; seat = seat; outcome = Some outcome })) (sym new)
+pub works_new : (before was : ReaderModel) → before ≡ was → (mid last : InletReading) (seat : SeatModel) (waker : WakerModel) (words : List ℕ) (outcome : Result (Unit {0}) NodeFault) → before.outcome ≡ None → Reads before.talk words before.inlet mid outcome → StaysSteady before.inlet mid
+    → last ≡ shut_inlet mid → seat.id ≡ before.seat.id → seat.view ≡ ends (pushed (newcomer 1) words) (mark_of (is_err outcome)) → waker ≡ gives before.waker (suc (length words)) → Works was (record before { inlet = last; seat = seat; waker = waker; outcome = Some outcome })
+works_new before was same mid last seat waker words outcome new reads steady is id view woken =
+    subst (λ z. Works z (record before { inlet = last; seat = seat; waker = waker; outcome = Some outcome })) same
+    (subst (λ o. WorksFrom o before (record before { inlet = last; seat = seat; waker = waker; outcome = Some outcome })) (sym new)
     (record {
       outcome = outcome;
       words = words;
       reads = subst (λ z. Reads before.talk words before.inlet z outcome) (sym is) (reads_shut before.talk words before.inlet mid outcome reads);
       steady = subst (KeepsCalm before.inlet) (sym is) (calm_shut before.inlet mid (calm before.inlet mid steady));
       closed = subst (λ (z : InletReading). IsTrue z.closed) (sym is) refl;
-      leaves = λ i. record before { inlet = last; seat = record { id = id i; view = view i }; outcome = Some outcome };
+      leaves = λ i. record before { inlet = last; seat = record { id = id i; view = view i }; waker = woken i; outcome = Some outcome };
     }))

@@ -1,3 +1,4 @@
+pub mod Wakers
 pub mod Expected
 pub mod Heard
 pub mod ReadWords

@@ -1,5 +1,5 @@
 -- What the reader of one peer reads and pushes.
-use Rattle.std.specs.Prelude.{◌≡◌, ℕ, ◌<◌, ◌≤◌, ◌^◌, ◌⊎◌, is_err, IsTrue, List, [], ◌∷◌, ◌++◌, length, Option, None, Some, Result, Ok, Err}
+use Rattle.std.specs.Prelude.{◌≡◌, ℕ, suc, ◌<◌, ◌≤◌, ◌^◌, ◌⊎◌, is_err, IsTrue, List, [], ◌∷◌, ◌++◌, length, Option, None, Some, Result, Ok, Err}
 use Rattle.std.specs.List.{AllByRecursion}
 use Rattle.job_plan.specs.declared.key.Key.{Key}
 use Rattle.outer_io.specs.Inlet.{InletReading, ahead}
@@ -8,6 +8,7 @@ use Rattle.node_talk.specs.declared.fault.NodeFault.{NodeFault}
 use Rattle.inbox_board.specs.Rule.{newcomer, ends}
 use Rattle.inbox_board.specs.Seats.{InboxModel, SeatModel, mark_of}
 use Rattle.inbox_board.specs.Folds.{pushed}
+use Rattle.link_reader.specs.Wakers.{WakerModel, gives}
 use Rattle.link_reader.specs.Expected.{TalkModel}
 use Rattle.link_reader.specs.Heard.{hello_of, KeepsCalm, NoFrame, NoHello}
 
@@ -39,12 +40,14 @@ Reads talk words before after (Ok _) = Came talk words before after × (length w
 Reads talk words before after (Err fault) =
     ((words ≡ []) × NoHello talk before after fault) ⊎ CameShort talk words before after fault
 
--- a reader: what its inlet shows, what it expects, its inbox and its seat there, and how its work ended, once it did
+-- a reader: what its inlet shows, what it expects, its inbox and its seat there, what it wakes its party with, and how
+-- its work ended, once it did
 pub record ReaderModel : Type 0 where
   pub inlet : InletReading
   pub talk : TalkModel
   pub inbox : InboxModel
   pub seat : SeatModel
+  pub waker : WakerModel
   pub outcome : Option (Result (Unit {0}) NodeFault)
 
 -- the inbox has a place for each message, and the seat is the one that writes there, new where nothing was done yet
@@ -53,8 +56,8 @@ pub record CanWork (reader : ReaderModel) : Type 0 where
   pub places : length reader.talk.keys ≡ reader.inbox.places
   pub new : reader.outcome ≡ None → reader.seat.view ≡ newcomer 1
 
--- what the work of a reader comes to: it pushed the words that it read, left the mark of its outcome, closed its inlet
--- and kept that outcome, and nothing else changed
+-- what the work of a reader comes to: it pushed the words that it read, left the mark of its outcome, gave its party a
+-- token for each of these words and one at the end, closed its inlet and kept that outcome, and nothing else changed
 pub record HasRead (before after : ReaderModel) : Type 0 where
   pub outcome : Result (Unit {0}) NodeFault
   pub words : List ℕ
@@ -65,6 +68,7 @@ pub record HasRead (before after : ReaderModel) : Type 0 where
       ≡ record before {
         inlet = after.inlet;
         seat = record before.seat { view = ends (pushed (newcomer 1) words) (mark_of (is_err outcome)) };
+        waker = gives before.waker (suc (length words));
         outcome = Some outcome;
       }
 

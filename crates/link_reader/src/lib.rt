@@ -8,6 +8,7 @@ mod laws;
 mod read_words;
 mod reader;
 mod threads;
+mod waker;
 
 pub use expected::message_places;
 pub use incoming_talk::IncomingTalk;
@@ -15,3 +16,4 @@ pub use laws::{
     a_reader_reads_a_run, a_reader_tells_its_cause, readers_break_off, readers_talk_through,
 };
 pub use reader::LinkReader;
+pub use waker::{CountsTokens, PartyParker, Waker};

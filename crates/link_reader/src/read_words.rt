@@ -3,30 +3,32 @@ ghost use Rattle.std.specs.Prelude.{◌≡◌, ℕ, List, length};
 ghost use Rattle.inbox_board.specs.Rule.{newcomer};
 ghost use Rattle.inbox_board.specs.Folds.{pushed};
 ghost use Rattle.link_reader.specs.Heard.{StaysSteady};
+ghost use Rattle.link_reader.specs.Wakers.{gives};
 ghost use Rattle.link_reader.specs.ReadWords.{Reads};
 
 use crate::heard::{hear, meet};
 use crate::incoming_talk::IncomingTalk;
-use crossbeam_utils::sync::Unparker;
+use crate::waker::Waker;
 use inbox_board::{Inbox, InboxSeat};
 use node_talk::NodeFault;
 use outer_io::Inlet;
 
-// Reads the hello and then frame after frame, and pushes each word, up to the first fault. The party is woken after
-// each push.
+// Reads the hello and then frame after frame, and pushes each word, up to the first fault. The party is given a
+// token after each push.
 pub fn read_all<I: Inlet>(
     inlet: &mut I,
     talk: &IncomingTalk,
     inbox: &Inbox,
     seat: &mut InboxSeat,
-    waker: &Unparker,
+    waker: &mut Waker,
 ) -> Result<(), NodeFault>
     requires seat { seat.old.id ≡ inbox.now.id }
     requires new { seat.old.view ≡ newcomer 1 }
     requires places { length talk.now.keys ≡ inbox.now.places }
     ensures seat { seat.new.id ≡ inbox.now.id }
     ensures read { (words : List ℕ) × (seat.new.view ≡ pushed (newcomer 1) words)
-        × Reads talk.now words (I.reading inlet.old) (I.reading inlet.new) result }
+        × Reads talk.now words (I.reading inlet.old) (I.reading inlet.new) result
+        × (waker.new ≡ gives waker.old (length words)) }
     ensures steady { StaysSteady (I.reading inlet.old) (I.reading inlet.new) }
 {
     match meet(inlet, talk) {
@@ -38,7 +40,7 @@ pub fn read_all<I: Inlet>(
             Ok(word) => inbox.push(seat, word),
             Err(fault) => return Err(fault),
         }
-        waker.unpark();
+        waker.wake();
     }
     Ok(())
 }

@@ -5,7 +5,7 @@ ghost use Rattle.inbox_board.specs.Rule.{newcomer};
 
 use crate::incoming_talk::IncomingTalk;
 use crate::read_words::read_all;
-use crossbeam_utils::sync::Unparker;
+use crate::waker::Waker;
 use inbox_board::{Inbox, InboxSeat};
 use node_talk::NodeFault;
 use outer_io::{Inlet, Task};
@@ -21,11 +21,10 @@ pub struct LinkReader<I: Inlet> {
     talk: IncomingTalk,
     inbox: Arc<Inbox, Global>,
     seat: InboxSeat,
-    waker: Unparker,
+    waker: Waker,
     outcome: Option<Result<(), NodeFault>>,
 }
 
-// Whom it wakes is no part of what a contract sees.
 impl<I: Inlet> Model for LinkReader<I> {
     ghost use Rattle.std.specs.Arc.{arc_value};
     ghost use Rattle.link_reader.specs.ReadWords.{ReaderModel, CanWork};
@@ -37,6 +36,7 @@ impl<I: Inlet> Model for LinkReader<I> {
       talk = r.talk;
       inbox = arc_value r.inbox;
       seat = r.seat;
+      waker = r.waker;
       outcome = r.outcome;
     } };
 
@@ -50,7 +50,7 @@ impl<I: Inlet> LinkReader<I> {
         talk: IncomingTalk,
         inbox: Arc<Inbox, Global>,
         seat: InboxSeat,
-        waker: Unparker,
+        waker: Waker,
     ) -> LinkReader<I>
         requires seat { seat.id ≡ (arc_value inbox).id }
         requires new { seat.view ≡ newcomer 1 }
@@ -60,6 +60,7 @@ impl<I: Inlet> LinkReader<I> {
           talk = talk;
           inbox = arc_value inbox;
           seat = seat;
+          waker = waker;
           outcome = None;
         } }
     {
@@ -97,10 +98,10 @@ impl<I: Inlet> Task for LinkReader<I> {
             &self.talk,
             &self.inbox,
             &mut self.seat,
-            &self.waker,
+            &mut self.waker,
         );
         self.inbox.end(&mut self.seat, outcome.is_err());
-        self.waker.unpark();
+        self.waker.wake();
         self.inlet.close();
         self.outcome = Some(outcome);
     }

@@ -4,6 +4,7 @@ use Rattle.std.specs.List.{slice_get}
 use Rattle.std.proofs.lemmas.Option.{slice_get_within, get_or_from_slice_get}
 use Rattle.std.specs.Prelude.{slice_index_or}
 use Rattle.std.proofs.Math.ListN.{length-map}
+use Rattle.atomic_table.specs.Seated.{TableId}
 use Rattle.job_plan.specs.Plans.{Plan}
 use Rattle.job_plan.specs.Messages.{messages}
 use Rattle.job_plan.specs.Numbers.{message}
@@ -40,11 +41,11 @@ first_mail share kept outlets =
     }
 
 -- the peer at a place is ready
-pub ready_at : (plan : Plan) (me : ℕ) (digest : List ℕ) (count : ℕ) (boxes : List BoxModel) (readers : List ReaderPartsModel) → ArePeersReady plan me digest count boxes readers → (place : ℕ) (d : ReaderPartsModel) → place < length readers
-    → IsPeerReady plan me digest (party_at me place) (slice_index_or boxes place no_box) (get_or readers place d)
-ready_at plan me digest count boxes readers h place d l =
+pub ready_at : (plan : Plan) (me : ℕ) (parker : TableId) (digest : List ℕ) (count : ℕ) (boxes : List BoxModel) (readers : List ReaderPartsModel) → ArePeersReady plan me parker digest count boxes readers → (place : ℕ) (d : ReaderPartsModel) → place < length readers
+    → IsPeerReady plan me parker digest (party_at me place) (slice_index_or boxes place no_box) (get_or readers place d)
+ready_at plan me parker digest count boxes readers h place d l =
     let x = element_there readers place l in
-    subst (IsPeerReady plan me digest (party_at me place) (slice_index_or boxes place no_box)) (sym (stands_at readers place x.0 d x.1).1) (h.each place x.0 x.1)
+    subst (IsPeerReady plan me parker digest (party_at me place) (slice_index_or boxes place no_box)) (sym (stands_at readers place x.0 d x.1).1) (h.each place x.0 x.1)
 
 -- what is expected of the peer at a place, by equal parts
 abbrev talk_at : Plan → ℕ → List ℕ → ℕ → TalkModel
@@ -156,7 +157,7 @@ module _ (share : Share) (kept : Kept) (h : IsReady share kept) where
         is_for : (k : ℕ) (d : ReaderPartsModel) → slice_get kept.readers k ≡ Some d → IsFor n (record { links = before; ids = ids_of kept.boxes }) k d
         is_for k d is =
             let there = get_or_from_slice_get kept.readers k d d is in
-            let r = ready_at share.plan share.me share.digest (share.plan.parties - 1) kept.boxes kept.readers h.peers k d (slice_get_within kept.readers k d is) in
+            let r = ready_at share.plan share.me kept.parker share.digest (share.plan.parties - 1) kept.boxes kept.readers h.peers k d (slice_get_within kept.readers k d is) in
             record {
               talk = ap (λ (x : ReaderPartsModel). x.talk) (sym there) ∙ r.talk ∙ talk_of share.plan n.world.plan share.me n.me share.digest n.digest k (sym of.plan) (sym of.me) (sym of.digest);
               id = ap (λ (x : ReaderPartsModel). x.id) (sym there) ∙ r.id ∙ id_of kept.boxes k;

@@ -2,6 +2,7 @@
 use Rattle.std.specs.Prelude.{◌≡◌, ℕ, ◌-◌, ◌<◌, List, [], length, map, slice_get, slice_index_or, None, Some}
 use Rattle.std.specs.Global.{Vec}
 use Rattle.std.specs.List.{concat}
+use Rattle.atomic_table.specs.Seated.{TableId}
 use Rattle.inbox_board.specs.Rule.{newcomer}
 use Rattle.message_board.specs.Plain.{CellContents, plain_cell}
 use Rattle.job_plan.specs.Plans.{Plan}
@@ -50,13 +51,15 @@ pub record IsShare (share : Share) : Type 0 where
   pub fits : FitsPlan share.plan share.me share.given
   pub digest : length share.digest ≡ 32
 
--- what is kept ready: desks, cells, inboxes, where each message stands in its sender's inbox, and readers
+-- what is kept ready: desks, cells, inboxes, where each message stands in its sender's inbox, readers, and which parker
+-- the party parks on
 pub record Kept : Type 0 where
   pub desks : List Desk
   pub words : CellContents
   pub boxes : List BoxModel
   pub places : List ℕ
   pub readers : List ReaderPartsModel
+  pub parker : TableId
 
 -- a new desk for each session, with its inputs and its piece of tape
 pub record AreOpened (plan : Plan) (me : ℕ) (given : PartyForm) (desks : List Desk) : Type 0 where
@@ -70,27 +73,30 @@ pub record AreEmptyCells (plan : Plan) (words : CellContents) : Type 0 where
   pub empty : (m : ℕ) → plain_cell words.cells m ≡ None
   pub bits : words.bits ≡ plan.bits
 
--- an empty inbox with a place for each message from q, and the reader that fills it
-pub record IsPeerReady (plan : Plan) (me : ℕ) (digest : List ℕ) (q : ℕ) (box : BoxModel) (reader : ReaderPartsModel)
-    : Type 0 where
+-- an empty inbox with a place for each message from q, and the reader that fills it and wakes the party, which gave no
+-- token yet
+pub record IsPeerReady (plan : Plan) (me : ℕ) (parker : TableId) (digest : List ℕ) (q : ℕ) (box : BoxModel)
+    (reader : ReaderPartsModel) : Type 0 where
   pub places : box.places ≡ length (messages_between plan q me)
   pub view : box.view ≡ newcomer 0
   pub talk : reader.talk
       ≡ record { peer = q; me = me; digest = digest; bits = plan.bits; keys = messages_between plan q me }
   pub id : reader.id ≡ box.id
+  pub waker : reader.waker ≡ record { id = parker; given = 0 }
 
 -- these for each of the first peers, as many as are counted
-pub record ArePeersReady (plan : Plan) (me : ℕ) (digest : List ℕ) (count : ℕ) (boxes : List BoxModel)
-    (readers : List ReaderPartsModel) : Type 0 where
+pub record ArePeersReady (plan : Plan) (me : ℕ) (parker : TableId) (digest : List ℕ) (count : ℕ)
+    (boxes : List BoxModel) (readers : List ReaderPartsModel) : Type 0 where
   pub box_count : length boxes ≡ count
   pub reader_count : length readers ≡ count
   pub each : (place : ℕ) (reader : ReaderPartsModel) → slice_get readers place ≡ Some reader
-      → IsPeerReady plan me digest (party_at me place) (slice_index_or boxes place no_box) reader
+      → IsPeerReady plan me parker digest (party_at me place) (slice_index_or boxes place no_box) reader
 
 -- all is ready for the run of this share, and nothing is done yet
 pub record IsReady (share : Share) (kept : Kept) : Type 0 where
   pub fits : IsShare share
   pub desks : AreOpened share.plan share.me share.given kept.desks
   pub words : AreEmptyCells share.plan kept.words
-  pub peers : ArePeersReady share.plan share.me share.digest (share.plan.parties - 1) kept.boxes kept.readers
+  pub peers : ArePeersReady share.plan share.me kept.parker share.digest (share.plan.parties - 1) kept.boxes
+      kept.readers
   pub places : (n : Node) → n.world.plan ≡ share.plan → n.me ≡ share.me → HasPlaces n kept.places

@@ -14,6 +14,7 @@ use Rattle.node_talk.specs.declared.fault.NodeFault.{NodeFault}
 use Rattle.node_talk.specs.declared.fault.NodeFault.TheVariants.{Link, NoThread}
 use Rattle.node_talk.specs.Runs.{Results}
 use Rattle.node_talk.specs.Talks.{Node, IsPeer}
+use Rattle.link_reader.specs.Wakers.{WakerModel}
 use Rattle.link_reader.specs.Expected.{TalkModel}
 use Rattle.link_reader.specs.Heard.{KeepsCalm}
 use Rattle.link_reader.specs.ReadWords.{Reads}
@@ -21,10 +22,11 @@ use Rattle.link_reader.specs.NodeReaders.{incoming}
 use Rattle.node_run.specs.Mail.{Mail, IsMail, BoxModel, no_box}
 use Rattle.node_run.specs.Progress.{Begin, IsOf, Going, InOrder, Halted}
 
--- a reader but for its inlet: what it expects, and the inbox that it fills
+-- a reader but for its inlet: what it expects, the inbox that it fills, and what it wakes its party with
 pub record ReaderPartsModel : Type 0 where
   pub talk : TalkModel
   pub id : TableId
+  pub waker : WakerModel
 
 -- what a run leaves: the peer to which a send failed, the one whose reader wasn't started, and the first reader's fault
 pub record RemainsModel : Type 0 where

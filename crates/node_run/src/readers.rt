@@ -9,10 +9,9 @@ ghost use Rattle.node_run.specs.Remains.{MayRun, Remained};
 use crate::cells::NodeCells;
 use crate::mailbox::Mailbox;
 use crate::sessions::run_sessions;
-use crossbeam_utils::sync::{Parker, Unparker};
 use inbox_board::{Inbox, InboxSeat};
 use job_plan::Plan;
-use link_reader::{IncomingTalk, LinkReader};
+use link_reader::{IncomingTalk, LinkReader, PartyParker, Waker};
 use message_board::PlainCells;
 use node_talk::NodeFault;
 use outer_io::{Inlet, Outlet, Spawner};
@@ -27,7 +26,7 @@ pub struct ReaderParts {
     talk: IncomingTalk,
     inbox: Arc<Inbox, Global>,
     seat: InboxSeat,
-    waker: Unparker,
+    waker: Waker,
 }
 
 impl Model for ReaderParts {
@@ -38,7 +37,7 @@ impl Model for ReaderParts {
 
     ghost Value = { ReaderPartsModel };
 
-    ghost view = { λ p. record { talk = p.talk; id = (arc_value p.inbox).id } };
+    ghost view = { λ p. record { talk = p.talk; id = (arc_value p.inbox).id; waker = p.waker } };
 
     ghost invariant = { λ p. (p.seat.id ≡ (arc_value p.inbox).id) × (p.seat.view ≡ newcomer 1)
         × (length p.talk.keys ≡ (arc_value p.inbox).places) };
@@ -55,12 +54,12 @@ impl ReaderParts {
         talk: IncomingTalk,
         inbox: Arc<Inbox, Global>,
         seat: InboxSeat,
-        waker: Unparker,
+        waker: Waker,
     ) -> ReaderParts
         requires seat { seat.id ≡ (arc_value inbox).id }
         requires new { seat.view ≡ newcomer 1 }
         requires places { length talk.keys ≡ (arc_value inbox).places }
-        ensures { result ≡ record { talk = talk; id = (arc_value inbox).id } }
+        ensures { result ≡ record { talk = talk; id = (arc_value inbox).id; waker = waker } }
     {
         ReaderParts {
             talk,
@@ -83,6 +82,7 @@ impl ReaderParts {
         ensures talk { result.talk ≡ self.talk }
         ensures inbox { result.inbox.id ≡ self.id }
         ensures seat { (result.seat.id ≡ self.id) × (result.seat.view ≡ newcomer 1) }
+        ensures waker { result.waker ≡ self.waker }
         ensures outcome { result.outcome ≡ None }
     {
         LinkReader::new(inlet, self.talk, self.inbox, self.seat, self.waker)
@@ -238,7 +238,7 @@ pub fn read_peers<'p, I: Inlet + Drop, O: Outlet, W: Spawner<LinkReader<I>>, R: 
     mut readers: Vec<ReaderParts>,
     mut cells: NodeCells<'p, O>,
     mut desks: Vec<Desk>,
-    parker: &Parker,
+    parker: &PartyParker,
 ) -> Remains<O>
     requires same { vec_len readers ≡ vec_len inlets.old }
     requires run { (n : Node) × (start : Begin) × (place : ℕ) × (n.world.plan ≡ plan.now)

@@ -6,10 +6,9 @@ ghost use Rattle.node_run.specs.Ready.{given_words, AreOpened, IsPeerReady, AreP
 
 use crate::mailbox::Mailbox;
 use crate::readers::ReaderParts;
-use crossbeam_utils::sync::Parker;
 use inbox_board::Inbox;
 use job_plan::Plan;
-use link_reader::{IncomingTalk, message_places};
+use link_reader::{IncomingTalk, PartyParker, message_places};
 use message_board::PlainCells;
 use party_desk::Desk;
 use std::alloc::{AllocError, Global};
@@ -29,7 +28,7 @@ pub struct NodeReady {
     pub(crate) boxes: Vec<Mailbox>,
     pub(crate) places: Vec<u32>,
     pub(crate) readers: Vec<ReaderParts>,
-    pub(crate) parker: Parker,
+    pub(crate) parker: PartyParker,
 }
 
 impl Model for NodeReady {
@@ -45,6 +44,7 @@ impl Model for NodeReady {
       boxes = r.boxes.items;
       places = r.places.items;
       readers = r.readers.items;
+      parker = r.parker;
     }) };
 }
 
@@ -75,7 +75,7 @@ impl NodeReady {
         let desks = open_desks(alloc, plan, me, inputs, tapes)?;
         let words = PlainCells::make(alloc, plan.messages(), plan.ring())?;
         let places = message_places(alloc, plan, me)?;
-        let parker = Parker::new(alloc)?;
+        let parker = PartyParker::new(alloc)?;
         let (boxes, readers) = ready_peers(alloc, plan, me, digest, &parker)?;
         Ok(NodeReady {
             plan: Snapshot::of(plan),
@@ -129,17 +129,17 @@ fn ready_peer(
     plan: &Plan,
     me: u32,
     digest: &[u8; 32],
-    parker: &Parker,
+    parker: &PartyParker,
     peer: u32,
 ) -> Result<(Mailbox, ReaderParts), AllocError>
     requires parties { (me < plan.now.parties) × (peer < plan.now.parties) }
-    ensures { IfOk result (λ made. IsPeerReady plan.now me digest.now peer made.0 made.1) }
+    ensures { IfOk result (λ made. IsPeerReady plan.now me parker.now digest.now peer made.0 made.1) }
 {
     let talk = IncomingTalk::of_plan(alloc, plan, me, peer, *digest)?;
     let (inbox, writer, reader) = Inbox::make(alloc, talk.messages())?;
     let inbox = Arc::new(alloc, inbox)?;
     let theirs = Arc::try_clone(&inbox)?;
-    let waker = parker.unparker().clone()?;
+    let waker = parker.waker()?;
     Ok((
         Mailbox::new(inbox, reader),
         ReaderParts::new(talk, theirs, writer, waker),
@@ -152,10 +152,10 @@ fn ready_peers(
     plan: &Plan,
     me: u32,
     digest: &[u8; 32],
-    parker: &Parker,
+    parker: &PartyParker,
 ) -> Result<(Vec<Mailbox>, Vec<ReaderParts>), AllocError>
     requires { me < plan.now.parties }
-    ensures { IfOk result (λ made. ArePeersReady plan.now me digest.now (plan.now.parties - 1)
+    ensures { IfOk result (λ made. ArePeersReady plan.now me parker.now digest.now (plan.now.parties - 1)
         made.0.items made.1.items) }
 {
     let mut boxes = Vec::new(alloc);

@@ -7,8 +7,8 @@ ghost use Rattle.node_run.specs.Progress.{Begin, InSession, InOrder, Halted, Kee
 ghost use Rattle.node_run.specs.Turns.{Turns};
 
 use crate::cells::NodeCells;
-use crossbeam_utils::sync::Parker;
 use job_plan::Plan;
+use link_reader::PartyParker;
 use outer_io::Outlet;
 use party_desk::{Desk, Stepped};
 use std::sync::Wait;
@@ -52,7 +52,7 @@ fn advance<'p, O: Outlet>(plan: &Plan, desk: &mut Desk, cells: &mut NodeCells<'p
 fn wait_for<'p, O: Outlet, R: Wait>(
     rt: &R,
     cells: &mut NodeCells<'p, O>,
-    parker: &Parker,
+    parker: &PartyParker,
     number: u32,
 ) -> bool
     requires { MayTake cells.old number }
@@ -76,7 +76,7 @@ fn walk<'p, O: Outlet, R: Wait>(
     plan: &Plan,
     desk: &mut Desk,
     cells: &mut NodeCells<'p, O>,
-    parker: &Parker,
+    parker: &PartyParker,
 ) -> bool
     requires { (n : Node) × (s : ℕ) × (start : Begin) × (n.world.plan ≡ plan.now)
         × InSession n s start desk.old cells.old }
@@ -110,7 +110,7 @@ pub fn run_sessions<'p, O: Outlet, R: Wait>(
     plan: &Plan,
     desks: &mut [Desk],
     cells: &mut NodeCells<'p, O>,
-    parker: &Parker,
+    parker: &PartyParker,
 ) -> bool
     requires { (n : Node) × (start : Begin) × (n.world.plan ≡ plan.now) × InOrder n 0 start desks.old cells.old }
     ensures ended { (n : Node) (start : Begin) → n.world.plan ≡ plan.now → InOrder n 0 start desks.old cells.old

@@ -2,10 +2,9 @@
 ghost use Rattle.std.specs.Prelude.{◌≡◌, [], ◌∷◌, length, IfOk};
 ghost use Rattle.std.specs.Arc.{arc_value};
 
-use crossbeam_utils::sync::Parker;
 use inbox_board::{Inbox, InboxSeat};
 use job_plan::Key;
-use link_reader::{IncomingTalk, LinkReader};
+use link_reader::{IncomingTalk, LinkReader, PartyParker};
 use mpc_ring::Ring;
 use node_talk::NodeFault;
 use outer_io::{Inlet, ListInlet, Task};
@@ -85,7 +84,7 @@ pub struct Started<I: Inlet> {
     pub reader: LinkReader<I>,
     inbox: Arc<Inbox, Global>,
     seat: InboxSeat,
-    parker: Parker,
+    parker: PartyParker,
     ghost seat_is_there: { seat.id ≡ (arc_value inbox).id },
     ghost places: { (arc_value inbox).places ≡ 2 },
 }
@@ -96,8 +95,8 @@ pub fn start<I: Inlet + Drop>(alloc: Global, inlet: I) -> Result<Started<I>, Fai
     let (inbox, writer, seat) = made;
     let inbox = Arc::new(alloc, inbox)?;
     let theirs = Arc::try_clone(&inbox)?;
-    let parker = Parker::new(alloc)?;
-    let waker = parker.unparker().clone()?;
+    let parker = PartyParker::new(alloc)?;
+    let waker = parker.waker()?;
     Ok(Started {
         reader: LinkReader::new(inlet, talk, theirs, writer, waker),
         inbox,

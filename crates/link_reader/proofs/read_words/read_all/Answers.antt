@@ -4,11 +4,13 @@ use Rattle.inbox_board.specs.Rule.{newcomer, pushes}
 use Rattle.inbox_board.proofs.PushedWords.{pushed_pens, pushed_ended, pushed_length, pushed_more}
 use Rattle.link_reader.specs.Expected.{key_at}
 use Rattle.link_reader.specs.Heard.{Gave}
+use Rattle.link_reader.specs.Wakers.{gives}
+use Rattle.link_reader.proofs.Tokens.{gives_none, gives_more}
 use Rattle.link_reader.proofs.RowsOfFrames.{hello_came, came_more, stays_steady}
 use Rattle.link_reader.proofs.read_words.read_all.Goals as goal
 
 pub loop-place-init : goal.loop-place-init
-loop-place-init g c = record { seat = refl; read = ([], refl, hello_came _ _ _ c.in-Ok.ensures.meets, c.requires.new); steady = c.meet.ensures.steady }
+loop-place-init g c = record { seat = refl; read = ([], refl, hello_came _ _ _ c.in-Ok.ensures.meets, c.requires.new, gives_none _); steady = c.meet.ensures.steady }
 
 pub push-requires-clause-writes : goal.push-requires-clause-writes
 push-requires-clause-writes g c =
@@ -37,6 +39,7 @@ loop-place-preserved g c =
         length-append h.0 (c.in-Ok-hear.word ∷ []) ∙ ap (λ z. z + 1) h.1,
         came_more _ h.0 _ _ _ _ h.2 few e.0 gave,
         c.push.ensures.view ∙ ap (λ v. pushes v c.in-Ok-hear.word) h.3 ∙ sym (pushed_more (newcomer 1) h.0 c.in-Ok-hear.word),
+        c.wake.ensures ∙ ap (λ w. gives w 1) h.4 ∙ gives_more _ (length h.0) (length (h.0 ++ c.in-Ok-hear.word ∷ [])) (length-append h.0 (c.in-Ok-hear.word ∷ [])),
       );
       steady = stays_steady _ _ _ c.loop-place.invariant.steady c.hear.ensures.steady;
     }

@@ -31,4 +31,5 @@ returns c = record {
   id =
       ap (λ (r : ReaderPartsModel). r.id) c.new-3.ensures ∙ ap (λ (b : InboxModel). b.id) c.in_ok-theirs.ensures
       ∙ sym (ap (λ (b : BoxModel). b.id) c.new-2.ensures);
+  waker = ap (λ (r : ReaderPartsModel). r.waker) c.new-3.ensures ∙ c.in_ok-waker.ensures;
 }

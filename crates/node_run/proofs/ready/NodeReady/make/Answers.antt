@@ -28,6 +28,7 @@ invariant_of-result c =
       boxes = c.in_ok-boxes.boxes.items;
       places = c.in_ok-places.places.items;
       readers = c.in_ok-boxes.readers.items;
+      parker = c.in_ok-parker.parker;
     } in
     let ready : IsReady share kept = record {
       fits = record { sound = c.ring.ensures.sound; party = c.requires.party; fits = c.requires.fits; digest = c.told-digest };
