@@ -11,7 +11,7 @@ use Rattle.node_talk.specs.Talks.{Node, IsPeer, expected, expected_at, place_of,
 use Rattle.node_talk.specs.PeerLinks.{in_from}
 use Rattle.node_talk.specs.Runs.{NoSendRose, AllStarted, SaidAll, BrokeOff}
 use Rattle.node_talk.proofs.ExpectedPlaces.{expected_there}
-use Rattle.link_reader.specs.ReadWords.{Came}
+use Rattle.link_reader.specs.ReadWords.{WordsCame}
 use Rattle.link_reader.specs.NodeReaders.{incoming, ReadsFrom, HasReadWords, StoppedShort}
 use Rattle.link_reader.proofs.Runs.{came_so_far, reads_a_run}
 use Rattle.link_reader.proofs.NoMore.{no_more}
@@ -33,7 +33,7 @@ module _ (n : Node) (long : length n.digest ≡ 32) (before after : LinksReading
       ∙ ap (slice_index (h.words q)) e.place_is
       )
 
-  came_of : (q : ℕ) → IsPeer n q → 0 < length (h.words q) → (result : Result (Unit {0}) NodeFault) × (now : InletReading) × ReadsFrom n q (h.words q) before after result × Came (incoming n q) (h.words q) (in_from n before q) now
+  came_of : (q : ℕ) → IsPeer n q → 0 < length (h.words q) → (result : Result (Unit {0}) NodeFault) × (now : InletReading) × ReadsFrom n q (h.words q) before after result × WordsCame (incoming n q) (h.words q) (in_from n before q) now
   came_of q peer some =
       ⊎_elim (λ none. absurd (let e = ap (λ z. length z) none in omega arith))
       (λ (r : (result : Result (Unit {0}) NodeFault) × ReadsFrom n q (h.words q) before after result).

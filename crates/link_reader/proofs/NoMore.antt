@@ -18,7 +18,7 @@ use Rattle.node_talk.proofs.Frames.{frames_at, frames_length, stream_length, sam
 use Rattle.node_talk.proofs.NoCauses.{ahead_nothing, left_of}
 use Rattle.node_talk.proofs.PassedLists.{take_place}
 use Rattle.link_reader.specs.Heard.{NoFrame, NoHello, GaveNoFrame, GaveOtherHello, EndedWithin}
-use Rattle.link_reader.specs.ReadWords.{framed, Came, CameShort}
+use Rattle.link_reader.specs.ReadWords.{framed, WordsCame, CameShort}
 use Rattle.link_reader.specs.NodeReaders.{incoming, ReadsFrom}
 
 framed_length : (keys : List Key) (words : List ℕ) → length words ≤ length keys → length (framed keys words) ≡ 18 * length words
@@ -72,7 +72,7 @@ module _ (n : Node) (q : ℕ) (long : length n.digest ≡ 32) (words bytes : Lis
       absurd (e.differ (same_split theirs (hello q n.me n.digest) l.0 _ (e.long ∙ sym (length-hello q n.me n.digest long)) both).0)
   of_hello (NoThread r) none g word run = absurd g
 
-  module _ (mid : InletReading) (came : Came (incoming n q) words (in_from n before q) mid) (less : length words < length (expected n q)) where
+  module _ (mid : InletReading) (came : WordsCame (incoming n q) words (in_from n before q) mid) (less : length words < length (expected n q)) where
     front : List ℕ
     front = hello q n.me n.digest ++ framed (expected n q) words
 

@@ -10,7 +10,7 @@ use Rattle.outer_io.proofs.FilledPlaces.{ahead-append}
 use Rattle.frame_code.specs.Frames.{frame}
 use Rattle.link_reader.specs.Expected.{TalkModel, key_at}
 use Rattle.link_reader.specs.Heard.{hello_of, Gave, StaysSteady}
-use Rattle.link_reader.specs.ReadWords.{framed, Came}
+use Rattle.link_reader.specs.ReadWords.{framed, WordsCame}
 
 framed_none : (keys : List Key) → framed keys [] ≡ []
 framed_none [] = refl
@@ -22,7 +22,7 @@ framed_more (key ∷ keys) [] word l = ap (λ z. frame key word ++ z) (framed_no
 framed_more (key ∷ keys) (w ∷ words) word l = ap (λ z. frame key w ++ z) (framed_more keys words word (omega arith)) ∙ sym (append_assoc (frame key w) (framed keys words) (frame (slice_index_or keys (length words) no_key) word))
 
 -- the hello came, and no word yet
-pub hello_came : (talk : TalkModel) (before after : InletReading) → Gave (hello_of talk) before after → Came talk [] before after
+pub hello_came : (talk : TalkModel) (before after : InletReading) → Gave (hello_of talk) before after → WordsCame talk [] before after
 hello_came talk before after gave =
     record {
       few = omega arith;
@@ -33,8 +33,8 @@ hello_came talk before after gave =
     }
 
 -- one more word came
-pub came_more : (talk : TalkModel) (words : List ℕ) (word : ℕ) (before now after : InletReading) → Came talk words before now → length words < length talk.keys → word < 2 ^ talk.bits
-    → Gave (frame (key_at talk (length words)) word) now after → Came talk (words ++ word ∷ []) before after
+pub came_more : (talk : TalkModel) (words : List ℕ) (word : ℕ) (before now after : InletReading) → WordsCame talk words before now → length words < length talk.keys → word < 2 ^ talk.bits
+    → Gave (frame (key_at talk (length words)) word) now after → WordsCame talk (words ++ word ∷ []) before after
 came_more talk words word before now after h few small gave =
     let next : List ℕ = frame (key_at talk (length words)) word in
     record {

@@ -15,7 +15,7 @@ use Rattle.node_talk.specs.PeerLinks.{in_from}
 use Rattle.node_talk.proofs.ExpectedPlaces.{Expected, expected_there}
 use Rattle.node_talk.proofs.Frames.{begins_with}
 use Rattle.link_reader.specs.Expected.{TalkModel}
-use Rattle.link_reader.specs.ReadWords.{framed, Came, CameShort, Reads}
+use Rattle.link_reader.specs.ReadWords.{framed, WordsCame, CameShort, ReadsWords}
 use Rattle.link_reader.specs.NodeReaders.{incoming, ReadsFrom, HasFirstWords, ReadsARun, TalksThrough}
 
 -- the frames of more words begin with those of the first ones
@@ -36,8 +36,8 @@ small_words bits got (key ∷ keys) (word ∷ words) (suc c) lk lw h small =
     (subst (λ z. z < 2 ^ bits) (sym (h 0 (omega arith))) small.0, small_words bits got keys words c (omega arith) (omega arith) (λ f l. h (suc f) (omega arith)) small.1)
 
 -- what came before the reader's end, of which a first word was read
-pub came_so_far : (talk : TalkModel) (words : List ℕ) (before after : InletReading) (result : Result (Unit {0}) NodeFault) → 0 < length words → Reads talk words before after result
-    → (now : InletReading) × Came talk words before now
+pub came_so_far : (talk : TalkModel) (words : List ℕ) (before after : InletReading) (result : Result (Unit {0}) NodeFault) → 0 < length words → ReadsWords talk words before after result
+    → (now : InletReading) × WordsCame talk words before now
 came_so_far talk words before after (Ok _) some h = (after, h.0)
 came_so_far talk words before after (Err fault) some h =
     ⊎_elim (λ none. absurd (let e = ap length none.0 in omega arith)) (λ (s : CameShort talk words before after fault). (s.now, s.came)) h

@@ -11,7 +11,7 @@ use Rattle.node_talk.specs.declared.fault.NodeFault.TheVariants.{Link, Closed, B
 use Rattle.link_reader.specs.Expected.{TalkModel}
 use Rattle.link_reader.specs.Heard.{StaysSteady, KeepsCalm, EndedWithin, NoFrame, NoHello}
 use Rattle.link_reader.specs.Wakers.{WakerModel, gives}
-use Rattle.link_reader.specs.ReadWords.{CameShort, Reads, ReaderModel, Works, WorksFrom}
+use Rattle.link_reader.specs.ReadWords.{CameShort, ReadsWords, ReaderModel, Works, WorksFrom}
 
 pub calm : (before after : InletReading) → StaysSteady before after → KeepsCalm before after
 calm before after h = record { faults_grow = h.faults_grow; steady = λ s. (h.steady s).1 }
@@ -38,7 +38,7 @@ module _ (talk : TalkModel) (before after : InletReading) where
   hello_shut (NoThread peer) h = absurd h
 
 -- to close an inlet at the end takes nothing back
-pub reads_shut : (talk : TalkModel) (words : List ℕ) (before after : InletReading) (result : Result (Unit {0}) NodeFault) → Reads talk words before after result → Reads talk words before (shut_inlet after) result
+pub reads_shut : (talk : TalkModel) (words : List ℕ) (before after : InletReading) (result : Result (Unit {0}) NodeFault) → ReadsWords talk words before after result → ReadsWords talk words before (shut_inlet after) result
 reads_shut talk words before after (Ok u) h =
     let c = h.0 in
     (record { few = c.few; small = c.small; told = c.told; faults = c.faults; ended = c.ended }, h.1)
@@ -52,7 +52,7 @@ none_kept None b e f = refl
 none_kept (Some x) b e f = absurd (false≢true (sym f ∙ e))
 
 -- a new reader that read these words, and whose inlet was closed then, did its work
-pub works_new : (before was : ReaderModel) → before ≡ was → (mid last : InletReading) (seat : SeatModel) (waker : WakerModel) (words : List ℕ) (outcome : Result (Unit {0}) NodeFault) → before.outcome ≡ None → Reads before.talk words before.inlet mid outcome → StaysSteady before.inlet mid
+pub works_new : (before was : ReaderModel) → before ≡ was → (mid last : InletReading) (seat : SeatModel) (waker : WakerModel) (words : List ℕ) (outcome : Result (Unit {0}) NodeFault) → before.outcome ≡ None → ReadsWords before.talk words before.inlet mid outcome → StaysSteady before.inlet mid
     → last ≡ shut_inlet mid → seat.id ≡ before.seat.id → seat.view ≡ ends (pushed (newcomer 1) words) (mark_of (is_err outcome)) → waker ≡ gives before.waker (suc (length words)) → Works was (record before { inlet = last; seat = seat; waker = waker; outcome = Some outcome })
 works_new before was same mid last seat waker words outcome new reads steady is id view woken =
     subst (λ z. Works z (record before { inlet = last; seat = seat; waker = waker; outcome = Some outcome })) same
@@ -60,7 +60,7 @@ works_new before was same mid last seat waker words outcome new reads steady is 
     (record {
       outcome = outcome;
       words = words;
-      reads = subst (λ z. Reads before.talk words before.inlet z outcome) (sym is) (reads_shut before.talk words before.inlet mid outcome reads);
+      reads = subst (λ z. ReadsWords before.talk words before.inlet z outcome) (sym is) (reads_shut before.talk words before.inlet mid outcome reads);
       steady = subst (KeepsCalm before.inlet) (sym is) (calm_shut before.inlet mid (calm before.inlet mid steady));
       closed = subst (λ (z : InletReading). IsTrue z.closed) (sym is) refl;
       leaves = λ i. record before { inlet = last; seat = record { id = id i; view = view i }; waker = woken i; outcome = Some outcome };

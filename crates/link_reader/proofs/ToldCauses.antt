@@ -12,7 +12,7 @@ use Rattle.node_talk.specs.PeerLinks.{in_from}
 use Rattle.outer_io.specs.Links.{LinksReading}
 use Rattle.node_talk.specs.Causes.{Cause, CameAfter}
 use Rattle.link_reader.specs.Heard.{NoFrame, NoHello}
-use Rattle.link_reader.specs.ReadWords.{Came, CameShort}
+use Rattle.link_reader.specs.ReadWords.{WordsCame, CameShort}
 use Rattle.link_reader.specs.NodeReaders.{incoming, TellsCause}
 use Rattle.link_reader.proofs.Runs.{small_words, framed_taken, word_at, word_at_place}
 
@@ -27,7 +27,7 @@ module _ (n : Node) (q : ℕ) (long : length n.digest ≡ 32) (peer : IsPeer n q
   Causes fault = Cause n before after refused refused' fault
 
   -- after the hello and the frames of these words came these bytes
-  came_after : (words bytes : List ℕ) (mid : InletReading) → Came (incoming n q) words now mid → mid.told ≡ ahead bytes last.told → CameAfter n before after q (length words) bytes
+  came_after : (words bytes : List ℕ) (mid : InletReading) → WordsCame (incoming n q) words now mid → mid.told ≡ ahead bytes last.told → CameAfter n before after q (length words) bytes
   came_after words bytes mid h told =
       let fits : (place : ℕ) → place < length words → word_at n words (slice_index_or (expected n q) place no_key) ≡ slice_index words place = λ place l. word_at_place n q words place (let f = h.few in omega (arith, f, l)) in
       record {
@@ -36,7 +36,7 @@ module _ (n : Node) (q : ℕ) (long : length n.digest ≡ 32) (peer : IsPeer n q
         told = h.told ∙ ap (λ z. ahead (hello q n.me n.digest ++ z) mid.told) (framed_taken (word_at n words) (expected n q) words h.few fits) ∙ ap (ahead (stream n.digest q n.me (word_at n words) (take (length words) (expected n q)))) told;
       }
 
-  of_frame : (fault : NodeFault) (words : List ℕ) (mid : InletReading) → Came (incoming n q) words now mid → length words < length (expected n q)
+  of_frame : (fault : NodeFault) (words : List ℕ) (mid : InletReading) → WordsCame (incoming n q) words now mid → length words < length (expected n q)
       → NoFrame (incoming n q) (length words) mid last fault → Causes fault
   of_frame (Link r) words mid h less g = subst (λ z. Causes (Link z)) (sym g.0) (peer, inl (subst (λ z. Rose z last.faults) h.faults g.1))
   of_frame (Closed r at) words mid h less g =

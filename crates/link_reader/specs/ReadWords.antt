@@ -19,7 +19,7 @@ framed (key ∷ keys) [] = []
 framed (key ∷ keys) (word ∷ words) = frame key word ++ framed keys words
 
 -- the hello came, and then these words of the ring, each in the frame of the next message
-pub record Came (talk : TalkModel) (words : List ℕ) (before after : InletReading) : Type 0 where
+pub record WordsCame (talk : TalkModel) (words : List ℕ) (before after : InletReading) : Type 0 where
   pub few : length words ≤ length talk.keys
   pub small : AllByRecursion (λ word. word < 2 ^ talk.bits) words
   pub told : before.told ≡ ahead (hello_of talk ++ framed talk.keys words) after.told
@@ -30,14 +30,14 @@ pub record Came (talk : TalkModel) (words : List ℕ) (before after : InletReadi
 pub record CameShort (talk : TalkModel) (words : List ℕ) (before after : InletReading) (fault : NodeFault)
     : Type 0 where
   pub now : InletReading
-  pub came : Came talk words before now
+  pub came : WordsCame talk words before now
   pub missing : length words < length talk.keys
   pub no_frame : NoFrame talk (length words) now after fault
 
 -- these words were read: all that are expected, or those before the fault
-abbrev pub Reads : TalkModel → List ℕ → InletReading → InletReading → Result (Unit {0}) NodeFault → Type 0
-Reads talk words before after (Ok _) = Came talk words before after × (length words ≡ length talk.keys)
-Reads talk words before after (Err fault) =
+abbrev pub ReadsWords : TalkModel → List ℕ → InletReading → InletReading → Result (Unit {0}) NodeFault → Type 0
+ReadsWords talk words before after (Ok _) = WordsCame talk words before after × (length words ≡ length talk.keys)
+ReadsWords talk words before after (Err fault) =
     ((words ≡ []) × NoHello talk before after fault) ⊎ CameShort talk words before after fault
 
 -- a reader: what its inlet shows, what it expects, its inbox and its seat there, what it wakes its party with, and how
@@ -61,7 +61,7 @@ pub record CanWork (reader : ReaderModel) : Type 0 where
 pub record HasRead (before after : ReaderModel) : Type 0 where
   pub outcome : Result (Unit {0}) NodeFault
   pub words : List ℕ
-  pub reads : Reads before.talk words before.inlet after.inlet outcome
+  pub reads : ReadsWords before.talk words before.inlet after.inlet outcome
   pub steady : KeepsCalm before.inlet after.inlet
   pub closed : IsTrue after.inlet.closed
   pub leaves : after

@@ -4,7 +4,7 @@ ghost use Rattle.inbox_board.specs.Rule.{newcomer};
 ghost use Rattle.inbox_board.specs.Folds.{pushed};
 ghost use Rattle.link_reader.specs.Heard.{StaysSteady};
 ghost use Rattle.link_reader.specs.Wakers.{gives};
-ghost use Rattle.link_reader.specs.ReadWords.{Reads};
+ghost use Rattle.link_reader.specs.ReadWords.{ReadsWords};
 
 use crate::heard::{hear, meet};
 use crate::incoming_talk::IncomingTalk;
@@ -27,7 +27,7 @@ pub fn read_all<I: Inlet>(
     requires places { length talk.now.keys ≡ inbox.now.places }
     ensures seat { seat.new.id ≡ inbox.now.id }
     ensures read { (words : List ℕ) × (seat.new.view ≡ pushed (newcomer 1) words)
-        × Reads talk.now words (I.reading inlet.old) (I.reading inlet.new) result
+        × ReadsWords talk.now words (I.reading inlet.old) (I.reading inlet.new) result
         × (waker.new ≡ gives waker.old (length words)) }
     ensures steady { StaysSteady (I.reading inlet.old) (I.reading inlet.new) }
 {

@@ -31,7 +31,7 @@ use Rattle.node_talk.proofs.ExpectedPlaces.{placed}
 use Rattle.node_talk.proofs.ActPlaces.{taken_by}
 use Rattle.link_reader.specs.NodeReaders.{incoming, ReadsFrom, HasReadWords, SaidWhatItCould}
 use Rattle.link_reader.proofs.BrokenOffRuns.{breaks_off}
-use Rattle.link_reader.specs.ReadWords.{Reads, CameShort}
+use Rattle.link_reader.specs.ReadWords.{ReadsWords, CameShort}
 use Rattle.link_reader.specs.Expected.{TalkModel}
 use Rattle.link_reader.proofs.ToldCauses.{tells_cause}
 use Rattle.node_run.specs.Mail.{Mail, IsMail, outlet_to, box_of}
@@ -261,7 +261,7 @@ peer_of (BadFrame q at bytes) = q
 peer_of (OtherJob q ours theirs) = q
 peer_of (NoThread q) = q
 
-of_reader : (talk : TalkModel) (words : List ℕ) (before after : InletReading) (x : NodeFault) → Reads talk words before after (Err x) → peer_of x ≡ talk.peer
+of_reader : (talk : TalkModel) (words : List ℕ) (before after : InletReading) (x : NodeFault) → ReadsWords talk words before after (Err x) → peer_of x ≡ talk.peer
 of_reader talk words before after (Link q) h = ⊎_elim (λ none. none.1.0) (λ (s : CameShort talk words before after (Link q)). s.no_frame.0) h
 of_reader talk words before after (Closed q at) h = ⊎_elim (λ none. none.1.0) (λ (s : CameShort talk words before after (Closed q at)). s.no_frame.0) h
 of_reader talk words before after (BadFrame q at bytes) h = ⊎_elim (λ none. absurd none.1) (λ (s : CameShort talk words before after (BadFrame q at bytes)). s.no_frame.0) h
@@ -269,17 +269,17 @@ of_reader talk words before after (OtherJob q ours theirs) h = ⊎_elim (λ none
 of_reader talk words before after (NoThread q) h = ⊎_elim (λ none. absurd none.1) (λ (s : CameShort talk words before after (NoThread q)). absurd s.no_frame) h
 
 -- a reader doesn't tell that it wasn't started
-never_unstarted : (talk : TalkModel) (words : List ℕ) (b a : InletReading) (p : ℕ) → Reads talk words b a (Err (NoThread p)) → ⊥
+never_unstarted : (talk : TalkModel) (words : List ℕ) (b a : InletReading) (p : ℕ) → ReadsWords talk words b a (Err (NoThread p)) → ⊥
 never_unstarted talk words b a p h = ⊎_elim (λ none. none.1) (λ (s : CameShort talk words b a (NoThread p)). s.no_frame) h
 
-is_first : (n : Node) (before after : LinksReading) (x : NodeFault) (q : ℕ) → peer_of x ≡ q → GaveAllBelow n before after q → (talk : TalkModel) (words : List ℕ) (b a : InletReading) → Reads talk words b a (Err x) → IsFirst n before after x
+is_first : (n : Node) (before after : LinksReading) (x : NodeFault) (q : ℕ) → peer_of x ≡ q → GaveAllBelow n before after q → (talk : TalkModel) (words : List ℕ) (b a : InletReading) → ReadsWords talk words b a (Err x) → IsFirst n before after x
 is_first n before after (Link p) q e h talk words b a reads = inr (subst (GaveAllBelow n before after) (sym e) h)
 is_first n before after (Closed p at) q e h talk words b a reads = subst (GaveAllBelow n before after) (sym e) h
 is_first n before after (BadFrame p at bytes) q e h talk words b a reads = subst (GaveAllBelow n before after) (sym e) h
 is_first n before after (OtherJob p ours theirs) q e h talk words b a reads = subst (GaveAllBelow n before after) (sym e) h
 is_first n before after (NoThread p) q e h talk words b a reads = absurd (never_unstarted talk words b a p reads)
 
-nothing_unsaid : (n : Node) (before after : LinksReading) (x : NodeFault) (talk : TalkModel) (words : List ℕ) (b a : InletReading) → Reads talk words b a (Err x) → NothingSaid n before after x
+nothing_unsaid : (n : Node) (before after : LinksReading) (x : NodeFault) (talk : TalkModel) (words : List ℕ) (b a : InletReading) → ReadsWords talk words b a (Err x) → NothingSaid n before after x
 nothing_unsaid n before after (Link p) talk words b a h = tt
 nothing_unsaid n before after (Closed p at) talk words b a h = tt
 nothing_unsaid n before after (BadFrame p at bytes) talk words b a h = tt
@@ -351,7 +351,7 @@ module _ (n : Node) (start : Begin) (after : LinksReading) (spawner spawner' : S
           below = λ r other l.
               let less : place_among n.me r < u.k = (let a = place_less n.me p r peer.1 other.1 l in omega (arith, a, place)) in
               let read = u.below (place_among n.me r) (place_among n.me r) less (omega arith) in
-              (read.0, read.1, subst (λ z. Reads (incoming n z) read.0 (in_from n start.links r) (in_from n after r) read.1) (party_there n.me r other.1) read.2);
+              (read.0, read.1, subst (λ z. ReadsWords (incoming n z) read.0 (in_from n start.links r) (in_from n after r) read.1) (party_there n.me r other.1) read.2);
           itself = subst (λ k. (slice_index_or after.inlets k no_inlet ≡ shut_inlet (slice_index_or start.links.inlets k no_inlet)) ⊎ ReadBy (incoming n p) (slice_index_or start.links.inlets k no_inlet) (slice_index_or after.inlets k no_inlet)) (sym place) u.itself;
           above = λ r other l.
               let more : u.k < place_among n.me r = (let a = place_less n.me r p other.1 peer.1 l in omega (arith, a, place)) in

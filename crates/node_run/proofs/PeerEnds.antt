@@ -23,7 +23,7 @@ use Rattle.node_talk.proofs.ExpectedPlaces.{between_parties}
 use Rattle.node_talk.proofs.ActPlaces.{taken_by}
 use Rattle.link_reader.specs.Heard.{KeepsCalm}
 use Rattle.link_reader.specs.NodeReaders.{incoming, ReadsFrom}
-use Rattle.link_reader.specs.ReadWords.{Reads}
+use Rattle.link_reader.specs.ReadWords.{ReadsWords}
 use Rattle.link_reader.proofs.Runs.{came_so_far, whole_words, word_at, word_at_place}
 use Rattle.node_run.specs.Mail.{Mail, IsMail, NeverComes, place_to, no_box, box_of}
 use Rattle.node_run.specs.Progress.{Begin, IsOf}
@@ -183,7 +183,7 @@ pub peer_read : (n : Node) (now : Mail) (before after : LinksReading) (q : ℕ) 
     → (h : PeerEnd n now (place_among n.me q) (slice_index_or before.inlets (place_among n.me q) no_inlet) (slice_index_or after.inlets (place_among n.me q) no_inlet) result)
     → PeerRead n now before after q h.words result
 peer_read n now before after q result me other h = record {
-  reads = subst (λ z. Reads (incoming n z) h.words (in_from n before q) (in_from n after q) result) (party_there n.me q other) h.reads;
+  reads = subst (λ z. ReadsWords (incoming n z) h.words (in_from n before q) (in_from n after q) result) (party_there n.me q other) h.reads;
   got = subst (λ z. GotWhatWasPushed h.words (mark_of (is_err result)) (slice_index_or now.boxes (place_among z q) no_box).view) (sym me) h.got;
 }
 

@@ -19,7 +19,7 @@ use Rattle.outer_io.specs.Inlet.{InletReading, shut_inlet}
 use Rattle.outer_io.specs.Jobs.{SpawnerReading, Starts}
 use Rattle.node_talk.specs.declared.fault.NodeFault.{NodeFault}
 use Rattle.node_talk.specs.Talks.{Node, IsPeer}
-use Rattle.link_reader.specs.ReadWords.{Reads, ReaderModel, HasRead, Works, WorksFrom}
+use Rattle.link_reader.specs.ReadWords.{ReadsWords, ReaderModel, HasRead, Works, WorksFrom}
 use Rattle.link_reader.specs.Heard.{KeepsCalm}
 use Rattle.link_reader.specs.NodeReaders.{incoming}
 use Rattle.node_run.specs.Mail.{Mail, IsMail, BoxModel, no_box}
@@ -205,7 +205,7 @@ refused_inlets n place q b back rest befores afters is_b is_a did =
     itself : party_at n.me place ≡ q → (shut_inlet back ≡ shut_inlet b) ⊎ ReadBy (incoming n q) b (shut_inlet back)
     itself e = ⊎_elim
         (λ same. left' (ap shut_inlet same))
-        (λ read. right' (read.0, read.1, reads_shut (incoming n q) read.0 b back read.1 (subst (λ p. Reads (incoming n p) read.0 b back read.1) e read.2)))
+        (λ read. right' (read.0, read.1, reads_shut (incoming n q) read.0 b back read.1 (subst (λ p. ReadsWords (incoming n p) read.0 b back read.1) e read.2)))
         did.1
 
 -- ---- after the sessions
@@ -254,9 +254,9 @@ one_more n start place befores afters b a old was is later r r' outcome reader e
     let at : length r.boxes - 1 ≡ place = omega (arith, many) in
     let p : PeerEnd n h.now place b a read.outcome = record {
       words = read.words;
-      reads = subst (λ z. Reads z read.words b a read.outcome) talk
-          (subst (λ z. Reads reader.talk read.words z a read.outcome) inlet
-          (subst (λ z. Reads reader.talk read.words reader.inlet z read.outcome) (sym shows) read.reads));
+      reads = subst (λ z. ReadsWords z read.words b a read.outcome) talk
+          (subst (λ z. ReadsWords reader.talk read.words z a read.outcome) inlet
+          (subst (λ z. ReadsWords reader.talk read.words reader.inlet z read.outcome) (sym shows) read.reads));
       got = subst (λ (z : BoxModel). GotWhatWasPushed read.words (mark_of (is_err read.outcome)) z.view) last.1 (got read.words (mark_of (is_err read.outcome)) view);
     } in
     let left : r' ≡ record r { boxes = take (length r.boxes - 1) r.boxes; fault = first_of read.outcome r.fault } =

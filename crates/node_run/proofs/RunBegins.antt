@@ -19,7 +19,7 @@ use Rattle.link_reader.specs.Expected.{HasPlaces, TalkModel}
 use Rattle.node_run.specs.Mail.{Mail, BoxModel, IsMail, no_box, outlet_to}
 use Rattle.node_run.specs.Progress.{Begin, Greeted, ids_of}
 use Rattle.node_run.specs.Remains.{ReaderPartsModel, party_at, IsFor, MayRun}
-use Rattle.node_run.specs.Ready.{Share, IsNodeOf, Kept, IsReady, ArePeersReady, IsPeerReady}
+use Rattle.node_run.specs.Ready.{Share, IsNodeOf, Kept, IsNodeReady, ArePeersReady, IsPeerReady}
 use Rattle.node_run.proofs.CellChanges.{place_within}
 use Rattle.link_reader.proofs.ExpectedMessages.{between_parties}
 use Rattle.node_run.proofs.HelloSteps.{all_greeted}
@@ -55,7 +55,7 @@ talk_at plan me digest k =
 talk_of : (plan plan' : Plan) (me me' : ℕ) (digest digest' : List ℕ) (k : ℕ) → plan ≡ plan' → me ≡ me' → digest ≡ digest' → talk_at plan me digest k ≡ talk_at plan' me' digest' k
 talk_of plan plan' me me' digest digest' k p q r = ap (λ z. talk_at z me digest k) p ∙ ap (λ z. talk_at plan' z digest k) q ∙ ap (λ z. talk_at plan' me' z k) r
 
-module _ (share : Share) (kept : Kept) (h : IsReady share kept) where
+module _ (share : Share) (kept : Kept) (h : IsNodeReady share kept) where
   -- some party of the plan
   some : Node
   some = record { world = record { plan = share.plan; inputs = []; tapes = [] }; me = share.me; digest = [] }

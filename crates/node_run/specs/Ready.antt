@@ -93,7 +93,7 @@ pub record ArePeersReady (plan : Plan) (me : ℕ) (parker : TableId) (digest : L
       → IsPeerReady plan me parker digest (party_at me place) (slice_index_or boxes place no_box) reader
 
 -- all is ready for the run of this share, and nothing is done yet
-pub record IsReady (share : Share) (kept : Kept) : Type 0 where
+pub record IsNodeReady (share : Share) (kept : Kept) : Type 0 where
   pub fits : IsShare share
   pub desks : AreOpened share.plan share.me share.given kept.desks
   pub words : AreEmptyCells share.plan kept.words

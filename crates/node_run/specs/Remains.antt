@@ -17,7 +17,7 @@ use Rattle.node_talk.specs.Talks.{Node, IsPeer}
 use Rattle.link_reader.specs.Wakers.{WakerModel}
 use Rattle.link_reader.specs.Expected.{TalkModel}
 use Rattle.link_reader.specs.Heard.{KeepsCalm}
-use Rattle.link_reader.specs.ReadWords.{Reads}
+use Rattle.link_reader.specs.ReadWords.{ReadsWords}
 use Rattle.link_reader.specs.NodeReaders.{incoming}
 use Rattle.node_run.specs.Mail.{Mail, IsMail, BoxModel, no_box}
 use Rattle.node_run.specs.Progress.{Begin, IsOf, Going, InOrder, Halted}
@@ -71,7 +71,7 @@ pub record MayRun (n : Node) (start : Begin) (place : ℕ) (readers : List Reade
 pub record PeerEnd (n : Node) (now : Mail) (place : ℕ) (before after : InletReading)
     (result : Result (Unit {0}) NodeFault) : Type 0 where
   pub words : List ℕ
-  pub reads : Reads (incoming n (party_at n.me place)) words before after result
+  pub reads : ReadsWords (incoming n (party_at n.me place)) words before after result
   pub got : GotWhatWasPushed words (mark_of (is_err result)) (slice_index_or now.boxes place no_box).view
 
 -- the fault of this reader, else that of the later ones
@@ -101,7 +101,7 @@ AllKeepCalm _ _ = ⊥
 -- a reader read these words up to its end
 abbrev pub ReadBy : TalkModel → InletReading → InletReading → Type 0
 ReadBy talk before after =
-    (words : List ℕ) × (result : Result (Unit {0}) NodeFault) × Reads talk words before after result
+    (words : List ℕ) × (result : Result (Unit {0}) NodeFault) × ReadsWords talk words before after result
 
 -- The readers from this place on were started, and ended, up to that of q. That was handed back, and did nothing but to
 -- close its inlet, or all its work. The later inlets were closed, and nothing was read of them.

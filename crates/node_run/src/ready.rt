@@ -32,13 +32,13 @@ pub struct NodeReady {
 }
 
 impl Model for NodeReady {
-    ghost use Rattle.node_run.specs.Ready.{Share, IsReady, given_to};
+    ghost use Rattle.node_run.specs.Ready.{Share, IsNodeReady, given_to};
 
     ghost Value = { Share };
 
     ghost view = { λ r. record { plan = r.plan.value; me = r.me; given = given_to r.desks.items; digest = r.digest } };
 
-    ghost invariant = { λ r. IsReady (view r) (record {
+    ghost invariant = { λ r. IsNodeReady (view r) (record {
       desks = r.desks.items;
       words = r.words;
       boxes = r.boxes.items;
