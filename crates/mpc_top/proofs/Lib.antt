@@ -7,5 +7,7 @@ mod NodeRuns
 mod Pairs
 mod PartyLoops
 mod Runs
+pub mod WholeWorlds
+pub mod SomeVerdict
 mod Statuses
 mod SteadyTalks

@@ -1,5 +1,5 @@
 -- What the answer of the top call follows from: the run of its words, and what `err` was told.
-use Rattle.std.proofs.Common.{◌≡◌, ◌≢◌, ◌⊎◌, inl, inr, ℕ, ◌≤◌, List, length, Option, None, Ok, Err, Result, refl, sym, subst, arith}
+use Rattle.std.proofs.Common.{◌≡◌, ◌≢◌, ◌⊎◌, inl, inr, ℕ, ◌≤◌, Bool, true, false, List, length, Option, None, Ok, Err, Result, refl, sym, subst, ◌∙◌, arith}
 use Rattle.std.specs.Prelude.{IsTrue}
 use Rattle.std.proofs.lemmas.Bool.{false≢true}
 use Rattle.outer_io.specs.Count.{Rose}
@@ -10,13 +10,14 @@ use Rattle.command_words.specs.Commands.{CommandForm, command_of}
 use Rattle.job_walk.specs.declared.stop.Stop.{Stop}
 use Rattle.job_walk.specs.declared.stop.Stop.TheVariants.{Memory, Words, Out, Net, Peer, Files, Refused, Covering}
 use Rattle.mpc_top.specs.Texts.{files_fault_line, usage_text}
-use Rattle.job_walk.specs.Verdict.{accepted, missing, refused}
+use Rattle.job_walk.specs.Verdict.{Verdict, accepted, missing, refused}
 use Rattle.mpc_top.specs.Outside.{Outside}
 use Rattle.mpc_top.specs.Due.{Due, text, talk, IsDue}
 use Rattle.mpc_top.specs.NodeTalks.{lines_of}
 use Rattle.job_walk.specs.Stops.{status_of}
-use Rattle.mpc_top.specs.Stops.{text_of, Fulfils, CutShort, HasCause, Runs, Tells}
-use Rattle.mpc_top.specs.Command.{KeepsSink, HasRoom, GivesDue, Answers}
+use Rattle.mpc_top.specs.Stops.{text_of, Fulfils, CutShort, FailsAt, HasCause, Runs, Tells}
+use Rattle.mpc_top.specs.Command.{KeepsSink, HasRoom, Lets, IsGiven, Answers}
+use Rattle.mpc_top.proofs.SomeVerdict.{some_due}
 use Rattle.mpc_top.proofs.NodeRuns.{quiet_talk}
 use Rattle.mpc_top.proofs.SteadyTalks.{steady_talk}
 
@@ -80,13 +81,20 @@ module _ (words : List (List ℕ)) (before after : Outside) where
 
   -- ---- what is due is given
 
+  abbrev GivesDue : ℕ → Type 0
+  GivesDue status = (verdict : Verdict Due) × IsDue (command_of words) before.files.told verdict × (¬ (status ≡ 6) → Lets before after verdict → IsGiven before after status verdict)
+
   refusal_given : (due status : ℕ) (line : List ℕ) → IsDue (command_of words) before.files.told (refused due line)
-      → ((status ≡ due) × Writes line before.err after.err (Ok tt)) ⊎ ((status ≡ 5) × FailsToWrite line before.err after.err) → GivesDue words before after status
-  refusal_given due status line is (inl w) = record { quiet = λ none. (refused due line, is, λ quiet. w); steady = λ s. (refused due line, is, λ room. w) }
-  refusal_given due status line is (inr w) = record {
-    quiet = λ none. absurd (none (inr (inr w.1.1.failed)));
-    steady = λ s. (refused due line, is, λ room. absurd (never_fails line before.err after.err s.err w.1 room));
-  }
+      → ((status ≡ due) × Writes line before.err after.err (Ok tt)) ⊎ ((status ≡ 5) × FailsToWrite line before.err after.err) → GivesDue status
+  refusal_given due status line is (inl w) = (refused due line, is, λ memory lets. w)
+  refusal_given due status line is (inr w) = (
+    refused due line,
+    is,
+    λ memory lets. elim lets [
+      | inl quiet ↦ absurd (quiet.0 (inr (inr w.1.1.failed)))
+      | inr steady ↦ absurd (never_fails line before.err after.err steady.0.err w.1 steady.1)
+    ],
+  )
 
   -- `out` rose, and had no room
   cut_rose : (due : Due) → CutShort due before after → Rose before.out.faults after.out.faults
@@ -100,34 +108,59 @@ module _ (words : List (List ℕ)) (before after : Outside) where
       let done = (cut.1.run n.0 n.1).done in
       never_fails (lines_of job cut.0) before.out after.out steady cut.2 (room.lines n.0 done.0 cut.0 n.1 done.1)
 
-  given : (stop : Stop) (status : ℕ) → Caused stop → Tells before.err after.err stop status → ¬ (status ≡ 6) → GivesDue words before after status
-  given Memory status cause tells not = absurd (not tells.0)
-  given Words status cause tells not = refusal_given 2 status usage_text (none_due (command_of words) before.files.told cause.0) tells
-  given Out status cause tells not = record {
-    quiet = λ none. absurd (none (inr (inl (cut_rose cause.0 cause.2))));
-    steady = λ s. (accepted cause.0, cause.1.0, λ room. absurd (cut_room cause.0 cause.2 s.out room));
-  }
-  given Net status cause tells not = record {
-    quiet = λ none. (accepted (talk cause.0), cause.1.0, λ quiet. absurd (quiet.net cause.2.rose));
-    steady = λ s. (accepted (talk cause.0), cause.1.0, λ room. absurd (cause.2.unexpected room.net room.expects));
-  }
-  given (Peer names fault) status cause tells not = record {
-    quiet = λ none. (accepted (talk cause.0), cause.1.0, λ quiet. absurd (quiet_talk cause.0.job before after fault cause.3 quiet));
-    steady = λ s. (accepted (talk cause.0), cause.1.0, λ room. absurd (steady_talk cause.0 before after fault cause.3 room));
-  }
-  given (Files name) status cause tells not = record {
-    quiet = λ none. absurd (none (inl cause.0.rose));
-    steady = λ s. (
-      missing name.items,
-      cause.0.is_missing s.files,
-      λ room. elim tells [
+  -- a file that fails is missing where files are steady, and elsewhere the outside lets no verdict be the answer
+  file_given : (steady : Bool) → before.files.steady ≡ steady → (name : List ℕ) (status : ℕ) → FailsAt (command_of words) before after name
+      → ((status ≡ 5) × Writes (files_fault_line name) before.err after.err (Ok tt)) ⊎ ((status ≡ 5) × FailsToWrite (files_fault_line name) before.err after.err) → GivesDue status
+  file_given true is name status fails tells = (
+    missing name,
+    fails.is_missing is,
+    λ memory lets. elim lets [
+      | inl quiet ↦ absurd (quiet.0 (inl fails.rose))
+      | inr steady ↦ elim tells [
         | inl w ↦ w
-        | inr w ↦ absurd (never_fails (files_fault_line name.items) before.err after.err s.err w.1 room)
-      ],
-    );
-  }
-  given (Refused line) status cause tells not = refusal_given 3 status line.items cause.0.0 tells
-  given (Covering line) status cause tells not = refusal_given 4 status line.items cause.0.0 tells
+        | inr w ↦ absurd (never_fails (files_fault_line name) before.err after.err steady.0.err w.1 steady.1)
+      ]
+    ],
+  )
+  file_given false is name status fails tells = let due = some_due (command_of words) before.files.told in (
+    due.0,
+    due.1,
+    λ memory lets. elim lets [
+      | inl quiet ↦ absurd (quiet.0 (inl fails.rose))
+      | inr steady ↦ absurd (false≢true (sym is ∙ steady.0.files))
+    ],
+  )
+
+  given : (stop : Stop) (status : ℕ) → Caused stop → Tells before.err after.err stop status → GivesDue status
+  given Memory status cause tells = let due = some_due (command_of words) before.files.told in (due.0, due.1, λ memory lets. absurd (memory tells.0))
+  given Words status cause tells = refusal_given 2 status usage_text (none_due (command_of words) before.files.told cause.0) tells
+  given Out status cause tells = (
+    accepted cause.0,
+    cause.1.0,
+    λ memory lets. elim lets [
+      | inl quiet ↦ absurd (quiet.0 (inr (inl (cut_rose cause.0 cause.2))))
+      | inr steady ↦ absurd (cut_room cause.0 cause.2 steady.0.out steady.1)
+    ],
+  )
+  given Net status cause tells = (
+    accepted (talk cause.0),
+    cause.1.0,
+    λ memory lets. elim lets [
+      | inl quiet ↦ absurd (quiet.1.net cause.2.rose)
+      | inr steady ↦ absurd (cause.2.unexpected steady.1.net steady.1.expects)
+    ],
+  )
+  given (Peer names fault) status cause tells = (
+    accepted (talk cause.0),
+    cause.1.0,
+    λ memory lets. elim lets [
+      | inl quiet ↦ absurd (quiet_talk cause.0.job before after fault cause.3 quiet.1)
+      | inr steady ↦ absurd (steady_talk cause.0 before after fault cause.3 steady.1)
+    ],
+  )
+  given (Files name) status cause tells = file_given before.files.steady refl name.items status cause.0 tells
+  given (Refused line) status cause tells = refusal_given 3 status line.items cause.0.0 tells
+  given (Covering line) status cause tells = refusal_given 4 status line.items cause.0.0 tells
 
   -- ---- the answer
 
@@ -136,10 +169,7 @@ module _ (words : List (List ℕ)) (before after : Outside) where
     done = λ _. (r.ok, same);
     hides = λ _. r.hides;
     stopped = λ not. absurd (not refl);
-    due = λ _. record {
-      quiet = λ none. (accepted r.ok.0, r.ok.1.0, λ quiet. (refl, r.ok.2));
-      steady = λ s. (accepted r.ok.0, r.ok.1.0, λ room. (refl, r.ok.2));
-    };
+    due = (accepted r.ok.0, r.ok.1.0, λ memory lets. (refl, r.ok.2));
     keeps = record { files = r.keeps; out = done_kept r.ok.0 r.ok.2; err = keeps_same before.err after.err same; net = r.keeps_net; spawner = r.keeps_spawner };
   }
 

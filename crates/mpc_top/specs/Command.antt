@@ -54,6 +54,11 @@ HasRoom before (accepted (talk asked)) = LetsTalk asked before
 HasRoom before (missing name) = length (files_fault_line name) ≤ before.err.room
 HasRoom before (refused status line) = length line ≤ before.err.room
 
+-- no count rose and a talk could come to its end, or the outside was steady and had room
+abbrev pub Lets : Outside → Outside → Verdict Due → Type 0
+Lets before after verdict =
+    (¬ AnyRose before after × IsQuiet before after verdict) ⊎ (IsSteady before × HasRoom before verdict)
+
 -- the status is the verdict's, and what it is due was given; `err` gets the text of a refusal
 abbrev pub IsGiven : Outside → Outside → ℕ → Verdict Due → Type 0
 IsGiven before after status (accepted due) = (status ≡ 0) × Fulfils due before after
@@ -61,21 +66,6 @@ IsGiven before after status (missing name) =
     (status ≡ 5) × Writes (files_fault_line name) before.err after.err (Ok tt)
 IsGiven before after status (refused due line) =
     (status ≡ due) × Writes line before.err after.err (Ok tt)
-
-module _ (words : List (List ℕ)) (before after : Outside) (status : ℕ) where
-  -- the words are due a verdict with this fact
-  abbrev pub AreDue : (Verdict Due → Type 0) → Type 0
-  AreDue Fact =
-      (verdict : Verdict Due)
-      × IsDue (command_of words) before.files.told verdict
-      × Fact verdict
-
-  -- what is due is given where no count rose, and where the outside was steady and has room for what is due
-  pub record GivesDue : Type 0 where
-    pub quiet : ¬ AnyRose before after
-        → AreDue (λ verdict. IsQuiet before after verdict → IsGiven before after status verdict)
-    pub steady : IsSteady before
-        → AreDue (λ verdict. HasRoom before verdict → IsGiven before after status verdict)
 
 -- ---- the answer
 
@@ -94,7 +84,9 @@ pub record Answers (words : List (List ℕ)) (before after : Outside) (status : 
       → (cause : Stop)
       × HasCause (command_of words) before after cause
       × Tells before.err after.err cause status
-  -- Unless memory ran out, what is due is given wherever the outside lets it.
-  pub due : ¬ (status ≡ 6) → GivesDue words before after status
+  -- The words are due a verdict: unless memory ran out, that is the answer wherever the outside lets it be.
+  pub due : (verdict : Verdict Due)
+      × IsDue (command_of words) before.files.told verdict
+      × (¬ (status ≡ 6) → Lets before after verdict → IsGiven before after status verdict)
   -- Whatever the status, the files tell the same, no count falls, and what is steady stays steady.
   pub keeps : Keeps before after

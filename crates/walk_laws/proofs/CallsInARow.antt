@@ -11,8 +11,7 @@ use Rattle.mpc_top.specs.NodeTalks.{NodeAsked}
 use Rattle.mpc_top.specs.Outside.{Outside}
 use Rattle.mpc_top.specs.Due.{Due, text, talk, DueOf, IsDue}
 use Rattle.mpc_top.specs.Stops.{HasCause}
-use Rattle.mpc_top.specs.Command.{AnyRose, IsSteady, IsQuiet, HasRoom, IsGiven, Answers}
-use Rattle.walk_laws.specs.Exact.{Lets}
+use Rattle.mpc_top.specs.Command.{AnyRose, IsSteady, IsQuiet, HasRoom, Lets, IsGiven, Answers}
 use Rattle.walk_laws.specs.InARow.{text_due, sink_due, InARow, AreDueTogether}
 use Rattle.walk_laws.proofs.Jobs.{due_once}
 use Rattle.walk_laws.proofs.Statuses.{zero_or_not}
@@ -28,12 +27,7 @@ module _ (words : List (List ℕ)) (before after : Outside) (status : ℕ) (a : 
     alone other due = due_once (command_of words) files other verdict (subst (λ t. IsDue (command_of words) t other) told due) is
 
     given : Lets before after verdict → ¬ (status ≡ 6) → IsGiven before after status verdict
-    given (inl quiet) memory =
-        let g = (a.due memory).quiet quiet.0 in
-        subst (λ v. IsQuiet before after v → IsGiven before after status v) (alone g.0 g.1) g.2 quiet.1
-    given (inr steady) memory =
-        let g = (a.due memory).steady steady.0 in
-        subst (λ v. HasRoom before v → IsGiven before after status v) (alone g.0 g.1) g.2 steady.1
+    given lets memory = subst (λ v. Lets before after v → IsGiven before after status v) (alone a.due.0 a.due.1) (a.due.2 memory) lets
 
     out_left : ((due : Due) → verdict ≡ accepted due → ⊥) → (stop : Stop) → HasCause (command_of words) before after stop → after.out ≡ before.out
     out_left not Memory cause = cause.1.out
@@ -50,10 +44,6 @@ module _ (words : List (List ℕ)) (before after : Outside) (status : ℕ) (a : 
       | inl zero ↦ absurd (not (a.done zero).0.0 (sym (alone (accepted (a.done zero).0.0) (a.done zero).0.1.0)))
       | inr some ↦ out_left not (a.stopped some).0 (a.stopped some).1
     ]
-
-pub given_exactly : (words : List (List ℕ)) (before after : Outside) (status : ℕ) (files : Contents) (verdict : Verdict Due) → Answers words before after status
-    → before.files.told ≡ Some files → IsDue (command_of words) (Some files) verdict → Lets before after verdict → ¬ (status ≡ 6) → IsGiven before after status verdict
-given_exactly words before after status files verdict a told is lets memory = given words before after status a files verdict told is lets memory
 
 -- ---- room for the second text
 
@@ -153,8 +143,8 @@ pub one_status : (words : List (List ℕ)) (start middle end : Outside) (status 
     → InARow words words start middle end status next_status → ((dir name : List ℕ) (view : Bool) → ¬ (command_of words ≡ Some (node dir name view))) → start.files.told ≡ Some files
     → ¬ AnyRose start middle → ¬ AnyRose middle end → next_status ≡ status
 one_status words start middle end status next_status files r not told none next_none =
-    let g = (r.call.due r.memory).quiet none in
+    let g = r.call.due in
     let due : IsDue (command_of words) (Some files) g.0 = subst (λ t. IsDue (command_of words) t g.0) told g.1 in
     let again : IsGiven middle end next_status g.0 =
     given words middle end next_status r.next_call files g.0 (r.call.keeps.files.same_told ∙ told) due (inl (next_none, quiet_alone (command_of words) files middle end g.0 not due)) r.next_memory in
-    given_alike start middle end status next_status g.0 (g.2 (quiet_alone (command_of words) files start middle g.0 not due)) again
+    given_alike start middle end status next_status g.0 (g.2 r.memory (inl (none, quiet_alone (command_of words) files start middle g.0 not due))) again

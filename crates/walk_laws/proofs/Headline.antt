@@ -29,7 +29,8 @@ use Rattle.walk_laws.specs.Tolerated.{HasFields}
 use Rattle.walk_laws.proofs.Jobs.{due_once}
 use Rattle.walk_laws.proofs.RunValues.{bytes_there}
 use Rattle.walk_laws.proofs.ToleratedGroups.{jobs_tolerate}
-use Rattle.walk_laws.proofs.WholeWorlds.{good_document, jobs_are_whole, was_ok}
+use Rattle.mpc_top.proofs.WholeWorlds.{jobs_are_whole, was_ok}
+use Rattle.job_laws.proofs.ReadJobs.{good_document}
 
 -- ---- the outputs
 

@@ -15,7 +15,7 @@ use Rattle.job_walk.specs.Verdict.{Then, accepted}
 use Rattle.job_walk.specs.JobOf.{Contents}
 use Rattle.mpc_top.specs.WholeJobs.{PairedJob, OtherAt, PairAt, mask_of, paired_job}
 use Rattle.walk_laws.specs.Whole.{PairsCanHide}
-use Rattle.walk_laws.proofs.WholeWorlds.{jobs_are_whole, was_none, was_ok}
+use Rattle.mpc_top.proofs.WholeWorlds.{jobs_are_whole, was_none, was_ok}
 
 fields_fit : (plan : Plan) (names : List (List ℕ)) (inputs other : List (List (List ℕ))) (d : Option Fields) → AreInputs plan inputs → other_in_fields plan names inputs d ≡ Ok other → AreInputs plan other
 fields_fit plan names inputs other None are e = cc

@@ -18,7 +18,7 @@ use Rattle.mpc_top.specs.Audits.{AuditAt}
 use Rattle.mpc_top.specs.Due.{DueOf, IsDue}
 use Rattle.walk_laws.proofs.Walks.{ends_once, then_once, then_once_of}
 use Rattle.walk_laws.proofs.Audits.{judged_once}
-use Rattle.walk_laws.proofs.WholeWorlds.{jobs_are_whole, jobs_are_named}
+use Rattle.mpc_top.proofs.WholeWorlds.{jobs_are_whole, jobs_are_named}
 use Rattle.walk_laws.proofs.Plans.{expressions_once, groups_once, q2_once, plan_once}
 
 pub structure_once : (job : JobForm) → EndsOnce (StructureOf job)

@@ -1,6 +1,5 @@
 mod Walks
 mod Plans
-mod WholeWorlds
 mod Audits
 mod Jobs
 mod WrittenViews

@@ -40,7 +40,9 @@ use Rattle.mpc_top.specs.Outside.{Outside}
 use Rattle.mpc_top.specs.WholeJobs.{WholeJob, whole_job, JobAt}
 use Rattle.walk_laws.specs.Nodes.{HoldSame, NodesAgree, NodesAreShares, NodesShareTheirJob, SharesMakeAWorld, TalkTogether, TalksMakeANetwork, AreNodesOf, IsJoint, joint_world, node_in, played_by}
 use Rattle.walk_laws.proofs.Jobs.{party_once, sessions_once, structure_once}
-use Rattle.walk_laws.proofs.WholeWorlds.{Fitting, IsFound, IsGoodDocument, IsGoodForm, accepted_is, good_document, good_job, no_form, party_fits, plan_is_sound, structure_found, was_ok, whole_world}
+use Rattle.mpc_top.proofs.WholeWorlds.{Fitting, IsFound, accepted_is, no_form, party_fits, plan_is_sound, structure_found, was_ok, whole_world}
+use Rattle.job_laws.specs.Documents.{IsJobForm}
+use Rattle.job_laws.proofs.ReadJobs.{IsGoodDocument, good_document, good_job}
 
 -- ---- a node's walk, by its parts
 
@@ -103,7 +105,7 @@ module _ (files : Contents) (dir name : List ℕ) (node : NodeForm) (of : IsNode
   abbrev its_plan : Plan
   its_plan = plan_of of.job.bits of.groups of.sessions
 
-  form_is_good : IsGoodForm of.job
+  form_is_good : IsJobForm true of.job
   unfolding JobText Then
   form_is_good = good_job true of.text.0 of.job (was_ok _ (job_in true of.text.0) of.job of.text.2)
 

@@ -1,7 +1,6 @@
 -- What a run writes for a session of expressions.
-use Rattle.std.proofs.Common.{◌≡◌, ℕ, zero, suc, ◌+◌, ◌-◌, ◌^◌, ◌<◌, ◌≤◌, Bool, true, false, cond, if◌then◌else◌, List, [], ◌∷◌, ◌++◌, length, map, replicate, Option, None, Some, refl, sym, ap, ◌∙◌, subst, arith}
+use Rattle.std.proofs.Common.{◌≡◌, ℕ, zero, suc, ◌+◌, ◌-◌, ◌^◌, ◌<◌, ◌≤◌, Bool, true, false, cond, if◌then◌else◌, List, [], ◌∷◌, ◌++◌, length, replicate, Option, None, Some, refl, sym, ap, ◌∙◌, subst, arith}
 use Rattle.std.specs.Prelude.{slice_index, slice_index_or, slice_get, nat_lt, sum}
-use Rattle.std.specs.List.{range_with_len}
 use Rattle.std.proofs.lemmas.List.{get_or_append_left, get_or_push, length-append, length-replicate}
 use Rattle.std.proofs.lemmas.List.Folds.{sum_by-replicate}
 use Rattle.std.proofs.lemmas.List.FromFn.{get_or-map-range_with_len, length-map-range_with_len}
@@ -12,7 +11,7 @@ use Rattle.circuit_model.specs.Netlists as netlists
 use Rattle.circuit_model.specs.Netlists.{Netlist, input_wires, output_wires}
 use Rattle.expr_circuit.specs.Programs.{Statement, program_value}
 use Rattle.expr_circuit.specs.Circuits.{circuit, netlist, draft_of}
-use Rattle.expr_circuit.specs.Laws.{IsProgram, IsCircuitOf, output_words}
+use Rattle.expr_circuit.specs.Laws.{IsCircuitOf, output_words}
 use Rattle.expr_circuit.proofs.ValidPrograms.{program_has_its_value}
 use Rattle.refusal_text.specs.Lines.{too_long_line}
 use Rattle.job_session.specs.Sessions.{Session, no_session, owners, readers, gate, output_wire}
@@ -32,7 +31,9 @@ use Rattle.job_walk.specs.JobOf.{Contents, bytes_of, file_at, groups_in, Circuit
 use Rattle.mpc_top.specs.WholeJobs.{WholeJob, whole_job, JobAt}
 use Rattle.walk_laws.specs.Expressions.{IsProgramOf, WritesValues, RunsWriteValues}
 use Rattle.walk_laws.proofs.Jobs.{text_once}
-use Rattle.walk_laws.proofs.WholeWorlds.{IsGoodForm, good_job, accepted_is, was_ok, was_none}
+use Rattle.mpc_top.proofs.WholeWorlds.{accepted_is, was_ok, was_none}
+use Rattle.job_laws.specs.Documents.{IsJobForm}
+use Rattle.job_laws.proofs.ReadJobs.{good_job}
 
 -- ---- output values of one word each
 
@@ -199,7 +200,7 @@ pub runs_write_values : RunsWriteValues
 unfolding JobAt PlanAt JobText PlannedOf PlanOf Then
 runs_write_values files dir asked job whole text (planned, (job', text', (group, g, (structure, found, (sessions, read, (plan, (same, within), e))))), (forms, given, is)) s form there layout =
     let one : job' ≡ job = accepted_is job' job (text_once false files dir (accepted job') (accepted job) text' text) in
-    let good : IsGoodForm job = good_job false text.0 job (was_ok _ (job_in false text.0) job text.2) in
+    let good : IsJobForm false job = good_job false text.0 job (was_ok _ (job_in false text.0) job text.2) in
     let world : whole.world.plan ≡ plan_of job.bits structure sessions =
     ap (λ (whole : WholeJob). whole.world.plan) (accepted_is whole (whole_job planned forms) is) ∙ ap (λ (p : Planned). p.plan) (accepted_is planned _ e) ∙ same ∙ ap (λ (j : JobForm). plan_of j.bits structure sessions) one in
     let at = session_at files dir job sessions (subst (λ (j : JobForm). SessionsAfter files dir j [] j.sessions (accepted sessions)) one read) s form there in

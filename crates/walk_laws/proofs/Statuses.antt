@@ -12,7 +12,7 @@ use Rattle.job_walk.specs.Verdict.{refused}
 use Rattle.mpc_top.specs.Outside.{Outside}
 use Rattle.mpc_top.specs.Due.{Due, text, talk, IsDue}
 use Rattle.mpc_top.specs.Stops.{Fulfils, CutShort, HasCause, Tells}
-use Rattle.mpc_top.specs.Command.{AnyRose, IsQuiet, IsGiven, Answers}
+use Rattle.mpc_top.specs.Command.{AnyRose, Lets, IsGiven, Answers}
 use Rattle.walk_laws.specs.Statuses.{SameCounts, FailsToTalk, StatusSays}
 
 pub zero_or_not : (n : ℕ) → (n ≡ 0) ⊎ ¬ (n ≡ 0)
@@ -171,11 +171,10 @@ module _ (words : List (List ℕ)) (before after : Outside) (status : ℕ) where
 
   words_refused : Answers words before after status → command_of words ≡ None → ¬ AnyRose before after → ¬ (status ≡ 6) → status ≡ 2
   words_refused a is none memory =
-      let g = (a.due memory).quiet none in
-      let verdict : g.0 ≡ refused 2 usage_text = subst (λ c. IsDue c before.files.told g.0) is g.1 in
-      let given : IsQuiet before after (refused 2 usage_text) → IsGiven before after status (refused 2 usage_text) =
-      subst (λ v. IsQuiet before after v → IsGiven before after status v) verdict g.2 in
-      (given tt).0
+      let verdict : a.due.0 ≡ refused 2 usage_text = subst (λ c. IsDue c before.files.told a.due.0) is a.due.1 in
+      let given : Lets before after (refused 2 usage_text) → IsGiven before after status (refused 2 usage_text) =
+      subst (λ v. Lets before after v → IsGiven before after status v) verdict (a.due.2 memory) in
+      (given (inl (none, tt))).0
 
   -- `out` took the text of what is due
   quiet_out : (due : Due) → Fulfils due before after → after.out.faults ≡ before.out.faults

@@ -36,7 +36,8 @@ use Rattle.job_walk.specs.Names as file_names
 use Rattle.job_walk.specs.NodeOf.{NodeForm, NodeAt}
 use Rattle.mpc_top.specs.WholeJobs.{WholeJob, whole_job, JobAt}
 use Rattle.walk_laws.specs.Tolerated.{AreNamedIn, FileTolerates, FormulaTolerates, HasFields, JobsTolerateAsWritten, ListsTolerate, NodesTolerateAsWritten}
-use Rattle.walk_laws.proofs.WholeWorlds.{accepted_is, few_are, form_good, formula_family, good_document, head_passed, list_named, map_none, or_none, was_ok, IsGoodDocument}
+use Rattle.mpc_top.proofs.WholeWorlds.{accepted_is, few_are, formula_family, was_ok}
+use Rattle.job_laws.proofs.ReadJobs.{form_within, good_document, head_passed, list_named, map_none, or_none, IsGoodDocument}
 use Rattle.walk_laws.proofs.RunValues.{bytes_there}
 
 -- ---- texts among texts
@@ -198,7 +199,7 @@ module _ (files : Contents) (dir : List ℕ) (fields : Fields) (has : HasFields 
       let found : files (file_names.path_of dir file_names.job_file) ≡ Some bytes = bytes_there (files (file_names.path_of dir file_names.job_file)) file_names.job_file bytes (sym there) in
       let one : has.bytes ≡ bytes = (let e : Some has.bytes ≡ Some bytes = sym has.there ∙ found in cc) in
       let same : good.fields ≡ fields = (let e : Some good.fields ≡ Some fields = sym good.parsed ∙ ap document_of (sym one) ∙ has.parsed in cc) in
-      let well = form_good node good.fields good.no_fault in
+      let well = form_within good.fields node good.no_fault in
       (good.is ∙ ap job_form same, subst (λ f. AreNames (texts Parties f)) same well.0.names, subst (λ f. adversary_fault f ≡ None) same well.1)
 
   -- and its structure says what they say

@@ -20,7 +20,8 @@ use Rattle.mpc_top.specs.WholeJobs.{WholeJob, whole_job, JobAt}
 use Rattle.mpc_top.specs.Audits.{AuditAt}
 use Rattle.mpc_top.specs.Due.{DueOf}
 use Rattle.walk_laws.specs.WrittenViews.{written_view, WrittenViewsAreAudited}
-use Rattle.walk_laws.proofs.WholeWorlds.{accepted_is, was_ok, mask_below}
+use Rattle.mpc_top.proofs.WholeWorlds.{accepted_is, was_ok}
+use Rattle.job_laws.proofs.ReadJobs.{mask_below}
 
 -- ---- a group that a text names
 

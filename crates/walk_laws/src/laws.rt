@@ -1,30 +1,23 @@
 //! The laws.
-ghost use Rattle.walk_laws.specs.Once.{AreDueOnce};
+ghost use Rattle.walk_laws.specs.Once.{AreDueOneVerdict};
 ghost use Rattle.walk_laws.specs.Whole.{JobsAreWhole, PairsCanHide};
 ghost use Rattle.walk_laws.specs.Nodes.{NodesAreShares, NodesShareTheirJob, NodesAgree, SharesMakeAWorld, TalksMakeANetwork};
 ghost use Rattle.walk_laws.specs.Tolerated.{JobsTolerateAsWritten, NodesTolerateAsWritten};
 ghost use Rattle.walk_laws.specs.Headline.{JobsKeepTheHeadline};
 ghost use Rattle.walk_laws.specs.Expressions.{RunsWriteValues};
 ghost use Rattle.walk_laws.specs.WrittenViews.{WrittenViewsAreAudited};
-ghost use Rattle.walk_laws.specs.Exact.{GivesExactly};
 ghost use Rattle.walk_laws.specs.Statuses.{StatusesSay};
 ghost use Rattle.walk_laws.specs.InARow.{AreBothGiven, HaveOneStatus};
 
-/// Words, and files that tell what they hold, are due one verdict at most: one text on `out`, one talk with the other
-/// parties, one missing file, or one refusal with its status and its line.
+/// Words, and files that tell what they hold, are due one verdict, and no other: one text on `out`, one talk with the
+/// other parties, one missing file, or one refusal with its status and its line.
 pub fn each_call_is_due_one_verdict()
-    ensures { AreDueOnce }
+    ensures { AreDueOneVerdict }
 {}
 
 /// What each status of the top call says by itself.
 pub fn each_status_says_why()
     ensures { StatusesSay }
-{}
-
-/// Over files that tell, the verdict that is due is the one that is given: its status, and its text in its sink, or the
-/// talk of a node and then the lines of what it read.
-pub fn what_is_due_is_given()
-    ensures { GivesExactly }
 {}
 
 /// Of two calls in a row over a steady outside, both give the texts that they are due over the files as they were

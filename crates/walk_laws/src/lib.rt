@@ -8,5 +8,5 @@ pub use laws::{
     accepted_jobs_are_right_and_private, accepted_jobs_are_whole, accepted_pairs_can_be_hidden,
     an_audit_says_yes_to_what_a_run_writes, each_call_is_due_one_verdict, each_status_says_why,
     nodes_have_shares_of_a_world, tolerated_groups_are_as_written,
-    two_calls_give_what_both_are_due, what_is_due_is_given,
+    two_calls_give_what_both_are_due,
 };

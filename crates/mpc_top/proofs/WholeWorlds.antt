@@ -1,25 +1,19 @@
 -- The job of accepted files is a whole world.
-use Rattle.std.proofs.Common.{◌≡◌, ℕ, zero, suc, ◌+◌, ◌^◌, ◌<◌, ◌≤◌, Bool, true, false, if◌then◌else◌, List, [], ◌∷◌, ◌++◌, All, length, map, Option, None, Some, Result, Ok, Err, inl, inr, refl, sym, ap, ◌∙◌, subst, arith, append_assoc}
-use Rattle.std.specs.Prelude.{slice_index, slice_index_or, nat_le, nat_lt, not, ◌||◌, cond, ℤ, pos, negsuc, nat_abs, int_le, fold, bit_or, position}
-use Rattle.std.specs.Option.{is_none, unwrap_or, option_map, option_or, option_map_or}
-use Rattle.std.specs.Str.{bytes_eq}
-use Rattle.std.specs.List.{AllByRecursion, concat, list_any, position_or_len}
-use Rattle.std.proofs.lemmas.Bool.{cases_lt, leb-true, ltb-false, and_parts}
-use Rattle.std.proofs.lemmas.List.Sums.{fails_before_first}
-use Rattle.std.proofs.lemmas.List.Quantifiers.{position-Some}
-use Rattle.std.proofs.Math.Pow.{pow-lt}
-use Rattle.std.proofs.lemmas.Nat.{pow_pos, or_lt}
+use Rattle.std.proofs.Common.{◌≡◌, ℕ, zero, suc, ◌+◌, ◌^◌, ◌<◌, ◌≤◌, Bool, true, false, if◌then◌else◌, List, [], ◌∷◌, ◌++◌, length, map, Option, None, Some, Result, Ok, Err, inl, inr, refl, sym, ap, ◌∙◌, subst, arith, append_assoc}
+use Rattle.std.specs.Prelude.{slice_index, slice_index_or, nat_le, not}
+use Rattle.std.specs.List.{AllByRecursion, concat}
+use Rattle.std.proofs.lemmas.Bool.{cases_lt, leb-true}
+use Rattle.std.proofs.lemmas.Nat.{pow_pos}
 use Rattle.std.proofs.lemmas.List.{append-nil, get_or-map, get_or_past, get_or_append_left, get_or_push, length-append, length-map}
 use Rattle.std.proofs.lemmas.List.Elements.{All-from_recursion, All-map, recursion_from_All}
 use Rattle.toml.specs.Data.{Members as Fields}
 use Rattle.list_laws.specs.Lists.{joined, total}
 use Rattle.list_laws.proofs.JoinedLists.{length-joined, every_joined, every_at}
 use Rattle.list_laws.proofs.Totals.{total_eq}
-use Rattle.list_laws.proofs.FirstFaults.{or_fault-ok, not_failed, passed-three}
-use Rattle.list_laws.specs.Checks.{◌answers◌, first_fault, or_fault}
+use Rattle.list_laws.proofs.FirstFaults.{or_fault-ok}
+use Rattle.list_laws.specs.Checks.{first_fault}
 use Rattle.party_set.specs.Parties.{Structure, Members, IsAntichain, IsQ2}
-use Rattle.party_set.specs.Names.{party_named, names_fault, AreNames}
-use Rattle.party_set.proofs.NameFaults.{no_fault_tells}
+use Rattle.party_set.specs.Names.{AreNames}
 use Rattle.circuit_model.specs.Netlists.{Netlist, IsCircuit}
 use Rattle.circuit_file.specs.CircuitFiles.{circuit_in}
 use Rattle.circuit_file.proofs.FileLaws.{file_grounded}
@@ -43,15 +37,12 @@ use Rattle.job_plan.specs.Sound.{IsSound}
 use Rattle.job_plan.specs.Limits.{IsPlanWithin}
 use Rattle.job_plan.specs.InputWords.{AreInputs, given}
 use Rattle.job_plan.specs.Tallies.{tape_length}
-use Rattle.job_file.specs.Forms.{JobForm, SessionForm, AdversaryForm, by_formula, by_list, party_of, mask_of, session_form, job_form, is_version_two, adversary_field, integer, text, texts, items, lists, tables}
-use Rattle.job_file.specs.Faults.{is_no_party, bad_name, bad_in_lists, is_within, session_fields_fault, session_values_fault, sessions_fault, version_fault, unknown_fault, fields_fault, ring_fault, parties_fault, adversary_fault, count_fault, hosts_fault, port_fault, job_fault, job_in}
-use Rattle.job_file.specs.declared.field.Field.TheVariants.{RingBits, Parties, Session as SessionField, Circuit, Layout, Owners, Readers}
-use Rattle.job_file.specs.declared.fault.JobFault.TheVariants.{NotToml, BadRing, Names, BadFileName, BadLayout, BadOwner, BadReader}
-use Rattle.job_file.specs.Names.{top_fields, is_file_name, layout_of}
+use Rattle.job_file.specs.Forms.{JobForm, SessionForm, AdversaryForm, by_formula, by_list}
+use Rattle.job_file.specs.Faults.{job_in}
 use Rattle.job_file.specs.declared.layout.SessionLayout.{SessionLayout}
 use Rattle.job_file.specs.declared.layout.SessionLayout.TheVariants.{Gates, Expressions}
-use Rattle.job_file.proofs.Rows.{session_count}
-use Rattle.toml_fields.specs.Fields.{fields_of}
+use Rattle.job_laws.specs.Documents.{IsSessionForm, IsJobForm}
+use Rattle.job_laws.proofs.ReadJobs.{good_job}
 use Rattle.party_file.specs.Table.{PartyForm, party_in, party_in_fields, party_checks, party_given}
 use Rattle.party_file.specs.Forms.{FitsPlan}
 use Rattle.party_file.proofs.PlanFit.{party-fits}
@@ -59,7 +50,6 @@ use Rattle.toml_fields.specs.Documents.{document_of}
 use Rattle.share_world.specs.Laws.{IsWhole}
 use Rattle.job_run.specs.Parties.{world_of}
 use Rattle.mpc_top.specs.WholeJobs.{WholeJob, whole_job, JobAt}
-use Rattle.walk_laws.specs.Whole.{JobsAreWhole}
 use Rattle.job_walk.specs.Verdict.{accepted, refused, Then, verdict_of, unless}
 use Rattle.job_walk.specs.JobOf.{Contents, FormulaOf, few_groups, groups_of, GroupsOf, Q2Of, StructureOf, groups_in, part_of, CircuitOf, ExpressionsOf, SessionAt, SessionsAfter, PlanOf, Planned, PlannedOf, JobText, PlanAt, PartyAt, PartiesAfter}
 
@@ -237,27 +227,22 @@ structure_found job s some few (groups, is, (same, q2)) =
 
 -- ---- the sessions
 
--- the parties of a session's form are parties
-pub record AreNamed (n : ℕ) (form : SessionForm) : Type 0 where
-  pub owners : All (λ owner. owner < n) form.owners
-  pub readers : All (λ mask. mask < 2 ^ n) form.readers
-
 outputs_within : (n : ℕ) (ws : List ℕ) (masks : List ℕ) → AllByRecursion (λ mask. mask < 2 ^ n) masks
     → AllByRecursion (λ (value : OutputValue). value.readers.mask < 2 ^ value.readers.parties) (output_values ws (groups_in n masks))
 outputs_within n [] masks h = tt
 outputs_within n (w ∷ ws) [] h = tt
 outputs_within n (w ∷ ws) (mask ∷ masks) h = (h.0, outputs_within n ws masks h.1)
 
-part_sound : (n : ℕ) (line : PartFault → List ℕ) (c : Netlist) (form : SessionForm) (s : Session) → IsCircuit c → AreNamed n form → accepted s ≡ part_of line c form.owners (groups_in n form.readers) → IsSoundSession n s
-part_sound n line c form s valid named e =
+part_sound : (n : ℕ) (adversary : AdversaryForm) (line : PartFault → List ℕ) (c : Netlist) (form : SessionForm) (s : Session) → IsCircuit c → IsSessionForm n adversary form → accepted s ≡ part_of line c form.owners (groups_in n form.readers) → IsSoundSession n s
+part_sound n adversary line c form s valid named e =
     let groups : List Members = groups_in n form.readers in
     let made = was_none (part_fault c form.owners groups) line s (session_of c form.owners groups) e in
     let counts = counts_agree (length c.inputs) (length form.owners) (length c.outputs) (length groups) made.0 in
     subst (IsSoundSession n) (sym made.1)
     (sound_session c form.owners groups n valid counts.0 counts.1
-    (record { owned = named.owners; read = All-map (λ (group : Members). group.parties ≡ n) (λ mask. record { parties = n; mask = mask }) form.readers (λ k d l. refl) })
+    (record { owned = All-from_recursion (λ owner. owner < n) form.owners named.owners; read = All-map (λ (group : Members). group.parties ≡ n) (λ mask. record { parties = n; mask = mask }) form.readers (λ k d l. refl) })
     (All-from_recursion (λ (value : OutputValue). value.readers.mask < 2 ^ value.readers.parties) (output_values c.outputs groups)
-    (outputs_within n c.outputs form.readers (recursion_from_All (λ mask. mask < 2 ^ n) form.readers named.readers))))
+    (outputs_within n c.outputs form.readers named.readers)))
 
 circuit_is_valid : (layout : SessionLayout) (file : List ℕ) (s bits : ℕ) (bytes : List ℕ) (c : Netlist) → 0 < bits → bits ≤ 64 → CircuitOf layout file s bits bytes (accepted c) → IsCircuit c
 unfolding CircuitOf ExpressionsOf
@@ -265,10 +250,10 @@ circuit_is_valid (Gates layout) file s bits bytes c some few read = (file_ground
 circuit_is_valid Expressions file s bits bytes c some few read = subst IsCircuit (sym read.made) (valid_program bits bytes read.program read.is some few)
 
 module _ (files : Contents) (dir : List ℕ) (job : JobForm) (some : 0 < job.bits) (few : job.bits ≤ 64) where
-  session_is_sound : (s : ℕ) (form : SessionForm) (x : Session) → AreNamed (length job.names) form → SessionAt files dir job s form (accepted x) → IsSoundSession (length job.names) x
+  session_is_sound : (s : ℕ) (form : SessionForm) (x : Session) → IsSessionForm (length job.names) job.adversary form → SessionAt files dir job s form (accepted x) → IsSoundSession (length job.names) x
   unfolding SessionAt Then
   session_is_sound s at x named (bytes, there, (c, read, e)) =
-      part_sound (length job.names) _ c at x (circuit_is_valid at.layout at.circuit s job.bits bytes c some few read) named e
+      part_sound (length job.names) job.adversary _ c at x (circuit_is_valid at.layout at.circuit s job.bits bytes c some few read) named e
 
   -- each session is sound
   abbrev AreSound : List Session → Type 0
@@ -282,7 +267,7 @@ module _ (files : Contents) (dir : List ℕ) (job : JobForm) (some : 0 < job.bit
         subst (IsSoundSession (length job.names)) (sym (get_or_push sessions x no_session s same)) last
   ]
 
-  sessions_are_sound : (before : List Session) (forms : List SessionForm) (sessions : List Session) → AreSound before → AllByRecursion (AreNamed (length job.names)) forms
+  sessions_are_sound : (before : List Session) (forms : List SessionForm) (sessions : List Session) → AreSound before → AllByRecursion (IsSessionForm (length job.names) job.adversary) forms
       → SessionsAfter files dir job before forms (accepted sessions) → AreSound sessions × (length sessions ≡ length before + length forms)
   unfolding SessionsAfter Then
   sessions_are_sound before [] sessions each named e =
@@ -292,162 +277,9 @@ module _ (files : Contents) (dir : List ℕ) (job : JobForm) (some : 0 < job.bit
       let next = sessions_are_sound (before ++ x ∷ []) forms sessions (sound_push before x each (session_is_sound (length before) form x named.0 at)) named.1 rest in
       (next.0, omega (arith, next.1, length-append before (x ∷ [])))
 
--- ---- the job's file
-
-pub head_passed : {F : Type 0} (a : Option F) (rest : List (Option F)) → first_fault (a ∷ rest) ≡ None → (a ≡ None) × (first_fault rest ≡ None)
-head_passed None rest e = (refl, e)
-head_passed (Some f) rest e = cc
-
-passed_four : {F : Type 0} (a b c d : Option F) → first_fault (a ∷ b ∷ c ∷ d ∷ []) ≡ None → (c ≡ None) × (d ≡ None)
-passed_four a b c d e =
-    let one = head_passed a (b ∷ c ∷ d ∷ []) e in
-    let two = head_passed b (c ∷ d ∷ []) one.1 in
-    let three = head_passed c (d ∷ []) two.1 in
-    (three.0, (head_passed d [] three.1).0)
-
--- of ten checks that passed, the fourth to the eighth
-passed_ten : {F : Type 0} (a b c d e f g h i j : Option F) → first_fault (a ∷ b ∷ c ∷ d ∷ e ∷ f ∷ g ∷ h ∷ i ∷ j ∷ []) ≡ None
-    → (d ≡ None) × (e ≡ None) × (f ≡ None) × (g ≡ None) × (h ≡ None)
-passed_ten a b c d e f g h i j all =
-    let one = head_passed a (b ∷ c ∷ d ∷ e ∷ f ∷ g ∷ h ∷ i ∷ j ∷ []) all in
-    let two = head_passed b (c ∷ d ∷ e ∷ f ∷ g ∷ h ∷ i ∷ j ∷ []) one.1 in
-    let three = head_passed c (d ∷ e ∷ f ∷ g ∷ h ∷ i ∷ j ∷ []) two.1 in
-    let four = head_passed d (e ∷ f ∷ g ∷ h ∷ i ∷ j ∷ []) three.1 in
-    let five = head_passed e (f ∷ g ∷ h ∷ i ∷ j ∷ []) four.1 in
-    let six = head_passed f (g ∷ h ∷ i ∷ j ∷ []) five.1 in
-    let seven = head_passed g (h ∷ i ∷ j ∷ []) six.1 in
-    (four.0, five.0, six.0, seven.0, (head_passed h (i ∷ j ∷ []) seven.1).0)
-
-pub map_none : {A B : Type 0} (f : A → B) (o : Option A) → option_map f o ≡ None → o ≡ None
-map_none f None e = refl
-map_none f (Some a) e = cc
-
-pub or_none : {A : Type 0} (a b : Option A) → option_or a b ≡ None → (a ≡ None) × (b ≡ None)
-or_none None b e = (refl, e)
-or_none (Some x) b e = cc
-
-no_place : {A : Type 0} (b : Bool) (x : A) → cond b (Some x) None ≡ None → b ≡ false
-no_place false x e = refl
-no_place true x e = cc
-
-nowhere : (test : List ℕ → Bool) (xs : List (List ℕ)) → position test xs ≡ None → All (λ x. test x ≡ false) xs
-nowhere test xs e = λ k d l. fails_before_first test xs k d (omega (arith, l, ltb-false (position_or_len test xs) (length xs) (no_place (nat_lt (position_or_len test xs) (length xs)) (position_or_len test xs) e)))
-
--- a text that is a party's name is a party
-named_below : (n : ℕ) (o : Option ℕ) → ((p : ℕ) → o ≡ Some p → p < n) → is_none o ≡ false → unwrap_or o 0 < n
-named_below n None h e = cc
-named_below n (Some p) h e = h p refl
-
-party_below : (names : List (List ℕ)) (text : List ℕ) → is_no_party names text ≡ false → party_of names text < length names
-party_below names text e = named_below (length names) (party_named names text) (λ p is. (position-Some (λ other. bytes_eq other text) names p [] is).0) e
-
--- the texts of a list without a bad name are parties' names
-bad_step : (a b : Bool) (n : ℕ) (rest : Option ℕ) → (if a || b then Some n else rest) ≡ None → (a ≡ false) × (rest ≡ None)
-bad_step true b n rest e = cc
-bad_step false true n rest e = cc
-bad_step false false n rest e = (refl, e)
-
-pub list_named : (names before texts : List (List ℕ)) → bad_name names before texts ≡ None → AllByRecursion (λ text. is_no_party names text ≡ false) texts
-unfolding bad_name
-list_named names before [] e = tt
-list_named names before (text ∷ rest) e =
-    let step = bad_step (is_no_party names text) (list_any (λ other. bytes_eq other text) before) (length before) (bad_name names (before ++ text ∷ []) rest) e in
-    (step.0, list_named names (before ++ text ∷ []) rest step.1)
-
-fold_below : (names texts : List (List ℕ)) (mask : ℕ) → mask < 2 ^ length names → AllByRecursion (λ text. is_no_party names text ≡ false) texts
-    → fold (λ mask name. bit_or mask (2 ^ party_of names name)) mask texts < 2 ^ length names
-fold_below names [] mask l h = l
-fold_below names (text ∷ rest) mask l h =
-    fold_below names rest (bit_or mask (2 ^ party_of names text)) (or_lt (length names) mask (2 ^ party_of names text) l (pow-lt {i = party_of names text} {j = length names} (party_below names text h.0))) h.1
-
-pub mask_below : (names texts : List (List ℕ)) → bad_name names [] texts ≡ None → mask_of names texts < 2 ^ length names
-unfolding mask_of
-mask_below names texts e = fold_below names texts 0 (pow_pos (length names)) (list_named names [] texts e)
-
-masks_below : (names : List (List ℕ)) (value : ℕ) (lists : List (List (List ℕ))) → bad_in_lists names value lists ≡ None → AllByRecursion (λ mask. mask < 2 ^ length names) (map (mask_of names) lists)
-unfolding bad_in_lists
-masks_below names value [] e = tt
-masks_below names value (texts ∷ rest) e =
-    let both = or_none (option_map (λ at. (value, at)) (bad_name names [] texts)) (bad_in_lists names (value + 1) rest) e in
-    (mask_below names texts (map_none (λ at. (value, at)) (bad_name names [] texts) both.0), masks_below names (value + 1) rest both.1)
-
-session_named : (two : Bool) (names : List (List ℕ)) (s : ℕ) (fields : Fields) → session_values_fault two names s fields ≡ None → AreNamed (length names) (session_form two names fields)
-unfolding session_values_fault session_form
-session_named two names s fields e =
-    let passed =
-    passed_four (not (is_file_name (text Circuit fields)) answers BadFileName s) (is_none (layout_of two (text Layout fields)) answers BadLayout s)
-    (option_map (λ at. BadOwner s at) (position (is_no_party names) (texts Owners fields))) (option_map (λ bad. BadReader s bad.0 bad.1) (bad_in_lists names 0 (lists Readers fields))) e in
-    let owners_named : All (λ text. is_no_party names text ≡ false) (texts Owners fields) = nowhere (is_no_party names) (texts Owners fields) (map_none (λ at. BadOwner s at) (position (is_no_party names) (texts Owners fields)) passed.0) in
-    record {
-      owners = All-map (λ owner. owner < length names) (party_of names) (texts Owners fields) (λ k d l. party_below names _ (owners_named k d l));
-      readers = All-from_recursion (λ mask. mask < 2 ^ length names) (map (mask_of names) (lists Readers fields)) (masks_below names 0 (lists Readers fields) (map_none (λ bad. BadReader s bad.0 bad.1) (bad_in_lists names 0 (lists Readers fields)) passed.1));
-    }
-
-sessions_named : (two : Bool) (names : List (List ℕ)) (s : ℕ) (all : List Fields) → sessions_fault two names s all ≡ None → AllByRecursion (AreNamed (length names)) (map (session_form two names) all)
-unfolding sessions_fault
-sessions_named two names s [] e = tt
-sessions_named two names s (fields ∷ rest) e =
-    let each = passed-three (session_fields_fault s fields) (session_values_fault two names s fields) (sessions_fault two names (s + 1) rest) e in
-    (session_named two names s fields each.1, sessions_named two names (s + 1) rest each.2)
-
--- what an accepted job's file says
-pub record IsGoodForm (job : JobForm) : Type 0 where
-  pub some_bits : 0 < job.bits
-  pub few_bits : job.bits ≤ 64
-  pub names : AreNames job.names
-  pub few_sessions : length job.sessions ≤ 16
-  pub sessions : AllByRecursion (AreNamed (length job.names)) job.sessions
-
-bits_within : (z : ℤ) → is_within (pos 1) (pos 64) z ≡ true → (0 < nat_abs z) × (nat_abs z ≤ 64)
-bits_within (pos n) e = let both = and_parts (int_le (pos 1) (pos n)) (int_le (pos n) (pos 64)) e in (leb-true 1 n both.0, leb-true n 64 both.1)
-bits_within (negsuc n) e = cc
-
-pub form_good : (node : Bool) (fields : Fields) → job_fault node fields ≡ None → IsGoodForm (job_form fields) × (adversary_fault fields ≡ None)
-unfolding job_fault ring_fault parties_fault job_form
-form_good node fields e =
-    let passed =
-    passed_ten (version_fault fields) (unknown_fault None (top_fields (adversary_field fields)) fields) (fields_fault node fields) (ring_fault fields) (parties_fault fields) (adversary_fault fields)
-    (count_fault (length (items SessionField fields))) (sessions_fault (is_version_two fields) (texts Parties fields) 0 (tables SessionField fields)) (hosts_fault fields) (port_fault fields) e in
-    let bits = bits_within (integer RingBits fields) (not_false _ (not_failed (not (is_within (pos 1) (pos 64) (integer RingBits fields))) (BadRing (integer RingBits fields)) passed.0)) in
-    let names : AreNames (texts Parties fields) = no_fault_tells (texts Parties fields) (map_none (λ fault. Names fault) (names_fault (texts Parties fields)) passed.1) in (
-      record {
-        some_bits = bits.0;
-        few_bits = bits.1;
-        names = names;
-        few_sessions =
-            omega
-            (arith, (session_count (length (items SessionField fields)) passed.3).1, length-map (tables SessionField fields) (session_form (is_version_two fields) (texts Parties fields)), length-map (items SessionField fields) fields_of);
-        sessions = sessions_named (is_version_two fields) (texts Parties fields) 0 (tables SessionField fields) passed.4;
-      },
-      passed.2,
-    )
-
--- what the document of a job's file says, where it has no fault
-pub record IsGoodDocument (node : Bool) (bytes : List ℕ) (job : JobForm) : Type 0 where
-  pub fields : Fields
-  pub parsed : document_of bytes ≡ Some fields
-  pub is : job ≡ job_form fields
-  pub no_fault : job_fault node fields ≡ None
-
-good_fields : (node : Bool) (bytes : List ℕ) (job : JobForm) (d : Option Fields) → document_of bytes ≡ d
-    → option_map_or (λ fields. or_fault (job_fault node fields) (job_form fields)) d (Err NotToml) ≡ Ok job → IsGoodDocument node bytes job
-good_fields node bytes job None is e = cc
-good_fields node bytes job (Some fields) is e =
-    let both = or_fault-ok (job_fault node fields) (job_form fields) job (sym e) in
-    record { fields = fields; parsed = is; is = both.1; no_fault = both.0 }
-
-pub good_document : (node : Bool) (bytes : List ℕ) (job : JobForm) → job_in node bytes ≡ Ok job → IsGoodDocument node bytes job
-unfolding job_in
-good_document node bytes job e = good_fields node bytes job (document_of bytes) refl e
-
-pub good_job : (node : Bool) (bytes : List ℕ) (job : JobForm) → job_in node bytes ≡ Ok job → IsGoodForm job
-good_job node bytes job e =
-    let good = good_document node bytes job e in
-    subst IsGoodForm (sym good.is) (form_good node good.fields good.no_fault).0
-
 -- ---- the plan, and the job
 
-pub plan_is_sound : (files : Contents) (dir : List ℕ) (job : JobForm) (s : Structure) (sessions : List Session) → IsGoodForm job → IsFound job.names s
+pub plan_is_sound : {node : Bool} (files : Contents) (dir : List ℕ) (job : JobForm) (s : Structure) (sessions : List Session) → IsJobForm node job → IsFound job.names s
     → SessionsAfter files dir job [] job.sessions (accepted sessions) → IsPlanWithin (plan_of job.bits s sessions) → IsSound (plan_of job.bits s sessions)
 plan_is_sound files dir job s sessions good found read limits =
     let each = sessions_are_sound files dir job good.some_bits good.few_bits [] job.sessions sessions (λ s l. absurd (omega (arith, l))) good.sessions read in
@@ -465,7 +297,7 @@ plan_is_sound files dir job s sessions good found read limits =
       sessions = λ i l. subst (λ n. IsSoundSession n (slice_index_or sessions i no_session)) (sym found.parties) (each.0 i l);
     }
 
-sound_plan : (files : Contents) (dir : List ℕ) (job : JobForm) (group : Option Members) (s : Structure) (planned : Planned) → IsGoodForm job → IsFound job.names s
+sound_plan : {node : Bool} (files : Contents) (dir : List ℕ) (job : JobForm) (group : Option Members) (s : Structure) (planned : Planned) → IsJobForm node job → IsFound job.names s
     → PlannedOf files dir job group s (accepted planned) → IsSound planned.plan × (length planned.names ≡ planned.plan.parties)
 unfolding PlannedOf PlanOf Then
 sound_plan files dir job group s planned good found (sessions, read, (plan, (same, within), e)) =
@@ -478,10 +310,10 @@ sound_plan files dir job group s planned good found (sessions, read, (plan, (sam
 plan_at_sound : (files : Contents) (dir : List ℕ) (asked : Option (List ℕ)) (planned : Planned) → PlanAt files dir asked (accepted planned) → IsSound planned.plan × (length planned.names ≡ planned.plan.parties)
 unfolding PlanAt JobText Then
 plan_at_sound files dir asked planned (job, (bytes, there, e), (group, g, (s, found, is))) =
-    let good : IsGoodForm job = good_job false bytes job (was_ok _ (job_in false bytes) job e) in
+    let good : IsJobForm false job = good_job false bytes job (was_ok _ (job_in false bytes) job e) in
     sound_plan files dir job group s planned good (structure_found job s good.names.some good.names.few found) is
 
-pub jobs_are_whole : JobsAreWhole
+pub jobs_are_whole : (files : Contents) (dir : List ℕ) (asked : Option (List ℕ)) (job : WholeJob) → JobAt files dir asked (accepted job) → IsWhole job.world
 unfolding JobAt Then
 jobs_are_whole files dir asked job (planned, is, (forms, read, e)) =
     let sound = plan_at_sound files dir asked planned is in
@@ -497,7 +329,7 @@ planned_names files dir job group s planned (sessions, read, (plan, within, e)) 
 plan_named : (files : Contents) (dir : List ℕ) (asked : Option (List ℕ)) (planned : Planned) → PlanAt files dir asked (accepted planned) → AreNames planned.names
 unfolding PlanAt JobText Then
 plan_named files dir asked planned (job, (bytes, there, e), (group, g, (s, found, is))) =
-    let good : IsGoodForm job = good_job false bytes job (was_ok _ (job_in false bytes) job e) in
+    let good : IsJobForm false job = good_job false bytes job (was_ok _ (job_in false bytes) job e) in
     subst AreNames (sym (planned_names files dir job group s planned is)) good.names
 
 -- an accepted job has a name for each party
