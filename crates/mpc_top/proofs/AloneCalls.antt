@@ -1,5 +1,5 @@
 -- Words that ask for no node.
-use Rattle.std.proofs.Common.{◌≡◌, Option, Some, sym, ◌∙◌}
+use Rattle.std.proofs.Common.{◌≡◌, Option, None, Some, sym, ◌∙◌}
 use Rattle.command_words.specs.Commands.{CommandForm, run, check, pair, node, sample, audit}
 use Rattle.mpc_top.specs.Due.{AsksForNode, IsAlone}
 
@@ -10,3 +10,7 @@ not_node (check dir) asked alone is (d, n, v, e) = let same : Some (check dir) �
 not_node (pair dir group) asked alone is (d, n, v, e) = let same : Some (pair dir group) ≡ Some (node d n v) = sym is ∙ e in cc
 not_node (sample count) asked alone is (d, n, v, e) = let same : Some (sample count) ≡ Some (node d n v) = sym is ∙ e in cc
 not_node (audit dir) asked alone is (d, n, v, e) = let same : Some (audit dir) ≡ Some (node d n v) = sym is ∙ e in cc
+
+-- words that are refused ask for none
+pub none_is_no_node : (asked : Option CommandForm) → asked ≡ None → AsksForNode asked → ⊥
+none_is_no_node asked is (d, n, v, e) = let same : Some (node d n v) ≡ None = sym e ∙ is in cc

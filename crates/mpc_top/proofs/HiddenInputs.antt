@@ -35,8 +35,8 @@ module _ (Written : List ℕ → Type 0) where
   told_hides dir workers asked job None is hides = tt
   told_hides dir workers asked job (Some files) is hides = (job, is, hides)
 
-  pub run_hides : (dir : List ℕ) (workers : ℕ) (asked : Option (List ℕ)) (planned : code.Planned) (parties : Vec PartyData Global) (before after : FilesReading)
-      → IsWhole (job_seen planned parties).world → ReadsAs (job_seen planned) (λ m. JobAt m dir asked) before after (Ok parties)
+  pub run_hides : (dir : List ℕ) (workers : ℕ) (asked : Option (List ℕ)) (planned : code.Planned) (parties : Vec PartyData Global) {dir' : List ℕ} {xs : List (List ℕ)} (before after : FilesReading)
+      → IsWhole (job_seen planned parties).world → ReadsAs dir' xs (job_seen planned) (λ m. JobAt m dir asked) before after (Ok parties)
       → Written (run_text planned.names (job_seen planned parties).world planned.group) → CommandHides (Some (run dir workers asked)) before.told Written
   run_hides dir workers asked planned parties before after whole read text =
       told_hides dir workers asked (job_seen planned parties) before.told read.ok (hidden planned.names (job_seen planned parties).world planned.group whole text)

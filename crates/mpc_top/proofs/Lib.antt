@@ -1,4 +1,5 @@
 mod AloneCalls
+mod FilesRead
 mod HiddenInputs
 mod Jobs
 mod Audits

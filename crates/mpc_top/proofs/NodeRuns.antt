@@ -17,7 +17,10 @@ use Rattle.job_walk.specs.declared.stop.Stop.TheVariants.{Memory, Net, Out, Peer
 use Rattle.job_walk.specs.NodeOf.{NodeForm, NodeAt}
 use Rattle.job_walk.specs.Reads.{ReadsAs}
 use Rattle.job_walk.specs.Seen.{node_view}
-use Rattle.job_walk.proofs.Steps.{reads_stop, reads_then, reads_end}
+use Rattle.job_walk.specs.FilesAsked.{AsksAll, AsksFirst}
+use Rattle.job_walk.specs.JobReads.{node_asking}
+use Rattle.job_walk.proofs.Steps.{reads_stop, reads_on, reads_end}
+use Rattle.mpc_top.proofs.FilesRead.{first_of_all}
 use Rattle.mpc_top.specs.Outside.{Outside, KeepsNet, KeepsSpawner}
 use Rattle.mpc_top.specs.Due.{Due, talk, DueOf}
 use Rattle.node_talk.specs.Talks.{Node}
@@ -36,15 +39,15 @@ asked_of job view = record { job = node_view job; view = view }
 abbrev pub as_talk : Bool → NodeJob → Due
 as_talk view job = talk (asked_of job view)
 
-module _ (dir name : List ℕ) (view : Bool) (before after : FilesReading) where
+module _ (dir name : List ℕ) (view : Bool) (before after : FilesReading) {xs : List (List ℕ)} where
   -- the node could not be read
-  pub node_stops : (stop : Stop) → ReadsAs {C = NodeJob} node_view (λ m. NodeAt m dir name) before after (Err stop) → ReadsAs (as_talk view) (DueOf (node dir name view)) before after (Err stop)
+  pub node_stops : (stop : Stop) → ReadsAs {C = NodeJob} dir xs node_view (λ m. NodeAt m dir name) before after (Err stop) → ReadsAs dir xs (as_talk view) (DueOf (node dir name view)) before after (Err stop)
   unfolding DueOf
   node_stops stop r = reads_stop _ _ node_view (as_talk view) before after stop r
 
-  pub node_read : (job : NodeJob) → ReadsAs node_view (λ m. NodeAt m dir name) before after (Ok job) → ReadsAs (as_talk view) (DueOf (node dir name view)) before after (Ok job)
+  pub node_read : (job : NodeJob) → ReadsAs dir xs node_view (λ m. NodeAt m dir name) before after (Ok job) → ReadsAs dir xs (as_talk view) (DueOf (node dir name view)) before after (Ok job)
   unfolding DueOf
-  node_read job r = reads_then _ _ node_view (as_talk view) before after after job (Ok job) r (reads_end (as_talk view) after job)
+  node_read job r = reads_on _ _ node_view (as_talk view) before after after job (Ok job) r (reads_end (as_talk view) after job)
 
 -- where no count rose and all is heard, no talk ends with a fault
 pub quiet_talk : (job : NodeForm) (before after : Outside) (fault : NodeFault) → Talks job before after (Err fault) → HearsAllQuietly job before after → ⊥
@@ -58,14 +61,17 @@ memory_is_no_fault result fault is memory failed = cc
 
 -- ---- the talk of a node that was read
 
-module _ (dir name : List ℕ) (view : Bool) (files files' : FilesReading) (job : NodeJob) (read : ReadsAs node_view (λ m. NodeAt m dir name) files files' (Ok job)) (err err' : SinkReading) (parties : ℕ) (same : parties ≡ job.plan.parties) where
+module _ (dir name : List ℕ) (view : Bool) (files files' : FilesReading) (job : NodeJob) {xs : List (List ℕ)} (read : ReadsAs dir xs node_view (λ m. NodeAt m dir name) files files' (Ok job)) (all : AsksAll (node_asking dir name) files files') (err err' : SinkReading) (parties : ℕ) (same : parties ≡ job.plan.parties) where
   abbrev form : NodeForm
   form = node_view job
 
   abbrev asked : Meeting
   asked = record { hosts = job.hosts; port = job.port; me = job.me; parties = parties }
 
-  abbrev finds : ReadsAs (as_talk view) (DueOf (node dir name view)) files files' (Ok job)
+  asks : AsksFirst (node_asking dir name) files files'
+  asks = first_of_all (Some (node_asking dir name)) files files' all
+
+  abbrev finds : ReadsAs dir xs (as_talk view) (DueOf (node dir name view)) files files' (Ok job)
   finds = node_read dir name view files files' job read
 
   module _ {Given : Type 0} (shown : Given → LinksReading) (out : SinkReading) (net net' : NetReading) (spawner : SpawnerReading) where
@@ -87,6 +93,8 @@ module _ (dir name : List ℕ) (view : Bool) (files files' : FilesReading) (job 
         },
         refl,
       );
+      asks = asks;
+      asks_all = tt;
       keeps = finds.keeps;
       keeps_net = record { faults_grow = c.faults_grow; keeps_steady = c.keeps_steady };
       keeps_spawner = spawner_kept spawner;
@@ -100,6 +108,8 @@ module _ (dir name : List ℕ) (view : Bool) (files files' : FilesReading) (job 
       ok = tt;
       hides = tt;
       stop = (refl, record { files = finds.quiet; out = refl; net = c.quiet not; same_expects = c.same_expects; same_offers = c.same_offers; same_kept = c.same_kept; same_spawner = refl });
+      asks = asks;
+      asks_all = tt;
       keeps = finds.keeps;
       keeps_net = record { faults_grow = c.faults_grow; keeps_steady = c.keeps_steady };
       keeps_spawner = spawner_kept spawner;
@@ -136,19 +146,25 @@ module _ (dir name : List ℕ) (view : Bool) (files files' : FilesReading) (job 
     spawner_keeps = let stays = (run someone.0 someone.1).steady.spawner_stays in record { refusals_grow = stays.refusals_grow; keeps_steady = λ steady. (stays.steady steady).0 }
 
 -- a talk that came to its end, and its lines were written, or not; or it broke off
-module _ (dir name : List ℕ) (view : Bool) (files files' : FilesReading) (job : NodeJob) (read : ReadsAs node_view (λ m. NodeAt m dir name) files files' (Ok job)) (before after : Outside)
+module _ (dir name : List ℕ) (view : Bool) (files files' : FilesReading) (job : NodeJob) {xs : List (List ℕ)} (read : ReadsAs dir xs node_view (λ m. NodeAt m dir name) files files' (Ok job)) (all : AsksAll (node_asking dir name) files files') (before after : Outside)
     (at_files : before.files ≡ files) (at_files' : after.files ≡ files') (net : KeepsNet before.net after.net) (spawner : KeepsSpawner before.spawner after.spawner) where
-  found : ReadsAs (as_talk view) (DueOf (node dir name view)) before.files after.files (Ok job)
-  found = subst (λ f. ReadsAs (as_talk view) (DueOf (node dir name view)) f after.files (Ok job)) (sym at_files) (subst (λ f. ReadsAs (as_talk view) (DueOf (node dir name view)) files f (Ok job)) (sym at_files') (node_read dir name view files files' job read))
+  all_found : AsksAll (node_asking dir name) before.files after.files
+  all_found = subst (λ f. AsksAll (node_asking dir name) f after.files) (sym at_files) (subst (λ f. AsksAll (node_asking dir name) files f) (sym at_files') all)
+
+  asks_found : AsksFirst (node_asking dir name) before.files after.files
+  asks_found = first_of_all (Some (node_asking dir name)) before.files after.files all_found
+
+  found : ReadsAs dir xs (as_talk view) (DueOf (node dir name view)) before.files after.files (Ok job)
+  found = subst (λ f. ReadsAs dir xs (as_talk view) (DueOf (node dir name view)) f after.files (Ok job)) (sym at_files) (subst (λ f. ReadsAs dir xs (as_talk view) (DueOf (node dir name view)) files f (Ok job)) (sym at_files') (node_read dir name view files files' job read))
 
   pub talk_done : (results : Results) (u : Unit {0}) → Talks (node_view job) before after (Ok results) → Writes (lines_of (asked_of job view) results) before.out after.out (Ok u) → Runs (Some (node dir name view)) before after (Ok u)
-  talk_done results u talks w = record { ok = (talk (asked_of job view), (found.ok, (dir, name, refl), found.quiet), (results, talks, w)); hides = tt; stop = tt; keeps = found.keeps; keeps_net = net; keeps_spawner = spawner }
+  talk_done results u talks w = record { ok = (talk (asked_of job view), (found.ok, (dir, name, refl), found.quiet), (results, talks, w)); hides = tt; stop = tt; asks = asks_found; asks_all = all_found; keeps = found.keeps; keeps_net = net; keeps_spawner = spawner }
 
   pub talk_cut : (results : Results) (failed : Failed) → Talks (node_view job) before after (Ok results) → Writes (lines_of (asked_of job view) results) before.out after.out (Err failed) → Runs (Some (node dir name view)) before after (Err Out)
-  talk_cut results failed talks w = record { ok = tt; hides = tt; stop = (talk (asked_of job view), (found.ok, (dir, name, refl), found.quiet), (results, talks, (failed, w))); keeps = found.keeps; keeps_net = net; keeps_spawner = spawner }
+  talk_cut results failed talks w = record { ok = tt; hides = tt; stop = (talk (asked_of job view), (found.ok, (dir, name, refl), found.quiet), (results, talks, (failed, w))); asks = asks_found; asks_all = tt; keeps = found.keeps; keeps_net = net; keeps_spawner = spawner }
 
   pub talk_broke : (fault : NodeFault) → Talks (node_view job) before after (Err fault) → after.out ≡ before.out → Runs (Some (node dir name view)) before after (Err (Peer job.names fault))
-  talk_broke fault talks out = record { ok = tt; hides = tt; stop = (asked_of job view, (found.ok, (dir, name, refl), found.quiet), refl, talks, out); keeps = found.keeps; keeps_net = net; keeps_spawner = spawner }
+  talk_broke fault talks out = record { ok = tt; hides = tt; stop = (asked_of job view, (found.ok, (dir, name, refl), found.quiet), refl, talks, out); asks = asks_found; asks_all = tt; keeps = found.keeps; keeps_net = net; keeps_spawner = spawner }
 
 -- what is ready is the share of the node that was read
 pub ready_share : (job : NodeJob) (ready : Share) (inputs : List (Vec ℕ)) → ready ≡ record { plan = job.plan; me = job.me; given = given_words inputs job.given.tapes.items; digest = job.digest }
@@ -157,7 +173,7 @@ ready_share job ready inputs is same = is ∙ ap (λ (i : List (Vec ℕ)). recor
 
 -- ---- the talk over the links that the net gave
 
-module _ (dir name : List ℕ) (view : Bool) (files files' : FilesReading) (job : NodeJob) (read : ReadsAs node_view (λ m. NodeAt m dir name) files files' (Ok job)) (err err' : SinkReading) (parties : ℕ) (same : parties ≡ job.plan.parties)
+module _ (dir name : List ℕ) (view : Bool) (files files' : FilesReading) (job : NodeJob) {xs : List (List ℕ)} (read : ReadsAs dir xs node_view (λ m. NodeAt m dir name) files files' (Ok job)) (all : AsksAll (node_asking dir name) files files') (err err' : SinkReading) (parties : ℕ) (same : parties ≡ job.plan.parties)
     {Given : Type 0} (shown : Given → LinksReading) (links : Given) (net mid net' : NetReading) (spawner spawner' : SpawnerReading)
     (c : Connects shown (record { hosts = job.hosts; port = job.port; me = job.me; parties = parties }) net mid (Ok links)) (out out' : SinkReading) where
   abbrev before_talk : Outside
@@ -173,23 +189,23 @@ module _ (dir name : List ℕ) (view : Bool) (files files' : FilesReading) (job 
       → ((n : Node) × IsNodeOf (share_of (node_view job)) n) → ((n : Node) → IsNodeOf (share_of (node_view job)) n → node_runs.Runs n (shown links) kept spawner spawner' outcome)
       → Written job.names (share_of (node_view job)) view outcome out out' result → Runs (Some (node dir name view)) before_talk after_talk result
   of_talk kept (Ok results) (Ok u) back someone run written =
-      talk_done dir name view files files' job read before_talk after_talk refl refl
-      (net_keeps dir name view files files' job read err err' parties same shown links net mid net' spawner spawner' kept c quiet_net back (Ok results) someone run out out')
-      (spawner_keeps dir name view files files' job read err err' parties same shown links net mid net' spawner spawner' kept c quiet_net back (Ok results) someone run out out')
-      results u (talks dir name view files files' job read err err' parties same shown links net mid net' spawner spawner' kept c quiet_net back (Ok results) someone run out out') written
+      talk_done dir name view files files' job read all before_talk after_talk refl refl
+      (net_keeps dir name view files files' job read all err err' parties same shown links net mid net' spawner spawner' kept c quiet_net back (Ok results) someone run out out')
+      (spawner_keeps dir name view files files' job read all err err' parties same shown links net mid net' spawner spawner' kept c quiet_net back (Ok results) someone run out out')
+      results u (talks dir name view files files' job read all err err' parties same shown links net mid net' spawner spawner' kept c quiet_net back (Ok results) someone run out out') written
   of_talk kept (Ok results) (Err stop) back someone run written =
       subst (λ s. Runs (Some (node dir name view)) before_talk after_talk (Err s)) (sym written.0)
-      (talk_cut dir name view files files' job read before_talk after_talk refl refl
-      (net_keeps dir name view files files' job read err err' parties same shown links net mid net' spawner spawner' kept c quiet_net back (Ok results) someone run out out')
-      (spawner_keeps dir name view files files' job read err err' parties same shown links net mid net' spawner spawner' kept c quiet_net back (Ok results) someone run out out')
-      results written.1.0 (talks dir name view files files' job read err err' parties same shown links net mid net' spawner spawner' kept c quiet_net back (Ok results) someone run out out') written.1.1)
+      (talk_cut dir name view files files' job read all before_talk after_talk refl refl
+      (net_keeps dir name view files files' job read all err err' parties same shown links net mid net' spawner spawner' kept c quiet_net back (Ok results) someone run out out')
+      (spawner_keeps dir name view files files' job read all err err' parties same shown links net mid net' spawner spawner' kept c quiet_net back (Ok results) someone run out out')
+      results written.1.0 (talks dir name view files files' job read all err err' parties same shown links net mid net' spawner spawner' kept c quiet_net back (Ok results) someone run out out') written.1.1)
   of_talk kept (Err fault) (Ok u) back someone run written = absurd written
   of_talk kept (Err fault) (Err stop) back someone run written =
       subst (λ s. Runs (Some (node dir name view)) before_talk after_talk (Err s)) (sym written.0)
-      (talk_broke dir name view files files' job read before_talk after_talk refl refl
-      (net_keeps dir name view files files' job read err err' parties same shown links net mid net' spawner spawner' kept c quiet_net back (Err fault) someone run out out')
-      (spawner_keeps dir name view files files' job read err err' parties same shown links net mid net' spawner spawner' kept c quiet_net back (Err fault) someone run out out')
-      fault (talks dir name view files files' job read err err' parties same shown links net mid net' spawner spawner' kept c quiet_net back (Err fault) someone run out out') written.1)
+      (talk_broke dir name view files files' job read all before_talk after_talk refl refl
+      (net_keeps dir name view files files' job read all err err' parties same shown links net mid net' spawner spawner' kept c quiet_net back (Err fault) someone run out out')
+      (spawner_keeps dir name view files files' job read all err err' parties same shown links net mid net' spawner spawner' kept c quiet_net back (Err fault) someone run out out')
+      fault (talks dir name view files files' job read all err err' parties same shown links net mid net' spawner spawner' kept c quiet_net back (Err fault) someone run out out') written.1)
 
   pub talked : (share : Share) → share ≡ share_of (node_view job) → (result : Result Unit Stop) → TalkedOver share job.names view (shown links) mid net' spawner spawner' out out' result
       → Runs (Some (node dir name view)) before_talk after_talk result

@@ -10,39 +10,44 @@ use Rattle.party_file.specs.Forms.{form_of}
 use Rattle.party_file.specs.declared.data.PartyData.{PartyData}
 use Rattle.job_walk.specs.declared.stop.Stop.{Stop}
 use Rattle.job_walk.specs.JobOf.{PartyAt, PartiesAfter}
+use Rattle.job_walk.specs.Names.{party_file}
+use Rattle.job_walk.specs.FilesAsked.{party_files}
 use Rattle.job_walk.specs.Reads.{ReadsAs}
 use Rattle.job_walk.proofs.Steps.{reads_exit, reads_then, reads_end}
 use Rattle.job_walk.proofs.Equal.{left_of, none_left}
 use Rattle.mpc_top.specs.Seen.{parties_view}
 
 module _ (dir : List ℕ) (plan : Plan) (names : List (List ℕ)) (p : ℕ) (before : FilesReading) (result : Result (Vec PartyData Global) Stop) where
+  abbrev ReadsNames : List PartyForm → List (List ℕ) → FilesReading → FilesReading → Type 0
+  ReadsNames parties names before after = ReadsAs dir (party_files names) parties_view (λ m. PartiesAfter m dir plan parties names) before after result
+
   abbrev PartiesRest : List PartyForm → ℕ → FilesReading → FilesReading → Type 0
-  PartiesRest parties p before after = ReadsAs parties_view (λ m. PartiesAfter m dir plan parties (drop p (map (λ (name : List ℕ). name) names))) before after result
+  PartiesRest parties p before after = ReadsNames parties (drop p (map (λ (name : List ℕ). name) names)) before after
 
   -- the same over an equal list
   pub parties_same : (parties parties' : List PartyForm) (k : ℕ) (mid after : FilesReading) → parties ≡ parties' → PartiesRest parties k mid after → PartiesRest parties' k mid after
   parties_same parties parties' k mid after same r = subst (λ hs. PartiesRest hs k mid after) same r
 
   module _ (name : List ℕ) (is : name ≡ get_or names p []) (l : p < length names) (parties : List PartyForm) (count : length parties ≡ p) where
-    on_names : (after : FilesReading) → ReadsAs parties_view (λ m. PartiesAfter m dir plan parties (name ∷ drop (p + 1) (map (λ (name : List ℕ). name) names))) before after result → PartiesRest parties p before after
-    on_names after r = subst (λ xs. ReadsAs parties_view (λ m. PartiesAfter m dir plan parties xs) before after result) (sym (left_of (λ (name : List ℕ). name) names p [] l ∙ ap (λ x. x ∷ drop (p + 1) (map (λ (name : List ℕ). name) names)) (sym is))) r
+    on_names : (after : FilesReading) → ReadsNames parties (name ∷ drop (p + 1) (map (λ (name : List ℕ). name) names)) before after → PartiesRest parties p before after
+    on_names after r = subst (λ xs. ReadsNames parties xs before after) (sym (left_of (λ (name : List ℕ). name) names p [] l ∙ ap (λ x. x ∷ drop (p + 1) (map (λ (name : List ℕ). name) names)) (sym is))) r
 
-    pub party_next : (mid after : FilesReading) (party : PartyData) → ReadsAs form_of (λ m. PartyAt m dir plan p name) before mid (Ok party)
+    pub party_next : (mid after : FilesReading) (party : PartyData) → ReadsAs dir (party_file name ∷ []) form_of (λ m. PartyAt m dir plan p name) before mid (Ok party)
         → PartiesRest (parties ++ form_of party ∷ []) (p + 1) mid after → PartiesRest parties p before after
     unfolding PartiesAfter
     party_next mid after party r rest =
-        on_names after (reads_then _ _ _ _ before mid after party result (subst (λ k. ReadsAs form_of (λ m. PartyAt m dir plan k name) before mid (Ok party)) (sym count) r) rest)
+        on_names after (reads_then _ _ _ _ before mid after party result (subst (λ k. ReadsAs dir (party_file name ∷ []) form_of (λ m. PartyAt m dir plan k name) before mid (Ok party)) (sym count) r) rest)
 
-    pub party_stops : (after : FilesReading) (stop : Stop) → IsErrAnd result (λ e. e ≡ stop) → ReadsAs form_of (λ m. PartyAt m dir plan p name) before after (Err stop) → PartiesRest parties p before after
+    pub party_stops : (after : FilesReading) (stop : Stop) → IsErrAnd result (λ e. e ≡ stop) → ReadsAs dir (party_file name ∷ []) form_of (λ m. PartyAt m dir plan p name) before after (Err stop) → PartiesRest parties p before after
     unfolding PartiesAfter
     party_stops after stop err r =
-        on_names after (reads_exit _ _ _ _ before after stop result err (subst (λ k. ReadsAs form_of (λ m. PartyAt m dir plan k name) before after (Err stop)) (sym count) r))
+        on_names after (reads_exit _ _ _ _ _ before after stop result err (subst (λ k. ReadsAs dir (party_file name ∷ []) form_of (λ m. PartyAt m dir plan k name) before after (Err stop)) (sym count) r))
 
 pub parties_end : (dir : List ℕ) (plan : Plan) (names : List (List ℕ)) (p : ℕ) (now : FilesReading) (parties : Vec PartyData Global) → length names ≤ p
-    → ReadsAs parties_view (λ m. PartiesAfter m dir plan (parties_view parties) (drop p (map (λ (name : List ℕ). name) names))) now now (Ok parties)
+    → ReadsAs dir (party_files (drop p (map (λ (name : List ℕ). name) names))) parties_view (λ m. PartiesAfter m dir plan (parties_view parties) (drop p (map (λ (name : List ℕ). name) names))) now now (Ok parties)
 unfolding PartiesAfter
 parties_end dir plan names p now parties all =
-    subst (λ xs. ReadsAs parties_view (λ m. PartiesAfter m dir plan (parties_view parties) xs) now now (Ok parties)) (sym (none_left (λ (name : List ℕ). name) names p all)) (reads_end parties_view now parties)
+    subst (λ xs. ReadsAs dir (party_files xs) parties_view (λ m. PartiesAfter m dir plan (parties_view parties) xs) now now (Ok parties)) (sym (none_left (λ (name : List ℕ). name) names p all)) (reads_end parties_view now parties)
 
 pub same_names : (names : List (List ℕ)) → map (λ (name : List ℕ). name) names ≡ names
 same_names [] = refl

@@ -170,6 +170,8 @@ module _ (words : List (List ℕ)) (before after : Outside) where
     hides = λ _. r.hides;
     stopped = λ not. absurd (not refl);
     due = (accepted r.ok.0, r.ok.1.0, λ memory lets. (refl, r.ok.2));
+    asks = r.asks;
+    asks_all = λ _. r.asks_all;
     keeps = record { files = r.keeps; out = done_kept r.ok.0 r.ok.2; err = keeps_same before.err after.err same; net = r.keeps_net; spawner = r.keeps_spawner };
   }
 
@@ -179,6 +181,8 @@ module _ (words : List (List ℕ)) (before after : Outside) where
     hides = λ is. absurd (some is);
     stopped = λ _. (stop, r.stop, tells);
     due = given stop status r.stop tells;
+    asks = r.asks;
+    asks_all = λ is. absurd (some is);
     keeps = record { files = r.keeps; out = out_kept stop r.stop; err = err_kept stop status tells; net = r.keeps_net; spawner = r.keeps_spawner };
   }
 

@@ -10,6 +10,7 @@ use Rattle.mpc_top.specs.Texts.{files_fault_line}
 use Rattle.mpc_top.specs.Outside.{Outside, KeepsNet, KeepsSpawner}
 use Rattle.mpc_top.specs.Due.{Due, text, talk, IsDue}
 use Rattle.mpc_top.specs.NodeTalks.{HearsAllQuietly, LetsTalk}
+use Rattle.mpc_top.specs.FilesDue.{asking_of, AsksForAll, AsksInOrder}
 use Rattle.mpc_top.specs.HiddenInputs.{CommandHides}
 use Rattle.mpc_top.specs.Stops.{Fulfils, HasCause, IsDone, Tells}
 
@@ -88,5 +89,9 @@ pub record Answers (words : List (List ℕ)) (before after : Outside) (status : 
   pub due : (verdict : Verdict Due)
       × IsDue (command_of words) before.files.told verdict
       × (¬ (status ≡ 6) → Lets before after verdict → IsGiven before after status verdict)
+  -- Whatever the status, it asked for a first part of the files that the words have read, in order and for no others;
+  -- at 0 for all of them.
+  pub asks : AsksInOrder (asking_of (command_of words)) before.files after.files
+  pub asks_all : status ≡ 0 → AsksForAll (asking_of (command_of words)) before.files after.files
   -- Whatever the status, the files tell the same, no count falls, and what is steady stays steady.
   pub keeps : Keeps before after

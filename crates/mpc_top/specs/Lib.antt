@@ -4,6 +4,7 @@ pub mod Audits
 pub mod Outside
 pub mod NodeTalks
 pub mod Due
+pub mod FilesDue
 pub mod LinkTalks
 pub mod HiddenInputs
 pub mod Stops

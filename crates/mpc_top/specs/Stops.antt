@@ -17,6 +17,7 @@ use Rattle.job_walk.specs.Reads.{KeepsFiles}
 use Rattle.mpc_top.specs.Texts.{files_fault_line, net_fault_line, out_fault_line, usage_text}
 use Rattle.mpc_top.specs.Outside.{Outside, outside_of, LeavesNet, LeavesAll, KeepsNet, KeepsSpawner}
 use Rattle.mpc_top.specs.Due.{Due, text, talk, Suits, IsDue}
+use Rattle.mpc_top.specs.FilesDue.{asking_of, AsksForAll, AsksInOrder, AsksLast}
 use Rattle.mpc_top.specs.NodeTalks.{NodeAsked, lines_of, Talks, MeetsNobody}
 use Rattle.mpc_top.specs.HiddenInputs.{CommandHides}
 
@@ -62,10 +63,11 @@ module _ (command : Option CommandForm) (before after : Outside) where
       IsDue command before.files.told verdict × Suits command verdict
       × (after.files.faults ≡ before.files.faults)
 
-  -- the words ask for something, a file failed, and over steady files it is one that is missing
+  -- the words ask for something, the last file that they had read failed, and over steady files it is missing
   pub record FailsAt (name : List ℕ) : Type 0 where
     pub asked : IsSome command
     pub rose : Rose before.files.faults after.files.faults
+    pub last : AsksLast (asking_of command) name after.files
     pub is_missing : IsTrue before.files.steady → IsDue command before.files.told (missing name)
 
   -- what stands of words, files, `out`, the net and the spawner where this is the cause
@@ -93,6 +95,8 @@ module _ (command : Option CommandForm) (before after : Outside) where
     pub ok : OnOk result IsDone
     pub hides : OnOk result (CommandHides command before.files.told (λ text. Writes text before.out after.out (Ok tt)))
     pub stop : IfErr result HasCause
+    pub asks : AsksInOrder (asking_of command) before.files after.files
+    pub asks_all : OnOk result (AsksForAll (asking_of command) before.files after.files)
     pub keeps : KeepsFiles before.files after.files
     pub keeps_net : KeepsNet before.net after.net
     pub keeps_spawner : KeepsSpawner before.spawner after.spawner

@@ -8,9 +8,8 @@ ghost use Rattle.wire_tables.specs.WireTables.{world_given};
 ghost use Rattle.view_check.specs.declared.fault.CheckFault.TheVariants.{Memory};
 ghost use Rattle.refusal_text.specs.Lines.{view_line};
 ghost use Rattle.job_walk.specs.Verdict.{Ends, refused};
-ghost use Rattle.job_walk.specs.JobOf.{PlanAt};
-ghost use Rattle.job_walk.specs.Reads.{ReadsAs, WalksAs, StopsBy};
-ghost use Rattle.job_walk.specs.Seen.{planned_view};
+ghost use Rattle.job_walk.specs.JobReads.{ReadsPlan};
+ghost use Rattle.job_walk.specs.Reads.{WalksAs, StopsBy};
 ghost use Rattle.mpc_top.specs.Audits.{Judged};
 ghost use Rattle.mpc_top.specs.Stops.{RunsAlone};
 
@@ -52,7 +51,7 @@ fn audit_planned<F: Files, O: Sink>(
 ) -> Result<(), Stop>
     requires names { length planned.now.names ≡ planned.now.plan.parties }
     ensures { (before : FilesReading)
-        → ReadsAs planned_view (λ contents. PlanAt contents dir.now None) before (F.reading files.old) (Ok planned.now)
+        → ReadsPlan dir.now None before (F.reading files.old) (Ok planned.now)
         → RunsAlone (Some (audit dir.now)) before (F.reading files.new) (O.reading out.old) (O.reading out.new) result }
 {
     let _ = planned.plan.parties();

@@ -36,10 +36,10 @@ where
         (outside_of (F.reading files.old) (O.reading out.old) err (N.reading net.old) (W.reading spawner.old))
         (outside_of (F.reading files.new) (O.reading out.new) err' (N.reading net.new) (W.reading spawner.new)) result }
 {
-    let Ok(command) = read_command(words) else {
-        return Err(Stop::Words);
-    };
-    run_command(rt, alloc, files, out, net, spawner, pace, command)
+    match read_command(words) {
+        Ok(command) => run_command(rt, alloc, files, out, net, spawner, pace, command),
+        Err(_) => Err(Stop::Words),
+    }
 }
 
 // The exit status of a run, of which `err` is told where it stopped.

@@ -1,8 +1,9 @@
 //! The file of other inputs.
-ghost use Rattle.std.specs.Prelude.{◌≡◌, IfOk, length};
+ghost use Rattle.std.specs.Prelude.{◌≡◌, [], ◌∷◌, IfOk, length};
 ghost use Rattle.job_plan.specs.InputWords.{AreInputs};
 ghost use Rattle.other_file.specs.Table.{other_in};
 ghost use Rattle.refusal_text.specs.Lines.{other_line};
+ghost use Rattle.job_walk.specs.Names.{other_file};
 ghost use Rattle.job_walk.specs.Verdict.{Ends, verdict_of};
 ghost use Rattle.mpc_top.specs.WholeJobs.{OtherAt};
 ghost use Rattle.job_walk.specs.Reads.{ReadsAs, WalksAs};
@@ -26,7 +27,7 @@ pub(crate) fn read_other_inputs<F: Files>(
 ) -> Result<Inputs, Stop>
     requires names { length names.now ≡ plan.now.parties }
     requires inputs { AreInputs plan.now inputs.now }
-    ensures reads { ReadsAs (λ other. other)
+    ensures reads { ReadsAs dir.now (other_file ∷ []) (λ other. other)
         (λ contents. OtherAt contents dir.now plan.now names.now inputs.now)
         (F.reading files.old) (F.reading files.new) result }
     ensures fits { IfOk result (AreInputs plan.now) }

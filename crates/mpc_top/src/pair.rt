@@ -13,8 +13,8 @@ ghost use Rattle.refusal_text.specs.Lines.{pair_line};
 ghost use Rattle.job_walk.specs.Verdict.{Ends, refused};
 ghost use Rattle.mpc_top.specs.WholeJobs.{PairedJob, hidden_of, paired_job, whole_job};
 ghost use Rattle.outer_io.specs.Files.{FilesReading};
-ghost use Rattle.job_walk.specs.JobOf.{PlanAt};
-ghost use Rattle.job_walk.specs.Reads.{ReadsAs, WalksAs, StopsBy};
+ghost use Rattle.job_walk.specs.JobReads.{ReadsPlan};
+ghost use Rattle.job_walk.specs.Reads.{WalksAs, StopsBy};
 ghost use Rattle.job_walk.specs.Seen.{planned_view};
 ghost use Rattle.mpc_top.specs.Seen.{parties_view};
 ghost use Rattle.mpc_top.specs.Stops.{RunsAlone};
@@ -69,8 +69,7 @@ fn run_planned<F: Files, O: Sink, P: Pace, R: Threads + Sync>(
     requires asked { is_some planned.now.group ≡ true }
     requires group { IfSome planned.now.group (λ group. group.parties ≡ length planned.now.names) }
     ensures { (group : List ℕ) (before : FilesReading)
-        → ReadsAs planned_view (λ contents. PlanAt contents dir.now (Some group)) before (F.reading files.old)
-        (Ok planned.now)
+        → ReadsPlan dir.now (Some group) before (F.reading files.old) (Ok planned.now)
         → RunsAlone (Some (pair dir.now group)) before (F.reading files.new)
         (O.reading out.old) (O.reading out.new) result }
 {

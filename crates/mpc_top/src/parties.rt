@@ -2,6 +2,7 @@
 ghost use Rattle.std.specs.Prelude.{◌≡◌, [], IfOk, length};
 ghost use Rattle.job_run.specs.Parties.{AllFit};
 ghost use Rattle.job_walk.specs.JobOf.{PartiesAfter};
+ghost use Rattle.job_walk.specs.FilesAsked.{party_files};
 ghost use Rattle.job_walk.specs.Reads.{ReadsAs};
 ghost use Rattle.mpc_top.specs.Seen.{parties_view};
 
@@ -21,7 +22,7 @@ pub(crate) fn read_parties<F: Files>(
     plan: &Plan,
 ) -> Result<Vec<PartyData>, Stop>
     requires { length names.now ≡ plan.now.parties }
-    ensures reads { ReadsAs parties_view
+    ensures reads { ReadsAs dir.now (party_files names.now) parties_view
         (λ contents. PartiesAfter contents dir.now plan.now [] names.now)
         (F.reading files.old) (F.reading files.new) result }
     ensures count { IfOk result (λ parties. length parties.items ≡ plan.now.parties) }

@@ -3,9 +3,8 @@ ghost use Rattle.std.specs.Prelude.{◌≡◌, ℕ, List, length, Option, Some, 
 ghost use Rattle.outer_io.specs.Files.{FilesReading};
 ghost use Rattle.outer_io.specs.Sink.{SinkReading};
 ghost use Rattle.command_words.specs.Commands.{form_of, run, check, IsInRange};
-ghost use Rattle.job_walk.specs.JobOf.{PlanAt};
-ghost use Rattle.job_walk.specs.Reads.{ReadsAs};
-ghost use Rattle.job_walk.specs.Seen.{text_view, planned_view};
+ghost use Rattle.job_walk.specs.JobReads.{ReadsPlan};
+ghost use Rattle.job_walk.specs.Seen.{text_view};
 ghost use Rattle.mpc_top.specs.Due.{IsAlone};
 ghost use Rattle.mpc_top.specs.Outside.{outside_of};
 ghost use Rattle.mpc_top.specs.Stops.{Runs, RunsAlone};
@@ -123,7 +122,7 @@ fn run_planned<F: Files, O: Sink, P: Pace, R: Threads + Sync>(
     requires names { length planned.now.names ≡ planned.now.plan.parties }
     requires group { IfSome planned.now.group (λ group. group.parties ≡ length planned.now.names) }
     ensures { (view : Option (List ℕ)) (before : FilesReading)
-        → ReadsAs planned_view (λ contents. PlanAt contents dir.now view) before (F.reading files.old) (Ok planned.now)
+        → ReadsPlan dir.now view before (F.reading files.old) (Ok planned.now)
         → RunsAlone (Some (run dir.now workers view)) before (F.reading files.new)
         (O.reading out.old) (O.reading out.new) result }
 {

@@ -8,5 +8,6 @@ mod HiddenPairs
 mod NodeWorlds
 mod ToleratedGroups
 mod Headline
+mod FilesRead
 mod Statuses
 mod CallsInARow

@@ -6,6 +6,7 @@ ghost use Rattle.walk_laws.specs.Tolerated.{JobsTolerateAsWritten, NodesTolerate
 ghost use Rattle.walk_laws.specs.Headline.{JobsKeepTheHeadline};
 ghost use Rattle.walk_laws.specs.Expressions.{RunsWriteValues};
 ghost use Rattle.walk_laws.specs.WrittenViews.{WrittenViewsAreAudited};
+ghost use Rattle.walk_laws.specs.FilesRead.{CallsReadTheirFiles};
 ghost use Rattle.walk_laws.specs.Statuses.{StatusesSay};
 ghost use Rattle.walk_laws.specs.InARow.{AreBothGiven, HaveOneStatus};
 
@@ -18,6 +19,12 @@ pub fn each_call_is_due_one_verdict()
 /// What each status of the top call says by itself.
 pub fn each_status_says_why()
     ensures { StatusesSay }
+{}
+
+/// Over files that tell, a call that was done asked for the files of the job that the job's file has, one after another,
+/// and for no others.
+pub fn a_call_reads_the_files_of_its_job()
+    ensures { CallsReadTheirFiles }
 {}
 
 /// Of two calls in a row over a steady outside, both give the texts that they are due over the files as they were

@@ -1,4 +1,4 @@
-use Rattle.std.proofs.Common.{◌≡◌, ℕ, List, map, sym, ap, ◌∙◌, subst, Result, refl}
+use Rattle.std.proofs.Common.{◌≡◌, ℕ, List, [], ◌∷◌, None, map, sym, ap, ◌∙◌, subst, Result, refl}
 use Rattle.std.specs.Global.{Vec}
 use Rattle.std.specs.List.{concat}
 use Rattle.job_plan.specs.InputWords.{session_words}
@@ -14,7 +14,10 @@ use Rattle.pair_run.proofs.PairWorlds.{parties_whole, world_is}
 use Rattle.command_words.specs.Commands.{audit}
 use Rattle.job_walk.specs.declared.stop.Stop.{Stop}
 use Rattle.job_walk.specs.Reads.{WalksAs}
-use Rattle.job_walk.proofs.Steps.{keeps_then}
+use Rattle.job_walk.specs.Names.{view_file}
+use Rattle.job_walk.proofs.JobFiles.{of_job}
+use Rattle.mpc_top.proofs.FilesRead.{first_parties, first_more, all_more}
+use Rattle.mpc_top.proofs.Jobs.{job_read}
 use Rattle.mpc_top.specs.Audits.{Judged}
 use Rattle.mpc_top.proofs.Runs.{as_text, runs_stop, runs_memory, runs_written, runs_cut}
 use Rattle.mpc_top.proofs.Audits.{parties_stop, text_stops, judging_stops, yes_read}
@@ -37,26 +40,30 @@ same_world plan parties copied drawn inputs tapes shown c d s i t =
 
 pub returns-in_err-parties : goal.returns-in_err-parties
 returns-in_err-parties g c = λ before read.
-    runs_stop (audit c.args.dir.now) _ _ _ _ as_text _ _ c.from_residual.ensures.1 refl refl
-    (parties_stop c.args.dir.now c.args.planned.now _ _ read _ _ c.in_err-parties.ensures.reads)
+    let p = of_job _ _ _ _ _ _ _ read in
+    let r = parties_stop c.args.dir.now c.args.planned.now _ _ p.3 _ _ c.in_err-parties.ensures.reads in
+    runs_stop (audit c.args.dir.now) _ _ _ _ as_text _ _ c.from_residual.ensures.1 refl refl (first_parties c.args.dir.now (view_file ∷ []) p.0 p.1 _ p.2 _ r) (λ name last. last) r
 
 pub inputs_of-requires-clause-fit : goal.inputs_of-requires-clause-fit
 inputs_of-requires-clause-fit g c = subst (AllFit c.args.planned.now.plan) (sym c.deref.ensures.value) c.in_ok-parties.ensures.fit
 
 pub returns-in_err-inputs : goal.returns-in_err-inputs
 returns-in_err-inputs g c = λ before read.
-    runs_memory (audit c.args.dir.now) _ _ _ _ _ c.from_residual-in_err-inputs.ensures.1 refl (c.in_ok-parties.ensures.reads.quiet ∙ read.quiet)
-    (keeps_then _ _ _ read.keeps c.in_ok-parties.ensures.reads.keeps)
+    let p = of_job _ _ _ _ _ _ _ read in
+    let j = job_read c.args.dir.now None c.args.planned.now _ _ _ p.3 c.in_ok-parties.parties c.in_ok-parties.ensures.reads in
+    runs_memory (audit c.args.dir.now) _ _ _ _ _ c.from_residual-in_err-inputs.ensures.1 refl j.quiet j.keeps (first_parties c.args.dir.now (view_file ∷ []) p.0 p.1 _ p.2 _ j)
 
 pub returns-in_err-tapes : goal.returns-in_err-tapes
 returns-in_err-tapes g c = λ before read.
-    runs_memory (audit c.args.dir.now) _ _ _ _ _ c.from_residual-in_err-tapes.ensures.1 refl (c.in_ok-parties.ensures.reads.quiet ∙ read.quiet)
-    (keeps_then _ _ _ read.keeps c.in_ok-parties.ensures.reads.keeps)
+    let p = of_job _ _ _ _ _ _ _ read in
+    let j = job_read c.args.dir.now None c.args.planned.now _ _ _ p.3 c.in_ok-parties.parties c.in_ok-parties.ensures.reads in
+    runs_memory (audit c.args.dir.now) _ _ _ _ _ c.from_residual-in_err-tapes.ensures.1 refl j.quiet j.keeps (first_parties c.args.dir.now (view_file ∷ []) p.0 p.1 _ p.2 _ j)
 
 pub returns-in_err-text : goal.returns-in_err-text
 returns-in_err-text g c = λ before read.
-    runs_stop (audit c.args.dir.now) _ _ _ _ as_text _ _ c.from_residual-in_err-text.ensures.1 refl refl
-    (text_stops c.args.dir.now c.args.planned.now _ _ read _ c.in_ok-parties.parties c.in_ok-parties.ensures.reads _ _ c.in_err-text.ensures)
+    let p = of_job _ _ _ _ _ _ _ read in
+    let r = text_stops c.args.dir.now c.args.planned.now _ _ p.3 _ c.in_ok-parties.parties c.in_ok-parties.ensures.reads _ _ c.in_err-text.ensures in
+    runs_stop (audit c.args.dir.now) _ _ _ _ as_text _ _ c.from_residual-in_err-text.ensures.1 refl refl (first_more c.args.dir.now (view_file ∷ []) p.0 p.1 _ p.2 _ r) (λ name last. last) r
 
 pub judged-requires-clause-whole : goal.judged-requires-clause-whole
 judged-requires-clause-whole g c =
@@ -68,22 +75,25 @@ pub returns-in_err-count : goal.returns-in_err-count
 returns-in_err-count g c = λ before read.
     let plan = c.args.planned.now.plan in
     let same = same_world plan c.in_ok-parties.parties.items _ _ c.in_ok-inputs.inputs c.in_ok-tapes.tapes.items _ c.deref.ensures.value c.deref-2.ensures.value c.deref-3.ensures.value c.in_ok-inputs.ensures.same c.in_ok-tapes.ensures in
-    runs_stop (audit c.args.dir.now) _ _ _ _ as_text _ _ c.from_residual-in_err-count.ensures.1 refl refl
-    (judging_stops c.args.dir.now c.args.planned.now _ _ read _ c.in_ok-parties.parties c.in_ok-parties.ensures.reads _ c.in_ok-text.text c.in_ok-text.ensures _
-    (same_judged c.args.planned.now.names _ _ _ _ _ same c.deref-4.ensures.value c.in_err-count.ensures))
+    let p = of_job _ _ _ _ _ _ _ read in
+    let r = judging_stops c.args.dir.now c.args.planned.now _ _ p.3 _ c.in_ok-parties.parties c.in_ok-parties.ensures.reads _ c.in_ok-text.text c.in_ok-text.ensures _
+    (same_judged c.args.planned.now.names _ _ _ _ _ same c.deref-4.ensures.value c.in_err-count.ensures) in
+    runs_stop (audit c.args.dir.now) _ _ _ _ as_text _ _ c.from_residual-in_err-count.ensures.1 refl refl (first_more c.args.dir.now (view_file ∷ []) p.0 p.1 _ p.2 _ r) (λ name last. last) r
 
 pub returns-in_err-write_yes : goal.returns-in_err-write_yes
 returns-in_err-write_yes g c = λ before read.
     let plan = c.args.planned.now.plan in
     let same = same_world plan c.in_ok-parties.parties.items _ _ c.in_ok-inputs.inputs c.in_ok-tapes.tapes.items _ c.deref.ensures.value c.deref-2.ensures.value c.deref-3.ensures.value c.in_ok-inputs.ensures.same c.in_ok-tapes.ensures in
-    runs_cut (audit c.args.dir.now) _ _ _ _ (yes_text c.in_ok-count.count) _ _ c.from_residual-in_err-write_yes.ensures.1 refl
-    (yes_read c.args.dir.now c.args.planned.now _ _ read _ c.in_ok-parties.parties c.in_ok-parties.ensures.reads _ c.in_ok-text.text c.in_ok-text.ensures c.in_ok-count.count
-    (same_judged c.args.planned.now.names _ _ _ _ _ same c.deref-4.ensures.value c.in_ok-count.ensures)) c.in_err-write_yes.ensures
+    let p = of_job _ _ _ _ _ _ _ read in
+    let r = yes_read c.args.dir.now c.args.planned.now _ _ p.3 _ c.in_ok-parties.parties c.in_ok-parties.ensures.reads _ c.in_ok-text.text c.in_ok-text.ensures c.in_ok-count.count
+    (same_judged c.args.planned.now.names _ _ _ _ _ same c.deref-4.ensures.value c.in_ok-count.ensures) in
+    runs_cut (audit c.args.dir.now) _ _ _ _ (yes_text c.in_ok-count.count) _ _ c.from_residual-in_err-write_yes.ensures.1 refl (all_more c.args.dir.now (view_file ∷ []) p.0 p.1 _ p.2 _ r) r c.in_err-write_yes.ensures
 
 pub returns : goal.returns
 returns g c = λ before read.
     let plan = c.args.planned.now.plan in
     let same = same_world plan c.in_ok-parties.parties.items _ _ c.in_ok-inputs.inputs c.in_ok-tapes.tapes.items _ c.deref.ensures.value c.deref-2.ensures.value c.deref-3.ensures.value c.in_ok-inputs.ensures.same c.in_ok-tapes.ensures in
-    runs_written (audit c.args.dir.now) _ _ _ _ (yes_text c.in_ok-count.count) _ refl
-    (yes_read c.args.dir.now c.args.planned.now _ _ read _ c.in_ok-parties.parties c.in_ok-parties.ensures.reads _ c.in_ok-text.text c.in_ok-text.ensures c.in_ok-count.count
-    (same_judged c.args.planned.now.names _ _ _ _ _ same c.deref-4.ensures.value c.in_ok-count.ensures)) c.in_ok-write_yes.ensures tt
+    let p = of_job _ _ _ _ _ _ _ read in
+    let r = yes_read c.args.dir.now c.args.planned.now _ _ p.3 _ c.in_ok-parties.parties c.in_ok-parties.ensures.reads _ c.in_ok-text.text c.in_ok-text.ensures c.in_ok-count.count
+    (same_judged c.args.planned.now.names _ _ _ _ _ same c.deref-4.ensures.value c.in_ok-count.ensures) in
+    runs_written (audit c.args.dir.now) _ _ _ _ (yes_text c.in_ok-count.count) _ refl (all_more c.args.dir.now (view_file ∷ []) p.0 p.1 _ p.2 _ r) r c.in_ok-write_yes.ensures tt

@@ -1,4 +1,4 @@
-use Rattle.std.proofs.Common.{ℕ, List}
+use Rattle.std.proofs.Common.{ℕ, List, []}
 use Rattle.other_file.specs.Table.{other_in}
 use Rattle.refusal_text.specs.Lines.{other_line}
 use Rattle.job_walk.specs.Verdict.{Verdict, verdict_of}
@@ -9,7 +9,7 @@ use Rattle.mpc_top.proofs.other.read_other_inputs.Goals as goal
 
 pub returns-in_err-bytes-clause-reads : goal.returns-in_err-bytes-clause-reads
 unfolding OtherAt
-returns-in_err-bytes-clause-reads g c = reads_exit _ _ _ _ _ _ _ _ c.from_residual.ensures.1 c.in_err-bytes.ensures
+returns-in_err-bytes-clause-reads g c = reads_exit _ _ _ _ [] _ _ _ _ c.from_residual.ensures.1 c.in_err-bytes.ensures
 
 pub returns-clause-reads : goal.returns-clause-reads
 unfolding OtherAt

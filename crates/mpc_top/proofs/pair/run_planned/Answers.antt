@@ -1,4 +1,4 @@
-use Rattle.std.proofs.Common.{◌≡◌, ℕ, List, Option, Some, Result, Ok, refl, sym, ap, subst, ◌∙◌, length, map}
+use Rattle.std.proofs.Common.{◌≡◌, ℕ, List, [], ◌∷◌, Option, Some, Result, Ok, refl, sym, ap, subst, ◌∙◌, length, map}
 use Rattle.std.specs.Prelude.{IfSome}
 use Rattle.std.proofs.lemmas.List.{length-map}
 use Rattle.std.specs.Global.{Vec}
@@ -18,7 +18,10 @@ use Rattle.command_words.specs.Commands.{pair}
 use Rattle.output_text.specs.PairText.{pair_text}
 use Rattle.mpc_top.specs.WholeJobs.{mask_of}
 use Rattle.mpc_top.specs.Seen.{parties_view}
-use Rattle.job_walk.proofs.Steps.{keeps_then}
+use Rattle.job_walk.specs.Names.{other_file}
+use Rattle.job_walk.proofs.JobFiles.{of_job}
+use Rattle.mpc_top.proofs.FilesRead.{first_parties, first_more, all_more}
+use Rattle.mpc_top.proofs.Jobs.{job_read}
 use Rattle.mpc_top.proofs.Runs.{as_text, runs_stop, runs_memory, runs_written, runs_cut}
 use Rattle.mpc_top.proofs.Pairs.{parties_stop, other_stops, hiding_stops, pair_read, text_read, pair_hides}
 use Rattle.mpc_top.proofs.pair.run_planned.Goals as goal
@@ -38,31 +41,35 @@ of_group asked group parties is there = subst (λ o. IfSome o (λ g. g.parties �
 
 pub returns-in_err-parties : goal.returns-in_err-parties
 returns-in_err-parties g c = λ group before read.
-    runs_stop (pair c.args.dir.now group) _ _ _ _ as_text _ _ c.from_residual.ensures.1 refl refl
-    (parties_stop c.args.dir.now group c.args.planned.now _ _ read _ _ c.in_err-parties.ensures.reads)
+    let p = of_job _ _ _ _ _ _ _ read in
+    let r = parties_stop c.args.dir.now group c.args.planned.now _ _ p.3 _ _ c.in_err-parties.ensures.reads in
+    runs_stop (pair c.args.dir.now group) _ _ _ _ as_text _ _ c.from_residual.ensures.1 refl refl (first_parties c.args.dir.now (other_file ∷ []) p.0 p.1 _ p.2 _ r) (λ name last. last) r
 
 pub inputs_of-requires-clause-fit : goal.inputs_of-requires-clause-fit
 inputs_of-requires-clause-fit g c = subst (AllFit c.args.planned.now.plan) (sym c.deref.ensures.value) c.in_ok-parties.ensures.fit
 
 pub returns-in_err-inputs : goal.returns-in_err-inputs
 returns-in_err-inputs g c = λ group before read.
-    runs_memory (pair c.args.dir.now group) _ _ _ _ _ c.from_residual-in_err-inputs.ensures.1 refl (c.in_ok-parties.ensures.reads.quiet ∙ read.quiet)
-    (keeps_then _ _ _ read.keeps c.in_ok-parties.ensures.reads.keeps)
+    let p = of_job _ _ _ _ _ _ _ read in
+    let j = job_read c.args.dir.now (Some group) c.args.planned.now _ _ _ p.3 c.in_ok-parties.parties c.in_ok-parties.ensures.reads in
+    runs_memory (pair c.args.dir.now group) _ _ _ _ _ c.from_residual-in_err-inputs.ensures.1 refl j.quiet j.keeps (first_parties c.args.dir.now (other_file ∷ []) p.0 p.1 _ p.2 _ j)
 
 pub returns-in_err-other : goal.returns-in_err-other
 returns-in_err-other g c = λ group before read.
-    runs_stop (pair c.args.dir.now group) _ _ _ _ as_text _ _ c.from_residual-in_err-other.ensures.1 refl refl
-    (other_stops c.args.dir.now group c.args.planned.now _ _ read _ c.in_ok-parties.parties c.in_ok-parties.ensures.reads
-    _ (same_given c.args.planned.now.plan _ _ _ c.deref.ensures.value c.in_ok-inputs.ensures.same) _ _ c.in_err-other.ensures.reads)
+    let p = of_job _ _ _ _ _ _ _ read in
+    let r = other_stops c.args.dir.now group c.args.planned.now _ _ p.3 _ c.in_ok-parties.parties c.in_ok-parties.ensures.reads
+    _ (same_given c.args.planned.now.plan _ _ _ c.deref.ensures.value c.in_ok-inputs.ensures.same) _ _ c.in_err-other.ensures.reads in
+    runs_stop (pair c.args.dir.now group) _ _ _ _ as_text _ _ c.from_residual-in_err-other.ensures.1 refl refl (first_more c.args.dir.now (other_file ∷ []) p.0 p.1 _ p.2 _ r) (λ name last. last) r
 
 pub hidden_pair-requires-clause-group : goal.hidden_pair-requires-clause-group
 hidden_pair-requires-clause-group g c = of_group _ _ _ c.group_of-group.ensures c.requires.group ∙ c.requires.names
 
 pub returns-in_err-pair : goal.returns-in_err-pair
 returns-in_err-pair g c = λ group before read.
-    runs_stop (pair c.args.dir.now group) _ _ _ _ as_text _ _ c.from_residual-in_err-pair.ensures.1 refl refl
-    (hiding_stops c.args.dir.now group c.args.planned.now _ _ read _ c.in_ok-parties.parties c.in_ok-parties.ensures.reads
-    _ (same_given c.args.planned.now.plan _ _ _ c.deref.ensures.value c.in_ok-inputs.ensures.same) _ c.in_ok-other.other c.in_ok-other.ensures.reads _ c.in_err-pair.ensures.walks)
+    let p = of_job _ _ _ _ _ _ _ read in
+    let r = hiding_stops c.args.dir.now group c.args.planned.now _ _ p.3 _ c.in_ok-parties.parties c.in_ok-parties.ensures.reads
+    _ (same_given c.args.planned.now.plan _ _ _ c.deref.ensures.value c.in_ok-inputs.ensures.same) _ c.in_ok-other.other c.in_ok-other.ensures.reads _ c.in_err-pair.ensures.walks in
+    runs_stop (pair c.args.dir.now group) _ _ _ _ as_text _ _ c.from_residual-in_err-pair.ensures.1 refl refl (first_more c.args.dir.now (other_file ∷ []) p.0 p.1 _ p.2 _ r) (λ name last. last) r
 
 pub write_pair-requires-clause-group : goal.write_pair-requires-clause-group
 write_pair-requires-clause-group g c = of_group _ _ _ c.group_of-group.ensures c.requires.group
@@ -93,13 +100,15 @@ returns-in_err-write_pair g c = λ group before read.
     let v = second_world w other c.group_of-group.result.mask in
     let written = c.in_err-write_pair.ensures w refl (c.run-first.ensures w refl made.first) v refl (c.run-second.ensures v refl made.second) (ap session_words c.deref-2.ensures.value ∙ made.tapes) in
     let same : mask_of planned.group ≡ c.group_of-group.result.mask = ap mask_of c.group_of-group.ensures in
-    runs_cut (pair c.args.dir.now group) _ _ _ _ _ _ _ c.from_residual-in_err-write_pair.ensures.1 refl
-    (text_read c.args.dir.now group planned _ _ read _ parties c.in_ok-parties.ensures.reads _ (same_given c.args.planned.now.plan _ _ _ c.deref.ensures.value c.in_ok-inputs.ensures.same) _ other c.in_ok-other.ensures.reads _ c.in_ok-pair.ensures.walks)
+    let p = of_job _ _ _ _ _ _ _ read in
+    let r = text_read c.args.dir.now group planned _ _ p.3 _ parties c.in_ok-parties.ensures.reads _ (same_given c.args.planned.now.plan _ _ _ c.deref.ensures.value c.in_ok-inputs.ensures.same) _ other c.in_ok-other.ensures.reads _ c.in_ok-pair.ensures.walks in
+    runs_cut (pair c.args.dir.now group) _ _ _ _ _ _ _ c.from_residual-in_err-write_pair.ensures.1 refl (all_more c.args.dir.now (other_file ∷ []) p.0 p.1 _ p.2 _ r) r
     (same_text planned.names w other _ _ _ _ _ same written)
 
 pub returns : goal.returns
 returns g c = λ group before read.
     let planned = c.args.planned.now in
+    let p = of_job _ _ _ _ _ _ _ read in
     let parties = c.in_ok-parties.parties in
     let other = c.in_ok-other.other in
     let w = world_of planned.plan (parties_view parties) in
@@ -109,7 +118,7 @@ returns g c = λ group before read.
     let same : mask_of planned.group ≡ c.group_of-group.result.mask = ap mask_of c.group_of-group.ensures in
     let Written = λ (text : List ℕ). Writes text (g.O.Sink.reading c.args.out.now) (g.O.Sink.reading c.write_pair.new.sink) (Ok tt) in
     let text = subst (λ k. Written (pair_text planned.names w (second_world w other k) k)) (sym same) written in
-    let text_is = text_read c.args.dir.now group planned _ _ read _ parties c.in_ok-parties.ensures.reads _ (same_given c.args.planned.now.plan _ _ _ c.deref.ensures.value c.in_ok-inputs.ensures.same) _ other c.in_ok-other.ensures.reads _ c.in_ok-pair.ensures.walks in
-    let paired = pair_read c.args.dir.now group planned _ _ read _ parties c.in_ok-parties.ensures.reads _ (same_given c.args.planned.now.plan _ _ _ c.deref.ensures.value c.in_ok-inputs.ensures.same) _ other c.in_ok-other.ensures.reads _ c.in_ok-pair.ensures.walks in
-    runs_written (pair c.args.dir.now group) _ _ _ _ _ _ refl text_is text
+    let text_is = text_read c.args.dir.now group planned _ _ p.3 _ parties c.in_ok-parties.ensures.reads _ (same_given c.args.planned.now.plan _ _ _ c.deref.ensures.value c.in_ok-inputs.ensures.same) _ other c.in_ok-other.ensures.reads _ c.in_ok-pair.ensures.walks in
+    let paired = pair_read c.args.dir.now group planned _ _ p.3 _ parties c.in_ok-parties.ensures.reads _ (same_given c.args.planned.now.plan _ _ _ c.deref.ensures.value c.in_ok-inputs.ensures.same) _ other c.in_ok-other.ensures.reads _ c.in_ok-pair.ensures.walks in
+    runs_written (pair c.args.dir.now group) _ _ _ _ _ _ refl (all_more c.args.dir.now (other_file ∷ []) p.0 p.1 _ p.2 _ text_is) text_is text
     (pair_hides Written c.args.dir.now group _ _ _ _ paired (subst (CanHide w other) (sym same) made.hides) text)

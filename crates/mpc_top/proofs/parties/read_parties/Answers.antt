@@ -3,6 +3,7 @@ use Rattle.std.proofs.lemmas.Option.{get_or_from_slice_get}
 use Rattle.party_file.specs.Forms.{form_of}
 use Rattle.job_walk.specs.JobOf.{PartiesAfter}
 use Rattle.mpc_top.specs.Seen.{parties_view}
+use Rattle.job_walk.specs.FilesAsked.{party_files}
 use Rattle.job_walk.specs.Reads.{ReadsAs}
 use Rattle.job_walk.proofs.Steps.{reads_memory}
 use Rattle.job_run.proofs.PartyForms.{fit_push}
@@ -22,8 +23,8 @@ returns-in_err-push-clause-reads g c =
 pub loop-p-init : goal.loop-p-init
 loop-p-init g c = record {
   reads = λ after result rest.
-      subst (λ ns. ReadsAs parties_view (λ m. PartiesAfter m c.args.dir.now c.args.plan.now [] ns) (g.F.Files.reading c.args.files.now) after result) (same_names c.args.names.now)
-      (subst (λ hs. ReadsAs parties_view (λ m. PartiesAfter m c.args.dir.now c.args.plan.now hs (map (λ (name : List ℕ). name) c.args.names.now)) (g.F.Files.reading c.args.files.now) after result) (ap (map form_of) c.new-parties.ensures.items) rest);
+      subst (λ ns. ReadsAs c.args.dir.now (party_files ns) parties_view (λ m. PartiesAfter m c.args.dir.now c.args.plan.now [] ns) (g.F.Files.reading c.args.files.now) after result) (same_names c.args.names.now)
+      (subst (λ hs. ReadsAs c.args.dir.now (party_files (map (λ (name : List ℕ). name) c.args.names.now)) parties_view (λ m. PartiesAfter m c.args.dir.now c.args.plan.now hs (map (λ (name : List ℕ). name) c.args.names.now)) (g.F.Files.reading c.args.files.now) after result) (ap (map form_of) c.new-parties.ensures.items) rest);
   count = ap length c.new-parties.ensures.items;
   fit = fit_none c.args.plan.now c.new-parties.result.items c.new-parties.ensures.items;
 }

@@ -1,10 +1,11 @@
-use Rattle.std.proofs.Common.{List, ℕ, Ok, refl, ◌∙◌}
+use Rattle.std.proofs.Common.{List, ℕ, [], Ok, refl}
 use Rattle.outer_io.specs.Sink.{Writes}
 use Rattle.job_run.specs.Parties.{world_of}
 use Rattle.command_words.specs.Commands.{run}
 use Rattle.output_text.specs.RunText.{run_text}
 use Rattle.mpc_top.specs.Seen.{parties_view}
-use Rattle.job_walk.proofs.Steps.{keeps_then}
+use Rattle.job_walk.proofs.JobFiles.{of_job}
+use Rattle.mpc_top.proofs.FilesRead.{first_parties, all_parties}
 use Rattle.mpc_top.proofs.Runs.{as_text, runs_stop, runs_memory, runs_written, runs_cut, run_stops_later, run_read}
 use Rattle.mpc_top.proofs.Jobs.{job_read}
 use Rattle.mpc_top.proofs.HiddenInputs.{run_hides}
@@ -12,13 +13,15 @@ use Rattle.mpc_top.proofs.run.run_planned.Goals as goal
 
 pub returns-in_err-parties : goal.returns-in_err-parties
 returns-in_err-parties g c = λ view before read.
-    runs_stop (run c.args.dir.now c.args.workers view) _ _ _ _ as_text _ _ c.from_residual.ensures.1 refl refl
-    (run_stops_later c.args.dir.now c.args.workers view c.args.planned.now _ _ _ read _ c.in_err-parties.ensures.reads)
+    let p = of_job _ _ _ _ _ _ _ read in
+    let r = run_stops_later c.args.dir.now c.args.workers view c.args.planned.now _ _ _ p.3 _ c.in_err-parties.ensures.reads in
+    runs_stop (run c.args.dir.now c.args.workers view) _ _ _ _ as_text _ _ c.from_residual.ensures.1 refl refl (first_parties c.args.dir.now [] p.0 p.1 _ p.2 _ r) (λ name last. last) r
 
 pub returns-in_err-ready : goal.returns-in_err-ready
 returns-in_err-ready g c = λ view before read.
-    runs_memory (run c.args.dir.now c.args.workers view) _ _ _ _ _ c.from_residual-in_err-ready.ensures.1 refl (c.in_ok-parties.ensures.reads.quiet ∙ read.quiet)
-    (keeps_then _ _ _ read.keeps c.in_ok-parties.ensures.reads.keeps)
+    let p = of_job _ _ _ _ _ _ _ read in
+    let j = job_read c.args.dir.now view c.args.planned.now _ _ _ p.3 c.in_ok-parties.parties c.in_ok-parties.ensures.reads in
+    runs_memory (run c.args.dir.now c.args.workers view) _ _ _ _ _ c.from_residual-in_err-ready.ensures.1 refl j.quiet j.keeps (first_parties c.args.dir.now [] p.0 p.1 _ p.2 _ j)
 
 pub write_run-requires-clause-over : goal.write_run-requires-clause-over
 write_run-requires-clause-over g c =
@@ -28,18 +31,20 @@ write_run-requires-clause-over g c =
 pub returns-in_err-write_run : goal.returns-in_err-write_run
 returns-in_err-write_run g c = λ view before reading.
     let planned = c.args.planned.now in
-    let read = run_read c.args.dir.now c.args.workers view planned _ _ _ reading c.in_ok-parties.parties c.in_ok-parties.ensures.reads in
+    let p = of_job _ _ _ _ _ _ _ reading in
+    let read = run_read c.args.dir.now c.args.workers view planned _ _ _ p.3 c.in_ok-parties.parties c.in_ok-parties.ensures.reads in
     let w = world_of planned.plan (parties_view c.in_ok-parties.parties) in
-    runs_cut (run c.args.dir.now c.args.workers view) _ _ _ _ (run_text planned.names w planned.group) _ _ c.from_residual-in_err-write_run.ensures.1 refl read
+    runs_cut (run c.args.dir.now c.args.workers view) _ _ _ _ (run_text planned.names w planned.group) _ _ c.from_residual-in_err-write_run.ensures.1 refl (all_parties c.args.dir.now p.0 p.1 _ p.2 _ read) read
     (c.in_err-write_run.ensures w refl (c.run-done.ensures w refl c.in_ok-ready.ensures.ready))
 
 pub returns : goal.returns
 returns g c = λ view before reading.
     let planned = c.args.planned.now in
+    let p = of_job _ _ _ _ _ _ _ reading in
     let parties = c.in_ok-parties.parties in
-    let read = run_read c.args.dir.now c.args.workers view planned _ _ _ reading parties c.in_ok-parties.ensures.reads in
+    let read = run_read c.args.dir.now c.args.workers view planned _ _ _ p.3 parties c.in_ok-parties.ensures.reads in
     let w = world_of planned.plan (parties_view parties) in
     let written = c.in_ok-write_run.ensures w refl (c.run-done.ensures w refl c.in_ok-ready.ensures.ready) in
-    runs_written (run c.args.dir.now c.args.workers view) _ _ _ _ (run_text planned.names w planned.group) _ refl read written
+    runs_written (run c.args.dir.now c.args.workers view) _ _ _ _ (run_text planned.names w planned.group) _ refl (all_parties c.args.dir.now p.0 p.1 _ p.2 _ read) read written
     (run_hides (λ (text : List ℕ). Writes text (g.O.Sink.reading c.args.out.now) (g.O.Sink.reading c.write_run.new.sink) (Ok tt)) c.args.dir.now c.args.workers view planned parties _ _ c.in_ok-ready.ensures.ready.whole
-    (job_read c.args.dir.now view planned _ _ _ reading parties c.in_ok-parties.ensures.reads) written)
+    (job_read c.args.dir.now view planned _ _ _ p.3 parties c.in_ok-parties.ensures.reads) written)
