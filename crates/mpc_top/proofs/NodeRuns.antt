@@ -30,7 +30,7 @@ use Rattle.std.specs.Global.{Vec}
 use Rattle.node_run.specs.Ready.{Share, given_words, IsNodeOf}
 use Rattle.mpc_top.specs.NodeTalks.{NodeAsked, share_of, lines_of, Talks, HearsAllQuietly}
 use Rattle.mpc_top.specs.LinkTalks.{Written, TalkedOver}
-use Rattle.mpc_top.specs.Stops.{Runs}
+use Rattle.mpc_top.specs.Stops.{RunsWords}
 use Rattle.mpc_top.proofs.Runs.{spawner_kept}
 
 abbrev pub asked_of : NodeJob → Bool → NodeAsked
@@ -77,7 +77,7 @@ module _ (dir name : List ℕ) (view : Bool) (files files' : FilesReading) (job 
   module _ {Given : Type 0} (shown : Given → LinksReading) (out : SinkReading) (net net' : NetReading) (spawner : SpawnerReading) where
     -- the net failed
     pub meets_nobody : (result : Result Given NetRefusal) → IsErrOf result refusal.Failed → Connects shown asked net net' result
-        → Runs (Some (node dir name view)) (record { files = files; out = out; err = err; net = net; spawner = spawner })
+        → RunsWords (Some (node dir name view)) (record { files = files; out = out; err = err; net = net; spawner = spawner })
         (record { files = files'; out = out; err = err'; net = net'; spawner = spawner }) (Err Net)
     meets_nobody result failed c = record {
       ok = tt;
@@ -102,7 +102,7 @@ module _ (dir name : List ℕ) (view : Bool) (files files' : FilesReading) (job 
 
     -- there was no memory for the links
     pub meets_no_memory : (why : NetRefusal) → ¬ IsErrOf {T = Given} (Err why) refusal.Failed → Connects shown asked net net' (Err why)
-        → Runs (Some (node dir name view)) (record { files = files; out = out; err = err; net = net; spawner = spawner })
+        → RunsWords (Some (node dir name view)) (record { files = files; out = out; err = err; net = net; spawner = spawner })
         (record { files = files'; out = out; err = err'; net = net'; spawner = spawner }) (Err Memory)
     meets_no_memory why not c = record {
       ok = tt;
@@ -157,13 +157,13 @@ module _ (dir name : List ℕ) (view : Bool) (files files' : FilesReading) (job 
   found : ReadsAs dir xs (as_talk view) (DueOf (node dir name view)) before.files after.files (Ok job)
   found = subst (λ f. ReadsAs dir xs (as_talk view) (DueOf (node dir name view)) f after.files (Ok job)) (sym at_files) (subst (λ f. ReadsAs dir xs (as_talk view) (DueOf (node dir name view)) files f (Ok job)) (sym at_files') (node_read dir name view files files' job read))
 
-  pub talk_done : (results : Results) (u : Unit {0}) → Talks (node_view job) before after (Ok results) → Writes (lines_of (asked_of job view) results) before.out after.out (Ok u) → Runs (Some (node dir name view)) before after (Ok u)
+  pub talk_done : (results : Results) (u : Unit {0}) → Talks (node_view job) before after (Ok results) → Writes (lines_of (asked_of job view) results) before.out after.out (Ok u) → RunsWords (Some (node dir name view)) before after (Ok u)
   talk_done results u talks w = record { ok = (talk (asked_of job view), (found.ok, (dir, name, refl), found.quiet), (results, talks, w)); hides = tt; stop = tt; asks = asks_found; asks_all = all_found; keeps = found.keeps; keeps_net = net; keeps_spawner = spawner }
 
-  pub talk_cut : (results : Results) (failed : Failed) → Talks (node_view job) before after (Ok results) → Writes (lines_of (asked_of job view) results) before.out after.out (Err failed) → Runs (Some (node dir name view)) before after (Err Out)
+  pub talk_cut : (results : Results) (failed : Failed) → Talks (node_view job) before after (Ok results) → Writes (lines_of (asked_of job view) results) before.out after.out (Err failed) → RunsWords (Some (node dir name view)) before after (Err Out)
   talk_cut results failed talks w = record { ok = tt; hides = tt; stop = (talk (asked_of job view), (found.ok, (dir, name, refl), found.quiet), (results, talks, (failed, w))); asks = asks_found; asks_all = tt; keeps = found.keeps; keeps_net = net; keeps_spawner = spawner }
 
-  pub talk_broke : (fault : NodeFault) → Talks (node_view job) before after (Err fault) → after.out ≡ before.out → Runs (Some (node dir name view)) before after (Err (Peer job.names fault))
+  pub talk_broke : (fault : NodeFault) → Talks (node_view job) before after (Err fault) → after.out ≡ before.out → RunsWords (Some (node dir name view)) before after (Err (Peer job.names fault))
   talk_broke fault talks out = record { ok = tt; hides = tt; stop = (asked_of job view, (found.ok, (dir, name, refl), found.quiet), refl, talks, out); asks = asks_found; asks_all = tt; keeps = found.keeps; keeps_net = net; keeps_spawner = spawner }
 
 -- what is ready is the share of the node that was read
@@ -187,28 +187,28 @@ module _ (dir name : List ℕ) (view : Bool) (files files' : FilesReading) (job 
 
   of_talk : (kept : LinksReading) (outcome : Result Results NodeFault) (result : Result Unit Stop) → net' ≡ record mid { kept = Some kept }
       → ((n : Node) × IsNodeOf (share_of (node_view job)) n) → ((n : Node) → IsNodeOf (share_of (node_view job)) n → node_runs.Runs n (shown links) kept spawner spawner' outcome)
-      → Written job.names (share_of (node_view job)) view outcome out out' result → Runs (Some (node dir name view)) before_talk after_talk result
+      → Written job.names (share_of (node_view job)) view outcome out out' result → RunsWords (Some (node dir name view)) before_talk after_talk result
   of_talk kept (Ok results) (Ok u) back someone run written =
       talk_done dir name view files files' job read all before_talk after_talk refl refl
       (net_keeps dir name view files files' job read all err err' parties same shown links net mid net' spawner spawner' kept c quiet_net back (Ok results) someone run out out')
       (spawner_keeps dir name view files files' job read all err err' parties same shown links net mid net' spawner spawner' kept c quiet_net back (Ok results) someone run out out')
       results u (talks dir name view files files' job read all err err' parties same shown links net mid net' spawner spawner' kept c quiet_net back (Ok results) someone run out out') written
   of_talk kept (Ok results) (Err stop) back someone run written =
-      subst (λ s. Runs (Some (node dir name view)) before_talk after_talk (Err s)) (sym written.0)
+      subst (λ s. RunsWords (Some (node dir name view)) before_talk after_talk (Err s)) (sym written.0)
       (talk_cut dir name view files files' job read all before_talk after_talk refl refl
       (net_keeps dir name view files files' job read all err err' parties same shown links net mid net' spawner spawner' kept c quiet_net back (Ok results) someone run out out')
       (spawner_keeps dir name view files files' job read all err err' parties same shown links net mid net' spawner spawner' kept c quiet_net back (Ok results) someone run out out')
       results written.1.0 (talks dir name view files files' job read all err err' parties same shown links net mid net' spawner spawner' kept c quiet_net back (Ok results) someone run out out') written.1.1)
   of_talk kept (Err fault) (Ok u) back someone run written = absurd written
   of_talk kept (Err fault) (Err stop) back someone run written =
-      subst (λ s. Runs (Some (node dir name view)) before_talk after_talk (Err s)) (sym written.0)
+      subst (λ s. RunsWords (Some (node dir name view)) before_talk after_talk (Err s)) (sym written.0)
       (talk_broke dir name view files files' job read all before_talk after_talk refl refl
       (net_keeps dir name view files files' job read all err err' parties same shown links net mid net' spawner spawner' kept c quiet_net back (Err fault) someone run out out')
       (spawner_keeps dir name view files files' job read all err err' parties same shown links net mid net' spawner spawner' kept c quiet_net back (Err fault) someone run out out')
       fault (talks dir name view files files' job read all err err' parties same shown links net mid net' spawner spawner' kept c quiet_net back (Err fault) someone run out out') written.1)
 
   pub talked : (share : Share) → share ≡ share_of (node_view job) → (result : Result Unit Stop) → TalkedOver share job.names view (shown links) mid net' spawner spawner' out out' result
-      → Runs (Some (node dir name view)) before_talk after_talk result
+      → RunsWords (Some (node dir name view)) before_talk after_talk result
   talked share is result t =
       let own = subst (λ s. TalkedOver s job.names view (shown links) mid net' spawner spawner' out out' result) is t in
       of_talk own.kept own.outcome result own.has_back own.someone own.run own.written

@@ -27,7 +27,7 @@ use Rattle.mpc_top.specs.Outside.{Outside, KeepsNet, KeepsSpawner}
 use Rattle.mpc_top.specs.Due.{Due, text, DueOf, told_to, IsDue}
 use Rattle.mpc_top.specs.FilesDue.{asking_of, AsksForAll, AsksInOrder, AsksLast}
 use Rattle.mpc_top.specs.HiddenInputs.{CommandHides}
-use Rattle.mpc_top.specs.Stops.{HasCause, Runs, RunsAlone}
+use Rattle.mpc_top.specs.Stops.{HasCause, RunsWords, RunsAlone}
 use Rattle.job_walk.specs.FilesAsked.{IsLast, party_files}
 use Rattle.job_walk.proofs.Steps.{keeps_now, reads_stop, reads_on, reads_end}
 use Rattle.mpc_top.proofs.FilesRead.{first_of_all}
@@ -152,16 +152,16 @@ module _ (dir : List ℕ) (before after : FilesReading) {xs : List (List ℕ)} w
   check_read planned r = reads_on _ _ planned_view as_text before after after planned (Ok (check_text planned.names planned.plan)) r (reads_end as_text after (check_text planned.names planned.plan))
 
 -- a run of a command, told otherwise
-pub of_command : (command other : Command) (before after : Outside) (result : Result Unit Stop) → command ≡ other → Runs (Some (form_of other)) before after result → Runs (Some (form_of command)) before after result
-of_command command other before after result is r = subst (λ c. Runs (Some (form_of c)) before after result) (sym is) r
+pub of_command : (command other : Command) (before after : Outside) (result : Result Unit Stop) → command ≡ other → RunsWords (Some (form_of other)) before after result → RunsWords (Some (form_of command)) before after result
+of_command command other before after result is r = subst (λ c. RunsWords (Some (form_of c)) before after result) (sym is) r
 
 -- a run of words that ask for a command
-pub of_words : (command other : Option CommandForm) (before after : Outside) (result : Result Unit Stop) → command ≡ other → Runs other before after result → Runs command before after result
-of_words command other before after result is r = subst (λ c. Runs c before after result) (sym is) r
+pub of_words : (command other : Option CommandForm) (before after : Outside) (result : Result Unit Stop) → command ≡ other → RunsWords other before after result → RunsWords command before after result
+of_words command other before after result is r = subst (λ c. RunsWords c before after result) (sym is) r
 
 -- words that are refused
 pub refused_words : (command : Option CommandForm) (files : FilesReading) (out err err' : SinkReading) (net : NetReading) (spawner : SpawnerReading) → command ≡ None
-    → Runs command (record { files = files; out = out; err = err; net = net; spawner = spawner }) (record { files = files; out = out; err = err'; net = net; spawner = spawner }) (Err Words)
+    → RunsWords command (record { files = files; out = out; err = err; net = net; spawner = spawner }) (record { files = files; out = out; err = err'; net = net; spawner = spawner }) (Err Words)
 refused_words command files out err err' net spawner is =
-    subst (λ c. Runs c (record { files = files; out = out; err = err; net = net; spawner = spawner }) (record { files = files; out = out; err = err'; net = net; spawner = spawner }) (Err Words)) (sym is)
+    subst (λ c. RunsWords c (record { files = files; out = out; err = err; net = net; spawner = spawner }) (record { files = files; out = out; err = err'; net = net; spawner = spawner }) (Err Words)) (sym is)
     (record { ok = tt; hides = tt; stop = (refl, refl, (refl, (refl, refl))); asks = refl; asks_all = tt; keeps = keeps_now files; keeps_net = net_kept net; keeps_spawner = spawner_kept spawner })

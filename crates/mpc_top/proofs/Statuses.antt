@@ -15,7 +15,7 @@ use Rattle.mpc_top.specs.Outside.{Outside}
 use Rattle.mpc_top.specs.Due.{Due, text, talk, IsDue}
 use Rattle.mpc_top.specs.NodeTalks.{lines_of}
 use Rattle.job_walk.specs.Stops.{status_of}
-use Rattle.mpc_top.specs.Stops.{text_of, Fulfils, CutShort, FailsAt, HasCause, Runs, Tells}
+use Rattle.mpc_top.specs.Stops.{text_of, Fulfils, CutShort, FailsAt, HasCause, RunsWords, Tells}
 use Rattle.mpc_top.specs.Command.{KeepsSink, HasRoom, Lets, IsGiven, Answers}
 use Rattle.mpc_top.proofs.SomeVerdict.{some_due}
 use Rattle.mpc_top.proofs.NodeRuns.{quiet_talk}
@@ -40,7 +40,7 @@ keeps_same sink sink' same = subst (KeepsSink sink) (sym same) (record { faults_
 
 module _ (words : List (List ℕ)) (before after : Outside) where
   abbrev RunsTo : Result Unit Stop → Type 0
-  RunsTo result = Runs (command_of words) before after result
+  RunsTo result = RunsWords (command_of words) before after result
 
   abbrev Caused : Stop → Type 0
   Caused = HasCause (command_of words) before after

@@ -12,7 +12,7 @@ use Rattle.mpc_top.specs.Due.{Due, text, talk, IsDue}
 use Rattle.mpc_top.specs.NodeTalks.{HearsAllQuietly, LetsTalk}
 use Rattle.mpc_top.specs.FilesDue.{asking_of, AsksForAll, AsksInOrder}
 use Rattle.mpc_top.specs.HiddenInputs.{CommandHides}
-use Rattle.mpc_top.specs.Stops.{Fulfils, HasCause, IsDone, Tells}
+use Rattle.mpc_top.specs.Stops.{Fulfils, HasCause, GaveDue, Tells}
 
 -- ---- the outside of a call
 
@@ -74,7 +74,7 @@ IsGiven before after status (refused due line) =
 pub record Answers (words : List (List ℕ)) (before after : Outside) (status : ℕ) : Type 0 where
   -- At 0 what words and files are due was given, and nothing was written to `err`.
   pub done : status ≡ 0
-      → IsDone (command_of words) before after
+      → GaveDue (command_of words) before after
       × (after.err ≡ before.err)
   -- At 0, what was written of the view of a tolerated group is its view with any other inputs too that leave what its
   -- members give and read; and of a pair of runs it is the same twice.

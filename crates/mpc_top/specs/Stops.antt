@@ -87,12 +87,12 @@ module _ (command : Option CommandForm) (before after : Outside) where
   HasCause Memory = IsSome command × RunsOut before after
 
   -- what is due was given
-  abbrev pub IsDone : Type 0
-  IsDone = (due : Due) × Finds (accepted due) × Fulfils due before after
+  abbrev pub GaveDue : Type 0
+  GaveDue = (due : Due) × Finds (accepted due) × Fulfils due before after
 
   -- a run of the words, before `err` is told
-  pub record Runs (result : Result Unit Stop) : Type 0 where
-    pub ok : OnOk result IsDone
+  pub record RunsWords (result : Result Unit Stop) : Type 0 where
+    pub ok : OnOk result GaveDue
     pub hides : OnOk result (CommandHides command before.files.told (λ text. Writes text before.out after.out (Ok tt)))
     pub stop : IfErr result HasCause
     pub asks : AsksInOrder (asking_of command) before.files after.files
@@ -106,7 +106,7 @@ abbrev pub RunsAlone : Option CommandForm → FilesReading → FilesReading → 
     → Result Unit Stop → Type 0
 RunsAlone command files files' out out' result =
     (err err' : SinkReading) (net : NetReading) (spawner : SpawnerReading)
-    → Runs command (outside_of files out err net spawner) (outside_of files' out' err' net spawner) result
+    → RunsWords command (outside_of files out err net spawner) (outside_of files' out' err' net spawner) result
 
 -- `err` got the text of the cause, and the status is the cause's; or it failed to take that text, and the status is 5.
 -- Where memory ran out it got nothing.

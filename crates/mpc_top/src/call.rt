@@ -6,7 +6,7 @@ ghost use Rattle.outer_io.specs.Sink.{SinkReading};
 ghost use Rattle.command_words.specs.Commands.{command_of};
 ghost use Rattle.mpc_top.specs.Due.{words_view, AsksForNode};
 ghost use Rattle.mpc_top.specs.Outside.{Outside, outside_of};
-ghost use Rattle.mpc_top.specs.Stops.{Runs};
+ghost use Rattle.mpc_top.specs.Stops.{RunsWords};
 ghost use Rattle.mpc_top.specs.Command.{Answers};
 
 use crate::run::{run_alone, run_command};
@@ -32,7 +32,7 @@ fn run<F: Files, O: Sink, N: Net, W: Spawner<LinkReader<N::In>>, P: Pace, R: Thr
 ) -> Result<(), Stop>
 where
     N::In: Drop,
-    ensures { (err err' : SinkReading) → Runs (command_of (words_view words.now))
+    ensures { (err err' : SinkReading) → RunsWords (command_of (words_view words.now))
         (outside_of (F.reading files.old) (O.reading out.old) err (N.reading net.old) (W.reading spawner.old))
         (outside_of (F.reading files.new) (O.reading out.new) err' (N.reading net.new) (W.reading spawner.new)) result }
 {
@@ -45,7 +45,7 @@ where
 // The exit status of a run, of which `err` is told where it stopped.
 fn tell<E: Sink>(err: &mut E, ended: Result<(), Stop>) -> u8
     ensures { (words : List (List ℕ)) (before after : Outside)
-        → ((e e' : SinkReading) → Runs (command_of words) (record before { err = e }) (record after { err = e' }) ended)
+        → ((e e' : SinkReading) → RunsWords (command_of words) (record before { err = e }) (record after { err = e' }) ended)
         → Answers words (record before { err = E.reading err.old }) (record after { err = E.reading err.new }) result }
 {
     match ended {
@@ -106,7 +106,7 @@ fn run_words<F: Files, O: Sink, P: Pace, R: Threads + Sync>(
         × (F.reading files.new ≡ F.reading files.old) × (O.reading out.new ≡ O.reading out.old))
         (λ ended. (¬ AsksForNode (command_of (words_view words.now)))
         × ((err err' : SinkReading) (net : NetReading) (spawner : SpawnerReading)
-        → Runs (command_of (words_view words.now))
+        → RunsWords (command_of (words_view words.now))
         (outside_of (F.reading files.old) (O.reading out.old) err net spawner)
         (outside_of (F.reading files.new) (O.reading out.new) err' net spawner) ended)) }
 {

@@ -6,7 +6,7 @@ ghost use Rattle.command_words.specs.Commands.{node};
 ghost use Rattle.node_run.specs.Ready.{IsShare};
 ghost use Rattle.mpc_top.specs.LinkTalks.{TalkedOver};
 ghost use Rattle.mpc_top.specs.Outside.{outside_of};
-ghost use Rattle.mpc_top.specs.Stops.{Runs};
+ghost use Rattle.mpc_top.specs.Stops.{RunsWords};
 
 use job_plan::Plan;
 use job_walk::{NodeJob, Stop, read_node};
@@ -67,7 +67,7 @@ pub(crate) fn run_node<F: Files, O: Sink, N: Net, W: Spawner<LinkReader<N::In>>,
 ) -> Result<(), Stop>
 where
     N::In: Drop,
-    ensures { (err err' : SinkReading) → Runs (Some (node dir.now name.now view))
+    ensures { (err err' : SinkReading) → RunsWords (Some (node dir.now name.now view))
         (outside_of (F.reading files.old) (O.reading out.old) err (N.reading net.old) (W.reading spawner.old))
         (outside_of (F.reading files.new) (O.reading out.new) err' (N.reading net.new) (W.reading spawner.new)) result }
 {

@@ -7,7 +7,7 @@ ghost use Rattle.job_walk.specs.JobReads.{ReadsPlan};
 ghost use Rattle.job_walk.specs.Seen.{text_view};
 ghost use Rattle.mpc_top.specs.Due.{IsAlone};
 ghost use Rattle.mpc_top.specs.Outside.{outside_of};
-ghost use Rattle.mpc_top.specs.Stops.{Runs, RunsAlone};
+ghost use Rattle.mpc_top.specs.Stops.{RunsWords, RunsAlone};
 
 use crate::audit::audit_job;
 use crate::node::run_node;
@@ -45,7 +45,7 @@ pub(crate) fn run_command<
 where
     N::In: Drop,
     requires { IsInRange command }
-    ensures { (err err' : SinkReading) → Runs (Some (form_of command.entry))
+    ensures { (err err' : SinkReading) → RunsWords (Some (form_of command.entry))
         (outside_of (F.reading files.old) (O.reading out.old) err (N.reading net.old) (W.reading spawner.old))
         (outside_of (F.reading files.new) (O.reading out.new) err' (N.reading net.new) (W.reading spawner.new)) result }
 {
