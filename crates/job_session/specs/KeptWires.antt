@@ -58,8 +58,8 @@ live s = greatest (session_slots s) (kept s)
 abbrev pub is_read : Session → ℕ → Bool
 is_read s w = some_below (session_slots s) (λ m. slot_reads s m w)
 
--- a row for each wire: the first for those that no slot reads, and else another than each wire has that an earlier slot sets
--- and a later one reads
+-- a row for each wire: the first for those that no slot reads, and else another than each wire has that an earlier slot
+-- sets and a later one reads
 pub record IsRowTable (s : Session) (rows : List ℕ) : Type 0 where
   pub wires : length rows ≡ s.wires
   pub below : All (λ row. row < live s + 1) rows

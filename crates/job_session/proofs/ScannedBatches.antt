@@ -1,0 +1,226 @@
+-- The batches after one slot more.
+use Rattle.std.proofs.Common.{◌≡◌, ℕ, zero, suc, ◌+◌, ◌-◌, ◌<◌, ◌≤◌, Bool, true, false, ◌&&◌, ◌||◌, List, [], ◌∷◌, ◌++◌, length, replicate, set, inl, inr, Some, None, refl, sym, ◌∙◌, ap, subst, arith, length-set, length-append}
+use Rattle.std.specs.Prelude.{nat_eq, nat_le, slice_index, slice_index_or, Option, if◌then◌else◌}
+use Rattle.std.specs.List.{list_any}
+use Rattle.std.proofs.Math.ListN.{get_or-append}
+use Rattle.std.proofs.Math.Seq.{get_or-append_right}
+use Rattle.std.proofs.lemmas.List.{get_or_default, get_or-replicate, length-replicate}
+use Rattle.std.proofs.lemmas.Bool.{cases_Bool, cases_eq, cases_lt, cond-true, cond-false, or_cases, or_left, or_right, and_parts, and_from, both_ways, eq-eqb, eqb-true, le-leb, leb-true, false≢true}
+use Rattle.list_laws.specs.Lists.{only_if}
+use Rattle.list_laws.proofs.Tests.{or_false}
+use Rattle.circuit_model.specs.declared.gate.Gate.{Gate}
+use Rattle.circuit_model.specs.Circuits.{is_product}
+use Rattle.job_session.specs.declared.batch_scan.BatchScan.{BatchScan}
+use Rattle.job_session.specs.Sessions.{Session, Slot, gate, no_gate, owners, session_slot, session_slots}
+use Rattle.job_session.specs.KeptWires.{reads_in, slot_reads}
+use Rattle.job_session.specs.SoundSessions.{IsWired}
+use Rattle.job_session.specs.Wirings.{is_named}
+use Rattle.job_session.specs.Batches.{batch, completes, slot_completes, waits, waits_for, IsBatch, AreBatchEnds}
+use Rattle.job_session.specs.BatchScans.{stamp, IsBatchScan, AreReads, IsCompleted, has_stamp}
+use Rattle.job_session.proofs.SessionSlots.{slot_input, slot_gate, slot_output, slot_cases}
+use Rattle.job_session.proofs.KeptRows.{one_wire, some_found, some_at}
+use Rattle.job_session.proofs.LastReads.{zeros_at, one_written}
+use Rattle.job_session.proofs.ScannedSlots.{same_bool}
+use Rattle.job_session.proofs.BatchOrder.{batch_within, same_batch, first_same, rising, next_begins, next_joins}
+
+-- ---- what slots complete
+
+only_one : (b : Bool) (w v : ℕ) → list_any (nat_eq w) (only_if b (v ∷ [])) ≡ (b && nat_eq w v)
+only_one true w v = or_false (nat_eq w v)
+only_one false w v = refl
+
+pub completes_within : (s : Session) (k w : ℕ) → IsWired s → k < session_slots s → slot_completes s k w ≡ true → w < s.wires
+completes_within s k w wired l = slot_cases s (λ k z. list_any (nat_eq w) (completes s z) ≡ true → w < s.wires)
+    (λ v lv e. omega (arith, one_wire v w e, lv, wired.input_wires))
+    (λ t lt e.
+    let parts = and_parts (is_product (gate s t).operation) (nat_eq w (gate s t).output) (sym (only_one (is_product (gate s t).operation) w (gate s t).output) ∙ e) in
+    omega (arith, eqb-true w (gate s t).output parts.1, wired.output t lt))
+    (λ o lo e. absurd (false≢true e))
+    k l
+
+pub gate_completes : (s : Session) (n t : ℕ) (g : Gate) (wire : Option ℕ) → t < length s.gates → n ≡ length (owners s) → g ≡ slice_index_or s.gates t g
+    → ((w : ℕ) → is_named wire w ≡ (is_product g.operation && nat_eq w g.output)) → IsCompleted s (n + t) wire
+gate_completes s n t g wire l inputs is named = record {
+  is = λ w.
+      ap (λ (k : ℕ). slot_completes s (k + t) w) inputs ∙ ap (λ (z : Slot). list_any (nat_eq w) (completes s z)) (slot_gate s t l)
+      ∙ ap (λ (h : Gate). list_any (nat_eq w) (only_if (is_product h.operation) (h.output ∷ []))) (get_or_default s.gates t no_gate g l ∙ sym is)
+      ∙ only_one (is_product g.operation) w g.output ∙ sym (named w);
+}
+
+-- ---- stamps
+
+module _ (s : Session) where
+  -- a stamp is of the batch of a slot that completes the wire
+  pub find : (k w a : ℕ) → stamp s k w ≡ suc a → (j : ℕ) × (j < k) × (slot_completes s j w ≡ true) × (batch s j ≡ a)
+  find zero w a e = absurd (omega arith)
+  find (suc k) w a e = elim (cases_Bool (slot_completes s k w)) [
+    | inl here ↦
+        let is : stamp s (suc k) w ≡ suc (batch s k) = cond-true (slot_completes s k w) (suc (batch s k)) (stamp s k w) here in
+        (k, omega arith, here, omega arith)
+    | inr not' ↦
+        let is : stamp s (suc k) w ≡ stamp s k w = cond-false (slot_completes s k w) (suc (batch s k)) (stamp s k w) not' in
+        let found = find k w a (sym is ∙ e) in
+        (found.0, omega (arith, found.1), found.2, found.3)
+  ]
+
+  -- so of none behind that of the last slot
+  stamped_most : (k w : ℕ) → stamp s (suc k) w ≤ suc (batch s k)
+  stamped_most k w = elim (cases_eq (stamp s (suc k) w) 0) [
+    | inl none ↦ omega arith
+    | inr some ↦
+        let found = find (suc k) w (stamp s (suc k) w - 1) (omega arith) in
+        let later = rising s found.0 k (omega (arith, found.1)) in
+        omega (arith, found.3)
+  ]
+
+  -- and of none before that of a slot that completes it
+  stamped_least : (k j w : ℕ) → j < k → slot_completes s j w ≡ true → batch s j < stamp s k w
+  stamped_least zero j w l e = absurd (omega arith)
+  stamped_least (suc k) j w l e = elim (cases_Bool (slot_completes s k w)) [
+    | inl here ↦
+        let is : stamp s (suc k) w ≡ suc (batch s k) = cond-true (slot_completes s k w) (suc (batch s k)) (stamp s k w) here in
+        let later = rising s j k (omega arith) in
+        omega arith
+    | inr not' ↦
+        let is : stamp s (suc k) w ≡ stamp s k w = cond-false (slot_completes s k w) (suc (batch s k)) (stamp s k w) not' in
+        elim (cases_eq j k) [
+          | inl same ↦ absurd (both_ways (slot_completes s k w) not' (subst (λ (z : ℕ). slot_completes s z w ≡ true) same e))
+          | inr other ↦ let before = stamped_least k j w (omega arith) e in omega arith
+        ]
+  ]
+
+-- ---- a slot that waits reads a wire with the stamp of the batch that is begun
+
+any_found : (f : ℕ → Bool) (xs : List ℕ) → list_any f xs ≡ true → (w : ℕ) × (list_any (nat_eq w) xs ≡ true) × (f w ≡ true)
+any_found f [] e = absurd (false≢true e)
+any_found f (x ∷ xs) e = elim (or_cases (f x) (list_any f xs) e) [
+  | inl here ↦ (x, or_left (nat_eq x x) (list_any (nat_eq x) xs) (eq-eqb x x refl), here)
+  | inr later ↦ let found = any_found f xs later in (found.0, or_right (nat_eq found.0 x) (list_any (nat_eq found.0) xs) found.1, found.2)
+]
+
+any_from : (f : ℕ → Bool) (xs : List ℕ) (w : ℕ) → list_any (nat_eq w) xs ≡ true → f w ≡ true → list_any f xs ≡ true
+any_from f [] w e passes = absurd (false≢true e)
+any_from f (x ∷ xs) w e passes = elim (or_cases (nat_eq w x) (list_any (nat_eq w) xs) e) [
+  | inl same ↦ or_left (f x) (list_any f xs) (subst (λ (z : ℕ). f z ≡ true) (eqb-true w x same) passes)
+  | inr later ↦ or_right (f x) (list_any f xs) (any_from f xs w later passes)
+]
+
+stamp_found : (o : Option ℕ) (stamps : List ℕ) (n : ℕ) → has_stamp o stamps n ≡ true → (w : ℕ) × (is_named o w ≡ true) × (slice_index stamps w ≡ n)
+stamp_found None stamps n e = absurd (false≢true e)
+stamp_found (Some w) stamps n e = (w, eq-eqb w w refl, eqb-true (slice_index stamps w) n e)
+
+stamp_from : (o : Option ℕ) (stamps : List ℕ) (n w : ℕ) → is_named o w ≡ true → slice_index stamps w ≡ n → has_stamp o stamps n ≡ true
+stamp_from None stamps n w e is = absurd (false≢true e)
+stamp_from (Some v) stamps n w e is = eq-eqb (slice_index stamps v) n (ap (slice_index stamps) (sym (eqb-true w v e)) ∙ is)
+
+abbrev either_stamped : Option ℕ → Option ℕ → List ℕ → ℕ → Bool
+either_stamped one two stamps n = has_stamp one stamps n || has_stamp two stamps n
+
+read_found : (s : Session) (k : ℕ) (one two : Option ℕ) (stamps : List ℕ) (n : ℕ) → AreReads s k one two → either_stamped one two stamps n ≡ true
+    → (w : ℕ) × (slot_reads s k w ≡ true) × (slice_index stamps w ≡ n)
+read_found s k one two stamps n reads e = elim (or_cases (has_stamp one stamps n) (has_stamp two stamps n) e) [
+  | inl first ↦ let found = stamp_found one stamps n first in (found.0, reads.are found.0 ∙ or_left (is_named one found.0) (is_named two found.0) found.1, found.2)
+  | inr second ↦ let found = stamp_found two stamps n second in (found.0, reads.are found.0 ∙ or_right (is_named one found.0) (is_named two found.0) found.1, found.2)
+]
+
+read_from : (s : Session) (k : ℕ) (one two : Option ℕ) (stamps : List ℕ) (n w : ℕ) → AreReads s k one two → slot_reads s k w ≡ true → slice_index stamps w ≡ n
+    → either_stamped one two stamps n ≡ true
+read_from s k one two stamps n w reads e is = elim (or_cases (is_named one w) (is_named two w) (sym (reads.are w) ∙ e)) [
+  | inl first ↦ or_left (has_stamp one stamps n) (has_stamp two stamps n) (stamp_from one stamps n w first is)
+  | inr second ↦ or_right (has_stamp one stamps n) (has_stamp two stamps n) (stamp_from two stamps n w second is)
+]
+
+waits_by_stamps : (s : Session) (i : ℕ) (one two : Option ℕ) (stamps : List ℕ) (n : ℕ) → AreReads s (suc i) one two → ((w : ℕ) → slice_index stamps w ≡ stamp s (suc i) w)
+    → n ≡ suc (batch s i) → either_stamped one two stamps n ≡ waits s (batch s i) (suc i)
+waits_by_stamps s i one two stamps n reads are is = same_bool (either_stamped one two stamps n) (waits s (batch s i) (suc i))
+    (λ e.
+    let read = read_found s (suc i) one two stamps n reads e in
+    let found = find s (suc i) read.0 (batch s i) (sym (are read.0) ∙ read.2 ∙ is) in
+    let from : batch s i ≤ found.0 = omega (arith, found.3, batch_within s found.0) in
+    some_at (suc i) (λ j. nat_le (batch s i) j && waits_for s (suc i) j) found.0 found.1
+    (and_from (nat_le (batch s i) found.0) (waits_for s (suc i) found.0) (le-leb (batch s i) found.0 from)
+    (any_from (slot_completes s found.0) (reads_in s (session_slot s (suc i))) read.0 read.1 found.2)))
+    (λ e.
+    let found = some_found (suc i) (λ j. nat_le (batch s i) j && waits_for s (suc i) j) e in
+    let parts = and_parts (nat_le (batch s i) found.0) (waits_for s (suc i) found.0) found.2 in
+    let read = any_found (slot_completes s found.0) (reads_in s (session_slot s (suc i))) parts.1 in
+    let later = rising s (batch s i) found.0 (leb-true (batch s i) found.0 parts.0) in
+    let same : slice_index stamps read.0 ≡ n = omega (arith, are read.0, is, later, first_same s i, stamped_most s i read.0, stamped_least s (suc i) found.0 read.0 found.1 read.2) in
+    read_from s (suc i) one two stamps n read.0 reads read.1 same)
+
+-- a slot begins a batch exactly if it reads such a wire
+pub batch_by_stamps : (s : Session) (k : ℕ) (one two : Option ℕ) (scan : BatchScan) (b : Bool) → AreReads s k one two → IsBatchScan s (k - 1) k scan
+    → b ≡ (has_stamp one scan.stamps.items (scan.first + 1) || has_stamp two scan.stamps.items (scan.first + 1))
+    → (b ≡ true → batch s k ≡ k) × (b ≡ false → batch s k ≡ batch s (k - 1))
+batch_by_stamps s zero one two scan b reads v is = (λ e. refl, λ e. refl)
+batch_by_stamps s (suc i) one two scan b reads v is =
+    let before : suc i - 1 ≡ i = omega arith in
+    let first : scan.first ≡ batch s i = v.first ∙ ap (batch s) before in
+    let waits_is : b ≡ waits s (batch s i) (suc i) = is ∙ waits_by_stamps s i one two scan.stamps.items (scan.first + 1) reads v.stamps (omega arith) in
+    (λ e. next_begins s i (sym waits_is ∙ e), λ e. next_joins s i (sym waits_is ∙ e) ∙ ap (batch s) (sym before))
+
+-- ---- one slot more
+
+-- the ends of the batch that ends before slot k
+ends_filled : (s : Session) (k : ℕ) (scan : BatchScan) (ends : List ℕ) → k ≤ session_slots s → (k < session_slots s → batch s k ≡ k) → IsBatchScan s (k - 1) k scan
+    → ends ≡ scan.ends.items ++ replicate (k - length scan.ends.items) k → (length ends ≡ k) × ((j : ℕ) → j < k → IsBatch s (batch s j) (slice_index ends j))
+ends_filled s k scan ends le begins v is =
+    let old = scan.ends.items in
+    let more = replicate (k - length old) k in
+    let i = k - 1 in
+    let within = batch_within s i in (
+      omega (arith, ap length is, length-append old more, length-replicate {A = ℕ} (k - length old) k, v.ended, within),
+      λ j l.
+          elim (cases_lt j (length old)) [
+            | inl less ↦ subst (λ (n : ℕ). IsBatch s (batch s j) n) (sym (ap (λ xs. slice_index xs j) is ∙ get_or-append old more 0 j less)) (v.ends j (omega (arith, less, v.ended)))
+            | inr past ↦
+                let here : slice_index ends j ≡ k = ap (λ xs. slice_index xs j) is ∙ get_or-append_right old more j 0 past ∙ get_or-replicate (k - length old) (j - length old) k 0 (omega arith) in
+                let same : batch s j ≡ batch s i = same_batch s j i (omega (arith, v.ended)) (omega arith) in
+                subst (λ (n : ℕ). IsBatch s (batch s j) n) (sym here) (record {
+                  some = omega (arith, batch_within s j);
+                  there = le;
+                  whole = λ m from to. same_batch s m i (omega arith) (omega arith) ∙ sym same;
+                  ends = begins;
+                })
+          ],
+    )
+
+-- slot k begins a batch
+pub batch_begins : (s : Session) (k : ℕ) (old new : BatchScan) → k < session_slots s → batch s k ≡ k → IsBatchScan s (k - 1) k old → new.first ≡ k → new.stamps.items ≡ old.stamps.items
+    → new.ends.items ≡ old.ends.items ++ replicate (k - length old.ends.items) k → IsBatchScan s k k new
+batch_begins s k old new l begins v first stamps ends =
+    let filled = ends_filled s k old new.ends.items (omega arith) (λ l. begins) v ends in
+    record {
+      first = first ∙ sym begins;
+      wires = ap length stamps ∙ v.wires;
+      stamps = λ w. ap (λ xs. slice_index xs w) stamps ∙ v.stamps w;
+      ended = filled.0 ∙ sym begins;
+      ends = λ i l. filled.1 i (omega (arith, begins, l));
+    }
+
+-- or is of that of the slot before it
+pub batch_goes_on : (s : Session) (k : ℕ) (scan : BatchScan) → batch s k ≡ batch s (k - 1) → IsBatchScan s (k - 1) k scan → IsBatchScan s k k scan
+batch_goes_on s k scan same v = record {
+  first = v.first ∙ sym same;
+  wires = v.wires;
+  stamps = v.stamps;
+  ended = v.ended ∙ sym same;
+  ends = λ i l. v.ends i (omega (arith, same, l));
+}
+
+-- ---- the last slot
+
+pub all_ends : (s : Session) (scan : BatchScan) (ends : List ℕ) → IsBatchScan s (session_slots s - 1) (session_slots s) scan
+    → ends ≡ scan.ends.items ++ replicate (session_slots s - length scan.ends.items) (session_slots s) → AreBatchEnds s ends
+all_ends s scan ends v is =
+    let filled = ends_filled s (session_slots s) scan ends (omega arith) (λ l. absurd (omega arith)) v is in
+    record { slots = filled.0; ends = filled.1 }
+
+-- ---- bounds
+
+pub few_slots : (s : Session) → IsWired s → session_slots s < 4294967295
+few_slots s wired = omega (arith, wired.wires, wired.gates, wired.input_wires, wired.output_wires)
+
+-- the same slots by other sums
+pub same_slots : (s : Session) (i j k n : ℕ) (scan : BatchScan) → i ≡ j → k ≡ n → IsBatchScan s i k scan → IsBatchScan s j n scan
+same_slots s i j k n scan a b v = subst (λ (z : ℕ). IsBatchScan s z n scan) a (subst (λ (z : ℕ). IsBatchScan s i z scan) b v)

@@ -1,0 +1,33 @@
+-- Batches that are found slot by slot.
+use Rattle.std.specs.Prelude.{◌≡◌, ℕ, zero, suc, ◌<◌, nat_eq, Bool, false, ◌||◌, if◌then◌else◌, List, length, slice_index, Option, Some, None}
+use Rattle.job_session.specs.declared.batch_scan.BatchScan.{BatchScan}
+use Rattle.job_session.specs.Sessions.{Session}
+use Rattle.job_session.specs.KeptWires.{slot_reads}
+use Rattle.job_session.specs.Batches.{batch, slot_completes, IsBatch}
+use Rattle.job_session.specs.Wirings.{is_named}
+
+-- 1 more than the first slot of the batch in which a slot before slot k last completes wire w, and 0 where none does
+abbrev pub stamp : Session → ℕ → ℕ → ℕ
+stamp s zero w = 0
+stamp s (suc k) w = if slot_completes s k w then suc (batch s k) else stamp s k w
+
+-- the batch of slot j is begun: the scan has its first slot, the ends of those before it, and the stamps before slot k
+pub record IsBatchScan (s : Session) (j k : ℕ) (scan : BatchScan) : Type 0 where
+  pub first : scan.first ≡ batch s j
+  pub wires : length scan.stamps.items ≡ s.wires
+  pub stamps : (w : ℕ) → slice_index scan.stamps.items w ≡ stamp s k w
+  pub ended : length scan.ends.items ≡ batch s j
+  pub ends : (i : ℕ) → i < batch s j → IsBatch s (batch s i) (slice_index scan.ends.items i)
+
+-- the wires that slot k reads are the one, the other, or both
+pub record AreReads (s : Session) (k : ℕ) (one two : Option ℕ) : Type 0 where
+  pub are : (w : ℕ) → slot_reads s k w ≡ (is_named one w || is_named two w)
+
+-- the wire that slot k completes, if there is one
+pub record IsCompleted (s : Session) (k : ℕ) (wire : Option ℕ) : Type 0 where
+  pub is : (w : ℕ) → slot_completes s k w ≡ is_named wire w
+
+-- the wire, if there is one, has this stamp
+abbrev pub has_stamp : Option ℕ → List ℕ → ℕ → Bool
+has_stamp None stamps n = false
+has_stamp (Some w) stamps n = nat_eq (slice_index stamps w) n

@@ -1,0 +1,173 @@
+//! The batches of a session, found slot by slot.
+ghost use Rattle.std.specs.Prelude.{◌≡◌, ℕ, IfOk, nat_eq, false, ◌&&◌};
+ghost use Rattle.circuit_model.specs.Circuits.{is_product};
+ghost use Rattle.job_session.specs.Batches.{AreBatchEnds};
+ghost use Rattle.job_session.specs.Wirings.{IsWiring, is_named, session_in};
+
+use crate::touched::read_wires;
+use crate::wiring::Wiring;
+use circuit_model::Gate;
+use std::alloc::{AllocError, Global};
+
+/// The batches so far: for each wire one more than the first slot of the batch in which it was last completed, for each
+/// slot of the batches that have ended the one behind its batch, and the first slot of the batch that is begun.
+#[derive(Drop)]
+pub(crate) struct BatchScan {
+    stamps: Vec<u32>,
+    ends: Vec<u32>,
+    first: u32,
+}
+
+impl BatchScan {
+    ghost use Rattle.std.specs.Prelude.{◌≡◌, ℕ, ◌+◌, ◌-◌, ◌<◌, ◌≤◌, true, ◌||◌, ◌++◌, IfOk, OnOk, length, replicate};
+    ghost use Rattle.job_session.specs.Sessions.{Session, session_slots};
+    ghost use Rattle.job_session.specs.Batches.{AreBatchEnds};
+    ghost use Rattle.job_session.specs.BatchScans.{AreReads, IsBatchScan, IsCompleted, has_stamp};
+    ghost use Rattle.job_session.specs.Wirings.{IsWiring, is_named, session_in};
+
+    // Before the first slot, over so many wires, with room for the ends of so many slots.
+    fn start(alloc: Global, wires: usize, slots: usize) -> Result<BatchScan, AllocError>
+        ensures { IfOk result (λ scan. (s : Session) → s.wires ≡ wires → IsBatchScan s 0 0 scan) }
+    {
+        Ok(BatchScan {
+            stamps: vec![in alloc; 0; wires]?,
+            ends: Vec::with_capacity(alloc, slots)?,
+            first: 0,
+        })
+    }
+
+    // Slot `k`, which reads these wires and completes this one.
+    #[inline(always)]
+    fn step(
+        &mut self,
+        k: u32,
+        reads: (Option<u32>, Option<u32>),
+        completes: Option<u32>,
+        wiring: &Wiring,
+    ) -> Result<(), AllocError>
+        requires wiring { IsWiring wiring.now }
+        requires slot { k < session_slots (session_in wiring.now) }
+        requires reads { AreReads (session_in wiring.now) k reads.0 reads.1 }
+        requires completes { IsCompleted (session_in wiring.now) k completes }
+        requires scan { IsBatchScan (session_in wiring.now) (k - 1) k self.old }
+        ensures { OnOk result (IsBatchScan (session_in wiring.now) k (k + 1) self.new) }
+    {
+        self.begin(k, reads, wiring)?;
+        self.complete(completes);
+        Ok(())
+    }
+
+    // Slot `k` is of the batch that is begun, unless it reads a wire that a slot of it completes: then it begins
+    // another.
+    #[inline(always)]
+    fn begin(
+        &mut self,
+        k: u32,
+        reads: (Option<u32>, Option<u32>),
+        wiring: &Wiring,
+    ) -> Result<(), AllocError>
+        requires wiring { IsWiring wiring.now }
+        requires slot { k < session_slots (session_in wiring.now) }
+        requires reads { AreReads (session_in wiring.now) k reads.0 reads.1 }
+        requires scan { IsBatchScan (session_in wiring.now) (k - 1) k self.old }
+        ensures { OnOk result (IsBatchScan (session_in wiring.now) k k self.new) }
+    {
+        let _ = wiring;
+        if self.waits(reads) {
+            self.end_batch(k)?;
+            self.first = k;
+        }
+        Ok(())
+    }
+
+    // The ends of all slots, once all are scanned.
+    fn into_ends(mut self, wiring: &Wiring) -> Result<Vec<u32>, AllocError>
+        requires wiring { IsWiring wiring.now }
+        requires scan { IsBatchScan (session_in wiring.now) (session_slots (session_in wiring.now) - 1)
+            (session_slots (session_in wiring.now)) self }
+        ensures { IfOk result (λ ends. AreBatchEnds (session_in wiring.now) ends.items) }
+    {
+        self.end_batch(wiring.slots())?;
+        Ok(self.ends)
+    }
+
+    // Whether one of these wires has the stamp of the batch that is begun.
+    fn waits(&self, reads: (Option<u32>, Option<u32>)) -> bool
+        requires first { (w : ℕ) → is_named reads.0 w ≡ true → w < length self.now.stamps.items }
+        requires second { (w : ℕ) → is_named reads.1 w ≡ true → w < length self.now.stamps.items }
+        requires few { self.now.first < 4294967295 }
+        ensures { result ≡ (has_stamp reads.0 self.now.stamps.items (self.now.first + 1)
+            || has_stamp reads.1 self.now.stamps.items (self.now.first + 1)) }
+    {
+        let (first, second) = reads;
+        self.is_stamped(first) || self.is_stamped(second)
+    }
+
+    // Whether the wire, if there is one, has the stamp of the batch that is begun.
+    fn is_stamped(&self, wire: Option<u32>) -> bool
+        requires within { (w : ℕ) → is_named wire w ≡ true → w < length self.now.stamps.items }
+        requires few { self.now.first < 4294967295 }
+        ensures { result ≡ has_stamp wire self.now.stamps.items (self.now.first + 1) }
+    {
+        match wire {
+            Some(found) => self.stamps[found as usize] == self.first + 1,
+            None => false,
+        }
+    }
+
+    // The batch that is begun ends before slot `k`.
+    fn end_batch(&mut self, k: u32) -> Result<(), AllocError>
+        requires { length self.old.ends.items ≤ k }
+        ensures ends { OnOk result (self.new.ends.items
+            ≡ self.old.ends.items ++ replicate (k - length self.old.ends.items) k) }
+        ensures stamps { self.new.stamps ≡ self.old.stamps }
+        ensures first { self.new.first ≡ self.old.first }
+    {
+        self.ends.resize(k as usize, k)
+    }
+
+    // Gives the wire, if there is one, the stamp of the batch that is begun.
+    fn complete(&mut self, wire: Option<u32>)
+        requires within { (w : ℕ) → is_named wire w ≡ true → w < length self.old.stamps.items }
+        requires few { self.old.first < 4294967295 }
+        ensures { (s : Session) (k : ℕ) → IsCompleted s k wire → IsBatchScan s k k self.old
+            → IsBatchScan s k (k + 1) self.new }
+    {
+        if let Some(found) = wire {
+            self.stamps[found as usize] = self.first + 1;
+        }
+    }
+}
+
+// The wire that a gate completes once what others post of it was taken.
+fn completed(gate: Gate) -> Option<u32>
+    ensures { (w : ℕ) → is_named result w ≡ (is_product gate.operation && nat_eq w gate.output) }
+{
+    if gate.operation.is_product() {
+        Some(gate.output)
+    } else {
+        None
+    }
+}
+
+/// For each slot the one behind the last of its batch.
+pub(crate) fn batch_ends(alloc: Global, wiring: &Wiring) -> Result<Vec<u32>, AllocError>
+    requires { IsWiring wiring.now }
+    ensures { IfOk result (λ ends. AreBatchEnds (session_in wiring.now) ends.items) }
+{
+    let mut scan = BatchScan::start(alloc, wiring.wires as usize, wiring.slots() as usize)?;
+    let inputs = wiring.owners.len() as u32;
+    let gates = wiring.gates.len() as u32;
+    for v in 0..inputs {
+        scan.step(v, (None, None), Some(v), wiring)?;
+    }
+    for t in 0..gates {
+        let gate = wiring.gates[t as usize];
+        scan.step(inputs + t, read_wires(gate), completed(gate), wiring)?;
+    }
+    for o in 0..wiring.readers.len() as u32 {
+        let read = (Some(wiring.output_wire(o)), None);
+        scan.step(inputs + gates + o, read, None, wiring)?;
+    }
+    scan.into_ends(wiring)
+}
