@@ -7,7 +7,7 @@ use Rattle.job_plan.specs.Plans.{reads, words}
 use Rattle.share_world.specs.Worlds.{World, word}
 use Rattle.share_world.specs.Laws.{IsWhole}
 use Rattle.share_world.proofs.SentWords.{opened_are_plain}
-use Rattle.share_world.proofs.SmallWords.{is_plan, is_world, small_words}
+use Rattle.share_world.proofs.SmallWords.{is_world, small_words}
 use Rattle.party_program.specs.Programs.{program}
 use Rattle.party_program.specs.States.{new_state, state}
 use Rattle.party_program.proofs.InstructionLists.{state_is, run_all}
@@ -26,7 +26,7 @@ drawn_at_end w whole s p ls lp =
     let l = given_in w s p in
     let es = program w.plan p s in
     ap (λ σ. σ.drawn) (state_is l (length es) ∙ run_all l es new_state)
-    ∙ (met w (is_plan w whole) (word w) s p ls lp (λ k i. small_words w whole s p k i)).1.drawn
+    ∙ (met w whole.sound (word w) s p ls lp (λ k i. small_words w whole s p k i)).1.drawn
 
 piece_is : (w : World) → IsWhole w → (s p : ℕ) → s < length w.plan.sessions → p < w.plan.parties → length (piece_of w p s) ≡ words w.plan p s
 piece_is w whole s p ls lp = (suits_in w whole s p ls lp).tape
@@ -60,7 +60,7 @@ module _ (w : World) (s p : ℕ) (d : Desk) (whole : IsWhole w) (h : IsDesk (giv
   pub right_now : IsRight w s p d
   right_now = record {
     delivered = λ o v e.
-        let a = opens_right w (is_plan w whole) (word w) s p h.suits.session h.suits.party (λ k i. small_words w whole s p k i) d.position o v (sym (h.memory.outputs o) ∙ e) in
+        let a = opens_right w whole.sound (word w) s p h.suits.session h.suits.party (λ k i. small_words w whole s p k i) d.position o v (sym (h.memory.outputs o) ∙ e) in
         (a.0, a.1 ∙ opened_are_plain w (is_world w whole) p s o);
     drawn = (let a = drawn_past in omega arith);
     left = h.tape ∙ drop_again past (piece_of w p s) ∙ ap (λ z. drop (z - (z - past)) (piece_of w p s)) (piece_is w whole s p h.suits.session h.suits.party) ∙ ap (λ z. drop z (piece_of w p s)) (sym drawn_past);
@@ -79,7 +79,7 @@ module _ (w : World) (s p : ℕ) (d : Desk) (whole : IsWhole w) (h : IsDesk (giv
           h.memory.outputs o
           ∙ ap (λ q. (state (given_in w s p) q).outputs o) ended
           ∙ ap (λ σ. σ.outputs o) (state_is (given_in w s p) (length (program w.plan p s)) ∙ run_all (given_in w s p) (program w.plan p s) new_state)
-          ∙ (met w (is_plan w whole) (word w) s p h.suits.session h.suits.party (λ k i. small_words w whole s p k i)).1.outputs o lo reads
+          ∙ (met w whole.sound (word w) s p h.suits.session h.suits.party (λ k i. small_words w whole s p k i)).1.outputs o lo reads
           ∙ ap Some (opened_are_plain w (is_world w whole) p s o);
       nothing_else = λ o not_read. none_there (output_at d o) o refl not_read;
       drawn = (let a = ap length tape_is in let long = piece_is w whole s p h.suits.session h.suits.party in let piece = h.piece in omega (arith, a, long, piece));

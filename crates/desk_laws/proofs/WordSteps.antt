@@ -38,7 +38,7 @@ small_of q xs k pos small = elim (cases_lt k (length xs)) [
 
 small_post : (plan : Plan) (s : ℕ) (d : Desk) (z : Slot) (i : ℕ) → IsMemoryOf plan s d.memory → posted_on_rows (row_of d.memory) (session plan s) z i (state_of (length plan.groups) d.memory) < 2 ^ plan.bits
 small_post plan s d (Input v) i h = small_of (2 ^ plan.bits) d.memory.rows.items _ (pow_pos plan.bits) h.small_rows
-small_post plan s d (At_gate t) i h = small_of (2 ^ plan.bits) d.memory.sums.items _ (pow_pos plan.bits) h.small_sums
+small_post plan s d (At_gate t) i h = small_of (2 ^ plan.bits) d.memory.rows.items _ (pow_pos plan.bits) h.small_rows
 small_post plan s d (Output o) i h = small_of (2 ^ plan.bits) d.memory.rows.items _ (pow_pos plan.bits) h.small_rows
 
 module _ (l : Given) (d : Desk) (is_desk : IsDesk l d) where

@@ -45,7 +45,8 @@ where
 // The exit status of a run, of which `err` is told where it stopped.
 fn tell<E: Sink>(err: &mut E, ended: Result<(), Stop>) -> u8
     ensures { (words : List (List ℕ)) (before after : Outside)
-        → ((e e' : SinkReading) → RunsWords (command_of words) (record before { err = e }) (record after { err = e' }) ended)
+        → ((e e' : SinkReading)
+        → RunsWords (command_of words) (record before { err = e }) (record after { err = e' }) ended)
         → Answers words (record before { err = E.reading err.old }) (record after { err = E.reading err.new }) result }
 {
     match ended {

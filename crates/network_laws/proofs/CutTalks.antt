@@ -6,22 +6,21 @@ use Rattle.std.proofs.lemmas.Bool.{cases_eq, cases_lt, cond-true, cond-false, eq
 use Rattle.std.proofs.lemmas.List.{take-append-drop, length-take-le}
 use Rattle.std.proofs.Math.ListN.{get_or-append}
 use mathlib.Core.Logic.{inl as left', inr as right'}
-use Rattle.list_laws.specs.Lists.{joined}
 use Rattle.job_plan.specs.Plans.{Plan}
 use Rattle.job_plan.specs.declared.key.Key.{Key}
 use Rattle.job_plan.specs.Messages.{messages}
-use Rattle.job_plan.specs.Numbers.{message, no_key}
-use Rattle.job_plan.proofs.DistinctMessages.{every_place}
+use Rattle.job_plan.specs.Numbers.{message, no_key, number}
+use Rattle.job_plan.proofs.DistinctMessages.{every_place, number_of_message}
 use Rattle.share_world.specs.Worlds.{World, word}
 use Rattle.share_world.specs.Locals.{local_word}
 use Rattle.share_world.proofs.SmallWords.{small_word}
-use Rattle.party_program.specs.declared.program.Instruction.{Instruction}
-use Rattle.party_program.specs.declared.program.Instruction.TheVariants.{Take, End}
-use Rattle.party_program.specs.Programs.{program, at, slot_program}
+use Rattle.party_program.specs.declared.program.Instruction.TheVariants.{Post, Take, End}
+use Rattle.party_program.specs.Programs.{program, at}
 use Rattle.program_laws.specs.Parts.{IsPart}
 use Rattle.program_laws.proofs.OncePosted.{once}
 use Rattle.program_laws.proofs.PartLaws.{part_of}
-use Rattle.program_laws.proofs.RightWords.{own_words}
+use Rattle.program_laws.proofs.Ranks.{batches_post_first}
+use Rattle.network_laws.proofs.EarlierTakes.{posts_world}
 use Rattle.std.proofs.lemmas.List.{get_or_past}
 use Rattle.outer_io.specs.Sink.{added, AddedPrefix}
 use Rattle.frame_code.specs.Frames.{hello, frame}
@@ -35,7 +34,7 @@ use Rattle.node_talk.proofs.PassedLists.{every_from_places, take_place}
 use Rattle.node_talk.proofs.MessageOrder.{posts_are_all, gather_prefix}
 use Rattle.node_talk.proofs.Frames.{stream_length, strip, small_64}
 use Rattle.node_talk.proofs.ExpectedPlaces.{placed, Expected, expected_there, between_parties}
-use Rattle.node_talk.proofs.ActPlaces.{joined_within, before_session, at_act, within_acts, posted_there}
+use Rattle.node_talk.proofs.ActPlaces.{before_session, at_act, within_acts, posted_there, taken_there}
 use Rattle.node_talk.proofs.RightRuns.{is_of_world}
 use Rattle.node_talk.proofs.KeptViews.{own_view}
 use Rattle.network_laws.specs.Networks.{Network, node, RanThrough, IsNetwork, SaysWorld, IsRight}
@@ -121,34 +120,23 @@ module _ (net : Network) (h : IsNetwork net) where
   RightBelow N =
       (p q : ℕ) (lp : p < plan.parties) (lq : q < plan.parties) (ne : p ≢ q) (f : ℕ) (word' : Key → ℕ) → IsRun (node net q) p (h.pipes p q lp lq ne).held f word' → (j : ℕ) → j < f → (key_at p q j).slot < N → word' (key_at p q j) ≡ word w (key_at p q j)
 
-  -- the messages posted before the take of message m in its session stand in no later slot of it
-  posts_earlier : (p q : ℕ) (lp : p < plan.parties) (m N : ℕ) (lm : m < length (messages plan)) → (message plan m).receiver ≡ p → (message plan m).slot < N
-      → (u : ℕ) → u ≡ (once plan m lm).taken.position → u ≤ length (program plan p (message plan m).session)
-      → AllByRecursion (λ key. key.session ≡ (message plan m).session → key.slot < N) (posts_to (node net p) q (before_session (node net p) (message plan m).session + u))
-  posts_earlier p q lp m N lm mine below u here lu =
-      let s : ℕ = (message plan m).session in
+  -- message m is none of those that p posted before its post
+  not_yet : (p q : ℕ) (lp : p < plan.parties) (m u : ℕ) (lm : m < length (messages plan)) → u ≤ (once plan m lm).posted.position → u ≤ length (program plan p (message plan m).session)
+      → AllByRecursion (λ key. key ≡ message plan m → ⊥) (posts_to (node net p) q (before_session (node net p) (message plan m).session + u))
+  not_yet p q lp m u lm late lu =
       let o = once plan m lm in
-      posted_before (node net p) q s u (λ key. key.session ≡ s → key.slot < N) o.session_there lu (λ t v m' i' lt before e same.
+      posted_before (node net p) q (message plan m).session u (λ key. key ≡ message plan m → ⊥) o.session_there lu (λ t v m' i' lt before e same.
       let g = posted_there w p (part p lp) t lt v m' i' e in
-      let o' = once plan m' g.0 in
-      let a = o'.posted.alone p t v i' e in
-      let t_is : t ≡ s = a.1 ∙ same in
-      let less : v < u = ⊎_elim (λ b. absurd (omega arith)) (λ b. b.1) before in
-      let parts : ℕ → List Instruction = slot_program plan p s in
-      let from : length (joined (message plan m').slot parts) ≤ v =
-      subst (λ z. length (joined (message plan m').slot parts) ≤ z) (sym a.2) (subst (λ z. length (joined (message plan m').slot (slot_program plan p z)) ≤ o'.posted.position) same (subst (λ z. length (joined (message plan m').slot (slot_program plan z (message plan m').session)) ≤ o'.posted.position) (sym a.0) o'.posted.in_slot.0)) in
-      let to : u < length (joined (suc (message plan m).slot) parts) = subst (λ z. z < length (joined (suc (message plan m).slot) parts)) (sym here) (subst (λ z. o.taken.position < length (joined (suc (message plan m).slot) (slot_program plan z s))) mine o.taken.in_slot.1) in
-      elim (cases_lt (message plan m').slot N) [
-        | left' l ↦ l
-        | right' past ↦ absurd (let c = joined_within parts (suc (message plan m).slot) (message plan m').slot (omega arith) in omega arith)
-      ])
+      let one : m' ≡ m = sym (number_of_message plan m' g.0) ∙ ap (number plan) same ∙ number_of_message plan m lm in
+      let a = o.posted.alone p t v i' (subst (λ z. at (program plan p t) v ≡ Post z i') one e) in
+      ⊎_elim (λ b. omega (arith, b, a.1)) (λ b. omega (arith, b.1, a.2, late)) before)
 
-  -- what was said before a take is shorter than a frame that is posted after it
-  too_late : (p q : ℕ) (lp : p < plan.parties) (lq : q < plan.parties) (ne : p ≢ q) (N j m : ℕ) (lm : m < length (messages plan)) → j < length (keys p q) → (key_at p q j).slot ≡ N → (key_at p q j).session ≡ (message plan m).session
-      → 38 + 18 * j < length (taken p q lp lq ne) → (message plan m).receiver ≡ p → (message plan m).slot < N
-      → (u : ℕ) → u ≡ (once plan m lm).taken.position → u ≤ length (program plan p (message plan m).session) → before_session (node net p) (message plan m).session + u < length (acts (node net p))
+  -- what was said before a position is shorter than a frame that is posted there or later
+  too_late : (p q : ℕ) (lp : p < plan.parties) (lq : q < plan.parties) (ne : p ≢ q) (j m u : ℕ) (lm : m < length (messages plan)) → j < length (keys p q) → message plan m ≡ key_at p q j
+      → 38 + 18 * j < length (taken p q lp lq ne) → u ≤ (once plan m lm).posted.position → u ≤ length (program plan p (message plan m).session)
+      → before_session (node net p) (message plan m).session + u < length (acts (node net p))
       → AddedPrefix (out_to (node net p) (net.before p) q).told (said (node net p) q (own p) (before_session (node net p) (message plan m).session + u)) (out_to (node net p) (net.after p) q).told → ⊥
-  too_late p q lp lq ne N j m lm lj slot_is session_is long mine below u here lu lk cut =
+  too_late p q lp lq ne j m u lm lj is long late lu lk cut =
       let n : Node = node net p in
       let k : ℕ = before_session n (message plan m).session + u in
       let posts : List Key = posts_to n q k in
@@ -160,58 +148,64 @@ module _ (net : Network) (h : IsNetwork net) where
       let r = gather_prefix (post_to plan q) (acts n) k (length (acts n)) (omega arith) in
       let split : keys p q ≡ posts ++ r.0 = sym (posts_are_all n q) ∙ r.1 in
       let place : slice_index_or posts j no_key ≡ key_at p q j = sym (ap (λ z. slice_index_or z j no_key) split ∙ get_or-append posts r.0 no_key j inside') in
-      let less : (slice_index_or posts j no_key).slot < N =
-      every_place (λ key. key.session ≡ (message plan m).session → key.slot < N) posts j no_key (posts_earlier p q lp m N lm mine below u here lu) inside' (ap (λ z. z.session) place ∙ session_is) in
-      absurd (let e : (slice_index_or posts j no_key).slot ≡ N = ap (λ z. z.slot) place ∙ slot_is in omega arith)
+      every_place (λ key. key ≡ message plan m → ⊥) posts j no_key (not_yet p q lp m u lm late lu) inside' (place ∙ sym is)
 
   own_right : (N : ℕ) → RightBelow N → (p q : ℕ) (lp : p < plan.parties) (lq : q < plan.parties) (ne : p ≢ q) (j : ℕ) → j < length (keys p q) → (key_at p q j).slot ≡ N
       → 38 + 18 * j < length (taken p q lp lq ne) → own p (key_at p q j) ≡ word w (key_at p q j)
   own_right N below p q lp lq ne j lj slot_is long =
       let x : Expected (node net q) p j = expected_there (node net q) p j lj in
-      let m : ℕ = x.number in
-      let is : message plan m ≡ key_at p q j = x.same in
-      let s : ℕ = (message plan m).session in
-      let bound : ℕ → ℕ = λ z. if nat_eq z s then N else 0 in
-      let earlier : AllByRecursion (λ key. key.receiver ≡ p → key.slot < bound key.session → got p key ≡ word w key) (messages plan) =
-      every_from_places (λ key. key.receiver ≡ p → key.slot < bound key.session → got p key ≡ word w key) (messages plan) no_key (λ m' lm' to before. got_before m' lm' m is to (within_bound (message plan m').session s (message plan m').slot before)) in
-      let right : own p (message plan m) ≡ word w (message plan m) =
-      every_place (λ key. key.sender ≡ p → key.slot ≤ bound key.session → local_word w (got p) p key ≡ word w key) (messages plan) m no_key (own_words w h.whole p lp (got p) bound earlier) x.there x.sender
-      (let b : bound s ≡ N = cond-true (nat_eq s s) N 0 (eq-eqb s s refl) in let e : (message plan m).slot ≡ N = ap (λ z. z.slot) is ∙ slot_is in omega arith) in
-      subst (λ z. own p z ≡ word w z) is right
+      let is : message plan x.number ≡ key_at p q j = x.same in
+      subst (λ z. own p z ≡ word w z) is (posts_world w h.whole session' p (once plan x.number x.there).session_there lp (got p) x.number (message plan x.number).share position stands got_before)
     where
-      within_bound : (a s x : ℕ) → x < (if nat_eq a s then N else 0) → (a ≡ s) × (x < N)
-      within_bound a s x l = elim (cases_eq a s) [
-        | left' e ↦ (e, subst (λ z. x < z) (cond-true (nat_eq a s) N 0 (eq-eqb a s e)) l)
-        | right' no' ↦ absurd (let f : x < 0 = subst (λ z. x < z) (cond-false (nat_eq a s) N 0 (ne_eqb a s no')) l in omega arith)
-      ]
+      m : ℕ
+      m = (expected_there (node net q) p j lj).number
 
-      got_before : (m' : ℕ) → m' < length (messages plan) → (m : ℕ) → message plan m ≡ key_at p q j → (message plan m').receiver ≡ p → ((message plan m').session ≡ (message plan m).session) × ((message plan m').slot < N) → got p (message plan m') ≡ word w (message plan m')
-      got_before m' lm' m is to early =
+      lm : m < length (messages plan)
+      lm = (expected_there (node net q) p j lj).there
+
+      session' : ℕ
+      session' = (message plan m).session
+
+      position : ℕ
+      position = (once plan m lm).posted.position
+
+      stands : at (program plan p session') position ≡ Post m (message plan m).share
+      stands = ap (λ z. at (program plan z session') position) (sym (expected_there (node net q) p j lj).sender) ∙ (once plan m lm).posted.stands
+
+      slot_here : (message plan m).slot ≡ N
+      slot_here = ap (λ z. z.slot) (expected_there (node net q) p j lj).same ∙ slot_is
+
+      -- what p took before the post is the world's
+      got_before : (r m' i : ℕ) → r < position → at (program plan p session') r ≡ Take m' i → got p (message plan m') ≡ word w (message plan m')
+      got_before r m' i less takes' =
           let n : Node = node net p in
+          let ls = (once plan m lm).session_there in
+          let there = taken_there w p (part p lp) session' ls r m' i takes' in
           let key : Key = message plan m' in
-          let b = between_parties n (part p lp) m' lm' in
-          let r : ℕ = key.sender in
-          let apart : r ≢ p = (λ e. b.apart (e ∙ sym to)) in
-          let pipe = h.pipes r p b.sender lp apart in
-          let place = placed n m' lm' to in
+          let b = between_parties n (part p lp) m' there.0 in
+          let r' : ℕ = key.sender in
+          let apart : r' ≢ p = (λ e. b.apart (e ∙ sym there.1)) in
+          let pipe = h.pipes r' p b.sender lp apart in
+          let place = placed n m' there.0 there.1 in
           let x = broke p lp in
-          elim (cases_lt (place_of n m') (x.came r)) [
+          let early : key.slot < N = elim (cases_lt key.slot N) [
+            | left' l ↦ l
+            | right' past ↦ absurd (let first = (batches_post_first plan h.whole.sound session' p ls).order position r m (message plan m).share m' i stands takes' (let z = slot_here in omega (arith, z, past)) in omega (arith, first, less))
+          ] in
+          elim (cases_lt (place_of n m') (x.came r')) [
             -- it came, and stands in the bytes
             | left' came ↦
-                let run = x.hears r (b.sender, apart) pipe.held pipe.inlet (omega arith) in
-                let slot_below : (key_at r p (place_of n m')).slot < N = subst (λ z. z.slot < N) (sym place.1) early.1 in
-                subst (λ z. got p z ≡ word w z) place.1 (below r p b.sender lp apart (x.came r) (got p) run (place_of n m') came slot_below)
+                let run = x.hears r' (b.sender, apart) pipe.held pipe.inlet (omega arith) in
+                let slot_below : (key_at r' p (place_of n m')).slot < N = subst (λ z. z.slot < N) (sym place.1) early in
+                subst (λ z. got p z ≡ word w z) place.1 (below r' p b.sender lp apart (x.came r') (got p) run (place_of n m') came slot_below)
             -- it didn't come, and what is posted after its take wasn't said
             | right' none ↦ absurd (
-                let o = once plan m' lm' in
-                let u : ℕ = o.taken.position in
-                let takes' : at (program plan p key.session) u ≡ Take m' key.share = ap (λ z. at (program plan z key.session) u) (sym to) ∙ o.taken.stands in
-                let less : u < length (program plan p key.session) = inside u takes' in
-                let k : ℕ = before_session n key.session + u in
-                let lk : k < length (acts n) = (let a = within_acts n key.session (suc u) o.session_there (omega arith) in omega arith) in
-                let stands : at (acts n) k ≡ Take m' key.share = at_act n key.session u o.session_there less ∙ takes' in
-                let stopped : x.k ≤ k = not_taken x.k k (λ l. let came : place_of n m' < x.came r = x.takes k m' key.share l stands in absurd (omega arith)) in
-                too_late p q lp lq ne N j m' lm' lj slot_is (sym (ap (λ z. z.session) is) ∙ sym early.0) long to early.1 u refl (omega arith) lk
+                let within : r < length (program plan p session') = inside r takes' in
+                let k : ℕ = before_session n session' + r in
+                let lk : k < length (acts n) = (let a = within_acts n session' (suc r) ls (omega arith) in omega arith) in
+                let at_k : at (acts n) k ≡ Take m' i = at_act n session' r ls within ∙ takes' in
+                let stopped : x.k ≤ k = not_taken x.k k (λ l. let came : place_of n m' < x.came r' = x.takes k m' i l at_k in absurd (omega arith)) in
+                too_late p q lp lq ne j m r lm lj (expected_there (node net q) p j lj).same long (omega (arith, less)) (omega (arith, within)) lk
                 (part_of_more n q (own p) x.k k stopped _ _ (x.told q (lq, λ e. ne (sym e))))
                 )
           ]
@@ -219,10 +213,10 @@ module _ (net : Network) (h : IsNetwork net) where
           not_taken : (a b : ℕ) → (b < a → ⊥) → a ≤ b
           not_taken a b never = omega arith
 
-          inside : (u : ℕ) → at (program plan p (message plan m').session) u ≡ Take m' (message plan m').share → u < length (program plan p (message plan m').session)
-          inside u is' = elim (cases_lt u (length (program plan p (message plan m').session))) [
+          inside : (u : ℕ) → at (program plan p session') u ≡ Take m' i → u < length (program plan p session')
+          inside u is' = elim (cases_lt u (length (program plan p session'))) [
             | left' l ↦ l
-            | right' past ↦ absurd (let f : End ≡ Take m' (message plan m').share = sym (get_or_past (program plan p (message plan m').session) u End past) ∙ is' in cc)
+            | right' past ↦ absurd (let f : End ≡ Take m' i = sym (get_or_past (program plan p session') u End past) ∙ is' in cc)
           ]
 
   -- so many bytes are held where a run of f frames is

@@ -1,4 +1,5 @@
 mod RunsAsShort
 mod FirstParts
+pub mod EarlierTakes
 pub mod CutTalks
 pub mod GroupViews

@@ -23,7 +23,7 @@ use Rattle.program_laws.specs.Parts.{IsPart}
 use Rattle.program_laws.proofs.LocalPrograms.{met}
 use Rattle.program_laws.proofs.OncePosted.{once}
 use Rattle.program_laws.proofs.OpenedOutputs.{opens_right}
-use Rattle.program_laws.proofs.PartLaws.{part_plan, part_words}
+use Rattle.program_laws.proofs.PartLaws.{part_words}
 use Rattle.outer_io.specs.Links.{LinksReading}
 use Rattle.outer_io.specs.Sink.{added}
 use Rattle.node_talk.specs.Talks.{Node, acts, IsPeer, own_word, expected, place_of}
@@ -146,12 +146,12 @@ module _ (n : Node) (start : Begin) (after : LinksReading) (ds : List Desk) (now
         let l = local_given n.world (known n now.words.cells) s n.me in
         let es = program n.world.plan n.me s in
         x.2 ∙ desk.memory.outputs o ∙ ap (λ q. (state l q).outputs o) end ∙ ap (λ σ. σ.outputs o) (state_is l (length es) ∙ run_all l es new_state)
-        ∙ (met n.world (part_plan n.world n.me part) (known n now.words.cells) s n.me ls part.party (part_words n.world n.me part s)).1.outputs o lo read;
+        ∙ (met n.world part.sound (known n now.words.cells) s n.me ls part.party (part_words n.world n.me part s)).1.outputs o lo read;
     no_word = λ m ne ns. kept_is m ∙ none_there (plain_cell now.words.cells m) m refl ne ns;
     no_output = λ s o v ls e.
         let x = output_is s o ls in
         let desk = desk_there s x.0 ls x.1 in
-        (opens_right n.world (part_plan n.world n.me part) (known n now.words.cells) s n.me ls part.party (part_words n.world n.me part s) x.0.position o v (sym (desk.memory.outputs o) ∙ sym x.2 ∙ e)).0;
+        (opens_right n.world part.sound (known n now.words.cells) s n.me ls part.party (part_words n.world n.me part s) x.0.position o v (sym (desk.memory.outputs o) ∙ sym x.2 ∙ e)).0;
   }
     where
       kept_is : (m : ℕ) → word_kept r m ≡ plain_cell now.words.cells m

@@ -25,7 +25,7 @@ use Rattle.party_desk.specs.Steps.{word_at, with_word, Allows, MayStep, Does, St
 use Rattle.program_laws.specs.Meets.{local_given, Goes}
 use Rattle.program_laws.proofs.OpenedOutputs.{goes}
 use Rattle.program_laws.proofs.Ranks.{end_is_last}
-use Rattle.program_laws.proofs.PartLaws.{part_plan, part_words}
+use Rattle.program_laws.proofs.PartLaws.{part_words}
 use Rattle.desk_laws.specs.Words.{NextIs}
 use Rattle.desk_laws.proofs.WordSteps.{next_is}
 use Rattle.party_desk.proofs.AllowedSteps.{goes_by}
@@ -396,7 +396,7 @@ module _ (cells : Meaning Mail) (are : AreNodeCells cells) (n : Node) (s : ℕ) 
     first = steps (l (known n c.words.cells)) (may_step (known n c.words.cells) (agrees_known n c.words.cells h.going.own.cells))
 
     goes_at : (got : Key → ℕ) (i : Instruction) → e ≡ i → (i ≡ End → ⊥) → Goes n.world got s n.me i (state (l got) d.position)
-    goes_at got i is ne = goes n.world (part_plan n.world n.me h.going.own.part) got s n.me h.session h.going.own.part.party (part_words n.world n.me h.going.own.part s) d.position i is ne
+    goes_at got i is ne = goes n.world h.going.own.part.sound got s n.me h.session h.going.own.part.party (part_words n.world n.me h.going.own.part s) d.position i is ne
 
     next_place : before_session n s + d'.position ≡ suc k
     next_place = let a = first.0 in omega arith

@@ -1,15 +1,16 @@
 -- The posts of p to q, in the order of its instructions, are the messages from p to q in the order of their numbers.
-use Rattle.std.proofs.Common.{◌≡◌, ℕ, zero, suc, ◌<◌, ◌≤◌, not, List, [], ◌∷◌, ◌++◌, length, take, map, refl, sym, ap, ap₂, ◌∙◌, arith, append_assoc}
+use Rattle.std.proofs.Common.{◌≡◌, ℕ, zero, suc, ◌+◌, ◌-◌, ◌<◌, ◌≤◌, not, List, [], ◌∷◌, ◌++◌, length, take, map, refl, sym, ap, ap₂, ◌∙◌, arith, append_assoc}
 use Rattle.std.specs.Prelude.{filter}
 use Rattle.std.specs.List.{flat_map, AllByRecursion}
 use Rattle.std.proofs.lemmas.Bool.{cases_Bool, cond-true, cond-false, and_from, and_left, and_right}
 use Rattle.std.proofs.lemmas.List.{append-nil, take_all}
 use Rattle.std.proofs.lemmas.Grind.{flat_map-append}
 use mathlib.Core.Logic.{inl, inr}
-use Rattle.list_laws.specs.Lists.{joined}
-use Rattle.list_laws.proofs.JoinedLists.{joined_eq, every_append, every_only_if}
+use Rattle.list_laws.specs.Lists.{joined, only_if}
+use Rattle.list_laws.proofs.JoinedLists.{joined_eq, every_append, every_joined, every_only_if}
 use Rattle.circuit_model.specs.Circuits.{is_product}
-use Rattle.job_session.specs.Sessions.{Slot, gate}
+use Rattle.job_session.specs.Sessions.{Session, Slot, gate}
+use Rattle.job_session.specs.Batches.{batch, is_last}
 use Rattle.job_session.specs.Sessions.Slot.{Input, At_gate, Output}
 use Rattle.job_plan.specs.Plans.{Plan, session, slot, slots, deals_in, opens_to}
 use Rattle.job_plan.specs.declared.key.Key.{Key}
@@ -19,7 +20,7 @@ use Rattle.job_plan.specs.Numbers.{message, deals_before}
 use Rattle.job_plan.proofs.SlotMessages.{keys_are}
 use Rattle.party_program.specs.declared.program.Instruction.{Instruction}
 use Rattle.party_program.specs.declared.program.Instruction.TheVariants.{Deal, Linear, Own, Sum, Deliver}
-use Rattle.party_program.specs.Programs.{program, at, from, to, post, take_of, opening, posts, takes, closing, slot_program}
+use Rattle.party_program.specs.Programs.{program, at, from, to, post, take_of, opening, posts, takes, closing, head, tail, tails, turn}
 use Rattle.node_talk.specs.Talks.{Node, acts, goes, messages_between, stream, post_to, posts_to, TalkIsSaid}
 use Rattle.node_talk.proofs.PassedLists.{filter_joined}
 
@@ -39,19 +40,23 @@ module _ (plan : Plan) (p q s k : ℕ) where
 
   opening_posts : (z : Slot) → AllByRecursion None (opening plan p s k z)
   opening_posts (Input v) = every_only_if None (deals_in plan s p (Input v)) (Deal k (deals_before plan p s k) ∷ []) (λ h. (refl, tt))
-  opening_posts (At_gate t) = every_only_if None (deals_in plan s p (At_gate t)) (Own k ∷ Deal k (deals_before plan p s k) ∷ []) (λ h. (refl, (refl, tt)))
+  opening_posts (At_gate t) =
+      every_append None _ _ (every_only_if None (deals_in plan s p (At_gate t)) (Own k ∷ Deal k (deals_before plan p s k) ∷ []) (λ h. (refl, (refl, tt))))
+      (every_only_if None (not (is_product (gate (session plan s) t).operation)) (Linear k ∷ []) (λ h. (refl, tt)))
   opening_posts (Output o) = tt
 
   closing_posts : (z : Slot) → AllByRecursion None (closing plan p s k z)
   closing_posts (Input v) = tt
-  closing_posts (At_gate t) =
-      every_append None _ _ (every_only_if None (is_product (gate (session plan s) t).operation) (Sum k ∷ []) (λ h. (refl, tt)))
-      (every_only_if None (not (is_product (gate (session plan s) t).operation)) (Linear k ∷ []) (λ h. (refl, tt)))
+  closing_posts (At_gate t) = every_only_if None (is_product (gate (session plan s) t).operation) (Sum k ∷ []) (λ h. (refl, tt))
   closing_posts (Output o) = every_only_if None (opens_to plan s p (Output o)) (Deliver k ∷ []) (λ h. (refl, tt))
 
-  no_takes : (ns : List ℕ) → flat_map (post_to plan q) (map (take_of plan) ns) ≡ []
-  no_takes [] = refl
-  no_takes (n ∷ ns) = no_takes ns
+  no_takes : (ns : List ℕ) → AllByRecursion None (map (take_of plan) ns)
+  no_takes [] = tt
+  no_takes (n ∷ ns) = (refl, no_takes ns)
+
+  -- a tail has no post
+  tail_posts : AllByRecursion None (tail plan p s k)
+  tail_posts = every_append None (takes plan p s k) (closing plan p s k (slot plan s k)) (no_takes (filter (to plan p) (numbers plan s k))) (closing_posts (slot plan s k))
 
   posted_keys : (ns : List ℕ) → flat_map (post_to plan q) (map (post plan) (filter (from plan p) ns)) ≡ filter (goes p q) (map (message plan) ns)
   posted_keys [] = refl
@@ -70,20 +75,23 @@ module _ (plan : Plan) (p q s k : ℕ) where
             ∙ sym (cond-false (goes p q (message plan n)) (message plan n ∷ rest) rest (and_left (from plan p n) (to plan q n) f))
       ]
 
-  slot_posts : flat_map (post_to plan q) (slot_program plan p s k) ≡ filter (goes p q) (map (message plan) (numbers plan s k))
-  slot_posts =
+  head_posts : flat_map (post_to plan q) (head plan p s k) ≡ filter (goes p q) (map (message plan) (numbers plan s k))
+  head_posts =
       let f = post_to plan q in
       let o = opening plan p s k (slot plan s k) in
-      let a = posts plan p s k in
-      let b = takes plan p s k in
-      let c = closing plan p s k (slot plan s k) in
-      flat_map-append f ((o ++ a) ++ b) c
-      ∙ ap₂ (λ x y. x ++ y)
-      (flat_map-append f (o ++ a) b
-      ∙ ap₂ (λ x y. x ++ y) (flat_map-append f o a ∙ ap₂ (λ x y. x ++ y) (none_of f o (opening_posts (slot plan s k))) (posted_keys (numbers plan s k))) (no_takes (filter (to plan p) (numbers plan s k))))
-      (none_of f c (closing_posts (slot plan s k)))
-      ∙ append-nil (filter (goes p q) (map (message plan) (numbers plan s k)) ++ [])
-      ∙ append-nil (filter (goes p q) (map (message plan) (numbers plan s k)))
+      flat_map-append f o (posts plan p s k) ∙ ap₂ (λ x y. x ++ y) (none_of f o (opening_posts (slot plan s k))) (posted_keys (numbers plan s k))
+
+-- those of a turn are those of its head
+turn_posts : (plan : Plan) (p q s k : ℕ) → flat_map (post_to plan q) (turn plan p s k) ≡ filter (goes p q) (map (message plan) (numbers plan s k))
+turn_posts plan p q s k =
+    let x : Session = session plan s in
+    let f = post_to plan q in
+    let rest : List Instruction = only_if (is_last x k) (tails plan p s (batch x k) (suc k)) in
+    let none : AllByRecursion (None plan p q s k) rest =
+    every_only_if (None plan p q s k) (is_last x k) (tails plan p s (batch x k) (suc k)) (λ e. every_joined (None plan p q s k) (suc k - batch x k) (λ j. tail plan p s (batch x k + j)) (λ j lj. tail_posts plan p q s (batch x k + j))) in
+    flat_map-append f (head plan p s k) rest
+    ∙ ap₂ (λ a b. a ++ b) (head_posts plan p q s k) (none_of f rest none)
+    ∙ append-nil (filter (goes p q) (map (message plan) (numbers plan s k)))
 
 -- ---- all instructions
 
@@ -91,8 +99,8 @@ pub posts_in_order : (plan : Plan) (p q : ℕ) → flat_map (post_to plan q) (jo
 posts_in_order plan p q =
     flat_joined (post_to plan q) (length plan.sessions) (program plan p)
     ∙ joined_eq (length plan.sessions) _ (λ s. filter (goes p q) (session_messages plan s)) (λ s ls.
-    flat_joined (post_to plan q) (slots plan s) (slot_program plan p s)
-    ∙ joined_eq (slots plan s) _ (λ k. filter (goes p q) (slot_messages plan s k (slot plan s k))) (λ k lk. slot_posts plan p q s k ∙ ap (filter (goes p q)) (keys_are plan s k ls lk))
+    flat_joined (post_to plan q) (slots plan s) (turn plan p s)
+    ∙ joined_eq (slots plan s) _ (λ k. filter (goes p q) (slot_messages plan s k (slot plan s k))) (λ k lk. turn_posts plan p q s k ∙ ap (filter (goes p q)) (keys_are plan s k ls lk))
     ∙ sym (filter_joined (goes p q) (slots plan s) (λ k. slot_messages plan s k (slot plan s k))))
     ∙ sym (filter_joined (goes p q) (length plan.sessions) (session_messages plan))
 

@@ -1,11 +1,11 @@
 -- What a step may rest on, and what it leaves, for what the desk goes by.
-use Rattle.std.proofs.Common.{◌≡◌, ℕ, zero, suc, ◌-◌, ◌*◌, ◌<◌, ◌≤◌, ◌≢◌, List, length, drop, refl, sym, ap, ◌∙◌, subst, arith}
+use Rattle.std.proofs.Common.{◌≡◌, ℕ, zero, suc, ◌-◌, ◌<◌, ◌≤◌, ◌≢◌, List, length, drop, refl, sym, ap, ◌∙◌, subst, arith}
 use Rattle.std.proofs.lemmas.List.{length-drop, get_or_past}
 use Rattle.std.proofs.lemmas.Bool.{cases_lt}
 use mathlib.Core.Logic.{inl, inr}
 use Rattle.circuit_model.specs.Circuits.{set_at}
 use Rattle.circuit_model.proofs.SetAt.{set_here, set_there}
-use Rattle.job_session.specs.Sessions.{Slot, output_wire}
+use Rattle.job_session.specs.Sessions.{Slot, gate, output_wire}
 use Rattle.job_plan.specs.Plans.{Plan, session, slot}
 use Rattle.job_session.specs.Sessions.Slot.{Input, At_gate, Output}
 use Rattle.message_board.specs.declared.cells.Cells.{Ghosts as Meaning}
@@ -15,7 +15,9 @@ use Rattle.party_program.specs.Programs.{program, at}
 use Rattle.party_program.specs.States.{Given, State, slot_of, posted, state}
 use Rattle.party_program.specs.Proper.{Proper, IsGivenWord, HasInput, with_got}
 use Rattle.party_program.specs.GivenData.{Suits}
+use Rattle.party_program.specs.declared.place.Place.{Place}
 use Rattle.party_program.specs.ProgramPlaces.{IsPlace, IsProgram}
+use Rattle.party_program.proofs.ProgramPlaces.{ends_there}
 use Rattle.party_program.proofs.StateReads.{state_same}
 use Rattle.program_laws.specs.WordsRead.{Carries, ReadsSummand}
 use Rattle.program_laws.proofs.SetWords.{reads_are_set}
@@ -27,7 +29,7 @@ use Rattle.party_desk.specs.declared.desk.Desk.{Desk}
 use Rattle.party_desk.specs.declared.desk.Stepped.{Stepped}
 use Rattle.party_desk.specs.declared.desk.Stepped.TheVariants.{Moved, NotYet, Ended}
 use Rattle.party_desk.specs.Memories.{state_of, row_of, posted_on_rows, IsMemoryOf, CanDeal, FindsInput}
-use Rattle.party_desk.specs.Desks.{posts_in, takes_in, posts_before, takes_before, Stands, Allowed, Advanced, Effect, Did, IsDesk, NamesSlot, Remembers, instruction_at, word_in_memory}
+use Rattle.party_desk.specs.Desks.{posts_in, takes_in, posts_before, takes_before, Stands, Allowed, Advanced, Effect, Did, HasLeft, IsDesk, NamesSlot, Remembers, instruction_at, word_in_memory}
 use Rattle.party_desk.specs.Steps.{word_at, with_word, Allows, MayStep, Does, Steps}
 use Rattle.party_desk.proofs.DeskSteps.{kept}
 use Rattle.party_desk.proofs.NamedSlots.{names_slot}
@@ -61,11 +63,22 @@ takes_few : (es : List Instruction) (q : ℕ) → takes_before es q ≤ q
 takes_few es zero = omega arith
 takes_few es (suc q) = let a = takes_few es q in let b = one_take (at es q) in omega arith
 
+-- a place with instructions left has one for each but the end
+some_left : (e : Instruction) (place : Place) → place.done < place.count → HasLeft e place
+some_left (Deal k d) place left = left
+some_left (Post n i) place left = left
+some_left (Take n i) place left = left
+some_left (Linear k) place left = left
+some_left (Own k) place left = left
+some_left (Sum k) place left = left
+some_left (Deliver k) place left = left
+some_left End place left = tt
+
 -- the word that is posted, from the memory
-posted_same : (plan : Plan) (s : ℕ) (k : Slot) (i : ℕ) (row_of : ℕ → ℕ) (a b : State) → ((v : ℕ) → Carries (session plan s) k v → a.rows (row_of v) i ≡ b.rows v i) → a.sums i ≡ b.sums i → posted_on_rows row_of (session plan s) k i a ≡ posted (session plan s) k i b
-posted_same plan s (Input v) i row_of a b rows sums = rows v refl
-posted_same plan s (At_gate t) i row_of a b rows sums = sums
-posted_same plan s (Output o) i row_of a b rows sums = rows (output_wire (session plan s) o) refl
+posted_same : (plan : Plan) (s : ℕ) (k : Slot) (i : ℕ) (row_of : ℕ → ℕ) (a b : State) → ((v : ℕ) → Carries (session plan s) k v → a.rows (row_of v) i ≡ b.rows v i) → posted_on_rows row_of (session plan s) k i a ≡ posted (session plan s) k i b
+posted_same plan s (Input v) i row_of a b rows = rows v refl
+posted_same plan s (At_gate t) i row_of a b rows = rows (gate (session plan s) t).output refl
+posted_same plan s (Output o) i row_of a b rows = rows (output_wire (session plan s) o) refl
 
 remembers : (l : Given) (got : ℕ → ℕ) (q : ℕ) (d : Memory) (σ τ : State) → σ ≡ τ → Remembers l q d σ → Remembers (with_got l got) q d τ
 remembers l got q d σ τ e h = subst (Remembers (with_got l got) q d) e (record { rows = h.rows; own = h.own; sums = h.sums; given = h.given; outputs = h.outputs })
@@ -120,11 +133,8 @@ module _ (l : Given) (d : Desk) (is_desk : IsDesk l d) where
     fits = subst (λ z. IsMemoryOf l.plan z d.memory) (sym is_desk.session) is_desk.fits;
   }
 
-  names : (j : Instruction) → i ≡ j → NamesSlot l.plan j d.place.slot
-  names j e = names_slot l.plan suits.sound l.session l.party suits.session suits.party d.place.slot d.position is_desk.place.stands j e
-
   pub names_own : NamesSlot l.plan i d.place.slot
-  names_own = names i refl
+  names_own = names_slot l.plan l.session l.party suits.session d.place d.position is_desk.place
 
   -- ---- the memory allows what the cells allow
 
@@ -151,7 +161,6 @@ module _ (l : Given) (d : Desk) (is_desk : IsDesk l d) where
       ap (λ z. posted_on_rows (row_of d.memory) (session l.plan z) (slot_of l.plan z n) j (state_of (length l.plan.groups) d.memory)) is_desk.session
       ∙ posted_same l.plan l.session (slot_of l.plan l.session n) j (row_of d.memory) (state_of (length l.plan.groups) d.memory) (state l d.position)
       (λ v c. is_desk.memory.rows v j share (reads_are_set l.plan suits.sound l.session l.party suits.session suits.party order d.position v j share (reads v c)) (d.position, omega arith, reads v c))
-      (is_desk.memory.sums j share)
 
   -- ---- what an instruction leaves
   within : i ≢ End → d.position < length (program l.plan l.party l.session)
@@ -236,3 +245,11 @@ module _ {C : Type 0} (cells : Meaning C) (plan : Plan) (c : C) (l : Given) (d :
 
   pub may_here : (j : Instruction) → j ≡ at (program plan d.program.party d.program.session) d.position → NamesSlot plan j d.place.slot
   may_here j e = subst (λ z. NamesSlot z j d.place.slot) may.same (subst (λ z. NamesSlot l.plan z d.place.slot) (sym (own j e)) (names_own l d may.desk))
+
+  -- it has an instruction left there, unless that is the end
+  pub may_left : (j : Instruction) → j ≡ at (program plan d.program.party d.program.session) d.position → HasLeft j d.place
+  may_left j e = elim (cases_lt d.place.done d.place.count) [
+    | inl left ↦ some_left j d.place left
+    | inr past ↦
+        subst (λ z. HasLeft z d.place) (sym (e ∙ ends_there plan d.program.party d.program.session d.place d.position may_place past)) tt
+  ]

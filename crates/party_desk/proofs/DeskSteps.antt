@@ -45,7 +45,7 @@ own_eq s p x y a b h k =
     ap (λ z. z % s.modulus) (total_eq s.shares _ _ (λ i li. total_eq s.shares _ _ (λ j lj. ap₂ (λ u v. if nat_eq (s.duty i j) p then u * v else 0) (h i li) (k j lj))))
 
 -- what an instruction draws
-deals_in : (l : Given) (k : Slot) (words : ℕ → ℕ) (input : ℕ) (σ : State) → Deals k → (dealt_in l.plan words input k σ).drawn ≡ σ.drawn + (length l.plan.groups - 1)
+deals_in : (l : Given) (k : Slot) (words : ℕ → ℕ) (input : ℕ) (σ : State) → Deals k → (dealt_in l.plan l.session words input k σ).drawn ≡ σ.drawn + (length l.plan.groups - 1)
 deals_in l (Input v) words input σ h = refl
 deals_in l (At_gate t) words input σ h = refl
 deals_in l (Output o) words input σ h = absurd h

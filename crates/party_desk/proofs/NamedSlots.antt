@@ -1,58 +1,53 @@
 -- The slot in which an instruction stands is that of the message that it names.
-use Rattle.std.proofs.Common.{◌≡◌, ℕ, suc, ◌+◌, ◌<◌, ◌≤◌, length, sym, subst, arith}
-use Rattle.std.proofs.lemmas.Bool.{cases_eq, cases_lt}
-use mathlib.Core.Logic.{inl, inr}
-use Rattle.list_laws.proofs.JoinedLists.{length-joined}
-use Rattle.job_plan.specs.Plans.{Plan, slots}
-use Rattle.job_plan.specs.Numbers.{message}
-use Rattle.job_plan.specs.Sound.{IsSound}
-use Rattle.party_program.specs.declared.program.Instruction.{Instruction}
-use Rattle.party_program.specs.declared.program.Instruction.TheVariants.{Deal, Post, Take, Linear, Own, Sum, Deliver, End}
-use Rattle.party_program.specs.Programs.{program, slot_program, at}
-use Rattle.party_program.specs.ProgramPlaces.{StandsIn, instructions_before}
-use Rattle.party_program.proofs.ProgramPlaces.{before_rises}
-use Rattle.program_laws.specs.Once.{InSlot, StandsOnce}
-use Rattle.program_laws.proofs.OncePosted.{once}
-use Rattle.program_laws.proofs.ProperPrograms.{proper_at}
-use Rattle.party_program.specs.Proper.{Proper}
+use Rattle.std.proofs.Common.{◌≡◌, ℕ, ◌+◌, ◌<◌, length, sym, ap, ◌∙◌, subst, refl, inl, inr, arith}
+use Rattle.std.specs.Prelude.{slice_index_or}
+use Rattle.std.proofs.lemmas.Bool.{cases_lt}
+use Rattle.job_plan.specs.declared.key.Key.{Key}
+use Rattle.job_plan.specs.Plans.{Plan, slot, slots}
+use Rattle.job_plan.specs.Messages.{slot_messages}
+use Rattle.job_plan.specs.Numbers.{message, no_key, deals_before}
+use Rattle.job_plan.specs.Firsts.{count, first}
+use Rattle.job_plan.specs.Patterns.{pattern_at}
+use Rattle.job_plan.proofs.DistinctMessages.{every_place, every_slot}
+use Rattle.job_plan.proofs.SlotMessages.{message_at}
+use Rattle.job_plan.proofs.SlotStarts.{pattern_count}
+use Rattle.party_program.specs.declared.place.Place.{Place}
+use Rattle.party_program.specs.declared.step.Step.{Step}
+use Rattle.party_program.specs.declared.step.Step.TheVariants.{Deal, Own, Post, Take, Linear, Sum, Deliver}
+use Rattle.party_program.specs.Programs.{program, at}
+use Rattle.party_program.specs.PartySteps.{steps, placed, IsPlaced}
+use Rattle.party_program.specs.ProgramPlaces.{IsPlace}
+use Rattle.party_program.proofs.PlacedSteps.{steps_placed}
+use Rattle.party_program.proofs.ProgramPlaces.{count_at, ends_there, in_slot, instruction_is, length-half, step_is}
 use Rattle.party_desk.specs.Desks.{NamesSlot}
 
-module _ (plan : Plan) (sound : IsSound plan) (s p : ℕ) (ls : s < length plan.sessions) (lp : p < plan.parties) where
-  -- a position stands in one slot
-  one_slot : (j k q : ℕ) → j < slots plan s → InSlot plan p s j q → StandsIn plan p s k q → j ≡ k
-  one_slot j k q lj here stands =
-      let begun : instructions_before plan p s j ≤ q = (let a = here.0 in omega (arith, a, length-joined j (slot_program plan p s))) in
-      let ends : q < instructions_before plan p s (suc j) = (let a = here.1 in omega (arith, a, length-joined (suc j) (slot_program plan p s))) in
-      let more : suc j ≡ j + 1 = omega arith in
-      elim (cases_eq j k) [
-        | inl e ↦ e
-        | inr ne ↦ elim (cases_lt j k) [
-          | inl less ↦ absurd (let a = before_rises plan p s (suc j) k (omega arith) in let b = stands.begun in omega arith)
-          | inr past ↦ absurd (
-              let lk : k < slots plan s = omega (arith, past, ne, lj) in
-              let a = before_rises plan p s (k + 1) j (omega (arith, past, ne)) in
-              let b = stands.within lk in omega arith)
-        ]
-      ]
+module _ (plan : Plan) (s p : ℕ) (ls : s < length plan.sessions) where
+  -- the messages of a slot name it
+  message_slot : (k i : ℕ) → k < slots plan s → i < count plan s k → (message plan (first plan s k + i)).slot ≡ k
+  message_slot k i lk li =
+      let all = every_slot (λ x. (x.session ≡ s) × (x.slot ≡ k)) plan s k (slot plan s k) (λ i p q. (refl, refl)) in
+      let own = every_place (λ (x : Key). (x.session ≡ s) × (x.slot ≡ k)) (slot_messages plan s k (slot plan s k)) i no_key all li in
+      ap (λ (x : Key). x.slot) (message_at plan s k ls lk i li) ∙ own.1
 
-  named_once : (kind : ℕ → Instruction) (r n i k q : ℕ) → StandsOnce plan kind r (message plan n) → (message plan n).slot < slots plan (message plan n).session → at (program plan p s) q ≡ kind i → StandsIn plan p s k q → (message plan n).slot ≡ k
-  named_once kind r n i k q one there is stands =
-      let same = one.alone p s q i is in
-      let here : InSlot plan p s (message plan n).slot q =
-      subst (λ z. InSlot plan p s (message plan n).slot z) (sym same.2)
-      (subst (λ z. InSlot plan p z (message plan n).slot one.position) (sym same.1) (subst (λ z. InSlot plan z (message plan n).session (message plan n).slot one.position) (sym same.0) one.in_slot)) in
-      one_slot (message plan n).slot k q (subst (λ z. (message plan n).slot < slots plan z) (sym same.1) there) here stands
+  names_placed : (k deals : ℕ) → k < slots plan s → (step : Step) → IsPlaced (count plan s k) step → NamesSlot plan (placed k (first plan s k) deals step) k
+  names_placed k deals lk (Post share place) within = message_slot k place lk within
+  names_placed k deals lk (Take share place) within = message_slot k place lk within
+  names_placed k deals lk Deal within = tt
+  names_placed k deals lk Own within = tt
+  names_placed k deals lk Linear within = tt
+  names_placed k deals lk Sum within = tt
+  names_placed k deals lk Deliver within = tt
 
-  pub names_slot : (k q : ℕ) → StandsIn plan p s k q → (j : Instruction) → at (program plan p s) q ≡ j → NamesSlot plan j k
-  names_slot k q stands (Post n i) is =
-      let law = once plan n (subst (Proper plan s) is (proper_at plan sound s p ls lp q)).number in
-      named_once (Post n) (message plan n).sender n i k q law.posted law.slot_there is stands
-  names_slot k q stands (Take n i) is =
-      let law = once plan n (subst (Proper plan s) is (proper_at plan sound s p ls lp q)).number in
-      named_once (Take n) (message plan n).receiver n i k q law.taken law.slot_there is stands
-  names_slot k q stands (Deal j d) is = tt
-  names_slot k q stands (Own j) is = tt
-  names_slot k q stands (Linear j) is = tt
-  names_slot k q stands (Sum j) is = tt
-  names_slot k q stands (Deliver j) is = tt
-  names_slot k q stands End is = tt
+  pub names_slot : (place : Place) (q : ℕ) → IsPlace plan p s place q → NamesSlot plan (at (program plan p s) q) place.slot
+  names_slot place q here = elim (cases_lt place.done place.count) [
+    | inr past ↦ subst (λ i. NamesSlot plan i place.slot) (sym (ends_there plan p s place q here past)) tt
+    | inl left ↦
+        let there = in_slot plan p s place q here left in
+        let count' = here.count ∙ count_at plan p s place.half place.slot there in
+        let long = length-half plan p s place.half place.slot ls there in
+        let short : place.done < length (steps plan p place.half (pattern_at plan s place.slot)) = omega (arith, left, count', long) in
+        subst (λ i. NamesSlot plan i place.slot) (sym (instruction_is plan p s place q here left ∙ step_is plan p s place.half place.slot ls there place.done Deal short))
+        (names_placed place.slot (deals_before plan p s place.slot) there _
+        (subst (λ n. IsPlaced n (slice_index_or (steps plan p place.half (pattern_at plan s place.slot)) place.done Deal)) (pattern_count plan s place.slot)
+        (steps_placed plan p (pattern_at plan s place.slot) place.half place.done Deal short)))
+  ]

@@ -1,19 +1,16 @@
 -- What a desk remembers after an instruction.
-use Rattle.std.proofs.Common.{◌≡◌, ℕ, zero, suc, ◌+◌, ◌*◌, ◌%◌, ◌<◌, ◌≢◌, ◌^◌, true, false, nat_eq, if◌then◌else◌, length, refl, sym, ap, ap₂, ◌∙◌, subst, arith}
-use Rattle.std.specs.Prelude.{slice_index, take, List, [], ◌∷◌, Some}
+use Rattle.std.proofs.Common.{◌≡◌, ℕ, suc, ◌+◌, ◌*◌, ◌%◌, ◌<◌, ◌≢◌, ◌^◌, true, nat_eq, if◌then◌else◌, length, refl, sym, ap, ap₂, ◌∙◌, subst, arith}
+use Rattle.std.specs.Prelude.{slice_index, List, Some}
 use Rattle.std.specs.List.{list_any}
-use Rattle.std.proofs.lemmas.Bool.{cases_eq, cases_Bool, cond-true, cond-false, ne_eqb, both_ways}
+use Rattle.std.proofs.lemmas.Bool.{cases_eq, cases_Bool, cond-true, cond-false, ne_eqb}
 use mathlib.Core.Logic.{inl, inr}
 use Rattle.list_laws.proofs.Totals.{total_eq}
-use Rattle.circuit_model.specs.Circuits.{is_product, operate, set_at}
-use Rattle.circuit_model.specs.Netlists.{arity, read_by, inputs_read}
+use Rattle.circuit_model.specs.Circuits.{is_product, set_at}
+use Rattle.circuit_model.specs.Netlists.{read_by}
 use Rattle.circuit_model.proofs.SetAt.{set_here, set_there}
 use Rattle.circuit_model.specs.declared.gate.Gate.{Gate}
-use Rattle.circuit_model.specs.declared.gate.Operation.{Operation}
-use Rattle.circuit_model.specs.declared.gate.Operation.TheVariants.{Add, Sub, Neg, Mul, Xor, And, Inv, Eq, Eqw}
-use Rattle.mpc_ring.specs.Differences.{difference}
-use Rattle.secret_sharing.specs.Schemes.{Scheme, IsScheme, dealt, own_product, local}
-use Rattle.job_session.specs.Sessions.{Session, Slot, output_wire}
+use Rattle.secret_sharing.specs.Schemes.{Scheme, IsScheme, dealt, has_pair, own_product}
+use Rattle.job_session.specs.Sessions.{Session, Slot, gate, output_wire}
 use Rattle.job_plan.specs.Plans.{IsPlan, Plan, holds, scheme, session, slot}
 use Rattle.job_session.specs.Sessions.Slot.{Input, At_gate, Output}
 use Rattle.job_session.specs.KeptWires.{IsInOrder, IsRowTable}
@@ -22,47 +19,13 @@ use Rattle.job_plan.proofs.PlanSchemes.{scheme_is}
 use Rattle.party_program.specs.declared.program.Instruction.{Instruction}
 use Rattle.party_program.specs.declared.program.Instruction.TheVariants.{Deal, Post, Take, Linear, Own, Sum, Deliver, End}
 use Rattle.party_program.specs.Programs.{program, at}
-use Rattle.party_program.specs.Proper.{Proper, IsGate}
 use Rattle.party_program.specs.States.{State, slot_of, gate_in_slot, output_in_slot, after, dealt_in, took_in, opened}
-use Rattle.program_laws.specs.WordsRead.{gate_at, SetsSummand, ReadsSummand, IsSet, IsToRead}
-use Rattle.share_world.proofs.Settled.{is_one, is_first, is_second}
-use Rattle.program_laws.proofs.ProperPrograms.{proper_at}
-use Rattle.program_laws.proofs.SetWords.{named, sets_at, one_wire, own_at, reads_are_set, own_row, read_is_held}
+use Rattle.program_laws.specs.WordsRead.{gate_at, Deals, SetsSummand, ReadsSummand, IsSet, IsToRead}
+use Rattle.program_laws.proofs.GateReads.{local_same, product_reads}
+use Rattle.program_laws.proofs.SetWords.{Finishes, one_wire, own_at, reads_are_set, own_row, read_is_held}
 use Rattle.party_desk.specs.Desks.{after_on_rows}
+use Rattle.party_desk.specs.Memories.{dealt_on_rows}
 use Rattle.party_desk.specs.Rows.{SameRow, slot_on_rows}
-
--- ---- what an operation reads
-
--- a linear operation hangs on what it reads alone
-local_of : (q : ℕ) (op : Operation) (c i a b x y u v : ℕ) → (list_any (nat_eq u) (inputs_read op (take (arity op) (u ∷ v ∷ []))) ≡ true → a ≡ x) → (list_any (nat_eq v) (inputs_read op (take (arity op) (u ∷ v ∷ []))) ≡ true → b ≡ y) → local q op c i a b ≡ local q op c i x y
-local_of q Add c i a b x y u v f g = ap₂ (operate q Add c) (f (is_first u v)) (g (is_second u v))
-local_of q Sub c i a b x y u v f g = ap₂ (operate q Sub c) (f (is_first u v)) (g (is_second u v))
-local_of q Mul c i a b x y u v f g = ap₂ (operate q Mul c) (f (is_first u v)) (g (is_second u v))
-local_of q Xor c i a b x y u v f g = ap₂ (operate q Xor c) (f (is_first u v)) (g (is_second u v))
-local_of q And c i a b x y u v f g = ap₂ (operate q And c) (f (is_first u v)) (g (is_second u v))
-local_of q Neg c i a b x y u v f g = ap (λ z. difference q 0 z) (f (is_one u u refl))
-local_of q Inv c zero a b x y u v f g = ap (λ z. (z + 1) % q) (f (is_one u u refl))
-local_of q Inv c (suc i) a b x y u v f g = f (is_one u u refl)
-local_of q Eq c zero a b x y u v f g = refl
-local_of q Eq c (suc i) a b x y u v f g = refl
-local_of q Eqw c i a b x y u v f g = f (is_one u u refl)
-
-local_same : (q : ℕ) (g : Gate) (i a b x y : ℕ) → (list_any (nat_eq g.first) (read_by g) ≡ true → a ≡ x) → (list_any (nat_eq g.second) (read_by g) ≡ true → b ≡ y) → local q g.operation g.constant i a b ≡ local q g.operation g.constant i x y
-local_same q g i a b x y f h = local_of q g.operation g.constant i a b x y g.first g.second f h
-
-product_of : (op : Operation) (u v : ℕ) → is_product op ≡ true → (list_any (nat_eq u) (inputs_read op (take (arity op) (u ∷ v ∷ []))) ≡ true) × (list_any (nat_eq v) (inputs_read op (take (arity op) (u ∷ v ∷ []))) ≡ true)
-product_of Mul u v h = (is_first u v, is_second u v)
-product_of And u v h = (is_first u v, is_second u v)
-product_of Add u v h = absurd (both_ways false refl h)
-product_of Sub u v h = absurd (both_ways false refl h)
-product_of Neg u v h = absurd (both_ways false refl h)
-product_of Xor u v h = absurd (both_ways false refl h)
-product_of Inv u v h = absurd (both_ways false refl h)
-product_of Eq u v h = absurd (both_ways false refl h)
-product_of Eqw u v h = absurd (both_ways false refl h)
-
-product_reads : (g : Gate) → is_product g.operation ≡ true → (list_any (nat_eq g.first) (read_by g) ≡ true) × (list_any (nat_eq g.second) (read_by g) ≡ true)
-product_reads g h = product_of g.operation g.first g.second h
 
 -- an own product hangs on the summands that the party holds
 own_of_held : (s : Scheme) → IsScheme s → (p : ℕ) (x y a b : ℕ → ℕ) → ((i : ℕ) → i < s.shares → s.holds p i ≡ true → x i ≡ a i) → ((i : ℕ) → i < s.shares → s.holds p i ≡ true → y i ≡ b i) → own_product s p x y ≡ own_product s p a b
@@ -171,27 +134,26 @@ module _ (plan : Plan) (sound : IsSound plan) (s p : ℕ) (ls : s < length plan.
       | inr ne ↦ set_there τ.sums j i _ ne ∙ h.sums i li ∙ sym (set_there σ.sums j i _ ne)
     ]
 
-    proper : (e : Instruction) → at es q ≡ e → Proper plan s e
-    proper e is = subst (Proper plan s) is (proper_at plan sound s p ls lp q)
-
     module _ (words : ℕ → ℕ) (input w : ℕ) (got : ℕ → ℕ) where
-      deals_same : (k d : ℕ) (z : Slot) → at es q ≡ Deal k d → slot plan s k ≡ z → SameRead (suc q) (dealt_in plan words input (slot_on_rows row_of z) τ) (dealt_in plan words input z σ)
+      deals_same : (k d : ℕ) (z : Slot) → at es q ≡ Deal k d → slot plan s k ≡ z → SameRead (suc q) (dealt_on_rows row_of plan s words input z τ) (dealt_in plan s words input z σ)
       deals_same k d (Input u) is e = record {
-        rows = writes u (dealt (scheme plan) input words) (dealt (scheme plan) input words) (λ i. subst (λ z. SetsSummand plan s z u i) (sym is) e) (λ i li later. refl);
+        rows = writes u (dealt (scheme plan) input words) (dealt (scheme plan) input words) (λ i. subst (λ z. SetsSummand plan s z u i) (sym is) (subst (λ z. Deals x z u) (sym e) refl)) (λ i li later. refl);
         own = h.own;
         sums = h.sums;
         given = ap (λ z. z + 1) h.given;
         outputs = h.outputs;
       }
-      deals_same k d (At_gate t) is e = record {
-        rows = stays (λ v i z. let both : At_gate t ≡ Input v = sym e ∙ subst (λ y. SetsSummand plan s y v i) is z in cc);
-        own = h.own;
-        sums = λ i li. ap (λ z. dealt (scheme plan) z words i) h.own;
-        given = h.given;
-        outputs = h.outputs;
-      }
+      deals_same k d (At_gate t) is e =
+          let u : ℕ = (gate x t).output in
+          record {
+            rows = writes u (dealt (scheme plan) τ.own words) (dealt (scheme plan) σ.own words) (λ i. subst (λ z. SetsSummand plan s z u i) (sym is) (subst (λ z. Deals x z u) (sym e) refl)) (λ i li later. ap (λ z. dealt (scheme plan) z words i) h.own);
+            own = h.own;
+            sums = h.sums;
+            given = h.given;
+            outputs = h.outputs;
+          }
       deals_same k d (Output o) is e = record {
-        rows = stays (λ v i z. let both : Output o ≡ Input v = sym e ∙ subst (λ y. SetsSummand plan s y v i) is z in cc);
+        rows = stays (λ v i z. subst (λ y. Deals x y v) e (subst (λ y. SetsSummand plan s y v i) is z));
         own = h.own;
         sums = h.sums;
         given = h.given;
@@ -221,14 +183,11 @@ module _ (plan : Plan) (sound : IsSound plan) (s p : ℕ) (ls : s < length plan.
         outputs = h.outputs;
       }
 
-      linear_same : (k : ℕ) (z : Slot) → at es q ≡ Linear k → slot plan s k ≡ z → IsGate z → SameRead (suc q) (after_on_rows row_of plan p s words input w (Linear k) τ) (after plan p s words input got (Linear k) σ)
-      linear_same k (Input u) is e gate' = absurd gate'
-      linear_same k (Output o) is e gate' = absurd gate'
-      linear_same k (At_gate t) is e gate' =
+      linear_same : (k : ℕ) → at es q ≡ Linear k → SameRead (suc q) (after_on_rows row_of plan p s words input w (Linear k) τ) (after plan p s words input got (Linear k) σ)
+      linear_same k is =
           let g : Gate = gate_at plan s k in
           let now : (i : ℕ) → SetsSummand plan s (at es q) g.output i = λ i. subst (λ y. SetsSummand plan s y g.output i) (sym is) refl in
-          let here : slot plan s (named plan (at es q)) ≡ At_gate t = ap (λ y. slot plan s (named plan y)) is ∙ e in
-          let held : (i : ℕ) → IsToRead plan p s (suc q) g.output i → holds plan p i ≡ true = λ i later. read_is_held plan sound s p ls lp order q t g.output i here (sets_at plan sound s p ls lp q g.output i (now i)).1 later in
+          let held : (i : ℕ) → IsToRead plan p s (suc q) g.output i → holds plan p i ≡ true = λ i later. (read_is_held plan sound s p ls lp order q g.output i (subst Finishes (sym is) tt) (now i) later).0 in
           let reads_at : (v i : ℕ) → list_any (nat_eq v) (read_by g) ≡ true → holds plan p i ≡ true → ReadsSummand plan p s (at es q) v i = λ v i a b. subst (λ y. ReadsSummand plan p s y v i) (sym is) (a, b) in
           record {
             rows = writes g.output _ _ now (λ i li later.
@@ -240,10 +199,19 @@ module _ (plan : Plan) (sound : IsSound plan) (s p : ℕ) (ls : s < length plan.
             outputs = h.outputs;
           }
 
+      -- what is dealt of a product is the same, where the sum is still to be read
       sum_same : (k : ℕ) → at es q ≡ Sum k → SameRead (suc q) (after_on_rows row_of plan p s words input w (Sum k) τ) (after plan p s words input got (Sum k) σ)
       sum_same k is =
-          let g : Gate = gate_at plan s k in record {
-            rows = writes g.output τ.sums σ.sums (λ i. subst (λ y. SetsSummand plan s y g.output i) (sym is) refl) (λ i li later. h.sums i li);
+          let g : Gate = gate_at plan s k in
+          let now : (i : ℕ) → SetsSummand plan s (at es q) g.output i = λ i. subst (λ y. SetsSummand plan s y g.output i) (sym is) refl in
+          let begun : (i : ℕ) → i < m → IsToRead plan p s (suc q) g.output i → (if has_pair (scheme plan) p then τ.rows (row_of g.output) i else 0) ≡ (if has_pair (scheme plan) p then σ.rows g.output i else 0) = λ i li later. elim (cases_Bool (has_pair (scheme plan) p)) [
+            | inl yes' ↦
+                let read = read_is_held plan sound s p ls lp order q g.output i (subst Finishes (sym is) tt) (now i) later in
+                cond-true (has_pair (scheme plan) p) _ _ yes' ∙ known g.output i li (subst (λ y. ReadsSummand plan p s y g.output i) (sym is) (refl, yes', read.1, read.0)) ∙ sym (cond-true (has_pair (scheme plan) p) _ _ yes')
+            | inr no' ↦ cond-false (has_pair (scheme plan) p) _ _ no' ∙ sym (cond-false (has_pair (scheme plan) p) _ _ no')
+          ] in
+          record {
+            rows = writes g.output _ _ now (λ i li later. ap₂ (λ a b. (a + b) % 2 ^ plan.bits) (begun i li later) (h.sums i li));
             own = h.own;
             sums = λ i li. refl;
             given = h.given;
@@ -286,7 +254,7 @@ module _ (plan : Plan) (sound : IsSound plan) (s p : ℕ) (ls : s < length plan.
       after_same (Deal k d) is right = deals_same k d (slot plan s k) is refl
       after_same (Post n j) is right = record { rows = stays (λ v i z. subst (λ y. SetsSummand plan s y v i) is z); own = h.own; sums = h.sums; given = h.given; outputs = h.outputs }
       after_same (Take n j) is right = subst (λ z. SameRead (suc q) (took_in (2 ^ plan.bits) (slot_on_rows row_of (slot_of plan s n)) j w τ) (took_in (2 ^ plan.bits) (slot_of plan s n) j z σ)) right (takes_same n j (slot_of plan s n) is refl)
-      after_same (Linear k) is right = linear_same k (slot plan s k) is refl (proper (Linear k) is).kind
+      after_same (Linear k) is right = linear_same k is
       after_same (Own k) is right = own_same k is
       after_same (Sum k) is right = sum_same k is
       after_same (Deliver k) is right = deliver_same k is

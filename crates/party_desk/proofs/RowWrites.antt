@@ -1,6 +1,8 @@
 -- Writes into a row of a table.
-use Rattle.std.proofs.Common.{◌≡◌, ℕ, ◌+◌, ◌*◌, ◌<◌, ◌≤◌, ◌≢◌, nat_eq, nat_lt, if◌then◌else◌, List, length, sym, ap, ap₂, ◌∙◌, subst, arith, get_or-set_other, get_or-set_same, get_or, set}
+use Rattle.std.proofs.Common.{◌≡◌, ℕ, ◌+◌, ◌-◌, ◌*◌, ◌<◌, ◌≤◌, ◌≢◌, nat_eq, nat_lt, if◌then◌else◌, List, length, sym, ap, ap₂, ◌∙◌, subst, arith, take, drop, ◌++◌, get_or-set_other, get_or-set_same, get_or, set}
 use Rattle.std.proofs.lemmas.Bool.{cases_eq, cases_lt, cond-true, cond-false, eq-eqb, ne_eqb, lt-ltb, le-ltb}
+use Rattle.std.specs.Prelude.{slice_index}
+use Rattle.std.proofs.lemmas.List.{get_or_append_left, get_or-append_right, get_or-drop, get_or-take, length-take-le}
 use Rattle.std.proofs.Math.Nat.{mul-le-mul_right}
 use mathlib.Core.Logic.{inl, inr}
 use Rattle.circuit_model.specs.Circuits.{set_at}
@@ -76,3 +78,41 @@ row_put m table v i x li inside u j lj = row_set m table v i x li inside u j lj 
   | inl e ↦ cond-true (nat_eq u v) _ _ (eq-eqb u v e) ∙ ap (λ z. if nat_eq j i then x else row m table z j) e ∙ sym (ap (λ g. g j) (set_here (row m table) v u (set_at (row m table v) i x) e))
   | inr ne ↦ cond-false (nat_eq u v) _ _ (ne_eqb u v ne) ∙ sym (ap (λ g. g j) (set_there (row m table) v u (set_at (row m table v) i x) ne))
 ]
+
+-- a write of a whole row
+pub row_range : (m : ℕ) (table ys : List ℕ) (v k : ℕ) → k ≡ m → length ys ≡ m → (v + 1) * m ≤ length table
+    → SameRows m (row m (take (v * m) table ++ (ys ++ drop k (drop (v * m) table)))) (set_at (row m table) v (slice_index ys))
+row_range m table ys v k all long inside u j lj =
+    let a : ℕ = v * m in
+    let rest : List ℕ = drop k (drop a table) in
+    let whole : List ℕ = take a table ++ (ys ++ rest) in
+    let front : length (take a table) ≡ a = length-take-le a table (omega (arith, inside)) in
+    elim (cases_eq u v) [
+      | inl e ↦
+          let here : u * m ≡ a = ap (λ z. z * m) e in
+          let off : u * m + j - a ≡ j = omega (arith, here) in
+          get_or-append_right (take a table) (ys ++ rest) a (u * m + j) 0 front (omega (arith, here))
+          ∙ ap (λ n. get_or (ys ++ rest) n 0) off
+          ∙ get_or_append_left ys rest 0 j (omega (arith, long, lj))
+          ∙ sym (ap (λ g. g j) (set_here (row m table) v u (slice_index ys) e))
+      | inr ne ↦ elim (cases_lt u v) [
+        | inl less ↦
+            let more : (u + 1) * m ≤ v * m = mul-le-mul_right m (omega (arith, less)) in
+            let before : u * m + j < a = omega (arith, more, lj) in
+            get_or_append_left (take a table) (ys ++ rest) 0 (u * m + j) (omega (arith, front, before))
+            ∙ get_or-take a table (u * m + j) 0 before
+            ∙ sym (ap (λ g. g j) (set_there (row m table) v u (slice_index ys) ne))
+        | inr past ↦
+            let more : (v + 1) * m ≤ u * m = mul-le-mul_right m (omega (arith, past, ne)) in
+            let behind : a + m ≤ u * m + j = omega (arith, more) in
+            let off : k + (u * m + j - a - m) ≡ u * m + j - a = omega (arith, behind, all) in
+            let back : a + (u * m + j - a) ≡ u * m + j = omega (arith, behind) in
+            get_or-append_right (take a table) (ys ++ rest) a (u * m + j) 0 front (omega (arith, behind))
+            ∙ get_or-append_right ys rest m (u * m + j - a) 0 long (omega (arith, behind))
+            ∙ get_or-drop k (drop a table) (u * m + j - a - m) 0
+            ∙ ap (λ n. get_or (drop a table) n 0) off
+            ∙ get_or-drop a table (u * m + j - a) 0
+            ∙ ap (λ n. get_or table n 0) back
+            ∙ sym (ap (λ g. g j) (set_there (row m table) v u (slice_index ys) ne))
+      ]
+    ]

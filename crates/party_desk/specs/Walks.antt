@@ -1,20 +1,26 @@
 -- Instructions of a desk at gates, one after another, on a board.
-use Rattle.std.specs.Prelude.{◌≡◌, ◌≢◌, ℕ, ◌+◌, ◌<◌, ◌≤◌, List, length, slice_get, Some}
-use Rattle.job_session.specs.Sessions.{owners}
+use Rattle.std.specs.Prelude.{◌≡◌, ◌≢◌, ℕ, ◌+◌, ◌-◌, ◌<◌, ◌≤◌, Bool, true, false, List, length, slice_get, Some}
+use Rattle.circuit_model.specs.declared.gate.Gate.{Gate}
+use Rattle.job_session.specs.Batches.{IsBatch}
+use Rattle.job_session.specs.Sessions.{Session, owners, gate}
 use Rattle.job_plan.specs.declared.pattern.Pattern.TheVariants.{Multiplied}
-use Rattle.job_plan.specs.Plans.{Plan, session}
+use Rattle.job_plan.specs.Plans.{Plan, scheme, session}
+use Rattle.secret_sharing.specs.Schemes.{has_pair}
 use Rattle.message_board.specs.Pairs.{Knows, Grows}
 use Rattle.message_board.specs.Seats.{Sitting, AllBelow}
+use Rattle.party_program.specs.declared.half.Half.{Half}
+use Rattle.party_program.specs.declared.half.Half.TheVariants.{Head}
 use Rattle.party_program.specs.declared.place.Place.{Place}
 use Rattle.party_program.specs.declared.program.Instruction.{Instruction}
 use Rattle.party_program.specs.declared.program.Program.{Program}
 use Rattle.party_program.specs.declared.program.Instruction.TheVariants.{Linear, Own, Post, Sum, Take}
 use Rattle.party_program.specs.Programs.{program, at}
-use Rattle.party_program.specs.ProgramPlaces.{instructions_before, IsPlace, IsProgram}
+use Rattle.party_program.specs.ProgramPlaces.{position_of, InProduct, IsPlace, IsProgram}
 use Rattle.party_program.specs.States.{Given}
 use Rattle.party_desk.specs.declared.desk.Desk.{Desk}
 use Rattle.party_desk.specs.declared.memory.Memory.{Memory}
 use Rattle.party_desk.specs.Memories.{IsMemoryOf}
+use Rattle.party_desk.specs.Rows.{gate_in}
 use Rattle.party_desk.specs.Desks.{IsDesk, instruction_at}
 use Rattle.party_desk.specs.Steps.{word_at}
 
@@ -82,11 +88,20 @@ pub record Walks {W : Type 0} (given : Given) (seat : Sitting W) (d : Desk) (sea
   pub seats : seat'.view.seats ≡ seat.view.seats
   pub out : seat'.view.out ≡ seat.view.out
 
--- the place so many steps on in its slot
+-- the same, for a half of a slot: it went on where it came to the end of that, and else nothing comes next that the desk
+-- computes of a gate by itself, nor a take of a product whose word the seat knows
+pub record WentOn {W : Type 0} (given : Given) (seat : Sitting W) (d : Desk) (seat' : Sitting W) (d' : Desk) (goes : Bool)
+    : Type 0 where
+  pub walks : Walks given seat d seat' d'
+  pub on : goes ≡ true → d.position < d'.position
+  pub through : goes ≡ false → NothingToCompute given d'
+  pub looked : goes ≡ false → HasLooked given seat' d'
+
+-- the place so many steps on in its half of a slot
 abbrev pub further : Place → ℕ → Place
 further place steps = record place { done = place.done + steps }
 
--- the desk after so many takes in its slot
+-- the desk after so many takes there
 abbrev pub taken_on : Desk → ℕ → Desk
 taken_on d takes = record d { place = further d.place takes; position = d.position + takes; taken = d.taken + takes }
 
@@ -124,16 +139,49 @@ module _ (plan : Plan) (list : List ℕ) (program : Program) (place : Place) (se
       (given : Given) (d : Desk) → MayWalk plan list given (with_parts d program place session memory)
       → IsAtTake given (taken_on (with_parts d program place session memory') takes)
 
--- the desk has done all instructions before slot k, which is of a gate or the first after those, and only its place is
--- one of before
-pub record IsBefore (plan : Plan) (given : Given) (k : ℕ) (d : Desk) : Type 0 where
+-- the desk has done all instructions before its position, and only its place may be one of before
+pub record IsUnplaced (plan : Plan) (given : Given) (d : Desk) : Type 0 where
   pub same : given.plan ≡ plan
-  pub from : length (owners (session given.plan given.session)) ≤ k
-  pub to : k ≤ length (owners (session given.plan given.session)) + length (session given.plan given.session).gates
-  pub position : d.position ≡ instructions_before given.plan given.party given.session k
   pub party : d.party ≡ given.party
   pub session : d.session ≡ given.session
   pub own_program : IsProgram given.plan given.party given.session d.program
   pub fits : IsMemoryOf given.plan given.session d.memory
   pub desk : (place : Place) → IsPlace given.plan given.party given.session place d.position
       → IsDesk given (at_place d place)
+
+-- the same, and it has come to this half of slot k of the batch in which its place stands, or to its end
+pub record IsBefore (plan : Plan) (given : Given) (half : Half) (k : ℕ) (d : Desk) : Type 0 where
+  pub unplaced : IsUnplaced plan given d
+  pub batch : IsBatch (session given.plan given.session) d.place.batch d.place.end
+  pub from : d.place.batch ≤ k
+  pub to : k ≤ d.place.end
+  pub position : d.position
+      ≡ position_of given.plan given.party given.session half d.place.batch d.place.end k
+
+-- the same, and it has done the first n instructions in the head of a product, before which its place stands
+pub record IsSending (plan : Plan) (given : Given) (n : ℕ) (d : Desk) : Type 0 where
+  pub unplaced : IsUnplaced plan given d
+  pub product : InProduct Head d.place
+  pub starts : d.place.done ≡ 0
+  pub has : has_pair (scheme given.plan) given.party ≡ true
+  pub begun : ℕ
+  pub place : IsPlace given.plan given.party given.session d.place begun
+  pub position : d.position ≡ begun + n
+
+-- between two positions the seat came to know what was posted there
+pub record Sends {W : Type 0} (given : Given) (seat : Sitting W) (q : ℕ) (seat' : Sitting W) (r : ℕ) : Type 0 where
+  pub forth : q ≤ r
+  pub posted : KnowsPosts given q r seat'.view.seen
+  pub grows : Grows seat.view.seen seat'.view.seen
+  pub seats : seat'.view.seats ≡ seat.view.seats
+  pub out : seat'.view.out ≡ seat.view.out
+
+-- slot k is of a gate, or the first after those
+abbrev pub IsAmongGates : Session → ℕ → Type 0
+IsAmongGates s k = (length (owners s) ≤ k) × (k ≤ length (owners s) + length s.gates)
+
+-- these are the gates from slot k up to slot e, as far as there are gates
+pub record AreGatesFrom (s : Session) (k e : ℕ) (gates : List Gate) : Type 0 where
+  pub is : (t : ℕ) → t < length gates → gate_in gates t ≡ gate s (k - length (owners s) + t)
+  pub to : k + length gates ≤ e
+  pub there : k + length gates ≤ length (owners s) + length s.gates

@@ -1,25 +1,23 @@
-//! Instructions of a desk at gates, one after another, on a board that threads share. Each kind has a loop of its own,
-//! in which little but words and summands is looked up.
-ghost use Rattle.std.specs.Prelude.{◌≡◌, ◌-◌, ◌≤◌, true};
+//! Instructions of a desk at gates, one after another, on a board that threads share: head after head as far as a
+//! batch goes, and then tail after tail. Each kind has a loop of its own, in which little but words and summands is
+//! looked up.
+ghost use Rattle.std.specs.Prelude.{◌≡◌, ℕ, ◌+◌, ◌-◌, ◌<◌, ◌≤◌};
 ghost use Rattle.message_board.specs.Seats.{IsSeatOf};
+ghost use Rattle.party_program.specs.declared.half.Half.TheVariants.{Tail};
 ghost use Rattle.party_program.specs.ProgramPlaces.{InProduct};
-ghost use Rattle.party_desk.specs.Walks.{MayTake, TakesLead, LooksAfter, WaitsAfter};
+ghost use Rattle.party_desk.specs.Walks.{MayTake, TakesLead, LooksAfter, WaitsAfter, AreGatesFrom, IsAmongGates};
 
 use crate::desk::{Desk, product_in};
 use crate::memory::Memory;
+use crate::rows;
+use circuit_model::Gate;
 use job_plan::{Pattern, Plan, SessionPart};
 use message_board::{Board, BoardSeat, Promise, SlotItem};
 use mpc_ring::Ring;
-use party_program::{Instruction, Place, Program};
+use party_program::{Half, Instruction, Place, Program};
 
-// The step of its slot that comes after the words that were taken, and whether it is a take, which waits.
-#[derive(Clone, Copy)]
-struct Takes {
-    next: u32,
-    waits: bool,
-}
-
-// The takes that come next in the slot of a product, in which the place stands, until a cell is empty.
+// The takes that come next in the tail of a product, in which the place stands, until a cell is empty. It answers how
+// many steps of the tail are done then: all but the sum, unless one waits.
 #[inline(always)]
 fn take_words<W: Promise, T: SlotItem<W>>(
     plan: &Plan,
@@ -29,50 +27,71 @@ fn take_words<W: Promise, T: SlotItem<W>>(
     place: &Place,
     session: u32,
     memory: &mut Memory,
-) -> Takes
+) -> u32
     requires may { MayTake plan.now (W.list board.now.about.world) program.now place.now session memory.old }
-    requires product { InProduct place.now }
+    requires product { InProduct Tail place.now }
     requires seat { IsSeatOf board.now seat.old }
     ensures seat { IsSeatOf board.now seat.new }
-    ensures forth { place.now.done ≤ result.next }
+    ensures forth { place.now.done ≤ result }
+    ensures left { result < place.now.count }
     ensures walks { TakesLead plan.now (W.list board.now.about.world) program.now place.now session
-        seat.old memory.old seat.new memory.new (result.next - place.now.done) }
-    ensures still { result.next ≡ place.now.done → memory.new ≡ memory.old }
+        seat.old memory.old seat.new memory.new (result - place.now.done) }
+    ensures still { result ≡ place.now.done → memory.new ≡ memory.old }
     ensures looked { LooksAfter plan.now (W.list board.now.about.world) program.now place.now session
-        memory.old seat.new memory.new (result.next - place.now.done) }
-    ensures waits { result.waits ≡ true → WaitsAfter plan.now (W.list board.now.about.world) program.now place.now
-        session memory.old memory.new (result.next - place.now.done) }
+        memory.old seat.new memory.new (result - place.now.done) }
+    ensures waits { result + 1 < place.now.count → WaitsAfter plan.now (W.list board.now.about.world) program.now
+        place.now session memory.old memory.new (result - place.now.done) }
 {
-    let of_product = program.product_steps();
+    let of_product = program.product_steps(Half::Tail);
+    let last = of_product.len() as u32 - 1;
     let mut next = place.done();
-    while let Instruction::Take { number, share } = program.product_step(
-        plan, place, of_product, next,
-    ) {
+    while next < last {
+        let step = program.product_step(plan, place, of_product, next);
+        let Instruction::Take { number, share } = step else {
+            unreachable!();
+        };
         let Some(word) = board.take(seat, number) else {
-            break;
+            return next;
         };
         let kind = product_in(plan, session, place.slot());
         memory.take(plan, session, kind, share, word);
         next += 1;
     }
-    let waits = matches!(
-        program.product_step(plan, place, of_product, next),
-        Instruction::Take { .. }
-    );
-    Takes { next, waits }
+    next
+}
+
+// The gates from this slot on, up to the end of a batch.
+#[inline(always)]
+fn gates_from(part: &SessionPart, slot: u32, end: u32) -> &[Gate]
+    requires among { IsAmongGates part.now slot }
+    requires end { slot ≤ end }
+    ensures { AreGatesFrom part.now slot end result.now }
+{
+    let inputs = part.input_wires() as u32;
+    let gates = part.gates();
+    let first = (slot - inputs) as usize;
+    let mut last = (end - inputs) as usize;
+    if last > gates.len() {
+        last = gates.len();
+    }
+    &gates[first..last]
 }
 
 impl Desk {
     ghost use Rattle.std.specs.Prelude.{◌≡◌, ◌+◌, ◌<◌, ◌≤◌, true, false, length};
+    ghost use Rattle.secret_sharing.specs.Schemes.{has_pair};
+    ghost use Rattle.job_plan.specs.declared.pattern.Pattern.TheVariants.{Multiplied, Silent};
+    ghost use Rattle.job_plan.specs.Plans.{scheme, session};
     ghost use Rattle.message_board.specs.Seats.{IsSeatOf};
-    ghost use Rattle.party_program.specs.declared.program.Instruction.TheVariants.{Linear, Own, Sum};
-    ghost use Rattle.job_plan.specs.declared.pattern.Pattern.TheVariants.{Silent};
+    ghost use Rattle.party_program.specs.declared.half.Half.TheVariants.{Head, Tail};
+    ghost use Rattle.party_program.specs.declared.program.Instruction.TheVariants.{Linear, Sum};
     ghost use Rattle.party_program.specs.ProgramPlaces.{InProduct};
-    ghost use Rattle.job_plan.specs.Plans.{session};
     ghost use Rattle.party_program.specs.States.{Given};
+    ghost use Rattle.program_laws.specs.WordsRead.{gate_at};
     ghost use Rattle.party_desk.specs.Desks.{instruction_at};
-    ghost use Rattle.party_desk.specs.Walks.{IsDeskOfPlan, MayWalk, Computes, Walks, IsBefore};
-    ghost use Rattle.party_desk.specs.Walks.{NoneNext, IsAtTake, HasLooked, NothingToCompute};
+    ghost use Rattle.party_desk.specs.Walks.{IsDeskOfPlan, MayWalk, HasWords, Computes, NoPosts, Walks, Sends};
+    ghost use Rattle.party_desk.specs.Walks.{IsAmongGates, IsBefore, IsSending, IsAtTake};
+    ghost use Rattle.party_desk.specs.Walks.{HasLooked, NothingToCompute, WentOn};
 
     /// Does the instructions that come next as long as they are of gates, until one waits for a message, and answers
     /// how many they were. Afterwards no own product, no sum and no linear gate comes next, nor a take of a product
@@ -99,14 +118,18 @@ impl Desk {
         let before = self.position;
         let mut goes = true;
         while goes {
-            goes = self.walk_product(plan, board, seat) && self.compute_next(plan);
+            goes = match self.place.half() {
+                Half::Head => self.walk_head(plan, board, seat),
+                Half::Tail => self.walk_tail(plan, board, seat),
+            };
         }
         self.position - before
     }
 
-    // At a product, what comes before its sum. It answers false where a take waits for its message.
+    // In a head of a gate, what the party does there, and the linear gates that come next in heads. It answers whether
+    // it stood in one.
     #[inline(always)]
-    fn walk_product<W: Promise, T: SlotItem<W>>(
+    fn walk_head<W: Promise, T: SlotItem<W>>(
         &mut self,
         plan: &Plan,
         board: &Board<W, T>,
@@ -114,105 +137,132 @@ impl Desk {
     ) -> bool
         requires may { (given : Given) × MayWalk plan.now (W.list board.now.about.world) given self.old }
         requires seat { IsSeatOf board.now seat.old }
+        requires head { self.old.place.half ≡ Head }
         ensures seat { IsSeatOf board.now seat.new }
-        ensures walks { (given : Given) → MayWalk plan.now (W.list board.now.about.world) given self.old
-            → Walks given seat.old self.old seat.new self.new }
+        ensures went { (given : Given) → MayWalk plan.now (W.list board.now.about.world) given self.old
+            → WentOn given seat.old self.old seat.new self.new result }
         ensures still { self.new.position ≡ self.old.position → self.new ≡ self.old }
-        ensures own { (given : Given) → MayWalk plan.now (W.list board.now.about.world) given self.old
-            → NoneNext Own given self.new }
-        ensures looked { (given : Given) → MayWalk plan.now (W.list board.now.about.world) given self.old
-            → HasLooked given seat.new self.new }
-        ensures waits { result ≡ false
-            → (given : Given) → MayWalk plan.now (W.list board.now.about.world) given self.old
-            → IsAtTake given self.new }
     {
-        self.send(plan, board, seat);
-        self.take_each(plan, board, seat)
+        match self.place.pattern() {
+            Pattern::Multiplied => self.send_next(plan, board, seat),
+            Pattern::Silent => self.gates_next(plan),
+            _ => false,
+        }
     }
 
-    // At the start of a product, what the party deals and posts.
+    // In a tail of a product, the takes that come next, and the sum. It answers whether it came to that.
     #[inline(always)]
-    fn send<W: Promise, T: SlotItem<W>>(
+    fn walk_tail<W: Promise, T: SlotItem<W>>(
         &mut self,
         plan: &Plan,
         board: &Board<W, T>,
         seat: &mut BoardSeat<W, T>,
-    )
+    ) -> bool
         requires may { (given : Given) × MayWalk plan.now (W.list board.now.about.world) given self.old }
         requires seat { IsSeatOf board.now seat.old }
+        requires tail { self.old.place.half ≡ Tail }
         ensures seat { IsSeatOf board.now seat.new }
-        ensures walks { (given : Given) → MayWalk plan.now (W.list board.now.about.world) given self.old
-            → Walks given seat.old self.old seat.new self.new }
+        ensures went { (given : Given) → MayWalk plan.now (W.list board.now.about.world) given self.old
+            → WentOn given seat.old self.old seat.new self.new result }
         ensures still { self.new.position ≡ self.old.position → self.new ≡ self.old }
-        ensures own { (given : Given) → MayWalk plan.now (W.list board.now.about.world) given self.old
-            → NoneNext Own given self.new }
-    {
-        if self.deal_own(plan) {
-            self.post_each(plan, board, seat);
-        }
-    }
-
-    // At the start of a product, forms the own one and deals it, if the party has a pair of summands to multiply.
-    #[inline(always)]
-    fn deal_own(&mut self, plan: &Plan) -> bool
-        requires { (given : Given) × IsDeskOfPlan plan.now given self.old }
-        ensures computes { (given : Given) → IsDeskOfPlan plan.now given self.old → Computes given self.old self.new }
-        ensures on { result ≡ true → self.old.position < self.new.position }
-        ensures still { result ≡ false → self.new ≡ self.old }
-        ensures product { result ≡ true → InProduct self.new.place }
-        ensures done { result ≡ true → 0 < self.new.place.done }
-        ensures own { result ≡ false → (given : Given) → IsDeskOfPlan plan.now given self.old
-            → NoneNext Own given self.new }
     {
         let Pattern::Multiplied = self.place.pattern() else {
             return false;
         };
-        if !self.place.is_first() || !plan.multiplies(self.party) {
+        if self.place.is_past() {
             return false;
         }
-        let gate = self.gate(plan, self.place.slot());
-        let kind = self.product(plan);
-        self.memory.multiply(plan, self.session, self.party, gate);
-        self.memory.deal(plan, self.session, kind);
-        self.place.skip(2);
-        self.position += 2;
+        if !self.take_each(plan, board, seat) {
+            return false;
+        }
+        self.sum_next(plan);
         true
     }
 
-    // The posts of a product that come next.
+    // At the start of a product, what the party deals and posts, and the linear gates that come next in heads.
+    #[inline(always)]
+    fn send_next<W: Promise, T: SlotItem<W>>(
+        &mut self,
+        plan: &Plan,
+        board: &Board<W, T>,
+        seat: &mut BoardSeat<W, T>,
+    ) -> bool
+        requires may { (given : Given) × MayWalk plan.now (W.list board.now.about.world) given self.old }
+        requires seat { IsSeatOf board.now seat.old }
+        requires head { self.old.place.half ≡ Head }
+        requires product { self.old.place.pattern ≡ Multiplied }
+        ensures seat { IsSeatOf board.now seat.new }
+        ensures went { (given : Given) → MayWalk plan.now (W.list board.now.about.world) given self.old
+            → WentOn given seat.old self.old seat.new self.new result }
+        ensures still { self.new.position ≡ self.old.position → self.new ≡ self.old }
+    {
+        if !self.place.is_first() || !plan.multiplies(self.party) {
+            return false;
+        }
+        let part = plan.part(self.session);
+        let slot = self.place.slot();
+        let gate = self.gate(plan, slot);
+        self.deal_own(plan, gate);
+        self.post_each(plan, board, seat, gate.output);
+        self.compute_gates(plan, part, slot + 1);
+        true
+    }
+
+    // At the start of a product, forms the own one and deals it. The place stays behind.
+    #[inline(always)]
+    fn deal_own(&mut self, plan: &Plan, gate: Gate)
+        requires goes { (given : Given) × IsDeskOfPlan plan.now given self.old }
+        requires product { InProduct Head self.old.place }
+        requires first { self.old.place.done ≡ 0 }
+        requires has { has_pair (scheme plan.now) self.old.party ≡ true }
+        requires gate { gate ≡ gate_at plan.now self.old.session self.old.place.slot }
+        ensures sends { (given : Given) → IsDeskOfPlan plan.now given self.old → IsSending plan.now given 2 self.new }
+        ensures no_post { (given : Given) → IsDeskOfPlan plan.now given self.old
+            → NoPosts given self.old.position self.new.position }
+        ensures rest { self.new
+            ≡ record self.old { position = self.old.position + 2; memory = self.new.memory } }
+    {
+        self.memory.multiply(plan, self.session, self.party, gate);
+        self.memory.deal_product(plan, self.session, gate.output);
+        self.position += 2;
+    }
+
+    // The posts of a product, whose summands are in the row of this wire. The place stays behind.
     #[inline(always)]
     fn post_each<W: Promise, T: SlotItem<W>>(
         &mut self,
         plan: &Plan,
         board: &Board<W, T>,
         seat: &mut BoardSeat<W, T>,
+        wire: u32,
     )
-        requires may { (given : Given) × MayWalk plan.now (W.list board.now.about.world) given self.old }
+        requires sends { (given : Given) × IsSending plan.now given 2 self.old
+            × HasWords given (W.list board.now.about.world) }
         requires seat { IsSeatOf board.now seat.old }
-        requires product { InProduct self.old.place }
+        requires wire { wire ≡ (gate_at plan.now self.old.session self.old.place.slot).output }
         ensures seat { IsSeatOf board.now seat.new }
-        ensures walks { (given : Given) → MayWalk plan.now (W.list board.now.about.world) given self.old
-            → Walks given seat.old self.old seat.new self.new }
-        ensures still { self.new.position ≡ self.old.position → self.new ≡ self.old }
-        ensures done { self.old.place.done ≤ self.new.place.done }
+        ensures walks { (given : Given) → IsSending plan.now given 2 self.old
+            → HasWords given (W.list board.now.about.world)
+            → IsSending plan.now given self.old.place.count self.new
+            × Sends given seat.old self.old.position seat.new self.new.position }
+        ensures rest { self.new
+            ≡ record self.old { position = self.new.position; sent = self.new.sent } }
     {
         let place = self.place;
-        let of_product = self.program.product_steps();
-        let sums = self.memory.sums.as_slice();
-        let from = place.done();
-        let mut at = from;
-        while let Instruction::Post { number, share } = self
-            .program
-            .product_step(plan, &place, of_product, at)
-        {
-            let word = self.product_word(plan, sums, number, share);
-            let _ = board.post(seat, number, word);
+        let of_product = self.program.product_steps(Half::Head);
+        let summands = self.memory.summands(plan, self.session, wire);
+        let count = of_product.len() as u32;
+        let mut at = 2;
+        while at < count {
+            let step = self.program.product_step(plan, &place, of_product, at);
+            let Instruction::Post { number, share } = step else {
+                unreachable!();
+            };
+            let _ = board.post(seat, number, summands[share as usize]);
             at += 1;
         }
-        let moves = at - from;
-        self.place.skip(moves);
-        self.position += moves;
-        self.sent += moves;
+        self.position += count - 2;
+        self.sent += count - 2;
     }
 
     // The takes of a product that come next, until a cell is empty. It answers whether none was.
@@ -225,25 +275,21 @@ impl Desk {
     ) -> bool
         requires may { (given : Given) × MayWalk plan.now (W.list board.now.about.world) given self.old }
         requires seat { IsSeatOf board.now seat.old }
+        requires product { InProduct Tail self.old.place }
         ensures seat { IsSeatOf board.now seat.new }
         ensures walks { (given : Given) → MayWalk plan.now (W.list board.now.about.world) given self.old
             → Walks given seat.old self.old seat.new self.new }
         ensures still { self.new.position ≡ self.old.position → self.new ≡ self.old }
-        ensures done { self.old.position < self.new.position → 0 < self.new.place.done }
         ensures looked { (given : Given) → MayWalk plan.now (W.list board.now.about.world) given self.old
             → HasLooked given seat.new self.new }
+        ensures product { InProduct Tail self.new.place }
+        ensures done { result ≡ true → self.new.place.done + 1 ≡ self.new.place.count }
         ensures waits { result ≡ false
             → (given : Given) → MayWalk plan.now (W.list board.now.about.world) given self.old
             → IsAtTake given self.new }
     {
-        let Pattern::Multiplied = self.place.pattern() else {
-            return true;
-        };
-        if self.place.is_past() {
-            return true;
-        }
         let place = self.place;
-        let takes = take_words(
+        let next = take_words(
             plan,
             board,
             seat,
@@ -252,62 +298,40 @@ impl Desk {
             self.session,
             &mut self.memory,
         );
-        let moves = takes.next - place.done();
+        let moves = next - place.done();
         self.place.skip(moves);
         self.position += moves;
         self.taken += moves;
-        !takes.waits
+        self.place.is_last()
     }
 
-    // The sum of a product or a linear gate, if one comes next, and the linear gates after it.
+    // The sum of a product, the last instruction of its tail.
     #[inline(always)]
-    fn compute_next(&mut self, plan: &Plan) -> bool
-        requires { (given : Given) × IsDeskOfPlan plan.now given self.old }
+    fn sum_next(&mut self, plan: &Plan)
+        requires goes { (given : Given) × IsDeskOfPlan plan.now given self.old }
+        requires product { InProduct Tail self.old.place }
+        requires last { self.old.place.done + 1 ≡ self.old.place.count }
         ensures computes { (given : Given) → IsDeskOfPlan plan.now given self.old → Computes given self.old self.new }
-        ensures on { result ≡ true → self.old.position < self.new.position }
-        ensures still { result ≡ false → self.new ≡ self.old }
-        ensures rests { result ≡ false → (given : Given) → IsDeskOfPlan plan.now given self.old
-            → NoneNext Sum given self.new × NoneNext Linear given self.new }
+        ensures on { self.old.position < self.new.position }
     {
-        self.sum_next(plan) || self.gates_next(plan)
-    }
-
-    // The sum of a product, if that comes next, and the linear gates after it.
-    #[inline(always)]
-    fn sum_next(&mut self, plan: &Plan) -> bool
-        requires { (given : Given) × IsDeskOfPlan plan.now given self.old }
-        ensures computes { (given : Given) → IsDeskOfPlan plan.now given self.old → Computes given self.old self.new }
-        ensures on { result ≡ true → self.old.position < self.new.position }
-        ensures still { result ≡ false → self.new ≡ self.old }
-        ensures sum { result ≡ false → (given : Given) → IsDeskOfPlan plan.now given self.old
-            → NoneNext Sum given self.new }
-    {
-        let Pattern::Multiplied = self.place.pattern() else {
-            return false;
-        };
-        if !self.place.is_last() {
-            return false;
-        }
         let slot = self.place.slot();
         let part = plan.part(self.session);
         self.end_product(plan, slot);
-        self.compute_gates(plan, part, slot + 1);
-        true
+        self.enter_tail(plan, part, slot + 1);
     }
 
-    // The linear gates that come next.
+    // The linear gates that come next in heads.
     #[inline(always)]
     fn gates_next(&mut self, plan: &Plan) -> bool
-        requires { (given : Given) × IsDeskOfPlan plan.now given self.old }
+        requires goes { (given : Given) × IsDeskOfPlan plan.now given self.old }
+        requires head { self.old.place.half ≡ Head }
+        requires silent { self.old.place.pattern ≡ Silent }
         ensures computes { (given : Given) → IsDeskOfPlan plan.now given self.old → Computes given self.old self.new }
         ensures on { result ≡ true → self.old.position < self.new.position }
         ensures still { result ≡ false → self.new ≡ self.old }
         ensures linear { result ≡ false → (given : Given) → IsDeskOfPlan plan.now given self.old
-            → NoneNext Linear given self.new }
+            → NothingToCompute given self.new }
     {
-        let Pattern::Silent = self.place.pattern() else {
-            return false;
-        };
         let Instruction::Linear { slot } = self.program.instruction_at(plan, &self.place) else {
             return false;
         };
@@ -317,19 +341,21 @@ impl Desk {
         true
     }
 
-    // The sum of a product, the last instruction of its slot. The place stays behind.
+    // The sum of a product. The place stays behind.
     #[inline(always)]
     fn end_product(&mut self, plan: &Plan, slot: u32)
         requires goes { (given : Given) × IsDeskOfPlan plan.now given self.old }
         requires sum { (given : Given) → IsDeskOfPlan plan.now given self.old
             → instruction_at given self.old ≡ Sum slot }
+        requires product { InProduct Tail self.old.place }
         requires last { self.old.place.done + 1 ≡ self.old.place.count }
         ensures before { (given : Given) → IsDeskOfPlan plan.now given self.old
-            → IsBefore plan.now given (slot + 1) self.new }
-        ensures position { self.new.position ≡ self.old.position + 1 }
+            → IsBefore plan.now given Tail (slot + 1) self.new }
+        ensures rest { self.new
+            ≡ record self.old { position = self.old.position + 1; memory = self.new.memory } }
     {
         let gate = self.gate(plan, slot);
-        self.memory.sum(plan, self.session, gate);
+        self.memory.sum(plan, self.session, self.party, gate);
         self.position += 1;
     }
 
@@ -339,10 +365,10 @@ impl Desk {
         requires goes { (given : Given) × IsDeskOfPlan plan.now given self.old }
         requires linear { (given : Given) → IsDeskOfPlan plan.now given self.old
             → instruction_at given self.old ≡ Linear slot }
-        requires silent { self.old.place.pattern ≡ Silent }
         ensures before { (given : Given) → IsDeskOfPlan plan.now given self.old
-            → IsBefore plan.now given (slot + 1) self.new }
-        ensures position { self.new.position ≡ self.old.position + 1 }
+            → IsBefore plan.now given Head (slot + 1) self.new }
+        ensures rest { self.new
+            ≡ record self.old { position = self.old.position + 1; memory = self.new.memory } }
     {
         let gate = self.gate(plan, slot);
         let shares = plan.shares() as usize;
@@ -351,12 +377,13 @@ impl Desk {
         self.position += 1;
     }
 
-    // Computes linear gates from the one of this slot on, and brings the place up.
+    // Computes linear gates of the batch from the one of this slot on, and brings the place up.
     #[inline(always)]
     fn compute_gates(&mut self, plan: &Plan, part: &SessionPart, slot: u32)
-        requires goes { (given : Given) × IsBefore plan.now given slot self.old }
+        requires goes { (given : Given) × IsBefore plan.now given Head slot self.old }
         requires part { part.now ≡ session plan.now self.old.session }
-        ensures { (given : Given) → IsBefore plan.now given slot self.old → Computes given self.old self.new }
+        requires among { IsAmongGates part.now slot }
+        ensures { (given : Given) → IsBefore plan.now given Head slot self.old → Computes given self.old self.new }
     {
         let ring = plan.ring();
         let shares = plan.shares() as usize;
@@ -378,23 +405,43 @@ impl Desk {
         ring: Ring,
         shares: usize,
     )
-        requires goes { (given : Given) × IsBefore plan.now given slot self.old }
+        requires goes { (given : Given) × IsBefore plan.now given Head slot self.old }
         requires part { part.now ≡ session plan.now self.old.session }
+        requires among { IsAmongGates part.now slot }
         requires ring { ring ≡ plan.now.bits }
         requires shares { shares ≡ length plan.now.groups }
-        ensures { (given : Given) → IsBefore plan.now given slot self.old → Computes given self.old self.new }
+        ensures { (given : Given) → IsBefore plan.now given Head slot self.old → Computes given self.old self.new }
     {
-        let first = slot - part.input_wires() as u32;
-        let gates = &part.gates()[first as usize..];
+        let gates = gates_from(part, slot, self.place.end());
         let computed = self
             .memory
             .linear_gates(plan, self.session, ring, shares, gates);
         let next = slot + computed as u32;
         self.position += computed as u32;
         if computed < gates.len() {
-            self.program.enter_product(plan, &mut self.place, next);
+            self.program
+                .enter_product(plan, &mut self.place, Half::Head, next);
         } else {
-            self.program.enter(plan, &mut self.place, next);
+            self.program.enter(plan, &mut self.place, Half::Head, next);
+        }
+    }
+
+    // Brings the place up to the first tail from that of this slot on. The tails of linear gates are empty.
+    #[inline(always)]
+    fn enter_tail(&mut self, plan: &Plan, part: &SessionPart, slot: u32)
+        requires goes { (given : Given) × IsBefore plan.now given Tail slot self.old }
+        requires part { part.now ≡ session plan.now self.old.session }
+        requires among { IsAmongGates part.now slot }
+        ensures { (given : Given) → IsBefore plan.now given Tail slot self.old → Computes given self.old self.new }
+    {
+        let gates = gates_from(part, slot, self.place.end());
+        let linear = rows::linear_count(gates);
+        let next = slot + linear as u32;
+        if linear < gates.len() {
+            self.program
+                .enter_product(plan, &mut self.place, Half::Tail, next);
+        } else {
+            self.program.enter(plan, &mut self.place, Half::Tail, next);
         }
     }
 }

@@ -1,5 +1,5 @@
--- The instructions of a slot are the steps of its pattern.
-use Rattle.std.proofs.Common.{◌≡◌, ℕ, suc, ◌+◌, ◌<◌, Bool, true, false, not, ◌&&◌, nat_eq, if◌then◌else◌, List, [], ◌∷◌, ◌++◌, map, length, refl, sym, ap, ap₂, ◌∙◌, subst, arith}
+-- The instructions of a half of a slot are the steps of its pattern.
+use Rattle.std.proofs.Common.{◌≡◌, ℕ, suc, ◌+◌, ◌<◌, Bool, true, false, not, ◌&&◌, nat_eq, if◌then◌else◌, List, [], ◌∷◌, ◌++◌, map, length, refl, sym, ap, ap₂, ◌∙◌, subst, arith, append-nil}
 use Rattle.std.specs.Prelude.{slice_index_or}
 use Rattle.std.specs.List.{range_with_len, filter, enumerate_from}
 use Rattle.std.proofs.lemmas.Bool.{cases_Bool, cond-true, cond-false}
@@ -20,6 +20,8 @@ use Rattle.job_plan.specs.Firsts.{count, first, numbers}
 use Rattle.job_plan.specs.Patterns.{named, lines, pattern, pattern_at}
 use Rattle.job_plan.proofs.SlotMessages.{message_at}
 use Rattle.job_plan.proofs.SlotPatterns.{map_only_if, slots_follow_patterns}
+use Rattle.party_program.specs.declared.half.Half.{Half}
+use Rattle.party_program.specs.declared.half.Half.TheVariants.{Head, Tail}
 use Rattle.party_program.specs.declared.program.Instruction.{Instruction}
 use Rattle.party_program.specs.declared.program.Instruction.TheVariants as instruction
 use Rattle.party_program.specs.declared.step.Step.{Step}
@@ -57,16 +59,17 @@ module _ (plan : Plan) (p s k : ℕ) where
   abbrev place : Step → Instruction
   place = placed k (first plan s k) (deals_before plan p s k)
 
-  before_product : (b : Bool) → only_if (b && has_pair (scheme plan) p) (instruction.Own k ∷ instruction.Deal k (deals_before plan p s k) ∷ []) ≡ map place (steps_before plan p (if b then Multiplied else Silent))
-  before_product true = sym (map_only_if place (has_pair (scheme plan) p) (Own ∷ Deal ∷ []))
-  before_product false = refl
+  before_gate : (b : Bool) → only_if (b && has_pair (scheme plan) p) (instruction.Own k ∷ instruction.Deal k (deals_before plan p s k) ∷ []) ++ only_if (not b) (instruction.Linear k ∷ [])
+      ≡ map place (steps_before plan p (if b then Multiplied else Silent))
+  before_gate true = append-nil (only_if (has_pair (scheme plan) p) (instruction.Own k ∷ instruction.Deal k (deals_before plan p s k) ∷ [])) ∙ sym (map_only_if place (has_pair (scheme plan) p) (Own ∷ Deal ∷ []))
+  before_gate false = refl
 
   opening_is : (z : Slot) → programs.opening plan p s k z ≡ map place (steps_before plan p (pattern plan s z))
   opening_is (Input v) = sym (map_only_if place (gives plan s p v) (Deal ∷ []))
-  opening_is (At_gate t) = before_product (is_product (gate (session plan s) t).operation)
+  opening_is (At_gate t) = before_gate (is_product (gate (session plan s) t).operation)
   opening_is (Output o) = refl
 
-  after_gate : (b : Bool) → only_if b (instruction.Sum k ∷ []) ++ only_if (not b) (instruction.Linear k ∷ []) ≡ map place (steps_after p (if b then Multiplied else Silent))
+  after_gate : (b : Bool) → only_if b (instruction.Sum k ∷ []) ≡ map place (steps_after p (if b then Multiplied else Silent))
   after_gate true = refl
   after_gate false = refl
 
@@ -106,9 +109,6 @@ module _ (plan : Plan) (p s k : ℕ) where
     takes_are : programs.takes plan p s k ≡ map place (take_steps plan p its)
     takes_are = numbers_are (programs.take_of plan) (programs.to plan p) take_step (is_to p) (λ n m x e is. (ap (λ (key : Key). nat_eq key.receiver p) is, ap₂ instruction.Take e (ap (λ (key : Key). key.share) is)))
 
-    pub slot_program_follows : programs.slot_program plan p s k ≡ map place (steps plan p its)
-    slot_program_follows =
-        ap₂ (λ x y. x ++ y) (ap₂ (λ x y. x ++ y) (ap₂ (λ x y. x ++ y) (opening_is (slot plan s k)) posts_are) takes_are) (closing_is (slot plan s k))
-        ∙ sym (map-append place (steps_before plan p its ++ post_steps plan p its ++ take_steps plan p its) (steps_after p its)
-        ∙ ap (λ x. x ++ map place (steps_after p its)) (map-append place (steps_before plan p its ++ post_steps plan p its) (take_steps plan p its)
-        ∙ ap (λ x. x ++ map place (take_steps plan p its)) (map-append place (steps_before plan p its) (post_steps plan p its))))
+    pub half_program_follows : (half : Half) → programs.half_program plan p s half k ≡ map place (steps plan p half its)
+    half_program_follows Head = ap₂ (λ x y. x ++ y) (opening_is (slot plan s k)) posts_are ∙ sym (map-append place (steps_before plan p its) (post_steps plan p its))
+    half_program_follows Tail = ap₂ (λ x y. x ++ y) takes_are (closing_is (slot plan s k)) ∙ sym (map-append place (take_steps plan p its) (steps_after p its))

@@ -10,6 +10,7 @@ use Rattle.job_session.specs.Sessions.Slot.{Input, At_gate, Output}
 use Rattle.job_plan.specs.Patterns.{pattern, pattern_at, Occurs}
 use Rattle.job_plan.specs.Sound.{IsSound}
 use Rattle.job_session.proofs.SessionSlots.{slot_cases}
+use Rattle.party_program.specs.declared.half.Half.{Half}
 use Rattle.party_program.specs.declared.step.Step.{Step}
 use Rattle.party_program.specs.declared.step_table.StepTable.{StepTable}
 use Rattle.party_program.specs.PartySteps.{deals_in_pattern, steps}
@@ -32,9 +33,9 @@ module _ (plan : Plan) (s : ℕ) where
   occurs_in k its sound ls lk e = record { slot = k; slot_there = lk; is = e; occurs = subst (Occurs plan) (sym e) (pattern_occurs k sound ls lk) }
 
   -- what a table has for the pattern of a slot
-  pub steps_found : (p k : ℕ) (its : Pattern) (table : StepTable) (found : List Step) → AreSteps plan p s table → IsSound plan → s < length plan.sessions → k < slots plan s → its ≡ pattern_at plan s k
-      → ((plan : Plan) (p s : ℕ) → AreSteps plan p s table → OccursIn plan s its → found ≡ steps plan p its) → found ≡ steps plan p (pattern_at plan s k)
-  steps_found p k its table found are sound ls lk e of = of plan p s are (occurs_in k its sound ls lk e) ∙ ap (steps plan p) e
+  pub steps_found : (p k : ℕ) (half : Half) (its : Pattern) (table : StepTable) (found : List Step) → AreSteps plan p s half table → IsSound plan → s < length plan.sessions → k < slots plan s → its ≡ pattern_at plan s k
+      → ((plan : Plan) (p s : ℕ) (half : Half) → AreSteps plan p s half table → OccursIn plan s its → found ≡ steps plan p half its) → found ≡ steps plan p half (pattern_at plan s k)
+  steps_found p k half its table found are sound ls lk e of = of plan p s half are (occurs_in k its sound ls lk e) ∙ ap (steps plan p half) e
 
   -- whether a party deals in a slot, its pattern tells
   pub deals_by_pattern : (p : ℕ) (z : Slot) → deals_in_pattern plan p (pattern plan s z) ≡ deals_in plan s p z

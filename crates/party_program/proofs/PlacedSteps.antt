@@ -1,5 +1,5 @@
 -- The messages that steps name are those of their pattern.
-use Rattle.std.proofs.Common.{ℕ, ◌+◌, ◌<◌, ◌≤◌, Bool, nat_eq, List, [], ◌∷◌, ◌++◌, map, length, sym, subst, arith}
+use Rattle.std.proofs.Common.{ℕ, ◌+◌, ◌<◌, ◌≤◌, Bool, nat_eq, List, [], ◌∷◌, map, length, sym, subst, arith}
 use Rattle.std.specs.Prelude.{slice_index_or}
 use Rattle.std.specs.List.{AllByRecursion, filter, enumerate_from}
 use Rattle.std.proofs.lemmas.Bool.{cases_Bool, cond-true, cond-false}
@@ -13,6 +13,8 @@ use Rattle.job_plan.specs.declared.pattern.Pattern.TheVariants.{Silent, Dealt, M
 use Rattle.job_plan.specs.Plans.{Plan, scheme}
 use Rattle.job_plan.specs.Patterns.{lines}
 use Rattle.job_plan.proofs.DistinctMessages.{every_place}
+use Rattle.party_program.specs.declared.half.Half.{Half}
+use Rattle.party_program.specs.declared.half.Half.TheVariants.{Head, Tail}
 use Rattle.party_program.specs.declared.step.Step.{Step}
 use Rattle.party_program.specs.declared.step.Step.TheVariants.{Deal, Own, Deliver}
 use Rattle.party_program.specs.PartySteps.{steps_before, steps_after, post_steps, take_steps, post_step, take_step, is_from, is_to, steps, IsPlaced}
@@ -29,24 +31,24 @@ passing_placed f test n j (l ∷ ls) h b =
 
 module _ (plan : Plan) (p n : ℕ) where
   before_placed : (pattern : Pattern) → AllByRecursion (IsPlaced n) (steps_before plan p pattern)
-  before_placed Silent = tt
+  before_placed Silent = (tt, tt)
   before_placed (Dealt q) = every_only_if (IsPlaced n) (nat_eq q p) (Deal ∷ []) (λ e. (tt, tt))
   before_placed Multiplied = every_only_if (IsPlaced n) (has_pair (scheme plan) p) (Own ∷ Deal ∷ []) (λ e. (tt, (tt, tt)))
   before_placed (Opened readers) = tt
 
   after_placed : (pattern : Pattern) → AllByRecursion (IsPlaced n) (steps_after p pattern)
-  after_placed Silent = (tt, tt)
+  after_placed Silent = tt
   after_placed (Dealt q) = tt
   after_placed Multiplied = (tt, tt)
   after_placed (Opened readers) = every_only_if (IsPlaced n) (has_party readers p) (Deliver ∷ []) (λ e. (tt, tt))
 
-pub steps_placed : (plan : Plan) (p : ℕ) (pattern : Pattern) (i : ℕ) (d : Step) → i < length (steps plan p pattern) → IsPlaced (length (lines plan pattern)) (slice_index_or (steps plan p pattern) i d)
-steps_placed plan p pattern i d l =
-    let n : ℕ = length (lines plan pattern) in
-    every_place (IsPlaced n) (steps plan p pattern) i d
-    (every_append (IsPlaced n) (steps_before plan p pattern ++ post_steps plan p pattern ++ take_steps plan p pattern) (steps_after p pattern)
-    (every_append (IsPlaced n) (steps_before plan p pattern ++ post_steps plan p pattern) (take_steps plan p pattern)
-    (every_append (IsPlaced n) (steps_before plan p pattern) (post_steps plan p pattern) (before_placed plan p n pattern) (passing_placed post_step (is_from p) n 0 (lines plan pattern) (λ e b. b) (omega arith)))
-    (passing_placed take_step (is_to p) n 0 (lines plan pattern) (λ e b. b) (omega arith)))
-    (after_placed plan p n pattern))
-    l
+module _ (plan : Plan) (p : ℕ) (pattern : Pattern) where
+  abbrev n : ℕ
+  n = length (lines plan pattern)
+
+  all_placed : (half : Half) → AllByRecursion (IsPlaced n) (steps plan p half pattern)
+  all_placed Head = every_append (IsPlaced n) (steps_before plan p pattern) (post_steps plan p pattern) (before_placed plan p n pattern) (passing_placed post_step (is_from p) n 0 (lines plan pattern) (λ e b. b) (omega arith))
+  all_placed Tail = every_append (IsPlaced n) (take_steps plan p pattern) (steps_after p pattern) (passing_placed take_step (is_to p) n 0 (lines plan pattern) (λ e b. b) (omega arith)) (after_placed plan p n pattern)
+
+  pub steps_placed : (half : Half) (i : ℕ) (d : Step) → i < length (steps plan p half pattern) → IsPlaced n (slice_index_or (steps plan p half pattern) i d)
+  steps_placed half i d = every_place (IsPlaced n) (steps plan p half pattern) i d (all_placed half)

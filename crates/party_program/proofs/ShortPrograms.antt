@@ -1,5 +1,5 @@
 -- The count of a program's instructions is small.
-use Rattle.std.proofs.Common.{ℕ, zero, suc, ◌+◌, ◌*◌, ◌<◌, ◌≤◌, Bool, true, false, not, List, [], ◌∷◌, ◌++◌, map, length, sym, subst, arith, length-append}
+use Rattle.std.proofs.Common.{ℕ, zero, suc, ◌+◌, ◌*◌, ◌<◌, ◌≤◌, Bool, true, false, not, List, [], ◌∷◌, map, length, sym, subst, arith, length-append}
 use Rattle.std.specs.List.{range_with_len, filter}
 use Rattle.std.proofs.lemmas.Bool.{cases_Bool, cond-true, cond-false}
 use mathlib.Core.Logic.{inl, inr}
@@ -14,7 +14,7 @@ use Rattle.job_plan.specs.Sound.{IsSound}
 use Rattle.job_plan.proofs.SlotMessages.{first_within}
 use Rattle.party_program.specs.declared.program.Instruction.{Instruction}
 use Rattle.party_program.specs.declared.program.Instruction.TheVariants.{Deal, Own, Linear, Sum, Deliver}
-use Rattle.party_program.specs.Programs.{opening, closing, posts, takes, slot_program, from, to, post, take_of}
+use Rattle.party_program.specs.Programs.{opening, closing, head, tail, posts, takes, slot_program, from, to, post, take_of}
 use Rattle.party_program.specs.ProgramPlaces.{instructions_before}
 
 only_short : (b : Bool) (xs : List Instruction) → length (only_if b xs) ≤ length xs
@@ -32,27 +32,27 @@ passing_short f test a (suc n) =
     ]
 
 module _ (plan : Plan) (p s : ℕ) where
-  opening_short : (k : ℕ) (z : Slot) → length (opening plan p s k z) ≤ 2
+  opening_short : (k : ℕ) (z : Slot) → length (opening plan p s k z) ≤ 3
   opening_short k (Input v) = let short = only_short (gives plan s p v) (Deal k (deals_before plan p s k) ∷ []) in omega arith
-  opening_short k (At_gate t) = only_short (deals_in plan s p (At_gate t)) (Own k ∷ Deal k (deals_before plan p s k) ∷ [])
+  opening_short k (At_gate t) =
+      let product = is_product (gate (session plan s) t).operation in
+      let dealt = only_short (deals_in plan s p (At_gate t)) (Own k ∷ Deal k (deals_before plan p s k) ∷ []) in
+      let linear = only_short (not product) (Linear k ∷ []) in
+      let both = length-append (only_if (deals_in plan s p (At_gate t)) (Own k ∷ Deal k (deals_before plan p s k) ∷ [])) (only_if (not product) (Linear k ∷ [])) in
+      omega arith
   opening_short k (Output o) = omega arith
 
-  closing_short : (k : ℕ) (z : Slot) → length (closing plan p s k z) ≤ 2
+  closing_short : (k : ℕ) (z : Slot) → length (closing plan p s k z) ≤ 1
   closing_short k (Input v) = omega arith
-  closing_short k (At_gate t) =
-      let product = is_product (gate (session plan s) t).operation in
-      let sums = only_short product (Sum k ∷ []) in
-      let linear = only_short (not product) (Linear k ∷ []) in
-      let both = length-append (only_if product (Sum k ∷ [])) (only_if (not product) (Linear k ∷ [])) in
-      omega arith
+  closing_short k (At_gate t) = only_short (is_product (gate (session plan s) t).operation) (Sum k ∷ [])
   closing_short k (Output o) = let short = only_short (opens_to plan s p (Output o)) (Deliver k ∷ []) in omega arith
 
   slot_short : (k : ℕ) → length (slot_program plan p s k) ≤ 2 * count plan s k + 4
   slot_short k =
       let z : Slot = slot plan s k in
       let a = length-append (opening plan p s k z) (posts plan p s k) in
-      let b = length-append (opening plan p s k z ++ posts plan p s k) (takes plan p s k) in
-      let c = length-append (opening plan p s k z ++ posts plan p s k ++ takes plan p s k) (closing plan p s k z) in
+      let b = length-append (takes plan p s k) (closing plan p s k z) in
+      let c = length-append (head plan p s k) (tail plan p s k) in
       let few_before = opening_short k z in
       let few_posts : length (posts plan p s k) ≤ count plan s k = passing_short (post plan) (from plan p) (first plan s k) (count plan s k) in
       let few_takes : length (takes plan p s k) ≤ count plan s k = passing_short (take_of plan) (to plan p) (first plan s k) (count plan s k) in

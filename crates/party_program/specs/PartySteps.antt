@@ -9,6 +9,8 @@ use Rattle.job_plan.specs.declared.pattern.Pattern.{Pattern}
 use Rattle.job_plan.specs.declared.pattern.Pattern.TheVariants.{Silent, Dealt, Multiplied, Opened}
 use Rattle.job_plan.specs.Plans.{Plan, scheme}
 use Rattle.job_plan.specs.Patterns.{lines}
+use Rattle.party_program.specs.declared.half.Half.{Half}
+use Rattle.party_program.specs.declared.half.Half.TheVariants.{Head, Tail}
 use Rattle.party_program.specs.declared.program.Instruction.{Instruction}
 use Rattle.party_program.specs.declared.program.Instruction.TheVariants as instruction
 use Rattle.party_program.specs.declared.step.Step.{Step}
@@ -16,7 +18,7 @@ use Rattle.party_program.specs.declared.step.Step.TheVariants.{Deal, Own, Post, 
 
 -- what p does before its posts
 abbrev pub steps_before : Plan → ℕ → Pattern → List Step
-steps_before plan p Silent = []
+steps_before plan p Silent = Linear ∷ []
 steps_before plan p (Dealt q) = only_if (nat_eq q p) (Deal ∷ [])
 steps_before plan p Multiplied = only_if (has_pair (scheme plan) p) (Own ∷ Deal ∷ [])
 steps_before plan p (Opened readers) = []
@@ -54,15 +56,15 @@ take_steps plan p pattern = map take_step (filter (is_to p) (enumerate_from 0 (l
 
 -- what p does after its takes
 abbrev pub steps_after : ℕ → Pattern → List Step
-steps_after p Silent = Linear ∷ []
+steps_after p Silent = []
 steps_after p (Dealt q) = []
 steps_after p Multiplied = Sum ∷ []
 steps_after p (Opened readers) = only_if (has_party readers p) (Deliver ∷ [])
 
--- what p does in a slot of this pattern
-abbrev pub steps : Plan → ℕ → Pattern → List Step
-steps plan p pattern =
-    steps_before plan p pattern ++ post_steps plan p pattern ++ take_steps plan p pattern ++ steps_after p pattern
+-- what p does in the one half of a slot of this pattern, or in the other
+abbrev pub steps : Plan → ℕ → Half → Pattern → List Step
+steps plan p Head pattern = steps_before plan p pattern ++ post_steps plan p pattern
+steps plan p Tail pattern = take_steps plan p pattern ++ steps_after p pattern
 
 -- the instruction of a step in slot k, whose first message has this number, where p has made so many deals before
 abbrev pub placed : ℕ → ℕ → ℕ → Step → Instruction

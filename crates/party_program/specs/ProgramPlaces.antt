@@ -5,48 +5,55 @@ use Rattle.indexmap.specs.IndexMap.{IndexMap, get}
 use Rattle.list_laws.specs.Lists.{total, listed}
 use Rattle.job_plan.specs.declared.pattern.Pattern.{Pattern}
 use Rattle.job_plan.specs.declared.pattern.Pattern.TheVariants.{Silent, Dealt, Multiplied, Opened}
-use Rattle.job_plan.specs.Plans.{Plan, slots}
+use Rattle.job_session.specs.Batches.{IsInBatch}
+use Rattle.job_plan.specs.Plans.{Plan, session, slots}
 use Rattle.job_plan.specs.Numbers.{deals_before}
 use Rattle.job_plan.specs.Firsts.{first}
 use Rattle.job_plan.specs.Patterns.{pattern_at, Occurs}
 use Rattle.job_plan.specs.Sound.{IsSound}
+use Rattle.party_program.specs.declared.half.Half.{Half}
+use Rattle.party_program.specs.declared.half.Half.TheVariants.{Head, Tail}
 use Rattle.party_program.specs.declared.program.Program.{Program}
 use Rattle.party_program.specs.declared.place.Place.{Place}
-use Rattle.party_program.specs.declared.starts.SlotStart.{SlotStart}
+use Rattle.party_program.specs.declared.deals.Tally.{Tally}
 use Rattle.party_program.specs.declared.step.Step.{Step}
 use Rattle.party_program.specs.declared.step_table.StepTable.{StepTable}
 use Rattle.party_program.specs.PartySteps.{steps}
-use Rattle.party_program.specs.Programs.{slot_program}
+use Rattle.party_program.specs.Programs.{half_program, slot_program}
 
--- how many instructions of p stand before those of slot k
+-- how many instructions of p stand in the first k slots
 abbrev pub instructions_before : Plan → ℕ → ℕ → ℕ → ℕ
 instructions_before plan p s k = total k (λ j. length (slot_program plan p s j))
 
--- position q stands among the instructions of slot k, or past all of them, where k is the count of slots
-pub record StandsIn (plan : Plan) (p s k q : ℕ) : Type 0 where
-  pub slot : k ≤ slots plan s
-  pub begun : instructions_before plan p s k ≤ q
-  pub within : k < slots plan s → q < instructions_before plan p s (k + 1)
+-- how many instructions stand in this half of the first k slots
+abbrev pub halves_before : Plan → ℕ → ℕ → Half → ℕ → ℕ
+halves_before plan p s half k = total k (λ j. length (half_program plan p s half j))
+
+-- the position of the first instruction of this half of slot k, where the slots from a up to b are a batch
+abbrev pub position_of : Plan → ℕ → ℕ → Half → ℕ → ℕ → ℕ → ℕ
+position_of plan p s Head a b k = halves_before plan p s Head k + halves_before plan p s Tail a
+position_of plan p s Tail a b k = halves_before plan p s Head b + halves_before plan p s Tail k
 
 -- the pattern of slot k, where there is such a slot
 abbrev pub IsPatternIn : Plan → ℕ → ℕ → Pattern → Type 0
 IsPatternIn plan s k pattern = k < slots plan s → pattern ≡ pattern_at plan s k
 
--- how many instructions of p stand in slot k, none past the last slot
-abbrev pub count_in : Plan → ℕ → ℕ → ℕ → ℕ
-count_in plan p s k = if nat_lt k (slots plan s) then length (slot_program plan p s k) else 0
+-- how many instructions of p stand in this half of slot k, none past the last slot
+abbrev pub count_in : Plan → ℕ → ℕ → Half → ℕ → ℕ
+count_in plan p s half k = if nat_lt k (slots plan s) then length (half_program plan p s half k) else 0
 
--- position q stands at this place
+-- position q stands at this place: so many instructions on in a half of a slot that has more, or past all
 pub record IsPlace (plan : Plan) (p s : ℕ) (place : Place) (q : ℕ) : Type 0 where
-  pub stands : StandsIn plan p s place.slot q
+  pub batch : IsInBatch (session plan s) place.batch place.end place.slot
   pub pattern : IsPatternIn plan s place.slot place.pattern
   pub first : place.first ≡ first plan s place.slot
-  pub done : q ≡ instructions_before plan p s place.slot + place.done
-  pub count : place.count ≡ count_in plan p s place.slot
+  pub done : q ≡ position_of plan p s place.half place.batch place.end place.slot + place.done
+  pub count : place.count ≡ count_in plan p s place.half place.slot
+  pub within : place.slot < slots plan s → place.done < place.count
 
--- an instruction of a product stands at the place
-abbrev pub InProduct : Place → Type 0
-InProduct place = (place.pattern ≡ Multiplied) × (place.done < place.count)
+-- an instruction of this half of a product stands at the place
+abbrev pub InProduct : Half → Place → Type 0
+InProduct half place = (place.half ≡ half) × (place.pattern ≡ Multiplied) × (place.done < place.count)
 
 -- a pattern of the plan that a slot of session s has
 pub record OccursIn (plan : Plan) (s : ℕ) (pattern : Pattern) : Type 0 where
@@ -55,38 +62,32 @@ pub record OccursIn (plan : Plan) (s : ℕ) (pattern : Pattern) : Type 0 where
   pub is : pattern ≡ pattern_at plan s slot
   pub occurs : Occurs plan pattern
 
--- the steps of p in an opening to this group are kept
-abbrev pub HasOpening : {S : Type 0} → Plan → ℕ → IndexMap ℕ (List Step) S → ℕ → Type 0
-HasOpening plan p openings readers = get nat_eq openings readers ≡ Some (steps plan p (Opened readers))
+-- the steps of p in this half of an opening to this group are kept
+abbrev pub HasOpening : {S : Type 0} → Plan → ℕ → Half → IndexMap ℕ (List Step) S → ℕ → Type 0
+HasOpening plan p half openings readers = get nat_eq openings readers ≡ Some (steps plan p half (Opened readers))
 
--- whatever is kept for a group is the steps of p in an opening to it
-abbrev pub AreOpenings : {S : Type 0} → Plan → ℕ → IndexMap ℕ (List Step) S → Type 0
-AreOpenings plan p openings =
-    (readers : ℕ) (kept : List Step) → get nat_eq openings readers ≡ Some kept → kept ≡ steps plan p (Opened readers)
+-- whatever is kept for a group is the steps of p in this half of an opening to it
+abbrev pub AreOpenings : {S : Type 0} → Plan → ℕ → Half → IndexMap ℕ (List Step) S → Type 0
+AreOpenings plan p half openings =
+    (readers : ℕ) (kept : List Step) → get nat_eq openings readers ≡ Some kept
+    → kept ≡ steps plan p half (Opened readers)
 
--- the steps of p for each pattern of session s
-pub record AreSteps (plan : Plan) (p s : ℕ) (table : StepTable) : Type 0 where
-  pub silent : table.silent ≡ steps plan p Silent
-  pub multiplied : table.multiplied ≡ steps plan p Multiplied
-  pub dealt : table.dealt.items ≡ listed plan.parties (λ q. steps plan p (Dealt q))
+-- the steps of p in this half of a slot, for each pattern of session s
+pub record AreSteps (plan : Plan) (p s : ℕ) (half : Half) (table : StepTable) : Type 0 where
+  pub silent : table.silent ≡ steps plan p half Silent
+  pub multiplied : table.multiplied ≡ steps plan p half Multiplied
+  pub dealt : table.dealt.items ≡ listed plan.parties (λ q. steps plan p half (Dealt q))
   pub opened : (k readers : ℕ) → k < slots plan s → pattern_at plan s k ≡ Opened readers
-      → HasOpening plan p table.opened readers
+      → HasOpening plan p half table.opened readers
 
--- how many instructions and deals of p stand before slot k
-abbrev pub start_of : Plan → ℕ → ℕ → ℕ → SlotStart
-start_of plan p s k = record { instructions = instructions_before plan p s k; deals = deals_before plan p s k }
-
--- the start of each slot, and behind the last one
-abbrev pub slot_starts : Plan → ℕ → ℕ → List SlotStart
-slot_starts plan p s = listed (slots plan s + 1) (start_of plan p s)
-
--- the starts of the first k slots are listed, this is the next one, and there is room for the others
-pub record AreStarts (plan : Plan) (p s k : ℕ) (list : Vec SlotStart) (start : SlotStart) : Type 0 where
-  pub starts : list.items ≡ listed k (start_of plan p s)
-  pub instructions : start.instructions ≡ instructions_before plan p s k
-  pub deals : start.deals ≡ deals_before plan p s k
-  pub few : start.deals ≤ k
-  pub room : slots plan s + 1 ≤ vec_capacity list
+-- how many deals p makes before each of the first k slots are listed, these are the instructions and deals of p in
+-- those, and there is room for the others
+pub record AreDeals (plan : Plan) (p s k : ℕ) (list : Vec ℕ) (tally : Tally) : Type 0 where
+  pub deals : list.items ≡ listed k (deals_before plan p s)
+  pub instructions : tally.instructions ≡ instructions_before plan p s k
+  pub dealt : tally.deals ≡ deals_before plan p s k
+  pub few : tally.deals ≤ k
+  pub room : slots plan s ≤ vec_capacity list
 
 -- the program of party p in session s of a plan within the limits
 pub record IsProgram (plan : Plan) (p s : ℕ) (program : Program) : Type 0 where
@@ -95,5 +96,7 @@ pub record IsProgram (plan : Plan) (p s : ℕ) (program : Program) : Type 0 wher
   pub of_session : program.session ≡ s
   pub party_there : p < plan.parties
   pub session_there : s < length plan.sessions
-  pub table : AreSteps plan p s program.steps
-  pub starts : program.starts.items ≡ slot_starts plan p s
+  pub heads : AreSteps plan p s Head program.heads
+  pub tails : AreSteps plan p s Tail program.tails
+  pub deals : program.deals.items ≡ listed (slots plan s) (deals_before plan p s)
+  pub length : program.length ≡ instructions_before plan p s (slots plan s)

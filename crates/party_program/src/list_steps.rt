@@ -1,29 +1,37 @@
-//! Lists what a party does in a slot of a pattern.
+//! Lists what a party does in a half of a slot of a pattern.
 ghost use Rattle.std.specs.Prelude.{◌≡◌, ◌<◌, ◌++◌, IfOk, OnOk};
 ghost use Rattle.job_plan.specs.Patterns.{Occurs};
 ghost use Rattle.party_program.specs.PartySteps.{steps_before, post_steps, take_steps, steps_after, steps};
 
+use crate::half::Half;
 use crate::step::Step;
 use crate::step_list::StepList;
 use job_plan::{Pattern, Plan};
 use std::alloc::{AllocError, Global};
 
-/// What party `p` does in a slot of this pattern.
+/// What party `p` does in this half of a slot of this pattern.
 pub(crate) fn list_steps(
     alloc: Global,
     plan: &Plan,
     p: u32,
+    half: Half,
     pattern: Pattern,
 ) -> Result<StepList, AllocError>
     requires party { p < plan.now.parties }
     requires occurs { Occurs plan.now pattern }
-    ensures { IfOk result (λ list. list ≡ steps plan.now p pattern) }
+    ensures { IfOk result (λ list. list ≡ steps plan.now p half pattern) }
 {
     let mut list = StepList::new(alloc);
-    push_before(plan, p, pattern, &mut list)?;
-    push_posts(plan, p, pattern, &mut list)?;
-    push_takes(plan, p, pattern, &mut list)?;
-    push_after(plan, p, pattern, &mut list)?;
+    match half {
+        Half::Head => {
+            push_before(plan, p, pattern, &mut list)?;
+            push_posts(plan, p, pattern, &mut list)?;
+        }
+        Half::Tail => {
+            push_takes(plan, p, pattern, &mut list)?;
+            push_after(plan, p, pattern, &mut list)?;
+        }
+    }
     Ok(list)
 }
 
@@ -33,7 +41,8 @@ fn push_before(plan: &Plan, p: u32, pattern: Pattern, list: &mut StepList) -> Re
     ensures { OnOk result (list.new ≡ list.old ++ steps_before plan.now p pattern) }
 {
     match pattern {
-        Pattern::Silent | Pattern::Opened(_) => Ok(()),
+        Pattern::Silent => list.push(Step::Linear),
+        Pattern::Opened(_) => Ok(()),
         Pattern::Dealt(dealer) => list.push_if(dealer == p, Step::Deal),
         Pattern::Multiplied => {
             if plan.multiplies(p) {
@@ -86,8 +95,7 @@ fn push_after(plan: &Plan, p: u32, pattern: Pattern, list: &mut StepList) -> Res
 {
     let _ = plan.parties();
     match pattern {
-        Pattern::Silent => list.push(Step::Linear),
-        Pattern::Dealt(_) => Ok(()),
+        Pattern::Silent | Pattern::Dealt(_) => Ok(()),
         Pattern::Multiplied => list.push(Step::Sum),
         Pattern::Opened(readers) => list.push_if(readers >> p & 1 == 1, Step::Deliver),
     }

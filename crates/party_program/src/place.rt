@@ -4,17 +4,22 @@ ghost use Rattle.job_plan.specs.Plans as plans;
 ghost use Rattle.party_program.specs.Programs.{program};
 ghost use Rattle.party_program.specs.ProgramPlaces.{IsPlace};
 
+use crate::half::Half;
 use job_plan::Pattern;
 
-/// Where an instruction stands in a program: its slot, and how many steps of that come before it. Who keeps it needs no
-/// search for the next instruction.
+/// Where an instruction stands in a program: the half of its slot, and how many steps of that come before it. Who keeps
+/// it needs no search for the next instruction.
 #[derive(Clone, Copy)]
 pub struct Place {
+    pub(crate) half: Half,
     pub(crate) slot: u32,
+    // The first slot of its batch, and the one behind the last.
+    pub(crate) batch: u32,
+    pub(crate) end: u32,
     pub(crate) pattern: Pattern,
     // The number of the slot's first message.
     pub(crate) first: u32,
-    // How many steps of the slot are done, and how many it has. Past the last slot there are none.
+    // How many steps of the half are done, and how many it has. Past the last slot there are none.
     pub(crate) done: u32,
     pub(crate) count: u32,
 }
@@ -27,6 +32,30 @@ impl Place {
         self.slot
     }
 
+    /// The half of that slot.
+    #[inline(always)]
+    pub fn half(self) -> Half
+        ensures { result ≡ self.half }
+    {
+        self.half
+    }
+
+    /// The slot behind the last of its batch.
+    #[inline(always)]
+    pub fn end(self) -> u32
+        ensures { result ≡ self.end }
+    {
+        self.end
+    }
+
+    /// The number of the slot's first message.
+    #[inline(always)]
+    pub fn first(self) -> u32
+        ensures { result ≡ self.first }
+    {
+        self.first
+    }
+
     /// Whether no instruction is left.
     pub fn is_past(&self) -> bool
         ensures done { result ≡ not (nat_lt self.now.done self.now.count) }
@@ -36,7 +65,7 @@ impl Place {
         self.done >= self.count
     }
 
-    /// How many instructions of the slot come before this one.
+    /// How many instructions of the half come before this one.
     #[inline(always)]
     pub fn done(self) -> u32
         ensures { result ≡ self.done }
@@ -44,7 +73,7 @@ impl Place {
         self.done
     }
 
-    /// Whether this is the first instruction of the slot.
+    /// Whether this is the first instruction of the half.
     #[inline(always)]
     pub fn is_first(&self) -> bool
         ensures { result ≡ (self.now.done == 0 && nat_lt 0 self.now.count) }
@@ -52,7 +81,7 @@ impl Place {
         self.done == 0 && self.count > 0
     }
 
-    /// Whether this is the last instruction of the slot.
+    /// Whether this is the last instruction of the half.
     #[inline(always)]
     pub fn is_last(&self) -> bool
         ensures { result ≡ (self.now.done + 1 == self.now.count) }
@@ -60,7 +89,7 @@ impl Place {
         u64::from(self.done) + 1 == u64::from(self.count)
     }
 
-    /// Moves on by so many steps of the slot.
+    /// Moves on by so many steps of the half.
     #[inline(always)]
     pub fn skip(&mut self, steps: u32)
         requires few { self.old.done + steps < 4294967296 }

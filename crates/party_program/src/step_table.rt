@@ -1,4 +1,4 @@
-//! The steps of a party for each pattern of a session's slots.
+//! The steps of a party in heads, or in tails, for each pattern of a session's slots.
 ghost use Rattle.std.specs.Prelude.{◌≡◌, ℕ, ◌<◌, IfOk, OnOk, length};
 ghost use Rattle.list_laws.specs.Lists.{listed};
 ghost use Rattle.job_plan.specs.declared.pattern.Pattern.TheVariants.{Dealt, Multiplied, Opened};
@@ -7,6 +7,7 @@ ghost use Rattle.job_plan.specs.Patterns.{pattern_at};
 ghost use Rattle.party_program.specs.PartySteps.{steps};
 ghost use Rattle.party_program.specs.ProgramPlaces.{AreOpenings, HasOpening};
 
+use crate::half::Half;
 use crate::list_steps::list_steps;
 use crate::step::Step;
 use crate::step_list::StepList;
@@ -14,8 +15,8 @@ use indexmap::IndexMap;
 use job_plan::{Pattern, Plan};
 use std::alloc::{AllocError, Global};
 
-/// The steps of a party for each pattern of a session's slots: of a linear gate, of a product, of a value by its
-/// dealer, and of an output by its readers.
+/// The steps of a party in the heads of a session's slots, or in their tails, for each pattern: of a linear gate, of a
+/// product, of a value by its dealer, and of an output by its readers.
 #[derive(Drop)]
 pub(crate) struct StepTable {
     silent: StepList,
@@ -28,18 +29,25 @@ impl StepTable {
     ghost use Rattle.std.specs.Prelude.{◌≡◌, ℕ, ◌<◌, IfOk, length};
     ghost use Rattle.job_plan.specs.Plans as plans;
     ghost use Rattle.party_program.specs.PartySteps.{steps};
+    ghost use Rattle.party_program.specs.declared.half.Half as halves;
     ghost use Rattle.party_program.specs.ProgramPlaces.{AreSteps, OccursIn};
 
-    /// The steps of party `p` in session `s`.
-    pub(crate) fn make(alloc: Global, plan: &Plan, p: u32, s: u32) -> Result<StepTable, AllocError>
+    /// The steps of party `p` in this half of the slots of session `s`.
+    pub(crate) fn make(
+        alloc: Global,
+        plan: &Plan,
+        p: u32,
+        s: u32,
+        half: Half,
+    ) -> Result<StepTable, AllocError>
         requires party { p < plan.now.parties }
         requires session { s < length plan.now.sessions }
-        ensures { IfOk result (AreSteps plan.now p s) }
+        ensures { IfOk result (AreSteps plan.now p s half) }
     {
-        let silent = list_steps(alloc, plan, p, Pattern::Silent)?;
-        let multiplied = list_steps(alloc, plan, p, Pattern::Multiplied)?;
-        let dealt = deals_of_each(alloc, plan, p)?;
-        let opened = openings_of_each(alloc, plan, p, s)?;
+        let silent = list_steps(alloc, plan, p, half, Pattern::Silent)?;
+        let multiplied = list_steps(alloc, plan, p, half, Pattern::Multiplied)?;
+        let dealt = deals_of_each(alloc, plan, p, half)?;
+        let opened = openings_of_each(alloc, plan, p, s, half)?;
         Ok(StepTable {
             silent,
             multiplied,
@@ -51,9 +59,10 @@ impl StepTable {
     /// What the party does in a slot of this pattern.
     #[inline(always)]
     pub(crate) fn of(&self, pattern: Pattern) -> &[Step]
-        requires { (plan : plans.Plan) × (p s : ℕ) × AreSteps plan p s self.now × OccursIn plan s pattern }
-        ensures { (plan : plans.Plan) (p s : ℕ) → AreSteps plan p s self.now → OccursIn plan s pattern
-            → result.now ≡ steps plan p pattern }
+        requires { (plan : plans.Plan) × (p s : ℕ) × (half : halves.Half) × AreSteps plan p s half self.now
+            × OccursIn plan s pattern }
+        ensures { (plan : plans.Plan) (p s : ℕ) (half : halves.Half) → AreSteps plan p s half self.now
+            → OccursIn plan s pattern → result.now ≡ steps plan p half pattern }
     {
         match pattern {
             Pattern::Silent => self.silent.as_slice(),
@@ -65,18 +74,19 @@ impl StepTable {
 
     /// What the party does in a slot of a product.
     pub(crate) fn of_product(&self) -> &[Step]
-        ensures { (plan : plans.Plan) (p s : ℕ) → AreSteps plan p s self.now → result.now ≡ steps plan p Multiplied }
+        ensures { (plan : plans.Plan) (p s : ℕ) (half : halves.Half) → AreSteps plan p s half self.now
+            → result.now ≡ steps plan p half Multiplied }
     {
         self.multiplied.as_slice()
     }
 
     /// How many steps the party has in a slot of a gate; of another pattern it tells nothing.
     pub(crate) fn gate_count(&self, pattern: Pattern) -> usize
-        ensures { (plan : plans.Plan) (p s : ℕ) → AreSteps plan p s self.now → 0 < result
-            → result ≡ length (steps plan p pattern) }
+        ensures { (plan : plans.Plan) (p s : ℕ) (half : halves.Half) → AreSteps plan p s half self.now → 0 < result
+            → result ≡ length (steps plan p half pattern) }
     {
         match pattern {
-            Pattern::Silent => 1,
+            Pattern::Silent => self.silent.as_slice().len(),
             Pattern::Multiplied => self.of_product().len(),
             Pattern::Dealt(_) | Pattern::Opened(_) => 0,
         }
@@ -85,9 +95,10 @@ impl StepTable {
     // What the party does in a deal of this party. Deals and openings are seldom, and looked up out of line.
     #[inline(never)]
     fn deal(&self, dealer: u32) -> &[Step]
-        requires { (plan : plans.Plan) × (p s : ℕ) × AreSteps plan p s self.now × OccursIn plan s (Dealt dealer) }
-        ensures { (plan : plans.Plan) (p s : ℕ) → AreSteps plan p s self.now → OccursIn plan s (Dealt dealer)
-            → result.now ≡ steps plan p (Dealt dealer) }
+        requires { (plan : plans.Plan) × (p s : ℕ) × (half : halves.Half) × AreSteps plan p s half self.now
+            × OccursIn plan s (Dealt dealer) }
+        ensures { (plan : plans.Plan) (p s : ℕ) (half : halves.Half) → AreSteps plan p s half self.now
+            → OccursIn plan s (Dealt dealer) → result.now ≡ steps plan p half (Dealt dealer) }
     {
         self.dealt[dealer as usize].as_slice()
     }
@@ -95,22 +106,28 @@ impl StepTable {
     // What the party does in an opening to these readers.
     #[inline(never)]
     fn opening(&self, readers: u32) -> &[Step]
-        requires { (plan : plans.Plan) × (p s : ℕ) × AreSteps plan p s self.now × OccursIn plan s (Opened readers) }
-        ensures { (plan : plans.Plan) (p s : ℕ) → AreSteps plan p s self.now → OccursIn plan s (Opened readers)
-            → result.now ≡ steps plan p (Opened readers) }
+        requires { (plan : plans.Plan) × (p s : ℕ) × (half : halves.Half) × AreSteps plan p s half self.now
+            × OccursIn plan s (Opened readers) }
+        ensures { (plan : plans.Plan) (p s : ℕ) (half : halves.Half) → AreSteps plan p s half self.now
+            → OccursIn plan s (Opened readers) → result.now ≡ steps plan p half (Opened readers) }
     {
         self.opened[&readers].as_slice()
     }
 }
 
 // What p does in a slot of each dealer.
-fn deals_of_each(alloc: Global, plan: &Plan, p: u32) -> Result<Vec<StepList>, AllocError>
+fn deals_of_each(
+    alloc: Global,
+    plan: &Plan,
+    p: u32,
+    half: Half,
+) -> Result<Vec<StepList>, AllocError>
     requires { p < plan.now.parties }
-    ensures { IfOk result (λ list. list.items ≡ listed plan.now.parties (λ q. steps plan.now p (Dealt q))) }
+    ensures { IfOk result (λ list. list.items ≡ listed plan.now.parties (λ q. steps plan.now p half (Dealt q))) }
 {
     let mut list = Vec::new(alloc);
     for dealer in 0..plan.parties() {
-        list.push(list_steps(alloc, plan, p, Pattern::Dealt(dealer))?)?;
+        list.push(list_steps(alloc, plan, p, half, Pattern::Dealt(dealer))?)?;
     }
     Ok(list)
 }
@@ -121,18 +138,19 @@ fn openings_of_each(
     plan: &Plan,
     p: u32,
     s: u32,
+    half: Half,
 ) -> Result<IndexMap<u32, StepList>, AllocError>
     requires party { p < plan.now.parties }
     requires session { s < length plan.now.sessions }
     ensures { IfOk result (λ map. (k readers : ℕ) → k < slots plan.now s
-        → pattern_at plan.now s k ≡ Opened readers → HasOpening plan.now p map readers) }
+        → pattern_at plan.now s k ≡ Opened readers → HasOpening plan.now p half map readers) }
 {
     let _ = plan.parties();
     let part = plan.part(s);
     let outputs = part.input_wires() + part.gates().len();
     let mut openings = IndexMap::new(alloc);
     for k in outputs as u32..plan.slots(s) {
-        add_opening(alloc, plan, p, s, k, &mut openings)?;
+        add_opening(alloc, plan, p, s, half, k, &mut openings)?;
     }
     Ok(openings)
 }
@@ -143,23 +161,24 @@ fn add_opening(
     plan: &Plan,
     p: u32,
     s: u32,
+    half: Half,
     k: u32,
     openings: &mut IndexMap<u32, StepList>,
 ) -> Result<(), AllocError>
     requires party { p < plan.now.parties }
     requires session { s < length plan.now.sessions }
     requires slot { k < slots plan.now s }
-    requires before { AreOpenings plan.now p openings.old }
-    ensures openings { OnOk result (AreOpenings plan.now p openings.new) }
-    ensures others { OnOk result ((readers : ℕ) → HasOpening plan.now p openings.old readers
-        → HasOpening plan.now p openings.new readers) }
+    requires before { AreOpenings plan.now p half openings.old }
+    ensures openings { OnOk result (AreOpenings plan.now p half openings.new) }
+    ensures others { OnOk result ((readers : ℕ) → HasOpening plan.now p half openings.old readers
+        → HasOpening plan.now p half openings.new readers) }
     ensures added { OnOk result ((readers : ℕ) → pattern_at plan.now s k ≡ Opened readers
-        → HasOpening plan.now p openings.new readers) }
+        → HasOpening plan.now p half openings.new readers) }
 {
     let pattern = plan.pattern(s, k);
     if let Pattern::Opened(readers) = pattern {
         if !openings.contains_key(&readers) {
-            let steps = list_steps(alloc, plan, p, pattern)?;
+            let steps = list_steps(alloc, plan, p, half, pattern)?;
             openings.insert(readers, steps)?;
         }
     }

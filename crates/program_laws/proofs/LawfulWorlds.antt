@@ -28,7 +28,7 @@ module _ (w : World) (whole : IsWhole w) (s p : ℕ) (ls : s < length w.plan.ses
   l = given_in w s p
 
   goes_here : (q : ℕ) (e : Instruction) → at (program w.plan p s) q ≡ e → (e ≡ End → ⊥) → Goes w (word w) s p e (state l q)
-  goes_here = goes w (is_plan w whole) (word w) s p ls lp (λ k i. small_words w whole s p k i)
+  goes_here = goes w whole.sound (word w) s p ls lp (λ k i. small_words w whole s p k i)
 
   posts_right : (q n i : ℕ) → at (program w.plan p s) q ≡ Post n i → posted (session w.plan s) (slot_of w.plan s n) i (state l q) ≡ word w (message w.plan n)
   posts_right q n i e =

@@ -6,7 +6,8 @@ use mathlib.Core.Logic.{inl, inr}
 use Rattle.circuit_model.proofs.SetAt.{set_here, set_there}
 use Rattle.job_session.specs.Sessions.{Slot, output_wire}
 use Rattle.job_session.specs.Sessions.Slot.{Input, At_gate, Output}
-use Rattle.job_plan.specs.Plans.{Plan, IsPlan, session, reads, slot}
+use Rattle.job_plan.specs.Plans.{Plan, session, reads, slot}
+use Rattle.job_plan.specs.Sound.{IsSound}
 use Rattle.job_plan.specs.declared.key.Key.{Key}
 use Rattle.share_world.specs.Worlds.{World}
 use Rattle.share_world.specs.Locals.{local_output}
@@ -18,24 +19,24 @@ use Rattle.party_program.proofs.InstructionLists.{along_at, state_is}
 use Rattle.program_laws.specs.Meets.{local_given, Goes, SmallTape}
 use Rattle.program_laws.proofs.LocalPrograms.{met}
 
-dealt_outputs : (plan : Plan) (words : ℕ → ℕ) (input : ℕ) (z : Slot) (σ : State) → (dealt_in plan words input z σ).outputs ≡ σ.outputs
-dealt_outputs plan words input (Input v) σ = refl
-dealt_outputs plan words input (At_gate t) σ = refl
-dealt_outputs plan words input (Output o) σ = refl
+dealt_outputs : (plan : Plan) (s : ℕ) (words : ℕ → ℕ) (input : ℕ) (z : Slot) (σ : State) → (dealt_in plan s words input z σ).outputs ≡ σ.outputs
+dealt_outputs plan s words input (Input v) σ = refl
+dealt_outputs plan s words input (At_gate t) σ = refl
+dealt_outputs plan s words input (Output o) σ = refl
 
 took_outputs : (q : ℕ) (z : Slot) (i x : ℕ) (σ : State) → (took_in q z i x σ).outputs ≡ σ.outputs
 took_outputs q (Input v) i x σ = refl
 took_outputs q (At_gate t) i x σ = refl
 took_outputs q (Output o) i x σ = refl
 
-module _ (w : World) (valid : IsPlan w.plan) (got : Key → ℕ) (s p : ℕ) (ls : s < length w.plan.sessions) (lp : p < w.plan.parties) (small : SmallTape w s p) where
+module _ (w : World) (sound : IsSound w.plan) (got : Key → ℕ) (s p : ℕ) (ls : s < length w.plan.sessions) (lp : p < w.plan.parties) (small : SmallTape w s p) where
   abbrev l : Given
   l = local_given w got s p
 
   pub goes : (q : ℕ) (e : Instruction) → at (program w.plan p s) q ≡ e → (e ≡ End → ⊥) → Goes w got s p e (state (local_given w got s p) q)
   goes q e is ne = elim (cases_lt q (length (program w.plan p s))) [
     | inl b ↦
-        let along = along_at (Goes w got s p) l (program w.plan p s) new_state q b (met w valid got s p ls lp small).0 in
+        let along = along_at (Goes w got s p) l (program w.plan p s) new_state q b (met w sound got s p ls lp small).0 in
         subst (λ z. Goes w got s p z (state l q)) is (subst (Goes w got s p (at (program w.plan p s) q)) (sym (state_is l q)) along)
     | inr past ↦ absurd (ne (sym is ∙ get_or_past (program w.plan p s) q End past))
   ]
@@ -45,7 +46,7 @@ module _ (w : World) (valid : IsPlan w.plan) (got : Key → ℕ) (s p : ℕ) (ls
   Opens o v = (reads w.plan p s o ≡ true) × (v ≡ local_output w got p s o)
 
   opens_next : (q o v : ℕ) (e : Instruction) → at (program w.plan p s) q ≡ e → ((o v : ℕ) → (state l q).outputs o ≡ Some v → Opens o v) → (next l e (state l q)).outputs o ≡ Some v → Opens o v
-  opens_next q o v (Deal k d) is before f = before o v (sym (ap (λ z. z o) (dealt_outputs w.plan _ _ (slot w.plan s k) (state l q))) ∙ f)
+  opens_next q o v (Deal k d) is before f = before o v (sym (ap (λ z. z o) (dealt_outputs w.plan s _ _ (slot w.plan s k) (state l q))) ∙ f)
   opens_next q o v (Take n i) is before f = before o v (sym (ap (λ z. z o) (took_outputs (2 ^ w.plan.bits) (slot_of w.plan s n) i _ (state l q))) ∙ f)
   opens_next q o v (Deliver k) is before f =
       let u : ℕ = output_in_slot (slot w.plan s k) in

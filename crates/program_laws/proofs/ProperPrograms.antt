@@ -7,7 +7,7 @@ use mathlib.Core.Logic.{inl, inr}
 use Rattle.list_laws.specs.Lists.{total}
 use Rattle.list_laws.proofs.JoinedLists.{total_within}
 use Rattle.job_session.specs.Sessions.{Slot, owners}
-use Rattle.job_plan.specs.Plans.{Plan, session, slot, slots, deals_in, words, IsPlan, gives, words_in, words_before, input_count}
+use Rattle.job_plan.specs.Plans.{Plan, session, slot, slots, deals_in, words, gives, words_in, words_before, input_count}
 use Rattle.job_session.specs.Sessions.Slot.{Input, At_gate, Output}
 use Rattle.job_plan.specs.Sound.{IsSound}
 use Rattle.job_plan.specs.declared.key.Key.{Key}
@@ -28,10 +28,10 @@ use Rattle.program_laws.proofs.LocalPrograms.{met}
 abbrev HasDone : State → State → Type 0
 HasDone σ τ = (σ.drawn ≡ τ.drawn) × (σ.given ≡ τ.given)
 
-dealt_same : (plan : Plan) (f g : ℕ → ℕ) (x y : ℕ) (z : Slot) (σ τ : State) → HasDone σ τ → HasDone (dealt_in plan f x z σ) (dealt_in plan g y z τ)
-dealt_same plan f g x y (Input v) σ τ e = (ap (λ z. z + (length plan.groups - 1)) e.0, ap (λ z. z + 1) e.1)
-dealt_same plan f g x y (At_gate t) σ τ e = (ap (λ z. z + (length plan.groups - 1)) e.0, e.1)
-dealt_same plan f g x y (Output o) σ τ e = e
+dealt_same : (plan : Plan) (s : ℕ) (f g : ℕ → ℕ) (x y : ℕ) (z : Slot) (σ τ : State) → HasDone σ τ → HasDone (dealt_in plan s f x z σ) (dealt_in plan s g y z τ)
+dealt_same plan s f g x y (Input v) σ τ e = (ap (λ z. z + (length plan.groups - 1)) e.0, ap (λ z. z + 1) e.1)
+dealt_same plan s f g x y (At_gate t) σ τ e = (ap (λ z. z + (length plan.groups - 1)) e.0, e.1)
+dealt_same plan s f g x y (Output o) σ τ e = e
 
 took_same : (q : ℕ) (z : Slot) (i x y : ℕ) (σ τ : State) → HasDone σ τ → HasDone (took_in q z i x σ) (took_in q z i y τ)
 took_same q (Input v) i x y σ τ e = e
@@ -39,7 +39,7 @@ took_same q (At_gate t) i x y σ τ e = e
 took_same q (Output o) i x y σ τ e = e
 
 after_same : (plan : Plan) (p s : ℕ) (f g : ℕ → ℕ) (x y : ℕ) (got had : ℕ → ℕ) (e : Instruction) (σ τ : State) → HasDone σ τ → HasDone (after plan p s f x got e σ) (after plan p s g y had e τ)
-after_same plan p s f g x y got had (Deal k d) σ τ h = dealt_same plan f g x y (slot plan s k) σ τ h
+after_same plan p s f g x y got had (Deal k d) σ τ h = dealt_same plan s f g x y (slot plan s k) σ τ h
 after_same plan p s f g x y got had (Post n i) σ τ h = h
 after_same plan p s f g x y got had (Take n i) σ τ h = took_same (2 ^ plan.bits) (slot_of plan s n) i (got n) (had n) σ τ h
 after_same plan p s f g x y got had (Linear k) σ τ h = h
@@ -64,14 +64,11 @@ module _ (plan : Plan) (h : IsSound plan) (s p : ℕ) (ls : s < length plan.sess
   abbrev none : Key → ℕ
   none k = 0
 
-  is_plan : IsPlan plan
-  is_plan = record { bits = h.some_bits; groups = h.some_groups; q2 = h.q2 }
-
   small : SmallTape bare s p
   small k i = pow_pos plan.bits
 
   goes : (q : ℕ) → q < length (program plan p s) → Goes bare none s p (at (program plan p s) q) (state (local_given bare none s p) q)
-  goes q lq = subst (Goes bare none s p (at (program plan p s) q)) (sym (state_is (local_given bare none s p) q)) (along_at (Goes bare none s p) (local_given bare none s p) (program plan p s) new_state q lq (met bare is_plan none s p ls lp small).0)
+  goes q lq = subst (Goes bare none s p (at (program plan p s) q)) (sym (state_is (local_given bare none s p) q)) (along_at (Goes bare none s p) (local_given bare none s p) (program plan p s) new_state q lq (met bare h none s p ls lp small).0)
 
   inside : (q : ℕ) (e : Instruction) → at (program plan p s) q ≡ e → (e ≡ End → ⊥) → q < length (program plan p s)
   inside q e is ne = elim (cases_lt q (length (program plan p s))) [

@@ -3,9 +3,11 @@ use Rattle.std.specs.Prelude.{◌≡◌, ◌≢◌, ℕ, ◌+◌, ◌<◌, ◌�
 use Rattle.std.specs.List.{list_any}
 use Rattle.circuit_model.specs.declared.gate.Gate.{Gate}
 use Rattle.circuit_model.specs.Netlists.{read_by}
-use Rattle.job_session.specs.Sessions.{Session, Slot, output_wire}
-use Rattle.job_plan.specs.Plans.{Plan, holds, session, slot}
+use Rattle.secret_sharing.specs.Schemes.{has_pair}
+use Rattle.job_session.specs.Sessions.{Session, Slot, gate, output_wire}
 use Rattle.job_session.specs.Sessions.Slot.{Input, At_gate, Output}
+use Rattle.job_session.specs.KeptWires.{is_read}
+use Rattle.job_plan.specs.Plans.{Plan, holds, scheme, session, slot}
 use Rattle.party_program.specs.declared.program.Instruction.{Instruction}
 use Rattle.party_program.specs.declared.program.Instruction.TheVariants.{Deal, Post, Take, Linear, Own, Sum, Deliver}
 use Rattle.party_program.specs.Programs.{program, at}
@@ -15,27 +17,37 @@ use Rattle.party_program.specs.States.{gate_in_slot, output_in_slot, slot_of}
 abbrev pub gate_at : Plan → ℕ → ℕ → Gate
 gate_at plan s k = gate_in_slot (session plan s) (slot plan s k)
 
+-- the wire whose summands are dealt in a slot
+abbrev pub Deals : Session → Slot → ℕ → Type 0
+Deals s (Input u) v = v ≡ u
+Deals s (At_gate t) v = v ≡ (gate s t).output
+Deals s (Output o) v = ⊥
+
 -- the wire whose summands the messages of a slot carry
 abbrev pub Carries : Session → Slot → ℕ → Type 0
 Carries s (Input u) v = v ≡ u
-Carries s (At_gate t) v = ⊥
+Carries s (At_gate t) v = v ≡ (gate s t).output
 Carries s (Output o) v = v ≡ output_wire s o
 
--- the instruction sets summand i of wire v
+-- the instruction sets summand i of wire v, or what the party has of it before it takes the rest
 abbrev pub SetsSummand : Plan → ℕ → Instruction → ℕ → ℕ → Type 0
-SetsSummand plan s (Deal k d) v i = slot plan s k ≡ Input v
+SetsSummand plan s (Deal k d) v i = Deals (session plan s) (slot plan s k) v
 SetsSummand plan s (Take n j) v i = (slot_of plan s n ≡ Input v) × (i ≡ j)
 SetsSummand plan s (Linear k) v i = v ≡ (gate_at plan s k).output
 SetsSummand plan s (Sum k) v i = v ≡ (gate_at plan s k).output
 SetsSummand plan s _ v i = ⊥
 
--- the instruction of party p reads summand i of wire v: it posts it, or computes with those that p holds
+-- the instruction of party p reads summand i of wire v: it posts it, or computes with those that p holds. The sum of a
+-- product reads what p dealt, if p did and any slot reads the product.
 abbrev pub ReadsSummand : Plan → ℕ → ℕ → Instruction → ℕ → ℕ → Type 0
 ReadsSummand plan p s (Post n j) v i = Carries (session plan s) (slot_of plan s n) v × (i ≡ j)
 ReadsSummand plan p s (Linear k) v i =
     (list_any (nat_eq v) (read_by (gate_at plan s k)) ≡ true) × (holds plan p i ≡ true)
 ReadsSummand plan p s (Own k) v i =
     (list_any (nat_eq v) (read_by (gate_at plan s k)) ≡ true) × (holds plan p i ≡ true)
+ReadsSummand plan p s (Sum k) v i =
+    (v ≡ (gate_at plan s k).output) × (has_pair (scheme plan) p ≡ true) × (is_read (session plan s) v ≡ true)
+    × (holds plan p i ≡ true)
 ReadsSummand plan p s (Deliver k) v i =
     (v ≡ output_wire (session plan s) (output_in_slot (slot plan s k))) × (holds plan p i ≡ true)
 ReadsSummand plan p s _ v i = ⊥

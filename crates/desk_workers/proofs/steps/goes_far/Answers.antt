@@ -2,7 +2,7 @@ use Rattle.std.proofs.Common.{◌≡◌, ◌+◌, Bool, true, false, refl, sym, 
 use Rattle.std.specs.Int.{from_bool}
 use Rattle.message_board.specs.Pairs.{Knows}
 use Rattle.desk_laws.specs.Pools.{Stuck}
-use Rattle.party_program.proofs.GrownStarts.{as_number}
+use Rattle.party_program.proofs.GrownDeals.{as_number}
 use Rattle.program_laws.specs.Lawful.{given_to}
 use Rattle.desk_workers.specs.Promises.{world_in}
 use Rattle.desk_workers.specs.Pools.{Leads}

@@ -1,5 +1,5 @@
-use Rattle.party_program.proofs.FollowedPatterns.{slot_program_follows}
+use Rattle.party_program.proofs.FollowedPatterns.{half_program_follows}
 use Rattle.party_program.proofs.laws.programs_follow_patterns.Goals as goal
 
 pub returns : goal.returns
-returns c = slot_program_follows
+returns c = λ plan p s k half ls lk. half_program_follows plan p s k ls lk half

@@ -17,5 +17,5 @@ returns-clause-before c given goes =
     let plan = c.args.plan.now in
     let d = c.args.self.now in
     let m = length plan.groups in
-    linear_after plan given d goes c.args.slot (c.requires.linear given goes) c.requires.silent c.linear.new.self c.linear.ensures.fits c.linear.ensures.kept
+    linear_after plan given d goes c.args.slot (c.requires.linear given goes) c.linear.new.self c.linear.ensures.fits c.linear.ensures.kept
     (subst (λ g. Alike m (state_of m c.linear.new.self) (computed (2 ^ plan.bits) (gate_on_rows (row_of d.memory) g) (state_of m d.memory))) c.gate-gate.ensures.is c.linear.ensures.state)

@@ -1,116 +1,122 @@
-use Rattle.std.proofs.Common.{◌≡◌, ℕ, ◌+◌, ◌-◌, sym, ap, ◌∙◌, subst, Some, arith}
-use Rattle.party_program.specs.declared.program.Instruction.TheVariants.{Post}
-use Rattle.party_desk.specs.declared.desk.Desk.{Desk}
-use Rattle.party_desk.specs.Desks.{instruction_at}
-use Rattle.party_desk.specs.Walks.{IsDeskOfPlan, Walks}
-use Rattle.party_desk.proofs.AllowedSteps.{stands}
-use Rattle.party_desk.proofs.GateWalks.{few_done, goes_names, goes_proper, goes_stand, walks_on}
-use Rattle.party_desk.proofs.GatePosts.{goes_word, post_walks, posted_more, posted_on, posts_start, product_more, product_next, product_within, still_posting}
+use Rattle.std.proofs.Common.{◌≡◌, ℕ, ◌+◌, ◌-◌, ◌<◌, length, Some, sym, ap, ◌∙◌, subst, arith}
+use Rattle.party_desk.specs.Walks.{IsSending, Sends}
+use Rattle.party_desk.proofs.GatePosts.{head_few, head_listed, head_two, is_post, none_sent, post_is, post_next, post_sent, post_share, post_start, post_word, posted_on, sent_few}
 use Rattle.party_desk.proofs.desk.Desk.post_each.Goals as goal
 
-pub loop-number-init : goal.loop-number-init
-loop-number-init g c =
-    let none : 0 ≡ c.done-from.result - c.done-from.result = omega arith in (
+-- the head has as many steps as the list
+pub overflow_cast-count : goal.overflow_cast-count
+overflow_cast-count g c =
+    let given = c.requires.sends.0 in
+    let sending = c.requires.sends.1 in
+    let long = head_listed c.args.plan.now given c.args.self.now sending c.product_steps-of_product.result.now c.product_steps-of_product.ensures in
+    let few = head_few c.args.plan.now given c.args.self.now sending in
+    omega (arith, long, few)
+
+pub loop-at-init : goal.loop-at-init
+loop-at-init g c =
+    let given = c.requires.sends.0 in
+    let sending = c.requires.sends.1 in
+    let long = head_listed c.args.plan.now given c.args.self.now sending c.product_steps-of_product.result.now c.product_steps-of_product.ensures in
+    let two = head_two c.args.plan.now given c.args.self.now sending in (
       omega arith,
-      (let left = c.requires.product.1 in omega (arith, left, c.done-from.ensures)),
+      omega (arith, long, two),
       c.requires.seat,
-      (λ given may. subst (λ n. Walks given c.args.seat.now c.args.self.now c.args.seat.now (posted_on c.args.self.now n)) none (posts_start given c.args.seat.now c.args.self.now may.goes.desk)),
+      (λ given sending words. (
+        post_start c.args.plan.now given c.args.self.now sending,
+        none_sent given c.args.seat.now c.args.self.now.position (c.args.self.now.position + (2 - 2)) (omega arith) (λ x n i from to is. absurd (omega (arith, from, to))),
+      )),
     )
 
-pub product_word-word-requires-clause-stands : goal.product_word-word-requires-clause-stands
-product_word-word-requires-clause-stands g c = goes_stand c.args.plan.now c.requires.may.0 c.args.self.now c.requires.may.1.goes
-
-pub product_word-word-requires-clause-within : goal.product_word-word-requires-clause-within
-product_word-word-requires-clause-within g c =
-    product_within c.args.plan.now c.requires.may.0 c.args.self.now c.requires.may.1.goes c.requires.product
-
-pub product_word-word-requires-clause-proper : goal.product_word-word-requires-clause-proper
-product_word-word-requires-clause-proper g c =
+-- past the deal comes a post
+pub unreachable-requires : goal.unreachable-requires
+unreachable-requires g c =
     let plan = c.args.plan.now in
-    let given = c.requires.may.0 in
-    let may = c.requires.may.1 in
+    let given = c.requires.sends.0 in
+    let sending = c.requires.sends.1 in
     let d = c.args.self.now in
-    let n = c.in-Post.number in
-    let i = c.in-Post.share in
-    let e : Desk = posted_on d (c.loop-number.at - c.done-from.result) in
-    let goes : IsDeskOfPlan plan given e = record { same = may.goes.same; desk = (c.loop-number.invariant.3 given may).desk } in
-    let is : instruction_at given e ≡ Post n i = product_next plan given d may.goes c.requires.product.0 c.done-from.result c.loop-number.at c.done-from.ensures c.loop-number.invariant.0 c.loop-number.invariant.1 (Post n i) (sym c.in-Post.is ∙ c.product_step.ensures) in
-    goes_proper plan given e goes (Post n i) (sym is)
-
-pub product_word-word-requires-clause-here : goal.product_word-word-requires-clause-here
-product_word-word-requires-clause-here g c =
-    let plan = c.args.plan.now in
-    let given = c.requires.may.0 in
-    let may = c.requires.may.1 in
-    let d = c.args.self.now in
-    let n = c.in-Post.number in
-    let i = c.in-Post.share in
-    let e : Desk = posted_on d (c.loop-number.at - c.done-from.result) in
-    let goes : IsDeskOfPlan plan given e = record { same = may.goes.same; desk = (c.loop-number.invariant.3 given may).desk } in
-    let is : instruction_at given e ≡ Post n i = product_next plan given d may.goes c.requires.product.0 c.done-from.result c.loop-number.at c.done-from.ensures c.loop-number.invariant.0 c.loop-number.invariant.1 (Post n i) (sym c.in-Post.is ∙ c.product_step.ensures) in
-    goes_names plan given e goes (Post n i) (sym is)
+    let long = head_listed plan given d sending c.product_steps-of_product.result.now c.product_steps-of_product.ensures in
+    let now = (c.loop-at.invariant.3 given sending c.requires.sends.2).0 in
+    let found = is_post plan given d sending c.loop-at.at c.loop-at.invariant.0 (omega (arith, long, c.loop-at-test.true)) now c.product_step-step.result c.product_step-step.ensures in
+    c.in_default.not-Post found.0 found.1 found.2
 
 pub post-requires-clause-promised : goal.post-requires-clause-promised
 post-requires-clause-promised g c =
     let plan = c.args.plan.now in
-    let given = c.requires.may.0 in
-    let may = c.requires.may.1 in
+    let given = c.requires.sends.0 in
+    let sending = c.requires.sends.1 in
     let d = c.args.self.now in
-    let n = c.in-Post.number in
-    let i = c.in-Post.share in
-    let e : Desk = posted_on d (c.loop-number.at - c.done-from.result) in
-    let goes : IsDeskOfPlan plan given e = record { same = may.goes.same; desk = (c.loop-number.invariant.3 given may).desk } in
-    let is : instruction_at given e ≡ Post n i = product_next plan given d may.goes c.requires.product.0 c.done-from.result c.loop-number.at c.done-from.ensures c.loop-number.invariant.0 c.loop-number.invariant.1 (Post n i) (sym c.in-Post.is ∙ c.product_step.ensures) in
-    may.promises.posts e.position n i is ∙ ap Some (sym (goes_word plan given e goes n i c.product_word-word.result is c.product_word-word.ensures.is))
+    let long = head_listed plan given d sending c.product_steps-of_product.result.now c.product_steps-of_product.ensures in
+    let left : c.loop-at.at < d.place.count = omega (arith, long, c.loop-at-test.true) in
+    let now = (c.loop-at.invariant.3 given sending c.requires.sends.2).0 in
+    let is = post_is plan given d sending c.loop-at.at c.loop-at.invariant.0 left now c.product_step-step.result c.product_step-step.ensures c.in-Post.number c.in-Post.share c.in-Post.is in
+    c.requires.sends.2.posts _ c.in-Post.number c.in-Post.share is
+    ∙ ap Some (sym (post_word plan given d sending c.loop-at.at c.loop-at.invariant.0 left now c.product_step-step.result c.product_step-step.ensures c.in-Post.number c.in-Post.share c.in-Post.is c.summands-summands.result.now c.args.wire c.requires.wire c.summands-summands.ensures.are))
 
-pub loop-number-preserved : goal.loop-number-preserved
-loop-number-preserved g c = (
-  omega (arith, c.loop-number.invariant.0),
-  (let given = c.requires.may.0 in
-      let may = c.requires.may.1 in
-      let more = product_more c.args.plan.now given c.args.self.now may.goes c.requires.product.0 c.done-from.result c.loop-number.at c.done-from.ensures c.loop-number.invariant.0 c.loop-number.invariant.1 (Post c.in-Post.number c.in-Post.share) (sym c.in-Post.is ∙ c.product_step.ensures) (λ z. cc) in
-      omega (arith, more, c.done-from.ensures, c.loop-number.invariant.0)),
+pub loop-at-preserved : goal.loop-at-preserved
+loop-at-preserved g c = (
+  omega (arith, c.loop-at.invariant.0),
+  omega (arith, c.loop-at-test.true),
   c.post.ensures.seat,
-  (λ given may.
+  (λ given sending words.
       let plan = c.args.plan.now in
       let d = c.args.self.now in
-      let n = c.in-Post.number in
-      let i = c.in-Post.share in
-      let moves : ℕ = c.loop-number.at - c.done-from.result in
-      let so_far = c.loop-number.invariant.3 given may in
-      let e : Desk = posted_on d moves in
-      let f : Desk = posted_on d (moves + 1) in
-      let goes : IsDeskOfPlan plan given e = record { same = may.goes.same; desk = so_far.desk } in
-      let found = sym c.in-Post.is ∙ c.product_step.ensures in
-      let product = c.requires.product.0 in
-      let is : instruction_at given e ≡ Post n i = product_next plan given d may.goes product c.done-from.result c.loop-number.at c.done-from.ensures c.loop-number.invariant.0 c.loop-number.invariant.1 (Post n i) found in
-      let more = product_more plan given d may.goes product c.done-from.result c.loop-number.at c.done-from.ensures c.loop-number.invariant.0 c.loop-number.invariant.1 (Post n i) found (λ z. cc) in
-      let word = goes_word plan given e goes n i c.product_word-word.result is c.product_word-word.ensures.is in
-      let next : moves + 1 ≡ c.loop-number.at + 1 - c.done-from.result = omega (arith, c.loop-number.invariant.0) in
-      subst (λ k. Walks given c.args.seat.now d c.post.new.seat (posted_on d k)) next
-      (walks_on given c.args.seat.now c.loop-number.seat c.post.new.seat d e f so_far
-      (post_walks given c.loop-number.seat c.post.new.seat e f so_far.desk n i c.product_word-word.result c.post.result is word c.post.ensures.view c.post.ensures.found
-      (posted_more given d moves more n i so_far.desk)))),
+      let long = head_listed plan given d sending c.product_steps-of_product.result.now c.product_steps-of_product.ensures in
+      let left : c.loop-at.at < d.place.count = omega (arith, long, c.loop-at-test.true) in
+      let so_far = c.loop-at.invariant.3 given sending words in
+      let word = post_word plan given d sending c.loop-at.at c.loop-at.invariant.0 left so_far.0 c.product_step-step.result c.product_step-step.ensures c.in-Post.number c.in-Post.share c.in-Post.is c.summands-summands.result.now c.args.wire c.requires.wire c.summands-summands.ensures.are in (
+        post_next plan given d sending c.loop-at.at c.loop-at.invariant.0 left so_far.0 c.product_step-step.result c.product_step-step.ensures c.in-Post.number c.in-Post.share c.in-Post.is,
+        post_sent plan given d sending c.loop-at.at c.loop-at.invariant.0 left so_far.0 c.product_step-step.result c.product_step-step.ensures c.in-Post.number c.in-Post.share c.in-Post.is c.args.seat.now c.loop-at.seat c.post.new.seat _ c.post.result so_far.1 word c.post.ensures.view c.post.ensures.found,
+      )),
 )
-
-pub overflow_add-at : goal.overflow_add-at
-overflow_add-at g c =
-    let there = stands c.requires.may.0 (posted_on c.args.self.now (c.loop-number.at - c.done-from.result)) (c.loop-number.invariant.3 c.requires.may.0 c.requires.may.1).desk in
-    let few = there.position in
-    let done = there.place.done in
-    omega (arith, few, done, c.done-from.ensures, c.loop-number.invariant.0)
 
 pub overflow_add-self : goal.overflow_add-self
 overflow_add-self g c =
-    let few = few_done c.requires.may.0 (posted_on c.args.self.now (c.loop-number.at - c.done-from.result)) (c.loop-number.invariant.3 c.requires.may.0 c.requires.may.1).desk in
-    omega (arith, few)
+    let given = c.requires.sends.0 in
+    let sending = c.requires.sends.1 in
+    let long = head_listed c.args.plan.now given c.args.self.now sending c.product_steps-of_product.result.now c.product_steps-of_product.ensures in
+    let few = head_few c.args.plan.now given c.args.self.now sending in
+    omega (arith, long, few)
 
 pub overflow_add-self-2 : goal.overflow_add-self-2
 overflow_add-self-2 g c =
-    let there = stands c.requires.may.0 (posted_on c.args.self.now (c.loop-number.at - c.done-from.result)) (c.loop-number.invariant.3 c.requires.may.0 c.requires.may.1).desk in
-    let few = there.position in
-    let sent = there.sent in
-    omega (arith, few, sent)
+    let given = c.requires.sends.0 in
+    let sending = c.requires.sends.1 in
+    let long = head_listed c.args.plan.now given c.args.self.now sending c.product_steps-of_product.result.now c.product_steps-of_product.ensures in
+    let few = sent_few c.args.plan.now given c.args.self.now sending (omega (arith, c.fits-self)) in
+    omega (arith, long, few)
 
-pub returns-clause-still : goal.returns-clause-still
-returns-clause-still g c none = still_posting c.args.self.now c.skip.new.self (c.loop-number.at - c.done-from.result) c.skip.ensures (omega (arith, none))
+pub product_step-step-requires-clause-left : goal.product_step-step-requires-clause-left
+product_step-step-requires-clause-left g c =
+    let long = head_listed c.args.plan.now c.requires.sends.0 c.args.self.now c.requires.sends.1 c.product_steps-of_product.result.now c.product_steps-of_product.ensures in
+    omega (arith, long, c.loop-at-test.true)
+
+pub bounds-summands-share : goal.bounds-summands-share
+bounds-summands-share g c =
+    let plan = c.args.plan.now in
+    let given = c.requires.sends.0 in
+    let sending = c.requires.sends.1 in
+    let d = c.args.self.now in
+    let long = head_listed plan given d sending c.product_steps-of_product.result.now c.product_steps-of_product.ensures in
+    let now = (c.loop-at.invariant.3 given sending c.requires.sends.2).0 in
+    let share = post_share plan given d sending c.loop-at.at c.loop-at.invariant.0 (omega (arith, long, c.loop-at-test.true)) now c.product_step-step.result c.product_step-step.ensures c.in-Post.number c.in-Post.share c.in-Post.is in
+    omega (arith, share, c.summands-summands.ensures.count)
+
+pub overflow_add-at : goal.overflow_add-at
+overflow_add-at g c =
+    let given = c.requires.sends.0 in
+    let sending = c.requires.sends.1 in
+    let long = head_listed c.args.plan.now given c.args.self.now sending c.product_steps-of_product.result.now c.product_steps-of_product.ensures in
+    let few = head_few c.args.plan.now given c.args.self.now sending in
+    omega (arith, long, few, c.loop-at-test.true)
+
+pub returns-clause-walks : goal.returns-clause-walks
+returns-clause-walks g c given sending words =
+    let plan = c.args.plan.now in
+    let d = c.args.self.now in
+    let n : ℕ = length c.product_steps-of_product.result.now in
+    let long = head_listed plan given d sending c.product_steps-of_product.result.now c.product_steps-of_product.ensures in
+    let all : c.loop-at.at ≡ n = omega (arith, c.loop-at.invariant.1, c.loop-at-test.false) in
+    let done = c.loop-at.invariant.3 given sending words in (
+      subst (λ k. IsSending plan given k (posted_on d (n - 2))) (sym long) (subst (λ k. IsSending plan given k (posted_on d (k - 2))) all done.0),
+      subst (λ k. Sends given c.args.seat.now d.position c.loop-at.seat (d.position + (k - 2))) all done.1,
+    )

@@ -1,17 +1,18 @@
-use Rattle.std.proofs.Common.{◌-◌, ◌<◌, ◌≤◌}
+use Rattle.std.proofs.Common.{◌+◌, ◌-◌, ◌≤◌}
 use Rattle.message_board.specs.Seats.{IsSeatOf}
 use Rattle.party_program.specs.States.{Given}
-use Rattle.party_desk.specs.Walks.{MayWalk, Walks}
+use Rattle.party_desk.specs.Walks.{HasWords, IsSending, Sends}
 use Rattle.party_desk.proofs.GatePosts.{posted_on}
 use Rattle.party_desk.proofs.desk.Desk.post_each.Given as goal
 
-abbrev pub invariant-loop-number : goal.invariant-loop-number
-invariant-loop-number g l =
-    (l.from ≤ l.at)
-    × (l.at < l.fn.self.place.count)
+abbrev pub invariant-loop-at : goal.invariant-loop-at
+invariant-loop-at g l =
+    (2 ≤ l.at)
+    × (l.at ≤ l.count)
     × IsSeatOf l.board l.seat
-    × ((given : Given) → MayWalk l.plan (g.W.Promise.list l.board.about.world) given l.fn.self
-    → Walks given l.fn.seat l.fn.self l.seat (posted_on l.fn.self (l.at - l.from)))
+    × ((given : Given) → IsSending l.plan given 2 l.fn.self → HasWords given (g.W.Promise.list l.board.about.world)
+    → IsSending l.plan given l.at (posted_on l.fn.self (l.at - 2))
+    × Sends given l.fn.seat l.fn.self.position l.seat (l.fn.self.position + (l.at - 2)))
 
-abbrev pub decreases-loop-number : goal.decreases-loop-number
-decreases-loop-number g l = l.fn.self.place.count - l.at
+abbrev pub decreases-loop-at : goal.decreases-loop-at
+decreases-loop-at g l = l.count - l.at

@@ -1,14 +1,17 @@
-use Rattle.std.proofs.Common.{◌≡◌, ◌-◌, ◌≤◌}
-use Rattle.job_plan.specs.Plans.{slots}
-use Rattle.party_program.specs.ProgramPlaces.{instructions_before}
+use Rattle.std.proofs.Common.{◌≡◌, ◌-◌, ◌≤◌, ◌<◌}
+use Rattle.job_session.specs.Batches as batches
+use Rattle.job_plan.specs.Plans.{session, slots}
+use Rattle.party_program.specs.declared.half.Half.TheVariants.{Head}
+use Rattle.party_program.specs.ProgramPlaces.{position_of}
 use Rattle.party_program.proofs.program.Program.first_from.Given as goal
 
--- no instruction stands in the slots that were passed
-abbrev pub invariant-loop-slot : goal.invariant-loop-slot
-invariant-loop-slot l = record {
-  within : l.slot ≤ slots l.plan l.self.session;
-  before : instructions_before l.plan l.self.party l.self.session l.slot ≡ instructions_before l.plan l.self.party l.self.session l.first;
+-- a batch begins here, or none, and no instruction stands in those that were passed
+abbrev pub invariant-loop-batch : goal.invariant-loop-batch
+invariant-loop-batch l = record {
+  within : l.batch ≤ slots l.plan l.self.session;
+  begins : l.batch < slots l.plan l.self.session → batches.batch (session l.plan l.self.session) l.batch ≡ l.batch;
+  before : position_of l.plan l.self.party l.self.session Head l.batch l.batch l.batch ≡ position_of l.plan l.self.party l.self.session Head l.first l.first l.first;
 }
 
-abbrev pub decreases-loop-slot : goal.decreases-loop-slot
-decreases-loop-slot l = slots l.plan l.self.session - l.slot
+abbrev pub decreases-loop-batch : goal.decreases-loop-batch
+decreases-loop-batch l = slots l.plan l.self.session - l.batch

@@ -10,14 +10,14 @@ pub index-requires : goal.index-requires
 index-requires c =
     let plan = c.requires.0 in
     let own = c.requires.1 in
-    let there : c.args.dealer < plan.parties = c.requires.4.occurs in
-    let long = ap length c.requires.3.dealt ∙ length-listed plan.parties (λ q. steps plan own (Dealt q)) in
+    let there : c.args.dealer < plan.parties = c.requires.5.occurs in
+    let long = ap length c.requires.4.dealt ∙ length-listed plan.parties (λ q. steps plan own c.requires.3 (Dealt q)) in
     let same : vec_len c.args.self.now.dealt ≡ length c.args.self.now.dealt.items = search rules in
     omega arith
 
 pub returns : goal.returns
-returns c = λ plan p s are occurs.
+returns c = λ plan p s half are occurs.
     c.as_slice.ensures
     ∙ c.index.ensures
     ∙ ap (λ xs. slice_index_or xs c.args.dealer c.index.result.now) are.dealt
-    ∙ listed_at plan.parties (λ q. steps plan p (Dealt q)) c.args.dealer c.index.result.now occurs.occurs
+    ∙ listed_at plan.parties (λ q. steps plan p half (Dealt q)) c.args.dealer c.index.result.now occurs.occurs

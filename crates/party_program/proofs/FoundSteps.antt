@@ -1,0 +1,66 @@
+-- The steps that a program finds for a place, or for a slot.
+use Rattle.std.proofs.Common.{◌≡◌, ℕ, ◌+◌, ◌-◌, ◌<◌, ◌^◌, List, length, sym, ap, ◌∙◌, subst, arith}
+use Rattle.std.specs.Prelude.{slice_index_or}
+use Rattle.job_plan.specs.Plans.{Plan, slots}
+use Rattle.job_plan.specs.Firsts.{first}
+use Rattle.job_plan.specs.Numbers.{deals_before}
+use Rattle.job_plan.specs.Patterns.{pattern_at}
+use Rattle.job_plan.specs.declared.pattern.Pattern.{Pattern}
+use Rattle.party_program.specs.declared.half.Half.{Half}
+use Rattle.party_program.specs.declared.half.Half.TheVariants.{Head, Tail}
+use Rattle.party_program.specs.declared.program.Program.{Program}
+use Rattle.party_program.specs.declared.program.Instruction.TheVariants.{End}
+use Rattle.party_program.specs.declared.step.Step.{Step}
+use Rattle.party_program.specs.declared.step.Step.TheVariants.{Deal}
+use Rattle.party_program.specs.Programs.{half_program}
+use Rattle.party_program.specs.PartySteps.{steps, placed, IsPlaced}
+use Rattle.party_program.specs.ProgramPlaces.{instructions_before, halves_before, count_in, OccursIn, IsProgram}
+use Rattle.party_program.proofs.ProgramPlaces.{before_more, both_before, count_at, length-half, step_fits, step_is}
+use Rattle.party_program.proofs.OccurringPatterns.{occurs_in}
+use Rattle.party_program.proofs.ShortPrograms.{few_instructions}
+
+-- half a slot has few instructions
+pub few_in_half : (plan : Plan) (own : Program) (is : IsProgram plan own.party own.session own) (half : Half) (k : ℕ) → k < slots plan own.session → length (half_program plan own.party own.session half k) < 4294967296
+few_in_half plan own is half k lk =
+    let bound = few_instructions plan own.party own.session (k + 1) is.sound is.session_there (omega (arith, lk)) in
+    let both = both_before plan own.party own.session (k + 1) in
+    of_half half bound both (before_more plan own.party own.session half k)
+  where
+    of_half : (half : Half) → instructions_before plan own.party own.session (k + 1) < 4294967295 → instructions_before plan own.party own.session (k + 1) ≡ halves_before plan own.party own.session Head (k + 1) + halves_before plan own.party own.session Tail (k + 1)
+        → halves_before plan own.party own.session half (k + 1) ≡ halves_before plan own.party own.session half k + length (half_program plan own.party own.session half k)
+        → length (half_program plan own.party own.session half k) < 4294967296
+    of_half Head bound both more = omega (arith, bound, both, more)
+    of_half Tail bound both more = omega (arith, bound, both, more)
+
+-- steps that were found for a slot's pattern
+module _ (plan : Plan) (own : Program) (is : IsProgram plan own.party own.session own) (half : Half) (k : ℕ) (lk : k < slots plan own.session) (its : Pattern) (same : its ≡ pattern_at plan own.session k) where
+  pub occurs : OccursIn plan own.session its
+  occurs = occurs_in plan own.session k its is.sound is.session_there lk same
+
+  module _ (found : List Step) (of : found ≡ steps plan own.party half its) where
+    pub are : found ≡ steps plan own.party half (pattern_at plan own.session k)
+    are = of ∙ ap (steps plan own.party half) same
+
+    pub as_many : length found ≡ length (half_program plan own.party own.session half k)
+    as_many = ap (length {A = Step}) are ∙ sym (length-half plan own.party own.session half k is.session_there lk)
+
+    pub counted : length found ≡ count_in plan own.party own.session half k
+    counted = as_many ∙ sym (count_at plan own.party own.session half k lk)
+
+    pub few : length found < 4294967296
+    few = let all = as_many in let bound = few_in_half plan own is half k lk in omega (arith, all, bound)
+
+    module _ (i : ℕ) (left : i < count_in plan own.party own.session half k) where
+      pub found_within : i < length found
+      found_within = let all = counted in omega (arith, all, left)
+
+      within : i < length (steps plan own.party half (pattern_at plan own.session k))
+      within = subst (λ (xs : List Step). i < length xs) are found_within
+
+      pub fits : IsPlaced (2 ^ 32 - first plan own.session k) (slice_index_or found i Deal)
+      fits = subst (λ xs. IsPlaced (2 ^ 32 - first plan own.session k) (slice_index_or xs i Deal)) (sym are) (step_fits plan own.party own.session half k is.session_there lk i Deal is.sound within)
+
+      pub instruction : placed k (first plan own.session k) (deals_before plan own.party own.session k) (slice_index_or found i Deal) ≡ slice_index_or (half_program plan own.party own.session half k) i End
+      instruction =
+          ap (λ xs. placed k (first plan own.session k) (deals_before plan own.party own.session k) (slice_index_or xs i Deal)) are
+          ∙ sym (step_is plan own.party own.session half k is.session_there lk i Deal within)

@@ -1,0 +1,120 @@
+use Rattle.std.proofs.Common.{◌≡◌, ℕ, ◌+◌, ◌<◌, Bool, true, false, ◌&&◌, if◌then◌else◌, List, length, sym, ap, ◌∙◌, subst, arith}
+use Rattle.std.specs.Prelude.{slice_index_or}
+use Rattle.std.proofs.lemmas.List.{length-append}
+use Rattle.circuit_model.specs.Circuits.{is_product}
+use Rattle.circuit_model.specs.declared.gate.Gate.{Gate}
+use Rattle.secret_sharing.specs.Schemes.{has_pair}
+use Rattle.job_session.specs.Sessions.{Session, owners, gate, no_gate}
+use Rattle.job_session.proofs.SessionSlots.{slot_gate}
+use Rattle.job_plan.specs.declared.pattern.Pattern.TheVariants.{Silent, Multiplied}
+use Rattle.job_plan.specs.Plans.{Plan, scheme, session, slot, slots, deals_in}
+use Rattle.job_plan.specs.Patterns.{pattern}
+use Rattle.party_program.specs.declared.step.Step.{Step}
+use Rattle.party_program.specs.declared.half.Half.{Half}
+use Rattle.party_program.specs.declared.half.Half.TheVariants.{Head, Tail}
+use Rattle.party_program.specs.declared.step_table.StepTable.{StepTable}
+use Rattle.job_plan.specs.Sound.{IsSound}
+use Rattle.party_program.specs.Programs.{head, tail, half_program, slot_program}
+use Rattle.party_program.specs.PartySteps.{steps}
+use Rattle.party_program.specs.ProgramPlaces.{AreDeals, AreSteps}
+use Rattle.party_program.proofs.ProgramPlaces.{length-half}
+use Rattle.party_program.proofs.FewSteps.{product_few}
+use Rattle.party_program.proofs.GrownDeals.{as_number, room_left, instructions_fit, one_more}
+use Rattle.party_program.proofs.deals.push_gates.Goals as goal
+use Rattle.party_program.proofs.deals.push_gates.Goals.{then-is_product, else-is_product}
+
+-- gate t of session s, found among the gates of its part
+module _ (plan : Plan) (p s t : ℕ) (ls : s < length plan.sessions) (part : Session) (same : part ≡ session plan s) (gates : List Gate) (of : gates ≡ part.gates) (less : t < length gates) where
+  abbrev k : ℕ
+  k = length (owners (session plan s)) + t
+
+  lt : t < length (session plan s).gates
+  lt = subst (λ (xs : List Gate). t < length xs) (of ∙ ap (λ (x : Session). x.gates) same) less
+
+  lk : k < slots plan s
+  lk = let less = lt in omega (arith, less)
+
+  -- whether it was found to be a product
+  module _ (told product : Bool) (is_told : told ≡ is_product (slice_index_or gates t no_gate).operation) (told_is : told ≡ product) where
+    product_is : is_product (gate (session plan s) t).operation ≡ product
+    product_is = ap (λ xs. is_product (slice_index_or xs t no_gate).operation) (sym (of ∙ ap (λ (x : Session). x.gates) same)) ∙ sym is_told ∙ told_is
+
+    -- its halves have as many instructions as steps
+    half_count : (half : Half) → length (half_program plan p s half k) ≡ length (steps plan p half (if product then Multiplied else Silent))
+    half_count half =
+        length-half plan p s half k ls lk
+        ∙ ap (λ z. length (steps plan p half (pattern plan s z))) (slot_gate (session plan s) t lt)
+        ∙ ap (λ b. length (steps plan p half (if b then Multiplied else Silent))) product_is
+
+    count : length (slot_program plan p s k) ≡ length (steps plan p Head (if product then Multiplied else Silent)) + length (steps plan p Tail (if product then Multiplied else Silent))
+    count = let both = length-append (head plan p s k) (tail plan p s k) in let in_head = half_count Head in let in_tail = half_count Tail in omega (arith, both, in_head, in_tail)
+
+    -- and a deal where it is a product and the party has a pair to multiply
+    dealt : deals_in plan s p (slot plan s k) ≡ (product && has_pair (scheme plan) p)
+    dealt = ap (deals_in plan s p) (slot_gate (session plan s) t lt) ∙ ap (λ b. b && has_pair (scheme plan) p) product_is
+
+pub push_reserved-requires : goal.push_reserved-requires
+push_reserved-requires c =
+    let there = lk c.args.plan.now c.args.p c.args.s c.loop-gate.gate-index c.requires.session _ c.part.ensures _ c.gates-gate-items.ensures c.loop-gate-test.true in
+    room_left c.args.plan.now c.args.p c.args.s _ c.loop-gate.list c.loop-gate.tally c.loop-gate.invariant (omega (arith, there))
+
+-- a product has few steps
+module _ (plan : Plan) (p s : ℕ) (heads ends : StepTable) (are_heads : AreSteps plan p s Head heads) (are_tails : AreSteps plan p s Tail ends) (sound : IsSound plan) (a b : List Step)
+    (of_head : (plan : Plan) (p s : ℕ) (half : Half) → AreSteps plan p s half heads → a ≡ steps plan p half Multiplied) (of_tail : (plan : Plan) (p s : ℕ) (half : Half) → AreSteps plan p s half ends → b ≡ steps plan p half Multiplied) where
+  both_of : length a + length b ≡ length (steps plan p Head Multiplied) + length (steps plan p Tail Multiplied)
+  both_of = let in_head = ap (length {A = Step}) (of_head plan p s Head are_heads) in let in_tail = ap (length {A = Step}) (of_tail plan p s Tail are_tails) in omega (arith, in_head, in_tail)
+
+  few : length a + length b < 4294967296
+  few = let all = both_of in let short = product_few plan p sound in omega (arith, all, short)
+
+pub overflow_add-steps : goal.overflow_add-steps
+overflow_add-steps c = let all = few c.args.plan.now c.args.p c.args.s c.args.heads.now c.args.tails.now c.requires.heads c.requires.tails c.parties.ensures.sound c.of_product.result.now c.of_product-2.result.now c.of_product.ensures c.of_product-2.ensures in omega (arith, all)
+
+pub overflow_cast-steps : goal.overflow_cast-steps
+overflow_cast-steps c = let all = few c.args.plan.now c.args.p c.args.s c.args.heads.now c.args.tails.now c.requires.heads c.requires.tails c.parties.ensures.sound c.of_product.result.now c.of_product-2.result.now c.of_product.ensures c.of_product-2.ensures in omega (arith, all)
+
+-- a product has as many instructions as were added
+module _ (c : goal.Then-is_product) where
+  there : length (owners (session c.args.plan.now c.args.s)) + c.loop-gate.gate-index < slots c.args.plan.now c.args.s
+  there = lk c.args.plan.now c.args.p c.args.s c.loop-gate.gate-index c.requires.session _ c.part.ensures _ c.gates-gate-items.ensures c.loop-gate-test.true
+
+  many : length c.of_product.result.now + length c.of_product-2.result.now ≡ length (slot_program c.args.plan.now c.args.p c.args.s (length (owners (session c.args.plan.now c.args.s)) + c.loop-gate.gate-index))
+  many =
+      both_of c.args.plan.now c.args.p c.args.s c.args.heads.now c.args.tails.now c.requires.heads c.requires.tails c.parties.ensures.sound c.of_product.result.now c.of_product-2.result.now c.of_product.ensures c.of_product-2.ensures
+      ∙ sym (count c.args.plan.now c.args.p c.args.s c.loop-gate.gate-index c.requires.session _ c.part.ensures _ c.gates-gate-items.ensures c.loop-gate-test.true _ true c.is_product.ensures c.if-is_product.true)
+
+pub overflow_add-tally : goal.overflow_add-tally
+overflow_add-tally c = let all = instructions_fit c.args.plan.now c.args.p c.args.s _ c.loop-gate.list c.loop-gate.tally c.loop-gate.invariant _ c.parties.ensures.sound c.requires.session (there c) (many c) in omega (arith, all)
+
+pub overflow_add-tally-else-is_product : goal.overflow_add-tally-else-is_product
+overflow_add-tally-else-is_product c =
+    let there = lk c.args.plan.now c.args.p c.args.s c.loop-gate.gate-index c.requires.session _ c.part.ensures _ c.gates-gate-items.ensures c.loop-gate-test.true in
+    let one = count c.args.plan.now c.args.p c.args.s c.loop-gate.gate-index c.requires.session _ c.part.ensures _ c.gates-gate-items.ensures c.loop-gate-test.true _ false c.is_product.ensures c.if-is_product.false in
+    let all = instructions_fit c.args.plan.now c.args.p c.args.s _ c.loop-gate.list c.loop-gate.tally c.loop-gate.invariant 1 c.parties.ensures.sound c.requires.session there (sym one) in
+    omega (arith, all)
+
+pub loop-gate-preserved : goal.loop-gate-preserved
+loop-gate-preserved c =
+    let plan = c.args.plan.now in
+    let p = c.args.p in
+    let s = c.args.s in
+    let k : ℕ = length (owners (session plan s)) + c.loop-gate.gate-index in
+    let next : k + 1 ≡ length (owners (session plan s)) + (c.loop-gate.gate-index + 1) = omega arith in
+    let grown = one_more plan p s k c.loop-gate.list c.loop-gate.tally c.loop-gate.invariant c.push_reserved.new.self in
+    subst (λ n. AreDeals plan p s n c.push_reserved.new.self c.if-is_product.tally) next
+    (elim c.if-is_product.branch [
+      | then-is_product w ↦
+          let deals = c.from-deals.ensures ∙ as_number c.multiplies.result ∙ ap (λ b. if b then 1 else 0)
+          (c.multiplies.ensures ∙ sym (dealt plan p s c.loop-gate.gate-index c.requires.session _ c.part.ensures _ c.gates-gate-items.ensures c.loop-gate-test.true _ true c.is_product.ensures w.if-is_product.true)) in
+          let count = both_of plan p s c.args.heads.now c.args.tails.now c.requires.heads c.requires.tails c.parties.ensures.sound c.of_product.result.now c.of_product-2.result.now c.of_product.ensures c.of_product-2.ensures
+          ∙ sym (count plan p s c.loop-gate.gate-index c.requires.session _ c.part.ensures _ c.gates-gate-items.ensures c.loop-gate-test.true _ true c.is_product.ensures w.if-is_product.true) in
+          subst (AreDeals plan p s (k + 1) c.push_reserved.new.self) (sym w.tally-is)
+          (grown (length c.of_product.result.now + length c.of_product-2.result.now) c.from-deals.result c.push_reserved.ensures.items c.push_reserved.ensures.capacity count deals)
+      | else-is_product w ↦
+          let none : 0 ≡ (if deals_in plan s p (slot plan s k) then 1 else 0) = ap (λ b. if b then 1 else 0)
+          (sym (dealt plan p s c.loop-gate.gate-index c.requires.session _ c.part.ensures _ c.gates-gate-items.ensures c.loop-gate-test.true _ false c.is_product.ensures w.if-is_product.false)) in
+          let count = sym (count plan p s c.loop-gate.gate-index c.requires.session _ c.part.ensures _ c.gates-gate-items.ensures c.loop-gate-test.true _ false c.is_product.ensures w.if-is_product.false) in
+          let still : c.loop-gate.tally.deals + 0 ≡ c.loop-gate.tally.deals = omega arith in
+          subst (AreDeals plan p s (k + 1) c.push_reserved.new.self) (ap (λ n. record { instructions = c.loop-gate.tally.instructions + 1; deals = n }) still ∙ sym w.tally-is)
+          (grown 1 0 c.push_reserved.ensures.items c.push_reserved.ensures.capacity count none)
+    ])

@@ -1,0 +1,9 @@
+use Rattle.std.proofs.Common.{◌+◌, length}
+use Rattle.job_session.specs.Sessions.{owners}
+use Rattle.job_plan.specs.Plans.{session}
+use Rattle.party_program.specs.ProgramPlaces.{AreDeals}
+use Rattle.party_program.proofs.deals.push_gates.Given as goal
+
+-- the deals before the slots of values and of the gates so far
+abbrev pub invariant-loop-gate : goal.invariant-loop-gate
+invariant-loop-gate l = AreDeals l.plan l.p l.s (length (owners (session l.plan l.s)) + l.gate-index) l.list l.tally

@@ -1,0 +1,119 @@
+-- By batches a party posts what it posts slot after slot, and in the same order; and so it takes.
+use Rattle.std.proofs.Common.{◌≡◌, ◌⊎◌, ℕ, zero, suc, ◌+◌, ◌-◌, Bool, true, false, List, [], ◌∷◌, ◌++◌, map, flat_map, length, refl, sym, ap, ap₂, ◌∙◌, arith, append-nil, length-append}
+use Rattle.std.specs.List.{AllByRecursion, filter}
+use Rattle.std.proofs.lemmas.Grind.{flat_map-append}
+use mathlib.Core.Logic.{inl, inr}
+use Rattle.list_laws.specs.Lists.{joined}
+use Rattle.list_laws.proofs.JoinedLists.{joined_eq}
+use Rattle.job_plan.specs.Plans.{Plan, session, slot, slots}
+use Rattle.job_plan.specs.Firsts.{numbers}
+use Rattle.job_plan.specs.Numbers.{message}
+use Rattle.job_session.specs.Batches.{batch}
+use Rattle.party_program.specs.declared.program.Instruction.{Instruction}
+use Rattle.party_program.specs.declared.program.Instruction.TheVariants.{Deal, Post, Take, Linear, Own, Sum, Deliver}
+use Rattle.party_program.specs.Programs.{from, to, post, take_of, passes, opening, closing, posts, takes, head, tail, tails, program, slot_program}
+use Rattle.program_laws.specs.Talks.{post_no, take_no}
+use Rattle.program_laws.proofs.BatchRuns.{IsKept, whole}
+use Rattle.program_laws.proofs.ProgramParts.{every_opening, every_closing}
+
+none_told : {A : Type 0} (f : Instruction → List A) (es : List Instruction) → AllByRecursion (λ e. f e ≡ []) es → flat_map f es ≡ []
+none_told f [] h = refl
+none_told f (e ∷ es) h = ap (λ z. z ++ flat_map f es) h.0 ∙ none_told f es h.1
+
+map_told : (f : Instruction → List ℕ) (g : ℕ → Instruction) (ns : List ℕ) → ((n : ℕ) → f (g n) ≡ n ∷ []) → flat_map f (map g ns) ≡ ns
+map_told f g [] h = refl
+map_told f g (n ∷ ns) h = ap₂ (λ x y. x ++ y) (h n) (map_told f g ns h)
+
+map_quiet : {A : Type 0} (f : Instruction → List A) (g : ℕ → Instruction) (ns : List ℕ) → ((n : ℕ) → f (g n) ≡ []) → flat_map f (map g ns) ≡ []
+map_quiet f g [] h = refl
+map_quiet f g (n ∷ ns) h = ap₂ (λ x y. x ++ y) (h n) (map_quiet f g ns h)
+
+told_joined : {A : Type 0} (f : Instruction → List A) (n : ℕ) (g : ℕ → List Instruction) → flat_map f (joined n g) ≡ joined n (λ k. flat_map f (g k))
+told_joined f zero g = refl
+told_joined f (suc n) g = flat_map-append f (joined n g) (g n) ∙ ap (λ z. z ++ flat_map f (g n)) (told_joined f n g)
+
+-- the message that an instruction posts, or else takes
+abbrev pub told : Bool → Instruction → List ℕ
+told true = post_no
+told false = take_no
+
+module _ (plan : Plan) (s p : ℕ) where
+  -- what is told by heads alone, or by tails alone, stays
+  module _ {A : Type 0} (f : Instruction → List A) (quiet : ((k : ℕ) → flat_map f (head plan p s k) ≡ []) ⊎ ((k : ℕ) → flat_map f (tail plan p s k) ≡ [])) where
+    abbrev Same : List Instruction → List Instruction → Type 0
+    Same xs ys = flat_map f xs ≡ flat_map f ys
+
+    telling : IsKept Same
+    telling = record {
+      equal = λ xs ys e. ap (flat_map f) e;
+      on = λ xs ys zs a b. a ∙ b;
+      within = λ fs xs ys bs h. flat_map-append f (fs ++ xs) bs ∙ ap (λ z. z ++ flat_map f bs) (flat_map-append f fs xs ∙ ap (λ z. flat_map f fs ++ z) h ∙ sym (flat_map-append f fs ys)) ∙ sym (flat_map-append f (fs ++ ys) bs);
+    }
+
+    exchange : (ts es : List Instruction) → (flat_map f es ≡ []) ⊎ (flat_map f ts ≡ []) → Same (ts ++ es) (es ++ ts)
+    exchange ts es none = flat_map-append f ts es ∙ elim none [
+      | inl e ↦ ap (λ z. flat_map f ts ++ z) e ∙ append-nil (flat_map f ts) ∙ sym (ap (λ z. z ++ flat_map f ts) e)
+      | inr e ↦ ap (λ z. z ++ flat_map f es) e ∙ sym (append-nil (flat_map f es)) ∙ sym (ap (λ z. flat_map f es ++ z) e)
+    ] ∙ sym (flat_map-append f es ts)
+
+    nothing : (n : ℕ) (g : ℕ → List A) → ((k : ℕ) → g k ≡ []) → joined n g ≡ []
+    nothing zero g h = refl
+    nothing (suc n) g h = ap₂ (λ x y. x ++ y) (nothing n g h) (h n)
+
+    pub told_stays : flat_map f (program plan p s) ≡ flat_map f (joined (slots plan s) (slot_program plan p s))
+    told_stays = sym (whole (session plan s) (head plan p s) (tail plan p s) Same telling (λ k lk. exchange (tails plan p s (batch (session plan s) k) k) (head plan p s k) (elim quiet [
+      | inl heads ↦ inl (heads k)
+      | inr ends ↦
+          let a : ℕ = batch (session plan s) k in
+          inr (told_joined f (k - a) (λ j. tail plan p s (a + j)) ∙ nothing (k - a) (λ j. flat_map f (tail plan p s (a + j))) (λ j. ends (a + j)))
+    ])))
+
+  -- ---- posts and takes
+
+  module _ {A : Type 0} (f : Instruction → List A) where
+    opening_tells : ((k d : ℕ) → f (Deal k d) ≡ []) → ((k : ℕ) → f (Own k) ≡ []) → ((k : ℕ) → f (Linear k) ≡ []) → (k : ℕ) → flat_map f (opening plan p s k (slot plan s k)) ≡ []
+    opening_tells a b c k = none_told f _ (every_opening plan s p (λ e. f e ≡ []) k (λ v e d. a k _) (λ t e d. (b k, a k _)) (λ t e d. c k))
+
+    closing_tells : ((k : ℕ) → f (Sum k) ≡ []) → ((k : ℕ) → f (Deliver k) ≡ []) → (k : ℕ) → flat_map f (closing plan p s k (slot plan s k)) ≡ []
+    closing_tells a b k = none_told f _ (every_closing plan s p (λ e. f e ≡ []) k (λ t e d. a k) (λ o e. b k))
+
+    pub quiet_head : ((k d : ℕ) → f (Deal k d) ≡ []) → ((k : ℕ) → f (Own k) ≡ []) → ((k : ℕ) → f (Linear k) ≡ []) → ((n i : ℕ) → f (Post n i) ≡ []) → (k : ℕ) → flat_map f (head plan p s k) ≡ []
+    quiet_head a b c d k = flat_map-append f (opening plan p s k (slot plan s k)) (posts plan p s k) ∙ ap₂ (λ x y. x ++ y) (opening_tells a b c k) (map_quiet f (post plan) (filter (from plan p) (numbers plan s k)) (λ n. d n (message plan n).share))
+
+    pub quiet_tail : ((n i : ℕ) → f (Take n i) ≡ []) → ((k : ℕ) → f (Sum k) ≡ []) → ((k : ℕ) → f (Deliver k) ≡ []) → (k : ℕ) → flat_map f (tail plan p s k) ≡ []
+    quiet_tail a b c k = flat_map-append f (takes plan p s k) (closing plan p s k (slot plan s k)) ∙ ap₂ (λ x y. x ++ y) (map_quiet f (take_of plan) (filter (to plan p) (numbers plan s k)) (λ n. a n (message plan n).share)) (closing_tells b c k)
+
+  head_posts : (k : ℕ) → flat_map post_no (head plan p s k) ≡ filter (from plan p) (numbers plan s k)
+  head_posts k = flat_map-append post_no (opening plan p s k (slot plan s k)) (posts plan p s k) ∙ ap₂ (λ x y. x ++ y) (opening_tells post_no (λ k d. refl) (λ k. refl) (λ k. refl) k) (map_told post_no (post plan) _ (λ n. refl))
+
+  head_takes : (k : ℕ) → flat_map take_no (head plan p s k) ≡ []
+  head_takes = quiet_head take_no (λ k d. refl) (λ k. refl) (λ k. refl) (λ n i. refl)
+
+  tail_posts : (k : ℕ) → flat_map post_no (tail plan p s k) ≡ []
+  tail_posts = quiet_tail post_no (λ n i. refl) (λ k. refl) (λ k. refl)
+
+  tail_takes : (k : ℕ) → flat_map take_no (tail plan p s k) ≡ filter (to plan p) (numbers plan s k)
+  tail_takes k = flat_map-append take_no (takes plan p s k) (closing plan p s k (slot plan s k)) ∙ ap₂ (λ x y. x ++ y) (map_told take_no (take_of plan) _ (λ n. refl)) (closing_tells take_no (λ k. refl) (λ k. refl) k) ∙ append-nil _
+
+  pub posts_stay : flat_map post_no (program plan p s) ≡ flat_map post_no (joined (slots plan s) (slot_program plan p s))
+  posts_stay = told_stays post_no (inr tail_posts)
+
+  pub takes_stay : flat_map take_no (program plan p s) ≡ flat_map take_no (joined (slots plan s) (slot_program plan p s))
+  takes_stay = told_stays take_no (inl head_takes)
+
+  -- the numbers of those slots that p sends, or else gets
+  pub numbers_told : (b : Bool) → flat_map (told b) (program plan p s) ≡ joined (slots plan s) (λ k. filter (passes b plan p) (numbers plan s k))
+  numbers_told true = posts_stay ∙ told_joined post_no (slots plan s) (slot_program plan p s) ∙ joined_eq (slots plan s) _ _ (λ k lk. flat_map-append post_no (head plan p s k) (tail plan p s k) ∙ ap₂ (λ x y. x ++ y) (head_posts k) (tail_posts k) ∙ append-nil _)
+  numbers_told false = takes_stay ∙ told_joined take_no (slots plan s) (slot_program plan p s) ∙ joined_eq (slots plan s) _ _ (λ k lk. flat_map-append take_no (head plan p s k) (tail plan p s k) ∙ ap₂ (λ x y. x ++ y) (head_takes k) (tail_takes k))
+
+  -- ---- and it does as many instructions
+
+  abbrev AsLong : List Instruction → List Instruction → Type 0
+  AsLong xs ys = length xs ≡ length ys
+
+  pub as_long : length (program plan p s) ≡ length (joined (slots plan s) (slot_program plan p s))
+  as_long = sym (whole (session plan s) (head plan p s) (tail plan p s) AsLong (record {
+    equal = λ xs ys e. ap length e;
+    on = λ xs ys zs a b. a ∙ b;
+    within = λ fs xs ys bs h. omega (arith, length-append (fs ++ xs) bs, length-append fs xs, length-append (fs ++ ys) bs, length-append fs ys, h);
+  }) (λ k lk. omega (arith, length-append (tails plan p s (batch (session plan s) k) k) (head plan p s k), length-append (head plan p s k) (tails plan p s (batch (session plan s) k) k))))
