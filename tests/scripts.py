@@ -34,6 +34,7 @@ from random_expressions import SCRIPT, with_circuits  # noqa: E402
 
 NUMBERS, CIRCUITS, EXPRESSIONS_SCRIPT = (EXAMPLES / name for name in ('numbers.py', 'circuits.py', 'expressions.py'))
 AUCTION, SPREAD, NODES = EXAMPLES / 'auction/job.py', EXAMPLES / 'statistics/spread.py', EXAMPLES / 'network/nodes.py'
+BY_LAYERS = EXAMPLES / 'by_layers.py'
 MOST_SECONDS = 60
 INPUTS = 2_000
 MUTATED = 1_000
@@ -162,6 +163,46 @@ def layers_are_together(program, top):
         order.append((depths[output], operation != 'AND') if operation != 'EQW' else (max(depths.values()), True))
     expect(order == sorted(order), 'the gates are not in layers')
     expect(order[-1][0] == 21, f'{order[-1][0]} layers')
+
+
+def shuffled(chance, text):
+    """The same circuit with its gates in some order in which each wire is set before it is read."""
+    lines = [line for line in text.split('\n') if line.split()]
+    inputs, _, _, gates = circuit_of(text.encode())
+    wires, left, order = set(range(sum(inputs))), list(zip(gates, lines[3:])), []
+    while left:
+        ready = [entry for entry in left if wires.issuperset([] if entry[0][0] == 'EQ' else entry[0][1])]
+        gate, line = chance.choice(ready)
+        left.remove((gate, line))
+        wires.add(gate[2])
+        order.append(line)
+    return '\n'.join([*lines[:3], *order]) + '\n'
+
+
+def circuits_come_into_layers(program, top):
+    """A circuit in layers has the same gates and comes to the same, and takes no more rounds than its depth and two more."""
+    chance = random.Random(2)
+    for number, (name, words, bits) in enumerate([('auction', ['3', '4'], 1), ('multiply', ['5'], 1), ('less', ['8'], 1), ('total', ['6'], 64)]):
+        text = shuffled(chance, circuit_file(name, words))
+        old, new = (os.path.join(top, f'{number}_{which}.txt') for which in ('old', 'new'))
+        pathlib.Path(old).write_text(text, encoding='utf-8')
+        told = wrote(BY_LAYERS, old, new, program).split()
+        found = pathlib.Path(new).read_text(encoding='utf-8')
+        expect(sorted(found.split('\n')) == sorted(text.split('\n')), f'{name}: other gates')
+        products, depth, before, after = (int(told[place]) for place in (1, 3, 5, 7))
+        expect(products == len(re.findall('AND|MUL', text)) and depth + 1 <= after <= min(before, depth + 2), f'{name}: {told}')
+        for _ in range(20):
+            inputs = [chance.randrange(2**bits) for _ in range(sum(circuit_of(text.encode())[0]))]
+            expect(last_wires(circuit_of(text.encode()), inputs, bits) == last_wires(circuit_of(found.encode()), inputs, bits), f'{name}: another result')
+        again = wrote(BY_LAYERS, new, f'{new}.again', program).split()
+        expect(again[5] == again[7] == told[7], f'{name}: {again}')
+        expect(pathlib.Path(f'{new}.again').read_text(encoding='utf-8') == found, f'{name}: sorted twice it is another file')
+    for number, text in enumerate(['', '1 3\n1 2\n1 1\n2 1 0 3 2 AND\n', '1 3\n1 2\n1 1\n2 1 0 1 2 NAND\n', '2 3\n1 2\n1 1\n2 1 0 1 2 AND\n', 'x\n']):
+        old = os.path.join(top, f'refused_{number}.txt')
+        pathlib.Path(old).write_text(text, encoding='utf-8')
+        expect_one_line(call(BY_LAYERS, old, f'{old}.new', program), f'by_layers.py {text!r}', 'by_layers.py: ')
+        expect(not os.path.exists(f'{old}.new'), f'by_layers.py {text!r} wrote a file')
+    expect_one_line(call(BY_LAYERS, os.path.join(top, 'none.txt')), 'by_layers.py of no file', 'by_layers.py: ')
 
 
 def circuits_have_limits(program, top):
@@ -502,11 +543,11 @@ def nodes_are_split(program, top):
 OTHER_WORDS = [(NUMBERS, words) for words in ([], ['write'], ['write', 'j'], ['read'], ['read', 'j', '--divide'], ['read', 'j', '--divide', 'x'],
                                               ['read', 'j', '--divide', '-4'], ['make', 'j'], ['read', 'j', 'k'])] + [
     (CIRCUITS, []), (CIRCUITS, ['job']), (CIRCUITS, ['job', 'f']), (EXPRESSIONS_SCRIPT, []), (EXPRESSIONS_SCRIPT, ['compile', 'f']), (AUCTION, []), (AUCTION, ['read']), (AUCTION, ['make']),
-    (NODES, []), (NODES, ['run']), (NODES, ['split', 'j']), (NODES, ['split', 'j', 'f', '--hosts', 'h'])]
+    (BY_LAYERS, []), (BY_LAYERS, ['a', 'b', 'c', 'd']), (NODES, []), (NODES, ['run']), (NODES, ['split', 'j']), (NODES, ['split', 'j', 'f', '--hosts', 'h'])]
 
 
 def helps_are_there(program, top):
-    for script in (NUMBERS, CIRCUITS, EXPRESSIONS_SCRIPT, AUCTION, SPREAD, NODES):
+    for script in (NUMBERS, CIRCUITS, BY_LAYERS, EXPRESSIONS_SCRIPT, AUCTION, SPREAD, NODES):
         expect(script.name in wrote(script, '--help'), f'no help of {script.name}')
         expect(os.access(script, os.X_OK), f'{script} is no program')
     for script, words in OTHER_WORDS:
@@ -514,7 +555,7 @@ def helps_are_there(program, top):
         expect(done.returncode == 2 and not done.stdout and f'{script.name} '.encode() in done.stderr, f'{script.name} {words}: {done}')
 
 
-CASES = [circuits_are_their_numbers, layers_are_together, circuits_have_limits, numbers_come_back, numbers_are_signed_and_divided,
+CASES = [circuits_are_their_numbers, layers_are_together, circuits_come_into_layers, circuits_have_limits, numbers_come_back, numbers_are_signed_and_divided,
          numbers_that_do_not_fit, other_lines_are_refused, views_are_passed_over, outputs_that_fail, odd_folders, links_and_folders,
          changed_jobs_are_read_or_refused, expressions_are_words, refusals_are_those_of_the_rows,
          circuits_come_to_the_rows, examples_have_their_circuits, expressions_are_refused_in_one_line, an_auction_of_two, jobs_of_calls, ports_of_the_job_are_taken,

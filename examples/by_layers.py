@@ -1,0 +1,122 @@
+#!/usr/bin/env python3
+"""Brings the gates of a circuit into layers, and tells how many rounds that saves.
+
+    examples/by_layers.py CIRCUIT [NEW [PROGRAM]]
+
+Nodes do all products at once that stand together in a file and need not wait for one another. The layer of a gate is how many products
+stand on the longest path to it. NEW has the same gates sorted by layers, the linear ones of a layer before its products, and otherwise
+in their order: so it computes the same, and all products of a layer take one round. It is another file, so parties who run nodes
+agree on it before they agree on the job. Without NEW nothing is written.
+
+Prints how many products the circuit has, its depth, which is how many of them stand on the longest path, and the rounds of both
+orders: those of the inputs, the products and the outputs. A circuit that the program refuses is refused with its line. The program
+is ./mpc of this repository, or the one that is named.
+"""
+
+import os
+import pathlib
+import subprocess
+import sys
+import tempfile
+
+from job_folder import Refusal, job_text, need, read_bytes, read_widths, run_script, write_new
+
+TOP = pathlib.Path(__file__).resolve().parent.parent
+PRODUCTS = {'AND', 'MUL'}
+OF_WORDS = {'ADD', 'SUB', 'NEG', 'MUL'}
+
+# What a slot of an output sets.
+NOTHING = -1
+
+
+class Gate:
+    """A line of a circuit: the wires that it reads, the one that it sets, and whether it multiplies."""
+
+    def __init__(self, tokens):
+        self.line = ' '.join(tokens)
+        count = int(tokens[0])
+        self.reads = [] if tokens[-1] == 'EQ' else [int(wire) for wire in tokens[2:2 + count]]
+        self.sets = int(tokens[2 + count])
+        self.multiplies = tokens[-1] in PRODUCTS
+
+
+def accept(data, program):
+    """Refuses the circuit where the program does. A job of one party has no messages, so nothing else of it can be too large."""
+    of_words = any(line.split()[-1:] and line.split()[-1] in OF_WORDS for line in data.decode('utf-8', 'replace').split('\n'))
+    with tempfile.TemporaryDirectory() as folder:
+        write_new(folder, 'circuit.txt', data)
+        try:
+            inputs, outputs = map(len, read_widths(folder, 'circuit.txt'))
+        except Refusal:
+            inputs, outputs = 0, 0
+        session = {'circuit': 'circuit.txt', 'layout': 'ring' if of_words else 'bristol', 'owners': ['a'] * inputs, 'readers': [['a']] * outputs}
+        fields = {'version': 1, 'ring_bits': 64 if of_words else 1, 'parties': ['a'], 'formula': 'a', 'session': [session]}
+        write_new(folder, 'job.toml', job_text(fields).encode())
+        done = subprocess.run([program, 'check', folder], stdin=subprocess.DEVNULL, stdout=subprocess.DEVNULL, stderr=subprocess.PIPE, text=True)
+    need(done.returncode == 0, done.stderr.strip().split('\n')[-1] or f'{program} ended with status {done.returncode}')
+
+
+def read_circuit(data):
+    """The three lines of the head, and the gates."""
+    lines = [tokens for tokens in (line.split() for line in data.decode('utf-8').split('\n')) if tokens]
+    return lines[:3], [Gate(tokens) for tokens in lines[3:]]
+
+
+def layers(gates):
+    """The layer of each gate, and the products on the longest path."""
+    products, found, depth = {}, [], 0
+    for gate in gates:
+        layer = max((products.get(wire, 0) for wire in gate.reads), default=0)
+        products[gate.sets] = layer + gate.multiplies
+        found.append(layer)
+        depth = max(depth, products[gate.sets])
+    return found, depth
+
+
+def in_layers(gates):
+    """The gates by layers, the linear ones of a layer first."""
+    return [gate for _, gate in sorted(zip(layers(gates)[0], gates), key=lambda pair: (pair[0], pair[1].multiplies))]
+
+
+def rounds(head, gates):
+    """How many batches of slots say something: those with an input, a product or an output. A slot begins a batch where it reads a wire
+    that an input or a product of the batch before it sets."""
+    inputs, outputs = (sum(map(int, line[1:])) for line in head[1:])
+    wires = int(head[0][1])
+    slots = [([], wire, True, True) for wire in range(inputs)]
+    slots += [(gate.reads, gate.sets, gate.multiplies, gate.multiplies) for gate in gates]
+    slots += [([wire], NOTHING, False, True) for wire in range(wires - outputs, wires)]
+    count, says, pending = 0, False, set()
+    for reads, sets, waits, speaks in slots:
+        if not pending.isdisjoint(reads):
+            count += says
+            says, pending = False, set()
+        if waits:
+            pending.add(sets)
+        says |= speaks
+    return count + says
+
+
+def main(words):
+    if words in (['-h'], ['--help']):
+        print(__doc__)
+        return 0
+    if not 1 <= len(words) <= 3:
+        print(__doc__.split('\n\n')[1], file=sys.stderr)
+        return 2
+    path = pathlib.Path(words[0])
+    data = read_bytes(os.fspath(path.parent), path.name)
+    accept(data, words[2] if len(words) == 3 else str(TOP / 'mpc'))
+    head, gates = read_circuit(data)
+    by_layers = in_layers(gates)
+    if len(words) > 1:
+        new = pathlib.Path(words[1])
+        text = ''.join(line + '\n' for line in [*map(' '.join, head), *(gate.line for gate in by_layers)])
+        write_new(os.fspath(new.parent), new.name, text.encode())
+    print(f'products {sum(gate.multiplies for gate in gates)} depth {layers(gates)[1]} '
+          f'rounds {rounds(head, gates)} rounds_in_layers {rounds(head, by_layers)}')
+    return 0
+
+
+if __name__ == '__main__':
+    run_script(main)
