@@ -138,10 +138,10 @@ OTHER_JOBS = [
 
 
 def one_with_another_job(program):
-    """A node that sends to one that has stopped reading may tell of that."""
+    """A node that sends to one that has stopped reading may tell of that. But c gives no input, so it says nothing before it has heard a."""
     for change, line in OTHER_JOBS:
-        for odd, begins in enumerate([['fault ', 'fault job peer=a ', 'fault job peer=a '],
-                                      ['fault ', 'fault job peer=a ', 'fault closed peer=a at='],
+        for odd, begins in enumerate([['fault ', 'fault ', 'fault job peer=a '],
+                                      ['fault ', 'fault ', 'fault closed peer=a at='],
                                       ['fault ', 'fault ', line]]):
             expect_faults(run(program, product_with([]), odd=odd, other_files=product_with([change])), begins)
 
