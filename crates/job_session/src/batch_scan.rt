@@ -92,6 +92,7 @@ impl BatchScan {
     }
 
     // Whether one of these wires has the stamp of the batch that is begun.
+    #[inline(always)]
     fn waits(&self, reads: (Option<u32>, Option<u32>)) -> bool
         requires first { (w : ℕ) → is_named reads.0 w ≡ true → w < length self.now.stamps.items }
         requires second { (w : ℕ) → is_named reads.1 w ≡ true → w < length self.now.stamps.items }
@@ -104,6 +105,7 @@ impl BatchScan {
     }
 
     // Whether the wire, if there is one, has the stamp of the batch that is begun.
+    #[inline(always)]
     fn is_stamped(&self, wire: Option<u32>) -> bool
         requires within { (w : ℕ) → is_named wire w ≡ true → w < length self.now.stamps.items }
         requires few { self.now.first < 4294967295 }
@@ -127,6 +129,7 @@ impl BatchScan {
     }
 
     // Gives the wire, if there is one, the stamp of the batch that is begun.
+    #[inline(always)]
     fn complete(&mut self, wire: Option<u32>)
         requires within { (w : ℕ) → is_named wire w ≡ true → w < length self.old.stamps.items }
         requires few { self.old.first < 4294967295 }
@@ -140,6 +143,7 @@ impl BatchScan {
 }
 
 // The wire that a gate completes once what others post of it was taken.
+#[inline(always)]
 fn completed(gate: Gate) -> Option<u32>
     ensures { (w : ℕ) → is_named result w ≡ (is_product gate.operation && nat_eq w gate.output) }
 {

@@ -21,7 +21,7 @@ use Rattle.party_program.specs.declared.step.Step.{Step}
 use Rattle.party_program.specs.declared.step.Step.TheVariants as step
 use Rattle.party_program.specs.Programs.{half_program, program, at}
 use Rattle.party_program.specs.PartySteps.{steps, placed}
-use Rattle.party_program.specs.Proper.{IsGate, IsGivenWord, IsSlot, drawn_by}
+use Rattle.party_program.specs.Proper.{IsGate, IsGivenWord, IsSlot, Proper, drawn_by}
 use Rattle.party_program.specs.ProgramPlaces.{position_of, InProduct, IsPlace}
 use Rattle.party_program.specs.States.{Given, computed, gate_in_slot, summed}
 use Rattle.party_program.proofs.GateInstructions.{linear_place}
@@ -34,8 +34,8 @@ use Rattle.party_desk.specs.Memories.{state_of, row_of, Alike, IsMemoryOf, Keeps
 use Rattle.party_desk.specs.Rows.{gate_in, gate_on_rows}
 use Rattle.party_desk.specs.Desks.{Advanced, IsDesk, after_on_rows, instruction_at, posts_in, takes_in}
 use Rattle.party_desk.specs.Walks.{IsDeskOfPlan, IsUnplaced, IsBefore, IsAmongGates, AreGatesFrom, NoPosts, Computes, at_place}
-use Rattle.party_desk.proofs.AllowedSteps.{stays}
-use Rattle.party_desk.proofs.GateWalks.{few_done, moved_place}
+use Rattle.party_desk.proofs.AllowedSteps.{proper_own, stays}
+use Rattle.party_desk.proofs.GateWalks.{few_done, moved_place, silent_computes}
 
 -- ---- an instruction that changes the memory alone
 
@@ -388,17 +388,20 @@ batch_before plan l half k d before =
     subst (λ z. IsBatch (session z d.program.session) d.place.batch d.place.end) before.unplaced.same
     (subst (λ z. IsBatch (session l.plan z) d.place.batch d.place.end) (sym before.unplaced.own_program.of_session) before.batch)
 
+-- an instruction that is no post leads on by none
+pub one_silent : (l : Given) (d e : Desk) (i : Instruction) → instruction_at l d ≡ i → ((m j : ℕ) → i ≢ Post m j) → e.position ≡ d.position + 1 → NoPosts l d.position e.position
+one_silent l d e i is no_post more x m j from to at' =
+    let here : x ≡ d.position = omega (arith, from, to, more) in
+    no_post m j (sym is ∙ ap (at (program l.plan l.party l.session)) (sym here) ∙ at')
+
+-- a linear gate that comes next is that of the desk's slot
+pub linear_begins : (plan : Plan) (l : Given) (d : Desk) (goes : IsDeskOfPlan plan l d) (k : ℕ) → instruction_at l d ≡ Linear k → (k ≡ d.place.slot) × IsSlot l.plan l.session d.place.slot IsGate
+linear_begins plan l d goes k is =
+    let ne : instruction_at l d ≢ End = λ z. let both : Linear k ≡ End = sym is ∙ z in cc in
+    let its = linear_here l d goes.desk ne k is in
+    let proper : Proper l.plan l.session (Linear k) = subst (λ z. Proper l.plan z (Linear k)) goes.desk.session (subst (Proper l.plan d.session) is (proper_own l d goes.desk)) in
+    (its, subst (λ z. IsSlot l.plan l.session z IsGate) its proper)
+
 -- an instruction that is no post, and what comes after it
 pub first_computes : (l : Given) (d e f : Desk) (i : Instruction) → instruction_at l d ≡ i → ((m j : ℕ) → i ≢ Post m j) → e.position ≡ d.position + 1 → Computes l e f → Computes l d f
-first_computes l d e f i is no_post more w =
-    let after = w.forth in
-    record {
-      desk = w.desk;
-      forth = omega (arith, more, after);
-      no_post = λ x m j from to at'. elim (cases_lt x e.position) [
-        | inl a ↦
-            let here : x ≡ d.position = omega (arith, from, a, more) in
-            no_post m j (sym is ∙ ap (at (program l.plan l.party l.session)) (sym here) ∙ at')
-        | inr a ↦ w.no_post x m j a to at'
-      ];
-    }
+first_computes l d e f i is no_post more w = silent_computes l d e f (one_silent l d e i is no_post more) (omega (arith, more)) w

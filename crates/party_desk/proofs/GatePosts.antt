@@ -1,5 +1,5 @@
 -- Posts and takes of a product, one after another.
-use Rattle.std.proofs.Common.{◌≡◌, ◌≢◌, ℕ, ◌+◌, ◌-◌, ◌<◌, ◌≤◌, ◌^◌, true, List, length, Option, Some, ◌∷◌, refl, sym, ap, ◌∙◌, subst, inl, inr, arith}
+use Rattle.std.proofs.Common.{◌≡◌, ◌≢◌, ℕ, ◌+◌, ◌-◌, ◌<◌, ◌≤◌, ◌^◌, Bool, true, false, List, length, Option, Some, ◌∷◌, refl, sym, ap, ◌∙◌, subst, inl, inr, arith}
 use Rattle.std.specs.Prelude.{slice_index, slice_index_or}
 use Rattle.std.proofs.lemmas.Bool.{cases_lt}
 use Rattle.secret_sharing.specs.Schemes.{has_pair}
@@ -33,8 +33,9 @@ use Rattle.party_desk.specs.Memories.{state_of, row_of, posted_on_rows, Alike, I
 use Rattle.party_desk.specs.Rows.{row, SameRow, slot_on_rows}
 use Rattle.party_desk.specs.Desks.{Advanced, IsDesk, instruction_at, word_in_memory}
 use Rattle.party_desk.specs.Steps.{word_at}
-use Rattle.party_desk.specs.Walks.{IsBefore, IsDeskOfPlan, IsSending, NoPosts, Sends, Walks, at_place, further, taken_on}
+use Rattle.party_desk.specs.Walks.{Computes, DoesHead, DoesSilentHead, IsBefore, IsDeskOfPlan, IsSending, NoPosts, NothingToCompute, Sends, Walks, WentOn, at_place, further, taken_on}
 use Rattle.party_desk.proofs.AllowedSteps.{posts_right, stands, stays}
+use Rattle.party_desk.proofs.ComputedGates.{head_takes_none}
 use Rattle.party_desk.proofs.GateWalks.{goes_names, goes_proper, rest_walks}
 use Rattle.party_desk.proofs.GatePlaces.{place_on, position_more, product_gate, unplaced}
 use Rattle.party_desk.proofs.ProductSteps.{posts_there, product_long, takes_there}
@@ -457,13 +458,16 @@ sent_all plan l n d now all =
     }
 
 -- its slot is of a gate
-pub sent_slot : (plan : Plan) (l : Given) (n : ℕ) (d : Desk) → IsSending plan l n d → IsSlot plan d.session d.place.slot IsGate
-sent_slot plan l n d now =
+pub sent_gate : (plan : Plan) (l : Given) (n : ℕ) (d : Desk) → IsSending plan l n d → IsSlot l.plan l.session d.place.slot IsGate
+sent_gate plan l n d now =
     let own = now.unplaced.own_program in
     let there = product_there l.plan l.party l.session own.session_there Head d.place now.product now.begun now.place in
-    let kind : IsGate (slot l.plan l.session d.place.slot) = product_gate l.plan l.session d.place.slot there (sym (now.place.pattern there) ∙ now.product.1) in
+    record { kind = product_gate l.plan l.session d.place.slot there (sym (now.place.pattern there) ∙ now.product.1); slot = there }
+
+pub sent_slot : (plan : Plan) (l : Given) (n : ℕ) (d : Desk) → IsSending plan l n d → IsSlot plan d.session d.place.slot IsGate
+sent_slot plan l n d now =
     subst (λ z. IsSlot z d.session d.place.slot IsGate) now.unplaced.same
-    (subst (λ z. IsSlot l.plan z d.place.slot IsGate) (sym now.unplaced.session) (record { kind = kind; slot = there }))
+    (subst (λ z. IsSlot l.plan z d.place.slot IsGate) (sym now.unplaced.session) (sent_gate plan l n d now))
 
 -- a post that was found
 module _ (plan : Plan) (l : Given) (d : Desk) (first : IsSending plan l 2 d) (n : ℕ) (from : 2 ≤ n) (left : n < d.place.count) (now : IsSending plan l n (posted_on d (n - 2))) (i : Instruction)
@@ -536,3 +540,36 @@ module _ (l : Given) (d : Desk) (moves : ℕ) (more : d.place.done + moves + 1 <
     tape = kept.tape;
     state = state;
   }
+
+-- ---- the heads of gates
+
+module _ {W : Type 0} (plan : Plan) (l : Given) (s t : Sitting W) (d e : Desk) where
+  -- a head without a post
+  pub silent_head : DoesSilentHead plan l d e → DoesHead plan l s d s e
+  silent_head does =
+      let on = does.on in
+      record { gate = does.gate; before = does.before; on = on; sends = none_sent l s d.position e.position (omega (arith, on)) does.no_post }
+
+  -- and the gates after it
+  pub head_went : (f : Desk) (goes : Bool) → goes ≡ true → DoesHead plan l s d t e → Computes l e f → WentOn l s d t f goes
+  head_went f goes went does computes =
+      let on = does.on in
+      let forth = computes.forth in
+      record {
+        walks = sent_walks l s t d f computes.desk (sent_on l s t t d.position e.position f.position does.sends (none_sent l t e.position f.position forth computes.no_post));
+        on = λ z. omega (arith, on, forth);
+        through = λ z. absurd (let clash : true ≡ false = sym went ∙ z in cc);
+        looked = λ z. absurd (let clash : true ≡ false = sym went ∙ z in cc);
+      }
+
+  -- a desk in a head stays where nothing of a gate comes next
+  pub head_stays : (goes : Bool) → goes ≡ false → (e ≡ d) × (t ≡ s) → IsDesk l d → d.place.half ≡ Head → NothingToCompute l d → WentOn l s d t e goes
+  head_stays goes stays same h head none =
+      subst (λ z. WentOn l s d z e goes) (sym same.1)
+      (subst (λ z. WentOn l s d s z goes) (sym same.0)
+      (record {
+        walks = rest_walks l s d h;
+        on = λ z. absurd (let clash : false ≡ true = sym stays ∙ z in cc);
+        through = λ z. none;
+        looked = λ z product n i w is known. head_takes_none l d h head n i is;
+      }))

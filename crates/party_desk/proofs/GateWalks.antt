@@ -1,5 +1,5 @@
 -- Instructions at gates, one after another.
-use Rattle.std.proofs.Common.{◌≡◌, ◌≢◌, ℕ, ◌<◌, List, refl, sym, ap, ◌∙◌, subst, inl, inr, arith}
+use Rattle.std.proofs.Common.{◌≡◌, ◌≢◌, ℕ, ◌<◌, ◌≤◌, List, refl, sym, ap, ◌∙◌, subst, inl, inr, arith}
 use Rattle.std.proofs.lemmas.Bool.{cases_lt}
 use Rattle.job_plan.specs.Plans.{Plan, slot}
 use Rattle.message_board.specs.Seats.{Sitting}
@@ -93,6 +93,16 @@ module _ (l : Given) where
         desk = b.desk;
         forth = omega (arith, first, second);
         no_post = posts_on d.position e.position f.position a.no_post b.no_post;
+      }
+
+  -- the same, where the desk between is not placed yet
+  pub silent_computes : (d e f : Desk) → NoPosts l d.position e.position → d.position ≤ e.position → Computes l e f → Computes l d f
+  silent_computes d e f silent forth after =
+      let more = after.forth in
+      record {
+        desk = after.desk;
+        forth = omega (arith, forth, more);
+        no_post = posts_on d.position e.position f.position silent after.no_post;
       }
 
   -- one instruction that is no post and takes what is given

@@ -173,6 +173,13 @@ module _ (plan : Plan) (l : Given) (d : Desk) (slot : ℕ) (part : Session) (gat
     pub linear_few : d.position + n < 4294967296
     linear_few = done.reached
 
+    -- all of them are done, and none was a post
+    pub linear_before : IsBefore plan l Head (slot + n) (record d { position = d.position + n; memory = m })
+    linear_before = subst (λ z. IsBefore plan l Head (slot + n) (record d { position = d.position + n; memory = z })) (sym rest_is) (done.before m.rows refl)
+
+    pub linear_silent : NoPosts l d.position (d.position + n)
+    linear_silent = done.silent
+
     -- the place is brought up
     pub linear_entered : (place : Place) → IsPlace plan d.program.party d.program.session place (position_of plan d.program.party d.program.session Head d.place.batch d.place.end (slot + n))
         → Computes l d (record d { place = place; position = d.position + n; memory = m })
@@ -192,7 +199,7 @@ module _ (plan : Plan) (l : Given) (d : Desk) (slot : ℕ) (part : Session) (gat
 -- the tails of linear gates are empty, so who is before them is behind them too
 module _ (plan : Plan) (l : Given) (d : Desk) (slot : ℕ) (part : Session) (gates : List Gate) (start : IsBefore plan l Tail slot d) (own : part ≡ session plan d.session) (among : IsAmongGates part slot) (are : AreGatesFrom part slot d.place.end gates)
     (n : ℕ) (first : IsFirstProduct gates n) where
-  passed : IsBefore plan l Tail (slot + n) d
+  pub passed : IsBefore plan l Tail (slot + n) d
   passed =
       let few = first.few in
       let to = are.to in

@@ -17,6 +17,7 @@ use Rattle.party_program.specs.declared.program.Instruction.TheVariants.{Linear,
 use Rattle.party_program.specs.Programs.{program, at}
 use Rattle.party_program.specs.ProgramPlaces.{position_of, InProduct, IsPlace, IsProgram}
 use Rattle.party_program.specs.States.{Given}
+use Rattle.party_program.specs.Proper.{IsGate, IsSlot}
 use Rattle.party_desk.specs.declared.desk.Desk.{Desk}
 use Rattle.party_desk.specs.declared.memory.Memory.{Memory}
 use Rattle.party_desk.specs.Memories.{IsMemoryOf}
@@ -175,6 +176,21 @@ pub record Sends {W : Type 0} (given : Given) (seat : Sitting W) (q : ℕ) (seat
   pub grows : Grows seat.view.seen seat'.view.seen
   pub seats : seat'.view.seats ≡ seat.view.seats
   pub out : seat'.view.out ≡ seat.view.out
+
+-- the desk did all of its slot's head, that of a gate, and none of it was a post
+pub record DoesSilentHead (plan : Plan) (given : Given) (d d' : Desk) : Type 0 where
+  pub gate : IsSlot given.plan given.session d.place.slot IsGate
+  pub before : IsBefore plan given Head (d.place.slot + 1) d'
+  pub on : d.position < d'.position
+  pub no_post : NoPosts given d.position d'.position
+
+-- the same, with posts, and the seat knows what was posted
+pub record DoesHead {W : Type 0} (plan : Plan) (given : Given) (seat : Sitting W) (d : Desk) (seat' : Sitting W)
+    (d' : Desk) : Type 0 where
+  pub gate : IsSlot given.plan given.session d.place.slot IsGate
+  pub before : IsBefore plan given Head (d.place.slot + 1) d'
+  pub on : d.position < d'.position
+  pub sends : Sends given seat d.position seat' d'.position
 
 -- slot k is of a gate, or the first after those
 abbrev pub IsAmongGates : Session → ℕ → Type 0

@@ -91,7 +91,7 @@ impl Desk {
     ghost use Rattle.party_desk.specs.Desks.{instruction_at};
     ghost use Rattle.party_desk.specs.Walks.{IsDeskOfPlan, MayWalk, HasWords, Computes, NoPosts, Walks, Sends};
     ghost use Rattle.party_desk.specs.Walks.{IsAmongGates, IsBefore, IsSending, IsAtTake};
-    ghost use Rattle.party_desk.specs.Walks.{HasLooked, NothingToCompute, WentOn};
+    ghost use Rattle.party_desk.specs.Walks.{HasLooked, NothingToCompute, WentOn, DoesHead, DoesSilentHead};
 
     /// Does the instructions that come next as long as they are of gates, until one waits for a message, and answers
     /// how many they were. Afterwards no own product, no sum and no linear gate comes next, nor a take of a product
@@ -143,11 +143,17 @@ impl Desk {
             → WentOn given seat.old self.old seat.new self.new result }
         ensures still { self.new.position ≡ self.old.position → self.new ≡ self.old }
     {
-        match self.place.pattern() {
-            Pattern::Multiplied => self.send_next(plan, board, seat),
-            Pattern::Silent => self.gates_next(plan),
+        let slot = self.place.slot();
+        let done = match self.place.pattern() {
+            Pattern::Multiplied => self.send_product(plan, board, seat),
+            Pattern::Silent => self.linear_gate(plan),
             _ => false,
+        };
+        if done {
+            let part = plan.part(self.session);
+            self.compute_gates(plan, part, slot + 1);
         }
+        done
     }
 
     // In a tail of a product, the takes that come next, and the sum. It answers whether it came to that.
@@ -179,9 +185,10 @@ impl Desk {
         true
     }
 
-    // At the start of a product, what the party deals and posts, and the linear gates that come next in heads.
+    // At the start of a product, what the party deals and posts. It answers whether it stood there. The place stays
+    // behind.
     #[inline(always)]
-    fn send_next<W: Promise, T: SlotItem<W>>(
+    fn send_product<W: Promise, T: SlotItem<W>>(
         &mut self,
         plan: &Plan,
         board: &Board<W, T>,
@@ -192,19 +199,20 @@ impl Desk {
         requires head { self.old.place.half ≡ Head }
         requires product { self.old.place.pattern ≡ Multiplied }
         ensures seat { IsSeatOf board.now seat.new }
-        ensures went { (given : Given) → MayWalk plan.now (W.list board.now.about.world) given self.old
-            → WentOn given seat.old self.old seat.new self.new result }
-        ensures still { self.new.position ≡ self.old.position → self.new ≡ self.old }
+        ensures does { result ≡ true
+            → (given : Given) → MayWalk plan.now (W.list board.now.about.world) given self.old
+            → DoesHead plan.now given seat.old self.old seat.new self.new }
+        ensures still { result ≡ false → (self.new ≡ self.old) × (seat.new ≡ seat.old) }
+        ensures through { result ≡ false
+            → (given : Given) → MayWalk plan.now (W.list board.now.about.world) given self.old
+            → NothingToCompute given self.new }
     {
         if !self.place.is_first() || !plan.multiplies(self.party) {
             return false;
         }
-        let part = plan.part(self.session);
-        let slot = self.place.slot();
-        let gate = self.gate(plan, slot);
+        let gate = self.gate(plan, self.place.slot());
         self.deal_own(plan, gate);
         self.post_each(plan, board, seat, gate.output);
-        self.compute_gates(plan, part, slot + 1);
         true
     }
 
@@ -320,24 +328,22 @@ impl Desk {
         self.enter_tail(plan, part, slot + 1);
     }
 
-    // The linear gates that come next in heads.
+    // At a linear gate, computes it. It answers whether it stood there. The place stays behind.
     #[inline(always)]
-    fn gates_next(&mut self, plan: &Plan) -> bool
+    fn linear_gate(&mut self, plan: &Plan) -> bool
         requires goes { (given : Given) × IsDeskOfPlan plan.now given self.old }
         requires head { self.old.place.half ≡ Head }
         requires silent { self.old.place.pattern ≡ Silent }
-        ensures computes { (given : Given) → IsDeskOfPlan plan.now given self.old → Computes given self.old self.new }
-        ensures on { result ≡ true → self.old.position < self.new.position }
+        ensures does { result ≡ true → (given : Given) → IsDeskOfPlan plan.now given self.old
+            → DoesSilentHead plan.now given self.old self.new }
         ensures still { result ≡ false → self.new ≡ self.old }
-        ensures linear { result ≡ false → (given : Given) → IsDeskOfPlan plan.now given self.old
+        ensures through { result ≡ false → (given : Given) → IsDeskOfPlan plan.now given self.old
             → NothingToCompute given self.new }
     {
         let Instruction::Linear { slot } = self.program.instruction_at(plan, &self.place) else {
             return false;
         };
-        let part = plan.part(self.session);
         self.end_gate(plan, slot);
-        self.compute_gates(plan, part, slot + 1);
         true
     }
 
@@ -422,7 +428,23 @@ impl Desk {
             self.program
                 .enter_product(plan, &mut self.place, Half::Head, next);
         } else {
-            self.program.enter(plan, &mut self.place, Half::Head, next);
+            self.end_heads(plan, part, next);
+        }
+    }
+
+    // Brings the place up behind the heads of gates: at the end of a batch of gates to its tails.
+    #[inline(never)]
+    fn end_heads(&mut self, plan: &Plan, part: &SessionPart, slot: u32)
+        requires goes { (given : Given) × IsBefore plan.now given Head slot self.old }
+        requires part { part.now ≡ session plan.now self.old.session }
+        requires among { IsAmongGates part.now slot }
+        ensures { (given : Given) → IsBefore plan.now given Head slot self.old → Computes given self.old self.new }
+    {
+        let batch = self.place.batch();
+        if slot == self.place.end() && part.input_wires() as u32 <= batch {
+            self.enter_tail(plan, part, batch);
+        } else {
+            self.program.enter(plan, &mut self.place, Half::Head, slot);
         }
     }
 
@@ -441,7 +463,20 @@ impl Desk {
             self.program
                 .enter_product(plan, &mut self.place, Half::Tail, next);
         } else {
-            self.program.enter(plan, &mut self.place, Half::Tail, next);
+            self.end_tails(plan, next);
+        }
+    }
+
+    // Brings the place up behind the tails of gates: at the end of a batch to the next one.
+    #[inline(never)]
+    fn end_tails(&mut self, plan: &Plan, slot: u32)
+        requires { (given : Given) × IsBefore plan.now given Tail slot self.old }
+        ensures { (given : Given) → IsBefore plan.now given Tail slot self.old → Computes given self.old self.new }
+    {
+        if slot == self.place.end() {
+            self.program.enter_batch(plan, &mut self.place);
+        } else {
+            self.program.enter(plan, &mut self.place, Half::Tail, slot);
         }
     }
 }

@@ -1,6 +1,7 @@
 -- The steps that a program finds for a place, or for a slot.
-use Rattle.std.proofs.Common.{◌≡◌, ℕ, ◌+◌, ◌-◌, ◌<◌, ◌^◌, List, length, sym, ap, ◌∙◌, subst, arith}
+use Rattle.std.proofs.Common.{◌≡◌, ℕ, ◌+◌, ◌-◌, ◌<◌, ◌^◌, List, length, sym, ap, ◌∙◌, subst, inl, inr, arith}
 use Rattle.std.specs.Prelude.{slice_index_or}
+use Rattle.std.proofs.lemmas.Bool.{cases_lt}
 use Rattle.job_plan.specs.Plans.{Plan, slots}
 use Rattle.job_plan.specs.Firsts.{first}
 use Rattle.job_plan.specs.Numbers.{deals_before}
@@ -36,6 +37,20 @@ few_in_half plan own is half k lk =
 module _ (plan : Plan) (own : Program) (is : IsProgram plan own.party own.session own) (half : Half) (k : ℕ) (lk : k < slots plan own.session) (its : Pattern) (same : its ≡ pattern_at plan own.session k) where
   pub occurs : OccursIn plan own.session its
   occurs = occurs_in plan own.session k its is.sound is.session_there lk same
+
+  -- a count that was told for the pattern is that of the half's instructions
+  module _ (count : ℕ) (told : 0 < count → count ≡ length (steps plan own.party half its)) where
+    pub told_many : 0 < count → count ≡ length (half_program plan own.party own.session half k)
+    told_many some = told some ∙ ap (λ pattern. length (steps plan own.party half pattern)) same ∙ sym (length-half plan own.party own.session half k is.session_there lk)
+
+    pub told_few : count < 4294967296
+    told_few = elim (cases_lt 0 count) [
+      | inl some ↦ let all = told_many some in let bound = few_in_half plan own is half k lk in omega (arith, all, bound)
+      | inr none ↦ omega (arith, none)
+    ]
+
+    pub told_count : 0 < count → count ≡ count_in plan own.party own.session half k
+    told_count some = told_many some ∙ sym (count_at plan own.party own.session half k lk)
 
   module _ (found : List Step) (of : found ≡ steps plan own.party half its) where
     pub are : found ≡ steps plan own.party half (pattern_at plan own.session k)

@@ -40,6 +40,14 @@ impl Place {
         self.half
     }
 
+    /// The first slot of its batch.
+    #[inline(always)]
+    pub fn batch(self) -> u32
+        ensures { result ≡ self.batch }
+    {
+        self.batch
+    }
+
     /// The slot behind the last of its batch.
     #[inline(always)]
     pub fn end(self) -> u32

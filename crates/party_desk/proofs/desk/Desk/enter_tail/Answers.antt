@@ -1,5 +1,5 @@
 use Rattle.party_desk.proofs.GatePlaces.{batch_before}
-use Rattle.party_desk.proofs.LinearGates.{from_end, gates_product, tail_entered}
+use Rattle.party_desk.proofs.LinearGates.{from_end, gates_product, passed, tail_entered}
 use Rattle.party_desk.proofs.desk.Desk.enter_tail.Goals as goal
 
 pub enter_product-requires-clause-product : goal.enter_product-requires-clause-product
@@ -11,13 +11,15 @@ enter_product-requires-clause-product c =
 pub enter_product-requires-clause-batch : goal.enter_product-requires-clause-batch
 enter_product-requires-clause-batch c = batch_before c.args.plan.now c.requires.goes.0 _ c.args.slot c.args.self.now c.requires.goes.1
 
-pub enter-requires-clause-batch : goal.enter-requires-clause-batch
-enter-requires-clause-batch c = batch_before c.args.plan.now c.requires.goes.0 _ c.args.slot c.args.self.now c.requires.goes.1
-
 pub returns-then-linear-gates : goal.returns-then-linear-gates
 returns-then-linear-gates c given start =
     tail_entered c.args.plan.now given c.args.self.now c.args.slot c.args.part.now c.gates_from-gates.result.now start c.requires.part c.requires.among (from_end c.args.part.now c.args.slot c.end.result c.args.self.now.place.end c.gates_from-gates.result.now c.end.ensures c.gates_from-gates.ensures) c.linear_count-linear.result c.linear_count-linear.ensures c.enter_product.new.place c.enter_product.ensures
 
+pub end_tails-requires : goal.end_tails-requires
+end_tails-requires c =
+    let given = c.requires.goes.0 in
+    let start = c.requires.goes.1 in
+    (given, passed c.args.plan.now given c.args.self.now c.args.slot c.args.part.now c.gates_from-gates.result.now start c.requires.part c.requires.among (from_end c.args.part.now c.args.slot c.end.result c.args.self.now.place.end c.gates_from-gates.result.now c.end.ensures c.gates_from-gates.ensures) c.linear_count-linear.result c.linear_count-linear.ensures)
+
 pub returns-else-linear-gates : goal.returns-else-linear-gates
-returns-else-linear-gates c given start =
-    tail_entered c.args.plan.now given c.args.self.now c.args.slot c.args.part.now c.gates_from-gates.result.now start c.requires.part c.requires.among (from_end c.args.part.now c.args.slot c.end.result c.args.self.now.place.end c.gates_from-gates.result.now c.end.ensures c.gates_from-gates.ensures) c.linear_count-linear.result c.linear_count-linear.ensures c.enter.new.place c.enter.ensures
+returns-else-linear-gates c given start = c.end_tails.ensures given (passed c.args.plan.now given c.args.self.now c.args.slot c.args.part.now c.gates_from-gates.result.now start c.requires.part c.requires.among (from_end c.args.part.now c.args.slot c.end.result c.args.self.now.place.end c.gates_from-gates.result.now c.end.ensures c.gates_from-gates.ensures) c.linear_count-linear.result c.linear_count-linear.ensures)
