@@ -111,7 +111,7 @@ module _ (w : World) (got : Key → ℕ) (s p : ℕ) where
         right = λ σ τ r y h. (h.0, tt);
       }
 
-  pub take_puts : (n i : ℕ) (z : Slot) → slot_of plan s n ≡ z → Puts (Take n i) (carried z)
+  pub take_puts : (n i : ℕ) (z : Slot) → slot_of plan n ≡ z → Puts (Take n i) (carried z)
   take_puts n i (Input v) e =
       record {
         row = λ r sums. set_at r i (l.got n);
@@ -155,7 +155,7 @@ module _ (w : World) (got : Key → ℕ) (s p : ℕ) where
   posted_is (At_gate t) i v σ row sums outputs ne = ap (λ f. f i) (set_there σ.rows v (gate x t).output row (λ e. ne (sym e)))
   posted_is (Output o) i v σ row sums outputs ne = ap (λ f. f i) (set_there σ.rows v (output_wire x o) row (λ e. ne (sym e)))
 
-  pub post_passes : (n i v : ℕ) (z : Slot) → slot_of plan s n ≡ z → v ≢ carried z → Passes (Post n i) v
+  pub post_passes : (n i v : ℕ) (z : Slot) → slot_of plan n ≡ z → v ≢ carried z → Passes (Post n i) v
   post_passes n i v z e ne =
       record {
         over = λ σ row sums outputs. refl;
@@ -163,7 +163,7 @@ module _ (w : World) (got : Key → ℕ) (s p : ℕ) where
         sums = λ σ. refl;
         outputs = λ σ. refl;
         right = λ σ row sums outputs h.
-            let same : posted x (slot_of plan s n) i (put σ v row sums outputs) ≡ posted x (slot_of plan s n) i σ =
+            let same : posted x (slot_of plan n) i (put σ v row sums outputs) ≡ posted x (slot_of plan n) i σ =
             ap (λ y. posted x y i (put σ v row sums outputs)) e ∙ posted_is z i v σ row sums outputs ne ∙ sym (ap (λ y. posted x y i σ) e) in
             (h.0, (h.1.0, sym same ∙ h.1.1));
       }

@@ -1,5 +1,5 @@
 -- The head of a slot may be done before the tails of the slots before it in its batch.
-use Rattle.std.proofs.Common.{◌≡◌, ℕ, zero, suc, ◌+◌, ◌-◌, ◌<◌, ◌≤◌, ◌≢◌, Bool, true, false, ◌||◌, ◌&&◌, nat_eq, List, [], ◌∷◌, ◌++◌, length, refl, sym, ap, ◌∙◌, subst, arith}
+use Rattle.std.proofs.Common.{◌≡◌, ℕ, zero, suc, ◌+◌, ◌-◌, ◌<◌, ◌≤◌, ◌≢◌, Bool, true, false, ◌||◌, ◌&&◌, nat_eq, List, [], ◌∷◌, ◌++◌, length, refl, sym, ap, ap₂, ◌∙◌, subst, arith}
 use Rattle.std.specs.List.{AllByRecursion, list_any}
 use Rattle.std.proofs.lemmas.Bool.{cases_Bool, both_ways, or_parts, and_parts, eqb-true, false≢true, cond-true}
 use mathlib.Core.Logic.{inl, inr}
@@ -75,7 +75,7 @@ module _ (w : World) (sound : IsSound w.plan) (got : Key → ℕ) (s p : ℕ) (l
 
   tail_sets : (j : ℕ) → j < slots plan s → AllByRecursion (λ t. Sets t (wire (slot plan s j))) (tail plan p s j)
   tail_sets j lj = every_tail plan s p _ j
-      (every_filter _ _ (to plan p) (numbers plan s j) (in_slot plan sound s p ls j lj) (λ n f e. take_puts w got s p n (message plan n).share (slot plan s j) (ap (slot plan s) f.1.0)))
+      (every_filter _ _ (to plan p) (numbers plan s j) (in_slot plan sound s p ls j lj) (λ n f e. take_puts w got s p n (message plan n).share (slot plan s j) (ap₂ (slot plan) f.1.2 f.1.0)))
       (every_closing plan s p _ j (λ t e b. subst (λ z. Sets (Sum j) (wire z)) (sym e) (sum_puts w got s p j t e)) (λ o e. subst (λ z. Sets (Deliver j) (wire z)) (sym e) (deliver_puts w got s p j o e)))
 
   -- the tail of a linear gate is empty
@@ -111,7 +111,7 @@ module _ (w : World) (sound : IsSound w.plan) (got : Key → ℕ) (s p : ℕ) (l
       let reads = product_reads (gate x t) (and_parts (is_product (gate x t).operation) (has_pair (scheme plan) p) b).0 in
       (own_passes w got s p k t v e (apart.1 (gate x t).first reads.0) (apart.1 (gate x t).second reads.1), deal_passes_gate w got s p k d t v e apart.0))
       (λ t e b. let apart = here (At_gate t) e in linear_passes w got s p k t v e apart.0 apart.1))
-      (every_filter _ _ (from plan p) (numbers plan s k) (in_slot plan sound s p ls k lk) (λ n f e. post_passes w got s p n (message plan n).share v (slot plan s k) (ap (slot plan s) f.1.0) (apart_wire (slot plan s k) v h)))
+      (every_filter _ _ (from plan p) (numbers plan s k) (in_slot plan sound s p ls k lk) (λ n f e. post_passes w got s p n (message plan n).share v (slot plan s k) (ap₂ (slot plan) f.1.2 f.1.0) (apart_wire (slot plan s k) v h)))
 
   -- ---- a slot before another, that it doesn't wait for
 

@@ -30,7 +30,7 @@ module _ (w : World) (whole : IsWhole w) (s p : ℕ) (ls : s < length w.plan.ses
   goes_here : (q : ℕ) (e : Instruction) → at (program w.plan p s) q ≡ e → (e ≡ End → ⊥) → Goes w (word w) s p e (state l q)
   goes_here = goes w whole.sound (word w) s p ls lp (λ k i. small_words w whole s p k i)
 
-  posts_right : (q n i : ℕ) → at (program w.plan p s) q ≡ Post n i → posted (session w.plan s) (slot_of w.plan s n) i (state l q) ≡ word w (message w.plan n)
+  posts_right : (q n i : ℕ) → at (program w.plan p s) q ≡ Post n i → posted (session w.plan s) (slot_of w.plan n) i (state l q) ≡ word w (message w.plan n)
   posts_right q n i e =
       let g = goes_here q (Post n i) e (λ f. cc) in
       g.1.1 ∙ ap (λ z. local_word w (word w) z (message w.plan n)) (sym g.1.0) ∙ sent_are_words w (is_plan w whole) n g.0.number

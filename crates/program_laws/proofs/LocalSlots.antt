@@ -20,7 +20,7 @@ use Rattle.job_plan.specs.Messages.{messages, slot_messages, deal_messages, open
 use Rattle.job_session.specs.Sessions.Slot.{Input, At_gate, Output}
 use Rattle.share_world.specs.Worlds.{World, input_of, tape_word}
 use Rattle.share_world.specs.Locals.{local_run, local_word, local_word_in, local_output}
-use Rattle.job_plan.specs.Numbers.{no_key, message, deals_before}
+use Rattle.job_plan.specs.Numbers.{message, deals_before}
 use Rattle.mpc_ring.proofs.Remainders.{same_refl, same_mod, same_trans, mods_of_same}
 use Rattle.list_laws.proofs.Totals.{total_eq, total_one, total_zero}
 use Rattle.mpc_ring.proofs.Totals.{total_same}
@@ -124,8 +124,8 @@ module _ (w : World) (h' : IsPlan w.plan) (got : Key → ℕ) (s p : ℕ) (ls : 
   input_numbers v lv = each_number plan s v ls (omega arith) (FromOwner v) (subst (λ z. AllByRecursion (FromOwner v) (slot_messages plan s v z)) (sym (slot_input x v lv)) (from_owner v))
 
   -- a message of a slot is proper
-  message_is : (k n : ℕ) (y : Key) → k < slots w.plan s → n < length (messages plan) → (message plan n).slot ≡ k → (message plan n).share < m → IsSessionMessage plan s n (message plan n).share
-  message_is k n y lk ln e li = record { number = ln; share = li; slot = omega (arith, lk, e) }
+  message_is : (k n i d r : ℕ) → k < slots w.plan s → n < length (messages plan) → message plan n ≡ key k i d r → (message plan n).share < m → IsSessionMessage plan s n (message plan n).share
+  message_is k n i d r lk ln is li = record { number = ln; session = ap (λ z. z.session) is; share = li; slot = subst (λ z. z.slot < slots plan z.session) (sym is) lk }
 
   -- rows after an input slot
   rows_next : (v : ℕ) (σ τ : State) → InInputs v σ → ((u i : ℕ) → u ≢ v → τ.rows u i ≡ σ.rows u i) → ((i : ℕ) → i < m → holds plan p i ≡ true → τ.rows v i ≡ run.start v i)
@@ -175,8 +175,8 @@ module _ (w : World) (h' : IsPlan w.plan) (got : Key → ℕ) (s p : ℕ) (ls : 
       let n0 : ℕ = words_before plan p s v in
       let g0 : ℕ = given_before plan p s v in
       let ns : List ℕ = filter (to plan p) (numbers plan s v) in
-      let proper : AllByRecursion (λ n. IsSessionMessage plan s n (message plan n).share) ns = every_filter _ _ (to plan p) (numbers plan s v) (input_numbers v lv) (λ n f e. message_is v n no_key lk f.0 (ap (λ z. z.slot) f.1.0) f.1.1) in
-      let slot_is : (n : ℕ) → In v (FromOwner v) n → slot_of plan s n ≡ Input v = λ n f. ap (λ z. slot w.plan s z.slot) f.1.0 ∙ at in
+      let proper : AllByRecursion (λ n. IsSessionMessage plan s n (message plan n).share) ns = every_filter _ _ (to plan p) (numbers plan s v) (input_numbers v lv) (λ n f e. message_is v n _ _ _ lk f.0 f.1.0 f.1.1) in
+      let slot_is : (n : ℕ) → In v (FromOwner v) n → slot_of plan n ≡ Input v = λ n f. ap (λ z. slot w.plan z.session z.slot) f.1.0 ∙ at in
       four (InInputs (suc v)) σ v (subst (λ z. Leaves good l (opening plan p s v z ++ posts plan p s v ++ takes plan p s v ++ closing plan p s v z) (InInputs (suc v)) σ) (sym at)
       (elim (cases_eq (owner v) p) [
         | inl e ↦
@@ -190,7 +190,7 @@ module _ (w : World) (h' : IsPlan w.plan) (got : Key → ℕ) (s p : ℕ) (ls : 
             subst (λ ys. Leaves good l (ys ++ posts plan p s v ++ takes plan p s v ++ []) (InInputs (suc v)) σ) (sym (cond-true (nat_eq (owner v) p) (Deal v d ∷ []) [] (eq-eqb (owner v) p e)))
             (exchanged v (InInputs (suc v)) σ1
             (every_filter _ _ (from plan p) (numbers plan s v) (input_numbers v lv) (λ n f e'. (
-              message_is v n no_key lk f.0 (ap (λ z. z.slot) f.1.0) f.1.1,
+              message_is v n _ _ _ lk f.0 f.1.0 f.1.1,
               (
                 eqb-true _ _ e',
                 ap (λ z. posted x z (message plan n).share σ1) (slot_is n f) ∙ dealt' (message plan n).share ∙ start_input v (message plan n).share lv e
@@ -339,7 +339,7 @@ module _ (w : World) (h' : IsPlan w.plan) (got : Key → ℕ) (s p : ℕ) (ls : 
         → Leaves good l (opening plan p s k (At_gate t)) (λ τ. τ ≡ σ2) σ → Leaves good l (slot_program plan p s k) (InGates (suc t)) σ
     product_rest σ2 rows none mine' drawn' opens =
         let q : ℕ = 2 ^ plan.bits in
-        let slot_is : (n : ℕ) → In k (FromDealer t) n → slot_of plan s n ≡ At_gate t = λ n f. ap (λ z. slot w.plan s z.slot) f.1.0 ∙ at in
+        let slot_is : (n : ℕ) → In k (FromDealer t) n → slot_of plan n ≡ At_gate t = λ n f. ap (λ z. slot w.plan z.session z.slot) f.1.0 ∙ at in
         let τ : State = after_all l (takes plan p s k) σ2 in
         let took : SumsOf m q σ2 τ (λ i. 0 + tally l i ns) = takes_sums l m (At_gate t) ns σ2 (λ i. 0) tt (every_filter _ _ (to plan p) (numbers plan s k) (gate_numbers t lt) (λ n f e. slot_is n f)) (λ i li. none i li ∙ sym (mod-eq_of_lt positive)) in
         let done : State = summed plan p g τ in
@@ -362,14 +362,14 @@ module _ (w : World) (h' : IsPlan w.plan) (got : Key → ℕ) (s p : ℕ) (ls : 
         (subst (λ ys. Leaves good l (opening plan p s k (At_gate t) ++ posts plan p s k ++ takes plan p s k ++ ys) (InGates (suc t)) σ) (sym (cond-true (is_product g.operation) (Sum k ∷ []) [] prod))
         (exchanged k (λ ρ. ρ ≡ τ) σ2
         (every_filter _ _ (from plan p) (numbers plan s k) (gate_numbers t lt) (λ n f e. (
-          message_is k n no_key lk f.0 (ap (λ z. z.slot) f.1.0) f.1.1,
+          message_is k n _ _ _ lk f.0 f.1.0 f.1.1,
           (let sender : (message plan n).sender ≡ p = eqb-true _ _ e in (
             sender,
             ap (λ z. posted x z (message plan n).share σ2) (slot_is n f) ∙ mine' (sym (deals_is p) ∙ ap (λ z. deals_in plan s z (At_gate t)) (sym sender) ∙ f.1.3) (message plan n).share
                 ∙ sym (ap (local_word w got p) f.1.0 ∙ ap (local_word_in w got p (key k (message plan n).share (message plan n).sender (message plan n).receiver)) at),
           )),
         )))
-        (every_filter _ _ (to plan p) (numbers plan s k) (gate_numbers t lt) (λ n f e. message_is k n no_key lk f.0 (ap (λ z. z.slot) f.1.0) f.1.1))
+        (every_filter _ _ (to plan p) (numbers plan s k) (gate_numbers t lt) (λ n f e. message_is k n _ _ _ lk f.0 f.1.0 f.1.1))
         refl (opening plan p s k (At_gate t)) (InGates (suc t)) σ opens (Sum k ∷ [])
         (λ ρ e. subst (Leaves good l (Sum k ∷ []) (InGates (suc t))) (sym e) (((record { slot = lk; kind = subst IsGate (sym at) tt }, tt), tt), subst (InGates (suc t)) (sym is) after')))))
 
@@ -475,17 +475,17 @@ module _ (w : World) (h' : IsPlan w.plan) (got : Key → ℕ) (s p : ℕ) (ls : 
     out_posts = every_filter _ _ (from plan p) (numbers plan s ko) out_numbers (λ n f e.
         let i : ℕ = (message plan n).share in
         let sender : least_holder plan i ≡ p = sym (ap (λ z. z.sender) f.1.0) ∙ eqb-true _ _ e in (
-          message_is ko n no_key lko f.0 (ap (λ z. z.slot) f.1.0) f.1.1,
+          message_is ko n _ _ _ lko f.0 f.1.0 f.1.1,
           (
             eqb-true _ _ e,
-            ap (λ z. posted x z i σ) (ap (λ z. slot w.plan s z.slot) f.1.0 ∙ ato)
+            ap (λ z. posted x z i σ) (ap (λ z. slot w.plan z.session z.slot) f.1.0 ∙ ato)
                 ∙ h.rows (output_wire x o) i f.1.1 (subst (λ z. holds plan z i ≡ true) sender (least_holds plan h' i f.1.1))
                 ∙ sym (ap (local_word w got p) f.1.0 ∙ ap (local_word_in w got p (key ko i (least_holder plan i) (message plan n).receiver)) ato),
           ),
         ))
 
     out_proper : AllByRecursion (λ n. IsSessionMessage plan s n (message plan n).share) nso
-    out_proper = every_filter _ _ (to plan p) (numbers plan s ko) out_numbers (λ n f e. message_is ko n (message plan n) lko f.0 (ap (λ z. z.slot) f.1.0) f.1.1)
+    out_proper = every_filter _ _ (to plan p) (numbers plan s ko) out_numbers (λ n f e. message_is ko n _ _ _ lko f.0 f.1.0 f.1.1)
 
     abbrev τo : State
     τo = after_all l (takes plan p s ko) σ
@@ -498,7 +498,7 @@ module _ (w : World) (h' : IsPlan w.plan) (got : Key → ℕ) (s p : ℕ) (ls : 
         four (InOutputs (suc o)) σ ko (subst (λ z. Leaves good l (opening plan p s ko z ++ posts plan p s ko ++ takes plan p s ko ++ closing plan p s ko z) (InOutputs (suc o)) σ) (sym ato)
         (elim (cases_Bool (has_party mask p)) [
           | inl reads ↦
-              let took : SumsOf m (2 ^ plan.bits) σ τo (λ i. 0 + tally l i nso) = takes_sums l m (Output o) nso σ (λ i. 0) tt (every_filter _ _ (to plan p) (numbers plan s ko) out_numbers (λ n f e. ap (λ z. slot w.plan s z.slot) f.1.0 ∙ ato)) (λ i li. h.sums i li ∙ sym (mod-eq_of_lt positive)) in
+              let took : SumsOf m (2 ^ plan.bits) σ τo (λ i. 0 + tally l i nso) = takes_sums l m (Output o) nso σ (λ i. 0) tt (every_filter _ _ (to plan p) (numbers plan s ko) out_numbers (λ n f e. ap (λ z. slot w.plan z.session z.slot) f.1.0 ∙ ato)) (λ i li. h.sums i li ∙ sym (mod-eq_of_lt positive)) in
               let done : State = delivered plan p (output_wire x o) o τo in
               let is : next l (Deliver ko) τo ≡ done = ap (λ z. delivered plan p (output_wire x (output_in_slot z)) (output_in_slot z) τo) ato in
               let sum : opened plan p (τo.rows (output_wire x o)) τo.sums ≡ local_output w got p s o = mods_of_same (total_same (2 ^ plan.bits) m _ _ (λ i li. elim (cases_Bool (holds plan p i)) [

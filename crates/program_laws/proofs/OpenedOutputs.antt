@@ -47,7 +47,7 @@ module _ (w : World) (sound : IsSound w.plan) (got : Key → ℕ) (s p : ℕ) (l
 
   opens_next : (q o v : ℕ) (e : Instruction) → at (program w.plan p s) q ≡ e → ((o v : ℕ) → (state l q).outputs o ≡ Some v → Opens o v) → (next l e (state l q)).outputs o ≡ Some v → Opens o v
   opens_next q o v (Deal k d) is before f = before o v (sym (ap (λ z. z o) (dealt_outputs w.plan s _ _ (slot w.plan s k) (state l q))) ∙ f)
-  opens_next q o v (Take n i) is before f = before o v (sym (ap (λ z. z o) (took_outputs (2 ^ w.plan.bits) (slot_of w.plan s n) i _ (state l q))) ∙ f)
+  opens_next q o v (Take n i) is before f = before o v (sym (ap (λ z. z o) (took_outputs (2 ^ w.plan.bits) (slot_of w.plan n) i _ (state l q))) ∙ f)
   opens_next q o v (Deliver k) is before f =
       let u : ℕ = output_in_slot (slot w.plan s k) in
       let right = (goes q (Deliver k) is (λ e. cc)).1 in

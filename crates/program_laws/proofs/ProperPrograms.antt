@@ -41,7 +41,7 @@ took_same q (Output o) i x y σ τ e = e
 after_same : (plan : Plan) (p s : ℕ) (f g : ℕ → ℕ) (x y : ℕ) (got had : ℕ → ℕ) (e : Instruction) (σ τ : State) → HasDone σ τ → HasDone (after plan p s f x got e σ) (after plan p s g y had e τ)
 after_same plan p s f g x y got had (Deal k d) σ τ h = dealt_same plan s f g x y (slot plan s k) σ τ h
 after_same plan p s f g x y got had (Post n i) σ τ h = h
-after_same plan p s f g x y got had (Take n i) σ τ h = took_same (2 ^ plan.bits) (slot_of plan s n) i (got n) (had n) σ τ h
+after_same plan p s f g x y got had (Take n i) σ τ h = took_same (2 ^ plan.bits) (slot_of plan n) i (got n) (had n) σ τ h
 after_same plan p s f g x y got had (Linear k) σ τ h = h
 after_same plan p s f g x y got had (Own k) σ τ h = h
 after_same plan p s f g x y got had (Sum k) σ τ h = h

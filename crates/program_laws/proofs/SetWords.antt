@@ -1,5 +1,5 @@
 -- What an instruction reads was set before, and what is still to be read stands in a row of its own.
-use Rattle.std.proofs.Common.{◌≡◌, ◌≢◌, ◌⊎◌, ℕ, suc, ◌+◌, ◌-◌, ◌<◌, ◌≤◌, Bool, true, not, nat_eq, List, [], ◌∷◌, map, length, refl, sym, ap, ◌∙◌, subst, arith}
+use Rattle.std.proofs.Common.{◌≡◌, ◌≢◌, ◌⊎◌, ℕ, suc, ◌+◌, ◌-◌, ◌<◌, ◌≤◌, Bool, true, not, nat_eq, List, [], ◌∷◌, map, length, refl, sym, ap, ap₂, ◌∙◌, subst, arith}
 use Rattle.std.specs.Prelude.{slice_index}
 use Rattle.std.specs.List.{AllByRecursion, list_any, filter}
 use Rattle.std.proofs.lemmas.Bool.{cases_Bool, cases_eq, cases_lt, both_ways, false≢true, cond-true, eq-eqb, and_parts, not_from_false}
@@ -103,7 +103,11 @@ module _ (plan : Plan) (sound : IsSound plan) (s p : ℕ) (ls : s < length plan.
       opened j d (At_gate t) lj here (contains_left (only_if (deals_in plan s p (At_gate t)) (Own j ∷ d ∷ [])) _ d (subst (λ l. Contains l d) (sym (cond-true (deals_in plan s p (At_gate t)) (Own j ∷ d ∷ []) [] e)) (1, omega arith, refl)))
   deal_there j (Output o) lj here e = absurd (false≢true e)
 
-  has_take : (i j : ℕ) (ns : List ℕ) → AllByRecursion (λ n. (message plan n).slot ≡ j) ns → Has plan i ns → (n : ℕ) × Contains (map (take_of plan) ns) (take_of plan n) × ((message plan n).share ≡ i) × ((message plan n).slot ≡ j)
+  -- a message of slot j
+  abbrev Here : ℕ → ℕ → Type 0
+  Here j n = ((message plan n).slot ≡ j) × ((message plan n).session ≡ s)
+
+  has_take : (i j : ℕ) (ns : List ℕ) → AllByRecursion (Here j) ns → Has plan i ns → (n : ℕ) × Contains (map (take_of plan) ns) (take_of plan n) × ((message plan n).share ≡ i) × Here j n
   has_take i j [] all h = absurd h
   has_take i j (n ∷ ns) all (inl e) = (n, (0, omega arith, refl), e, all.0)
   has_take i j (n ∷ ns) all (inr more) =
@@ -125,13 +129,13 @@ module _ (plan : Plan) (sound : IsSound plan) (s p : ℕ) (ls : s < length plan.
         | inr other ↦
             let any = deal_any plan s j o p i lp li (λ z. other (sym z)) has in
             let all = subst (Any p i) (sym (keys_are plan s j ls lj)) (subst (λ z. Any p i (slot_messages plan s j z)) (sym here) any) in
-            let of_slot = every_filter _ (λ n. (message plan n).slot ≡ j) (to plan p) (numbers plan s j) (in_slot plan sound s p ls j lj) (λ n f t. f.1.0) in
+            let of_slot = every_filter _ (Here j) (to plan p) (numbers plan s j) (in_slot plan sound s p ls j lj) (λ n f t. (f.1.0, f.1.2)) in
             let one = has_take i j (filter (to plan p) (numbers plan s j)) of_slot (any_number plan p i (numbers plan s j) all) in
             record {
               instruction = take_of plan one.0;
               stands = tail_in plan s p j (take_of plan one.0) lj (contains_left (takes plan p s j) _ (take_of plan one.0) one.1);
-              sets = (ap (slot plan s) one.3 ∙ here ∙ ap Input (sym same), sym one.2);
-              named = one.3;
+              sets = (ap₂ (slot plan) one.3.1 one.3.0 ∙ here ∙ ap Input (sym same), sym one.2);
+              named = one.3.0;
               late = λ e. ap (λ z. list_any (nat_eq v) (completes x z)) here ∙ is_one u v same;
             }
       ]

@@ -39,7 +39,7 @@ pub record SumsOf (m q : ℕ) (σ τ : State) (x : ℕ → ℕ) : Type 0 where
   pub outputs : τ.outputs ≡ σ.outputs
   pub sums : (i : ℕ) → i < m → τ.sums i ≡ x i % q
 
-pub takes_sums : (l : Given) (m : ℕ) (z : Slot) (ns : List ℕ) (σ : State) (x : ℕ → ℕ) → IsOther z → AllByRecursion (λ n. slot_of l.plan l.session n ≡ z) ns → ((i : ℕ) → i < m → σ.sums i ≡ x i % 2 ^ l.plan.bits)
+pub takes_sums : (l : Given) (m : ℕ) (z : Slot) (ns : List ℕ) (σ : State) (x : ℕ → ℕ) → IsOther z → AllByRecursion (λ n. slot_of l.plan n ≡ z) ns → ((i : ℕ) → i < m → σ.sums i ≡ x i % 2 ^ l.plan.bits)
     → SumsOf m (2 ^ l.plan.bits) σ (after_all l (map (take_of l.plan) ns) σ) (λ i. x i + tally l i ns)
 takes_sums l m z [] σ x o all h = record { rows = refl; drawn = refl; given = refl; outputs = refl; sums = λ i li. h i li ∙ (let same : x i ≡ x i + 0 = omega arith in ap (λ y. y % 2 ^ l.plan.bits) same) }
 takes_sums l m z (n ∷ ns) σ x o all h =
@@ -80,7 +80,7 @@ pub record RowOf (l : Given) (v : ℕ) (ns : List ℕ) (g : ℕ → ℕ) (σ τ 
   pub given : τ.given ≡ σ.given
   pub outputs : τ.outputs ≡ σ.outputs
 
-pub takes_row : (l : Given) (v : ℕ) (ns : List ℕ) (g : ℕ → ℕ) (σ : State) → AllByRecursion (λ n. (slot_of l.plan l.session n ≡ Input v) × (l.got n ≡ g (message l.plan n).share)) ns
+pub takes_row : (l : Given) (v : ℕ) (ns : List ℕ) (g : ℕ → ℕ) (σ : State) → AllByRecursion (λ n. (slot_of l.plan n ≡ Input v) × (l.got n ≡ g (message l.plan n).share)) ns
     → RowOf l v ns g σ (after_all l (map (take_of l.plan) ns) σ)
 takes_row l v [] g σ all = record { others = λ u i ne. refl; kept = λ i h. h; has = λ i h. absurd h; sums = refl; drawn = refl; given = refl; outputs = refl }
 takes_row l v (n ∷ ns) g σ all =

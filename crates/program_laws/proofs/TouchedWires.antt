@@ -75,13 +75,17 @@ module _ (plan : Plan) (sound : IsSound plan) (s p : ℕ) (ls : s < length plan.
   pub own_at : (q k : ℕ) → at es q ≡ Own k → (t : ℕ) × (slot plan s k ≡ At_gate t) × (is_product (gate x t).operation ≡ true)
   own_at q k is = (fit q (Own k) is (λ e. cc)).1
 
-  sends_own : (n i : ℕ) → Names plan s n i → (message plan n).sender ≡ p → Sends plan s p (slot_of plan s n) i
+  sends_own : (n i : ℕ) → Names plan s n i → (message plan n).sender ≡ p → Sends plan s p (slot_of plan n) i
   sends_own n i it by =
       let key : Key = message plan n in
       let here : IsThere plan key key.session key.slot = there plan n it.number in
       let all = every_place (λ y. Sends plan key.session y.sender (slot plan key.session key.slot) y.share) _ here.place no_key (sent plan (is_plan plan sound s p ls) key.session key.slot (slot plan key.session key.slot)) here.place_within in
       let of_key : Sends plan key.session key.sender (slot plan key.session key.slot) key.share = subst (λ y. Sends plan key.session y.sender (slot plan key.session key.slot) y.share) here.is all in
-      subst (Sends plan s p (slot plan s key.slot)) (sym it.share) (subst (λ z. Sends plan z p (slot plan z key.slot) key.share) it.session (subst (λ z. Sends plan key.session z (slot plan key.session key.slot) key.share) by of_key))
+      subst (Sends plan s p (slot plan key.session key.slot)) (sym it.share) (subst (λ z. Sends plan z p (slot plan key.session key.slot) key.share) it.session (subst (λ z. Sends plan key.session z (slot plan key.session key.slot) key.share) by of_key))
+
+  -- a message of the session has its slot there
+  own_slot : (n i : ℕ) → Names plan s n i → slot_of plan n ≡ slot plan s (message plan n).slot
+  own_slot n i it = ap (λ z. slot plan z (message plan n).slot) it.session
 
   never : {A : Type 0} (n m : ℕ) → n < m → n ≡ m → A
   never n m l e = absurd (omega arith)
@@ -104,12 +108,14 @@ module _ (plan : Plan) (sound : IsSound plan) (s p : ℕ) (ls : s < length plan.
 
   sets_of : (q : ℕ) (e : Instruction) → at es q ≡ e → (v i : ℕ) → SetsSummand plan s e v i → Sets e v
   sets_of q (Deal k d) is v i h = record { within = fit q (Deal k d) is (λ e. cc); sets = deal_sets x (slot plan s k) v h; late = never 0 1 (omega arith); beyond = λ t e. omega arith }
-  sets_of q (Take n j) is v i h = record {
-    within = (fit q (Take n j) is (λ e. cc)).slot;
-    sets = ap (λ z. list_any (nat_eq v) (sets_in x z)) h.0 ∙ is_one v v refl;
-    late = λ e. ap (λ z. list_any (nat_eq v) (completes x z)) h.0 ∙ is_one v v refl;
-    beyond = λ t e. omega arith;
-  }
+  sets_of q (Take n j) is v i h =
+      let it = fit q (Take n j) is (λ e. cc) in
+      let here : slot plan s (message plan n).slot ≡ Input v = sym (own_slot n j it) ∙ h.0 in record {
+        within = it.slot;
+        sets = ap (λ z. list_any (nat_eq v) (sets_in x z)) here ∙ is_one v v refl;
+        late = λ e. ap (λ z. list_any (nat_eq v) (completes x z)) here ∙ is_one v v refl;
+        beyond = λ t e. omega arith;
+      }
   sets_of q (Linear k) is v i h = let it = fit q (Linear k) is (λ e. cc) in record { within = it.0; sets = gate_sets k it.1.0 v it.1.1 h; late = never 0 1 (omega arith); beyond = λ t e. omega arith }
   sets_of q (Sum k) is v i h =
       let it = fit q (Sum k) is (λ e. cc) in record {
@@ -152,10 +158,10 @@ module _ (plan : Plan) (sound : IsSound plan) (s p : ℕ) (ls : s < length plan.
   abbrev pub Reading : Instruction → ℕ → ℕ → Type 0
   Reading e v i = (named plan e < slots plan s) × (ReadsThere e v i ⊎ ReadsOwn e v i)
 
-  posts_own : (n j v i : ℕ) (z : Slot) → slot_of plan s n ≡ z → Deals x z v → deals_in plan s p z ≡ true → ReadsOwn (Post n j) v i
+  posts_own : (n j v i : ℕ) (z : Slot) → slot plan s (message plan n).slot ≡ z → Deals x z v → deals_in plan s p z ≡ true → ReadsOwn (Post n j) v i
   posts_own n j v i z e wire dealt = record { dealt = ap (deals_in plan s p) e ∙ dealt; wire = subst (λ y. Deals x y v) (sym e) wire; after = omega arith; sum = never 0 1 (omega arith) }
 
-  post_reads : (n j v i : ℕ) (z : Slot) → slot_of plan s n ≡ z → Carries x z v → i ≡ j → Sends plan s p z j → ReadsThere (Post n j) v i ⊎ ReadsOwn (Post n j) v i
+  post_reads : (n j v i : ℕ) (z : Slot) → slot plan s (message plan n).slot ≡ z → Carries x z v → i ≡ j → Sends plan s p z j → ReadsThere (Post n j) v i ⊎ ReadsOwn (Post n j) v i
   post_reads n j v i (Input u) e c same by = inr (posts_own n j v i (Input u) e c by)
   post_reads n j v i (At_gate t) e c same by = inr (posts_own n j v i (At_gate t) e c by)
   post_reads n j v i (Output o) e c same by = inl (record {
@@ -169,7 +175,7 @@ module _ (plan : Plan) (sound : IsSound plan) (s p : ℕ) (ls : s < length plan.
   gate_reads k t v here e = ap (λ z. list_any (nat_eq v) (reads_in x z)) here ∙ sym (ap (λ z. list_any (nat_eq v) (read_by (gate_in_slot x z))) here) ∙ e
 
   reads_of : (q : ℕ) (e : Instruction) → at es q ≡ e → (v i : ℕ) → ReadsSummand plan p s e v i → Reading e v i
-  reads_of q (Post n j) is v i h = let it = fit q (Post n j) is (λ e. cc) in (it.0.slot, post_reads n j v i (slot_of plan s n) refl h.0 h.1 (sends_own n j it.0 it.1))
+  reads_of q (Post n j) is v i h = let it = fit q (Post n j) is (λ e. cc) in (it.0.slot, post_reads n j v i (slot_of plan n) (sym (own_slot n j it.0)) h.0 h.1 (sends_own n j it.0 it.1))
   reads_of q (Linear k) is v i h = let it = fit q (Linear k) is (λ e. cc) in (it.0, inl (record { reads = gate_reads k it.1.0 v it.1.1 h.0; held = h.1; first = λ f t g. refl; tail = never 0 1 (omega arith) }))
   reads_of q (Own k) is v i h = let it = fit q (Own k) is (λ e. cc) in (it.0, inl (record { reads = gate_reads k it.1.0 v it.1.1 h.0; held = h.1; first = λ f t g. refl; tail = never 0 1 (omega arith) }))
   reads_of q (Deliver k) is v i h =

@@ -32,7 +32,7 @@ Carries s (Output o) v = v ≡ output_wire s o
 -- the instruction sets summand i of wire v, or what the party has of it before it takes the rest
 abbrev pub SetsSummand : Plan → ℕ → Instruction → ℕ → ℕ → Type 0
 SetsSummand plan s (Deal k d) v i = Deals (session plan s) (slot plan s k) v
-SetsSummand plan s (Take n j) v i = (slot_of plan s n ≡ Input v) × (i ≡ j)
+SetsSummand plan s (Take n j) v i = (slot_of plan n ≡ Input v) × (i ≡ j)
 SetsSummand plan s (Linear k) v i = v ≡ (gate_at plan s k).output
 SetsSummand plan s (Sum k) v i = v ≡ (gate_at plan s k).output
 SetsSummand plan s _ v i = ⊥
@@ -40,7 +40,7 @@ SetsSummand plan s _ v i = ⊥
 -- the instruction of party p reads summand i of wire v: it posts it, or computes with those that p holds. The sum of a
 -- product reads what p dealt, if p did and any slot reads the product.
 abbrev pub ReadsSummand : Plan → ℕ → ℕ → Instruction → ℕ → ℕ → Type 0
-ReadsSummand plan p s (Post n j) v i = Carries (session plan s) (slot_of plan s n) v × (i ≡ j)
+ReadsSummand plan p s (Post n j) v i = Carries (session plan s) (slot_of plan n) v × (i ≡ j)
 ReadsSummand plan p s (Linear k) v i =
     (list_any (nat_eq v) (read_by (gate_at plan s k)) ≡ true) × (holds plan p i ≡ true)
 ReadsSummand plan p s (Own k) v i =
