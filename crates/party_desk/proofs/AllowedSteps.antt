@@ -157,9 +157,9 @@ module _ (l : Given) (d : Desk) (is_desk : IsDesk l d) where
   posts_right n j e =
       let share : j < length l.plan.groups = (subst (Proper l.plan l.session) e proper).share in
       let order = (suits.sound.sessions l.session suits.session).wired.order in
-      let reads : (v : ℕ) → Carries (session l.plan l.session) (slot_of l.plan l.session n) v → ReadsSummand l.plan l.party l.session i v j = λ v c. subst (λ y. ReadsSummand l.plan l.party l.session y v j) (sym e) (c, refl) in
-      ap (λ z. posted_on_rows (row_of d.memory) (session l.plan z) (slot_of l.plan z n) j (state_of (length l.plan.groups) d.memory)) is_desk.session
-      ∙ posted_same l.plan l.session (slot_of l.plan l.session n) j (row_of d.memory) (state_of (length l.plan.groups) d.memory) (state l d.position)
+      let reads : (v : ℕ) → Carries (session l.plan l.session) (slot_of l.plan n) v → ReadsSummand l.plan l.party l.session i v j = λ v c. subst (λ y. ReadsSummand l.plan l.party l.session y v j) (sym e) (c, refl) in
+      ap (λ z. posted_on_rows (row_of d.memory) (session l.plan z) (slot_of l.plan n) j (state_of (length l.plan.groups) d.memory)) is_desk.session
+      ∙ posted_same l.plan l.session (slot_of l.plan n) j (row_of d.memory) (state_of (length l.plan.groups) d.memory) (state l d.position)
       (λ v c. is_desk.memory.rows v j share (reads_are_set l.plan suits.sound l.session l.party suits.session suits.party order d.position v j share (reads v c)) (d.position, omega arith, reads v c))
 
   -- ---- what an instruction leaves

@@ -58,7 +58,7 @@ took_none q (Output o) i w σ = refl
 pub draws : (l : Given) (e : Instruction) (σ : State) → Proper l.plan l.session e → (next l e σ).drawn ≡ σ.drawn + drawn_by l.plan e
 draws l (Deal k d) σ h = deals_in l (slot l.plan l.session k) _ _ σ h.kind
 draws l (Post n i) σ h = omega arith
-draws l (Take n i) σ h = took_none (2 ^ l.plan.bits) (slot_of l.plan l.session n) i (l.got n) σ ∙ omega arith
+draws l (Take n i) σ h = took_none (2 ^ l.plan.bits) (slot_of l.plan n) i (l.got n) σ ∙ omega arith
 draws l (Linear k) σ h = omega arith
 draws l (Own k) σ h = omega arith
 draws l (Sum k) σ h = omega arith

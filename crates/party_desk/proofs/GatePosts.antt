@@ -1,5 +1,5 @@
 -- Posts and takes of a product, one after another.
-use Rattle.std.proofs.Common.{◌≡◌, ◌≢◌, ℕ, ◌+◌, ◌-◌, ◌<◌, ◌≤◌, ◌^◌, Bool, true, false, List, length, Option, Some, ◌∷◌, refl, sym, ap, ◌∙◌, subst, inl, inr, arith}
+use Rattle.std.proofs.Common.{◌≡◌, ◌≢◌, ℕ, ◌+◌, ◌-◌, ◌<◌, ◌≤◌, ◌^◌, Bool, true, false, List, length, Option, Some, ◌∷◌, refl, sym, ap, ap₂, ◌∙◌, subst, inl, inr, arith}
 use Rattle.std.specs.Prelude.{slice_index, slice_index_or}
 use Rattle.std.proofs.lemmas.Bool.{cases_lt}
 use Rattle.secret_sharing.specs.Schemes.{has_pair}
@@ -356,12 +356,12 @@ module _ (plan : Plan) (l : Given) (d : Desk) (goes : IsDeskOfPlan plan l d) (wi
   pub summand_posted : (n i : ℕ) (summands : List ℕ) (wire : ℕ) → instruction_at l d ≡ Post n i → wire ≡ (gate_at plan d.session d.place.slot).output
       → SameRow (length plan.groups) (slice_index summands) (row (length plan.groups) d.memory.rows.items (row_of d.memory wire)) → slice_index summands i ≡ word_in_memory plan d n i
   summand_posted n i summands wire is same are =
-      let share = (goes_proper plan l d goes (Post n i) (sym is)).share in
+      let proper = goes_proper plan l d goes (Post n i) (sym is) in
       let here : (message plan n).slot ≡ d.place.slot = goes_names plan l d goes (Post n i) (sym is) in
-      are i share
+      are i proper.share
       ∙ ap (λ v. row (length plan.groups) d.memory.rows.items (row_of d.memory v) i) same
       ∙ sym (posted_of_gate (session plan d.session) (slot plan d.session d.place.slot) (row_of d.memory) i (state_of (length plan.groups) d.memory) of_gate)
-      ∙ ap (λ k. posted_on_rows (row_of d.memory) (session plan d.session) (slot plan d.session k) i (state_of (length plan.groups) d.memory)) (sym here)
+      ∙ ap₂ (λ s k. posted_on_rows (row_of d.memory) (session plan d.session) (slot plan s k) i (state_of (length plan.groups) d.memory)) (sym proper.session) (sym here)
 
 -- ---- one post after another
 
@@ -522,7 +522,7 @@ module _ (l : Given) (d : Desk) (moves : ℕ) (more : d.place.done + moves + 1 <
       (place_on l.plan l.party l.session (further d.place moves) (d.position + moves) 1 here more))))
 
   pub taken_more : (n i w : ℕ) (m : Memory) → IsDesk l (taken_on d moves) → IsMemoryOf l.plan d.session m → KeepsGiven d.memory m
-      → Alike (length l.plan.groups) (state_of (length l.plan.groups) m) (took_in (2 ^ l.plan.bits) (slot_on_rows (row_of d.memory) (slot_of l.plan d.session n)) i w (state_of (length l.plan.groups) d.memory))
+      → Alike (length l.plan.groups) (state_of (length l.plan.groups) m) (took_in (2 ^ l.plan.bits) (slot_on_rows (row_of d.memory) (slot_of l.plan n)) i w (state_of (length l.plan.groups) d.memory))
       → Advanced l.plan w (Take n i) (taken_on d moves) (taken_on (record d { memory = m }) (moves + 1))
   taken_more n i w m h fits kept state = record {
     party = refl;

@@ -160,7 +160,7 @@ module _ (plan : Plan) (sound : IsSound plan) (s p : ℕ) (ls : s < length plan.
         outputs = h.outputs;
       }
 
-      takes_same : (n j : ℕ) (z : Slot) → at es q ≡ Take n j → slot_of plan s n ≡ z → SameRead (suc q) (took_in (2 ^ plan.bits) (slot_on_rows row_of z) j w τ) (took_in (2 ^ plan.bits) z j w σ)
+      takes_same : (n j : ℕ) (z : Slot) → at es q ≡ Take n j → slot_of plan n ≡ z → SameRead (suc q) (took_in (2 ^ plan.bits) (slot_on_rows row_of z) j w τ) (took_in (2 ^ plan.bits) z j w σ)
       takes_same n j (Input u) is e = record {
         rows = puts u j w (subst (λ y. SetsSummand plan s y u j) (sym is) (e, refl)) (λ i z. (subst (λ y. SetsSummand plan s y u i) is z).1);
         own = h.own;
@@ -253,7 +253,7 @@ module _ (plan : Plan) (sound : IsSound plan) (s p : ℕ) (ls : s < length plan.
       after_same : (e : Instruction) → at es q ≡ e → IsWordOf got w e → SameRead (suc q) (after_on_rows row_of plan p s words input w e τ) (after plan p s words input got e σ)
       after_same (Deal k d) is right = deals_same k d (slot plan s k) is refl
       after_same (Post n j) is right = record { rows = stays (λ v i z. subst (λ y. SetsSummand plan s y v i) is z); own = h.own; sums = h.sums; given = h.given; outputs = h.outputs }
-      after_same (Take n j) is right = subst (λ z. SameRead (suc q) (took_in (2 ^ plan.bits) (slot_on_rows row_of (slot_of plan s n)) j w τ) (took_in (2 ^ plan.bits) (slot_of plan s n) j z σ)) right (takes_same n j (slot_of plan s n) is refl)
+      after_same (Take n j) is right = subst (λ z. SameRead (suc q) (took_in (2 ^ plan.bits) (slot_on_rows row_of (slot_of plan n)) j w τ) (took_in (2 ^ plan.bits) (slot_of plan n) j z σ)) right (takes_same n j (slot_of plan n) is refl)
       after_same (Linear k) is right = linear_same k is
       after_same (Own k) is right = own_same k is
       after_same (Sum k) is right = sum_same k is

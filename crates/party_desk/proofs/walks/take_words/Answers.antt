@@ -1,4 +1,4 @@
-use Rattle.std.proofs.Common.{◌≡◌, ℕ, ◌+◌, ◌-◌, ◌<◌, ◌^◌, length, slice_get, refl, sym, ap, ◌∙◌, subst, arith}
+use Rattle.std.proofs.Common.{◌≡◌, ℕ, ◌+◌, ◌-◌, ◌<◌, ◌^◌, length, slice_get, refl, sym, ap, ap₂, ◌∙◌, subst, arith}
 use Rattle.std.proofs.lemmas.Option.{slice_get_within}
 use Rattle.job_session.specs.SoundSessions.{slot_of_kind}
 use Rattle.job_plan.specs.Plans.{Plan, slot}
@@ -102,11 +102,11 @@ loop-next-preserved g c = (
       let more : c.args.place.now.done + moves + 1 < c.args.place.now.count = omega (arith, left, c.loop-next.invariant.0) in
       let word = took_given w (given.got n) (slice_get (g.W.Promise.list c.args.board.now.about.world) n) c.in-Some.ensures.promised (may.promises.takes e.position n i is) in
       let fits : IsMemoryOf given.plan d.session m = subst (λ (z : Plan). IsMemoryOf z d.session m) (sym may.goes.same) c.take-in-loop-next.ensures.fits in
-      let here : slot_of_kind c.product_in-kind.result ≡ slot_of plan d.session n = c.product_in-kind.ensures.is ∙ ap (slot plan d.session) (c.slot.ensures ∙ sym (goes_names plan given e goes (Take n i) (sym is))) in
-      let of_slot : Alike (length plan.groups) (state_of (length plan.groups) m) (took_in (2 ^ plan.bits) (slot_on_rows (row_of d.memory) (slot_of plan d.session n)) i w (state_of (length plan.groups) d.memory)) =
+      let here : slot_of_kind c.product_in-kind.result ≡ slot_of plan n = c.product_in-kind.ensures.is ∙ ap₂ (slot plan) (sym (goes_proper plan given e goes (Take n i) (sym is)).session) (c.slot.ensures ∙ sym (goes_names plan given e goes (Take n i) (sym is))) in
+      let of_slot : Alike (length plan.groups) (state_of (length plan.groups) m) (took_in (2 ^ plan.bits) (slot_on_rows (row_of d.memory) (slot_of plan n)) i w (state_of (length plan.groups) d.memory)) =
       subst (λ z. Alike (length plan.groups) (state_of (length plan.groups) m) (took_in (2 ^ plan.bits) (slot_on_rows (row_of d.memory) z) i w (state_of (length plan.groups) d.memory))) here c.take-in-loop-next.ensures.state in
-      let state : Alike (length given.plan.groups) (state_of (length given.plan.groups) m) (took_in (2 ^ given.plan.bits) (slot_on_rows (row_of d.memory) (slot_of given.plan d.session n)) i w (state_of (length given.plan.groups) d.memory)) =
-      subst (λ (z : Plan). Alike (length z.groups) (state_of (length z.groups) m) (took_in (2 ^ z.bits) (slot_on_rows (row_of d.memory) (slot_of z d.session n)) i w (state_of (length z.groups) d.memory))) (sym may.goes.same) of_slot in
+      let state : Alike (length given.plan.groups) (state_of (length given.plan.groups) m) (took_in (2 ^ given.plan.bits) (slot_on_rows (row_of d.memory) (slot_of given.plan n)) i w (state_of (length given.plan.groups) d.memory)) =
+      subst (λ (z : Plan). Alike (length z.groups) (state_of (length z.groups) m) (took_in (2 ^ z.bits) (slot_on_rows (row_of d.memory) (slot_of z n)) i w (state_of (length z.groups) d.memory))) (sym may.goes.same) of_slot in
       let next : moves + 1 ≡ c.loop-next.next + 1 - c.args.place.now.done = omega (arith, c.loop-next.invariant.0) in
       subst (λ k. Walks given c.args.seat.now first c.take.new.seat (taken_on (record d { memory = m }) k)) next
       (walks_on given c.args.seat.now c.loop-next.seat c.take.new.seat first e f so_far
