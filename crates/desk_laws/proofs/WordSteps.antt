@@ -46,10 +46,10 @@ module _ (l : Given) (d : Desk) (is_desk : IsDesk l d) where
   next_at (Post n j) is =
       let there : n < length (messages l.plan) = (subst (Proper l.plan l.session) is (proper l d is_desk)).number in
       let right = posts_right l d is_desk n j is in
-      let small : posted_on_rows (row_of d.memory) (session l.plan l.session) (slot_of l.plan l.session n) j (state_of (length l.plan.groups) d.memory) < 2 ^ l.plan.bits = small_post l.plan l.session d (slot_of l.plan l.session n) j is_desk.fits in (
+      let small : posted_on_rows (row_of d.memory) (session l.plan l.session) (slot_of l.plan n) j (state_of (length l.plan.groups) d.memory) < 2 ^ l.plan.bits = small_post l.plan l.session d (slot_of l.plan n) j is_desk.fits in (
         there,
         sym ((once l.plan n there).posted.alone l.party l.session d.position j is).0,
-        subst (λ z. z < 2 ^ l.plan.bits) right (subst (λ z. posted_on_rows (row_of d.memory) (session l.plan z) (slot_of l.plan z n) j (state_of (length l.plan.groups) d.memory) < 2 ^ l.plan.bits) (sym is_desk.session) small),
+        subst (λ z. z < 2 ^ l.plan.bits) right (subst (λ z. posted_on_rows (row_of d.memory) (session l.plan z) (slot_of l.plan n) j (state_of (length l.plan.groups) d.memory) < 2 ^ l.plan.bits) (sym is_desk.session) small),
       )
   next_at (Take n j) is =
       let there : n < length (messages l.plan) = (subst (Proper l.plan l.session) is (proper l d is_desk)).number in
