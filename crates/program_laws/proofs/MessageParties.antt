@@ -15,7 +15,7 @@ use Rattle.job_plan.proofs.PlanSchemes.{least_within, least_holds}
 use Rattle.job_session.proofs.SessionSlots.{slot_cases}
 use Rattle.job_plan.proofs.DistinctMessages.{every_place}
 use Rattle.program_laws.specs.Once.{OwnersAreParties, IsBetweenParties}
-use Rattle.program_laws.proofs.OncePosted.{there}
+use Rattle.program_laws.proofs.OnceInSlots.{there}
 
 module _ (plan : Plan) (h : IsPlan plan) (s k : ℕ) where
   abbrev Between : Key → Type 0

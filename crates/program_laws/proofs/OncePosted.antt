@@ -1,160 +1,163 @@
--- Each message is posted once and taken once.
-use Rattle.std.proofs.Common.{◌≡◌, ℕ, zero, suc, ◌+◌, ◌<◌, ◌≤◌, Bool, true, false, List, [], ◌∷◌, ◌++◌, map, flat_map, length, refl, sym, ap, ap₂, ◌∙◌, subst, arith}
-use Rattle.std.specs.List.{range_with_len, filter}
-use Rattle.std.proofs.lemmas.Bool.{cases_eq, cases_lt, cases_Bool, cond-true, cond-false, eq-eqb, eqb-true}
+-- Each message is posted once and taken once by all programs, since it is slot by slot.
+use Rattle.std.proofs.Common.{◌≡◌, ◌≢◌, ℕ, zero, suc, ◌+◌, ◌-◌, ◌<◌, ◌≤◌, Bool, true, false, not, ◌&&◌, nat_eq, if◌then◌else◌, List, [], ◌∷◌, ◌++◌, length, refl, sym, ap, ap₂, ◌∙◌, arith}
+use Rattle.std.specs.List.{AllByRecursion}
+use Rattle.std.proofs.lemmas.Bool.{cases_Bool, cond-true, cond-false, eq-eqb, eqb-true, false≢true}
 use mathlib.Core.Logic.{inl, inr}
 use Rattle.list_laws.specs.Lists.{total, joined}
-use Rattle.list_laws.proofs.JoinedLists.{total_within}
-use Rattle.job_plan.specs.Plans.{Plan, slot, slots}
+use Rattle.list_laws.proofs.Totals.{total_one, total_zero}
+use Rattle.job_plan.specs.Plans.{Plan, session, slots}
 use Rattle.job_plan.specs.declared.key.Key.{Key}
 use Rattle.job_plan.specs.Messages.{messages}
 use Rattle.job_plan.specs.Numbers.{message}
-use Rattle.job_plan.specs.Firsts.{count, session_count, first, numbers}
-use Rattle.job_plan.proofs.DistinctMessages.{number_of_message}
-use Rattle.job_plan.proofs.MessageSlots.{IsThere, is_there, number_is}
+use Rattle.job_session.specs.Batches.{batch}
 use Rattle.party_program.specs.declared.program.Instruction.{Instruction}
-use Rattle.party_program.specs.declared.program.Instruction.TheVariants.{Post, Take, End}
-use Rattle.party_program.specs.Programs.{program, at, from, to, post, take_of, passes, opening, posts, takes, head, tail}
-use Rattle.program_laws.specs.Once.{StandsOnce, IsOnce}
-use Rattle.program_laws.proofs.ContainedInstructions.{Contains, contains_left, contains_right, contains_kept}
-use Rattle.program_laws.proofs.ProgramParts.{head_in, tail_in}
-use Rattle.program_laws.proofs.SameTalks.{told, numbers_told}
+use Rattle.party_program.specs.declared.program.Instruction.TheVariants.{Deal, Post, Take, Linear, Own, Sum, Deliver, End}
+use Rattle.party_program.specs.Programs.{at, head, tail, tails, program, slot_program}
+use Rattle.program_laws.specs.Once.{StandsOnce, StandsOnceInSlot, IsOnce}
+use Rattle.program_laws.proofs.BatchRuns.{whole}
+use Rattle.program_laws.proofs.ContainedInstructions.{Contains, contains_left, contains_right}
+use Rattle.program_laws.proofs.OnceInSlots.{there, once_in_slot}
+use Rattle.program_laws.proofs.ProgramParts.{all_parts, at_within, is_within, slot_in}
 
--- ---- numbers that rise
+-- ---- how many instructions of a list pass
 
-module _ (mine : ℕ → Bool) where
-  -- the numbers pass and rise, from lo to below hi
-  abbrev Rises : ℕ → ℕ → List ℕ → Type 0
-  Rises lo hi [] = lo ≤ hi
-  Rises lo hi (n ∷ ns) = (lo ≤ n) × (mine n ≡ true) × Rises (n + 1) hi ns
+abbrev one : Bool → ℕ
+one b = if b then 1 else 0
 
-  rises_lower : (lo low hi : ℕ) (ns : List ℕ) → low ≤ lo → Rises lo hi ns → Rises low hi ns
-  rises_lower lo low hi [] l h = omega arith
-  rises_lower lo low hi (n ∷ ns) l h = ((let a = h.0 in omega arith), h.1, h.2)
+counted : (b : Bool) → b ≡ true → one b ≡ 1
+counted b e = cond-true b 1 0 e
 
-  rises_append : (lo mid hi : ℕ) (ns ms : List ℕ) → Rises lo mid ns → Rises mid hi ms → Rises lo hi (ns ++ ms)
-  rises_append lo mid hi [] ms h k = rises_lower mid lo hi ms h k
-  rises_append lo mid hi (n ∷ ns) ms h k = (h.0, h.1, rises_append (n + 1) mid hi ns ms h.2 k)
+skipped : (b : Bool) → b ≡ false → one b ≡ 0
+skipped b e = cond-false b 1 0 e
 
-  rises_rest : (lo hi : ℕ) (ns ms : List ℕ) → Rises lo hi (ns ++ ms) → Rises lo hi ms
-  rises_rest lo hi [] ms h = h
-  rises_rest lo hi (n ∷ ns) ms h = rises_lower (n + 1) lo hi ms (let a = h.0 in omega arith) (rises_rest (n + 1) hi ns ms h.2)
+module _ (test : Instruction → Bool) where
+  abbrev times : List Instruction → ℕ
+  times [] = 0
+  times (e ∷ es) = one (test e) + times es
 
-  rises_within : (lo hi : ℕ) (ns : List ℕ) → Rises lo hi ns → lo ≤ hi
-  rises_within lo hi [] h = h
-  rises_within lo hi (n ∷ ns) h = let a = h.0 in let b = rises_within (n + 1) hi ns h.2 in omega arith
+  times_append : (xs ys : List Instruction) → times (xs ++ ys) ≡ times xs + times ys
+  times_append [] ys = omega arith
+  times_append (x ∷ xs) ys = omega (arith, times_append xs ys)
 
-  -- those of a range that pass
-  kept : (a n : ℕ) → Rises a (a + n) (filter mine (range_with_len a n))
-  kept a zero = omega arith
-  kept a (suc n) =
-      let others : List ℕ = filter mine (range_with_len (a + 1) n) in
-      let same : a + 1 + n ≡ a + suc n = omega arith in
-      let rest : Rises (a + 1) (a + suc n) others = subst (λ z. Rises (a + 1) z others) same (kept (a + 1) n) in
-      elim (cases_Bool (mine a)) [
-        | inl e ↦ subst (Rises a (a + suc n)) (sym (cond-true (mine a) (a ∷ others) others e)) (omega arith, e, rest)
-        | inr e ↦ subst (Rises a (a + suc n)) (sym (cond-false (mine a) (a ∷ others) others e)) (rises_lower (a + 1) a (a + suc n) others (omega arith) rest)
-      ]
+  times_joined : (n : ℕ) (f : ℕ → List Instruction) → times (joined n f) ≡ total n (λ k. times (f k))
+  times_joined zero f = refl
+  times_joined (suc n) f = omega (arith, times_append (joined n f) (f n), times_joined n f)
 
-  -- ---- instructions that tell such numbers
-
-  module _ (f : Instruction → List ℕ) (ends : f End ≡ []) where
-    never : (n : ℕ) → f End ≡ n ∷ [] → ⊥
-    never n e = (let none : [] ≡ n ∷ [] = sym ends ∙ e in cc)
-
-    bounds : (lo hi : ℕ) (es : List Instruction) (q n : ℕ) → Rises lo hi (flat_map f es) → f (at es q) ≡ n ∷ [] → (lo ≤ n) × (n < hi) × (mine n ≡ true)
-    bounds lo hi [] q n h e = absurd (never n e)
-    bounds lo hi (x ∷ xs) zero n h e =
-        let here = subst (λ z. Rises lo hi (z ++ flat_map f xs)) e h in
-        let less = rises_within (n + 1) hi (flat_map f xs) here.2 in
-        (here.0, omega arith, here.1)
-    bounds lo hi (x ∷ xs) (suc q) n h e = bounds lo hi xs q n (rises_rest lo hi (f x) (flat_map f xs) h) e
-
-    twice : (lo hi : ℕ) (es : List Instruction) (q r n : ℕ) → Rises lo hi (flat_map f es) → q < r → f (at es q) ≡ n ∷ [] → f (at es r) ≡ n ∷ [] → ⊥
-    twice lo hi [] q r n h l a b = never n a
-    twice lo hi (x ∷ xs) zero zero n h l a b = omega arith
-    twice lo hi (x ∷ xs) zero (suc r) n h l a b =
-        let here = subst (λ z. Rises lo hi (z ++ flat_map f xs)) a h in
-        let least = (bounds (n + 1) hi xs r n here.2 b).0 in
-        omega arith
-    twice lo hi (x ∷ xs) (suc q) zero n h l a b = omega arith
-    twice lo hi (x ∷ xs) (suc q) (suc r) n h l a b = twice lo hi xs q r n (rises_rest lo hi (f x) (flat_map f xs) h) (omega arith) a b
-
-    one_place : (lo hi : ℕ) (es : List Instruction) (q r n : ℕ) → Rises lo hi (flat_map f es) → f (at es q) ≡ n ∷ [] → f (at es r) ≡ n ∷ [] → q ≡ r
-    one_place lo hi es q r n h a b = elim (cases_eq q r) [
-      | inl same ↦ same
-      | inr ne ↦ absurd (elim (cases_lt q r) [ inl less ↦ twice lo hi es q r n h less a b | inr more ↦ twice lo hi es r q n h (omega arith) b a ])
-    ]
-
--- ---- the numbers of a program
-
-module _ (plan : Plan) (p s : ℕ) where
-  slots_rise : (b : Bool) (n : ℕ) → Rises (passes b plan p) (total s (session_count plan)) (first plan s n) (joined n (λ k. filter (passes b plan p) (numbers plan s k)))
-  slots_rise b zero = omega arith
-  slots_rise b (suc n) =
-      let more : first plan s n + count plan s n ≡ first plan s (suc n) = omega arith in
-      subst (λ z. Rises (passes b plan p) (total s (session_count plan)) z (joined (suc n) (λ k. filter (passes b plan p) (numbers plan s k)))) more
-      (rises_append (passes b plan p) (total s (session_count plan)) (first plan s n) (first plan s n + count plan s n) _ _ (slots_rise b n) (kept (passes b plan p) (first plan s n) (count plan s n)))
-
-  -- from the messages of the sessions before to those of the sessions after
-  program_rises : (b : Bool) → Rises (passes b plan p) (total s (session_count plan)) (total (suc s) (session_count plan)) (flat_map (told b) (program plan p s))
-  program_rises b = subst (Rises (passes b plan p) (total s (session_count plan)) (total (suc s) (session_count plan))) (sym (numbers_told plan s p b)) (slots_rise b (slots plan s))
-
--- a number stands in one session
-one_part : (f : ℕ → ℕ) (s t n : ℕ) → total s f ≤ n → n < total (suc s) f → total t f ≤ n → n < total (suc t) f → t ≡ s
-one_part f s t n a c d e = elim (cases_eq t s) [
-  | inl same ↦ same
-  | inr ne ↦ elim (cases_lt t s) [
-    | inl less ↦ absurd (let w = total_within s t f less in omega arith)
-    | inr more ↦ absurd (let w = total_within t s f (omega arith) in omega arith)
+  none_pass : (es : List Instruction) → ((q : ℕ) → test (at es q) ≢ true) → times es ≡ 0
+  none_pass [] h = refl
+  none_pass (e ∷ es) h = elim (cases_Bool (test e)) [
+    | inl yes' ↦ absurd (h 0 yes')
+    | inr no' ↦ omega (arith, skipped (test e) no', none_pass es (λ q. h (suc q)))
   ]
-]
 
--- ---- one message
+  one_passes : (es : List Instruction) (c : ℕ) → ((q : ℕ) → test (at es q) ≡ true → q ≡ c) → times es ≤ 1
+  one_passes [] c h = omega arith
+  one_passes (e ∷ es) c h = elim (cases_Bool (test e)) [
+    | inl yes' ↦ omega (arith, counted (test e) yes', none_pass es (λ q e'. let a : 0 ≡ c = h 0 yes' in let b : suc q ≡ c = h (suc q) e' in omega arith))
+    | inr no' ↦ omega (arith, skipped (test e) no', one_passes es (c - 1) (λ q e'. let b : suc q ≡ c = h (suc q) e' in omega arith))
+  ]
 
-module _ (plan : Plan) (n : ℕ) (l : n < length (messages plan)) where
-  abbrev key : Key
-  key = message plan n
+  module _ (ends : test End ≡ false) where
+    some_pass : (es : List Instruction) (q : ℕ) → test (at es q) ≡ true → 1 ≤ times es
+    some_pass [] q e = absurd (false≢true (sym ends ∙ e))
+    some_pass (x ∷ xs) zero e = omega (arith, counted (test x) e)
+    some_pass (x ∷ xs) (suc q) e = omega (arith, some_pass xs q e)
 
-  pub there : IsThere plan key key.session key.slot
-  there = is_there plan key (subst (λ z. z < length (messages plan)) (sym (number_of_message plan n l)) l)
+    one_place : (es : List Instruction) (q r : ℕ) → times es ≤ 1 → test (at es q) ≡ true → test (at es r) ≡ true → q ≡ r
+    one_place [] q r few a b = absurd (false≢true (sym ends ∙ a))
+    one_place (x ∷ xs) zero zero few a b = refl
+    one_place (x ∷ xs) zero (suc r) few a b = absurd (omega (arith, few, counted (test x) a, some_pass xs r b))
+    one_place (x ∷ xs) (suc q) zero few a b = absurd (omega (arith, few, counted (test x) b, some_pass xs q a))
+    one_place (x ∷ xs) (suc q) (suc r) few a b = ap suc (one_place xs q r (omega (arith, few)) a b)
 
-  number_here : first plan key.session key.slot + there.place ≡ n
-  number_here = sym (number_is plan key key.session key.slot there.place there.session_within there.slot_within there.place_within there.is) ∙ number_of_message plan n l
+  -- a program has as many as its slots
+  times_stay : (plan : Plan) (s p : ℕ) → times (program plan p s) ≡ total (slots plan s) (λ k. times (slot_program plan p s k))
+  times_stay plan s p =
+      sym (whole (session plan s) (head plan p s) (tail plan p s) (λ xs ys. times xs ≡ times ys) (record {
+        equal = λ xs ys e. ap times e;
+        on = λ xs ys zs a b. a ∙ b;
+        within = λ fs xs ys bs h. omega (arith, times_append (fs ++ xs) bs, times_append fs xs, times_append (fs ++ ys) bs, times_append fs ys, h);
+      }) (λ k lk. omega (arith, times_append (tails plan p s (batch (session plan s) k) k) (head plan p s k), times_append (head plan p s k) (tails plan p s (batch (session plan s) k) k))))
+      ∙ times_joined (slots plan s) (slot_program plan p s)
 
-  kept_here : (f : ℕ → Instruction) (test : ℕ → Bool) → test n ≡ true → Contains (map f (filter test (numbers plan key.session key.slot))) (f n)
-  kept_here f test e =
-      subst (λ z. Contains (map f (filter test (numbers plan key.session key.slot))) (f z)) number_here
-      (contains_kept f test (first plan key.session key.slot) (count plan key.session key.slot) there.place there.place_within (ap test number_here ∙ e))
+-- ---- the posts of a message, or else its takes
 
-  -- it is posted in the head of its slot, and taken in the tail
-  pub head_posts : Contains (head plan key.sender key.session key.slot) (post plan n)
-  head_posts = contains_right (opening plan key.sender key.session key.slot (slot plan key.session key.slot)) (posts plan key.sender key.session key.slot) (post plan n) (kept_here (post plan) (from plan key.sender) (eq-eqb key.sender key.sender refl))
+abbrev kind_of : Bool → ℕ → ℕ → Instruction
+kind_of true = Post
+kind_of false = Take
 
-  tail_takes : Contains (tail plan key.receiver key.session key.slot) (take_of plan n)
-  tail_takes = contains_left (takes plan key.receiver key.session key.slot) _ (take_of plan n) (kept_here (take_of plan) (to plan key.receiver) (eq-eqb key.receiver key.receiver refl))
+abbrev names : Bool → ℕ → Instruction → Bool
+names b n (Post m i) = b && nat_eq m n
+names b n (Take m i) = not b && nat_eq m n
+names b n _ = false
 
-  stands_once : (b : Bool) (kind : ℕ → Instruction) (p : ℕ) → told b End ≡ [] → ((i : ℕ) → told b (kind i) ≡ n ∷ []) → ((r : ℕ) → passes b plan r n ≡ true → r ≡ p) → Contains (program plan p key.session) (kind key.share) → StandsOnce plan kind p key
-  stands_once b kind p ends names party here =
-      let s : ℕ = key.session in
-      let told_at : (r t u i : ℕ) → at (program plan r t) u ≡ kind i → told b (at (program plan r t) u) ≡ n ∷ [] = λ r t u i e. ap (told b) e ∙ names i in
-      let within = λ (r t u i : ℕ) (e : at (program plan r t) u ≡ kind i). bounds (passes b plan r) (told b) ends _ _ (program plan r t) u n (program_rises plan r t b) (told_at r t u i e) in
-      let mine = within p s here.0 key.share here.2 in
-      record {
-        position = here.0;
-        stands = here.2;
-        alone = λ r t u i e.
-            let his = within r t u i e in
-            let same_party : r ≡ p = party r his.2 in
-            let same_session : t ≡ s = one_part (session_count plan) s t n mine.0 mine.1 his.0 his.1 in
-            let moved : told b (at (program plan p s) u) ≡ n ∷ [] = ap₂ (λ x y. told b (at (program plan x y) u)) (sym same_party) (sym same_session) ∙ told_at r t u i e in
-            (same_party, same_session, one_place (passes b plan p) (told b) ends _ _ (program plan p s) u here.0 n (program_rises plan p s b) moved (told_at p s here.0 key.share here.2));
-      }
+is_kind : (b : Bool) (n : ℕ) (e : Instruction) → names b n e ≡ true → (i : ℕ) × (e ≡ kind_of b n i)
+is_kind true n (Post m i) h = (i, ap (λ z. Post z i) (eqb-true m n h))
+is_kind false n (Post m i) h = absurd (false≢true h)
+is_kind true n (Take m i) h = absurd (false≢true h)
+is_kind false n (Take m i) h = (i, ap (λ z. Take z i) (eqb-true m n h))
+is_kind b n (Deal k d) h = absurd (false≢true h)
+is_kind b n (Linear k) h = absurd (false≢true h)
+is_kind b n (Own k) h = absurd (false≢true h)
+is_kind b n (Sum k) h = absurd (false≢true h)
+is_kind b n (Deliver k) h = absurd (false≢true h)
+is_kind b n End h = absurd (false≢true h)
 
-  pub once : IsOnce plan n
-  once = record {
-    session_there = there.session_within;
-    slot_there = there.slot_within;
-    posted = stands_once true (Post n) key.sender refl (λ i. refl) (λ x e. sym (eqb-true key.sender x e)) (head_in plan key.session key.sender key.slot (post plan n) there.slot_within head_posts);
-    taken = stands_once false (Take n) key.receiver refl (λ i. refl) (λ x e. sym (eqb-true key.receiver x e)) (tail_in plan key.session key.receiver key.slot (take_of plan n) there.slot_within tail_takes);
+kind_named : (b : Bool) (n i : ℕ) → names b n (kind_of b n i) ≡ true
+kind_named true n i = eq-eqb n n refl
+kind_named false n i = eq-eqb n n refl
+
+no_end : (b : Bool) (n i : ℕ) → kind_of b n i ≢ End
+no_end true n i e = cc
+no_end false n i e = cc
+
+-- ---- from slots to programs
+
+-- what stands in a program stands in a slot
+in_slots : (plan : Plan) (s p : ℕ) → AllByRecursion (λ e. (j : ℕ) × (j < slots plan s) × Contains (slot_program plan p s j) e) (program plan p s)
+in_slots plan s p =
+    all_parts plan s p (λ e. (j : ℕ) × (j < slots plan s) × Contains (slot_program plan p s j) e)
+    (λ k lk. all_at _ (head plan p s k) (λ q lq. (k, lk, contains_left (head plan p s k) (tail plan p s k) _ (q, lq, refl))))
+    (λ k lk. all_at _ (tail plan p s k) (λ q lq. (k, lk, contains_right (head plan p s k) (tail plan p s k) _ (q, lq, refl))))
+  where
+    all_at : (Q : Instruction → Type 0) (es : List Instruction) → ((q : ℕ) → q < length es → Q (at es q)) → AllByRecursion Q es
+    all_at Q [] h = tt
+    all_at Q (e ∷ es) h = (h 0 (omega arith), all_at Q es (λ q l. h (suc q) (omega (arith, l))))
+
+module _ (plan : Plan) (b : Bool) (n p k : ℕ) (key : Key) (lk : k < slots plan key.session) (stands : StandsOnceInSlot plan (kind_of b n) p key.session k key.share) where
+  abbrev s : ℕ
+  s = key.session
+
+  here : Contains (program plan p s) (kind_of b n key.share)
+  here = slot_in plan s p k (kind_of b n key.share) lk (stands.position, stands.within, stands.stands)
+
+  few : times (names b n) (program plan p s) ≤ 1
+  few =
+      let c : ℕ → ℕ = λ j. times (names b n) (slot_program plan p s j) in
+      let own : c k ≤ 1 = one_passes (names b n) (slot_program plan p s k) stands.position (λ q e. let is = is_kind b n (at (slot_program plan p s k) q) e in (stands.alone p s k q is.0 lk is.1).3) in
+      let sum = total_one (slots plan s) k c (λ j. 0) lk (λ j lj ne. none_pass (names b n) (slot_program plan p s j) (λ q e. let is = is_kind b n (at (slot_program plan p s j) q) e in ne (stands.alone p s j q is.0 lj is.1).2)) in
+      omega (arith, own, sum, total_zero (slots plan s) (λ j. 0) (λ j lj. refl), times_stay (names b n) plan s p)
+
+  in_program : StandsOnce plan (kind_of b n) p key
+  in_program = record {
+    position = here.0;
+    stands = here.2;
+    alone = λ r t u i e.
+        let within : u < length (program plan r t) = is_within (program plan r t) u (λ f. no_end b n i (sym e ∙ f)) in
+        let slot_is = at_within _ (program plan r t) u within (in_slots plan t r) in
+        let his = stands.alone r t slot_is.0 slot_is.2.0 i slot_is.1 (slot_is.2.2 ∙ e) in
+        let moved : at (program plan p s) u ≡ kind_of b n i = ap₂ (λ x y. at (program plan x y) u) (sym his.0) (sym his.1) ∙ e in
+        (his.0, his.1, one_place (names b n) refl (program plan p s) u here.0 few (ap (names b n) moved ∙ kind_named b n i) (ap (names b n) here.2 ∙ kind_named b n key.share));
   }
+
+pub once : (plan : Plan) (n : ℕ) → n < length (messages plan) → IsOnce plan n
+once plan n l =
+    let key : Key = message plan n in
+    let is = there plan n l in
+    let slotwise = once_in_slot plan n l in
+    record {
+      session_there = is.session_within;
+      slot_there = is.slot_within;
+      posted = in_program plan true n key.sender key.slot key is.slot_within slotwise.posted;
+      taken = in_program plan false n key.receiver key.slot key is.slot_within slotwise.taken;
+    }

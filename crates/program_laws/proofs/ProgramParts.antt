@@ -1,9 +1,10 @@
 -- The heads and tails of a program: what stands in them, and what each of their instructions names.
-use Rattle.std.proofs.Common.{◌≡◌, ◌≢◌, ℕ, zero, suc, ◌+◌, ◌-◌, ◌<◌, ◌≤◌, Bool, true, false, not, ◌&&◌, nat_eq, List, [], ◌∷◌, map, length, refl, sym, ◌∙◌, subst, arith}
+use Rattle.std.proofs.Common.{◌≡◌, ◌≢◌, ℕ, zero, suc, ◌+◌, ◌-◌, ◌<◌, ◌≤◌, Bool, true, false, not, ◌&&◌, nat_eq, List, [], ◌∷◌, ◌++◌, map, length, refl, sym, ap, ◌∙◌, subst, arith, length-append}
 use Rattle.std.specs.Prelude.{slice_index}
 use Rattle.std.specs.List.{AllByRecursion, filter}
 use Rattle.std.proofs.lemmas.Bool.{cases_lt, cond-true, and_parts, eqb-true, false≢true}
-use Rattle.std.proofs.lemmas.List.{get_or_past}
+use Rattle.std.proofs.lemmas.List.{get_or_past, get_or-append-add}
+use Rattle.std.proofs.Math.ListN.{get_or-append}
 use mathlib.Core.Logic.{inl, inr}
 use Rattle.list_laws.specs.Lists.{joined, only_if}
 use Rattle.list_laws.proofs.JoinedLists.{every_joined, every_only_if, every_append}
@@ -59,6 +60,17 @@ module _ (plan : Plan) (s p : ℕ) where
       contains_joined (suc k - a) (j - a) (λ i. tail plan p s (a + i)) e (omega arith) (subst (λ z. Contains (tail plan p s z) e) (sym here) h) in
       contains_joined (slots plan s) k (turn plan p s) e last.2 (contains_right (head plan p s k) _ e
       (subst (λ z. Contains z e) (sym (cond-true (is_last x k) (tails plan p s a (suc k)) [] last.3)) all))
+
+  pub slot_in : (k : ℕ) (e : Instruction) → k < slots plan s → Contains (slot_program plan p s k) e → Contains (program plan p s) e
+  slot_in k e lk h =
+      let es : List Instruction = head plan p s k in
+      let ts : List Instruction = tail plan p s k in
+      elim (cases_lt h.0 (length es)) [
+        | inl l ↦ head_in k e lk (h.0, l, sym (get_or-append es ts End h.0 l) ∙ h.2)
+        | inr past ↦
+            let same : length es + (h.0 - length es) ≡ h.0 = omega (arith, past) in
+            tail_in k e lk (h.0 - length es, omega (arith, past, h.1, length-append es ts), sym (get_or-append-add es ts (h.0 - length es) End) ∙ ap (at (es ++ ts)) same ∙ h.2)
+      ]
 
   -- what holds of each instruction of the heads and tails holds of all, by batches and slot after slot
   module _ (Q : Instruction → Type 0) (heads : (k : ℕ) → k < slots plan s → AllByRecursion Q (head plan p s k)) (ends : (k : ℕ) → k < slots plan s → AllByRecursion Q (tail plan p s k)) where

@@ -4,7 +4,6 @@ use Rattle.std.specs.List.{AllByRecursion, filter}
 use Rattle.std.proofs.lemmas.Grind.{flat_map-append}
 use mathlib.Core.Logic.{inl, inr}
 use Rattle.list_laws.specs.Lists.{joined}
-use Rattle.list_laws.proofs.JoinedLists.{joined_eq}
 use Rattle.job_plan.specs.Plans.{Plan, session, slot, slots}
 use Rattle.job_plan.specs.Firsts.{numbers}
 use Rattle.job_plan.specs.Numbers.{message}
@@ -101,10 +100,10 @@ module _ (plan : Plan) (s p : ℕ) where
   pub takes_stay : flat_map take_no (program plan p s) ≡ flat_map take_no (joined (slots plan s) (slot_program plan p s))
   takes_stay = told_stays take_no (inl head_takes)
 
-  -- the numbers of those slots that p sends, or else gets
-  pub numbers_told : (b : Bool) → flat_map (told b) (program plan p s) ≡ joined (slots plan s) (λ k. filter (passes b plan p) (numbers plan s k))
-  numbers_told true = posts_stay ∙ told_joined post_no (slots plan s) (slot_program plan p s) ∙ joined_eq (slots plan s) _ _ (λ k lk. flat_map-append post_no (head plan p s k) (tail plan p s k) ∙ ap₂ (λ x y. x ++ y) (head_posts k) (tail_posts k) ∙ append-nil _)
-  numbers_told false = takes_stay ∙ told_joined take_no (slots plan s) (slot_program plan p s) ∙ joined_eq (slots plan s) _ _ (λ k lk. flat_map-append take_no (head plan p s k) (tail plan p s k) ∙ ap₂ (λ x y. x ++ y) (head_takes k) (tail_takes k))
+  -- the numbers of a slot that p sends, or else gets
+  pub slot_told : (b : Bool) (k : ℕ) → flat_map (told b) (slot_program plan p s k) ≡ filter (passes b plan p) (numbers plan s k)
+  slot_told true k = flat_map-append post_no (head plan p s k) (tail plan p s k) ∙ ap₂ (λ x y. x ++ y) (head_posts k) (tail_posts k) ∙ append-nil _
+  slot_told false k = flat_map-append take_no (head plan p s k) (tail plan p s k) ∙ ap₂ (λ x y. x ++ y) (head_takes k) (tail_takes k)
 
   -- ---- and it does as many instructions
 

@@ -25,7 +25,7 @@ use Rattle.party_program.specs.declared.program.Instruction.TheVariants.{Deal, P
 use Rattle.party_program.specs.Programs.{program, at}
 use Rattle.party_program.specs.States.{slot_of, gate_in_slot, output_in_slot}
 use Rattle.program_laws.specs.WordsRead.{gate_at, Deals, Carries, SetsSummand, ReadsSummand}
-use Rattle.program_laws.proofs.OncePosted.{there}
+use Rattle.program_laws.proofs.OnceInSlots.{there}
 use Rattle.program_laws.proofs.ProgramParts.{Fits, Names, fits, is_plan}
 use Rattle.program_laws.proofs.Ranks.{named, part_at, step_at, past}
 use Rattle.share_world.proofs.Settled.{is_one, of_one}
