@@ -21,7 +21,7 @@ use Rattle.party_desk.specs.declared.desk.Desk.{Desk}
 use Rattle.party_desk.specs.Desks.{IsDesk}
 use Rattle.program_laws.specs.Lawful.{given_in, given_to, program_of}
 use Rattle.program_laws.specs.Moves.{CanMove}
-use Rattle.program_laws.proofs.Ranks.{one_moves, sender_within, posted_in, each_sender}
+use Rattle.program_laws.proofs.Ranks.{one_moves, sender_within, session_is, posted_in, each_sender}
 use Rattle.desk_laws.specs.InWorld.{HasPosts}
 use Rattle.desk_laws.specs.Pools.{AreDesks, AllHavePosts, Stuck, AllStuck, AllEnded}
 use Rattle.desk_laws.proofs.Elements.{element_there, by_place, by_element}
@@ -80,7 +80,8 @@ module _ (has : ℕ → ℕ → Type 0) (w : World) (whole : IsWhole w) (ds : Li
         let taken : at (program w.plan p s) (position s p) ≡ Take m t.1 = ap (λ z. at z (position s p)) (sym same) ∙ t.2 in
         let post = moves.1 m t.1 taken in
         let sender = sender_within w.plan whole.sound s ls p (position s p) m t.1 moves.0 taken in
-        absurd (t.3 (word w (message w.plan m)) (there s (message w.plan m).sender post.0 m post.1 d0 ls sender post.2 post.3)))
+        let session' = subst (λ z. z < length w.plan.sessions) (sym (session_is w.plan whole.sound s ls p (position s p) m t.1 moves.0 taken)) ls in
+        absurd (t.3 (word w (message w.plan m)) (there (message w.plan m).session (message w.plan m).sender post.0 m post.1 d0 session' sender post.2 post.3)))
         (by_place (λ j (desk : Desk). Stuck has w j desk.position) ds stuck k d0 (beside w s p lp ds h ls))
 
     ended : (k : ℕ) → k < length ds → (get_or ds k d0).position ≡ length (program_of w k)
