@@ -37,7 +37,8 @@ is_empty (Some []) = true
 is_empty (Some (byte ∷ bytes)) = false
 
 abbrev pub is_fresh_outlet : OutletReading → Bool
-is_fresh_outlet outlet = (outlet.sink.faults == 0) && (is_empty outlet.sink.told && not outlet.closed)
+is_fresh_outlet outlet =
+    (outlet.sink.faults == 0) && (is_empty outlet.sink.told && (not outlet.holds && not outlet.closed))
 
 abbrev pub are_fresh : LinksReading → Bool
 are_fresh links = list_all is_fresh_inlet links.inlets && list_all is_fresh_outlet links.outlets
@@ -49,6 +50,10 @@ are_steady links = list_all (λ inlet. inlet.steady) links.inlets && list_all (�
 -- whether all of these links are closed
 abbrev pub are_closed : LinksReading → Bool
 are_closed links = list_all (λ inlet. inlet.closed) links.inlets && list_all (λ outlet. outlet.closed) links.outlets
+
+-- whether nothing waits at these outlets
+abbrev pub are_flushed : List OutletReading → Bool
+are_flushed outlets = list_all (λ outlet. not outlet.holds) outlets
 
 -- what a net is asked: the host of each party, the first port, which party asks, and how many there are
 pub record Meeting : Type 0 where

@@ -1,5 +1,5 @@
 -- What the forms in memory show.
-use Rattle.std.specs.Prelude.{ℕ, ◌-◌, nat_lt, Bool, not, ◌&&◌, List, map, Option, Some, String, string_bytes, Vec, vec_len, drop}
+use Rattle.std.specs.Prelude.{ℕ, ◌-◌, nat_lt, Bool, false, not, ◌&&◌, List, map, Option, Some, String, string_bytes, Vec, vec_len, drop}
 use Rattle.std.specs.Option.{option_map}
 use Rattle.std.specs.List.{list_all}
 use Rattle.std.specs.BTreeMap.{BTreeMap, get_by_text}
@@ -54,9 +54,10 @@ sink_reading s =
 abbrev pub outlet_bytes : VecOutlet → List ℕ
 outlet_bytes o = sink_bytes o.sink
 
--- what an outlet over this sink shows, which is steady only while it is open
+-- what an outlet over this sink shows, where nothing waits, and which is steady only while it is open
 abbrev pub over_sink : Bool → SinkReading → OutletReading
-over_sink closed sink = record { sink = record sink { steady = not closed && sink.steady }; closed = closed }
+over_sink closed sink =
+    record { sink = record sink { steady = not closed && sink.steady }; holds = false; closed = closed }
 
 abbrev pub outlet_reading : VecOutlet → OutletReading
 outlet_reading o = over_sink o.closed (sink_reading o.sink)

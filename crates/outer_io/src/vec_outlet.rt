@@ -4,7 +4,7 @@ ghost use Rattle.std.specs.Vec.{vec_capacity};
 
 use crate::{Failed, Outlet, Sink, VecSink};
 
-/// An outlet in memory, which takes what a sink in memory does.
+/// An outlet in memory, which takes what a sink in memory does. It gathers nothing.
 #[derive(Drop)]
 pub struct VecOutlet {
     sink: VecSink,
@@ -14,8 +14,8 @@ pub struct VecOutlet {
 impl VecOutlet {
     ghost use Rattle.outer_io.specs.Memory.{outlet_reading, outlet_bytes, over_sink, all_past};
 
-    /// An outlet that has these bytes, and takes more until it has `limit`. The calls of these numbers fail, counted
-    /// from 0.
+    /// An outlet that has these bytes, and takes more until it has `limit`. The calls of these numbers fail, sends and
+    /// flushes, counted from 0.
     pub fn new(bytes: Vec<u8>, limit: usize, failing: Vec<u64>) -> Self
         requires { limit ≤ vec_capacity bytes }
         ensures { outlet_reading result ≡ over_sink false (record {
@@ -49,6 +49,10 @@ impl Outlet for VecOutlet {
             return Err(self.sink.refuse());
         }
         self.sink.write(piece)
+    }
+
+    fn flush(&mut self) -> Result<(), Failed> {
+        self.send(&[])
     }
 
     fn close(&mut self) {
