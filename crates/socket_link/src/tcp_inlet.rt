@@ -1,31 +1,36 @@
 // The receiving end of a pipe.
-ghost use Rattle.std.specs.Prelude.{◌≡◌, None, false};
+ghost use Rattle.std.specs.Prelude.{◌≡◌, IfOk, None, false};
 
 use outer_io::{Got, Inlet};
-use std::io::Read;
+use std::alloc::{AllocError, Global};
+use std::io::{BufReader, Read};
 use std::net::TcpStream;
 
-/// The receiving end of a TCP connection. What comes over it is not told.
+/// The receiving end of a TCP connection, which takes what is there in one read. What comes over it is not told.
 #[derive(Drop)]
 pub struct TcpInlet {
     // None once it is closed.
-    stream: Option<TcpStream>,
+    reader: Option<BufReader<TcpStream>>,
     faults: u64,
     ended: bool,
 }
 
 impl TcpInlet {
+    ghost use Rattle.std.specs.Prelude.{◌≡◌, IfOk};
     ghost use Rattle.socket_link.specs.Sockets.{inlet_reading, unread};
 
     /// An inlet over this connection, from which nothing was read.
-    pub fn over(stream: TcpStream) -> TcpInlet
-        ensures { inlet_reading result ≡ unread }
+    pub fn over(alloc: Global, stream: TcpStream) -> Result<TcpInlet, AllocError>
+        ensures { IfOk result (λ inlet. inlet_reading inlet ≡ unread) }
     {
-        TcpInlet {
-            stream: Some(stream),
+        let Ok(reader) = BufReader::new(alloc, stream) else {
+            return Err(AllocError);
+        };
+        Ok(TcpInlet {
+            reader: Some(reader),
             faults: 0,
             ended: false,
-        }
+        })
     }
 }
 
@@ -35,8 +40,8 @@ impl Inlet for TcpInlet {
     ghost reading = { inlet_reading };
 
     fn read(&mut self, into: &mut [u8]) -> Got {
-        let answer = match &mut self.stream {
-            Some(stream) => stream.read(into).ok(),
+        let answer = match &mut self.reader {
+            Some(reader) => reader.read(into).ok(),
             None => None,
         };
         match answer {
@@ -53,6 +58,6 @@ impl Inlet for TcpInlet {
     }
 
     fn close(&mut self) {
-        self.stream = None;
+        self.reader = None;
     }
 }

@@ -129,7 +129,7 @@ fn inlets_over(alloc: Global, streams: Vec<TcpStream>) -> Result<Vec<TcpInlet>, 
 {
     let mut inlets = Vec::new(alloc);
     for stream in streams {
-        inlets.push(TcpInlet::over(stream))?;
+        inlets.push(TcpInlet::over(alloc, stream)?)?;
     }
     Ok(inlets)
 }
@@ -140,7 +140,7 @@ fn outlets_over(alloc: Global, streams: Vec<TcpStream>) -> Result<Vec<TcpOutlet>
 {
     let mut outlets = Vec::new(alloc);
     for stream in streams {
-        outlets.push(TcpOutlet::over(stream))?;
+        outlets.push(TcpOutlet::over(alloc, stream)?)?;
     }
     Ok(outlets)
 }

@@ -1,29 +1,64 @@
 // The sending end of a pipe.
-ghost use Rattle.std.specs.Prelude.{◌≡◌};
+ghost use Rattle.std.specs.Prelude.{◌≡◌, IfOk, IsTrue, None};
 
 use outer_io::{Failed, Outlet};
-use std::io::Write;
+use std::alloc::{AllocError, Global};
+use std::io::{BufWriter, Write};
 use std::net::TcpStream;
 
-/// The sending end of a TCP connection. What was sent over it is not told.
+/// The sending end of a TCP connection, which gathers what it is given. What was sent over it is not told.
 #[derive(Drop)]
 pub struct TcpOutlet {
-    // None once it is closed.
-    stream: Option<TcpStream>,
+    // None once it is closed or has failed.
+    writer: Option<BufWriter<TcpStream>>,
+    // What still waited then.
+    left: Vec<u8>,
+    closed: bool,
     faults: u64,
+    ghost shut: { IsTrue closed → writer ≡ None },
 }
 
 impl TcpOutlet {
-    ghost use Rattle.socket_link.specs.Sockets.{outlet_reading, unsent};
+    ghost use Rattle.std.specs.Prelude.{◌≡◌, ◌≤◌, IfOk, None};
+    ghost use Rattle.outer_io.specs.Count.{Rose};
+    ghost use Rattle.socket_link.specs.Sockets.{outlet_reading, unsent, untold};
 
     /// An outlet over this connection.
-    pub fn over(stream: TcpStream) -> TcpOutlet
-        ensures { outlet_reading result ≡ unsent }
+    pub fn over(alloc: Global, stream: TcpStream) -> Result<TcpOutlet, AllocError>
+        ensures { IfOk result (λ outlet. outlet_reading outlet ≡ unsent) }
     {
-        TcpOutlet {
-            stream: Some(stream),
+        let Ok(writer) = BufWriter::new(alloc, stream) else {
+            return Err(AllocError);
+        };
+        Ok(TcpOutlet {
+            writer: Some(writer),
+            left: Vec::new(alloc),
+            closed: false,
             faults: 0,
+        })
+    }
+
+    // Lets the connection go. What waits stays here.
+    fn give_up(&mut self)
+        ensures same { outlet_reading self.new ≡ outlet_reading self.old }
+        ensures gone { self.new.writer ≡ None }
+    {
+        if let Some(writer) = self.writer.take() {
+            self.left = writer.into_parts().1;
         }
+    }
+
+    // Counts a fault, after which nothing more is sent.
+    fn fail(&mut self) -> Failed
+        ensures rest { outlet_reading self.new
+            ≡ record (outlet_reading self.old) { sink = untold self.new.faults } }
+        ensures gone { self.new.writer ≡ None }
+        ensures rose { Rose self.old.faults self.new.faults }
+        ensures grow { self.old.faults ≤ self.new.faults }
+    {
+        self.give_up();
+        self.faults = self.faults.saturating_add(1);
+        Failed
     }
 }
 
@@ -33,16 +68,25 @@ impl Outlet for TcpOutlet {
     ghost reading = { outlet_reading };
 
     fn send(&mut self, piece: &[u8]) -> Result<(), Failed> {
-        if let Some(stream) = &mut self.stream {
-            if stream.write_all(piece).is_ok() {
+        if let Some(writer) = &mut self.writer {
+            if writer.write_all(piece).is_ok() {
                 return Ok(());
             }
         }
-        self.faults = self.faults.saturating_add(1);
-        Err(Failed)
+        Err(self.fail())
+    }
+
+    fn flush(&mut self) -> Result<(), Failed> {
+        if let Some(writer) = &mut self.writer {
+            if writer.flush().is_ok() {
+                return Ok(());
+            }
+        }
+        Err(self.fail())
     }
 
     fn close(&mut self) {
-        self.stream = None;
+        self.give_up();
+        self.closed = true;
     }
 }
