@@ -1,6 +1,6 @@
 -- What posts and takes change, and that all stays as it must be.
 use Rattle.std.proofs.Common.{◌≡◌, ◌≢◌, ℕ, zero, suc, ◌+◌, ◌%◌, ◌<◌, ◌≤◌, ◌^◌, Bool, true, false, List, [], ◌∷◌, length, get_or, set, map, Option, Some, None, Result, Ok, Err, refl, sym, ap, ap₂, ◌∙◌, subst, arith, inl, inr, ⊎_elim}
-use Rattle.std.specs.Prelude.{slice_index, slice_index_or, is_err, ◌==◌}
+use Rattle.std.specs.Prelude.{slice_index, slice_index_or, is_err, ◌==◌, OnOk}
 use Rattle.std.proofs.lemmas.Bool.{cases_eq, cases_Bool, cond-true, cond-false, false≢true}
 use Rattle.std.proofs.lemmas.Bool.Decides.{nat_tests}
 use Rattle.std.proofs.Math.ListN.{length-set, length-map}
@@ -13,12 +13,12 @@ use Rattle.inbox_board.specs.Rule.{notes, total_after}
 use Rattle.inbox_board.specs.Seats.{Looks, mark_as}
 use Rattle.job_plan.specs.Messages.{messages}
 use Rattle.job_plan.specs.Numbers.{message}
-use Rattle.outer_io.specs.Outlet.{OutletReading, Sends}
+use Rattle.outer_io.specs.Outlet.{OutletReading, Sends, Flushes}
 use Rattle.outer_io.specs.Sink.{Writes}
 use Rattle.outer_io.specs.declared.sink.Failed.{Failed}
 use Rattle.node_talk.specs.PeerLinks.{place_among, no_outlet}
 use Rattle.link_reader.proofs.ExpectedMessages.{between_parties}
-use Rattle.node_run.specs.Mail.{Mail, BoxModel, no_box, box_of, IsRead, IsMail, SentTo, failed_after, MayTake, Takes, TakesFrom, Looked, LookedAtMark, NeverComes}
+use Rattle.node_run.specs.Mail.{Mail, BoxModel, no_box, box_of, IsRead, IsMail, SentTo, FlushedTo, failed_after, MayTake, Takes, TakesFrom, Looked, LookedAtMark, NeverComes}
 use Rattle.node_run.proofs.KnownWords.{cell_there}
 
 -- ---- places
@@ -105,9 +105,24 @@ module _ (c : Mail) (mail : IsMail c) where
           writes =
               subst (λ z. Writes bytes z.sink (slice_index_or (map f (set outs j x)) (place_among c.me q) no_outlet).sink r) (sym (ap₂ (λ xs k. slice_index_or xs k no_outlet) shows (sym at) ∙ read_here f outs j old no_outlet within ∙ ap f (sym is)))
               (subst (λ z. Writes bytes (f old).sink z.sink r) (sym (ap (λ k. slice_index_or (map f (set outs j x)) k no_outlet) (sym at) ∙ set_here f outs j x no_outlet within)) w.writes);
-          others = λ p lp np ne. ap (λ z. z.sink) (set_there f outs j (place_among c.me p) x no_outlet (λ e. places_differ c.me q p nq np ne (e ∙ at)) ∙ ap (λ xs. slice_index_or xs (place_among c.me p) no_outlet) (sym shows));
+          others = λ p lp np ne. set_there f outs j (place_among c.me p) x no_outlet (λ e. places_differ c.me q p nq np ne (e ∙ at)) ∙ ap (λ xs. slice_index_or xs (place_among c.me p) no_outlet) (sym shows);
           rest = ap (λ z. record c { outlets = map f (set outs j x); failed = z }) kept;
         }
+
+  module _ {O : Type 0} (f : O → OutletReading) (outs : List O) (shows : c.outlets ≡ map f outs) (j : ℕ) (x : O) where
+    pub flushed_to : (q : ℕ) → q < c.plan.parties → q ≢ c.me → j ≡ place_among c.me q → (old : O) → old ≡ get_or outs j old → (r : Result (Unit {0}) Failed) → Flushes (f old) (f x) r
+        → (o : Option ℕ) → o ≡ failed_after q r c.failed → FlushedTo q c (record c { outlets = map f (set outs j x); failed = o })
+    unfolding sent_to
+    flushed_to q lq nq at old is r w o kept =
+        let within : j < length outs = (let a = place_within c.me q c.plan.parties (length c.outlets) lq nq mail.me mail.outlets in let b : length c.outlets ≡ length outs = ap length shows ∙ length-map outs f in omega arith) in
+        record {
+          sent = sent_to f outs shows j x q lq nq at old is [] r w.sends o kept;
+          out = out_now r (f x) (slice_index_or (map f (set outs j x)) (place_among c.me q) no_outlet) (ap (λ k. slice_index_or (map f (set outs j x)) k no_outlet) (sym at) ∙ set_here f outs j x no_outlet within) w.out;
+        }
+      where
+        out_now : (r : Result (Unit {0}) Failed) (a b : OutletReading) → b ≡ a → OnOk r (a.holds ≡ false) → OnOk r (b.holds ≡ false)
+        out_now (Ok u) a b same none = ap (λ z. z.holds) same ∙ none
+        out_now (Err e) a b same none = tt
 
 pub kept_err : (q : ℕ) (r : Result (Unit {0}) Failed) (before : Option ℕ) → is_err r ≡ true → Some q ≡ failed_after q r before
 kept_err q (Ok u) before e = absurd (false≢true e)

@@ -1,8 +1,9 @@
 -- Links that are closed one after another.
 use Rattle.std.proofs.Common.{◌≡◌, ℕ, zero, suc, ◌<◌, ◌≤◌, List, [], ◌∷◌, length, false, get_or, set, map, refl, sym, ap, ap₂, ◌∙◌, arith}
-use Rattle.std.specs.Prelude.{IsTrue, slice_index_or}
+use Rattle.std.specs.Prelude.{IsTrue, not, ◌&&◌, slice_index_or}
 use Rattle.std.specs.List.{list_all}
 use Rattle.outer_io.specs.Inlet.{InletReading, shut_inlet}
+use Rattle.outer_io.specs.Links.{are_flushed}
 use Rattle.outer_io.specs.Outlet.{OutletReading, shut_outlet}
 use Rattle.link_reader.specs.Heard.{KeepsCalm}
 use Rattle.node_talk.specs.PeerLinks.{no_inlet, no_outlet}
@@ -66,3 +67,8 @@ pub outlet_shut : (xs : List OutletReading) (k : ℕ) → (slice_index_or (map s
 outlet_shut [] k = refl
 outlet_shut (x ∷ xs) zero = refl
 outlet_shut (x ∷ xs) (suc k) = outlet_shut xs k
+
+-- closing leaves what waits
+pub still_out : (xs : List OutletReading) → are_flushed (map shut_outlet xs) ≡ are_flushed xs
+still_out [] = refl
+still_out (x ∷ xs) = ap (λ z. not x.holds && z) (still_out xs)

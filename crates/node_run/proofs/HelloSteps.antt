@@ -54,7 +54,7 @@ module _ (n : Node) (q : ℕ) (start : Begin) (c : Mail) (h : Greeted n q start 
     words' m = ap (λ (z : Mail). plain_cell z.words.cells m) sent.rest ∙ h.words m
 
     there : (r : ℕ) → IsPeer n r → r ≢ q → outlet_to d r ≡ outlet_to c r
-    there r peer ne = sent.others r (subst (λ z. r < z.parties) (sym h.own.plan) peer.0) (λ f. peer.1 (f ∙ h.own.me)) ne
+    there r peer ne = ap (λ z. z.sink) (sent.others r (subst (λ z. r < z.parties) (sym h.own.plan) peer.0) (λ f. peer.1 (f ∙ h.own.me)) ne)
 
     -- all of the hello, or a first part of it
     abbrev Writ : Type 0

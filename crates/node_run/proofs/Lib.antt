@@ -4,6 +4,7 @@ mod OutletSteps
 mod SessionSteps
 mod SessionOrder
 mod HelloSteps
+mod FlushSteps
 mod DoneRuns
 pub mod ReaderRuns
 mod PeerEnds

@@ -16,7 +16,7 @@ use Rattle.outer_io.specs.Inlet.{InletReading, shut_inlet}
 use Rattle.outer_io.specs.Outlet.{OutletReading, shut_outlet}
 use Rattle.outer_io.proofs.NetRefusals.{both_true}
 use Rattle.outer_io.specs.Jobs.{SpawnerReading}
-use Rattle.outer_io.specs.Links.{LinksReading, HasPeers, are_closed}
+use Rattle.outer_io.specs.Links.{LinksReading, HasPeers, are_closed, are_flushed}
 use Rattle.outer_io.specs.Sink.{added, AddedPrefix}
 use Rattle.frame_code.specs.Frames.{hello}
 use Rattle.node_talk.specs.declared.fault.NodeFault.{NodeFault}
@@ -50,12 +50,13 @@ use Rattle.node_run.proofs.PeerEnds.{party_there, place_there, place_less, Refus
 -- ---- the clauses, by the answer
 
 module _ (n : Node) (before after : LinksReading) (spawner spawner' : SpawnerReading) where
-  pub fault_runs : (fault : NodeFault) → length n.digest ≡ 32 → HasPeers (n.world.plan.parties - 1) after → IsTrue (are_closed after) → (got : Key → ℕ) × BrokeOff n got before after fault
+  pub fault_runs : (fault : NodeFault) → length n.digest ≡ 32 → HasPeers (n.world.plan.parties - 1) after → IsTrue (are_closed after) → (NoSendRose n before after → IsTrue (are_flushed after.outlets)) → (got : Key → ℕ) × BrokeOff n got before after fault
       → Cause n before after spawner.refusals spawner'.refusals fault → IsFirst n before after fault → TellsSends n before after (Err fault) → TellsRefusals spawner.refusals spawner'.refusals (Err fault)
       → NothingSaid n before after fault → StaySteady n before after spawner spawner' → Runs n before after spawner spawner' (Err fault)
-  fault_runs fault long peers closed broke cause first sends starts unsaid steady = record {
+  fault_runs fault long peers closed gone broke cause first sends starts unsaid steady = record {
     peers = peers;
     closed = closed;
+    gone = gone;
     done = tt;
     broke = broke;
     cause = cause;
@@ -69,11 +70,12 @@ module _ (n : Node) (before after : LinksReading) (spawner spawner' : SpawnerRea
     steady = steady;
   }
 
-  pub done_runs : (r : Results) → n.me < n.world.plan.parties → HasPeers (n.world.plan.parties - 1) after → IsTrue (are_closed after) → (got : Key → ℕ) × IsDone n got r × TalkedThrough n got before after
+  pub done_runs : (r : Results) → n.me < n.world.plan.parties → HasPeers (n.world.plan.parties - 1) after → IsTrue (are_closed after) → IsTrue (are_flushed after.outlets) → (got : Key → ℕ) × IsDone n got r × TalkedThrough n got before after
       → ((q : ℕ) → IsPeer n q → (in_from n after q).faults ≡ (in_from n before q).faults) → TellsSends n before after (Ok r) → TellsRefusals spawner.refusals spawner'.refusals (Ok r) → StaySteady n before after spawner spawner' → Runs n before after spawner spawner' (Ok r)
-  done_runs r party peers closed done calm sends starts steady = record {
+  done_runs r party peers closed gone done calm sends starts steady = record {
     peers = peers;
     closed = closed;
+    gone = λ calm. gone;
     done = done;
     broke = tt;
     cause = tt;
@@ -304,7 +306,7 @@ module _ (n : Node) (start : Begin) (after : LinksReading) (spawner spawner' : S
   send_failed now mail h q is inlets outlets all shut spawners quiet broke =
       let own = h.stopped.own in
       let why = rose_at n start after now own mail inlets outlets were h.k q (subst (StopsBy n h.k start now) is h.why) in
-      fault_runs n start.links after spawner spawner' (Link q) own.digest (has_peers n start after now own mail inlets outlets were) (all_closed n start after now own mail inlets outlets were shut) broke (why.0, inr why.1) (inl why.1)
+      fault_runs n start.links after spawner spawner' (Link q) own.digest (has_peers n start after now own mail inlets outlets were) (all_closed n start after now own mail inlets outlets were shut) (λ calm. absurd (calm q why.0 why.1)) broke (why.0, inr why.1) (inl why.1)
       (tells_sends n start after now own mail inlets outlets were h.outlets (Err (Link q)) (λ p e. ap (λ z. Err (Link z)) (let f : Some q ≡ Some p = sym is ∙ e in cc)))
       (λ changed. absurd (changed quiet)) tt (steady_links now own mail inlets outlets all spawners h.outlets)
 
@@ -342,6 +344,9 @@ module _ (n : Node) (start : Begin) (after : LinksReading) (spawner spawner' : S
     closed' : IsTrue (are_closed after)
     closed' = all_closed n start after h.now h.own h.mail h.count outlets' were h.closed
 
+    gone' : r.failed ≡ None → IsTrue (are_flushed after.outlets)
+    gone' quiet = subst (λ z. IsTrue (are_flushed z)) (sym outs) (h.out quiet)
+
     -- the first reader that wasn't started, peer by peer
     unstarted : (p : ℕ) → IsPeer n p → EndsAtRefusal n p 0 start.links.inlets after.inlets → IsFirstUnstarted n start.links after p
     unstarted p peer e =
@@ -365,7 +370,7 @@ module _ (n : Node) (start : Begin) (after : LinksReading) (spawner spawner' : S
         let stays = going_stays n 0 start h.now e.1 in
         let same = outlet_same n start after h.now h.own h.mail h.count outlets' were in
         subst (λ z. Answers (fault_told z r.refused r.fault)) (sym none) (subst (λ z. Answers (fault_told None z r.fault)) (sym is)
-        (fault_runs n start.links after spawner spawner' (NoThread p) h.own.digest peers' closed' (broke_silent n start after h.now h.own h.mail h.count outlets' were e.2 0 (stopped_at n 0 start h.now e.1) (NoThread p) (λ started calm. started)) (e.0, e.3) (unstarted p e.0 e.4)
+        (fault_runs n start.links after spawner spawner' (NoThread p) h.own.digest peers' closed' (λ calm. gone' none) (broke_silent n start after h.now h.own h.mail h.count outlets' were e.2 0 (stopped_at n 0 start h.now e.1) (NoThread p) (λ started calm. started)) (e.0, e.3) (unstarted p e.0 e.4)
         (tells_sends n start after h.now h.own h.mail h.count outlets' were stays (Err (NoThread p)) (λ q f. absurd (let x : None ≡ Some q = sym e.1.quiet ∙ f in cc)))
         (λ changed. (p, refl))
         (λ q peer. ap (λ z. z.told) (same q) ∙ e.1.sent (known n h.now.words.cells) (agrees_known n h.now.words.cells h.own.cells) q peer ∙ ap (added (out_to n start.links q).told) (append-nil (hello n.me q n.digest)))
@@ -408,7 +413,7 @@ module _ (n : Node) (start : Begin) (after : LinksReading) (spawner spawner' : S
         reader_failed : (x : NodeFault) → r.fault ≡ Some x → Answers (Some x)
         reader_failed x is =
             let f = first_fault n start after h.now h.own h.mail h.count outlets' were r.fault all x is in
-            fault_runs n start.links after spawner spawner' x h.own.digest peers' closed' (broke x)
+            fault_runs n start.links after spawner spawner' x h.own.digest peers' closed' (λ none. gone' (h.failed ∙ calm)) (broke x)
             (tells_cause n f.0 h.own.digest f.1 f.2.0 start.links after spawner.refusals spawner'.refusals x f.2.1)
             (is_first n start.links after x f.0 (of_reader (incoming n f.0) f.2.0 (in_from n start.links f.0) (in_from n after f.0) x f.2.1) f.3 (incoming n f.0) f.2.0 (in_from n start.links f.0) (in_from n after f.0) f.2.1)
             (sends' (Err x)) (λ changed. absurd (changed quiet))
@@ -418,7 +423,7 @@ module _ (n : Node) (start : Begin) (after : LinksReading) (spawner spawner' : S
         all_done : r.fault ≡ None → Answers None
         all_done none = elim ends [
           | left' order ↦
-              done_runs n start.links after spawner spawner' results h.own.part.party peers' closed'
+              done_runs n start.links after spawner spawner' results h.own.part.party peers' closed' (gone' (h.failed ∙ calm))
               (ran n start after h.now h.own h.mail h.count outlets' were r.fault all none r.desks results order (ap (λ z. record { words = z.cells; outputs = map (λ (d : Desk). d.memory.outputs.items) r.desks }) h.words))
               (read_calm n start after h.now h.own h.mail h.count outlets' were r.fault all none)
               (sends' (Ok results)) (λ changed. absurd (changed quiet)) steady'

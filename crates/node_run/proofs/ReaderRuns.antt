@@ -22,10 +22,10 @@ use Rattle.node_talk.specs.Talks.{Node, IsPeer}
 use Rattle.link_reader.specs.ReadWords.{ReadsWords, ReaderModel, HasRead, Works, WorksFrom}
 use Rattle.link_reader.specs.Heard.{KeepsCalm}
 use Rattle.link_reader.specs.NodeReaders.{incoming}
-use Rattle.node_run.specs.Mail.{Mail, IsMail, BoxModel, no_box}
+use Rattle.node_run.specs.Mail.{Mail, IsMail, BoxModel, NothingWaits, no_box}
 use Rattle.node_run.specs.Progress.{Begin, IsOf, Going, InOrder, Halted, ids_of}
 use Rattle.node_run.specs.Remains.{ReaderPartsModel, RemainsModel, party_at, IsFor, MayRun, PeerEnd, first_of, after_outcome, AllKeepCalm, ReadBy, EndsAtRefusal, SpawnerStays, EndsAs, Remained}
-use Rattle.node_run.proofs.ClosedLinks.{calm_same, all_shut, inlets_closed}
+use Rattle.node_run.proofs.ClosedLinks.{calm_same, all_shut, inlets_closed, still_out}
 use Rattle.link_reader.proofs.ShutInlets.{calm_shut, reads_shut}
 use Rattle.link_reader.specs.Expected.{TalkModel}
 
@@ -77,6 +77,7 @@ next_readers n start place (y ∷ readers) x desks now l e h =
     let rest : MayRun n start (suc place) readers desks now = record {
       order = h.order;
       empty = h.empty;
+      out = h.out;
       ids = h.ids;
       count = omega (arith, c);
       parts = λ k d is. (let on : place + suc k ≡ suc place + k = omega arith in subst (λ z. IsFor n start z d) on (h.parts (suc k) d is));
@@ -101,10 +102,10 @@ pub all_ran : (n : Node) (start : Begin) (place : ℕ) (readers : List ReaderPar
     (before : List InletReading) (spawner : SpawnerReading) (r : RemainsModel)
     → MayRun n start place readers desks was → length readers ≡ 0 → length before ≡ 0
     → InOrder n (length n.world.plan.sessions) start desks' now ⊎ Halted n start now
-    → IsMail now
+    → IsMail now → (now.failed ≡ None → NothingWaits now)
     → r ≡ record { outlets = map shut_outlet now.outlets; words = now.words; boxes = take (length now.boxes - 0) now.boxes; desks = desks'; failed = now.failed; refused = None; fault = None }
     → Remained n start place before before spawner spawner r
-all_ran n start place readers desks desks' was now [] spawner r h none short ran mail e =
+all_ran n start place readers desks desks' was now [] spawner r h none short ran mail out e =
     let own : IsOf n start now = elim ran [ inl x ↦ x.going.own | inr x ↦ x.stopped.own ] in
     let many : length now.boxes ≡ length start.ids = sym (length-map now.boxes (λ (b : BoxModel). b.id)) ∙ ap (λ (z : List TableId). length z) own.ids in
     let c = h.count in
@@ -117,6 +118,7 @@ all_ran n start place readers desks desks' was now [] spawner r h none short ran
       outlets = refl;
       words = refl;
       failed = refl;
+      out = λ quiet. subst IsTrue (sym (still_out now.outlets)) (out quiet);
       boxes = ap (λ k. take k now.boxes) at;
       count = refl;
       inlets = tt;
@@ -124,7 +126,7 @@ all_ran n start place readers desks desks' was now [] spawner r h none short ran
       spawner_stays = spawner_rests spawner;
       ends = (ran, refl, refl);
     })
-all_ran n start place readers desks desks' was now (x ∷ before) spawner r h none short ran mail e = absurd (omega (arith, short))
+all_ran n start place readers desks desks' was now (x ∷ before) spawner r h none short ran mail out e = absurd (omega (arith, short))
 
 pub peer_at : (n : Node) (place : ℕ) → place + 1 < n.world.plan.parties → IsPeer n (party_at n.me place)
 peer_at n place l = grind (arith, nat_tests)
@@ -151,6 +153,7 @@ was_refused n start place readers desks now before after spawner spawner' peer w
       outlets = refl;
       words = refl;
       failed = refl;
+      out = λ quiet. subst IsTrue (sym (still_out now.outlets)) h.out;
       boxes = ap (λ k. take k now.boxes) at;
       count = count;
       inlets = steady;
@@ -272,6 +275,7 @@ one_more n start place befores afters b a old was is later r r' outcome reader e
       outlets = h.outlets;
       words = h.words;
       failed = h.failed;
+      out = h.out;
       boxes = ap (λ k. take k r.boxes) at ∙ ap (λ (z : List BoxModel). take place z) h.boxes ∙ take_first place h.now.boxes;
       count = ap suc h.count;
       inlets = (

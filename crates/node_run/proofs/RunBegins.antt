@@ -17,12 +17,11 @@ use Rattle.node_talk.specs.PeerLinks.{place_among, no_outlet, out_to}
 use Rattle.node_talk.proofs.ExpectedPlaces.{placed}
 use Rattle.link_reader.specs.Expected.{HasPlaces, TalkModel}
 use Rattle.node_run.specs.Mail.{Mail, BoxModel, IsMail, no_box, outlet_to}
-use Rattle.node_run.specs.Progress.{Begin, Greeted, ids_of}
+use Rattle.node_run.specs.Progress.{Begin, Greeted, AllGreeted, ids_of}
 use Rattle.node_run.specs.Remains.{ReaderPartsModel, party_at, IsFor, MayRun}
 use Rattle.node_run.specs.Ready.{Share, IsNodeOf, Kept, IsNodeReady, ArePeersReady, IsPeerReady}
 use Rattle.node_run.proofs.CellChanges.{place_within}
 use Rattle.link_reader.proofs.ExpectedMessages.{between_parties}
-use Rattle.node_run.proofs.HelloSteps.{all_greeted}
 use Rattle.node_run.proofs.PeerEnds.{party_there}
 use Rattle.node_run.proofs.ReaderRuns.{id_of}
 use Rattle.node_run.proofs.Shares.{is_part, new_desk, new_position}
@@ -135,7 +134,7 @@ module _ (share : Share) (kept : Kept) (h : IsNodeReady share kept) where
     had_peers = subst (λ z. HasPeers (z.parties - 1) before) (sym of.plan) peers
 
     -- all hellos are sent, and the readers may be started
-    pub may_run : (now : Mail) → Greeted n n.world.plan.parties (record { links = before; ids = ids_of kept.boxes }) now → MayRun n (record { links = before; ids = ids_of kept.boxes }) 0 kept.readers kept.desks now
+    pub may_run : (now : Mail) → AllGreeted n (record { links = before; ids = ids_of kept.boxes }) now → MayRun n (record { links = before; ids = ids_of kept.boxes }) 0 kept.readers kept.desks now
     may_run now g = record {
       order = record {
         many = h.desks.count ∙ ap (λ z. length z.sessions) (sym of.plan);
@@ -143,9 +142,10 @@ module _ (share : Share) (kept : Kept) (h : IsNodeReady share kept) where
         ended = λ t d l is. absurd (omega arith);
         new = λ got t d l is. new_desk share h.fits n of kept.desks h.desks got t d is;
         still = λ t d l is. new_position share h.fits n of kept.desks h.desks t d is;
-        going = all_greeted n (record { links = before; ids = ids_of kept.boxes }) now g;
+        going = g.going;
       };
       empty = g.words;
+      out = g.out;
       ids = (let a = boxes in let b = h.peers.box_count in let c = h.fits.party in let d = ap (λ z. z.parties) of.plan in omega (arith, a, b, c, d));
       count = (let a = boxes in let b = h.peers.box_count in let c = h.peers.reader_count in omega (arith, a, b, c));
       parts = λ k d is. subst (λ z. IsFor n (record { links = before; ids = ids_of kept.boxes }) z d) (let at : k ≡ 0 + k = omega arith in at) (is_for k d is);

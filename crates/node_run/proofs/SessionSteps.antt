@@ -261,7 +261,7 @@ module _ (cells : Meaning Mail) (are : AreNodeCells cells) (n : Node) (s : ℕ) 
       new_word got ag r v f = put_new c.words.cells m (own_word n got (message plan m)) r v lm (ap (λ z. plain_cell z r) (sym (cells_are got ag)) ∙ f)
 
       outlet_there : (q : ℕ) → IsPeer n q → to_q ≢ q → outlet_to c' q ≡ outlet_to c q
-      outlet_there q peer ne = some_sent.others q (subst (λ z. q < z.parties) (sym h.going.own.plan) peer.0) (λ f. peer.1 (f ∙ h.going.own.me)) (λ f. ne (sym f))
+      outlet_there q peer ne = ap (λ z. z.sink) (some_sent.others q (subst (λ z. q < z.parties) (sym h.going.own.plan) peer.0) (λ f. peer.1 (f ∙ h.going.own.me)) (λ f. ne (sym f)))
 
       own' : IsOf n start c'
       own' = record {

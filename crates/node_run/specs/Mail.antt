@@ -1,6 +1,6 @@
 -- What a node keeps while it runs its sessions: its outlets, the words that it sent and read, and the inboxes of its
 -- peers.
-use Rattle.std.specs.Prelude.{◌≡◌, ◌≢◌, ℕ, ◌+◌, ◌%◌, ◌<◌, ◌≤◌, ◌^◌, Bool, [], List, map, filter, length, take, slice_index, slice_index_or, Option, None, Some, Result, Ok, Err}
+use Rattle.std.specs.Prelude.{◌≡◌, ◌≢◌, ℕ, ◌+◌, ◌%◌, ◌<◌, ◌≤◌, ◌^◌, Bool, [], List, map, filter, length, take, slice_index, slice_index_or, false, Option, None, Some, Result, Ok, Err, IsTrue, OnOk}
 use Rattle.std.specs.Option.{option_map}
 use Rattle.atomic_table.specs.Seated.{TableId}
 use Rattle.message_board.specs.Pairs.{Knows}
@@ -12,6 +12,7 @@ use Rattle.job_plan.specs.Plans.{Plan}
 use Rattle.job_plan.specs.Sound.{IsSound}
 use Rattle.job_plan.specs.Messages.{messages}
 use Rattle.job_plan.specs.Numbers.{message}
+use Rattle.outer_io.specs.Links.{are_flushed}
 use Rattle.outer_io.specs.Outlet.{OutletReading}
 use Rattle.outer_io.specs.Sink.{SinkReading, Writes}
 use Rattle.outer_io.specs.declared.sink.Failed.{Failed}
@@ -36,9 +37,17 @@ pub record Mail : Type 0 where
   -- the peer to which a send failed
   pub failed : Option ℕ
 
--- the outlet to q, as a sink
+-- the outlet to q
+abbrev pub link_to : Mail → ℕ → OutletReading
+link_to x q = slice_index_or x.outlets (place_among x.me q) no_outlet
+
+-- as a sink
 abbrev pub outlet_to : Mail → ℕ → SinkReading
-outlet_to x q = (slice_index_or x.outlets (place_among x.me q) no_outlet).sink
+outlet_to x q = (link_to x q).sink
+
+-- nothing waits for any peer
+abbrev pub NothingWaits : Mail → Type 0
+NothingWaits x = IsTrue (are_flushed x.outlets)
 
 -- what stands for an inbox that isn't there
 abbrev pub no_box : BoxModel
@@ -94,8 +103,13 @@ with_post x m word = record x { words = record x.words { cells = plain_put x.wor
 pub record SentTo (q : ℕ) (bytes : List ℕ) (before after : Mail) : Type 0 where
   pub result : Result (Unit {0}) Failed
   pub writes : Writes bytes (outlet_to before q) (outlet_to after q) result
-  pub others : (r : ℕ) → r < before.plan.parties → r ≢ before.me → r ≢ q → outlet_to after r ≡ outlet_to before r
+  pub others : (r : ℕ) → r < before.plan.parties → r ≢ before.me → r ≢ q → link_to after r ≡ link_to before r
   pub rest : after ≡ record before { outlets = after.outlets; failed = failed_after q result before.failed }
+
+-- the outlet to q was flushed
+pub record FlushedTo (q : ℕ) (before after : Mail) : Type 0 where
+  pub sent : SentTo q [] before after
+  pub out : OnOk sent.result ((link_to after q).holds ≡ false)
 
 -- the party sends message m, and this is a word of the ring
 pub record MayPost (x : Mail) (m word : ℕ) : Type 0 where

@@ -6,7 +6,7 @@ use Rattle.share_world.specs.Laws.{IsWhole}
 use Rattle.outer_io.specs.Count.{Rose}
 use Rattle.outer_io.specs.Inlet.{ahead, shut_inlet}
 use Rattle.outer_io.specs.Jobs.{SpawnerReading}
-use Rattle.outer_io.specs.Links.{LinksReading, HasPeers, are_closed}
+use Rattle.outer_io.specs.Links.{LinksReading, HasPeers, are_closed, are_flushed}
 use Rattle.outer_io.specs.Sink.{SinkReading, added}
 use Rattle.frame_code.specs.Frames.{hello}
 use Rattle.node_talk.specs.declared.fault.NodeFault.{NodeFault}
@@ -14,7 +14,7 @@ use Rattle.node_talk.specs.declared.fault.NodeFault.TheVariants.{Link, Closed, B
 use Rattle.node_talk.specs.Talks.{Node, IsPeer, expected, heard}
 use Rattle.node_talk.specs.PeerLinks.{in_from, out_to}
 use Rattle.node_talk.specs.Causes.{Cause}
-use Rattle.node_talk.specs.Runs.{Results, IsDone, TalkedThrough, BrokeOff, HearsAll, NoneRose, HearsWorld, IsOfWorld}
+use Rattle.node_talk.specs.Runs.{Results, IsDone, TalkedThrough, BrokeOff, HearsAll, NoSendRose, NoneRose, HearsWorld, IsOfWorld}
 use Rattle.link_reader.specs.Heard.{KeepsCalm}
 use Rattle.link_reader.specs.NodeReaders.{ReadsFrom}
 use Rattle.node_run.specs.Progress.{talk_bytes}
@@ -105,6 +105,8 @@ pub record Runs (n : Node) (before after : LinksReading) (spawner spawner' : Spa
   -- there are as many links as before, and all are closed
   pub peers : HasPeers (n.world.plan.parties - 1) after
   pub closed : IsTrue (are_closed after)
+  -- where no send failed, all that was said went out
+  pub gone : NoSendRose n before after → IsTrue (are_flushed after.outlets)
   -- at Ok it said its whole talk and heard all that it expects, and it has the words and the outputs
   pub done : IfOk result (λ r. (got : Key → ℕ) × IsDone n got r × TalkedThrough n got before after)
   -- at a fault it said a first part of its talk, up to the first take of a word that didn't come, and where no send

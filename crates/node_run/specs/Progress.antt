@@ -1,5 +1,5 @@
 -- How far a node has come.
-use Rattle.std.specs.Prelude.{◌≡◌, ◌≢◌, ℕ, ◌+◌, ◌-◌, ◌*◌, ◌<◌, ◌≤◌, IsTrue, List, length, map, slice_get, Option, None, Some}
+use Rattle.std.specs.Prelude.{◌≡◌, ◌≢◌, ℕ, ◌+◌, ◌-◌, ◌*◌, ◌<◌, ◌≤◌, false, IsTrue, List, length, map, slice_get, Option, None, Some}
 use Rattle.message_board.specs.Plain.{plain_cell}
 use Rattle.job_plan.specs.declared.key.Key.{Key}
 use Rattle.job_plan.specs.Messages.{messages}
@@ -18,7 +18,7 @@ use Rattle.node_talk.specs.Talks.{Node, acts, IsPeer, own_word, messages_between
 use Rattle.node_talk.specs.PeerLinks.{out_to}
 use Rattle.list_laws.specs.Lists.{joined}
 use Rattle.atomic_table.specs.Seated.{TableId}
-use Rattle.node_run.specs.Mail.{Mail, BoxModel, NeverComes, outlet_to}
+use Rattle.node_run.specs.Mail.{Mail, BoxModel, NeverComes, NothingWaits, link_to, outlet_to}
 
 -- how many instructions stand before session s
 abbrev pub before_session : Node → ℕ → ℕ
@@ -120,6 +120,20 @@ pub record Halted (n : Node) (start : Begin) (now : Mail) : Type 0 where
   pub why : StopsBy n k start now now.failed
   pub outlets : (q : ℕ) → IsPeer n q → OutletStays n q now.failed (out_to n start.links q) (outlet_to now q)
 
+-- ---- what waits at the outlets
+
+-- what waited for the peers below q was sent, and nothing failed: a run goes on as it went
+pub record FlushedBelow (q : ℕ) (before now : Mail) : Type 0 where
+  pub rest : now ≡ record before { outlets = now.outlets; failed = now.failed }
+  pub out : (r : ℕ) → r < before.plan.parties → r ≢ before.me → r < q → (link_to now r).holds ≡ false
+  pub going : (n : Node) (k : ℕ) (start : Begin) → Going n k start before → Going n k start now
+
+-- a flush failed, which ends a run
+pub record FlushFailed (before now : Mail) : Type 0 where
+  pub rest : now ≡ record before { outlets = now.outlets; failed = now.failed }
+  pub some : now.failed ≢ None
+  pub halted : (n : Node) (k : ℕ) (start : Begin) → Going n k start before → Halted n start now
+
 -- ---- hellos
 
 -- the peers below q were sent their hello, nothing failed, and no word is known
@@ -132,6 +146,12 @@ pub record Greeted (n : Node) (q : ℕ) (start : Begin) (now : Mail) : Type 0 wh
   pub room : (r : ℕ) → IsPeer n r → r < q → KeepsRoom 38 (out_to n start.links r) (outlet_to now r)
   pub others : (r : ℕ) → IsPeer n r → q ≤ r → outlet_to now r ≡ out_to n start.links r
   pub quiet : now.failed ≡ None
+
+-- the hellos of all peers went out, nothing failed, and no word is known
+pub record AllGreeted (n : Node) (start : Begin) (now : Mail) : Type 0 where
+  pub going : Going n 0 start now
+  pub words : (m : ℕ) → plain_cell now.words.cells m ≡ None
+  pub out : NothingWaits now
 
 -- a hello failed, and no word is known
 pub record Ungreeted (n : Node) (start : Begin) (now : Mail) : Type 0 where

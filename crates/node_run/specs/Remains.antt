@@ -9,6 +9,7 @@ use Rattle.party_desk.specs.declared.desk.Desk.{Desk}
 use Rattle.outer_io.specs.Count.{Rose}
 use Rattle.outer_io.specs.Inlet.{InletReading, shut_inlet}
 use Rattle.outer_io.specs.Jobs.{SpawnerReading}
+use Rattle.outer_io.specs.Links.{are_flushed}
 use Rattle.outer_io.specs.Outlet.{OutletReading, shut_outlet}
 use Rattle.node_talk.specs.declared.fault.NodeFault.{NodeFault}
 use Rattle.node_talk.specs.declared.fault.NodeFault.TheVariants.{Link, NoThread}
@@ -19,7 +20,7 @@ use Rattle.link_reader.specs.Expected.{TalkModel}
 use Rattle.link_reader.specs.Heard.{KeepsCalm}
 use Rattle.link_reader.specs.ReadWords.{ReadsWords}
 use Rattle.link_reader.specs.NodeReaders.{incoming}
-use Rattle.node_run.specs.Mail.{Mail, IsMail, BoxModel, no_box}
+use Rattle.node_run.specs.Mail.{Mail, IsMail, BoxModel, NothingWaits, no_box}
 use Rattle.node_run.specs.Progress.{Begin, IsOf, Going, InOrder, Halted}
 
 -- a reader but for its inlet: what it expects, the inbox that it fills, and what it wakes its party with
@@ -63,6 +64,7 @@ pub record MayRun (n : Node) (start : Begin) (place : ℕ) (readers : List Reade
     (now : Mail) : Type 0 where
   pub order : InOrder n 0 start desks now
   pub empty : (m : ℕ) → plain_cell now.words.cells m ≡ None
+  pub out : NothingWaits now
   pub ids : length start.ids + 1 ≡ n.world.plan.parties
   pub count : place + length readers ≡ length start.ids
   pub parts : (k : ℕ) (d : ReaderPartsModel) → slice_get readers k ≡ Some d → IsFor n start (place + k) d
@@ -135,6 +137,8 @@ pub record Remained (n : Node) (start : Begin) (place : ℕ) (before after : Lis
   pub outlets : r.outlets ≡ map shut_outlet now.outlets
   pub words : r.words ≡ now.words
   pub failed : r.failed ≡ now.failed
+  -- where no send failed, nothing waits at an outlet
+  pub out : r.failed ≡ None → IsTrue (are_flushed r.outlets)
   pub boxes : r.boxes ≡ take place now.boxes
   pub count : length after ≡ length before
   pub inlets : AllKeepCalm before after

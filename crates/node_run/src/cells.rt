@@ -63,7 +63,7 @@ pub fn peer_place(me: u32, party: u32) -> usize
 
 impl<'p, O: Outlet> NodeCells<'p, O> {
     ghost use Rattle.std.specs.Prelude.{◌≡◌, ◌≢◌, ◌<◌};
-    ghost use Rattle.node_run.specs.Mail.{SentTo};
+    ghost use Rattle.node_run.specs.Mail.{SentTo, FlushedTo};
 
     /// Sends these bytes to a peer, and keeps it where that failed.
     pub fn send(&mut self, peer: u32, bytes: &[u8])
@@ -73,6 +73,18 @@ impl<'p, O: Outlet> NodeCells<'p, O> {
     {
         let place = peer_place(self.me, peer);
         if self.outlets[place].send(bytes).is_err() {
+            self.failed = Some(peer);
+        }
+    }
+
+    /// Sends what waits for a peer, and keeps the peer where that failed.
+    pub fn flush(&mut self, peer: u32)
+        requires party { peer < self.old.plan.parties }
+        requires other { peer ≢ self.old.me }
+        ensures { FlushedTo peer self.old self.new }
+    {
+        let place = peer_place(self.me, peer);
+        if self.outlets[place].flush().is_err() {
             self.failed = Some(peer);
         }
     }

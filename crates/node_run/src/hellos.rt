@@ -1,9 +1,10 @@
 // The hellos of a node.
 ghost use Rattle.std.specs.Prelude.{◌≡◌, ◌+◌, ◌<◌, ℕ, true, false};
 ghost use Rattle.node_talk.specs.Talks.{Node};
-ghost use Rattle.node_run.specs.Progress.{Begin, Greeted, Ungreeted};
+ghost use Rattle.node_run.specs.Progress.{Begin, Greeted, AllGreeted, Ungreeted};
 
 use crate::cells::NodeCells;
+use crate::flushes::flush_all;
 use frame_code::hello;
 use outer_io::Outlet;
 
@@ -26,11 +27,11 @@ fn greet_one<'p, O: Outlet>(cells: &mut NodeCells<'p, O>, q: u32, digest: &[u8; 
     cells.failed.is_none()
 }
 
-/// Sends its hello to each peer in turn, up to the first failure, and answers whether none failed.
+/// Sends its hello to each peer in turn, up to the first failure, and then what waits. It answers whether none failed.
 pub fn greet<'p, O: Outlet>(cells: &mut NodeCells<'p, O>, digest: &[u8; 32]) -> bool
     requires { (n : Node) × (start : Begin) × (n.digest ≡ digest.now) × Greeted n 0 start cells.old }
     ensures on { (n : Node) (start : Begin) → n.digest ≡ digest.now → Greeted n 0 start cells.old
-        → result ≡ true → Greeted n n.world.plan.parties start cells.new }
+        → result ≡ true → AllGreeted n start cells.new }
     ensures halted { (n : Node) (start : Begin) → n.digest ≡ digest.now → Greeted n 0 start cells.old
         → result ≡ false → Ungreeted n start cells.new }
 {
@@ -39,5 +40,5 @@ pub fn greet<'p, O: Outlet>(cells: &mut NodeCells<'p, O>, digest: &[u8; 32]) -> 
             return false;
         }
     }
-    true
+    flush_all(cells)
 }

@@ -3,6 +3,7 @@
 
 mod cells;
 mod done;
+mod flushes;
 mod hellos;
 mod laws;
 mod mailbox;

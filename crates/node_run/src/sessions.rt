@@ -1,12 +1,13 @@
 // The sessions of a node.
-ghost use Rattle.std.specs.Prelude.{◌≡◌, ℕ, ◌<◌, length, true, false};
+ghost use Rattle.std.specs.Prelude.{◌≡◌, ℕ, ◌<◌, length, true, false, None};
 ghost use Rattle.party_program.specs.Programs.{program};
 ghost use Rattle.node_talk.specs.Talks.{Node};
-ghost use Rattle.node_run.specs.Mail.{MayTake, NeverComes};
-ghost use Rattle.node_run.specs.Progress.{Begin, InSession, InOrder, Halted, KeepsWords, ids_of};
-ghost use Rattle.node_run.specs.Turns.{Turns};
+ghost use Rattle.node_run.specs.Mail.{MayTake, NothingWaits};
+ghost use Rattle.node_run.specs.Progress.{Begin, InSession, InOrder, Halted, KeepsWords};
+ghost use Rattle.node_run.specs.Turns.{Turns, Awaits};
 
 use crate::cells::NodeCells;
+use crate::flushes::flush_all;
 use job_plan::Plan;
 use link_reader::PartyParker;
 use outer_io::Outlet;
@@ -47,8 +48,8 @@ fn advance<'p, O: Outlet>(plan: &Plan, desk: &mut Desk, cells: &mut NodeCells<'p
     }
 }
 
-// Waits for the word of this message, and answers whether it may still come: not where the reader of its sender ended
-// by a fault, and a look after that didn't find it.
+// Waits for the word of this message, once all that was said went out. It answers whether the session goes on: not where
+// that failed, nor where the reader of the word's sender ended by a fault, and a look after that didn't find it.
 fn wait_for<'p, O: Outlet, R: Wait>(
     rt: &R,
     cells: &mut NodeCells<'p, O>,
@@ -56,14 +57,19 @@ fn wait_for<'p, O: Outlet, R: Wait>(
     number: u32,
 ) -> bool
     requires { MayTake cells.old number }
-    ensures rest { cells.new ≡ record cells.old { boxes = cells.new.boxes } }
-    ensures ids { ids_of cells.new.boxes ≡ ids_of cells.old.boxes }
-    ensures stops { result ≡ false → NeverComes cells.new number }
+    ensures on { (n : Node) (s : ℕ) (start : Begin) (desk : Desk) → InSession n s start desk cells.old
+        → result ≡ true → InSession n s start desk cells.new }
+    ensures halted { (n : Node) (s : ℕ) (start : Begin) (desk : Desk) → InSession n s start desk cells.old
+        → Awaits n s desk number → result ≡ false → Halted n start cells.new }
+    ensures keeps { KeepsWords cells.old cells.new }
 {
     match cells.mark(number) {
         None => {
-            parker.park(rt);
-            true
+            let gone = flush_all(cells);
+            if gone {
+                parker.park(rt);
+            }
+            gone
         }
         Some(false) => true,
         Some(true) => cells.look(number).is_some(),
@@ -104,8 +110,8 @@ fn walk<'p, O: Outlet, R: Wait>(
     unreachable!()
 }
 
-/// Steps all desks to their end in turn, and answers whether they came there.
-pub fn run_sessions<'p, O: Outlet, R: Wait>(
+// Steps all desks to their end in turn, and answers whether they came there.
+fn walk_all<'p, O: Outlet, R: Wait>(
     rt: &R,
     plan: &Plan,
     desks: &mut [Desk],
@@ -124,4 +130,30 @@ pub fn run_sessions<'p, O: Outlet, R: Wait>(
         }
     }
     true
+}
+
+/// Steps all desks to their end in turn, and answers whether they came there. What was said goes out then, unless a send
+/// failed.
+pub fn run_sessions<'p, O: Outlet, R: Wait>(
+    rt: &R,
+    plan: &Plan,
+    desks: &mut [Desk],
+    cells: &mut NodeCells<'p, O>,
+    parker: &PartyParker,
+) -> bool
+    requires { (n : Node) × (start : Begin) × (n.world.plan ≡ plan.now) × InOrder n 0 start desks.old cells.old }
+    ensures ended { (n : Node) (start : Begin) → n.world.plan ≡ plan.now → InOrder n 0 start desks.old cells.old
+        → result ≡ true → InOrder n (length desks.old) start desks.new cells.new }
+    ensures halted { (n : Node) (start : Begin) → n.world.plan ≡ plan.now → InOrder n 0 start desks.old cells.old
+        → result ≡ false → Halted n start cells.new }
+    ensures out { cells.new.failed ≡ None → NothingWaits cells.new }
+{
+    let ended = walk_all(rt, plan, desks, cells, parker);
+    if cells.failed.is_some() {
+        return false;
+    }
+    if !flush_all(cells) {
+        return false;
+    }
+    ended
 }

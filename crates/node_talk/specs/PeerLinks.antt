@@ -15,7 +15,8 @@ abbrev pub no_inlet : InletReading
 no_inlet = record { told = None; faults = 0; ended = false; steady = false; closed = false }
 
 abbrev pub no_outlet : OutletReading
-no_outlet = record { sink = record { told = None; faults = 0; steady = false; room = 0 }; closed = false }
+no_outlet =
+    record { sink = record { told = None; faults = 0; steady = false; room = 0 }; holds = false; closed = false }
 
 -- the inlet from q
 abbrev pub in_from : Node → LinksReading → ℕ → InletReading

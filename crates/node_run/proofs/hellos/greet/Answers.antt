@@ -1,6 +1,7 @@
 use Rattle.std.proofs.Common.{ap, ◌∙◌, subst, arith}
 use Rattle.node_run.specs.Mail.{Mail}
 use Rattle.node_run.specs.Progress.{Greeted}
+use Rattle.node_run.proofs.FlushSteps.{all_gone, hello_stays}
 use Rattle.node_run.proofs.hellos.greet.Goals as goal
 
 pub loop-q-init : goal.loop-q-init
@@ -25,4 +26,13 @@ loop-q-preserved g c = λ n start digest h.
 pub returns-clause-on : goal.returns-clause-on
 returns-clause-on g c = λ n start digest h yes.
     let parties = c.parties-q-end.ensures.is ∙ ap (λ (z : Mail). z.plan.parties) c.cells.view_is ∙ ap (λ z. z.parties) h.own.plan in
-    subst (λ z. Greeted n z start c.loop-q.cells) (omega (arith, c.loop-q-test.false, parties, c.loop-q.auto.q-end)) (c.loop-q.invariant n start digest h)
+    all_gone n start _ c.loop-q.cells c.flush_all.new.cells
+    (subst (λ z. Greeted n z start c.loop-q.cells) (omega (arith, c.loop-q-test.false, parties, c.loop-q.auto.q-end)) (c.loop-q.invariant n start digest h))
+    (c.flush_all.ensures.on yes) (c.flush_all.ensures.out yes)
+
+pub returns-clause-halted : goal.returns-clause-halted
+returns-clause-halted g c = λ n start digest h no.
+    let parties = c.parties-q-end.ensures.is ∙ ap (λ (z : Mail). z.plan.parties) c.cells.view_is ∙ ap (λ z. z.parties) h.own.plan in
+    hello_stays n start c.loop-q.cells c.flush_all.new.cells
+    (subst (λ z. Greeted n z start c.loop-q.cells) (omega (arith, c.loop-q-test.false, parties, c.loop-q.auto.q-end)) (c.loop-q.invariant n start digest h))
+    (c.flush_all.ensures.failed no)

@@ -33,7 +33,7 @@ returns-then-is_empty-clause-remained g t c = λ n start place e h.
     let whole = whole_first c.run_sessions.new.desks (drop (length c.run_sessions.new.desks) c.args.desks.items) (vec_len c.args.desks) long in
     let kept = subst (λ z. InOrder n (length n.world.plan.sessions) start z c.run_sessions.new.cells ⊎ Halted n start c.run_sessions.new.cells) (sym whole) ran in
     all_ran n start place c.args.readers.items c.args.desks.items _ c.args.cells c.run_sessions.new.cells before
-    (g.W.Spawner.reading c.args.spawner.now) _ h none short kept c.of.ensures.mail c.of.ensures.left
+    (g.W.Spawner.reading c.args.spawner.now) _ h none short kept c.of.ensures.mail c.run_sessions.ensures.out c.of.ensures.left
 
 pub read_peers-remains-requires : goal.read_peers-remains-requires
 read_peers-remains-requires g t c κs within =

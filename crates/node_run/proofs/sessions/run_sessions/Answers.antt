@@ -1,26 +1,33 @@
-use Rattle.std.proofs.Common.{arith}
-use Rattle.node_run.proofs.SessionOrder.{in_session, next_order, order_at}
+use Rattle.std.proofs.Common.{◌≡◌, ap, sym, ◌∙◌, None}
+use Rattle.std.proofs.lemmas.Bool.{cases_Bool}
+use mathlib.Core.Logic.{inl, inr}
+use Rattle.node_run.specs.Mail.{Mail}
+use Rattle.node_run.proofs.KnownWords.{is_there, is_missing}
+use Rattle.node_run.proofs.FlushSteps.{order_goes, halted_goes, halted_fails}
 use Rattle.node_run.proofs.sessions.run_sessions.Goals as goal
 
-pub loop-s-init : goal.loop-s-init
-loop-s-init g c = λ n start e h. h
+pub returns-then-is_some-clause-halted : goal.returns-then-is_some-clause-halted
+returns-then-is_some-clause-halted g c = λ n start e h no. elim (cases_Bool c.walk_all-ended.result) [
+  | inl ran ↦
+      let order = c.walk_all-ended.ensures.ended n start e h ran in
+      absurd (is_there c.cells.inside.failed c.is_some.result (sym c.is_some.ensures) c.if-is_some.true (ap (λ (z : Mail). z.failed) c.cells.view_is ∙ order.going.quiet))
+  | inr short ↦ c.walk_all-ended.ensures.halted n start e h short
+]
 
-pub walk-requires : goal.walk-requires
-walk-requires g c =
-    let r = c.requires in
-    (r.0, c.loop-s.s, r.1, r.2, in_session r.0 c.loop-s.s r.1 c.loop-s.desks _ (c.loop-s.invariant r.0 r.1 r.2 r.3) (omega (arith, c.loop-s.auto.desks, c.loop-s-test.true)) c.index-desks-s.result)
-
-pub returns-then-not-walk-clause-halted : goal.returns-then-not-walk-clause-halted
-returns-then-not-walk-clause-halted g c = λ n start e h no.
-    let i = in_session n c.loop-s.s start c.loop-s.desks _ (c.loop-s.invariant n start e h) (omega (arith, c.loop-s.auto.desks, c.loop-s-test.true)) c.index-desks-s.result in
-    c.walk.ensures.halted n c.loop-s.s start e i c.if-not-walk.true
-
-pub loop-s-preserved : goal.loop-s-preserved
-loop-s-preserved g c = λ n start e h.
-    let o = c.loop-s.invariant n start e h in
-    let i = in_session n c.loop-s.s start c.loop-s.desks _ o (omega (arith, c.loop-s.auto.desks, c.loop-s-test.true)) c.index-desks-s.result in
-    let x = c.walk.ensures.ended n c.loop-s.s start e i c.if-not-walk.false in
-    next_order n c.loop-s.s start c.loop-s.desks _ o (omega (arith, c.loop-s.auto.desks, c.loop-s-test.true)) c.walk.new.desk c.walk.new.cells x.0 x.1 c.walk.ensures.keeps
+pub returns-then-not-flush_all-clause-halted : goal.returns-then-not-flush_all-clause-halted
+returns-then-not-flush_all-clause-halted g c = λ n start e h no.
+    let quiet : c.walk_all-ended.new.cells.failed ≡ None = ap (λ (z : Mail). z.failed) (sym c.cells.view_is) ∙ is_missing c.cells.inside.failed c.is_some.result (sym c.is_some.ensures) c.if-is_some.false in
+    let f = c.flush_all.ensures.failed c.if-not-flush_all.true in
+    elim (cases_Bool c.walk_all-ended.result) [
+      | inl ran ↦ f.halted n _ start (c.walk_all-ended.ensures.ended n start e h ran).going
+      | inr short ↦ halted_fails n start c.walk_all-ended.new.cells c.flush_all.new.cells (c.walk_all-ended.ensures.halted n start e h short) quiet f
+    ]
 
 pub returns-clause-ended : goal.returns-clause-ended
-returns-clause-ended g c = λ n start e h yes. order_at n _ _ start _ _ (omega (arith, c.loop-s.auto.desks, c.loop-s.auto.s-end, c.loop-s-test.false)) (c.loop-s.invariant n start e h)
+returns-clause-ended g c = λ n start e h yes.
+    order_goes n _ start _ _ c.walk_all-ended.new.cells c.flush_all.new.cells (c.walk_all-ended.ensures.ended n start e h yes) (c.flush_all.ensures.on c.if-not-flush_all.false)
+
+pub returns-clause-halted : goal.returns-clause-halted
+returns-clause-halted g c = λ n start e h no.
+    let quiet : c.walk_all-ended.new.cells.failed ≡ None = ap (λ (z : Mail). z.failed) (sym c.cells.view_is) ∙ is_missing c.cells.inside.failed c.is_some.result (sym c.is_some.ensures) c.if-is_some.false in
+    halted_goes n start _ c.walk_all-ended.new.cells c.flush_all.new.cells (c.walk_all-ended.ensures.halted n start e h no) quiet (c.flush_all.ensures.on c.if-not-flush_all.false)

@@ -1,8 +1,5 @@
-use Rattle.std.proofs.Common.{ap, ◌∙◌, subst}
-use Rattle.message_board.specs.Plain.{plain_cell}
-use Rattle.node_run.specs.Mail.{Mail}
+use Rattle.std.proofs.Common.{subst}
 use Rattle.node_run.specs.Turns.{Turns}
-use Rattle.node_run.proofs.SessionSteps.{waits_for, stops_here}
 use Rattle.node_run.proofs.sessions.walk.Goals as goal
 
 pub loop-init : goal.loop-init
@@ -25,17 +22,17 @@ wait_for-requires g c =
 pub returns-then-not-wait_for-clause-halted : goal.returns-then-not-wait_for-clause-halted
 returns-then-not-wait_for-clause-halted g c = λ n s start e h no.
     let t = subst (Turns n s start c.advance.new.desk c.advance.new.cells) c.in-Waits.is (c.advance.ensures.turns n s start e (c.loop.invariant.state n s start e h)) in
-    stops_here n s start c.advance.new.desk c.advance.new.cells t.0 c.in-Waits.number t.2 c.wait_for.new.cells c.wait_for.ensures.rest c.wait_for.ensures.ids (c.wait_for.ensures.stops c.if-not-wait_for.true)
+    c.wait_for.ensures.halted n s start c.advance.new.desk t.0 t.2 c.if-not-wait_for.true
 
 pub returns-then-not-wait_for-clause-keeps : goal.returns-then-not-wait_for-clause-keeps
-returns-then-not-wait_for-clause-keeps g c = λ m v e. ap (λ (z : Mail). plain_cell z.words.cells m) c.wait_for.ensures.rest ∙ c.advance.ensures.keeps m v (c.loop.invariant.keeps m v e)
+returns-then-not-wait_for-clause-keeps g c = λ m v e. c.wait_for.ensures.keeps m v (c.advance.ensures.keeps m v (c.loop.invariant.keeps m v e))
 
 pub loop-preserved : goal.loop-preserved
 loop-preserved g c = record {
   state = λ n s start e h.
       let t = subst (Turns n s start c.advance.new.desk c.advance.new.cells) c.in-Waits.is (c.advance.ensures.turns n s start e (c.loop.invariant.state n s start e h)) in
-      waits_for n s start c.advance.new.desk c.advance.new.cells t.0 c.wait_for.new.cells c.wait_for.ensures.rest c.wait_for.ensures.ids;
-  keeps = λ m v e. ap (λ (z : Mail). plain_cell z.words.cells m) c.wait_for.ensures.rest ∙ c.advance.ensures.keeps m v (c.loop.invariant.keeps m v e);
+      c.wait_for.ensures.on n s start c.advance.new.desk t.0 c.if-not-wait_for.false;
+  keeps = λ m v e. c.wait_for.ensures.keeps m v (c.advance.ensures.keeps m v (c.loop.invariant.keeps m v e));
 }
 
 pub returns-in-Ended-clause-ended : goal.returns-in-Ended-clause-ended
