@@ -1,6 +1,6 @@
 -- Every whole world is played.
 use Rattle.std.proofs.Common.{◌≡◌, ◌≢◌, ℕ, zero, suc, ◌+◌, ◌-◌, ◌<◌, ◌^◌, nat_eq, eq-eqb, ne_eqb, Bool, true, ◌||◌, if◌then◌else◌, List, [], ◌∷◌, ◌++◌, length, Option, None, Some, Ok, inl, inr, refl, sym, ap, ◌∙◌, subst, arith}
-use Rattle.std.specs.Prelude.{slice_index_or}
+use Rattle.std.specs.Prelude.{not, slice_index_or}
 use Rattle.std.specs.List.{list_all}
 use Rattle.std.proofs.lemmas.Bool.{and_from, cases_Bool, cases_lt, cond-false, cond-true, or_left, or_right}
 use Rattle.std.proofs.lemmas.List.Folds.{list_all-append}
@@ -198,6 +198,7 @@ module _ (w : World) (whole : IsWhole w) (digest : List ℕ) (p : ℕ) (lp : p <
     };
     closed = and_from (list_all (λ (i : InletReading). i.closed) end.inlets) _ (all_listed (λ (i : InletReading). i.closed) (w.plan.parties - 1) (λ k. inlets_after (party_at p k)) (λ k. refl))
         (all_listed (λ (o : OutletReading). o.closed) (w.plan.parties - 1) (λ k. outlets_after (party_at p k)) (λ k. refl));
+    gone = λ none. all_listed (λ (o : OutletReading). not o.holds) (w.plan.parties - 1) (λ k. outlets_after (party_at p k)) (λ k. refl);
     done = (word w, done, talked);
     broke = tt;
     cause = tt;

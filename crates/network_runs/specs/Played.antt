@@ -77,7 +77,11 @@ inlet_with left = record { told = Some left; faults = 0; ended = false; steady =
 
 abbrev pub outlet_with : List ℕ → List ℕ → OutletReading
 outlet_with took more =
-    record { sink = record { told = Some took; faults = 0; steady = true; room = length more }; closed = false }
+    record {
+      sink = record { told = Some took; faults = 0; steady = true; room = length more };
+      holds = false;
+      closed = false;
+    }
 
 -- the links of a party, by the peer at their other end
 abbrev pub links_by : World → ℕ → (ℕ → InletReading) → (ℕ → OutletReading) → LinksReading

@@ -14,7 +14,7 @@ inlet_reading i =
     record { told = None; faults = i.faults; ended = i.ended; steady = false; closed = is_none i.receiver }
 
 abbrev pub outlet_reading : ThreadOutlet → OutletReading
-outlet_reading o = record { sink = untold o.faults; closed = is_none o.sender }
+outlet_reading o = record { sink = untold o.faults; holds = false; closed = is_none o.sender }
 
 abbrev pub thread_links : Links ThreadInlet ThreadOutlet → LinksReading
 thread_links links = links_reading inlet_reading outlet_reading links

@@ -43,6 +43,11 @@ impl Outlet for ThreadOutlet {
         answer
     }
 
+    // Nothing waits here: a byte that is sent is in the pipe.
+    fn flush(&mut self) -> Result<(), Failed> {
+        self.send(&[])
+    }
+
     fn close(&mut self) {
         self.sender = None;
     }

@@ -1,5 +1,5 @@
 -- What links over TCP show: nothing of what comes and goes.
-use Rattle.std.specs.Prelude.{ℕ, ◌==◌, not, false, List, length, replicate, Option, None, Some}
+use Rattle.std.specs.Prelude.{ℕ, ◌==◌, not, false, List, length, replicate, None}
 use Rattle.std.specs.Option.{is_none, option_map_or}
 use Rattle.std.specs.Io.Buffered.{writer_buffer}
 use Rattle.socket_link.specs.declared.tcp_inlet.TcpInlet.{TcpInlet}

@@ -41,7 +41,7 @@ fn another_byte_is_told_in_full(rt: HostRuntime) -> Result<(), Fail> {
     expect_other_byte(&rt, rt.alloc(), 37, 0x1e, OTHER_DIGEST, false)
 }
 
-/// Faults at once: how many bytes a and b say, which send to b fails and which start is refused; then what is told, and
+/// Faults at once: how many bytes a and b say, which send to b or flush fails and which start is refused; then what is told, and
 /// how many bytes a and b took.
 struct Faults {
     a_says: usize,
@@ -87,7 +87,7 @@ const FAULTS: [Faults; 8] = [
     Faults {
         a_says: 100,
         b_says: 110,
-        failing_send: Some(1),
+        failing_send: Some(2),
         refused_start: None,
         line: "fault link peer=b\n",
         a_took: 38,

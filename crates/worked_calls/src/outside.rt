@@ -38,7 +38,7 @@ pub struct Link {
     pub piece: usize,
     /// The read that fails.
     pub failing_read: Option<u64>,
-    /// The send that fails.
+    /// The send or flush that fails.
     pub failing_send: Option<u64>,
     /// How many bytes the peer takes.
     pub room: usize,

@@ -69,3 +69,17 @@ fn an_outlet_takes_bytes_up_to_its_limit(rt: HostRuntime) -> Result<(), Fail> {
     expect_same!(rt; outlet.bytes(), b"abcde".as_slice());
     Ok(())
 }
+
+#[test]
+fn a_flush_of_an_outlet_is_a_call_too(rt: HostRuntime) -> Result<(), Fail> {
+    let alloc = rt.alloc();
+    let failing = Vec::from_slice(alloc, &[1])?;
+    let mut outlet = VecOutlet::new(Vec::with_capacity(alloc, 5)?, 5, failing);
+    expect_same!(rt; outlet.send(b"abc"), Ok(()));
+    expect_same!(rt; outlet.flush(), Err(Failed), "the call on the list");
+    expect_same!(rt; outlet.flush(), Ok(()));
+    outlet.close();
+    expect_same!(rt; outlet.flush(), Err(Failed), "a closed outlet");
+    expect_same!(rt; outlet.bytes(), b"abc".as_slice());
+    Ok(())
+}

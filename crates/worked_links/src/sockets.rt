@@ -46,7 +46,9 @@ fn greet<R: Sockets<Listener = TcpListener, Stream = TcpStream> + Clock>(
     let mut links = net.links(alloc, &hosts, port, u32::from(me), 3).ok()?;
     let peers = [0, 1, 2].into_iter().filter(|peer| *peer != me);
     for (outlet, peer) in links.outlets.iter_mut().zip(peers) {
-        outlet.send(&[me, peer, b'.']).ok()?;
+        outlet.send(&[me, peer]).ok()?;
+        outlet.send(b".").ok()?;
+        outlet.flush().ok()?;
     }
     Some(links)
 }
