@@ -48,8 +48,8 @@ fn advance<'p, O: Outlet>(plan: &Plan, desk: &mut Desk, cells: &mut NodeCells<'p
     }
 }
 
-// Waits for the word of this message, once all that was said went out. It answers whether the session goes on: not where
-// that failed, nor where the reader of the word's sender ended by a fault, and a look after that didn't find it.
+// Waits for the word of this message, once all that was said went out. It answers whether the session goes on: not
+// where that failed, nor where the reader of the word's sender ended by a fault, and a look after that didn't find it.
 fn wait_for<'p, O: Outlet, R: Wait>(
     rt: &R,
     cells: &mut NodeCells<'p, O>,
@@ -132,8 +132,8 @@ fn walk_all<'p, O: Outlet, R: Wait>(
     true
 }
 
-/// Steps all desks to their end in turn, and answers whether they came there. What was said goes out then, unless a send
-/// failed.
+/// Steps all desks to their end in turn, and answers whether they came there. What was said goes out then, unless a
+/// send failed.
 pub fn run_sessions<'p, O: Outlet, R: Wait>(
     rt: &R,
     plan: &Plan,
