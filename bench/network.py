@@ -1,14 +1,15 @@
 #!/usr/bin/env python3
 """Times nodes that run a job over the loopback network: network.py PROGRAM
 
-The jobs are the auction of examples/network, and the circuit of bits of make_jobs.py, as large as one of AES-128. Each is run ROUNDS times
+The jobs are the auction of examples/network, and AES-128 of examples/aes, with its circuit as it is made and in layers. Each is run ROUNDS times
 (20, where the environment doesn't say) by a node for each party, all started at once, and once by 'mpc run'. Prints for each job
 its messages and bytes, its rounds, the least time of the nodes and that of the run in one process, and the time of one run of the nodes over
 links on which each byte takes 20 milliseconds (relay.py). Ends with status 1 where a node fails or writes anything else than 'mpc run' does.
 
 Bytes are those that all nodes send: a hello of 38 bytes to each peer, and 18 bytes a message, of which the word itself is at least ring_bits. A
-round is a run of slots that says something and of which none waits for another. The least rounds that the protocol would need for the circuit are
-the products on its longest path, one for the inputs and one for the outputs: those of the circuit in layers, of which there is a row for each.
+round is a run of slots that says something and of which none waits for another. The rounds seen are those of a run in which nobody gets anything before
+all nodes have been quiet for 20 milliseconds. The least rounds that the protocol would need for the circuit are
+the products on its longest path, one for the inputs and one for the outputs: those of the circuit in layers.
 """
 
 import os
@@ -26,11 +27,12 @@ sys.path[1:1] = [EXAMPLES, NETWORK]
 import nodes  # noqa: E402
 from by_layers import layers, read_circuit, rounds as rounds_of  # noqa: E402
 from job_folder import read_bytes, read_fields  # noqa: E402
-from relay import Relay  # noqa: E402
+from relay import Relay, Steps  # noqa: E402
 
-BITS = 'bits_aes'
+# The example of appendix B of FIPS 197.
+KEY, BLOCK = '2b7e151628aed2a6abf7158809cf4f3c', '3243f6a8885a308d313198a2e0370734'
 
-# Seconds that each byte takes from one node to another.
+# Seconds that each byte takes from one node to another, and for which nodes have to be quiet.
 DELAY = 0.02
 
 
@@ -52,26 +54,32 @@ def time_nodes(program, folder, names, expected, environment=None):
     return taken
 
 
-def row(program, name, job, rounds):
+def time_alone(program, job):
+    started = time.perf_counter()
+    subprocess.run([program, 'run', job], check=True, capture_output=True)
+    return time.perf_counter() - started
+
+
+def row(program, name, job, times):
     with tempfile.TemporaryDirectory() as folder:
         names = nodes.split(job, folder, [nodes.HERE] * 3, nodes.free_port(3), replace=True)
         run = subprocess.run([program, 'run', job], check=True, capture_output=True, text=True).stdout
         check = subprocess.run([program, 'check', job], check=True, capture_output=True, text=True).stdout
-        best = min(time_nodes(program, folder, names, texts_of(run, names)) for _ in range(rounds))
+        expected = texts_of(run, names)
+        best = min(time_nodes(program, folder, names, expected) for _ in range(times))
         port = read_fields(os.path.join(folder, names[0]))['port']
-        with Relay([port + 12 * q + p for q in range(3) for p in range(3) if p != q], DELAY, folder) as relay:
-            delayed = time_nodes(program, folder, names, texts_of(run, names), relay.environment)
-        alone = []
-        for _ in range(rounds):
-            started = time.perf_counter()
-            subprocess.run([program, 'run', job], check=True, capture_output=True)
-            alone.append(time.perf_counter() - started)
+        ports = [port + 12 * q + p for q in range(3) for p in range(3) if p != q]
+        with Relay(ports, DELAY, folder) as relay:
+            delayed = time_nodes(program, folder, names, expected, relay.environment)
+        with Steps(ports, DELAY, folder) as steps:
+            time_nodes(program, folder, names, expected, steps.environment)
+        alone = min(time_alone(program, job) for _ in range(times))
     messages = int(re.search(r'^messages (\d+)$', check, re.M)[1])
     parties = len(names)
     sent = 38 * parties * (parties - 1) + 18 * messages
     head, gates = read_circuit(read_bytes(job, circuit_of(job)))
-    print(f'| {name} | {messages:,} | {sent:,} | {rounds_of(head, gates):,} | {layers(gates)[1] + 2} '
-          f'| {1000 * best:.1f} | {1000 * min(alone):.1f} | {delayed:.2f} |', flush=True)
+    print(f'| {name} | {messages:,} | {sent:,} | {rounds_of(head, gates):,} | {steps.count:,} | {layers(gates)[1] + 2} '
+          f'| {1000 * best:.1f} | {1000 * alone:.1f} | {delayed:.2f} |', flush=True)
 
 
 def circuit_of(job):
@@ -93,14 +101,16 @@ def main(words):
     if len(words) != 2:
         sys.exit('usage: network.py PROGRAM')
     program = os.path.abspath(words[1])
-    rounds = int(os.environ.get('ROUNDS', '20'))
-    print('| Job | Messages | Bytes sent | Rounds | Least rounds | Milliseconds, nodes | Milliseconds, one process | Seconds, nodes 20 ms apart |')
-    print('|---|---|---|---|---|---|---|---|')
-    row(program, 'auction of three', NETWORK, rounds)
+    times = int(os.environ.get('ROUNDS', '20'))
+    print('| Job | Messages | Bytes sent | Rounds | Rounds seen | Least rounds '
+          '| Milliseconds, nodes | Milliseconds, one process | Seconds, nodes 20 ms apart |')
+    print('|---|---|---|---|---|---|---|---|---|')
+    row(program, 'auction of three', NETWORK, times)
     with tempfile.TemporaryDirectory() as folder:
-        subprocess.run([sys.executable, os.path.join(HERE, 'make_jobs.py'), folder], check=True, capture_output=True)
-        row(program, BITS, os.path.join(folder, BITS), rounds)
-        row(program, f'{BITS} in layers', bring_into_layers(program, os.path.join(folder, BITS), os.path.join(folder, 'layers')), rounds)
+        job = os.path.join(folder, 'aes')
+        subprocess.run([sys.executable, os.path.join(EXAMPLES, 'aes', 'job.py'), 'make', job, KEY, BLOCK], check=True)
+        row(program, 'AES-128', job, times)
+        row(program, 'AES-128 in layers', bring_into_layers(program, job, os.path.join(folder, 'layers')), times)
 
 
 if __name__ == '__main__':

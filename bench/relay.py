@@ -1,7 +1,9 @@
 """Stands between nodes on this machine as a network does that takes its time: each byte arrives so many seconds after it was sent.
 
 Relay(ports, delay, folder) is used as a context. Nodes that listen at these ports are reached through it by nodes that are started with its
-'environment', which leads their connections to ports further on, by redirect.c. It needs Linux with the GNU C library, and a C compiler.
+'environment', which leads their connections to ports further on, by redirect.c. Steps(ports, quiet, folder) holds what is sent until no node has
+sent anything for so many seconds, then passes all of it on, and counts how often: those are the rounds of the nodes, as long as none of
+them takes longer to go on. It needs Linux with the GNU C library, and a C compiler.
 """
 
 import contextlib
@@ -43,12 +45,16 @@ class Relay:
             taken.setsockopt(socket.IPPROTO_TCP, socket.TCP_NODELAY, 1)
             made = connected(port)
             made.setsockopt(socket.IPPROTO_TCP, socket.TCP_NODELAY, 1)
-            pieces = queue.Queue()
-            threading.Thread(target=self.pass_on, args=[pieces, made], daemon=True).start()
             with taken:
-                while piece := taken.recv(65_536):
-                    pieces.put((time.monotonic() + self.delay, piece))
-            pieces.put((time.monotonic() + self.delay, b''))
+                self.hear(taken, made)
+
+    def hear(self, taken, made):
+        """Reads one connection to its end, and has what it reads passed on to the other."""
+        pieces = queue.Queue()
+        threading.Thread(target=self.pass_on, args=[pieces, made], daemon=True).start()
+        while piece := taken.recv(65_536):
+            pieces.put((time.monotonic() + self.delay, piece))
+        pieces.put((time.monotonic() + self.delay, b''))
 
     @staticmethod
     def pass_on(pieces, made):
@@ -60,6 +66,49 @@ class Relay:
                 if not piece:
                     return
                 made.sendall(piece)
+
+
+class Steps(Relay):
+    def __init__(self, ports, quiet, folder):
+        super().__init__(ports, quiet, folder)
+        self.lock = threading.Lock()
+        # How often pieces were passed on, the links that are there and those that have ended, what is held, and when that last changed.
+        self.count, self.links, self.ended, self.held, self.last = 0, 0, 0, [], time.monotonic()
+
+    def __enter__(self):
+        threading.Thread(target=self.go_on, daemon=True).start()
+        return super().__enter__()
+
+    def hear(self, taken, made):
+        with self.lock:
+            self.links += 1
+        try:
+            while piece := taken.recv(65_536):
+                self.hold(made, piece)
+        finally:
+            self.hold(made, b'')
+
+    def hold(self, made, piece):
+        with self.lock:
+            self.held.append((made, piece))
+            self.last = time.monotonic()
+
+    def go_on(self):
+        """Passes on what is held once all nodes are there and have been quiet for long enough, until each link has ended."""
+        while self.ended < len(self.ports):
+            time.sleep(self.delay / 20)
+            with self.lock:
+                if self.held and self.links == len(self.ports) and time.monotonic() - self.last >= self.delay:
+                    pieces, self.held = self.held, []
+                    self.pass_all(pieces)
+
+    def pass_all(self, pieces):
+        """Passes on pieces, of which an empty one ends its link. Ends by themselves don't count."""
+        self.count += any(piece for _, piece in pieces)
+        for made, piece in pieces:
+            with contextlib.suppress(OSError):
+                made.sendall(piece) if piece else made.close()
+            self.ended += not piece
 
 
 def connected(port):

@@ -198,26 +198,31 @@ class Circuit:
 
     # The file.
 
-    def in_layers(self, outputs):
-        """The gates that the outputs need. The products of one round stand together, and then what follows from them without one."""
+    def needed(self, outputs):
+        """The gates that the outputs need, in the order in which they were made."""
         needed = set(itertools.chain(*outputs))
         for wire in range(len(self.gates) - 1, sum(self.widths) - 1, -1):
             operation, operands = self.gates[wire]
             if wire in needed and operation != 'EQ':
                 needed.update(operands)
-        gates = [wire for wire in needed if self.gates[wire]]
+        return [wire for wire in sorted(needed) if self.gates[wire]]
+
+    def in_layers(self, gates):
+        """The products of one round stand together, and then what follows from them without one."""
         return sorted(gates, key=lambda wire: (self.depths[wire], self.gates[wire][0] != 'AND', wire))
 
-    def text(self, outputs):
-        """The file, with a copy of each output wire at the end, where the output values have their place."""
+    def text(self, outputs, by_layers=True):
+        """The file, with a copy of each output wire at the end, where the output values have their place. The gates stand in layers, or
+        else in the order in which they were made."""
         need(len(outputs) <= MOST_VALUES, f'a circuit has at most {MOST_VALUES} output values')
+        gates = self.needed(outputs)
         wires = {wire: wire for wire in range(sum(self.widths))}
         lines = []
 
         def line(operation, *operands):
             lines.append(f'{len(operands)} 1 {" ".join(map(str, operands))} {sum(self.widths) + len(lines)} {operation}')
 
-        for wire in self.in_layers(outputs):
+        for wire in self.in_layers(gates) if by_layers else gates:
             operation, operands = self.gates[wire]
             wires[wire] = sum(self.widths) + len(lines)
             line(operation, *(operands if operation == 'EQ' else (wires[operand] for operand in operands)))

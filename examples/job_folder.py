@@ -162,14 +162,14 @@ def write_new(folder, name, data, mode=0o644, replace=False):
         raise Refusal(f'{path} is there already') from None
 
 
-def write_job(folder, bits, parties, owners, circuit, name, layout):
-    """Writes the folder of a job of one session, in which any two parties may know everything and one alone learns nothing. Those who own
-    an input value read each output value, and the others nothing."""
+def write_job(folder, bits, parties, owners, circuit, name, layout, readers=None):
+    """Writes the folder of a job of one session, in which any two parties may know everything and one alone learns nothing. The readers
+    read each output value, and the others nothing; where none are named, they are those who own an input value."""
     need(all(map(NAME.fullmatch, parties)), 'a name is a letter and up to 15 letters, digits and _, and not of')
     need(len(set(parties)) == len(parties), 'a name stands twice')
     need(3 <= len(parties) <= 12, 'a job wants three to twelve parties, of whom some may give nothing')
     outputs = int(circuit.split('\n', 3)[2].split()[0])
-    session = {'circuit': name, 'layout': layout, 'owners': owners, 'readers': [owners] * outputs}
+    session = {'circuit': name, 'layout': layout, 'owners': owners, 'readers': [readers or owners] * outputs}
     fields = {'version': 1, 'ring_bits': bits, 'parties': parties, 'formula': f'2 of ({", ".join(parties)})', 'session': [session]}
     os.makedirs(folder, exist_ok=True)
     write_new(folder, 'job.toml', job_text(fields).encode())

@@ -21,9 +21,10 @@ import time
 
 TOP = pathlib.Path(__file__).resolve().parent.parent
 EXAMPLES = TOP / 'examples'
-sys.path[1:1] = [str(EXAMPLES), str(TOP / 'fuzz')]
+sys.path[1:1] = [str(EXAMPLES), str(EXAMPLES / 'aes'), str(TOP / 'fuzz')]
 
 import job_folder  # noqa: E402
+from aes_circuit import boxes  # noqa: E402
 from circuits import CALLS, Circuit, circuit_of as circuit_file  # noqa: E402
 from expressions import EXPRESSIONS, FAULTY_EXPRESSIONS  # noqa: E402
 from in_the_clear import circuit_of, fields as fields_of, last_wires, out_in_the_clear  # noqa: E402
@@ -35,6 +36,7 @@ from random_expressions import SCRIPT, with_circuits  # noqa: E402
 NUMBERS, CIRCUITS, EXPRESSIONS_SCRIPT = (EXAMPLES / name for name in ('numbers.py', 'circuits.py', 'expressions.py'))
 AUCTION, SPREAD, NODES = EXAMPLES / 'auction/job.py', EXAMPLES / 'statistics/spread.py', EXAMPLES / 'network/nodes.py'
 BY_LAYERS = EXAMPLES / 'by_layers.py'
+AES, AES_CIRCUIT = EXAMPLES / 'aes/job.py', EXAMPLES / 'aes/aes_circuit.py'
 MOST_SECONDS = 60
 INPUTS = 2_000
 MUTATED = 1_000
@@ -205,6 +207,66 @@ def circuits_come_into_layers(program, top):
     expect_one_line(call(BY_LAYERS, os.path.join(top, 'none.txt')), 'by_layers.py of no file', 'by_layers.py: ')
 
 
+def times(a, b):
+    """The product of two bytes, as polynomials modulo x^8 + x^4 + x^3 + x + 1."""
+    total = 0
+    for place in range(8):
+        total ^= a if b >> place & 1 else 0
+        a = a << 1 ^ (0x11b if a >> 7 else 0)
+    return total
+
+
+def substituted(byte):
+    """What the standard's S-box makes of a byte: the sum of five bits of its inverse in the place of each, and 0x63."""
+    inverse = next((other for other in range(256) if times(byte, other) == 1), 0)
+    sums = sum((sum(inverse >> (place + step) % 8 & 1 for step in (0, 4, 5, 6, 7)) % 2) << place for place in range(8))
+    return sums ^ 0x63
+
+
+def s_boxes_are_the_standards(program, top):
+    """By each tower and each root an S-box has 36 products in four layers, and comes to what the standard says."""
+    runs = [number % 256 for number in range(INPUTS)]
+    table = [substituted(byte) for byte in range(256)]
+    wanted = wires_of([[table[byte]] for byte in runs], [8])
+    for box in boxes():
+        c = Circuit([8])
+        text = c.text([box.substitute(c, *c.inputs)])
+        name = f'{box.norms} {box.basis}'
+        expect(text.count('AND') == 36 and max(c.depths) == 4, f'{name}: {text.count("AND")} products, depth {max(c.depths)}')
+        found = last_wires(circuit_of(text.encode()), wires_of([[byte] for byte in runs], [8]), INPUTS, BY_RUNS)
+        expect(found == wanted, f'{name}: another S-box')
+    expect(len(boxes()) == 128, f'{len(boxes())} S-boxes')
+
+
+# The examples of FIPS 197 in its appendices B and C.1: a key, a block, and the encrypted block.
+ENCRYPTED = [('2b7e151628aed2a6abf7158809cf4f3c', '3243f6a8885a308d313198a2e0370734', '3925841d02dc09fbdc118597196a0b32'),
+             ('000102030405060708090a0b0c0d0e0f', '00112233445566778899aabbccddeeff', '69c4e0d86a7b0430d8cdb78070b4c55a')]
+
+
+def aes_is_the_standards(program, top):
+    """A block is encrypted as the standard's examples say, in the clear, by a run and by nodes, by the circuit as it is made and in layers."""
+    for number, (key, block, encrypted) in enumerate(ENCRYPTED):
+        made, sorted_job = (os.path.join(top, f'{number}_{order}') for order in ('made', 'layers'))
+        wrote(AES, 'make', made, key, block)
+        shutil.copytree(made, sorted_job)
+        os.remove(os.path.join(sorted_job, 'aes.txt'))
+        told = wrote(BY_LAYERS, os.path.join(made, 'aes.txt'), os.path.join(sorted_job, 'aes.txt'), program)
+        expect(told == 'products 7200 depth 40 rounds 2402 rounds_in_layers 42\n', told)
+        for folder in (made, sorted_job):
+            files = {file.name: file.read_bytes() for file in pathlib.Path(folder).iterdir()}
+            done = subprocess.run([program, 'run', folder], capture_output=True, text=True, timeout=MOST_SECONDS)
+            for out in (out_in_the_clear(files), done.stdout, wrote(NODES, 'run', folder, program)):
+                found = wrote(AES, 'read', folder, given=out)
+                expect(found == f'study reads {encrypted}\n', f'{key} {block}: {done.stderr} {found}')
+    expect(wrote(AES_CIRCUIT) == pathlib.Path(made, 'aes.txt').read_text(), 'aes_circuit.py prints another circuit')
+    for words in [['0' * 32, '0' * 31], ['0' * 32, '0' * 33], ['x' * 32, '0' * 32], ['-' + '0' * 31, '0' * 32], ['0' * 32, '٣' * 32]]:
+        expect_one_line(call(AES, 'make', os.path.join(top, 'none'), *words), f'job.py make {words}', 'job.py: ')
+    expect(not os.path.exists(os.path.join(top, 'none')), 'a refused call wrote a folder')
+    expect_one_line(call(AES, 'make', made, *ENCRYPTED[0][:2]), 'a folder that has a job', 'job.py: ')
+    for out in ['', 'out 0 0 study 1\n', 'out 0 0 hospital ' + '2 ' * 128]:
+        expect_one_line(call(AES, 'read', made, given=out), f'job.py read of {out[:20]!r}', 'job.py: ')
+
+
 def circuits_have_limits(program, top):
     for words in [['add', '1025', '1'], ['multiply', '3000'], ['greatest', '1024', '129'], ['add', '1024', '64'], ['less', '0'], ['less', '-1'],
                   ['less', 'x'], ['less'], ['less', '4', '4'], ['lesser', '4'], ['second', '1', '4'], ['count', '9' * 50],
@@ -335,7 +397,8 @@ def odd_folders(program, top):
         if number % 12 == 0:
             expect_one_line(call(NUMBERS, 'write', folder, 'a', '5', '--replace'), name, 'numbers.py: ')
             expect_one_line(call(NUMBERS, 'read', folder, given='out 0 0 c 35\n'), name, 'numbers.py: ')
-            expect_one_line(call(AUCTION, 'read', folder, given='out 0 0 c 35\n'), name, 'job.py: ')
+            for script in (AUCTION, AES):
+                expect_one_line(call(script, 'read', folder, given='out 0 0 c 35\n'), name, 'job.py: ')
             expect_one_line(call(SPREAD, folder, given='out 0 0 c 35\n'), name, 'spread.py: ')
             done = call(NODES, 'split', folder, os.path.join(top, f'nodes_{number}'))
             if done.returncode != 0:
@@ -543,11 +606,12 @@ def nodes_are_split(program, top):
 OTHER_WORDS = [(NUMBERS, words) for words in ([], ['write'], ['write', 'j'], ['read'], ['read', 'j', '--divide'], ['read', 'j', '--divide', 'x'],
                                               ['read', 'j', '--divide', '-4'], ['make', 'j'], ['read', 'j', 'k'])] + [
     (CIRCUITS, []), (CIRCUITS, ['job']), (CIRCUITS, ['job', 'f']), (EXPRESSIONS_SCRIPT, []), (EXPRESSIONS_SCRIPT, ['compile', 'f']), (AUCTION, []), (AUCTION, ['read']), (AUCTION, ['make']),
-    (BY_LAYERS, []), (BY_LAYERS, ['a', 'b', 'c', 'd']), (NODES, []), (NODES, ['run']), (NODES, ['split', 'j']), (NODES, ['split', 'j', 'f', '--hosts', 'h'])]
+    (BY_LAYERS, []), (BY_LAYERS, ['a', 'b', 'c', 'd']), (AES, []), (AES, ['make', 'f', '0' * 32]), (AES, ['read']), (AES_CIRCUIT, ['f']),
+    (NODES, []), (NODES, ['run']), (NODES, ['split', 'j']), (NODES, ['split', 'j', 'f', '--hosts', 'h'])]
 
 
 def helps_are_there(program, top):
-    for script in (NUMBERS, CIRCUITS, BY_LAYERS, EXPRESSIONS_SCRIPT, AUCTION, SPREAD, NODES):
+    for script in (NUMBERS, CIRCUITS, BY_LAYERS, EXPRESSIONS_SCRIPT, AUCTION, SPREAD, AES, AES_CIRCUIT, NODES):
         expect(script.name in wrote(script, '--help'), f'no help of {script.name}')
         expect(os.access(script, os.X_OK), f'{script} is no program')
     for script, words in OTHER_WORDS:
@@ -555,8 +619,9 @@ def helps_are_there(program, top):
         expect(done.returncode == 2 and not done.stdout and f'{script.name} '.encode() in done.stderr, f'{script.name} {words}: {done}')
 
 
-CASES = [circuits_are_their_numbers, layers_are_together, circuits_come_into_layers, circuits_have_limits, numbers_come_back, numbers_are_signed_and_divided,
-         numbers_that_do_not_fit, other_lines_are_refused, views_are_passed_over, outputs_that_fail, odd_folders, links_and_folders,
+CASES = [circuits_are_their_numbers, layers_are_together, circuits_come_into_layers, s_boxes_are_the_standards, aes_is_the_standards,
+         circuits_have_limits, numbers_come_back, numbers_are_signed_and_divided, numbers_that_do_not_fit, other_lines_are_refused,
+         views_are_passed_over, outputs_that_fail, odd_folders, links_and_folders,
          changed_jobs_are_read_or_refused, expressions_are_words, refusals_are_those_of_the_rows,
          circuits_come_to_the_rows, examples_have_their_circuits, expressions_are_refused_in_one_line, an_auction_of_two, jobs_of_calls, ports_of_the_job_are_taken,
          nodes_beside_one_another, a_node_that_fails_stops_the_others, a_node_that_waits_is_told, nodes_are_split, helps_are_there]
