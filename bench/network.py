@@ -7,9 +7,9 @@ its messages and bytes, its rounds, the least time of the nodes and that of the 
 links on which each byte takes 20 milliseconds (relay.py). Ends with status 1 where a node fails or writes anything else than 'mpc run' does.
 
 Bytes are those that all nodes send: a hello of 38 bytes to each peer, and 18 bytes a message, of which the word itself is at least ring_bits. A
-round is a run of slots that says something and of which none waits for another. The rounds seen are those of a run in which nobody gets anything before
-all nodes have been quiet for 20 milliseconds. The least rounds that the protocol would need for the circuit are
-the products on its longest path, one for the inputs and one for the outputs: those of the circuit in layers.
+round is a run of slots that says something and of which none waits for another. The rounds seen are those of a run over links that hold all that is sent
+until every node waits (relay.py). The least rounds that the protocol would need for the circuit are the products on its longest path, one for the
+inputs and one for the outputs: those of the circuit in layers.
 """
 
 import os
@@ -32,7 +32,7 @@ from relay import Relay, Steps  # noqa: E402
 # The example of appendix B of FIPS 197.
 KEY, BLOCK = '2b7e151628aed2a6abf7158809cf4f3c', '3243f6a8885a308d313198a2e0370734'
 
-# Seconds that each byte takes from one node to another, and for which nodes have to be quiet.
+# Seconds that each byte takes from one node to another.
 DELAY = 0.02
 
 
@@ -42,10 +42,12 @@ def texts_of(outputs, names):
     return [''.join(line for line in lines if line.split()[3] == name) for name in names]
 
 
-def time_nodes(program, folder, names, expected, environment=None):
+def time_nodes(program, folder, names, expected, relay=None):
     started = time.perf_counter()
-    running = [subprocess.Popen([program, 'node', os.path.join(folder, name), name], stdin=subprocess.DEVNULL,
-                                stdout=subprocess.PIPE, stderr=subprocess.PIPE, text=True, env=environment) for name in names]
+    running = [subprocess.Popen([program, 'node', os.path.join(folder, name), name], stdin=subprocess.DEVNULL, stdout=subprocess.PIPE,
+                                stderr=subprocess.PIPE, text=True, env=relay and relay.environment) for name in names]
+    if relay:
+        relay.processes = [node.pid for node in running]
     answers = [node.communicate() for node in running]
     taken = time.perf_counter() - started
     for name, node, (out, err), wanted in zip(names, running, answers, expected):
@@ -70,9 +72,9 @@ def row(program, name, job, times):
         port = read_fields(os.path.join(folder, names[0]))['port']
         ports = [port + 12 * q + p for q in range(3) for p in range(3) if p != q]
         with Relay(ports, DELAY, folder) as relay:
-            delayed = time_nodes(program, folder, names, expected, relay.environment)
-        with Steps(ports, DELAY, folder) as steps:
-            time_nodes(program, folder, names, expected, steps.environment)
+            delayed = time_nodes(program, folder, names, expected, relay)
+        with Steps(ports, folder) as steps:
+            time_nodes(program, folder, names, expected, steps)
         alone = min(time_alone(program, job) for _ in range(times))
     messages = int(re.search(r'^messages (\d+)$', check, re.M)[1])
     parties = len(names)

@@ -1,14 +1,16 @@
 """Stands between nodes on this machine as a network does that takes its time: each byte arrives so many seconds after it was sent.
 
 Relay(ports, delay, folder) is used as a context. Nodes that listen at these ports are reached through it by nodes that are started with its
-'environment', which leads their connections to ports further on, by redirect.c. Steps(ports, quiet, folder) holds what is sent until no node has
-sent anything for so many seconds, then passes all of it on, and counts how often: those are the rounds of the nodes, as long as none of
-them takes longer to go on. It needs Linux with the GNU C library, and a C compiler.
+'environment', which leads their connections to ports further on, by redirect.c. Steps(ports, folder) is used likewise, and is told the
+processes of the nodes. It holds all that is sent until every node waits, then passes it on at once, and counts how often: those are the rounds of the
+nodes, but for one more at times where the machine is busy. It needs Linux with the GNU C library, and a C compiler.
 """
 
 import contextlib
 import os
+import pathlib
 import queue
+import select
 import socket
 import subprocess
 import threading
@@ -20,10 +22,13 @@ HOST = '127.0.0.1'
 # How far on the relay listens. The ports of a job are 144 at most.
 SHIFT = 200
 
+# Seconds without a byte after which nodes that sleep are taken to wait for one another.
+QUIET = 0.005
+
 
 class Relay:
     def __init__(self, ports, delay, folder):
-        self.ports, self.delay = ports, delay
+        self.ports, self.delay, self.processes = ports, delay, []
         library = os.path.join(folder, 'redirect.so')
         subprocess.run(['cc', '-O2', '-shared', '-fPIC', '-o', library, os.path.join(HERE, 'redirect.c')], check=True)
         self.environment = {**os.environ, 'LD_PRELOAD': library, 'PORT_SHIFT': str(SHIFT)}
@@ -69,38 +74,34 @@ class Relay:
 
 
 class Steps(Relay):
-    def __init__(self, ports, quiet, folder):
-        super().__init__(ports, quiet, folder)
-        self.lock = threading.Lock()
-        # How often pieces were passed on, the links that are there and those that have ended, what is held, and when that last changed.
-        self.count, self.links, self.ended, self.held, self.last = 0, 0, 0, [], time.monotonic()
-
-    def __enter__(self):
-        threading.Thread(target=self.go_on, daemon=True).start()
-        return super().__enter__()
+    def __init__(self, ports, folder):
+        super().__init__(ports, 0, folder)
+        self.count, self.links, self.lock, self.ended = 0, {}, threading.Lock(), threading.Event()
 
     def hear(self, taken, made):
+        """Waits for the other links. The thread of the last one goes on with all of them."""
         with self.lock:
-            self.links += 1
-        try:
-            while piece := taken.recv(65_536):
-                self.hold(made, piece)
-        finally:
-            self.hold(made, b'')
-
-    def hold(self, made, piece):
-        with self.lock:
-            self.held.append((made, piece))
-            self.last = time.monotonic()
+            self.links[taken] = made
+            last = len(self.links) == len(self.ports)
+        if last:
+            self.go_on()
+            self.ended.set()
+        self.ended.wait()
 
     def go_on(self):
-        """Passes on what is held once all nodes are there and have been quiet for long enough, until each link has ended."""
-        while self.ended < len(self.ports):
-            time.sleep(self.delay / 20)
-            with self.lock:
-                if self.held and self.links == len(self.ports) and time.monotonic() - self.last >= self.delay:
-                    pieces, self.held = self.held, []
-                    self.pass_all(pieces)
+        """Goes step by step. A node that waits sends nothing more before something is passed on to it, so all that was sent is there then."""
+        held = []
+        while self.links:
+            all_wait = not any(map(is_busy, self.processes))
+            heard = select.select(list(self.links), [], [], QUIET)[0]
+            for taken in heard:
+                piece = taken.recv(65_536)
+                held.append((self.links[taken], piece))
+                if not piece:
+                    del self.links[taken]
+            if all_wait and not heard:
+                self.pass_all(held)
+                held = []
 
     def pass_all(self, pieces):
         """Passes on pieces, of which an empty one ends its link. Ends by themselves don't count."""
@@ -108,7 +109,15 @@ class Steps(Relay):
         for made, piece in pieces:
             with contextlib.suppress(OSError):
                 made.sendall(piece) if piece else made.close()
-            self.ended += not piece
+
+
+def is_busy(process):
+    """Whether a thread of a process runs, or is about to."""
+    states = []
+    for path in pathlib.Path(f'/proc/{process}/task').glob('*/stat'):
+        with contextlib.suppress(OSError):
+            states.append(path.read_text().rpartition(')')[2].split()[0])
+    return not {'R', 'D'}.isdisjoint(states)
 
 
 def connected(port):
