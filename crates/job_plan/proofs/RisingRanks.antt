@@ -1,13 +1,20 @@
--- Ranks rise along the messages of a slot.
-use Rattle.std.proofs.Common.{◌≡◌, ℕ, zero, suc, ◌+◌, ◌*◌, ◌<◌, ◌≤◌, Bool, true, false, not, ◌&&◌, nat_eq, List, [], ◌∷◌, ◌++◌, length, subst, arith}
-use Rattle.std.specs.Prelude.{slice_index, slice_index_or}
+-- Ranks rise along the lines of a pattern.
+use Rattle.std.proofs.Common.{◌≡◌, ℕ, zero, suc, ◌+◌, ◌*◌, ◌<◌, ◌≤◌, Bool, true, false, not, ◌&&◌, nat_eq, List, [], ◌∷◌, ◌++◌, map, length, subst, ap, arith}
+use Rattle.std.specs.Prelude.{slice_index_or}
+use Rattle.std.proofs.lemmas.List.{length-map}
 use Rattle.list_laws.specs.Lists.{joined, only_if}
-use Rattle.job_session.specs.Sessions.{Slot, owners}
-use Rattle.job_plan.specs.Plans.{Plan, session, holds, deals_in, opens_to}
-use Rattle.job_session.specs.Sessions.Slot.{Input, At_gate, Output}
-use Rattle.job_plan.specs.Messages.{slot_messages, deal_message, deal_messages, open_messages}
-use Rattle.job_plan.specs.Numbers.{no_key, opens, rank, IsRising}
-use Rattle.job_plan.proofs.TallyLaws.{open_message}
+use Rattle.secret_sharing.specs.Schemes.{has_pair}
+use Rattle.party_set.specs.Parties.{has_party}
+use Rattle.job_plan.specs.declared.pattern.Line.{Line}
+use Rattle.job_plan.specs.declared.pattern.LineOrder.{LineOrder}
+use Rattle.job_plan.specs.declared.pattern.LineOrder.TheVariants.{BySender, ByReceiver}
+use Rattle.job_plan.specs.declared.pattern.Pattern.{Pattern}
+use Rattle.job_plan.specs.declared.pattern.Pattern.TheVariants.{Silent, Dealt, Multiplied, Opened}
+use Rattle.job_plan.specs.Plans.{Plan, scheme, holds}
+use Rattle.job_plan.specs.Numbers.{rank, IsRising}
+use Rattle.job_plan.specs.Patterns.{named, deal_line, deal_lines, open_lines, lines, order_of}
+use Rattle.job_plan.proofs.RankSearch.{no_line, named_at}
+use Rattle.job_plan.proofs.SlotPatterns.{open_line}
 
 -- f rises along the list, from lo on and to below hi
 abbrev Rise : {A : Type 0} → (A → ℕ) → ℕ → ℕ → List A → Type 0
@@ -54,31 +61,41 @@ rise_at f lo hi (x ∷ xs) (suc i) zero d h l b = absurd (omega arith)
 rise_at f lo hi (x ∷ xs) (suc i) (suc j) d h l b = rise_at f (f x + 1) hi xs i j d h.1 (omega arith) (omega arith)
 
 module _ (plan : Plan) (s k : ℕ) (parties : plan.parties ≤ 12) (shares : length plan.groups ≤ 64) where
-  deal_rises : (p : ℕ) → Rise (rank false) (p * 768) (p * 768 + 768) (deal_messages plan s k p)
+  -- the rank of a line's message
+  abbrev rank_of : LineOrder → Line → ℕ
+  rank_of order line = rank order (named s k line)
+
+  deal_rises : (p : ℕ) → Rise (rank_of BySender) (p * 768) (p * 768 + 768) (deal_lines plan p)
   deal_rises p =
-      let row : (i : ℕ) → Rise (rank false) (p * 768 + i * 12) (p * 768 + i * 12 + 12) (joined plan.parties (deal_message plan s k p i)) = λ i.
-      rise_wider (rank false) (p * 768 + i * 12) (p * 768 + i * 12 + plan.parties * 1) (p * 768 + i * 12 + 12) (joined plan.parties (deal_message plan s k p i)) (omega arith)
-      (rise_joined (rank false) (p * 768 + i * 12) 1 plan.parties (deal_message plan s k p i) (λ q lq. rise_one (rank false) (p * 768 + i * 12 + q * 1) (p * 768 + i * 12 + q * 1 + 1) (not (nat_eq q p) && holds plan q i) _ (omega arith) (omega arith))) in
-      rise_wider (rank false) (p * 768) (p * 768 + length plan.groups * 12) (p * 768 + 768) (deal_messages plan s k p) (omega arith)
-      (rise_joined (rank false) (p * 768) 12 (length plan.groups) (λ i. joined plan.parties (deal_message plan s k p i)) (λ i li. row i))
+      let row : (i : ℕ) → Rise (rank_of BySender) (p * 768 + i * 12) (p * 768 + i * 12 + 12) (joined plan.parties (deal_line plan p i)) = λ i.
+      rise_wider (rank_of BySender) (p * 768 + i * 12) (p * 768 + i * 12 + plan.parties * 1) (p * 768 + i * 12 + 12) (joined plan.parties (deal_line plan p i)) (omega arith)
+      (rise_joined (rank_of BySender) (p * 768 + i * 12) 1 plan.parties (deal_line plan p i) (λ q lq. rise_one (rank_of BySender) (p * 768 + i * 12 + q * 1) (p * 768 + i * 12 + q * 1 + 1) (not (nat_eq q p) && holds plan q i) _ (omega arith) (omega arith))) in
+      rise_wider (rank_of BySender) (p * 768) (p * 768 + length plan.groups * 12) (p * 768 + 768) (deal_lines plan p) (omega arith)
+      (rise_joined (rank_of BySender) (p * 768) 12 (length plan.groups) (λ i. joined plan.parties (deal_line plan p i)) (λ i li. row i))
 
-  open_rises : (r : ℕ) → r < plan.parties → Rise (rank true) (r * 768) (r * 768 + 768) (open_messages plan s k r)
-  open_rises r lr =
-      rise_wider (rank true) (r * 768) (r * 768 + length plan.groups * 12) (r * 768 + 768) (open_messages plan s k r) (omega arith)
-      (rise_joined (rank true) (r * 768) 12 (length plan.groups) (open_message plan s k r) (λ i li. rise_one (rank true) (r * 768 + i * 12) (r * 768 + i * 12 + 12) (not (holds plan r i)) _ (omega arith) (omega arith)))
+  open_rises : (r : ℕ) → Rise (rank_of ByReceiver) (r * 64) (r * 64 + 64) (open_lines plan r)
+  open_rises r =
+      rise_wider (rank_of ByReceiver) (r * 64) (r * 64 + length plan.groups * 1) (r * 64 + 64) (open_lines plan r) (omega arith)
+      (rise_joined (rank_of ByReceiver) (r * 64) 1 (length plan.groups) (open_line plan r) (λ i li. rise_one (rank_of ByReceiver) (r * 64 + i * 1) (r * 64 + i * 1 + 1) (not (holds plan r i)) _ (omega arith) (omega arith)))
 
-  slot_rises : (z : Slot) → (lo : ℕ) × (hi : ℕ) × Rise (rank (opens z)) lo hi (slot_messages plan s k z)
-  slot_rises (Input v) = let p : ℕ = slice_index (owners (session plan s)) v in (p * 768, p * 768 + 768, deal_rises p)
-  slot_rises (At_gate t) = (
+  pattern_rises : (pattern : Pattern) → (lo : ℕ) × (hi : ℕ) × Rise (rank_of (order_of pattern)) lo hi (lines plan pattern)
+  pattern_rises Silent = (0, 0, omega arith)
+  pattern_rises (Dealt p) = (p * 768, p * 768 + 768, deal_rises p)
+  pattern_rises Multiplied = (
     0,
     0 + plan.parties * 768,
-    rise_joined (rank false) 0 768 plan.parties _ (λ p lp. rise_only_if (rank false) (0 + p * 768) (0 + p * 768 + 768) (deals_in plan s p (At_gate t)) (deal_messages plan s k p) (omega arith) (let none : p * 768 ≡ 0 + p * 768 = omega arith in subst (λ z. Rise (rank false) z (z + 768) (deal_messages plan s k p)) none (deal_rises p))),
+    rise_joined (rank_of BySender) 0 768 plan.parties _ (λ p lp. rise_only_if (rank_of BySender) (0 + p * 768) (0 + p * 768 + 768) (has_pair (scheme plan) p) (deal_lines plan p) (omega arith) (let none : p * 768 ≡ 0 + p * 768 = omega arith in subst (λ z. Rise (rank_of BySender) z (z + 768) (deal_lines plan p)) none (deal_rises p))),
   )
-  slot_rises (Output o) = (
+  pattern_rises (Opened readers) = (
     0,
-    0 + plan.parties * 768,
-    rise_joined (rank true) 0 768 plan.parties _ (λ r lr. rise_only_if (rank true) (0 + r * 768) (0 + r * 768 + 768) (opens_to plan s r (Output o)) (open_messages plan s k r) (omega arith) (let none : r * 768 ≡ 0 + r * 768 = omega arith in subst (λ z. Rise (rank true) z (z + 768) (open_messages plan s k r)) none (open_rises r lr))),
+    0 + plan.parties * 64,
+    rise_joined (rank_of ByReceiver) 0 64 plan.parties _ (λ r lr. rise_only_if (rank_of ByReceiver) (0 + r * 64) (0 + r * 64 + 64) (has_party readers r) (open_lines plan r) (omega arith) (let none : r * 64 ≡ 0 + r * 64 = omega arith in subst (λ z. Rise (rank_of ByReceiver) z (z + 64) (open_lines plan r)) none (open_rises r))),
   )
 
-  pub slot_is_rising : (z : Slot) → IsRising (rank (opens z)) (slot_messages plan s k z)
-  slot_is_rising z i j l b = let all = slot_rises z in rise_at (rank (opens z)) all.0 all.1 (slot_messages plan s k z) i j no_key all.2 l b
+  -- in the order of the pattern
+  pub lines_rise : (pattern : Pattern) → IsRising (rank (order_of pattern)) (map (named s k) (lines plan pattern))
+  lines_rise pattern i j l b =
+      let all = pattern_rises pattern in
+      let long = length-map (lines plan pattern) (named s k) in
+      let rises = rise_at (rank_of (order_of pattern)) all.0 all.1 (lines plan pattern) i j no_line all.2 l (omega arith) in
+      omega (arith, rises, ap (rank (order_of pattern)) (named_at s k (lines plan pattern) i (omega arith)), ap (rank (order_of pattern)) (named_at s k (lines plan pattern) j (omega arith)))

@@ -1,10 +1,11 @@
--- Where the messages of a slot begin, and the deals of a session.
-use Rattle.std.specs.Prelude.{ℕ, ◌+◌, List, length}
+-- Where the messages of a slot begin, and the words and deals of a session.
+use Rattle.std.specs.Prelude.{◌≡◌, ℕ, ◌+◌, ◌≤◌, List, length, slice_index}
 use Rattle.std.specs.List.{range_with_len}
 use Rattle.list_laws.specs.Lists.{total, listed}
-use Rattle.job_plan.specs.Plans.{Plan, slot, slots}
+use Rattle.job_plan.specs.Plans.{Plan, slot, slots, words_in, words, place}
 use Rattle.job_plan.specs.Messages.{slot_messages}
 use Rattle.job_plan.specs.Numbers.{deals}
+use Rattle.job_plan.specs.Tallies.{tape_length}
 
 -- how many messages stand in slot k of session s
 abbrev pub count : Plan → ℕ → ℕ → ℕ
@@ -29,6 +30,22 @@ session_starts plan s = listed (slots plan s + 1) (first plan s)
 -- so for each session
 abbrev pub starts_of : Plan → List (List ℕ)
 starts_of plan = listed (length plan.sessions) (session_starts plan)
+
+-- how many tape words p draws before each session, and at the end in all
+abbrev pub word_starts : Plan → ℕ → List ℕ
+word_starts plan p = listed (length plan.sessions + 1) (λ s. total s (words plan p))
+
+-- so for each party
+abbrev pub word_starts_of : Plan → List (List ℕ)
+word_starts_of plan = listed plan.parties (word_starts plan)
+
+-- the places on p's tape: each session's first is the one that its table has, each slot's are behind those of the slot
+-- before it, each session's behind those of the session before it, and the last is the end of the tape
+pub record PlacesByWords (plan : Plan) (p : ℕ) : Type 0 where
+  pub table : (s : ℕ) → s ≤ length plan.sessions → slice_index (word_starts plan p) s ≡ place plan p s 0
+  pub next_slot : (s k : ℕ) → place plan p s (k + 1) ≡ place plan p s k + words_in plan s p (slot plan s k)
+  pub next_session : (s : ℕ) → place plan p (s + 1) 0 ≡ place plan p s (slots plan s)
+  pub end : place plan p (length plan.sessions) 0 ≡ tape_length plan p
 
 -- how many deals p makes before each session, and at the end in all
 abbrev pub deal_starts : Plan → ℕ → List ℕ

@@ -1,11 +1,11 @@
 -- The numbers of messages, and the places of tape words.
-use Rattle.std.specs.Prelude.{◌≡◌, ℕ, ◌+◌, ◌-◌, ◌*◌, ◌<◌, Bool, true, false, ◌&&◌, nat_eq, List, length, slice_index_or, if◌then◌else◌}
+use Rattle.std.specs.Prelude.{◌≡◌, ℕ, ◌+◌, ◌-◌, ◌*◌, ◌<◌, Bool, ◌&&◌, nat_eq, List, length, slice_index_or, if◌then◌else◌}
 use Rattle.std.specs.List.{position_or_len}
 use Rattle.list_laws.specs.Lists.{total}
-use Rattle.job_session.specs.Sessions.{Slot}
-use Rattle.job_plan.specs.Plans.{Plan, slot, slots, words_in, place, deals_in}
+use Rattle.job_plan.specs.Plans.{Plan, slot, slots, words_in, words, place, deals_in}
 use Rattle.job_plan.specs.declared.key.Key.{Key}
-use Rattle.job_session.specs.Sessions.Slot.{Output}
+use Rattle.job_plan.specs.declared.pattern.LineOrder.{LineOrder}
+use Rattle.job_plan.specs.declared.pattern.LineOrder.TheVariants.{BySender, ByReceiver}
 use Rattle.job_plan.specs.Messages.{messages}
 
 -- two keys name the same message
@@ -26,14 +26,10 @@ message plan n = slice_index_or (messages plan) n no_key
 abbrev pub number : Plan → Key → ℕ
 number plan key = position_or_len (same_key key) (messages plan)
 
--- whether a slot is one of openings
-abbrev pub opens : Slot → Bool
-opens (Output o) = true
-opens _ = false
-
--- what rises along the messages of a slot: openings stand by receiver and share, deals by sender, share and receiver
-abbrev pub rank : Bool → Key → ℕ
-rank by_receiver key = ((if by_receiver then key.receiver else key.sender) * 64 + key.share) * 12 + key.receiver
+-- what rises along messages that stand in this order: by sender, summand and receiver, or by receiver and summand
+abbrev pub rank : LineOrder → Key → ℕ
+rank BySender key = (key.sender * 64 + key.share) * 12 + key.receiver
+rank ByReceiver key = key.receiver * 64 + key.share
 
 -- f rises along the keys
 abbrev pub IsRising : (Key → ℕ) → List Key → Type 0
@@ -63,10 +59,12 @@ deals_before plan p s k = total k (λ j. if deals_in plan s p (slot plan s j) th
 abbrev pub deals : Plan → ℕ → ℕ → ℕ
 deals plan p s = deals_before plan p s (slots plan s)
 
--- the place on p's tape of the first word of deal d of session s
+-- the place on p's tape of the first word of deal d of session s, behind the words of the sessions before and those of
+-- the deals before it
 abbrev pub deal_place : Plan → ℕ → ℕ → ℕ → ℕ
-deal_place plan p s d = (length plan.groups - 1) * (total s (deals plan p) + d)
+deal_place plan p s d = total s (words plan p) + (length plan.groups - 1) * d
 
--- the place of a deal by its number
+-- all words are drawn for deals, so that places follow from the number of deals before them
 abbrev pub PlacesByDeals : Plan → ℕ → Type 0
-PlacesByDeals plan p = (s k : ℕ) → place plan p s k ≡ deal_place plan p s (deals_before plan p s k)
+PlacesByDeals plan p =
+    (s k : ℕ) → place plan p s k ≡ (length plan.groups - 1) * (total s (deals plan p) + deals_before plan p s k)

@@ -6,6 +6,8 @@ use Rattle.secret_sharing.specs.Schemes.{has_pair}
 use Rattle.party_set.specs.Parties.{has_party}
 use Rattle.job_plan.specs.declared.key.Key.{Key}
 use Rattle.job_plan.specs.declared.pattern.Line.{Line}
+use Rattle.job_plan.specs.declared.pattern.LineOrder.{LineOrder}
+use Rattle.job_plan.specs.declared.pattern.LineOrder.TheVariants.{BySender, ByReceiver}
 use Rattle.job_plan.specs.declared.pattern.Pattern.{Pattern}
 use Rattle.job_plan.specs.declared.pattern.Pattern.TheVariants.{Silent, Dealt, Multiplied, Opened}
 use Rattle.job_session.specs.Sessions.{Slot, readers, gate}
@@ -40,6 +42,13 @@ lines plan Silent = []
 lines plan (Dealt p) = deal_lines plan p
 lines plan Multiplied = joined plan.parties (λ p. only_if (has_pair (scheme plan) p) (deal_lines plan p))
 lines plan (Opened readers) = joined plan.parties (λ r. only_if (has_party readers r) (open_lines plan r))
+
+-- the order in which the lines of a pattern stand: openings by their receivers, all others by their senders
+abbrev pub order_of : Pattern → LineOrder
+order_of Silent = BySender
+order_of (Dealt p) = BySender
+order_of Multiplied = BySender
+order_of (Opened readers) = ByReceiver
 
 -- ---- the pattern of a slot
 

@@ -1,7 +1,7 @@
 //! How many messages and tape words a plan has, found without making a list of them.
 ghost use Rattle.std.specs.Prelude.{◌≡◌, ℕ, ◌^◌, ◌<◌, ◌≤◌, ◌&&◌, nat_eq, not, length};
 ghost use Rattle.list_laws.specs.Lists.{total, joined};
-ghost use Rattle.job_plan.specs.Plans.{holds, session};
+ghost use Rattle.job_plan.specs.Plans.{holds, session, words};
 ghost use Rattle.job_plan.specs.Messages.{deal_message, deal_messages, open_messages, messages};
 ghost use Rattle.job_plan.specs.Numbers.{deals};
 ghost use Rattle.job_session.specs.Counts.{outputs_read};
@@ -72,6 +72,16 @@ pub(crate) fn deal_count(outline: &Outline, p: u32, s: u32) -> u32
     (part.owned(p) + products) as u32
 }
 
+/// How many tape words party `p` draws in session `s`.
+pub(crate) fn session_words(outline: &Outline, p: u32, s: u32) -> u32
+    requires party { p < outline.now.parties }
+    requires session { s < length outline.now.sessions }
+    ensures is { result ≡ words outline.now p s }
+    ensures few { result ≤ 12386304 }
+{
+    (outline.shares() - 1) * deal_count(outline, p, s)
+}
+
 // How many deals p makes in all sessions.
 fn all_deals(outline: &Outline, p: u32) -> u64
     requires { p < outline.now.parties }
@@ -124,5 +134,9 @@ pub(crate) fn word_count(outline: &Outline, p: u32) -> u64
     requires { p < outline.now.parties }
     ensures { result ≡ tape_length outline.now p }
 {
-    u64::from(outline.shares() - 1) * all_deals(outline, p)
+    let mut count = 0;
+    for s in 0..outline.sessions() {
+        count += u64::from(session_words(outline, p, s));
+    }
+    count
 }

@@ -1,6 +1,7 @@
 //! Laws of slots and of the numbering.
 ghost use Rattle.std.specs.Prelude.{ℕ};
 ghost use Rattle.job_plan.specs.Plans.{Plan, SlotsAreListed, SlotsAreNumbered};
+ghost use Rattle.job_plan.specs.Firsts.{PlacesByWords};
 ghost use Rattle.job_plan.specs.Numbers.{NumbersAreInverse, PlacesDiffer, PlacesByDeals};
 ghost use Rattle.job_plan.specs.Patterns.{SlotsFollowPatterns};
 
@@ -16,9 +17,11 @@ pub fn numbers_are_inverse()
     ensures { (plan : Plan) → NumbersAreInverse plan }
 {}
 
-/// No tape word of a party serves two deals, and a deal's words stand behind those of the deals before it.
+/// No tape word of a party serves twice, and a slot's words stand behind those of the slots before it: a party's table
+/// has the places where its sessions begin. All words are drawn for deals.
 pub fn places_are_apart()
     ensures apart { (plan : Plan) (p : ℕ) → PlacesDiffer plan p }
+    ensures by_words { (plan : Plan) (p : ℕ) → PlacesByWords plan p }
     ensures by_deals { (plan : Plan) (p : ℕ) → PlacesByDeals plan p }
 {}
 

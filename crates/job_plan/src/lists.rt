@@ -1,10 +1,11 @@
-//! Lists where the messages of each slot begin, and each party's deals.
+//! Lists where the messages of each slot begin, and each party's words and deals.
 ghost use Rattle.std.specs.Prelude.{◌≡◌, ◌<◌, ◌≤◌, IfOk, length};
 ghost use Rattle.job_plan.specs.Messages.{messages};
-ghost use Rattle.job_plan.specs.Firsts.{first, session_starts, starts_of, deal_starts, deal_starts_of};
+ghost use Rattle.job_plan.specs.Firsts.{first, session_starts, starts_of};
+ghost use Rattle.job_plan.specs.Firsts.{word_starts, word_starts_of, deal_starts, deal_starts_of};
 ghost use Rattle.job_plan.specs.Tables.{AreLines};
 
-use crate::counts::deal_count;
+use crate::counts::{deal_count, session_words};
 use crate::outline::Outline;
 use crate::patterns::Patterns;
 use crate::starts::Starts;
@@ -51,6 +52,32 @@ pub(crate) fn list_starts(
         let starts = list_starts_of(alloc, outline, patterns, s, before)?;
         before = starts.at(outline.part(s).slots());
         list.push(starts)?;
+    }
+    Ok(list)
+}
+
+// How many tape words p draws in the sessions before each, and at the end in all.
+fn list_words_of(alloc: Global, outline: &Outline, p: u32) -> Result<Starts, AllocError>
+    requires { p < outline.now.parties }
+    ensures { IfOk result (λ made. made ≡ word_starts outline.now p) }
+{
+    let mut starts = Vec::new(alloc);
+    let mut count = 0;
+    for s in 0..outline.sessions() {
+        starts.push(count)?;
+        count += session_words(outline, p, s);
+    }
+    starts.push(count)?;
+    Ok(Starts::of(starts))
+}
+
+/// For each party, how many tape words it draws in the sessions before each, and at the end in all.
+pub(crate) fn list_words(alloc: Global, outline: &Outline) -> Result<Vec<Starts>, AllocError>
+    ensures { IfOk result (λ made. made.items ≡ word_starts_of outline.now) }
+{
+    let mut list = Vec::new(alloc);
+    for p in 0..outline.parties() {
+        list.push(list_words_of(alloc, outline, p)?)?;
     }
     Ok(list)
 }

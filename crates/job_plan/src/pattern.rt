@@ -40,3 +40,27 @@ pub enum Pattern {
     /// An output is opened to this group of readers, as a mask.
     Opened(u32),
 }
+
+impl Pattern {
+    ghost use Rattle.std.specs.Prelude.{◌≡◌};
+    ghost use Rattle.job_plan.specs.Patterns.{order_of};
+
+    /// The order in which the messages stand.
+    pub(crate) fn order(self) -> LineOrder
+        ensures { result ≡ order_of self }
+    {
+        match self {
+            Pattern::Silent | Pattern::Dealt(_) | Pattern::Multiplied => LineOrder::BySender,
+            Pattern::Opened(_) => LineOrder::ByReceiver,
+        }
+    }
+}
+
+/// The order in which the messages of a slot stand.
+#[derive(Clone, Copy, Debug, PartialEq, Eq)]
+pub(crate) enum LineOrder {
+    /// By sender, then summand, then receiver.
+    BySender,
+    /// By receiver, then summand.
+    ByReceiver,
+}

@@ -6,7 +6,7 @@ ghost use Rattle.job_plan.specs.Limits.{IsPlanWithin, IsPlanRefusal};
 
 use crate::counts::{message_count, word_count};
 use crate::key::Key;
-use crate::lists::{list_deals, list_starts};
+use crate::lists::{list_deals, list_starts, list_words};
 use crate::outline::Outline;
 use crate::pattern::{Line, Pattern};
 use crate::patterns::Patterns;
@@ -30,6 +30,7 @@ pub struct Plan {
     count: u32,
     patterns: Patterns,
     starts: Vec<Starts>,
+    words: Vec<Starts>,
     deals: Vec<Starts>,
 }
 
@@ -41,7 +42,7 @@ impl Model for Plan {
 
     ghost view = { λ p. p.outline };
 
-    ghost invariant = { λ p. IsLaid p.outline p.count p.patterns p.starts.items p.deals.items };
+    ghost invariant = { λ p. IsLaid p.outline p.count p.patterns p.starts.items p.words.items p.deals.items };
 }
 
 impl Plan {
@@ -53,7 +54,7 @@ impl Plan {
     ghost use Rattle.secret_sharing.specs.Schemes.{has_pair};
     ghost use Rattle.job_plan.specs.Messages.{messages, slot_messages};
     ghost use Rattle.job_plan.specs.Patterns.{named, lines, pattern_at, Occurs};
-    ghost use Rattle.job_plan.specs.Numbers.{message, number, opens, deals, deals_before, deal_place};
+    ghost use Rattle.job_plan.specs.Numbers.{message, number, deals, deals_before, deal_place};
     ghost use Rattle.job_session.specs.SoundSessions.{IsSoundSession};
     ghost use Rattle.job_plan.specs.Sound.{IsSound};
     ghost use Rattle.job_plan.specs.Firsts.{first};
@@ -81,6 +82,7 @@ impl Plan {
             count,
             patterns,
             starts,
+            words,
             deals,
         } = tables;
         Ok(Plan {
@@ -88,6 +90,7 @@ impl Plan {
             count,
             patterns,
             starts,
+            words,
             deals,
         })
     }
@@ -232,7 +235,8 @@ impl Plan {
             return None;
         }
         let lines = self.slot_lines(key.session, key.slot);
-        let at = search(lines, self.opens(key.session, key.slot), key)?;
+        let order = self.pattern(key.session, key.slot).order();
+        let at = search(lines, order, key)?;
         Some(self.first(key.session, key.slot) + at as u32)
     }
 
@@ -244,15 +248,6 @@ impl Plan {
         ensures sound { IsSound self.now }
     {
         self.patterns.lines(self.pattern(s, k))
-    }
-
-    // Whether slot k of session s is one of openings.
-    fn opens(&self, s: u32, k: u32) -> bool
-        requires session { s < length self.now.sessions }
-        requires slot { k < slots self.now s }
-        ensures { result ≡ opens (slot self.now s k) }
-    {
-        matches!(self.pattern(s, k), Pattern::Opened(_))
     }
 
     /// How many slots session `s` has.
@@ -297,11 +292,23 @@ impl Plan {
         requires session { s < length self.now.sessions }
         ensures { result ≡ words self.now p s }
     {
-        (self.shares() - 1) * self.deals(p, s)
+        let start = self.tape_start(p, s);
+        self.tape_start(p, s + 1) - start
     }
 
-    /// The place on party `p`'s tape, which holds the words of all sessions, of the first word of deal `deal` of
-    /// session `s`. At the count of its deals, the place behind them.
+    /// The place on party `p`'s tape, which holds the words of all sessions, of the first word that it draws in session
+    /// `s`. At the count of sessions, the end of the tape.
+    pub fn tape_start(&self, p: u32, s: u32) -> u32
+        requires party { p < self.now.parties }
+        requires session { s ≤ length self.now.sessions }
+        ensures is { result ≡ place self.now p s 0 }
+        ensures sound { IsSound self.now }
+    {
+        self.words[p as usize].at(s)
+    }
+
+    /// The place on party `p`'s tape of the first word of deal `deal` of session `s`, behind the words of the sessions
+    /// and deals before it. At the count of its deals, the place behind them.
     pub fn tape_place(&self, p: u32, s: u32, deal: u32) -> u32
         requires party { p < self.now.parties }
         requires session { s < length self.now.sessions }
@@ -309,7 +316,7 @@ impl Plan {
         ensures is { result ≡ deal_place self.now p s deal }
         ensures in_slot { (k : ℕ) → deal ≡ deals_before self.now p s k → result ≡ place self.now p s k }
     {
-        (self.shares() - 1) * (self.deals_before(p, s) + deal)
+        self.tape_start(p, s) + (self.shares() - 1) * deal
     }
 
     // How many deals p makes in the sessions before s.
@@ -332,13 +339,14 @@ struct Tables {
     count: u32,
     patterns: Patterns,
     starts: Vec<Starts>,
+    words: Vec<Starts>,
     deals: Vec<Starts>,
 }
 
 // The tables of a plan, unless it is refused.
 fn tables_of(alloc: Global, outline: &Outline) -> Result<Tables, PlanFault>
     ensures laid { IfOk result (λ made.
-        IsLaid outline.now made.count made.patterns made.starts.items made.deals.items) }
+        IsLaid outline.now made.count made.patterns made.starts.items made.words.items made.deals.items) }
     ensures limits { MatchResult result (λ _. IsPlanWithin outline.now) (IsPlanRefusal outline.now) }
 {
     let _ = outline.parties();
@@ -350,11 +358,13 @@ fn tables_of(alloc: Global, outline: &Outline) -> Result<Tables, PlanFault>
     let count = count as u32;
     let patterns = Patterns::make(alloc, outline)?;
     let starts = list_starts(alloc, outline, &patterns)?;
+    let words = list_words(alloc, outline)?;
     let deals = list_deals(alloc, outline)?;
     Ok(Tables {
         count,
         patterns,
         starts,
+        words,
         deals,
     })
 }

@@ -4,33 +4,34 @@ ghost use Rattle.job_plan.specs.Numbers.{no_key, rank, IsRising};
 ghost use Rattle.job_plan.specs.Patterns.{named};
 
 use crate::key::Key;
-use crate::pattern::Line;
+use crate::pattern::{Line, LineOrder};
 
-// Openings stand by receiver and share, deals by sender, share and receiver.
-fn rank(by_receiver: bool, key: Key) -> u64
-    ensures { result ≡ rank by_receiver key }
+// What rises along the messages of a slot that stand in this order.
+fn rank(order: LineOrder, key: Key) -> u64
+    ensures { result ≡ rank order key }
 {
-    let first = if by_receiver {
-        key.receiver
-    } else {
-        key.sender
-    };
-    (u64::from(first) * 64 + u64::from(key.share)) * 12 + u64::from(key.receiver)
+    let share = u64::from(key.share);
+    match order {
+        LineOrder::BySender => {
+            (u64::from(key.sender) * 64 + share) * 12 + u64::from(key.receiver)
+        }
+        LineOrder::ByReceiver => u64::from(key.receiver) * 64 + share,
+    }
 }
 
-/// Where the key stands among these lines of its slot, None exactly where it isn't there.
-pub(crate) fn search(lines: &[Line], by_receiver: bool, key: Key) -> Option<usize>
-    requires { IsRising (rank by_receiver) (map (named key.session key.slot) lines.now) }
+/// Where the key stands among these lines of its slot, which stand in this order; None exactly where it isn't there.
+pub(crate) fn search(lines: &[Line], order: LineOrder, key: Key) -> Option<usize>
+    requires { IsRising (rank order) (map (named key.session key.slot) lines.now) }
     ensures within { IfSome result (λ i. i < length lines.now) }
     ensures found { IfSome result (λ i.
         slice_index_or (map (named key.session key.slot) lines.now) i no_key ≡ key) }
     ensures absent { IfNone result ((i : ℕ) → i < length lines.now
         → slice_index_or (map (named key.session key.slot) lines.now) i no_key ≢ key) }
 {
-    let wanted = rank(by_receiver, key);
+    let wanted = rank(order, key);
     match lines.binary_search_by_key(
         &wanted,
-        |line| rank(by_receiver, line.named(key.session, key.slot)),
+        |line| rank(order, line.named(key.session, key.slot)),
     ) {
         Ok(at) if lines[at].named(key.session, key.slot) == key => Some(at),
         _ => None,

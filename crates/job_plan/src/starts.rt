@@ -5,7 +5,7 @@ ghost use Rattle.std.specs.List.Sorted.{IsNonDecreasing};
 use std::marker::Model;
 
 /// Where each part begins, counted over all parts before it, and at the end where the next one would: the messages
-/// of the slots of a session, or the deals of a party's sessions.
+/// of the slots of a session, or the words or deals of a party's sessions.
 #[derive(Drop)]
 pub struct Starts {
     list: Vec<u32>,

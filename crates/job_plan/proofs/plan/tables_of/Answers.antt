@@ -24,5 +24,6 @@ returns-clause-laid c = record {
   counted = c.message_count-count.ensures;
   lines = c.in_ok-patterns.ensures;
   begin = c.in_ok-starts.ensures;
+  drawn = c.in_ok-words.ensures;
   dealt = c.in_ok-deals.ensures;
 }

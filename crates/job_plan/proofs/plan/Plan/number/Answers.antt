@@ -2,13 +2,14 @@ use Rattle.std.proofs.Common.{◌<◌, map, length, ap, sym, subst, ◌∙◌, a
 use Rattle.std.specs.Prelude.{slice_index_or, SomeIff}
 use Rattle.std.proofs.lemmas.List.{length-map}
 use Rattle.job_plan.specs.Plans.{slot, slots}
-use Rattle.job_plan.specs.Messages.{messages, slot_messages}
-use Rattle.job_plan.specs.Patterns.{named}
-use Rattle.job_plan.specs.Numbers.{number, no_key, opens, rank, IsRising}
+use Rattle.job_plan.specs.Messages.{messages}
+use Rattle.job_plan.specs.Patterns.{named, order_of, pattern_at}
+use Rattle.job_plan.specs.Numbers.{number, no_key, rank, IsRising}
 use Rattle.job_plan.specs.Firsts.{count}
 use Rattle.job_plan.proofs.SlotMessages.{number_within}
 use Rattle.job_plan.proofs.MessageSlots.{is_there, number_is}
-use Rattle.job_plan.proofs.RisingRanks.{slot_is_rising}
+use Rattle.job_plan.proofs.RisingRanks.{lines_rise}
+use Rattle.job_plan.proofs.SlotPatterns.{slots_follow_patterns}
 use Rattle.job_plan.proofs.plan.Plan.number.Goals as goal
 use Rattle.job_plan.proofs.plan.Plan.number.Goals.{then-key-sessions-via-then-key-sessions, then-key-sessions-via-else-key-sessions+then-key-slots}
 
@@ -24,9 +25,12 @@ pub search-requires : goal.search-requires
 search-requires c =
     let plan = c.args.self.now in
     let sound = c.slot_lines-lines.ensures.sound in
-    let at = slot plan c.args.key.session c.args.key.slot in
-    let rising : IsRising (rank (opens at)) (slot_messages plan c.args.key.session c.args.key.slot at) = slot_is_rising plan c.args.key.session c.args.key.slot sound.parties sound.groups at in
-    subst (λ o. IsRising (rank o) (map (named c.args.key.session c.args.key.slot) c.slot_lines-lines.result.now)) (sym c.opens.ensures) (subst (IsRising (rank (opens at))) (sym c.slot_lines-lines.ensures.is) rising)
+    let s = c.args.key.session in
+    let k = c.args.key.slot in
+    let own = pattern_at plan s k in
+    let are = c.slot_lines-lines.ensures.is ∙ slots_follow_patterns plan s k (slot plan s k) in
+    subst (λ order. IsRising (rank order) (map (named s k) c.slot_lines-lines.result.now)) (sym (c.order-order.ensures ∙ ap order_of c.pattern.ensures.is))
+    (subst (IsRising (rank (order_of own))) (sym are) (lines_rise plan s k sound.parties sound.groups own))
 
 pub returns-in_err-at : goal.returns-in_err-at
 returns-in_err-at c =

@@ -1,0 +1,11 @@
+use Rattle.std.proofs.Common.{◌≡◌, ◌*◌, ◌≤◌}
+use Rattle.list_laws.specs.Lists.{total, listed}
+use Rattle.job_plan.specs.Plans.{words}
+use Rattle.job_plan.proofs.lists.list_words_of.Given as goal
+
+abbrev pub invariant-loop-s : goal.invariant-loop-s
+invariant-loop-s l = record {
+  is : l.count ≡ total l.s (words l.outline l.p);
+  few : l.count ≤ 12386304 * l.s;
+  starts : l.starts.items ≡ listed l.s (λ s. total s (words l.outline l.p));
+}
