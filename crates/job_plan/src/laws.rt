@@ -17,12 +17,15 @@ pub fn numbers_are_inverse()
     ensures { (plan : Plan) → NumbersAreInverse plan }
 {}
 
-/// No tape word of a party serves twice, and a slot's words stand behind those of the slots before it: a party's table
-/// has the places where its sessions begin. All words are drawn for deals.
+/// No tape word of a party serves twice, and a slot's words stand behind those of the slots before it.
 pub fn places_are_apart()
     ensures apart { (plan : Plan) (p : ℕ) → PlacesDiffer plan p }
     ensures by_words { (plan : Plan) (p : ℕ) → PlacesByWords plan p }
-    ensures by_deals { (plan : Plan) (p : ℕ) → PlacesByDeals plan p }
+{}
+
+/// All words are drawn for deals, so that a slot's place follows from the number of deals before it.
+pub fn words_are_drawn_for_deals()
+    ensures { (plan : Plan) (p : ℕ) → PlacesByDeals plan p }
 {}
 
 /// The messages of a slot are the lines of its pattern, named by the slot.
