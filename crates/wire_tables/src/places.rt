@@ -14,7 +14,7 @@ pub fn first_places(alloc: Global, plan: &Plan, s: u32) -> Result<Vec<u32>, Allo
 {
     let mut places = Vec::new(alloc);
     for p in 0..plan.parties() {
-        places.push(plan.tape_place(p, s, 0))?;
+        places.push(plan.tape_start(p, s))?;
     }
     Ok(places)
 }

@@ -1,4 +1,4 @@
-use Rattle.std.proofs.Common.{◌≡◌, ℕ, length, refl, ap, ◌∙◌, arith}
+use Rattle.std.proofs.Common.{◌≡◌, ℕ, length, ap, ◌∙◌, arith}
 use Rattle.std.specs.Prelude.{slice_index}
 use Rattle.list_laws.proofs.JoinedLists.{length-listed, listed_at}
 use Rattle.job_plan.specs.Plans.{place}
@@ -8,7 +8,7 @@ use Rattle.wire_tables.proofs.places.first_places.Goals as goal
 pub loop-p-preserved : goal.loop-p-preserved
 loop-p-preserved c =
     c.in_ok-push.ensures.items
-    ∙ listed_push c.loop-p.p (λ p. place c.args.plan.now p c.args.s 0) c.loop-p.places.items c.tape_place.result c.loop-p.invariant (c.tape_place.ensures.in_slot 0 refl)
+    ∙ listed_push c.loop-p.p (λ p. place c.args.plan.now p c.args.s 0) c.loop-p.places.items c.tape_start.result c.loop-p.invariant c.tape_start.ensures.is
 
 pub returns : goal.returns
 returns c =
