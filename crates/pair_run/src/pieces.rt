@@ -20,7 +20,7 @@ fn piece_of(alloc: Global, plan: &Plan, tape: &[u64], p: u32, s: u32) -> Result<
     ensures { IfOk result (λ piece. piece
         ≡ take (words plan.now p s) (drop (place plan.now p s 0) tape.now)) }
 {
-    let at = plan.tape_place(p, s, 0) as usize;
+    let at = plan.tape_start(p, s) as usize;
     let count = plan.words(p, s) as usize;
     let words = Vec::from_slice(alloc, &tape[at..at + count])?;
     match Tape::from_words(plan.ring(), words) {
