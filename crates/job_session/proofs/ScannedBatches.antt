@@ -1,25 +1,28 @@
 -- The batches after one slot more.
-use Rattle.std.proofs.Common.{◌≡◌, ℕ, zero, suc, ◌+◌, ◌-◌, ◌<◌, ◌≤◌, Bool, true, false, ◌&&◌, ◌||◌, List, [], ◌∷◌, ◌++◌, length, replicate, set, inl, inr, Some, None, refl, sym, ◌∙◌, ap, subst, arith, length-set, length-append}
+use Rattle.std.proofs.Common.{◌≡◌, ℕ, zero, suc, ◌+◌, ◌-◌, ◌<◌, ◌≤◌, Bool, true, false, ◌&&◌, ◌||◌, List, [], ◌∷◌, ◌++◌, length, replicate, set, take, inl, inr, Some, None, refl, sym, ◌∙◌, ap, subst, arith, length-set, length-append}
 use Rattle.std.specs.Prelude.{nat_eq, nat_le, slice_index, slice_index_or, Option, if◌then◌else◌}
 use Rattle.std.specs.List.{list_any}
 use Rattle.std.proofs.Math.ListN.{get_or-append}
 use Rattle.std.proofs.Math.Seq.{get_or-append_right}
 use Rattle.std.proofs.lemmas.List.{get_or_default, get_or-replicate, length-replicate}
-use Rattle.std.proofs.lemmas.Bool.{cases_Bool, cases_eq, cases_lt, cond-true, cond-false, or_cases, or_left, or_right, and_parts, and_from, both_ways, eq-eqb, eqb-true, le-leb, leb-true, false≢true}
+use Rattle.std.proofs.lemmas.Bool.{cases_Bool, cases_eq, cases_lt, cond-true, cond-false, or_cases, or_left, or_right, and_parts, and_from, both_ways, eq-eqb, eqb-true, le-leb, leb-true, false≢true, false_from_ne_true}
 use Rattle.list_laws.specs.Lists.{only_if}
 use Rattle.list_laws.proofs.Tests.{or_false}
 use Rattle.circuit_model.specs.declared.gate.Gate.{Gate}
 use Rattle.circuit_model.specs.Circuits.{is_product}
+use Rattle.circuit_model.specs.Netlists.{arity, inputs_read, read_by}
+use Rattle.circuit_model.specs.declared.gate.Operation.{Operation}
+use Rattle.circuit_model.specs.declared.gate.Operation.TheVariants.{Add, Sub, Mul, Neg, Eq, Eqw, And, Xor, Inv}
 use Rattle.job_session.specs.declared.batch_scan.BatchScan.{BatchScan}
 use Rattle.job_session.specs.Sessions.{Session, Slot, gate, no_gate, owners, session_slot, session_slots}
 use Rattle.job_session.specs.KeptWires.{reads_in, slot_reads}
 use Rattle.job_session.specs.SoundSessions.{IsWired}
 use Rattle.job_session.specs.Wirings.{is_named}
 use Rattle.job_session.specs.Batches.{batch, completes, slot_completes, waits, waits_for, IsBatch, AreBatchEnds}
-use Rattle.job_session.specs.BatchScans.{stamp, IsBatchScan, AreReads, IsCompleted, has_stamp}
+use Rattle.job_session.specs.BatchScans.{stamp, IsBatchScan, IsGateSlot, AreReads, IsCompleted, has_stamp}
 use Rattle.job_session.proofs.SessionSlots.{slot_input, slot_gate, slot_output, slot_cases}
 use Rattle.job_session.proofs.KeptRows.{one_wire, some_found, some_at}
-use Rattle.job_session.proofs.LastReads.{zeros_at, one_written}
+use Rattle.job_session.proofs.LastReads.{gate_reads, zeros_at, one_written}
 use Rattle.job_session.proofs.ScannedSlots.{same_bool}
 use Rattle.job_session.proofs.BatchOrder.{batch_within, same_batch, first_same, rising, next_begins, next_joins}
 
@@ -38,14 +41,20 @@ completes_within s k w wired l = slot_cases s (λ k z. list_any (nat_eq w) (comp
     (λ o lo e. absurd (false≢true e))
     k l
 
-pub gate_completes : (s : Session) (n t : ℕ) (g : Gate) (wire : Option ℕ) → t < length s.gates → n ≡ length (owners s) → g ≡ slice_index_or s.gates t g
-    → ((w : ℕ) → is_named wire w ≡ (is_product g.operation && nat_eq w g.output)) → IsCompleted s (n + t) wire
-gate_completes s n t g wire l inputs is named = record {
-  is = λ w.
-      ap (λ (k : ℕ). slot_completes s (k + t) w) inputs ∙ ap (λ (z : Slot). list_any (nat_eq w) (completes s z)) (slot_gate s t l)
-      ∙ ap (λ (h : Gate). list_any (nat_eq w) (only_if (is_product h.operation) (h.output ∷ []))) (get_or_default s.gates t no_gate g l ∙ sym is)
-      ∙ only_one (is_product g.operation) w g.output ∙ sym (named w);
-}
+-- the slot of a gate
+pub gate_slot : (s : Session) (n t : ℕ) (g : Gate) → IsWired s → t < length s.gates → n ≡ length (owners s) → g ≡ slice_index_or s.gates t g → IsGateSlot s (n + t) g
+gate_slot s n t g wired l inputs is =
+    let own : gate s t ≡ g = get_or_default s.gates t no_gate g l ∙ sym is in
+    record {
+      first = subst (λ (h : Gate). h.first < s.wires) own (wired.first t l);
+      second = subst (λ (h : Gate). h.second < s.wires) own (wired.second t l);
+      output = subst (λ (h : Gate). h.output < s.wires) own (wired.output t l);
+      reads = λ w. gate_reads s n t w g l inputs is;
+      completes = λ w.
+          ap (λ (k : ℕ). slot_completes s (k + t) w) inputs ∙ ap (λ (z : Slot). list_any (nat_eq w) (completes s z)) (slot_gate s t l)
+          ∙ ap (λ (h : Gate). list_any (nat_eq w) (only_if (is_product h.operation) (h.output ∷ []))) own
+          ∙ only_one (is_product g.operation) w g.output;
+    }
 
 -- ---- stamps
 
@@ -130,6 +139,16 @@ read_from s k one two stamps n w reads e is = elim (or_cases (is_named one w) (i
   | inr second ↦ or_right (has_stamp one stamps n) (has_stamp two stamps n) (stamp_from two stamps n w second is)
 ]
 
+waits_found : (s : Session) (i : ℕ) (stamps : List ℕ) (n : ℕ) → ((w : ℕ) → slice_index stamps w ≡ stamp s (suc i) w) → n ≡ suc (batch s i) → waits s (batch s i) (suc i) ≡ true
+    → (w : ℕ) × (slot_reads s (suc i) w ≡ true) × (slice_index stamps w ≡ n)
+waits_found s i stamps n are is e =
+    let found = some_found (suc i) (λ j. nat_le (batch s i) j && waits_for s (suc i) j) e in
+    let parts = and_parts (nat_le (batch s i) found.0) (waits_for s (suc i) found.0) found.2 in
+    let read = any_found (slot_completes s found.0) (reads_in s (session_slot s (suc i))) parts.1 in
+    let later = rising s (batch s i) found.0 (leb-true (batch s i) found.0 parts.0) in
+    let same : slice_index stamps read.0 ≡ n = omega (arith, are read.0, is, later, first_same s i, stamped_most s i read.0, stamped_least s (suc i) found.0 read.0 found.1 read.2) in
+    (read.0, read.1, same)
+
 waits_by_stamps : (s : Session) (i : ℕ) (one two : Option ℕ) (stamps : List ℕ) (n : ℕ) → AreReads s (suc i) one two → ((w : ℕ) → slice_index stamps w ≡ stamp s (suc i) w)
     → n ≡ suc (batch s i) → either_stamped one two stamps n ≡ waits s (batch s i) (suc i)
 waits_by_stamps s i one two stamps n reads are is = same_bool (either_stamped one two stamps n) (waits s (batch s i) (suc i))
@@ -140,13 +159,7 @@ waits_by_stamps s i one two stamps n reads are is = same_bool (either_stamped on
     some_at (suc i) (λ j. nat_le (batch s i) j && waits_for s (suc i) j) found.0 found.1
     (and_from (nat_le (batch s i) found.0) (waits_for s (suc i) found.0) (le-leb (batch s i) found.0 from)
     (any_from (slot_completes s found.0) (reads_in s (session_slot s (suc i))) read.0 read.1 found.2)))
-    (λ e.
-    let found = some_found (suc i) (λ j. nat_le (batch s i) j && waits_for s (suc i) j) e in
-    let parts = and_parts (nat_le (batch s i) found.0) (waits_for s (suc i) found.0) found.2 in
-    let read = any_found (slot_completes s found.0) (reads_in s (session_slot s (suc i))) parts.1 in
-    let later = rising s (batch s i) found.0 (leb-true (batch s i) found.0 parts.0) in
-    let same : slice_index stamps read.0 ≡ n = omega (arith, are read.0, is, later, first_same s i, stamped_most s i read.0, stamped_least s (suc i) found.0 read.0 found.1 read.2) in
-    read_from s (suc i) one two stamps n read.0 reads read.1 same)
+    (λ e. let read = waits_found s i stamps n are is e in read_from s (suc i) one two stamps n read.0 reads read.1 read.2)
 
 -- a slot begins a batch exactly if it reads such a wire
 pub batch_by_stamps : (s : Session) (k : ℕ) (one two : Option ℕ) (scan : BatchScan) (b : Bool) → AreReads s k one two → IsBatchScan s (k - 1) k scan
@@ -158,6 +171,39 @@ batch_by_stamps s (suc i) one two scan b reads v is =
     let first : scan.first ≡ batch s i = v.first ∙ ap (batch s) before in
     let waits_is : b ≡ waits s (batch s i) (suc i) = is ∙ waits_by_stamps s i one two scan.stamps.items (scan.first + 1) reads v.stamps (omega arith) in
     (λ e. next_begins s i (sym waits_is ∙ e), λ e. next_joins s i (sym waits_is ∙ e) ∙ ap (batch s) (sym before))
+
+-- a gate reads wires in its fields alone
+named_in : (o : Operation) (a b w : ℕ) → list_any (nat_eq w) (inputs_read o (take (arity o) (a ∷ b ∷ []))) ≡ true → (nat_eq w a || nat_eq w b) ≡ true
+named_in Add a b w e = ap (λ z. nat_eq w a || z) (sym (or_false (nat_eq w b))) ∙ e
+named_in Sub a b w e = ap (λ z. nat_eq w a || z) (sym (or_false (nat_eq w b))) ∙ e
+named_in Mul a b w e = ap (λ z. nat_eq w a || z) (sym (or_false (nat_eq w b))) ∙ e
+named_in And a b w e = ap (λ z. nat_eq w a || z) (sym (or_false (nat_eq w b))) ∙ e
+named_in Xor a b w e = ap (λ z. nat_eq w a || z) (sym (or_false (nat_eq w b))) ∙ e
+named_in Neg a b w e = or_left (nat_eq w a) (nat_eq w b) (sym (or_false (nat_eq w a)) ∙ e)
+named_in Inv a b w e = or_left (nat_eq w a) (nat_eq w b) (sym (or_false (nat_eq w a)) ∙ e)
+named_in Eqw a b w e = or_left (nat_eq w a) (nat_eq w b) (sym (or_false (nat_eq w a)) ∙ e)
+named_in Eq a b w e = absurd (false≢true e)
+
+read_named : (g : Gate) (w : ℕ) → list_any (nat_eq w) (read_by g) ≡ true → (is_named (Some g.first) w || is_named (Some g.second) w) ≡ true
+read_named g w e = named_in g.operation g.first g.second w e
+
+-- so it is of the batch of the slot before it where none of those has the stamp
+pub gate_goes_on : (s : Session) (k : ℕ) (g : Gate) (scan : BatchScan) → IsGateSlot s k g → IsBatchScan s (k - 1) k scan
+    → (has_stamp (Some g.first) scan.stamps.items (scan.first + 1) || has_stamp (Some g.second) scan.stamps.items (scan.first + 1)) ≡ false → batch s k ≡ batch s (k - 1)
+gate_goes_on s zero g scan slot v none = refl
+gate_goes_on s (suc i) g scan slot v none =
+    let before : suc i - 1 ≡ i = omega arith in
+    let first : scan.first ≡ batch s i = v.first ∙ ap (batch s) before in
+    let stamps = scan.stamps.items in
+    let n = scan.first + 1 in
+    next_joins s i (false_from_ne_true (waits s (batch s i) (suc i)) (λ e.
+        let read = waits_found s i stamps n v.stamps (omega (arith, first)) e in
+        let named = read_named g read.0 (sym (slot.reads read.0) ∙ read.1) in
+        both_ways (either_stamped (Some g.first) (Some g.second) stamps n) none (elim (or_cases (is_named (Some g.first) read.0) (is_named (Some g.second) read.0) named) [
+          | inl one ↦ or_left (has_stamp (Some g.first) stamps n) (has_stamp (Some g.second) stamps n) (stamp_from (Some g.first) stamps n read.0 one read.2)
+          | inr two ↦ or_right (has_stamp (Some g.first) stamps n) (has_stamp (Some g.second) stamps n) (stamp_from (Some g.second) stamps n read.0 two read.2)
+        ])))
+    ∙ ap (batch s) (sym before)
 
 -- ---- one slot more
 

@@ -1,5 +1,9 @@
 -- Batches that are found slot by slot.
-use Rattle.std.specs.Prelude.{◌≡◌, ℕ, zero, suc, ◌<◌, nat_eq, Bool, false, ◌||◌, if◌then◌else◌, List, length, slice_index, Option, Some, None}
+use Rattle.std.specs.Prelude.{◌≡◌, ℕ, zero, suc, ◌<◌, nat_eq, Bool, false, ◌&&◌, ◌||◌, if◌then◌else◌, List, length, slice_index, Option, Some, None}
+use Rattle.std.specs.List.{list_any}
+use Rattle.circuit_model.specs.Circuits.{is_product}
+use Rattle.circuit_model.specs.Netlists.{read_by}
+use Rattle.circuit_model.specs.declared.gate.Gate.{Gate}
 use Rattle.job_session.specs.declared.batch_scan.BatchScan.{BatchScan}
 use Rattle.job_session.specs.Sessions.{Session}
 use Rattle.job_session.specs.KeptWires.{slot_reads}
@@ -26,6 +30,14 @@ pub record AreReads (s : Session) (k : ℕ) (one two : Option ℕ) : Type 0 wher
 -- the wire that slot k completes, if there is one
 pub record IsCompleted (s : Session) (k : ℕ) (wire : Option ℕ) : Type 0 where
   pub is : (w : ℕ) → slot_completes s k w ≡ is_named wire w
+
+-- slot k is of this gate, whose fields name wires
+pub record IsGateSlot (s : Session) (k : ℕ) (g : Gate) : Type 0 where
+  pub first : g.first < s.wires
+  pub second : g.second < s.wires
+  pub output : g.output < s.wires
+  pub reads : (w : ℕ) → slot_reads s k w ≡ list_any (nat_eq w) (read_by g)
+  pub completes : (w : ℕ) → slot_completes s k w ≡ (is_product g.operation && nat_eq w g.output)
 
 -- the wire, if there is one, has this stamp
 abbrev pub has_stamp : Option ℕ → List ℕ → ℕ → Bool

@@ -19,10 +19,10 @@ pub(crate) struct BatchScan {
 }
 
 impl BatchScan {
-    ghost use Rattle.std.specs.Prelude.{◌≡◌, ℕ, ◌+◌, ◌-◌, ◌<◌, ◌≤◌, true, ◌||◌, ◌++◌, IfOk, OnOk, length, replicate};
+    ghost use Rattle.std.specs.Prelude.{◌≡◌, ℕ, ◌+◌, ◌-◌, ◌<◌, ◌≤◌, true, ◌||◌, ◌++◌, IfOk, OnOk, Some, length, replicate};
     ghost use Rattle.job_session.specs.Sessions.{Session, session_slots};
     ghost use Rattle.job_session.specs.Batches.{AreBatchEnds};
-    ghost use Rattle.job_session.specs.BatchScans.{AreReads, IsBatchScan, IsCompleted, has_stamp};
+    ghost use Rattle.job_session.specs.BatchScans.{AreReads, IsBatchScan, IsCompleted, IsGateSlot, has_stamp};
     ghost use Rattle.job_session.specs.Wirings.{IsWiring, is_named, session_in};
 
     // Before the first slot, over so many wires, with room for the ends of so many slots.
@@ -57,9 +57,39 @@ impl BatchScan {
         Ok(())
     }
 
-    // Slot `k` is of the batch that is begun, unless it reads a wire that a slot of it completes: then it begins
-    // another.
+    // Slot `k`, of this gate.
     #[inline(always)]
+    fn step_gate(&mut self, k: u32, gate: Gate, wiring: &Wiring) -> Result<(), AllocError>
+        requires wiring { IsWiring wiring.now }
+        requires slot { k < session_slots (session_in wiring.now) }
+        requires gate { IsGateSlot (session_in wiring.now) k gate }
+        requires scan { IsBatchScan (session_in wiring.now) (k - 1) k self.old }
+        ensures { OnOk result (IsBatchScan (session_in wiring.now) k (k + 1) self.new) }
+    {
+        self.begin_gate(k, gate, wiring)?;
+        self.complete(completed(gate));
+        Ok(())
+    }
+
+    // The same as `begin`. Its operation tells which wires a gate reads, and is looked at only where one of those in its
+    // fields has the stamp of the batch.
+    #[inline(always)]
+    fn begin_gate(&mut self, k: u32, gate: Gate, wiring: &Wiring) -> Result<(), AllocError>
+        requires wiring { IsWiring wiring.now }
+        requires slot { k < session_slots (session_in wiring.now) }
+        requires gate { IsGateSlot (session_in wiring.now) k gate }
+        requires scan { IsBatchScan (session_in wiring.now) (k - 1) k self.old }
+        ensures { OnOk result (IsBatchScan (session_in wiring.now) k k self.new) }
+    {
+        if self.names_stamped(gate) {
+            return self.begin(k, read_wires(gate), wiring);
+        }
+        Ok(())
+    }
+
+    // Slot `k` is of the batch that is begun, unless it reads a wire that a slot of it completes: then it begins
+    // another. It is out of line, since few gates come to it.
+    #[inline(never)]
     fn begin(
         &mut self,
         k: u32,
@@ -92,7 +122,6 @@ impl BatchScan {
     }
 
     // Whether one of these wires has the stamp of the batch that is begun.
-    #[inline(always)]
     fn waits(&self, reads: (Option<u32>, Option<u32>)) -> bool
         requires first { (w : ℕ) → is_named reads.0 w ≡ true → w < length self.now.stamps.items }
         requires second { (w : ℕ) → is_named reads.1 w ≡ true → w < length self.now.stamps.items }
@@ -104,8 +133,20 @@ impl BatchScan {
         self.is_stamped(first) || self.is_stamped(second)
     }
 
-    // Whether the wire, if there is one, has the stamp of the batch that is begun.
+    // Whether a wire in the fields of the gate has the stamp of the batch that is begun.
     #[inline(always)]
+    fn names_stamped(&self, gate: Gate) -> bool
+        requires first { gate.first < length self.now.stamps.items }
+        requires second { gate.second < length self.now.stamps.items }
+        requires few { self.now.first < 4294967295 }
+        ensures { result ≡ (has_stamp (Some gate.first) self.now.stamps.items (self.now.first + 1)
+            || has_stamp (Some gate.second) self.now.stamps.items (self.now.first + 1)) }
+    {
+        let stamp = self.first + 1;
+        self.stamps[gate.first as usize] == stamp || self.stamps[gate.second as usize] == stamp
+    }
+
+    // Whether the wire, if there is one, has the stamp of the batch that is begun.
     fn is_stamped(&self, wire: Option<u32>) -> bool
         requires within { (w : ℕ) → is_named wire w ≡ true → w < length self.now.stamps.items }
         requires few { self.now.first < 4294967295 }
@@ -167,7 +208,7 @@ pub(crate) fn batch_ends(alloc: Global, wiring: &Wiring) -> Result<Vec<u32>, All
     }
     for t in 0..gates {
         let gate = wiring.gates[t as usize];
-        scan.step(inputs + t, read_wires(gate), completed(gate), wiring)?;
+        scan.step_gate(inputs + t, gate, wiring)?;
     }
     for o in 0..wiring.readers.len() as u32 {
         let read = (Some(wiring.output_wire(o)), None);

@@ -1,25 +1,16 @@
 use Rattle.std.proofs.Common.{◌≡◌, ◌+◌, ◌-◌, ◌<◌, length, ap, arith, ◌∙◌}
 use Rattle.job_session.specs.Sessions.{owners, session_slots}
 use Rattle.job_session.specs.Wirings.{session_in}
-use Rattle.job_session.proofs.LastReads.{gate_reads}
-use Rattle.job_session.proofs.ScannedBatches.{gate_completes, same_slots}
+use Rattle.job_session.proofs.ScannedBatches.{gate_slot, same_slots}
 use Rattle.job_session.proofs.batch_scan.batch_ends.Goals as goal
 
-pub step-requires-in-loop-t-clause-reads : goal.step-requires-in-loop-t-clause-reads
-step-requires-in-loop-t-clause-reads c =
+pub step_gate-requires-clause-gate : goal.step_gate-requires-clause-gate
+step_gate-requires-clause-gate c =
     let s = session_in c.args.wiring.now in
     let n = c.len-inputs.result in
     let inputs : n ≡ length (owners s) = omega (arith, c.len-inputs.ensures, ap length c.requires.owned) in
     let within : c.loop-t.t < length s.gates = omega (arith, c.loop-t-test.true, c.len-gates.ensures) in
-    record { are = λ w. gate_reads s n c.loop-t.t w c.index-gate.result.now within inputs c.index-gate.ensures ∙ c.read_wires.ensures w }
-
-pub step-requires-in-loop-t-clause-completes : goal.step-requires-in-loop-t-clause-completes
-step-requires-in-loop-t-clause-completes c =
-    let s = session_in c.args.wiring.now in
-    let n = c.len-inputs.result in
-    let inputs : n ≡ length (owners s) = omega (arith, c.len-inputs.ensures, ap length c.requires.owned) in
-    let within : c.loop-t.t < length s.gates = omega (arith, c.loop-t-test.true, c.len-gates.ensures) in
-    gate_completes s n c.loop-t.t c.index-gate.result.now c.completed.result within inputs c.index-gate.ensures c.completed.ensures
+    gate_slot s n c.loop-t.t c.index-gate.result.now c.requires.wired within inputs c.index-gate.ensures
 
 pub loop-t-init : goal.loop-t-init
 loop-t-init c =
@@ -30,8 +21,8 @@ loop-t-init c =
 pub loop-t-preserved : goal.loop-t-preserved
 loop-t-preserved c =
     let s = session_in c.args.wiring.now in
-    same_slots s (c.len-inputs.result + c.loop-t.t) _ (c.len-inputs.result + c.loop-t.t + 1) _ c.step-in-loop-t.new.self
-    (omega (arith, c.len-inputs.ensures)) (omega (arith, c.len-inputs.ensures)) c.in_ok-step-2.ensures
+    same_slots s (c.len-inputs.result + c.loop-t.t) _ (c.len-inputs.result + c.loop-t.t + 1) _ c.step_gate.new.self
+    (omega (arith, c.len-inputs.ensures)) (omega (arith, c.len-inputs.ensures)) c.in_ok-step_gate.ensures
 
 pub loop-o-init : goal.loop-o-init
 loop-o-init c =
@@ -44,7 +35,7 @@ pub loop-o-preserved : goal.loop-o-preserved
 loop-o-preserved c =
     let s = session_in c.args.wiring.now in
     let k = c.len-inputs.result + c.len-gates.result + c.loop-o.o in
-    same_slots s k _ (k + 1) _ c.step-in-loop-o.new.self (omega (arith, c.len-inputs.ensures, c.len-gates.ensures)) (omega (arith, c.len-inputs.ensures, c.len-gates.ensures)) c.in_ok-step-3.ensures
+    same_slots s k _ (k + 1) _ c.step-in-loop-o.new.self (omega (arith, c.len-inputs.ensures, c.len-gates.ensures)) (omega (arith, c.len-inputs.ensures, c.len-gates.ensures)) c.in_ok-step-2.ensures
 
 pub into_ends-requires-clause-scan : goal.into_ends-requires-clause-scan
 into_ends-requires-clause-scan c =
