@@ -66,12 +66,26 @@ fn next_gate(
 {
     match scan_gate(lines, layout) {
         Some(said) => add_gate(&said, builder),
-        None => {
-            let row = next_row(lines, seen)?;
-            let said = read_gate(&row, layout)?;
-            add_gate(&said, builder)
-        }
+        None => other_gate(lines, seen, layout, builder),
     }
+}
+
+/// The same, token by token, for a line of any form.
+#[cold]
+#[inline(never)]
+fn other_gate(
+    lines: &mut Lines<'_>,
+    seen: u64,
+    layout: CircuitLayout,
+    builder: &mut Builder,
+) -> Result<(), CircuitFault>
+    requires room { length builder.old.circuit.gates < builder.old.announced }
+    requires going { builder.old.refused ≡ None }
+    ensures { AddsNext layout seen lines.old builder.old result lines.new builder.new }
+{
+    let row = next_row(lines, seen)?;
+    let said = read_gate(&row, layout)?;
+    add_gate(&said, builder)
 }
 
 /// Adds the gates of so many lines.
