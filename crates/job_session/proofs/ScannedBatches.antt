@@ -197,12 +197,12 @@ gate_goes_on s (suc i) g scan slot v none =
     let stamps = scan.stamps.items in
     let n = scan.first + 1 in
     next_joins s i (false_from_ne_true (waits s (batch s i) (suc i)) (λ e.
-        let read = waits_found s i stamps n v.stamps (omega (arith, first)) e in
-        let named = read_named g read.0 (sym (slot.reads read.0) ∙ read.1) in
-        both_ways (either_stamped (Some g.first) (Some g.second) stamps n) none (elim (or_cases (is_named (Some g.first) read.0) (is_named (Some g.second) read.0) named) [
-          | inl one ↦ or_left (has_stamp (Some g.first) stamps n) (has_stamp (Some g.second) stamps n) (stamp_from (Some g.first) stamps n read.0 one read.2)
-          | inr two ↦ or_right (has_stamp (Some g.first) stamps n) (has_stamp (Some g.second) stamps n) (stamp_from (Some g.second) stamps n read.0 two read.2)
-        ])))
+    let read = waits_found s i stamps n v.stamps (omega (arith, first)) e in
+    let named = read_named g read.0 (sym (slot.reads read.0) ∙ read.1) in
+    both_ways (either_stamped (Some g.first) (Some g.second) stamps n) none (elim (or_cases (is_named (Some g.first) read.0) (is_named (Some g.second) read.0) named) [
+      | inl one ↦ or_left (has_stamp (Some g.first) stamps n) (has_stamp (Some g.second) stamps n) (stamp_from (Some g.first) stamps n read.0 one read.2)
+      | inr two ↦ or_right (has_stamp (Some g.first) stamps n) (has_stamp (Some g.second) stamps n) (stamp_from (Some g.second) stamps n read.0 two read.2)
+    ])))
     ∙ ap (batch s) (sym before)
 
 -- ---- one slot more

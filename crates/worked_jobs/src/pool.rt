@@ -47,16 +47,26 @@ fn expect_words(rt: &impl Abort, done: &Done)
     expect_same!(rt; done.steps(), 54);
 }
 
-// How many workers run.
-const WORKERS: [u32; 3] = [1, 2, 16];
+// That so many workers have the words.
+fn expect_run<R: Threads + Sync + Abort>(
+    rt: &R,
+    alloc: Global,
+    plan: &Plan,
+    workers: u32,
+) -> Result<(), Fail>
+    requires plan { plan.now ≡ multiply.multiply_plan plan.now.bits }
+    requires workers { (0 < workers) × (workers ≤ 16) }
+{
+    let done = run_by(rt, alloc, plan, &FILES, workers)?;
+    expect_words(rt, &done);
+    Ok(())
+}
 
 #[test]
 fn any_number_of_workers_has_the_words(rt: HostRuntime) -> Result<(), Fail> {
     let ring = Ring::new(8).ok_or("no ring")?;
     let plan = multiply_plan(rt.alloc(), ring)?;
-    for workers in &WORKERS {
-        let done = run_by(&rt, rt.alloc(), &plan, &FILES, *workers)?;
-        expect_words(&rt, &done);
-    }
-    Ok(())
+    expect_run(&rt, rt.alloc(), &plan, 1)?;
+    expect_run(&rt, rt.alloc(), &plan, 2)?;
+    expect_run(&rt, rt.alloc(), &plan, 16)
 }
