@@ -1,10 +1,10 @@
 #!/usr/bin/env python3
 """Tells where the time of a run goes, by so many workers: phases.py PROGRAM [JOB]
 
-Makes the jobs of make_jobs.py, and runs one of them (eight_sessions, where none is named) by 1, 2 and 4 workers in turn, ROUNDS times
-(50, where the environment doesn't say), with phases.c before the C library. Prints for each number of workers the least time of each
+Makes the jobs of make_jobs.py, and runs one of them (eight_sessions, where none is named), or the job of a folder, by 1, 2, 3 and 4 workers in
+turn, ROUNDS times (50, where the environment doesn't say), with phases.c before the C library. Prints for each number of workers the least time of each
 part of a run: what comes before the workers, the workers, and what comes after them, and what part of the time of one worker the
-workers' is. Ends with status 1 where a run doesn't write what the plain circuit gives. It needs Linux with the GNU C library, and a
+workers' is. Ends with status 1 where a run doesn't write what the plain circuit gives, or for a folder what a run by one worker did. It needs Linux with the GNU C library, and a
 C compiler.
 """
 
@@ -13,7 +13,7 @@ import subprocess
 import sys
 import tempfile
 
-WORKERS = [1, 2, 4]
+WORKERS = [1, 2, 3, 4]
 
 
 def build(folder):
@@ -35,6 +35,16 @@ def run(command, expected, library, told):
     return [after - before for before, after in zip(moments, moments[1:])]
 
 
+def find(program, job, here, folder):
+    """The folder of a job, and what a run of it writes."""
+    if os.path.isdir(job):
+        return job, subprocess.run([program, 'run', job], check=True, capture_output=True).stdout
+    subprocess.run([sys.executable, os.path.join(here, 'make_jobs.py'), folder], check=True, stdout=subprocess.DEVNULL)
+    path = os.path.join(folder, job)
+    with open(os.path.join(path, 'expected'), 'rb') as file:
+        return path, file.read()
+
+
 def main(words):
     if len(words) not in (2, 3):
         sys.exit('usage: phases.py PROGRAM [JOB]')
@@ -42,10 +52,7 @@ def main(words):
     here = os.path.dirname(os.path.abspath(__file__))
     with tempfile.TemporaryDirectory() as folder:
         library, told = build(folder), os.path.join(folder, 'told')
-        subprocess.run([sys.executable, os.path.join(here, 'make_jobs.py'), folder], check=True, stdout=subprocess.DEVNULL)
-        path = os.path.join(folder, job)
-        with open(os.path.join(path, 'expected'), 'rb') as file:
-            expected = file.read()
+        path, expected = find(program, job, here, folder)
         parts = {workers: [] for workers in WORKERS}
         for _ in range(int(os.environ.get('ROUNDS', '50'))):
             for workers, runs in parts.items():
