@@ -1,12 +1,10 @@
 -- Which slot a message stands in.
-use Rattle.std.proofs.Common.{◌≡◌, ℕ, zero, suc, ◌+◌, ◌-◌, ◌<◌, List, length, refl, sym, ap, ◌∙◌, subst, arith, length-append}
+use Rattle.std.proofs.Common.{◌≡◌, ℕ, ◌+◌, ◌<◌, length, refl, sym, ap, ◌∙◌, subst, arith}
 use Rattle.std.specs.Prelude.{slice_index, slice_index_or}
 use Rattle.std.specs.List.{AllByRecursion}
-use Rattle.std.proofs.lemmas.Bool.{cases_lt}
 use Rattle.std.proofs.lemmas.List.Sums.{passes_at_first}
-use mathlib.Core.Logic.{inl, inr}
 use Rattle.list_laws.specs.Lists.{total, joined}
-use Rattle.list_laws.proofs.JoinedLists.{length-joined, every_joined, every_only_if}
+use Rattle.list_laws.proofs.JoinedLists.{joined_place, locate, every_joined, every_only_if}
 use Rattle.job_session.specs.Sessions.{Slot, owners}
 use Rattle.job_plan.specs.Plans.{Plan, session, slot, slots}
 use Rattle.job_session.specs.Sessions.Slot.{Input, At_gate, Output}
@@ -14,23 +12,8 @@ use Rattle.job_plan.specs.declared.key.Key.{Key}
 use Rattle.job_plan.specs.Messages.{deal_messages, open_messages, slot_messages, session_messages, messages}
 use Rattle.job_plan.specs.Numbers.{no_key, same_key, number}
 use Rattle.job_plan.specs.Firsts.{count, first}
-use Rattle.job_plan.proofs.SlotMessages.{joined_place, message_at, number_within}
+use Rattle.job_plan.proofs.SlotMessages.{message_at, number_within}
 use Rattle.job_plan.proofs.DistinctMessages.{number_of_message, every_one, every_place, every_slot, same_key-true}
-
--- the part in which place m of joined parts lies
-record IsIn {A : Type 0} (n : ℕ) (f : ℕ → List A) (m : ℕ) : Type 0 where
-  part : ℕ
-  place : ℕ
-  there : part < n
-  within : place < length (f part)
-  is : m ≡ total part (λ j. length (f j)) + place
-
-locate : {A : Type 0} (n : ℕ) (f : ℕ → List A) (m : ℕ) → m < length (joined n f) → IsIn n f m
-locate zero f m l = absurd (omega arith)
-locate (suc n) f m l = elim (cases_lt m (length (joined n f))) [
-  | inl less ↦ (let h = locate n f m less in record { part = h.part; place = h.place; there = (let there = h.there in omega arith); within = h.within; is = h.is })
-  | inr past ↦ (let long = length-append (joined n f) (f n) in let before = length-joined n f in record { part = n; place = m - length (joined n f); there = omega arith; within = omega arith; is = omega arith })
-]
 
 -- the key stands in slot k of session s
 pub record IsThere (plan : Plan) (key : Key) (s k : ℕ) : Type 0 where

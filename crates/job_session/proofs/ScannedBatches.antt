@@ -1,6 +1,6 @@
 -- The batches after one slot more.
-use Rattle.std.proofs.Common.{◌≡◌, ℕ, zero, suc, ◌+◌, ◌-◌, ◌<◌, ◌≤◌, Bool, true, false, ◌&&◌, ◌||◌, List, [], ◌∷◌, ◌++◌, length, replicate, set, take, inl, inr, Some, None, refl, sym, ◌∙◌, ap, subst, arith, length-set, length-append}
-use Rattle.std.specs.Prelude.{nat_eq, nat_le, slice_index, slice_index_or, Option, if◌then◌else◌}
+use Rattle.std.proofs.Common.{◌≡◌, ℕ, zero, suc, ◌+◌, ◌-◌, ◌<◌, ◌≤◌, Bool, true, false, not, ◌&&◌, ◌||◌, List, [], ◌∷◌, ◌++◌, length, replicate, take, inl, inr, Some, None, refl, sym, ◌∙◌, ap, subst, arith, length-append}
+use Rattle.std.specs.Prelude.{nat_eq, nat_le, slice_index, slice_index_or, Option}
 use Rattle.std.specs.List.{list_any}
 use Rattle.std.proofs.Math.ListN.{get_or-append}
 use Rattle.std.proofs.Math.Seq.{get_or-append_right}
@@ -14,15 +14,17 @@ use Rattle.circuit_model.specs.Netlists.{arity, inputs_read, read_by}
 use Rattle.circuit_model.specs.declared.gate.Operation.{Operation}
 use Rattle.circuit_model.specs.declared.gate.Operation.TheVariants.{Add, Sub, Mul, Neg, Eq, Eqw, And, Xor, Inv}
 use Rattle.job_session.specs.declared.batch_scan.BatchScan.{BatchScan}
-use Rattle.job_session.specs.Sessions.{Session, Slot, gate, no_gate, owners, session_slot, session_slots}
+use Rattle.job_session.specs.Sessions.{Session, Slot, gate, no_gate, mask_wire, product_wire, row_names, owners, readers, output_wire, session_slot, session_slots}
+use Rattle.job_session.specs.Sessions.Slot.{Input, At_gate, Output, Mask, Mask_product, Masked}
 use Rattle.job_session.specs.KeptWires.{reads_in, slot_reads}
-use Rattle.job_session.specs.SoundSessions.{IsWired}
+use Rattle.job_session.specs.SoundSessions.{IsWired, Inside}
 use Rattle.job_session.specs.Wirings.{is_named}
-use Rattle.job_session.specs.Batches.{batch, completes, slot_completes, waits, waits_for, IsBatch, AreBatchEnds}
+use Rattle.job_session.specs.Batches.{batch, completes, slot_completes, is_join, sets_early, waits, waits_for, IsBatch, AreBatchEnds}
 use Rattle.job_session.specs.BatchScans.{stamp, IsBatchScan, IsGateSlot, AreReads, IsCompleted, has_stamp}
-use Rattle.job_session.proofs.SessionSlots.{slot_input, slot_gate, slot_output, slot_cases}
+use Rattle.job_session.proofs.SessionSlots.{none_prepared, direct_count, slot_input, slot_gate, slot_output, slot_kinds}
+use Rattle.job_session.proofs.RowNames.{wires_named, mask_within, product_named}
 use Rattle.job_session.proofs.KeptRows.{one_wire, some_found, some_at}
-use Rattle.job_session.proofs.LastReads.{gate_reads, zeros_at, one_written}
+use Rattle.job_session.proofs.LastReads.{gate_reads}
 use Rattle.job_session.proofs.ScannedSlots.{same_bool}
 use Rattle.job_session.proofs.BatchOrder.{batch_within, same_batch, first_same, rising, next_begins, next_joins}
 
@@ -32,14 +34,18 @@ only_one : (b : Bool) (w v : ℕ) → list_any (nat_eq w) (only_if b (v ∷ []))
 only_one true w v = or_false (nat_eq w v)
 only_one false w v = refl
 
-pub completes_within : (s : Session) (k w : ℕ) → IsWired s → k < session_slots s → slot_completes s k w ≡ true → w < s.wires
-completes_within s k w wired l = slot_cases s (λ k z. list_any (nat_eq w) (completes s z) ≡ true → w < s.wires)
-    (λ v lv e. omega (arith, one_wire v w e, lv, wired.input_wires))
-    (λ t lt e.
-    let parts = and_parts (is_product (gate s t).operation) (nat_eq w (gate s t).output) (sym (only_one (is_product (gate s t).operation) w (gate s t).output) ∙ e) in
-    omega (arith, eqb-true w (gate s t).output parts.1, wired.output t lt))
-    (λ o lo e. absurd (false≢true e))
-    k l
+pub completes_within : (s : Session) (k w : ℕ) → IsWired s → k < session_slots s → slot_completes s k w ≡ true → w < row_names s
+completes_within s k w wired l = slot_kinds s (λ k z. list_any (nat_eq w) (completes s z) ≡ true → w < row_names s) each k l
+  where
+    each : (z : Slot) → Inside s z → list_any (nat_eq w) (completes s z) ≡ true → w < row_names s
+    each (Input v) lv e = omega (arith, one_wire v w e, lv, wired.input_wires, wires_named s)
+    each (At_gate t) lt e =
+        let parts = and_parts (is_product (gate s t).operation) (nat_eq w (gate s t).output) (sym (only_one (is_product (gate s t).operation) w (gate s t).output) ∙ e) in
+        omega (arith, eqb-true w (gate s t).output parts.1, wired.output t lt, wires_named s)
+    each (Output o) lo e = absurd (false≢true e)
+    each (Mask t side) i e = omega (arith, one_wire (mask_wire s t side) w e, mask_within s t side i.0 i.1)
+    each (Mask_product t) i e = omega (arith, one_wire (product_wire s t) w e, product_named s t i.0 i.1)
+    each (Masked t side) i e = absurd (false≢true e)
 
 -- the slot of a gate
 pub gate_slot : (s : Session) (n t : ℕ) (g : Gate) → IsWired s → t < length s.gates → n ≡ length (owners s) → g ≡ slice_index_or s.gates t g → IsGateSlot s (n + t) g
@@ -49,12 +55,28 @@ gate_slot s n t g wired l inputs is =
       first = subst (λ (h : Gate). h.first < s.wires) own (wired.first t l);
       second = subst (λ (h : Gate). h.second < s.wires) own (wired.second t l);
       output = subst (λ (h : Gate). h.output < s.wires) own (wired.output t l);
-      reads = λ w. gate_reads s n t w g l inputs is;
+      reads = λ w. gate_reads s wired.direct n t w g l inputs is;
       completes = λ w.
-          ap (λ (k : ℕ). slot_completes s (k + t) w) inputs ∙ ap (λ (z : Slot). list_any (nat_eq w) (completes s z)) (slot_gate s t l)
+          ap (λ (k : ℕ). slot_completes s (k + t) w) inputs ∙ ap (λ (z : Slot). list_any (nat_eq w) (completes s z)) (slot_gate s wired.direct t l)
           ∙ ap (λ (h : Gate). list_any (nat_eq w) (only_if (is_product h.operation) (h.output ∷ []))) own
           ∙ only_one (is_product g.operation) w g.output;
     }
+
+-- the slot of an input wire, and that of an output wire
+pub input_slot : (s : Session) → s.prepared ≡ false → (v : ℕ) → v < length (owners s) → AreReads s v None None × IsCompleted s v (Some v)
+input_slot s direct v l = (
+  record { are = λ w. ap (λ (z : Slot). list_any (nat_eq w) (reads_in s z)) (slot_input s direct v l) },
+  record { is = λ w. ap (λ (z : Slot). list_any (nat_eq w) (completes s z)) (slot_input s direct v l) ∙ or_false (nat_eq w v) },
+)
+
+pub output_slot : (s : Session) → s.prepared ≡ false → (k o wire : ℕ) → o < length (readers s) → k ≡ length (owners s) + length s.gates + o → wire ≡ output_wire s o
+    → AreReads s k (Some wire) None × IsCompleted s k None
+output_slot s direct k o wire l at is = (
+  record {
+    are = λ w. ap (λ (n : ℕ). slot_reads s n w) at ∙ ap (λ (z : Slot). list_any (nat_eq w) (reads_in s z)) (slot_output s direct o l) ∙ ap (λ (v : ℕ). nat_eq w v || false) (sym is);
+  },
+  record { is = λ w. ap (λ (n : ℕ). slot_completes s n w) at ∙ ap (λ (z : Slot). list_any (nat_eq w) (completes s z)) (slot_output s direct o l) },
+)
 
 -- ---- stamps
 
@@ -114,6 +136,18 @@ any_from f (x ∷ xs) w e passes = elim (or_cases (nat_eq w x) (list_any (nat_eq
   | inr later ↦ or_right (f x) (list_any f xs) (any_from f xs w later passes)
 ]
 
+-- a direct session has no slot of a prepared product, so a slot waits for those that complete what it reads
+no_join : (s : Session) → s.prepared ≡ false → (z : Slot) → is_join s z ≡ false
+no_join s direct (At_gate t) = none_prepared s direct t
+no_join s direct z = refl
+
+pub waits_direct : (s : Session) → s.prepared ≡ false → (k j : ℕ) → waits_for s k j ≡ list_any (slot_completes s j) (reads_in s (session_slot s k))
+waits_direct s direct k j =
+    let z = session_slot s k in
+    ap (λ b. list_any (slot_completes s j) (only_if (not b) (reads_in s z)) || (is_join s (session_slot s j) && sets_early s z)) (no_join s direct z)
+    ∙ ap (λ b. list_any (slot_completes s j) (reads_in s z) || (b && sets_early s z)) (no_join s direct (session_slot s j))
+    ∙ or_false (list_any (slot_completes s j) (reads_in s z))
+
 stamp_found : (o : Option ℕ) (stamps : List ℕ) (n : ℕ) → has_stamp o stamps n ≡ true → (w : ℕ) × (is_named o w ≡ true) × (slice_index stamps w ≡ n)
 stamp_found None stamps n e = absurd (false≢true e)
 stamp_found (Some w) stamps n e = (w, eq-eqb w w refl, eqb-true (slice_index stamps w) n e)
@@ -139,37 +173,37 @@ read_from s k one two stamps n w reads e is = elim (or_cases (is_named one w) (i
   | inr second ↦ or_right (has_stamp one stamps n) (has_stamp two stamps n) (stamp_from two stamps n w second is)
 ]
 
-waits_found : (s : Session) (i : ℕ) (stamps : List ℕ) (n : ℕ) → ((w : ℕ) → slice_index stamps w ≡ stamp s (suc i) w) → n ≡ suc (batch s i) → waits s (batch s i) (suc i) ≡ true
+waits_found : (s : Session) → s.prepared ≡ false → (i : ℕ) (stamps : List ℕ) (n : ℕ) → ((w : ℕ) → slice_index stamps w ≡ stamp s (suc i) w) → n ≡ suc (batch s i) → waits s (batch s i) (suc i) ≡ true
     → (w : ℕ) × (slot_reads s (suc i) w ≡ true) × (slice_index stamps w ≡ n)
-waits_found s i stamps n are is e =
+waits_found s direct i stamps n are is e =
     let found = some_found (suc i) (λ j. nat_le (batch s i) j && waits_for s (suc i) j) e in
     let parts = and_parts (nat_le (batch s i) found.0) (waits_for s (suc i) found.0) found.2 in
-    let read = any_found (slot_completes s found.0) (reads_in s (session_slot s (suc i))) parts.1 in
+    let read = any_found (slot_completes s found.0) (reads_in s (session_slot s (suc i))) (sym (waits_direct s direct (suc i) found.0) ∙ parts.1) in
     let later = rising s (batch s i) found.0 (leb-true (batch s i) found.0 parts.0) in
     let same : slice_index stamps read.0 ≡ n = omega (arith, are read.0, is, later, first_same s i, stamped_most s i read.0, stamped_least s (suc i) found.0 read.0 found.1 read.2) in
     (read.0, read.1, same)
 
-waits_by_stamps : (s : Session) (i : ℕ) (one two : Option ℕ) (stamps : List ℕ) (n : ℕ) → AreReads s (suc i) one two → ((w : ℕ) → slice_index stamps w ≡ stamp s (suc i) w)
+waits_by_stamps : (s : Session) → s.prepared ≡ false → (i : ℕ) (one two : Option ℕ) (stamps : List ℕ) (n : ℕ) → AreReads s (suc i) one two → ((w : ℕ) → slice_index stamps w ≡ stamp s (suc i) w)
     → n ≡ suc (batch s i) → either_stamped one two stamps n ≡ waits s (batch s i) (suc i)
-waits_by_stamps s i one two stamps n reads are is = same_bool (either_stamped one two stamps n) (waits s (batch s i) (suc i))
+waits_by_stamps s direct i one two stamps n reads are is = same_bool (either_stamped one two stamps n) (waits s (batch s i) (suc i))
     (λ e.
     let read = read_found s (suc i) one two stamps n reads e in
     let found = find s (suc i) read.0 (batch s i) (sym (are read.0) ∙ read.2 ∙ is) in
     let from : batch s i ≤ found.0 = omega (arith, found.3, batch_within s found.0) in
     some_at (suc i) (λ j. nat_le (batch s i) j && waits_for s (suc i) j) found.0 found.1
     (and_from (nat_le (batch s i) found.0) (waits_for s (suc i) found.0) (le-leb (batch s i) found.0 from)
-    (any_from (slot_completes s found.0) (reads_in s (session_slot s (suc i))) read.0 read.1 found.2)))
-    (λ e. let read = waits_found s i stamps n are is e in read_from s (suc i) one two stamps n read.0 reads read.1 read.2)
+    (waits_direct s direct (suc i) found.0 ∙ any_from (slot_completes s found.0) (reads_in s (session_slot s (suc i))) read.0 read.1 found.2)))
+    (λ e. let read = waits_found s direct i stamps n are is e in read_from s (suc i) one two stamps n read.0 reads read.1 read.2)
 
 -- a slot begins a batch exactly if it reads such a wire
-pub batch_by_stamps : (s : Session) (k : ℕ) (one two : Option ℕ) (scan : BatchScan) (b : Bool) → AreReads s k one two → IsBatchScan s (k - 1) k scan
+pub batch_by_stamps : (s : Session) → s.prepared ≡ false → (k : ℕ) (one two : Option ℕ) (scan : BatchScan) (b : Bool) → AreReads s k one two → IsBatchScan s (k - 1) k scan
     → b ≡ (has_stamp one scan.stamps.items (scan.first + 1) || has_stamp two scan.stamps.items (scan.first + 1))
     → (b ≡ true → batch s k ≡ k) × (b ≡ false → batch s k ≡ batch s (k - 1))
-batch_by_stamps s zero one two scan b reads v is = (λ e. refl, λ e. refl)
-batch_by_stamps s (suc i) one two scan b reads v is =
+batch_by_stamps s direct zero one two scan b reads v is = (λ e. refl, λ e. refl)
+batch_by_stamps s direct (suc i) one two scan b reads v is =
     let before : suc i - 1 ≡ i = omega arith in
     let first : scan.first ≡ batch s i = v.first ∙ ap (batch s) before in
-    let waits_is : b ≡ waits s (batch s i) (suc i) = is ∙ waits_by_stamps s i one two scan.stamps.items (scan.first + 1) reads v.stamps (omega arith) in
+    let waits_is : b ≡ waits s (batch s i) (suc i) = is ∙ waits_by_stamps s direct i one two scan.stamps.items (scan.first + 1) reads v.stamps (omega arith) in
     (λ e. next_begins s i (sym waits_is ∙ e), λ e. next_joins s i (sym waits_is ∙ e) ∙ ap (batch s) (sym before))
 
 -- a gate reads wires in its fields alone
@@ -184,20 +218,20 @@ named_in Inv a b w e = or_left (nat_eq w a) (nat_eq w b) (sym (or_false (nat_eq 
 named_in Eqw a b w e = or_left (nat_eq w a) (nat_eq w b) (sym (or_false (nat_eq w a)) ∙ e)
 named_in Eq a b w e = absurd (false≢true e)
 
-read_named : (g : Gate) (w : ℕ) → list_any (nat_eq w) (read_by g) ≡ true → (is_named (Some g.first) w || is_named (Some g.second) w) ≡ true
+pub read_named : (g : Gate) (w : ℕ) → list_any (nat_eq w) (read_by g) ≡ true → (is_named (Some g.first) w || is_named (Some g.second) w) ≡ true
 read_named g w e = named_in g.operation g.first g.second w e
 
 -- so it is of the batch of the slot before it where none of those has the stamp
-pub gate_goes_on : (s : Session) (k : ℕ) (g : Gate) (scan : BatchScan) → IsGateSlot s k g → IsBatchScan s (k - 1) k scan
+pub gate_goes_on : (s : Session) → s.prepared ≡ false → (k : ℕ) (g : Gate) (scan : BatchScan) → IsGateSlot s k g → IsBatchScan s (k - 1) k scan
     → (has_stamp (Some g.first) scan.stamps.items (scan.first + 1) || has_stamp (Some g.second) scan.stamps.items (scan.first + 1)) ≡ false → batch s k ≡ batch s (k - 1)
-gate_goes_on s zero g scan slot v none = refl
-gate_goes_on s (suc i) g scan slot v none =
+gate_goes_on s direct zero g scan slot v none = refl
+gate_goes_on s direct (suc i) g scan slot v none =
     let before : suc i - 1 ≡ i = omega arith in
     let first : scan.first ≡ batch s i = v.first ∙ ap (batch s) before in
     let stamps = scan.stamps.items in
     let n = scan.first + 1 in
     next_joins s i (false_from_ne_true (waits s (batch s i) (suc i)) (λ e.
-    let read = waits_found s i stamps n v.stamps (omega (arith, first)) e in
+    let read = waits_found s direct i stamps n v.stamps (omega (arith, first)) e in
     let named = read_named g read.0 (sym (slot.reads read.0) ∙ read.1) in
     both_ways (either_stamped (Some g.first) (Some g.second) stamps n) none (elim (or_cases (is_named (Some g.first) read.0) (is_named (Some g.second) read.0) named) [
       | inl one ↦ or_left (has_stamp (Some g.first) stamps n) (has_stamp (Some g.second) stamps n) (stamp_from (Some g.first) stamps n read.0 one read.2)
@@ -265,7 +299,7 @@ all_ends s scan ends v is =
 -- ---- bounds
 
 pub few_slots : (s : Session) → IsWired s → session_slots s < 4294967295
-few_slots s wired = omega (arith, wired.wires, wired.gates, wired.input_wires, wired.output_wires)
+few_slots s wired = omega (arith, direct_count s wired.direct, wired.wires, wired.gates, wired.input_wires, wired.output_wires)
 
 -- the same slots by other sums
 pub same_slots : (s : Session) (i j k n : ℕ) (scan : BatchScan) → i ≡ j → k ≡ n → IsBatchScan s i k scan → IsBatchScan s j n scan

@@ -5,7 +5,7 @@ use Rattle.circuit_model.specs.Circuits.{is_product}
 use Rattle.circuit_model.specs.Netlists.{read_by}
 use Rattle.circuit_model.specs.declared.gate.Gate.{Gate}
 use Rattle.job_session.specs.declared.batch_scan.BatchScan.{BatchScan}
-use Rattle.job_session.specs.Sessions.{Session}
+use Rattle.job_session.specs.Sessions.{Session, row_names}
 use Rattle.job_session.specs.KeptWires.{slot_reads}
 use Rattle.job_session.specs.Batches.{batch, slot_completes, IsBatch}
 use Rattle.job_session.specs.Wirings.{is_named}
@@ -18,7 +18,7 @@ stamp s (suc k) w = if slot_completes s k w then suc (batch s k) else stamp s k 
 -- the batch of slot j is begun: the scan has its first slot, the ends of those before it, and the stamps before slot k
 pub record IsBatchScan (s : Session) (j k : ℕ) (scan : BatchScan) : Type 0 where
   pub first : scan.first ≡ batch s j
-  pub wires : length scan.stamps.items ≡ s.wires
+  pub wires : length scan.stamps.items ≡ row_names s
   pub stamps : (w : ℕ) → slice_index scan.stamps.items w ≡ stamp s k w
   pub ended : length scan.ends.items ≡ batch s j
   pub ends : (i : ℕ) → i < batch s j → IsBatch s (batch s i) (slice_index scan.ends.items i)

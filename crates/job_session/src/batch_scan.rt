@@ -20,14 +20,14 @@ pub(crate) struct BatchScan {
 
 impl BatchScan {
     ghost use Rattle.std.specs.Prelude.{◌≡◌, ℕ, ◌+◌, ◌-◌, ◌<◌, ◌≤◌, true, ◌||◌, ◌++◌, IfOk, OnOk, Some, length, replicate};
-    ghost use Rattle.job_session.specs.Sessions.{Session, session_slots};
+    ghost use Rattle.job_session.specs.Sessions.{Session, row_names, session_slots};
     ghost use Rattle.job_session.specs.Batches.{AreBatchEnds};
     ghost use Rattle.job_session.specs.BatchScans.{AreReads, IsBatchScan, IsCompleted, IsGateSlot, has_stamp};
     ghost use Rattle.job_session.specs.Wirings.{IsWiring, is_named, session_in};
 
     // Before the first slot, over so many wires, with room for the ends of so many slots.
     fn start(alloc: Global, wires: usize, slots: usize) -> Result<BatchScan, AllocError>
-        ensures { IfOk result (λ scan. (s : Session) → s.wires ≡ wires → IsBatchScan s 0 0 scan) }
+        ensures { IfOk result (λ scan. (s : Session) → row_names s ≡ wires → IsBatchScan s 0 0 scan) }
     {
         Ok(BatchScan {
             stamps: vec![in alloc; 0; wires]?,

@@ -6,14 +6,16 @@ use Rattle.std.proofs.Math.Nat.{le-max_left, le-max_right}
 use Rattle.list_laws.specs.Lists.{total}
 use Rattle.circuit_model.specs.Circuits.{is_product}
 use Rattle.circuit_model.specs.Netlists.{read_by}
-use Rattle.job_session.specs.Sessions.{Session, Slot, gate, owners, session_slot, session_slots}
-use Rattle.job_session.specs.Sessions.Slot.{Input, At_gate, Output}
+use Rattle.job_session.specs.declared.side.Side.TheVariants.{First, Second}
+use Rattle.job_session.specs.Sessions.{Session, Slot, gate, is_prepared, mask_wire, product_wire, owners, session_slot, session_slots}
+use Rattle.job_session.specs.Sessions.Slot.{Input, At_gate, Output, Mask, Mask_product, Masked}
 use Rattle.job_session.specs.SoundSessions.{IsWired}
 use Rattle.job_session.specs.KeptWires.{greatest, reads_in, sets_in, slot_sets}
 use Rattle.job_session.specs.Batches.{batch, batches, completes, slot_completes, waits_for}
-use Rattle.job_session.proofs.SessionSlots.{slot_cases, slot_gate}
+use Rattle.job_session.proofs.SessionSlots.{none_prepared, direct_count, slot_cases, slot_gate}
 use Rattle.job_session.proofs.BatchOrder.{batch_within, begins_waiting, rising}
 use Rattle.job_session.proofs.KeptRows.{one_wire}
+use Rattle.job_session.proofs.ScannedBatches.{waits_direct}
 use Rattle.layer_laws.specs.Layers.{most, product, products_to, layer, depth, StandsByLayers}
 
 -- one of a list passes both tests
@@ -51,6 +53,9 @@ module _ (s : Session) (wired : IsWired s) (by_layers : StandsByLayers s) where
   rank_of (Input v) = 0
   rank_of (At_gate t) = suc (layer s t)
   rank_of (Output o) = suc (depth s)
+  rank_of (Mask t side) = 0
+  rank_of (Mask_product t) = 0
+  rank_of (Masked t side) = suc (layer s t)
 
   abbrev rank : ℕ → ℕ
   rank k = rank_of (session_slot s k)
@@ -59,13 +64,13 @@ module _ (s : Session) (wired : IsWired s) (by_layers : StandsByLayers s) where
   within_depth t l = greatest_at (length s.gates) (λ i. layer s i + product s i) t l
 
   rank_most : (k : ℕ) → k < session_slots s → rank k ≤ suc (depth s)
-  rank_most = slot_cases s (λ k z. rank_of z ≤ suc (depth s)) (λ v l. omega arith) (λ t l. (let d = within_depth t l in omega (arith, d))) (λ o l. omega arith)
+  rank_most = slot_cases s wired.direct (λ k z. rank_of z ≤ suc (depth s)) (λ v l. omega arith) (λ t l. (let d = within_depth t l in omega (arith, d))) (λ o l. omega arith)
 
   ranks_rise : (j k : ℕ) → j ≤ k → k < session_slots s → rank j ≤ rank k
-  ranks_rise j k le lk = slot_cases s (λ k z. (j : ℕ) → j ≤ k → j < session_slots s → rank j ≤ rank_of z)
-      (λ v lv j b lj. slot_cases s (λ j z. j ≤ v → rank_of z ≤ 0) (λ u l b. omega arith) (λ u l b. absurd (omega (arith, lv, b))) (λ o l b. absurd (omega (arith, lv, b))) j lj b)
-      (λ t lt j b lj. slot_cases s (λ j z. j ≤ inputs + t → rank_of z ≤ suc (layer s t)) (λ u l b. omega arith) (λ u l b. (let r = by_layers u t (omega (arith, b)) lt in omega (arith, r))) (λ o l b. absurd (omega (arith, lt, b))) j lj b)
-      (λ o lo j b lj. slot_cases s (λ j z. j ≤ inputs + length s.gates + o → rank_of z ≤ suc (depth s)) (λ u l b. omega arith) (λ u l b. (let d = within_depth u l in omega (arith, d))) (λ u l b. omega arith) j lj b)
+  ranks_rise j k le lk = slot_cases s wired.direct (λ k z. (j : ℕ) → j ≤ k → j < session_slots s → rank j ≤ rank_of z)
+      (λ v lv j b lj. slot_cases s wired.direct (λ j z. j ≤ v → rank_of z ≤ 0) (λ u l b. omega arith) (λ u l b. absurd (omega (arith, lv, b))) (λ o l b. absurd (omega (arith, lv, b))) j lj b)
+      (λ t lt j b lj. slot_cases s wired.direct (λ j z. j ≤ inputs + t → rank_of z ≤ suc (layer s t)) (λ u l b. omega arith) (λ u l b. (let r = by_layers u t (omega (arith, b)) lt in omega (arith, r))) (λ o l b. absurd (omega (arith, lt, b))) j lj b)
+      (λ o lo j b lj. slot_cases s wired.direct (λ j z. j ≤ inputs + length s.gates + o → rank_of z ≤ suc (depth s)) (λ u l b. omega arith) (λ u l b. (let d = within_depth u l in omega (arith, d))) (λ u l b. omega arith) j lj b)
       k lk j le (omega (arith, le, lk))
 
   -- a wire keeps the products that stand before it, as no later gate sets it
@@ -78,30 +83,34 @@ module _ (s : Session) (wired : IsWired s) (by_layers : StandsByLayers s) where
       let lt : t < length s.gates = omega (arith, l) in
       let next : u + suc (suc n) ≡ suc t = omega arith in
       let v : ℕ = (gate s u).output in
-      let set_here : slot_sets s (inputs + u) v ≡ true = ap (λ z. list_any (nat_eq v) (sets_in s z)) (slot_gate s u lu) ∙ or_left (nat_eq v v) false (eq-eqb v v refl) in
-      let not_there : slot_sets s (inputs + t) v ≡ false = wired.order.once (inputs + u) (inputs + t) v (omega arith) (omega (arith, lt)) set_here in
-      let other : nat_eq v (gate s t).output ≡ false = one_false (nat_eq v (gate s t).output) (sym (ap (λ z. list_any (nat_eq v) (sets_in s z)) (slot_gate s t lt)) ∙ not_there) in
+      let set_here : slot_sets s (inputs + u) v ≡ true = ap (λ z. list_any (nat_eq v) (sets_in s z)) (slot_gate s wired.direct u lu) ∙ or_left (nat_eq v v) false (eq-eqb v v refl) in
+      let not_there : slot_sets s (inputs + t) v ≡ false = wired.order.once (inputs + u) (inputs + t) v (omega arith) (omega (arith, lt, direct_count s wired.direct)) set_here in
+      let other : nat_eq v (gate s t).output ≡ false = one_false (nat_eq v (gate s t).output) (sym (ap (λ z. list_any (nat_eq v) (sets_in s z)) (slot_gate s wired.direct t lt)) ∙ not_there) in
       ap (λ z. products_to s z v) next ∙ cond-false (nat_eq v (gate s t).output) (layer s t + product s t) (products_to s t v) other ∙ kept u n lu (omega (arith, l))
     where
       one_false : (a : Bool) → (a || false) ≡ false → a ≡ false
       one_false true e = e
       one_false false e = refl
 
+  reads_direct : (t : ℕ) → reads_in s (At_gate t) ≡ read_by (gate s t)
+  reads_direct t = cond-false (is_prepared s t) (mask_wire s t First ∷ mask_wire s t Second ∷ product_wire s t ∷ []) (read_by (gate s t)) (none_prepared s wired.direct t)
+
   -- a slot that waits for another is of a later layer
   waiting_rises : (j k : ℕ) → j < k → k < session_slots s → waits_for s k j ≡ true → rank j < rank k
   waiting_rises j k less lk e =
-      let found = any_both (slot_completes s j) (reads_in s (session_slot s k)) e in
-      slot_cases s (λ j z. j < k → list_any (nat_eq found.0) (completes s z) ≡ true → rank_of z < rank k)
-      (λ v lv b c. slot_cases s (λ k z. list_any (nat_eq found.0) (reads_in s z) ≡ true → 0 < rank_of z) (λ u l r. absurd (false≢true r)) (λ t l r. omega arith) (λ o l r. omega arith) k lk found.1)
+      let found = any_both (slot_completes s j) (reads_in s (session_slot s k)) (sym (waits_direct s wired.direct k j) ∙ e) in
+      slot_cases s wired.direct (λ j z. j < k → list_any (nat_eq found.0) (completes s z) ≡ true → rank_of z < rank k)
+      (λ v lv b c. slot_cases s wired.direct (λ k z. list_any (nat_eq found.0) (reads_in s z) ≡ true → 0 < rank_of z) (λ u l r. absurd (false≢true r)) (λ t l r. omega arith) (λ o l r. omega arith) k lk found.1)
       (λ u lu b c. elim (cases_Bool (is_product (gate s u).operation)) [
         | inl multiplies ↦
             let v : ℕ = found.0 in
             let one : product s u ≡ 1 = cond-true (is_product (gate s u).operation) 1 0 multiplies in
             let its : v ≡ (gate s u).output = one_wire (gate s u).output v (sym (ap (λ z. list_any (nat_eq v) z) (cond-true (is_product (gate s u).operation) ((gate s u).output ∷ []) [] multiplies)) ∙ c) in
-            slot_cases s (λ k z. inputs + u < k → list_any (nat_eq v) (reads_in s z) ≡ true → suc (layer s u) < rank_of z)
+            slot_cases s wired.direct (λ k z. inputs + u < k → list_any (nat_eq v) (reads_in s z) ≡ true → suc (layer s u) < rank_of z)
             (λ w l b r. absurd (false≢true r))
             (λ t lt b r.
-            (let more = most_at (products_to s t) (read_by (gate s t)) v r in
+            (let reads = reads_direct t in
+            let more = most_at (products_to s t) (read_by (gate s t)) v (sym (ap (λ z. list_any (nat_eq v) z) reads) ∙ r) in
             let there : u + suc (t - suc u) ≡ t = omega (arith, b) in
             let stays = kept u (t - suc u) lu (omega (arith, there, lt)) in
             let same : products_to s t v ≡ layer s u + product s u = ap (products_to s t) its ∙ sym (ap (λ z. products_to s z (gate s u).output) there) ∙ stays in

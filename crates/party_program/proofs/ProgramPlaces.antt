@@ -6,7 +6,7 @@ use Rattle.std.proofs.lemmas.List.{length-append, length-map, get_or-map, get_or
 use mathlib.Core.Logic.{inl, inr}
 use Rattle.list_laws.specs.Lists.{total, joined, only_if}
 use Rattle.list_laws.proofs.Totals.{total_more}
-use Rattle.list_laws.proofs.JoinedLists.{length-joined, total_within}
+use Rattle.list_laws.proofs.JoinedLists.{length-joined, joined_place, total_within}
 use Rattle.job_session.specs.Sessions.{Session, session_slots}
 use Rattle.job_session.specs.Batches.{batch, is_last, IsBatch}
 use Rattle.job_session.proofs.BatchOrder.{batch_within}
@@ -16,7 +16,7 @@ use Rattle.job_plan.specs.Numbers.{deals_before}
 use Rattle.job_plan.specs.Firsts.{first}
 use Rattle.job_plan.specs.Patterns.{pattern_at}
 use Rattle.job_plan.specs.Sound.{IsSound}
-use Rattle.job_plan.proofs.SlotMessages.{joined_place, first_within}
+use Rattle.job_plan.proofs.SlotMessages.{first_within}
 use Rattle.party_program.specs.declared.half.Half.{Half}
 use Rattle.party_program.specs.declared.half.Half.TheVariants.{Head, Tail}
 use Rattle.party_program.specs.declared.program.Instruction.{Instruction}

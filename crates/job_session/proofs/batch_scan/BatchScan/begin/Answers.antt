@@ -29,11 +29,11 @@ end_batch-requires c = omega (arith, c.requires.scan.ended, batch_within (sessio
 pub returns-in_ok-end_batch : goal.returns-in_ok-end_batch
 returns-in_ok-end_batch c =
     let s = session_in c.args.wiring.now in
-    let by = batch_by_stamps s c.args.k c.args.reads.0 c.args.reads.1 c.args.self.now c.waits.result c.requires.reads c.requires.scan c.waits.ensures in
+    let by = batch_by_stamps s c.requires.wiring.wired.direct c.args.k c.args.reads.0 c.args.reads.1 c.args.self.now c.waits.result c.requires.reads c.requires.scan c.waits.ensures in
     batch_begins s c.args.k c.args.self.now _ c.requires.slot (by.0 c.if-waits.true) c.requires.scan refl (ap (λ v. v.items) c.end_batch.ensures.stamps) c.in_ok-end_batch.ensures.ends
 
 pub returns-else-waits : goal.returns-else-waits
 returns-else-waits c =
     let s = session_in c.args.wiring.now in
-    let by = batch_by_stamps s c.args.k c.args.reads.0 c.args.reads.1 c.args.self.now c.waits.result c.requires.reads c.requires.scan c.waits.ensures in
+    let by = batch_by_stamps s c.requires.wiring.wired.direct c.args.k c.args.reads.0 c.args.reads.1 c.args.self.now c.waits.result c.requires.reads c.requires.scan c.waits.ensures in
     batch_goes_on s c.args.k c.args.self.now (by.1 c.if-waits.false) c.requires.scan
