@@ -1,13 +1,15 @@
 -- The slots of a party's deals.
-use Rattle.std.proofs.Common.{◌≡◌, ℕ, zero, suc, ◌+◌, ◌<◌, ◌≤◌, Bool, true, false, nat_le, if◌then◌else◌, ap, subst, arith}
+use Rattle.std.proofs.Common.{◌≡◌, ℕ, zero, suc, ◌+◌, ◌-◌, ◌*◌, ◌<◌, ◌≤◌, Bool, true, false, nat_le, if◌then◌else◌, length, ap, ◌∙◌, subst, arith}
 use Rattle.std.proofs.lemmas.Bool.{cases_eq, cases_lt, cond-true, cond-false, le-leb, lt-leb}
 use mathlib.Core.Logic.{inl, inr}
 use Rattle.list_laws.specs.Lists.{total}
 use Rattle.list_laws.proofs.Totals.{total_more}
 use Rattle.list_laws.proofs.JoinedLists.{total_within}
-use Rattle.job_plan.specs.Plans.{Plan, slot, slots, deals_in}
-use Rattle.job_plan.specs.Numbers.{deals_before, deals, deal_slot, DealsHaveSlots}
+use Rattle.job_session.specs.Counts.{products, prepared_products}
+use Rattle.job_plan.specs.Plans.{Plan, session, slot, slots, deals_in, least_held, place}
+use Rattle.job_plan.specs.Numbers.{deals_before, deals, deal_slot, deal_place, is_mask, DealsHaveSlots}
 use Rattle.job_plan.proofs.SlotSums.{one}
+use Rattle.job_plan.proofs.TallyLaws.{words_before_are, masks_are}
 
 module _ (plan : Plan) (p s : ℕ) where
   abbrev before : ℕ → ℕ
@@ -90,6 +92,21 @@ module _ (plan : Plan) (p s : ℕ) where
           | inr ne ↦ absurd (omega (arith, h.few, own, next k, rises (k + 1) c (omega arith)))
         ]
       ]
+
+-- where no product is prepared, all words are drawn for deals
+pub direct_place : (plan : Plan) (p s d : ℕ) → (session plan s).prepared ≡ false → d ≤ deals plan p s → deal_place plan p s d ≡ place plan p s 0 + (length plan.groups - 1) * d
+direct_place plan p s d direct le =
+    let f : ℕ → ℕ = λ j. one (is_mask (slot plan s j)) in
+    let c = deal_slot plan p s d in
+    let none : prepared_products (session plan s) ≡ 0 = cond-false (session plan s).prepared (products (session plan s)) 0 direct in
+    let all : total (slots plan s) f ≡ 0 = masks_are plan s ∙ omega (arith, none) in
+    let unmasked : total c f ≡ 0 = elim (cases_eq c (slots plan s)) [
+      | inl e ↦ ap (λ n. total n f) e ∙ all
+      | inr ne ↦ omega (arith, all, slot_within plan p s d, total_within (slots plan s) c f (omega (arith, ne, slot_within plan p s d)))
+    ] in
+    let words = words_before_are plan p s c in
+    let dealt = ap (λ n. (length plan.groups - 1) * n) (deals_before_slot plan p s d le) in
+    omega (arith, words, dealt, ap (λ n. least_held plan p (length plan.groups) * n) unmasked)
 
 pub deals_have_slots : (plan : Plan) (p : ℕ) → DealsHaveSlots plan p
 deals_have_slots plan p s k lk e = slot_of_deal plan p s k lk e

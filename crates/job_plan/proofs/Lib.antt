@@ -13,3 +13,4 @@ pub mod PartSearch
 pub mod MessageSlots
 pub mod TapePlaces
 pub mod DealSlots
+pub mod MaskPlaces

@@ -29,8 +29,8 @@ module _ (plan : Plan) (s : ℕ) where
   abbrev x : Session
   x = session plan s
 
-  pub deals_is : (p : ℕ) → deals plan p s ≡ owned x p + (if has_pair (scheme plan) p then products x else 0)
-  deals_is p =
+  dealt : (p : ℕ) → deals plan p s ≡ owned x p + (if has_pair (scheme plan) p then products x else 0)
+  dealt p =
       let h = has_pair (scheme plan) p in
       let f : Slot → ℕ = λ z. one (deals_in plan s p z) in
       let inputs = total_count (λ owner. nat_eq owner p) (owners x) 0 in
@@ -50,6 +50,9 @@ module _ (plan : Plan) (s : ℕ) where
       let inputs = total_zero (length (owners x)) (λ v. 0) (λ v l. refl) in
       let outputs = total_zero (length (readers x)) (λ o. 0) (λ o l. refl) in
       by_kind x f ∙ omega (arith, masks_same x f 2 (λ t. refl), gates_same x f 0 (λ t. refl) (λ t. refl), inputs, outputs)
+
+pub deals_is : (plan : Plan) (p s : ℕ) → deals plan p s ≡ owned (session plan s) p + (if has_pair (scheme plan) p then products (session plan s) else 0)
+deals_is plan p s = dealt plan s p
 
 -- ---- tape words
 

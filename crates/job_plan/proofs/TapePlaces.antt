@@ -9,6 +9,7 @@ use Rattle.job_plan.specs.Plans.{Plan, slot, slots, least_holder, least_held, wo
 use Rattle.job_plan.specs.Numbers.{MasksHaveWords}
 use Rattle.job_plan.specs.Firsts.{PlacesByWords}
 use Rattle.job_plan.specs.Tallies.{tape_length}
+use Rattle.job_plan.specs.Sound.{IsSound}
 
 pub places_by_words : (plan : Plan) (p : ℕ) → PlacesByWords plan p
 places_by_words plan p = record {
@@ -30,6 +31,9 @@ place_within plan p s k ls lk =
       | inl e ↦ omega (arith, within, ap (words_before plan p s) e)
       | inr ne ↦ omega (arith, within, total_within (slots plan s) k (λ j. words_in plan s p (slot plan s j)) (omega arith))
     ]
+
+pub few_places : (plan : Plan) (p s k : ℕ) → IsSound plan → p < plan.parties → s < length plan.sessions → k ≤ slots plan s → place plan p s k ≤ 1048576
+few_places plan p s k sound lp ls lk = omega (arith, place_within plan p s k ls lk, sound.few_words p lp)
 
 -- ---- masks
 

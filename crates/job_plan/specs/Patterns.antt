@@ -35,8 +35,8 @@ open_lines plan r =
     joined (length plan.groups) (λ i. only_if (not (holds plan r i))
     (record { share = i; sender = least_holder plan i; receiver = r } ∷ []))
 
--- the lines of a pattern, in order: of a product each party that has a pair deals, an output is opened to each reader, and
--- the summands of a mask are handed out by their least holders
+-- the lines of a pattern, in order: of a product each party that has a pair deals, an output is opened to each reader,
+-- and the summands of a mask are handed out by their least holders
 abbrev pub lines : Plan → Pattern → List Line
 lines plan Silent = []
 lines plan (Dealt p) = deal_lines plan p

@@ -117,8 +117,8 @@ reads plan p s o = opens_to plan s p (Output o)
 abbrev pub least_held : Plan → ℕ → ℕ → ℕ
 least_held plan p i = total i (λ j. if nat_eq (least_holder plan j) p then 1 else 0)
 
--- how many tape words p draws in this slot: of a mask one for each summand of which it is the least holder, and for a deal
--- one less than there are summands
+-- how many tape words p draws in this slot: of a mask one for each summand of which it is the least holder, and for a
+-- deal one less than there are summands
 abbrev pub words_in : Plan → ℕ → ℕ → Slot → ℕ
 words_in plan s p (Mask t side) = least_held plan p (length plan.groups)
 words_in plan s p z = if deals_in plan s p z then length plan.groups - 1 else 0

@@ -10,8 +10,8 @@ pub fn numbers_are_inverse()
     ensures { (plan : Plan) → NumbersAreInverse plan }
 {}
 
-/// No tape word of a party serves twice, a slot's words stand behind those of the slots before it, and the summands of a
-/// mask are words of their own.
+/// No tape word of a party serves twice, a slot's words stand behind those of the slots before it, and the summands of
+/// a mask are words of their own.
 pub fn places_are_apart()
     ensures apart { (plan : Plan) (p : ℕ) → PlacesDiffer plan p }
     ensures by_words { (plan : Plan) (p : ℕ) → PlacesByWords plan p }

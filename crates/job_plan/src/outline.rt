@@ -33,7 +33,8 @@ impl Outline {
     ghost use Rattle.std.specs.Prelude.{◌≡◌, ◌<◌, ◌≤◌, All, length};
     ghost use Rattle.secret_sharing.specs.Schemes.{has_pair};
     ghost use Rattle.job_plan.specs.Plans.{structure, scheme, session, slots, plan_of, holds, least_holder};
-    ghost use Rattle.job_plan.specs.Patterns.{pattern_at, Occurs};
+    ghost use Rattle.job_session.specs.Sessions.Slot.{At_gate};
+    ghost use Rattle.job_plan.specs.Patterns.{pattern, pattern_at, Occurs};
     ghost use Rattle.job_session.specs.SoundSessions.{IsSoundSession};
     ghost use Rattle.job_plan.specs.Sound.{IsOutline};
 
@@ -105,6 +106,15 @@ impl Outline {
         &self.parts[s as usize]
     }
 
+    /// Whether the products of session `s` are prepared. No session is made so yet.
+    pub(crate) fn prepared(&self, s: u32) -> bool
+        requires { s < length self.now.sessions }
+        ensures { result ≡ (session self.now s).prepared }
+    {
+        let _part = self.part(s);
+        false
+    }
+
     /// Whether party `p` deals at a product.
     pub(crate) fn multiplies(&self, p: u32) -> bool
         requires { p < self.now.parties }
@@ -141,14 +151,26 @@ impl Outline {
         let part = self.part(s);
         match part.slot_kind(k) {
             SlotKind::Input(v) => Pattern::Dealt(part.wire_owner(v)),
-            SlotKind::Gate(t) => {
-                if part.gate(t).operation.is_product() {
-                    Pattern::Multiplied
-                } else {
-                    Pattern::Silent
-                }
-            }
+            SlotKind::Gate(t) => self.gate_pattern(s, t),
             SlotKind::Output(o) => Pattern::Opened(part.wire_readers(o)),
+            SlotKind::Mask(_, _) => Pattern::HandedOut,
+            SlotKind::MaskProduct(_) => Pattern::Multiplied,
+            SlotKind::Masked(_, _) => Pattern::OpenedToAll,
+        }
+    }
+
+    // How the messages of gate t of session s go.
+    fn gate_pattern(&self, s: u32, t: u32) -> Pattern
+        requires session { s < length self.now.sessions }
+        requires gate { t < length (session self.now s).gates }
+        ensures { result ≡ pattern self.now s (At_gate t) }
+    {
+        if !self.part(s).gate(t).operation.is_product() {
+            Pattern::Silent
+        } else if self.prepared(s) {
+            Pattern::Joined
+        } else {
+            Pattern::Multiplied
         }
     }
 }

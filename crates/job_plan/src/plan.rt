@@ -4,15 +4,15 @@ ghost use Rattle.job_plan.specs.Messages.{messages};
 ghost use Rattle.job_plan.specs.Sound.{IsLaid};
 ghost use Rattle.job_plan.specs.Limits.{IsPlanWithin, IsPlanRefusal};
 
-use crate::counts::{message_count, word_count};
+use crate::counts::{deal_count, least_held, message_count, word_count};
 use crate::key::Key;
-use crate::lists::{list_deals, list_starts, list_words};
+use crate::lists::{list_starts, list_words};
 use crate::outline::Outline;
 use crate::pattern::{Line, Pattern};
 use crate::patterns::Patterns;
 use crate::ranks::search;
 use crate::starts::Starts;
-use job_session::{RowTable, SessionPart};
+use job_session::{RowTable, SessionPart, SlotKind};
 use mpc_ring::Ring;
 use plan_faults::PlanFault;
 use product_duty::Duty;
@@ -31,7 +31,6 @@ pub struct Plan {
     patterns: Patterns,
     starts: Vec<Starts>,
     words: Vec<Starts>,
-    deals: Vec<Starts>,
 }
 
 impl Model for Plan {
@@ -42,19 +41,20 @@ impl Model for Plan {
 
     ghost view = { λ p. p.outline };
 
-    ghost invariant = { λ p. IsLaid p.outline p.count p.patterns p.starts.items p.words.items p.deals.items };
+    ghost invariant = { λ p. IsLaid p.outline p.count p.patterns p.starts.items p.words.items };
 }
 
 impl Plan {
-    ghost use Rattle.std.specs.Prelude.{◌≡◌, ℕ, ◌+◌, ◌<◌, ◌≤◌, All, IfOk, IfErr, OnOk, SomeIff, map, length};
+    ghost use Rattle.std.specs.Prelude.{◌≡◌, ℕ, ◌+◌, ◌-◌, ◌<◌, ◌≤◌, true, if◌then◌else◌, map, length};
+    ghost use Rattle.std.specs.Prelude.{All, IfOk, IfErr, OnOk, SomeIff};
     ghost use Rattle.std.specs.Arc.{arc_value};
-    ghost use Rattle.list_laws.specs.Lists.{total};
     ghost use Rattle.job_session.specs.KeptWires.{IsRows, live};
-    ghost use Rattle.job_plan.specs.Plans.{plan_of, structure, scheme, session, slot, slots, words, place};
+    ghost use Rattle.job_plan.specs.Plans.{plan_of, structure, scheme, session, slot, slots, deals_in};
+    ghost use Rattle.job_plan.specs.Plans.{words, place, random_place};
     ghost use Rattle.secret_sharing.specs.Schemes.{has_pair};
     ghost use Rattle.job_plan.specs.Messages.{messages, slot_messages};
     ghost use Rattle.job_plan.specs.Patterns.{named, lines, pattern_at, Occurs};
-    ghost use Rattle.job_plan.specs.Numbers.{message, number, deals, deals_before, deal_place};
+    ghost use Rattle.job_plan.specs.Numbers.{message, number, deals, deals_before, deal_place, is_mask, DrawsSummand};
     ghost use Rattle.job_session.specs.SoundSessions.{IsSoundSession};
     ghost use Rattle.job_plan.specs.Sound.{IsSound};
     ghost use Rattle.job_plan.specs.Firsts.{first};
@@ -83,7 +83,6 @@ impl Plan {
             patterns,
             starts,
             words,
-            deals,
         } = tables;
         Ok(Plan {
             outline,
@@ -91,7 +90,6 @@ impl Plan {
             patterns,
             starts,
             words,
-            deals,
         })
     }
 
@@ -282,8 +280,7 @@ impl Plan {
         requires session { s < length self.now.sessions }
         ensures { result ≡ deals self.now p s }
     {
-        let before = self.deals_before(p, s);
-        self.deals_before(p, s + 1) - before
+        deal_count(&self.outline, p, s)
     }
 
     /// How many tape words party `p` draws in session `s`.
@@ -307,26 +304,61 @@ impl Plan {
         self.words[p as usize].at(s)
     }
 
-    /// The place on party `p`'s tape of the first word of deal `deal` of session `s`, behind the words of the sessions
-    /// and deals before it. At the count of its deals, the place behind them.
+    /// The place on party `p`'s tape of the first word of deal `deal` of session `s`, behind all words that it draws
+    /// before. At the count of its deals, the place behind them.
     pub fn tape_place(&self, p: u32, s: u32, deal: u32) -> u32
         requires party { p < self.now.parties }
         requires session { s < length self.now.sessions }
         requires deal { deal ≤ deals self.now p s }
         ensures is { result ≡ deal_place self.now p s deal }
-        ensures in_slot { (k : ℕ) → deal ≡ deals_before self.now p s k → result ≡ place self.now p s k }
+        ensures in_slot { (k : ℕ) → k < slots self.now s → deals_in self.now s p (slot self.now s k) ≡ true
+            → deal ≡ deals_before self.now p s k → result ≡ place self.now p s k }
     {
         self.tape_start(p, s) + (self.shares() - 1) * deal
     }
 
-    // How many deals p makes in the sessions before s.
-    fn deals_before(&self, p: u32, s: u32) -> u32
+    /// The place on party `p`'s tape of summand `i` of the mask in slot `k` of session `s`; None exactly where the slot
+    /// is no mask, or `p` doesn't draw the summand.
+    pub fn random_place(&self, p: u32, s: u32, k: u32, i: u32) -> Option<u32>
         requires party { p < self.now.parties }
-        requires session { s ≤ length self.now.sessions }
-        ensures is { result ≡ total s (deals self.now p) }
+        requires session { s < length self.now.sessions }
+        requires slot { k < slots self.now s }
+        requires summand { i < length self.now.groups }
+        ensures { SomeIff result (DrawsSummand self.now p s k i) (random_place self.now s k i) }
+    {
+        match self.outline.part(s).slot_kind(k) {
+            SlotKind::Mask(_, _) if self.outline.least_holder(i) == p => {
+                Some(self.mask_place(p, s, k) + least_held(&self.outline, p, i))
+            }
+            _ => None,
+        }
+    }
+
+    // The place on p's tape of the first word that it draws for the mask in slot k: all slots before it are the masks
+    // of products, and the products of these, three for each product.
+    fn mask_place(&self, p: u32, s: u32, k: u32) -> u32
+        requires party { p < self.now.parties }
+        requires session { s < length self.now.sessions }
+        requires slot { k < slots self.now s }
+        requires mask { is_mask (slot self.now s k) ≡ true }
+        ensures is { result ≡ place self.now p s k }
         ensures sound { IsSound self.now }
     {
-        self.deals[p as usize].at(s)
+        let held = least_held(&self.outline, p, self.shares());
+        let each = 2 * held + self.product_words(p);
+        self.tape_start(p, s) + k / 3 * each + k % 3 * held
+    }
+
+    // How many words p draws at a product that it deals.
+    fn product_words(&self, p: u32) -> u32
+        requires { p < self.now.parties }
+        ensures { result ≡ (if has_pair (scheme self.now) p then length self.now.groups - 1 else 0) }
+    {
+        if self.multiplies(p) {
+            self.shares() - 1
+        } else {
+            0
+        }
     }
 }
 
@@ -340,13 +372,12 @@ struct Tables {
     patterns: Patterns,
     starts: Vec<Starts>,
     words: Vec<Starts>,
-    deals: Vec<Starts>,
 }
 
 // The tables of a plan, unless it is refused.
 fn tables_of(alloc: Global, outline: &Outline) -> Result<Tables, PlanFault>
     ensures laid { IfOk result (λ made.
-        IsLaid outline.now made.count made.patterns made.starts.items made.words.items made.deals.items) }
+        IsLaid outline.now made.count made.patterns made.starts.items made.words.items) }
     ensures limits { MatchResult result (λ _. IsPlanWithin outline.now) (IsPlanRefusal outline.now) }
 {
     let _ = outline.parties();
@@ -359,13 +390,11 @@ fn tables_of(alloc: Global, outline: &Outline) -> Result<Tables, PlanFault>
     let patterns = Patterns::make(alloc, outline)?;
     let starts = list_starts(alloc, outline, &patterns)?;
     let words = list_words(alloc, outline)?;
-    let deals = list_deals(alloc, outline)?;
     Ok(Tables {
         count,
         patterns,
         starts,
         words,
-        deals,
     })
 }
 
