@@ -32,7 +32,8 @@ impl Model for Outline {
 impl Outline {
     ghost use Rattle.std.specs.Prelude.{◌≡◌, ◌<◌, ◌≤◌, All, length};
     ghost use Rattle.secret_sharing.specs.Schemes.{has_pair};
-    ghost use Rattle.job_plan.specs.Plans.{structure, scheme, session, slots, plan_of, holds, least_holder};
+    ghost use Rattle.job_plan.specs.Plans.{structure, scheme, session, slot, slots, plan_of, holds, least_holder};
+    ghost use Rattle.job_plan.specs.Numbers.{is_mask};
     ghost use Rattle.job_session.specs.Sessions.Slot.{At_gate};
     ghost use Rattle.job_plan.specs.Patterns.{pattern, pattern_at, Occurs};
     ghost use Rattle.job_session.specs.SoundSessions.{IsSoundSession};
@@ -139,6 +140,15 @@ impl Outline {
         ensures party { result < self.now.parties }
     {
         self.layout.least_holder(i)
+    }
+
+    /// Whether slot `k` of session `s` is of a mask.
+    pub(crate) fn is_mask(&self, s: u32, k: u32) -> bool
+        requires session { s < length self.now.sessions }
+        requires slot { k < slots self.now s }
+        ensures { result ≡ is_mask (slot self.now s k) }
+    {
+        matches!(self.part(s).slot_kind(k), SlotKind::Mask(_, _))
     }
 
     /// How the messages of slot `k` of session `s` go.

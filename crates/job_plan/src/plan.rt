@@ -12,7 +12,7 @@ use crate::pattern::{Line, Pattern};
 use crate::patterns::Patterns;
 use crate::ranks::search;
 use crate::starts::Starts;
-use job_session::{RowTable, SessionPart, SlotKind};
+use job_session::{RowTable, SessionPart};
 use mpc_ring::Ring;
 use plan_faults::PlanFault;
 use product_duty::Duty;
@@ -326,12 +326,23 @@ impl Plan {
         requires summand { i < length self.now.groups }
         ensures { SomeIff result (DrawsSummand self.now p s k i) (random_place self.now s k i) }
     {
-        match self.outline.part(s).slot_kind(k) {
-            SlotKind::Mask(_, _) if self.outline.least_holder(i) == p => {
-                Some(self.mask_place(p, s, k) + least_held(&self.outline, p, i))
-            }
-            _ => None,
+        if self.outline.is_mask(s, k) && self.outline.least_holder(i) == p {
+            Some(self.summand_place(p, s, k, i))
+        } else {
+            None
         }
+    }
+
+    // The place on p's tape of summand i of the mask in slot k, where p draws it.
+    fn summand_place(&self, p: u32, s: u32, k: u32, i: u32) -> u32
+        requires party { p < self.now.parties }
+        requires session { s < length self.now.sessions }
+        requires slot { k < slots self.now s }
+        requires summand { i < length self.now.groups }
+        requires drawn { DrawsSummand self.now p s k i }
+        ensures { result ≡ random_place self.now s k i }
+    {
+        self.mask_place(p, s, k) + least_held(&self.outline, p, i)
     }
 
     // The place on p's tape of the first word that it draws for the mask in slot k: all slots before it are the masks
