@@ -24,7 +24,7 @@ use Rattle.party_program.specs.declared.program.Instruction.TheVariants.{End}
 use Rattle.party_program.specs.declared.program.Program.{Program}
 use Rattle.party_program.specs.declared.place.Place.{Place}
 use Rattle.party_program.specs.declared.step.Step.{Step}
-use Rattle.party_program.specs.declared.step.Step.TheVariants.{Deal, Own, Post, Take, Linear, Sum, Deliver}
+use Rattle.party_program.specs.declared.step.Step.TheVariants.{Draw, Deal, Own, Post, Take, Linear, Sum, Open, Join, Deliver}
 use Rattle.party_program.specs.Programs.{head, tail, tails, turn, half_program, program, at}
 use Rattle.party_program.specs.PartySteps.{steps, placed, IsPlaced}
 use Rattle.party_program.specs.ProgramPlaces.{instructions_before, halves_before, position_of, count_in, IsPlace, IsProgram}
@@ -33,12 +33,15 @@ use Rattle.party_program.proofs.FewLines.{few_lines}
 use Rattle.party_program.proofs.PlacedSteps.{steps_placed}
 
 placed_within : (n m : ℕ) (step : Step) → n ≤ m → IsPlaced n step → IsPlaced m step
+placed_within n m Draw l h = tt
 placed_within n m Deal l h = tt
 placed_within n m Own l h = tt
 placed_within n m (Post share place) l h = omega arith
 placed_within n m (Take share place) l h = omega arith
 placed_within n m Linear l h = tt
 placed_within n m Sum l h = tt
+placed_within n m Open l h = tt
+placed_within n m Join l h = tt
 placed_within n m Deliver l h = tt
 
 -- a program is that of the party and the session that it names
