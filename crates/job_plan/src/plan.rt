@@ -50,7 +50,7 @@ impl Plan {
     ghost use Rattle.std.specs.Arc.{arc_value};
     ghost use Rattle.job_session.specs.KeptWires.{IsRows, live};
     ghost use Rattle.job_plan.specs.Plans.{plan_of, structure, scheme, session, slot, slots, deals_in};
-    ghost use Rattle.job_plan.specs.Plans.{words, place, random_place};
+    ghost use Rattle.job_plan.specs.Plans.{words, place, random_place, least_held};
     ghost use Rattle.secret_sharing.specs.Schemes.{has_pair};
     ghost use Rattle.job_plan.specs.Messages.{messages, slot_messages};
     ghost use Rattle.job_plan.specs.Patterns.{named, lines, pattern_at, Occurs};
@@ -168,6 +168,14 @@ impl Plan {
         ensures { result ≡ has_pair (scheme self.now) p }
     {
         self.outline.multiplies(p)
+    }
+
+    /// Of how many of the first `end` summands party `p` is the least holder. Of all, as many words as it draws for a mask.
+    pub fn least_held(&self, p: u32, end: u32) -> u32
+        requires { end ≤ length self.now.groups }
+        ensures { result ≡ least_held self.now p end }
+    {
+        least_held(&self.outline, p, end)
     }
 
     /// How many messages there are, over all sessions.
