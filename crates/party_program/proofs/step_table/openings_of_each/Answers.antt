@@ -1,7 +1,7 @@
-use Rattle.std.proofs.Common.{rules, ◌≡◌, ℕ, ◌<◌, ◌≤◌, length, ap, ◌∙◌, arith}
+use Rattle.std.proofs.Common.{rules, ◌≡◌, ℕ, length, ap, ◌∙◌, arith}
 use Rattle.job_session.specs.Sessions.{Session, readers}
 use Rattle.job_session.proofs.SessionSlots.{slot_count}
-use Rattle.job_plan.specs.Plans.{Plan, session, slots}
+use Rattle.job_plan.specs.Plans.{Plan, session}
 use Rattle.party_program.proofs.OccurringPatterns.{opened_last}
 use Rattle.party_program.proofs.step_table.openings_of_each.Goals as goal
 
