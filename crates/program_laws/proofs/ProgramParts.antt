@@ -2,7 +2,7 @@
 use Rattle.std.proofs.Common.{◌≡◌, ◌≢◌, ℕ, zero, suc, ◌+◌, ◌-◌, ◌<◌, ◌≤◌, Bool, true, false, not, ◌&&◌, nat_eq, nat_lt, List, [], ◌∷◌, ◌++◌, map, length, refl, sym, ap, ◌∙◌, subst, arith, length-append}
 use Rattle.std.specs.Prelude.{slice_index}
 use Rattle.std.specs.List.{AllByRecursion, filter}
-use Rattle.std.proofs.lemmas.Bool.{cases_lt, cond-true, and_parts, eqb-true, false≢true, ltb-true}
+use Rattle.std.proofs.lemmas.Bool.{cases_lt, cond-true, and_from, and_parts, eqb-true, false≢true, ltb-true}
 use Rattle.std.proofs.lemmas.List.{get_or_past, get_or-append-add}
 use Rattle.std.proofs.Math.ListN.{get_or-append}
 use mathlib.Core.Logic.{inl, inr}
@@ -198,6 +198,18 @@ module _ (plan : Plan) (sound : IsSound plan) (s p : ℕ) (ls : s < length plan.
   abbrev Product : Slot → Type 0
   Product = Multiplied (session plan s)
 
+  abbrev Dealing : Slot → Type 0
+  Dealing z = deals_in plan s p z ≡ true
+
+  -- who has a pair deals of a product
+  pub dealing : (z : Slot) → Product z → has_pair (scheme plan) p ≡ true → Dealing z
+  dealing (At_gate t) direct pair = and_from (is_direct (session plan s) t) (has_pair (scheme plan) p) direct pair
+  dealing (Mask_product t) is pair = pair
+  dealing (Input v) is pair = absurd is
+  dealing (Output o) is pair = absurd is
+  dealing (Mask t side) is pair = absurd is
+  dealing (Masked t side) is pair = absurd is
+
   abbrev Linears : Slot → Type 0
   Linears z = (t : ℕ) × (z ≡ At_gate t) × (is_product (gate (session plan s) t).operation ≡ false)
 
@@ -206,7 +218,7 @@ module _ (plan : Plan) (sound : IsSound plan) (s p : ℕ) (ls : s < length plan.
 
   abbrev pub Fits : Instruction → Type 0
   Fits (Draw k) = Is k IsMask
-  Fits (Deal k d) = k < slots plan s
+  Fits (Deal k d) = Is k Dealing
   Fits (Own k) = Is k Product
   Fits (Linear k) = Is k Linears
   Fits (Sum k) = Is k Product
@@ -227,8 +239,8 @@ module _ (plan : Plan) (sound : IsSound plan) (s p : ℕ) (ls : s < length plan.
   heads_fit k lk = every_head plan s p Fits k
       (every_opening plan s p Fits k (record {
         draws = λ t side e some. (lk, subst IsMask (sym e) tt);
-        inputs = λ v e b. lk;
-        products = λ z e is b. ((lk, subst Product (sym e) is), lk);
+        inputs = λ v e b. (lk, subst Dealing (sym e) b);
+        products = λ z e is b. ((lk, subst Product (sym e) is), (lk, subst Dealing (sym e) (dealing z is b)));
         linears = λ t e b. (lk, (t, e, b));
       }))
       (every_filter _ _ (from plan p) (numbers plan s k) (in_slot k lk) (λ n f e. (named k n lk f, eqb-true _ _ e)))

@@ -41,11 +41,15 @@ any_joined p i (suc n) k f l h = elim (cases_eq k n) [
   | inr ne ↦ any_left p i (joined n f) (f n) (any_joined p i n k f (omega arith) h)
 ]
 
+-- where each summand is dealt by a sender of its own
+pub row_any : (plan : Plan) (s k : ℕ) (sender : ℕ → ℕ) (p i : ℕ) → p < plan.parties → i < length plan.groups → p ≢ sender i → holds plan p i ≡ true → Any p i (joined (length plan.groups) (λ j. joined plan.parties (deal_message plan s k (sender j) j)))
+row_any plan s k sender p i lp li ne has =
+    any_joined p i (length plan.groups) i (λ j. joined plan.parties (deal_message plan s k (sender j) j)) li
+    (any_joined p i plan.parties p (deal_message plan s k (sender i) i) lp
+    (subst (Any p i) (sym (cond-true (not (nat_eq p (sender i)) && holds plan p i) _ [] (and_from _ _ (not_from_false _ (ne_eqb p (sender i) ne)) has))) (inl (refl, refl))))
+
 pub deal_any : (plan : Plan) (s k o p i : ℕ) → p < plan.parties → i < length plan.groups → p ≢ o → holds plan p i ≡ true → Any p i (deal_messages plan s k o)
-deal_any plan s k o p i lp li ne has =
-    any_joined p i (length plan.groups) i (λ i. joined plan.parties (deal_message plan s k o i)) li
-    (any_joined p i plan.parties p (deal_message plan s k o i) lp
-    (subst (Any p i) (sym (cond-true (not (nat_eq p o) && holds plan p i) _ [] (and_from _ _ (not_from_false _ (ne_eqb p o ne)) has))) (inl (refl, refl))))
+deal_any plan s k o = row_any plan s k (λ j. o)
 
 pub any_number : (plan : Plan) (p i : ℕ) (ns : List ℕ) → Any p i (map (message plan) ns) → Has plan i (filter (to plan p) ns)
 any_number plan p i [] h = absurd h
