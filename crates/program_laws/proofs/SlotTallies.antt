@@ -100,6 +100,10 @@ pub one_tally : (got : Key → ℕ) (p i : ℕ) (b : Bool) (x : Key) → key_tal
 one_tally got p i true x = omega arith
 one_tally got p i false x = refl
 
+pub no_words : (b : Bool) → ◌≡◌ {A = ℕ} (if b then 0 else 0) 0
+no_words true = refl
+no_words false = refl
+
 module _ (plan : Plan) (got : Key → ℕ) (s k p i : ℕ) (lp : p < plan.parties) (li : i < length plan.groups) (has : holds plan p i ≡ true) where
   abbrev key : ℕ → ℕ → ℕ → Key
   key d j r = record { session = s; slot = k; share = j; sender = d; receiver = r }
@@ -113,9 +117,9 @@ module _ (plan : Plan) (got : Key → ℕ) (s k p i : ℕ) (lp : p < plan.partie
       let rows : (j : ℕ) → key_tally got p i (joined plan.parties (deal_message plan s k d j)) ≡ row j = λ j.
       key_tally-joined got p i plan.parties (deal_message plan s k d j) ∙ total_eq plan.parties _ _ (λ r lr. one_tally got p i (test d j r) (key d j r)) in
       let other : (j r : ℕ) → r ≢ p → (if test d j r then weight got p i (key d j r) else 0) ≡ 0 = λ j r ne.
-      ap (λ z. if test d j r then z else 0) (cond-false (nat_eq r p) _ 0 (ne_eqb r p ne)) ∙ nothing (test d j r) in
+      ap (λ z. if test d j r then z else 0) (cond-false (nat_eq r p) _ 0 (ne_eqb r p ne)) ∙ no_words (test d j r) in
       let column : (j : ℕ) → row j ≡ (if test d j p then weight got p i (key d j p) else 0) = λ j. total_only plan.parties p _ lp (λ r lr ne. other j r ne) in
-      let elsewhere : (j : ℕ) → j ≢ i → row j ≡ 0 = λ j ne. column j ∙ ap (λ z. if test d j p then z else 0) (cond-true (nat_eq p p) _ 0 (eq-eqb p p refl) ∙ cond-false (nat_eq i j) _ 0 (ne_eqb i j (λ e. ne (sym e)))) ∙ nothing (test d j p) in
+      let elsewhere : (j : ℕ) → j ≢ i → row j ≡ 0 = λ j ne. column j ∙ ap (λ z. if test d j p then z else 0) (cond-true (nat_eq p p) _ 0 (eq-eqb p p refl) ∙ cond-false (nat_eq i j) _ 0 (ne_eqb i j (λ e. ne (sym e)))) ∙ no_words (test d j p) in
       key_tally-joined got p i (length plan.groups) (λ j. joined plan.parties (deal_message plan s k d j))
       ∙ total_eq (length plan.groups) _ row (λ j lj. rows j)
       ∙ total_only (length plan.groups) i row li (λ j lj ne. elsewhere j ne)
@@ -125,7 +129,3 @@ module _ (plan : Plan) (got : Key → ℕ) (s k p i : ℕ) (lp : p < plan.partie
         | inl e ↦ cond-false (test d i p) _ 0 (and_left _ _ (not_from_true _ (eq-eqb p d (sym e)))) ∙ sym (cond-true (nat_eq d p) 0 _ (eq-eqb d p e))
         | inr ne ↦ cond-true (test d i p) _ 0 (and_from _ _ (not_from_false _ (ne_eqb p d (λ e. ne (sym e)))) has) ∙ sym (cond-false (nat_eq d p) 0 _ (ne_eqb d p ne))
       ]
-    where
-      nothing : (b : Bool) → ◌≡◌ {A = ℕ} (if b then 0 else 0) 0
-      nothing true = refl
-      nothing false = refl
