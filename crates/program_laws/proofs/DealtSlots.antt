@@ -1,18 +1,17 @@
 -- What a party does in a slot of an input, or of a mask: its words are put into a row.
-use Rattle.std.proofs.Common.{◌≡◌, ◌≢◌, ℕ, suc, ◌+◌, ◌-◌, ◌<◌, ◌≤◌, ◌^◌, true, false, nat_eq, nat_lt, if◌then◌else◌, List, [], ◌∷◌, map, length, refl, sym, ap, ap₂, ◌∙◌, subst, arith}
+use Rattle.std.proofs.Common.{◌≡◌, ◌≢◌, ℕ, suc, ◌+◌, ◌-◌, ◌<◌, true, false, nat_eq, nat_lt, if◌then◌else◌, List, [], ◌∷◌, length, refl, sym, ap, ◌∙◌, subst, arith}
 use Rattle.std.specs.Prelude.{slice_index, slice_index_or}
 use Rattle.std.specs.List.{AllByRecursion, filter}
-use Rattle.std.proofs.lemmas.Bool.{cases_eq, cases_lt, cases_Bool, cond-true, cond-false, eq-eqb, ne_eqb, eqb-true, lt-ltb, le-ltb}
+use Rattle.std.proofs.lemmas.Bool.{cases_eq, cases_lt, cond-true, cond-false, eq-eqb, ne_eqb, eqb-true, lt-ltb, le-ltb}
 use mathlib.Core.Logic.{inl, inr}
 use Rattle.list_laws.specs.Lists.{joined}
-use Rattle.circuit_model.specs.Circuits.{set_at}
 use Rattle.circuit_model.proofs.SetAt.{set_here, set_there}
 use Rattle.secret_sharing.specs.Schemes.{Run, dealt}
 use Rattle.secret_sharing.proofs.SummandSums.{dealt_eq}
 use Rattle.job_session.specs.declared.side.Side.{Side}
 use Rattle.job_session.specs.Sessions.{Session, Slot, owners, mask_wire}
 use Rattle.job_session.specs.Sessions.Slot.{Input, Mask}
-use Rattle.job_plan.specs.Plans.{Plan, scheme, session, slot, slots, holds, giver, gives, given_before, least_holder, least_held, deals_in, words_in, words_before}
+use Rattle.job_plan.specs.Plans.{Plan, scheme, session, slot, slots, holds, giver, given_before, least_holder, least_held, deals_in, words_in, words_before}
 use Rattle.job_plan.specs.declared.key.Key.{Key}
 use Rattle.job_plan.specs.Firsts.{numbers}
 use Rattle.job_plan.specs.Messages.{slot_messages, deal_message}
@@ -23,11 +22,11 @@ use Rattle.share_world.specs.Worlds.{World, tape_word, input_of}
 use Rattle.share_world.specs.Locals.{local_deal, local_mask, local_run, local_word_in}
 use Rattle.party_program.specs.declared.program.Instruction.{Instruction}
 use Rattle.party_program.specs.declared.program.Instruction.TheVariants.{Draw, Deal}
-use Rattle.party_program.specs.Programs.{from, to, post, opening, closing, takes}
+use Rattle.party_program.specs.Programs.{from, to, opening, closing, takes}
 use Rattle.party_program.specs.States.{Given, State, next, after_all, posted, dealt_in, drawn_in, word_after}
 use Rattle.party_program.specs.Proper.{Deals, IsMask}
 use Rattle.party_program.proofs.InstructionLists.{Leaves}
-use Rattle.program_laws.specs.Meets.{local_given, IsNextInput, RightAt, Goes}
+use Rattle.program_laws.specs.Meets.{local_given, IsNextInput, Goes}
 use Rattle.program_laws.proofs.ProductSlots.{Doing}
 use Rattle.program_laws.proofs.SlotRuns.{Runs, number_is, word_is, more_words, Ready, Rowed, key, In, numbered, RowBy, all_rows, slot_is, word_of, slot_leaves}
 use Rattle.program_laws.proofs.SlotTakes.{Writes, RowOf, Has, takes_row}

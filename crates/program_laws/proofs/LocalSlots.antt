@@ -1,5 +1,5 @@
 -- Slot after slot, a party posts and delivers what it computes by itself.
-use Rattle.std.proofs.Common.{◌≡◌, ◌≢◌, ℕ, zero, suc, ◌+◌, ◌*◌, ◌<◌, ◌≤◌, Bool, true, false, not, ◌&&◌, nat_eq, nat_lt, if◌then◌else◌, List, [], ◌∷◌, ◌++◌, length, refl, sym, ap, ◌∙◌, subst, arith}
+use Rattle.std.proofs.Common.{◌≡◌, ◌≢◌, ℕ, zero, suc, ◌+◌, ◌*◌, ◌<◌, ◌≤◌, Bool, true, false, not, ◌&&◌, nat_lt, if◌then◌else◌, List, length, refl, sym, ap, ◌∙◌, subst, arith}
 use Rattle.std.specs.Prelude.{Some}
 use Rattle.std.proofs.lemmas.Bool.{cases_eq, cases_lt, cases_Bool, cond-true, cond-false, eq-eqb, ne_eqb, lt-ltb, le-ltb, both_ways}
 use mathlib.Core.Logic.{inl, inr}
@@ -9,9 +9,9 @@ use Rattle.circuit_model.proofs.SetAt.{set_here, set_there}
 use Rattle.secret_sharing.specs.Schemes.{Run, summands}
 use Rattle.job_session.specs.declared.side.Side.{Side}
 use Rattle.job_session.specs.declared.side.Side.TheVariants.{First, Second}
-use Rattle.job_session.specs.Sessions.{Session, Slot, owners, readers, gate, output_wire, is_direct, is_prepared, mask_wire, product_wire}
+use Rattle.job_session.specs.Sessions.{Session, Slot, owners, readers, gate, output_wire, is_prepared, mask_wire, product_wire}
 use Rattle.job_session.specs.Sessions.Slot.{Input, At_gate, Output, Mask, Mask_product, Masked}
-use Rattle.job_session.specs.SlotNumbers.{prepared_before, first_input, first_of_gate, session_slot_number, SlotsAreNumbered}
+use Rattle.job_session.specs.SlotNumbers.{prepared_before, first_input, first_of_gate}
 use Rattle.job_session.specs.SoundSessions.{Inside, IsWired}
 use Rattle.job_session.proofs.SessionSlots.{slots_are_numbered}
 use Rattle.job_plan.specs.Plans.{Plan, session, slot, slots, slot_number, holds, giver, gives, given_before, opens_to}
@@ -144,10 +144,10 @@ module _ (w : World) (got : Key → ℕ) (s p : ℕ) (h : Runs w s p) where
           wires = λ v j lv lj held. rc.others v j (omega (arith, lv)) ∙ rb.others v j (omega (arith, lv)) ∙ ra.others v j (omega (arith, lv)) ∙ i.wires v j lv lj held;
           trips = λ u lu its. elim (cases_eq u t) [
             | inl same ↦ subst (λ z. Trip z υ) (sym same) (record {
-                first = λ j lj held. rc.others r1 j (omega arith) ∙ rb.others r1 j (omega arith) ∙ ra.here j lj held;
-                second = λ j lj held. rc.others r2 j (omega arith) ∙ rb.here j lj held;
-                product = rc.here;
-              })
+              first = λ j lj held. rc.others r1 j (omega arith) ∙ rb.others r1 j (omega arith) ∙ ra.here j lj held;
+              second = λ j lj held. rc.others r2 j (omega arith) ∙ rb.here j lj held;
+              product = rc.here;
+            })
             | inr ne ↦ trip_stays u r3 τ υ rc.others (omega (arith, ne)) (omega (arith, ne)) (omega (arith, ne))
                 (trip_stays u r2 ρ τ rb.others (omega (arith, ne)) (omega (arith, ne)) (omega (arith, ne))
                 (trip_stays u r1 σ ρ ra.others (omega (arith, ne)) (omega (arith, ne)) (omega (arith, ne)) (i.trips u (omega (arith, lu, ne)) its)))

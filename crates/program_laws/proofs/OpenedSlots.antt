@@ -1,5 +1,5 @@
 -- What a party does in a slot of an output, or of a masked wire: it opens it.
-use Rattle.std.proofs.Common.{◌≡◌, ◌≢◌, ℕ, suc, ◌+◌, ◌%◌, ◌<◌, ◌^◌, true, false, not, ◌&&◌, nat_eq, if◌then◌else◌, List, [], ◌∷◌, map, length, refl, sym, ap, ap₂, ◌∙◌, subst, arith}
+use Rattle.std.proofs.Common.{◌≡◌, ◌≢◌, ℕ, suc, ◌+◌, ◌%◌, ◌<◌, ◌^◌, true, false, not, nat_eq, if◌then◌else◌, List, [], ◌∷◌, length, refl, sym, ap, ap₂, ◌∙◌, subst, arith}
 use Rattle.std.specs.Prelude.{Some}
 use Rattle.std.specs.List.{AllByRecursion, filter}
 use Rattle.std.proofs.lemmas.Bool.{cases_Bool, cond-true, cond-false, eq-eqb, ne_eqb, eqb-true, both_ways, not_from_false}
@@ -27,7 +27,7 @@ use Rattle.share_world.specs.Worlds.{World}
 use Rattle.share_world.specs.Locals.{local_mask, local_opened, local_excess, local_output, local_run, local_word_in}
 use Rattle.party_program.specs.declared.program.Instruction.{Instruction}
 use Rattle.party_program.specs.declared.program.Instruction.TheVariants.{Open, Deliver}
-use Rattle.party_program.specs.Programs.{from, to, post, take_of, opening, closing, takes}
+use Rattle.party_program.specs.Programs.{from, to, post, opening, closing, takes}
 use Rattle.party_program.specs.States.{Given, State, next, after_all, posted, excess_of, opened, opened_in, delivered, output_in_slot, set_side}
 use Rattle.party_program.specs.Proper.{IsMasked, IsOutput}
 use Rattle.party_program.proofs.InstructionLists.{Leaves}

@@ -1,11 +1,11 @@
 -- What a party does in a slot of a gate, or of a product of masks.
-use Rattle.std.proofs.Common.{◌≡◌, ◌≢◌, ℕ, suc, ◌+◌, ◌-◌, ◌*◌, ◌%◌, ◌<◌, ◌^◌, Bool, true, false, not, ◌&&◌, nat_eq, if◌then◌else◌, List, [], ◌∷◌, ◌++◌, map, length, refl, sym, ap, ap₂, ◌∙◌, subst, arith, append-nil}
+use Rattle.std.proofs.Common.{◌≡◌, ◌≢◌, ℕ, suc, ◌+◌, ◌-◌, ◌*◌, ◌%◌, ◌<◌, ◌^◌, Bool, true, false, not, ◌&&◌, nat_eq, if◌then◌else◌, List, [], ◌∷◌, ◌++◌, length, refl, sym, ap, ap₂, ◌∙◌, subst, arith, append-nil}
 use Rattle.std.specs.Prelude.{slice_index}
 use Rattle.std.specs.List.{AllByRecursion, filter}
-use Rattle.std.proofs.lemmas.Bool.{cases_Bool, cond-true, cond-false, eq-eqb, ne_eqb, eqb-true, and_parts, both_ways, not_from_true, not-true}
+use Rattle.std.proofs.lemmas.Bool.{cases_Bool, cond-true, cond-false, eq-eqb, ne_eqb, eqb-true, and_parts, both_ways, not-true}
 use Rattle.std.proofs.Math.Nat.{mod-eq_of_lt, mod-add-mod}
 use mathlib.Core.Logic.{inl, inr}
-use Rattle.list_laws.specs.Lists.{total, joined, only_if}
+use Rattle.list_laws.specs.Lists.{total, only_if}
 use Rattle.list_laws.proofs.Totals.{total_eq, total_one}
 use Rattle.circuit_model.specs.declared.gate.Gate.{Gate}
 use Rattle.circuit_model.specs.Circuits.{is_product, set_at}
@@ -32,7 +32,6 @@ use Rattle.party_program.specs.States.{Given, State, next, after_all, posted, de
 use Rattle.party_program.specs.Proper.{Deals, IsGate, Multiplies}
 use Rattle.party_program.proofs.InstructionLists.{Leaves}
 use Rattle.program_laws.specs.Meets.{local_given, RightAt, IsNextInput, Goes}
-use Rattle.program_laws.proofs.ProgramParts.{Multiplied}
 use Rattle.program_laws.proofs.SlotRuns.{Runs, valid, positive, number_is, word_is, more_words, Ready, Rowed, key, In, numbered, DealtBy, all_dealt, slot_is, word_of, none_taken, slot_leaves}
 use Rattle.program_laws.proofs.SlotTakes.{Adds, SumsOf, tally, takes_sums}
 use Rattle.program_laws.proofs.SlotTallies.{key_tally, tally_is, key_tally-joined, key_tally-only_if, deal_tally, no_words}
