@@ -1,18 +1,17 @@
 -- Summands and words are numbers of the ring.
-use Rattle.std.proofs.Common.{◌≡◌, ℕ, ◌+◌, ◌<◌, ◌^◌, false, nat_lt, length, ap}
+use Rattle.std.proofs.Common.{ℕ, ◌+◌, ◌<◌, ◌^◌, nat_lt, length}
 use Rattle.std.specs.Prelude.{slice_index}
-use Rattle.std.proofs.lemmas.Bool.{cases_lt, cond_both}
-use Rattle.std.proofs.lemmas.List.{get_or_past}
+use Rattle.std.proofs.lemmas.Bool.{cond_both}
 use Rattle.std.proofs.lemmas.Nat.{pow_pos}
-use mathlib.Core.Logic.{inl, inr}
 use Rattle.std.proofs.Math.Nat.{mod-lt}
 use Rattle.secret_sharing.specs.Schemes.{summands}
 use Rattle.secret_sharing.specs.Prepared.{prepared_summand}
 use Rattle.secret_sharing.proofs.SummandSums.{dealt_small, summands_below}
 use Rattle.job_plan.specs.declared.key.Key.{Key}
 use Rattle.job_session.specs.declared.side.Side.TheVariants.{First, Second}
-use Rattle.job_session.specs.Sessions.{Session, Slot, no_session, owners}
+use Rattle.job_session.specs.Sessions.{Slot, owners}
 use Rattle.job_session.specs.Sessions.Slot.{Input, At_gate, Output, Mask, Mask_product, Masked}
+use Rattle.job_plan.proofs.PlanSchemes.{plan_is}
 use Rattle.job_plan.specs.Plans.{scheme, session, least_holder, slot, slot_number, place, IsPlan}
 use Rattle.share_world.specs.Worlds.{World, run_of, input_of, tape_word, first_summands, mask, mask_product, dealt_product, dealt_value, deal_of, word_in, word}
 use Rattle.share_world.specs.Laws.{IsWorld, IsWhole}
@@ -21,14 +20,8 @@ module _ (w : World) (whole : IsWhole w) where
   positive : 0 < 2 ^ w.plan.bits
   positive = pow_pos w.plan.bits
 
-  direct : (s : ℕ) → (session w.plan s).prepared ≡ false
-  direct s = elim (cases_lt s (length w.plan.sessions)) [
-    | inl l ↦ (whole.sound.sessions s l).wired.direct
-    | inr past ↦ ap (λ (x : Session). x.prepared) (get_or_past w.plan.sessions s no_session past)
-  ]
-
   pub is_plan : IsPlan w.plan
-  is_plan = record { bits = whole.sound.some_bits; groups = whole.sound.some_groups; q2 = whole.sound.q2; direct = direct }
+  is_plan = plan_is w.plan whole.sound
 
   pub is_world : IsWorld w
   is_world = record { plan = is_plan; inputs = whole.inputs.below }
