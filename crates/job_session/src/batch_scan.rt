@@ -214,9 +214,7 @@ impl BatchScan {
         if let Some(found) = wire {
             self.stamps[found as usize] = self.first + 1;
         }
-        if join {
-            self.joins = true;
-        }
+        self.joins |= join;
     }
 }
 

@@ -69,19 +69,40 @@ impl Wiring {
         }
     }
 
-    // The wires that the slot of gate `t` reads.
-    fn gate_reads(&self, t: u32) -> Reads
+    /// The wires that a slot reads before it takes anything.
+    pub(crate) fn early_reads(&self, kind: SlotKind) -> (Option<u32>, Option<u32>)
+        requires wiring { IsWiring self.now }
+        requires inside { Inside (session_in self.now) (slot_of_kind kind) }
+        ensures { (w : ℕ) → list_any (nat_eq w) (reads_early (session_in self.now) (slot_of_kind kind))
+            ≡ (is_named result.0 w || is_named result.1 w) }
+    {
+        match kind {
+            SlotKind::Input(_) | SlotKind::Mask(..) => (None, None),
+            SlotKind::Gate(t) => self.early_gate_reads(t),
+            SlotKind::Output(o) => (Some(self.output_wire(o)), None),
+            SlotKind::MaskProduct(t) => {
+                let first = self.mask_wire(t, Side::First);
+                (Some(first), Some(self.mask_wire(t, Side::Second)))
+            }
+            SlotKind::Masked(t, side) => {
+                let wire = self.operand(t, side);
+                (Some(wire), Some(self.mask_wire(t, side)))
+            }
+        }
+    }
+
+    // The same in the slot of gate `t`.
+    fn early_gate_reads(&self, t: u32) -> (Option<u32>, Option<u32>)
         requires wiring { IsWiring self.now }
         requires within { t < length self.now.gates.items }
-        ensures { AreReads (session_in self.now) (At_gate t) result.0 result.1 result.2 }
+        ensures { (w : ℕ) → list_any (nat_eq w) (reads_early (session_in self.now) (At_gate t))
+            ≡ (is_named result.0 w || is_named result.1 w) }
     {
         if self.is_prepared(t) {
-            let first = self.mask_wire(t, Side::First);
-            let second = self.mask_wire(t, Side::Second);
-            return (Some(first), Some(second), Some(self.product_wire(t)));
+            (None, None)
+        } else {
+            read_wires(self.gates[t as usize])
         }
-        let (first, second) = read_wires(self.gates[t as usize]);
-        (first, second, None)
     }
 
     /// The wires that a slot reads.
@@ -90,19 +111,15 @@ impl Wiring {
         requires inside { Inside (session_in self.now) (slot_of_kind kind) }
         ensures { AreReads (session_in self.now) (slot_of_kind kind) result.0 result.1 result.2 }
     {
-        match kind {
-            SlotKind::Input(_) | SlotKind::Mask(..) => (None, None, None),
-            SlotKind::Gate(t) => self.gate_reads(t),
-            SlotKind::Output(o) => (Some(self.output_wire(o)), None, None),
-            SlotKind::MaskProduct(t) => {
+        if let SlotKind::Gate(t) = kind {
+            if self.is_prepared(t) {
                 let first = self.mask_wire(t, Side::First);
-                (Some(first), Some(self.mask_wire(t, Side::Second)), None)
-            }
-            SlotKind::Masked(t, side) => {
-                let wire = self.operand(t, side);
-                (Some(wire), Some(self.mask_wire(t, side)), None)
+                let second = self.mask_wire(t, Side::Second);
+                return (Some(first), Some(second), Some(self.product_wire(t)));
             }
         }
+        let (first, second) = self.early_reads(kind);
+        (first, second, None)
     }
 
     /// The wire that a slot sets.
@@ -141,20 +158,6 @@ impl Wiring {
             SlotKind::Gate(t) => self.is_prepared(t),
             _ => false,
         }
-    }
-
-    /// The wires that a slot reads before it takes anything.
-    pub(crate) fn early_reads(&self, kind: SlotKind) -> (Option<u32>, Option<u32>)
-        requires wiring { IsWiring self.now }
-        requires inside { Inside (session_in self.now) (slot_of_kind kind) }
-        ensures { (w : ℕ) → list_any (nat_eq w) (reads_early (session_in self.now) (slot_of_kind kind))
-            ≡ (is_named result.0 w || is_named result.1 w) }
-    {
-        if self.is_join(kind) {
-            return (None, None);
-        }
-        let (first, second, _) = self.reads(kind);
-        (first, second)
     }
 
     /// Whether a slot may set a wire before it takes anything.

@@ -1,7 +1,7 @@
 use Rattle.std.proofs.Common.{◌+◌, ◌-◌, length}
 use Rattle.job_session.specs.BatchScans.{IsBatchScan}
 use Rattle.job_session.specs.Wirings.{session_in}
-use Rattle.job_session.proofs.batch_scan.batch_ends.Given as goal
+use Rattle.job_session.proofs.batch_scan.scan_direct.Given as goal
 
 -- the batches after the slots so far
 abbrev pub invariant-loop-v : goal.invariant-loop-v
