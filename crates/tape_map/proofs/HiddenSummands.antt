@@ -19,7 +19,7 @@ use Rattle.job_session.specs.Sessions.{Slot, owners, gate, operand, is_direct}
 use Rattle.job_session.specs.Sessions.Slot.{Input, At_gate, Output, Mask, Mask_product, Masked}
 use Rattle.job_session.specs.SoundSessions.{Inside}
 use Rattle.job_session.proofs.SessionSlots.{slots_are_numbered, product_within}
-use Rattle.job_plan.specs.Plans.{Plan, scheme, session, slot, slots, holds, least_holder, least_held, giver, deals_in, words_in}
+use Rattle.job_plan.specs.Plans.{Plan, scheme, session, slot, holds, least_holder, least_held, giver, deals_in, words_in}
 use Rattle.job_plan.proofs.PlanSchemes.{scheme_is, least_holds, least_within}
 use Rattle.job_plan.proofs.TapePlaces.{masks_have_words}
 use Rattle.share_world.specs.Worlds.{World, run_of, first_summands, first_values, value_before, tape_word, mask, mask_product, dealt_value, deal_of, masked_summand}

@@ -1,5 +1,5 @@
 -- A wire that a gate reads keeps its value from there on.
-use Rattle.std.proofs.Common.{◌≡◌, ℕ, ◌^◌, ◌<◌, ◌⊎◌, true, false, ◌||◌, nat_eq, List, [], ◌∷◌, length, refl, sym, ap, ap₂, ◌∙◌, subst, arith}
+use Rattle.std.proofs.Common.{◌≡◌, ℕ, ◌^◌, ◌<◌, ◌⊎◌, true, false, nat_eq, List, [], ◌∷◌, length, refl, sym, ap₂, subst, arith}
 use Rattle.std.specs.Prelude.{take}
 use Rattle.std.specs.List.{Contains, list_any}
 use Rattle.std.proofs.lemmas.Cmp.{nat_eq_equiv}

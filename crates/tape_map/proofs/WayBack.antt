@@ -18,7 +18,7 @@ use Rattle.job_session.specs.SoundSessions.{Inside}
 use Rattle.job_session.proofs.SessionSlots.{slots_are_numbered}
 use Rattle.job_plan.specs.Plans.{scheme, session, slot, slots, least_holder, least_held, words_in, place}
 use Rattle.job_plan.proofs.Slots.{at_its_number}
-use Rattle.share_world.specs.Worlds.{World, input_of, tape_word, mask, value_before, dealt_value}
+use Rattle.share_world.specs.Worlds.{World, tape_word, mask, value_before, dealt_value}
 use Rattle.share_world.specs.Laws.{IsWhole}
 use Rattle.share_world.proofs.SmallWords.{is_world, small_words}
 use Rattle.tape_map.specs.TapeMaps.{hidden, hidden_word, growth, raised, with_inputs, with_tapes, tape_of, moved_mask, moved_value, moved_words, tape_map, changed_tapes, second_world}

@@ -14,7 +14,7 @@ use Rattle.job_session.specs.declared.side.Side.{Side}
 use Rattle.job_plan.specs.Plans.{Plan, structure, holds, session, reads, slot, slots, words_in, giver}
 use Rattle.share_world.specs.Worlds.{World, input_of, tape_word, mask, masked_summand, dealt_value, run_of, plain, word, touches, view}
 use Rattle.share_world.specs.Laws.{IsWhole, AreTapes}
-use Rattle.tape_map.specs.TapeMaps.{hidden, hidden_word, with_inputs, with_tapes, tape_of, delta, moved_summands, moved_mask, moved_value, moved_words, tape_map, changed_tapes, second_world}
+use Rattle.tape_map.specs.TapeMaps.{hidden_word, with_inputs, with_tapes, tape_of, delta, moved_summands, moved_mask, moved_value, moved_words, tape_map, changed_tapes, second_world}
 
 -- with the other inputs a group's members give what they gave, and read what they read
 pub record Agree (w : World) (other : List (List (List ℕ))) (group : ℕ) : Type 0 where
