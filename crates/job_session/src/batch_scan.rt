@@ -65,12 +65,7 @@ impl BatchScan {
     }
 
     // Slot `k`, which is of this kind.
-    fn step_kind(
-        &mut self,
-        k: u32,
-        kind: SlotKind,
-        wiring: &Wiring,
-    ) -> Result<(), AllocError>
+    fn step_kind(&mut self, k: u32, kind: SlotKind, wiring: &Wiring) -> Result<(), AllocError>
         requires wiring { IsWiring wiring.now }
         requires slot { k < session_slots (session_in wiring.now) }
         requires kind { slot_of_kind kind ≡ session_slot (session_in wiring.now) k }

@@ -1,6 +1,6 @@
 use Rattle.std.proofs.Common.{◌≡◌, [], ◌++◌, List, ap, ◌∙◌, append_assoc}
 use Rattle.std.specs.Prelude.{map}
-use Rattle.job_session.specs.Sessions.{Slot, slot_list}
+use Rattle.job_session.specs.Sessions.{slot_list}
 use Rattle.job_session.specs.SoundSessions.{slot_of_kind}
 use Rattle.job_session.proofs.slot_list.list_kinds.Goals as goal
 

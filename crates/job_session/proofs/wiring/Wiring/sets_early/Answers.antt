@@ -1,4 +1,4 @@
-use Rattle.std.proofs.Common.{Bool, true, sym, ap, ◌∙◌}
+use Rattle.std.proofs.Common.{true, sym, ap, ◌∙◌}
 use Rattle.std.specs.Prelude.{not, ◌&&◌}
 use Rattle.std.specs.List.{list_any}
 use Rattle.job_session.specs.Wirings.{session_in}

@@ -1,4 +1,4 @@
-use Rattle.std.proofs.Common.{sym, arith, ◌∙◌}
+use Rattle.std.proofs.Common.{arith}
 use Rattle.job_session.specs.Wirings.{session_in}
 use Rattle.job_session.proofs.RowNames.{few_slots}
 use Rattle.job_session.proofs.WiringSlots.{wiring_count, kinds_count}
