@@ -39,7 +39,7 @@ is_second a b = ap (λ z. nat_eq b a || z) (is_one b b refl) ∙ or_true (nat_eq
 -- ---- what an operation reads
 
 -- the wires that an operation reads are among those that it takes
-first_read : (op : Operation) (a b : ℕ) → reads_first op ≡ true → list_any (nat_eq a) (inputs_read op (take (arity op) (a ∷ b ∷ []))) ≡ true
+pub first_read : (op : Operation) (a b : ℕ) → reads_first op ≡ true → list_any (nat_eq a) (inputs_read op (take (arity op) (a ∷ b ∷ []))) ≡ true
 first_read Add a b r = is_first a b
 first_read Sub a b r = is_first a b
 first_read Mul a b r = is_first a b
@@ -50,7 +50,7 @@ first_read Inv a b r = is_one a a refl
 first_read Eqw a b r = is_one a a refl
 first_read Eq a b r = absurd (both_ways false refl r)
 
-second_read : (op : Operation) (a b : ℕ) → reads_second op ≡ true → list_any (nat_eq b) (inputs_read op (take (arity op) (a ∷ b ∷ []))) ≡ true
+pub second_read : (op : Operation) (a b : ℕ) → reads_second op ≡ true → list_any (nat_eq b) (inputs_read op (take (arity op) (a ∷ b ∷ []))) ≡ true
 second_read Add a b r = is_second a b
 second_read Sub a b r = is_second a b
 second_read Mul a b r = is_second a b
@@ -82,7 +82,7 @@ module _ (x : Session) (wired : IsWired x) where
       each (Masked u side) i h l = absurd (both_ways false refl h)
 
   -- a slot sets it that stands before those of the gate
-  setter : (t w : ℕ) → t ≤ length x.gates → SetBefore x t w → (j : ℕ) × (j < first_of_gate x t) × (slot_sets x j w ≡ true)
+  pub setter : (t w : ℕ) → t ≤ length x.gates → SetBefore x t w → (j : ℕ) × (j < first_of_gate x t) × (slot_sets x j w ≡ true)
   setter t w le (inl l) = (session_slot_number x (Input w), input_first x w t l, ap (λ z. list_any (nat_eq w) (sets_in x z)) (slot_there x (Input w) l) ∙ is_one w w refl)
   setter t w le (inr u) =
       let less : u.0 < t = u.1 in

@@ -17,7 +17,7 @@ use Rattle.share_world.specs.Worlds.{World, run_of, input_of, tape_word, first_s
 use Rattle.share_world.specs.Laws.{IsWorld, IsWhole}
 
 module _ (w : World) (whole : IsWhole w) where
-  positive : 0 < 2 ^ w.plan.bits
+  pub positive : 0 < 2 ^ w.plan.bits
   positive = pow_pos w.plan.bits
 
   pub is_plan : IsPlan w.plan

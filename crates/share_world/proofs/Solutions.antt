@@ -49,7 +49,7 @@ decide_set s (suc t) v = elim (decide_set s t v) [
 ]
 
 -- a linear operation reads what it is said to read
-local_reads : (q : ℕ) (op : Operation) (c i a b a' b' : ℕ) → is_product op ≡ false → (reads_first op ≡ true → a ≡ a') → (reads_second op ≡ true → b ≡ b') → local q op c i a b ≡ local q op c i a' b'
+pub local_reads : (q : ℕ) (op : Operation) (c i a b a' b' : ℕ) → is_product op ≡ false → (reads_first op ≡ true → a ≡ a') → (reads_second op ≡ true → b ≡ b') → local q op c i a b ≡ local q op c i a' b'
 local_reads q Add c i a b a' b' p f s = ap₂ (λ x y. local q Add c i x y) (f refl) (s refl)
 local_reads q Sub c i a b a' b' p f s = ap₂ (λ x y. local q Sub c i x y) (f refl) (s refl)
 local_reads q Xor c i a b a' b' p f s = ap₂ (λ x y. local q Xor c i x y) (f refl) (s refl)
