@@ -6,6 +6,7 @@ use Rattle.std.proofs.lemmas.Bool.{cases_lt, cases_Bool, or_cases, or_left, or_r
 use Rattle.std.proofs.lemmas.List.{get_or_default}
 use Rattle.list_laws.proofs.JoinedLists.{total_within}
 use Rattle.circuit_model.specs.Circuits.{is_product}
+use Rattle.circuit_model.specs.declared.gate.Gate.{Gate}
 use Rattle.circuit_model.specs.declared.gate.Operation.{Operation}
 use Rattle.circuit_model.specs.declared.gate.Operation.TheVariants.{Add, Sub, Mul, Neg, Eq, Eqw, And, Xor, Inv}
 use Rattle.circuit_model.specs.Netlists.{inputs_read, arity, read_by}
@@ -16,7 +17,7 @@ use Rattle.job_session.specs.Sessions.Slot.{Input, At_gate, Output, Mask, Mask_p
 use Rattle.job_session.specs.SlotNumbers.{prepared_before, first_of_gate, session_slot_number}
 use Rattle.job_session.specs.KeptWires.{sets_in, reads_in, slot_sets, slot_reads, IsInOrder}
 use Rattle.job_session.specs.SoundSessions.{Inside}
-use Rattle.job_session.proofs.SessionSlots.{slot_there, slots_are_numbered, direct_count, slot_input, slot_gate, slot_output, slot_cases}
+use Rattle.job_session.proofs.SessionSlots.{gate_rises, more_before, one_more, slot_there, slots_are_numbered, direct_count, slot_input, slot_gate, slot_output, slot_cases}
 use Rattle.job_session.proofs.KeptRows.{one_wire}
 use Rattle.job_session.proofs.LastReads.{gate_reads}
 
@@ -58,6 +59,10 @@ second_read Neg a b e = absurd (false≢true e)
 second_read Inv a b e = absurd (false≢true e)
 second_read Eq a b e = absurd (false≢true e)
 second_read Eqw a b e = absurd (false≢true e)
+
+pub operand_read : (g : Gate) (side : Side) → is_product g.operation ≡ true → list_any (nat_eq (operand g side)) (read_by g) ≡ true
+operand_read g First e = first_read g.operation g.first g.second e
+operand_read g Second e = second_read g.operation g.first g.second e
 
 module _ (s : Session) (h : GatesInOrder s) (inputs_below : length (owners s) ≤ s.wires) (output_below : (t : ℕ) → t < length s.gates → (gate s t).output < s.wires) where
   abbrev Sets : Slot → ℕ → Type 0
@@ -146,18 +151,10 @@ module _ (s : Session) (h : GatesInOrder s) (inputs_below : length (owners s) �
   later : (n m w : ℕ) → n ≤ m → SetsBefore n w → SetsBefore m w
   later n m w le b = (let less = b.2 in (b.0, b.1, omega (arith, less, le), b.3))
 
-  -- how many are prepared rises
-  up_to : (u t : ℕ) → u < t → prepared_before s u + (if is_prepared s u then 1 else 0) ≤ prepared_before s t
-  up_to u t l = total_within t u (λ u. if is_prepared s u then 1 else 0) l
-
-  gate_last : (u t : ℕ) → u < t → session_slot_number s (At_gate u) < first_of_gate s t
-  gate_last u t l = (let up = up_to u t l in cond_both (is_prepared s u) 2 0 (λ n. first_of_gate s u + n < first_of_gate s t)
-      (λ e. let one : ◌≡◌ {A = ℕ} (if is_prepared s u then 1 else 0) 1 = cond-true (is_prepared s u) 1 0 e in omega (arith, up, one, l)) (λ e. omega (arith, up, l)))
-
   before_gate : (t w : ℕ) → SetBefore s t w → t ≤ count → SetsBefore (first_of_gate s t) w
   before_gate t w (inl l) le = (Input w, l, omega (arith, l), is_one w)
   before_gate t w (inr u) le =
-      (At_gate u.0, omega (arith, u.1, le), gate_last u.0 t u.1, subst (λ n. list_any (nat_eq n) (sets_in s (At_gate u.0)) ≡ true) (sym u.2) (is_one (gate s u.0).output))
+      (At_gate u.0, omega (arith, u.1, le), gate_rises s u.0 t u.1, subst (λ n. list_any (nat_eq n) (sets_in s (At_gate u.0)) ≡ true) (sym u.2) (is_one (gate s u.0).output))
 
   mask_before : (t : ℕ) (side : Side) (w n : ℕ) → t < count → is_prepared s t ≡ true → 3 * prepared_before s t + 1 < n → w ≡ mask_wire s t side → SetsBefore n w
   mask_before t First w n l e less same = (Mask t First, (l, e), omega (arith, less), subst (λ n. list_any (nat_eq n) (sets_in s (Mask t First)) ≡ true) (sym same) (is_one (mask_wire s t First)))
@@ -165,18 +162,11 @@ module _ (s : Session) (h : GatesInOrder s) (inputs_below : length (owners s) �
 
   -- all masks stand before the gates
   masks_first : (t u : ℕ) → t < count → is_prepared s t ≡ true → 3 * prepared_before s t + 2 < first_of_gate s u
-  masks_first t u l e =
-      let up = up_to t count l in
-      let one : ◌≡◌ {A = ℕ} (if is_prepared s t then 1 else 0) 1 = cond-true (is_prepared s t) 1 0 e in
-      omega (arith, up, one)
+  masks_first t u l e = (let more = more_before s t count l in let one = one_more s t e in omega (arith, more, one))
 
   masked_number : (t : ℕ) (side : Side) → first_of_gate s t ≤ session_slot_number s (Masked t side)
   masked_number t First = omega arith
   masked_number t Second = omega arith
-
-  operand_read : (t : ℕ) (side : Side) → is_product (gate s t).operation ≡ true → list_any (nat_eq (operand (gate s t) side)) (read_by (gate s t)) ≡ true
-  operand_read t First e = first_read (gate s t).operation (gate s t).first (gate s t).second e
-  operand_read t Second e = second_read (gate s t).operation (gate s t).first (gate s t).second e
 
   read_before : (z : Slot) (w : ℕ) → Inside s z → list_any (nat_eq w) (reads_in s z) ≡ true → SetsBefore (session_slot_number s z) w
   read_before (Input v) w i e = absurd (false≢true e)
@@ -188,7 +178,7 @@ module _ (s : Session) (h : GatesInOrder s) (inputs_below : length (owners s) �
   read_before (Masked t side) w i e = elim (or_cases (nat_eq w (operand (gate s t) side)) (nat_eq w (mask_wire s t side) || false) e) [
     | inl wire ↦
         let same : w ≡ operand (gate s t) side = eqb-true w (operand (gate s t) side) wire in
-        let read = operand_read t side (and_parts s.prepared (is_product (gate s t).operation) i.1).1 in
+        let read = operand_read (gate s t) side (and_parts s.prepared (is_product (gate s t).operation) i.1).1 in
         later (first_of_gate s t) _ w (masked_number t side)
         (before_gate t w (h.read t w i.0 (subst (λ v. list_any (nat_eq v) (read_by (gate s t)) ≡ true) (sym same) read)) (omega (arith, i.0)))
     | inr mask ↦ mask_before t side w _ i.0 i.1 (let a = masks_first t t i.0 i.1 in let b = masked_number t side in omega (arith, a, b)) (one_wire (mask_wire s t side) w mask)
