@@ -33,8 +33,8 @@ abbrev pub grown_rows : Plan → ℕ → ℕ → List ℕ → List (List ℕ) �
 grown_rows plan s g more rows =
     listed (session plan s).wires (λ v. grown_row plan g (slice_index more v) (slice_index_or rows v []))
 
--- the row of the mask of the wire that gate t reads on this side, where summand g grows as the wire does; none where it is
--- no product
+-- the row of the mask of the wire that gate t reads on this side, where summand g grows as the wire does; none where it
+-- is no product
 abbrev pub grown_mask : Plan → ℕ → ℕ → List ℕ → List (List ℕ) → Side → ℕ → List ℕ
 grown_mask plan s g more rows side t =
     let x = session plan s in
@@ -104,7 +104,8 @@ growth_in plan c p (At_gate t) =
     (slice_index_or (session_words c.moved.items) wires.second [])
 growth_in plan c p (Mask_product t) =
     let x = session plan c.session in
-    product_growth plan p (slice_index_or c.rows (mask_wire x t First) []) (slice_index_or c.rows (mask_wire x t Second) [])
+    product_growth plan p
+    (slice_index_or c.rows (mask_wire x t First) []) (slice_index_or c.rows (mask_wire x t Second) [])
     (slice_index_or (masks_of c First) t []) (slice_index_or (masks_of c Second) t [])
 growth_in plan c p _ = 0
 

@@ -97,7 +97,8 @@ abbrev pub WordsMove : World → List (List (List ℕ)) → ℕ → Type 0
 WordsMove w other group =
     (s k p i : ℕ) → s < length w.plan.sessions → k < slots w.plan s → p < w.plan.parties
     → i < words_in w.plan s p (slot w.plan s k)
-    → tape_word (second_world w other group) s (slot w.plan s k) p i ≡ moved_words w other group s (slot w.plan s k) p i
+    → tape_word (second_world w other group) s (slot w.plan s k) p i
+    ≡ moved_words w other group s (slot w.plan s k) p i
 
 -- a word of the second world's tapes that isn't the hidden summand's is the first world's
 abbrev pub OthersStay : World → List (List (List ℕ)) → ℕ → Type 0

@@ -66,8 +66,8 @@ moved_value w other group s p _ = 0
 
 -- ---- the change
 
--- which of the words that p draws in a slot is the hidden summand's: that of its number in a deal, and in a mask the one
--- that p draws for it, if p is its least holder, and else none
+-- which of the words that p draws in a slot is the hidden summand's: that of its number in a deal, and in a mask the
+-- one that p draws for it, if p is its least holder, and else none
 abbrev pub hidden_word : Plan → ℕ → ℕ → Slot → ℕ
 hidden_word plan group p (Mask t side) =
     let g = hidden plan group in

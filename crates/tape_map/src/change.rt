@@ -262,8 +262,8 @@ fn moved_rows(
     Ok(moved)
 }
 
-// The row of the mask of each wire that a prepared product reads on this side, by gates, where that summand grows as the
-// wire does.
+// The row of the mask of each wire that a prepared product reads on this side, by gates, where that summand grows as
+// the wire does.
 fn moved_masks(
     alloc: Global,
     plan: &Plan,
