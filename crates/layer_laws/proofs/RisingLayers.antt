@@ -47,7 +47,7 @@ greatest_at (suc n) f i l = elim (cases_eq i n) [
   | inr ne ↦ let less = greatest_at n f i (omega (arith, l, ne)) in let left = le-max_left (greatest n f) (f n) in omega (arith, less, left)
 ]
 
-side_place : Side → ℕ
+abbrev side_place : Side → ℕ
 side_place First = 0
 side_place Second = 1
 
@@ -129,11 +129,38 @@ module _ (s : Session) (wired : IsWired s) (by_layers : StandsByLayers s) (joins
 
   stands : (z : Slot) → Inside s z → Stands (session_slot_number s z) (rank_of z)
   stands (Mask t First) i = inl (inl (record {
-    before = prepared_before s t; place = 0; late = 0; within = before_all t i.0 i.1; few = omega arith; from = omega arith; to = omega arith; number = omega arith; is = omega arith }))
+    before = prepared_before s t;
+    place = 0;
+    late = 0;
+    within = before_all t i.0 i.1;
+    few = omega arith;
+    from = omega arith;
+    to = omega arith;
+    number = omega arith;
+    is = omega arith;
+  }))
   stands (Mask t Second) i = inl (inl (record {
-    before = prepared_before s t; place = 1; late = 0; within = before_all t i.0 i.1; few = omega arith; from = omega arith; to = omega arith; number = omega arith; is = omega arith }))
+    before = prepared_before s t;
+    place = 1;
+    late = 0;
+    within = before_all t i.0 i.1;
+    few = omega arith;
+    from = omega arith;
+    to = omega arith;
+    number = omega arith;
+    is = omega arith;
+  }))
   stands (Mask_product t) i = inl (inl (record {
-    before = prepared_before s t; place = 2; late = 1; within = before_all t i.0 i.1; few = omega arith; from = omega arith; to = omega arith; number = omega arith; is = omega arith }))
+    before = prepared_before s t;
+    place = 2;
+    late = 1;
+    within = before_all t i.0 i.1;
+    few = omega arith;
+    from = omega arith;
+    to = omega arith;
+    number = omega arith;
+    is = omega arith;
+  }))
   stands (Input v) l = inl (inr (omega arith, omega (arith, l), refl))
   stands (Masked t First) i = inr (inl (record { gate_of = t; there = i.0; from = omega arith; to = omega arith; is = refl }))
   stands (Masked t Second) i = inr (inl (record { gate_of = t; there = i.0; from = omega arith; to = (let one = one_more s t i.1 in omega (arith, one)); is = refl }))
