@@ -126,7 +126,8 @@ impl Wiring {
     pub(crate) fn sets(&self, kind: SlotKind) -> Option<u32>
         requires wiring { IsWiring self.now }
         requires inside { Inside (session_in self.now) (slot_of_kind kind) }
-        ensures { (w : ℕ) → list_any (nat_eq w) (sets_in (session_in self.now) (slot_of_kind kind)) ≡ is_named result w }
+        ensures { (w : ℕ) → list_any (nat_eq w) (sets_in (session_in self.now) (slot_of_kind kind))
+            ≡ is_named result w }
     {
         match kind {
             SlotKind::Input(v) => Some(v),
@@ -141,7 +142,8 @@ impl Wiring {
     pub(crate) fn completes(&self, kind: SlotKind) -> Option<u32>
         requires wiring { IsWiring self.now }
         requires inside { Inside (session_in self.now) (slot_of_kind kind) }
-        ensures { (w : ℕ) → list_any (nat_eq w) (completes (session_in self.now) (slot_of_kind kind)) ≡ is_named result w }
+        ensures { (w : ℕ) → list_any (nat_eq w) (completes (session_in self.now) (slot_of_kind kind))
+            ≡ is_named result w }
     {
         match kind {
             SlotKind::Gate(t) => completed(self.gates[t as usize]),
@@ -169,7 +171,7 @@ impl Wiring {
         !self.is_join(kind) && self.sets(kind).is_some()
     }
 
-    /// The wires of slot `k`, which is of this kind.
+    /// The wires of slot `k`.
     pub(crate) fn touched(&self, k: u32) -> Touched
         requires wiring { IsWiring self.now }
         requires within { k < session_slots (session_in self.now) }
