@@ -18,7 +18,7 @@ plan_is plan h = record { bits = h.some_bits; groups = h.some_groups; q2 = h.q2;
   where
     direct : (s : ℕ) → (session plan s).prepared ≡ false
     direct s = elim (cases_lt s (length plan.sessions)) [
-      | inl l ↦ (h.sessions s l).wired.direct
+      | inl l ↦ (h.sessions s l).direct
       | inr past ↦ ap (λ (x : Session). x.prepared) (get_or_past plan.sessions s no_session past)
     ]
 

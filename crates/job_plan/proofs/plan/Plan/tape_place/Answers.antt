@@ -10,7 +10,7 @@ overflow_mul-result c =
     let plan = c.args.self.now in
     let sound = c.shares.ensures.sound in
     let each = ap (λ n. (n - 1) * c.args.deal) c.shares.ensures.is in
-    let at = direct_place plan c.args.p c.args.s c.args.deal (sound.sessions c.args.s c.requires.session).wired.direct c.requires.deal in
+    let at = direct_place plan c.args.p c.args.s c.args.deal (sound.sessions c.args.s c.requires.session).direct c.requires.deal in
     let few = few_places plan c.args.p c.args.s (deal_slot plan c.args.p c.args.s c.args.deal) sound c.requires.party c.requires.session (slot_within plan c.args.p c.args.s c.args.deal) in
     omega (arith, each, at, few)
 
@@ -19,7 +19,7 @@ overflow_add-result c =
     let plan = c.args.self.now in
     let sound = c.shares.ensures.sound in
     let each = ap (λ n. (n - 1) * c.args.deal) c.shares.ensures.is in
-    let at = direct_place plan c.args.p c.args.s c.args.deal (sound.sessions c.args.s c.requires.session).wired.direct c.requires.deal in
+    let at = direct_place plan c.args.p c.args.s c.args.deal (sound.sessions c.args.s c.requires.session).direct c.requires.deal in
     let few = few_places plan c.args.p c.args.s (deal_slot plan c.args.p c.args.s c.args.deal) sound c.requires.party c.requires.session (slot_within plan c.args.p c.args.s c.args.deal) in
     omega (arith, each, c.tape_start.ensures.is, at, few)
 
@@ -27,7 +27,7 @@ pub returns : goal.returns
 returns c =
     let plan = c.args.self.now in
     let each = ap (λ n. (n - 1) * c.args.deal) c.shares.ensures.is in
-    let at = direct_place plan c.args.p c.args.s c.args.deal (c.shares.ensures.sound.sessions c.args.s c.requires.session).wired.direct c.requires.deal in
+    let at = direct_place plan c.args.p c.args.s c.args.deal (c.shares.ensures.sound.sessions c.args.s c.requires.session).direct c.requires.deal in
     let is : c.tape_start.result + (c.shares.result - 1) * c.args.deal ≡ deal_place plan c.args.p c.args.s c.args.deal = omega (arith, each, c.tape_start.ensures.is, at) in
     record {
       is = is;
