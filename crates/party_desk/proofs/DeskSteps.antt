@@ -1,5 +1,5 @@
 -- A step keeps a desk where its program leaves it.
-use Rattle.std.proofs.Common.{◌≡◌, ◌≢◌, ℕ, suc, ◌+◌, ◌-◌, ◌*◌, ◌%◌, ◌<◌, Bool, true, false, not, ◌&&◌, nat_eq, if◌then◌else◌, length, drop, [], ◌∷◌, refl, sym, ap, ap₂, ◌∙◌, subst, arith}
+use Rattle.std.proofs.Common.{◌≡◌, ℕ, suc, ◌+◌, ◌-◌, ◌*◌, ◌%◌, ◌<◌, Bool, true, false, not, ◌&&◌, nat_eq, if◌then◌else◌, length, drop, refl, sym, ap, ap₂, ◌∙◌, subst, arith}
 use Rattle.std.specs.Prelude.{slice_index}
 use Rattle.std.proofs.lemmas.List.{get_or-drop, drop-drop}
 use Rattle.std.proofs.lemmas.Bool.{cases_eq, cond-false, false≢true}
@@ -7,7 +7,7 @@ use Rattle.std.specs.List.{list_any}
 use mathlib.Core.Logic.{inl, inr}
 use Rattle.circuit_model.specs.Circuits.{set_at}
 use Rattle.secret_sharing.specs.Schemes.{Scheme, own_product}
-use Rattle.job_session.specs.Sessions.{Session, Slot, gate, is_direct, is_prepared, mask_wire, product_in}
+use Rattle.job_session.specs.Sessions.{Session, Slot, gate, is_prepared, mask_wire, product_in}
 use Rattle.job_session.specs.declared.side.Side.TheVariants.{First, Second}
 use Rattle.job_plan.specs.Plans.{Plan, least_held, session, slot}
 use Rattle.job_session.specs.Sessions.Slot.{Input, At_gate, Output, Mask, Mask_product, Masked}
@@ -30,13 +30,12 @@ use Rattle.program_laws.proofs.SetWords.{own_row, read_is_held, reads_are_set}
 use Rattle.share_world.proofs.Settled.{is_first, is_second}
 use Rattle.party_desk.specs.Rows.{row, SameRow, SameRows}
 use Rattle.party_program.specs.ProgramPlaces.{IsPlace, IsProgram}
-use Rattle.party_program.specs.GivenData.{Suits}
 use Rattle.party_program.specs.States.{Given, State, slot_of, state, next, word_after, dealt_in, drawn_in, joined_in, opened_in, took_in}
 use Rattle.party_desk.specs.declared.memory.Memory.{Memory}
 use Rattle.party_desk.specs.Memories.{state_of, row_of, on_wires, Alike, IsMemoryOf}
 use Rattle.party_desk.specs.Desks.{Advanced, IsDesk, Remembers, after_on_rows, instruction_at, posts_in, takes_in, posts_before, takes_before}
 use Rattle.party_desk.proofs.RememberedWords.{SameRead, goes_on}
-use Rattle.party_desk.proofs.StateSteps.{IsWordOf, SameParts, ReadsByGate}
+use Rattle.party_desk.proofs.StateSteps.{IsWordOf, ReadsByGate}
 use Rattle.party_program.specs.Proper.{Deals, IsMask, Proper, IsGivenWord, drawn_by}
 use Rattle.circuit_model.proofs.SetAt.{set_here, set_there}
 

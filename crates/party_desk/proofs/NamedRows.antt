@@ -1,6 +1,6 @@
 -- Wires of slots that have rows.
-use Rattle.std.proofs.Common.{◌≡◌, ℕ, ◌+◌, ◌<◌, ◌≤◌, true, length, refl, arith}
-use Rattle.job_session.specs.Sessions.{Session, Slot, gate, is_prepared, operand, owners, readers, output_wire, mask_wire, product_wire, product_in, row_names, has_product}
+use Rattle.std.proofs.Common.{◌≡◌, ℕ, ◌+◌, ◌<◌, true, length, refl, arith}
+use Rattle.job_session.specs.Sessions.{Session, Slot, gate, operand, owners, readers, output_wire, product_in, row_names, has_product}
 use Rattle.job_session.specs.Sessions.Slot.{Input, At_gate, Output, Mask, Mask_product, Masked}
 use Rattle.job_session.specs.declared.side.Side.{Side}
 use Rattle.job_session.specs.declared.side.Side.TheVariants.{First, Second}

@@ -3,10 +3,7 @@ use Rattle.std.proofs.Common.{◌≡◌, ◌⊎◌, ℕ, suc, ◌+◌, ◌<◌, 
 use Rattle.std.specs.Prelude.{slice_index}
 use Rattle.std.proofs.lemmas.Bool.{cases_eq}
 use mathlib.Core.Logic.{inl, inr}
-use Rattle.circuit_model.specs.Circuits.{set_at}
 use Rattle.circuit_model.proofs.SetAt.{set_here, set_there}
-use Rattle.secret_sharing.specs.Schemes.{has_pair}
-use Rattle.job_session.specs.declared.side.Side.{Side}
 use Rattle.job_plan.specs.Plans.{IsPlan, Plan}
 use Rattle.party_program.specs.declared.program.Instruction.{Instruction}
 use Rattle.party_program.specs.Programs.{program, at}
@@ -15,7 +12,6 @@ use Rattle.party_program.specs.States.{State, after}
 use Rattle.program_laws.specs.WordsRead.{SetsSummand, ReadsSummand, IsSet, IsToRead, ReadsWhatIsSet, KeepsRowsApart}
 use Rattle.party_desk.specs.Desks.{after_on_rows, wires_set}
 use Rattle.party_desk.specs.Memories.{into_rows, on_wires}
-use Rattle.party_desk.specs.Rows.{SameRow}
 use Rattle.party_desk.proofs.StateSteps.{IsWordOf, SameParts, SameAfter, Stays, ReadsByGate, HeldLater, after_same, after_word, set_or_stays, set_wire}
 
 module _ (plan : Plan) (s p : ℕ) where

@@ -1,5 +1,5 @@
 -- What an instruction sets in the state of a party, and on what that hangs.
-use Rattle.std.proofs.Common.{◌≡◌, ◌≢◌, ◌⊎◌, ℕ, suc, ◌+◌, ◌*◌, ◌%◌, ◌<◌, ◌^◌, true, ◌||◌, nat_eq, if◌then◌else◌, List, [], ◌∷◌, length, refl, sym, ap, ap₂, ◌∙◌, subst, arith}
+use Rattle.std.proofs.Common.{◌≡◌, ◌≢◌, ◌⊎◌, ℕ, ◌+◌, ◌*◌, ◌%◌, ◌<◌, ◌^◌, true, ◌||◌, nat_eq, if◌then◌else◌, [], ◌∷◌, length, refl, sym, ap, ap₂, ◌∙◌, subst}
 use Rattle.std.specs.Prelude.{Some}
 use Rattle.std.specs.List.{list_any}
 use Rattle.std.proofs.lemmas.Bool.{cases_eq, cases_Bool, cond-true, cond-false, eq-eqb, ne_eqb}
@@ -22,7 +22,7 @@ use Rattle.job_plan.specs.Plans.{IsPlan, Plan, holds, least_held, least_holder, 
 use Rattle.job_plan.proofs.PlanSchemes.{scheme_is}
 use Rattle.party_program.specs.declared.program.Instruction.{Instruction}
 use Rattle.party_program.specs.declared.program.Instruction.TheVariants.{Draw, Deal, Post, Take, Linear, Own, Sum, Open, Join, Deliver, End}
-use Rattle.party_program.specs.Proper.{IsMask, IsMasked, IsOutput, IsSlot, Proper}
+use Rattle.party_program.specs.Proper.{IsMask, IsOutput, Proper}
 use Rattle.party_program.specs.States.{State, after, dealt_in, drawn_in, excess_of, joined_in, opened, opened_in, output_in_slot, set_side, slot_of, took_in}
 use Rattle.program_laws.specs.WordsRead.{gate_at, Deals, Reads, ReadsSummand, SetsSummand, Takes}
 use Rattle.program_laws.proofs.GateReads.{local_same}

@@ -1,4 +1,4 @@
-use Rattle.std.proofs.Common.{◌≡◌, refl, sym, ◌∙◌, subst}
+use Rattle.std.proofs.Common.{◌∙◌}
 use Rattle.party_desk.proofs.ComputedGates.{none_of_gates}
 use Rattle.party_desk.proofs.GatePosts.{silent_head}
 use Rattle.party_desk.proofs.desk.Desk.do_head.Goals as goal

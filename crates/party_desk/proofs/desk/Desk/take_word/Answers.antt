@@ -1,6 +1,6 @@
-use Rattle.std.proofs.Common.{◌^◌, length, sym, ap₂, ◌∙◌, subst}
+use Rattle.std.proofs.Common.{length, sym, ap₂, ◌∙◌, subst}
 use Rattle.job_session.specs.KeptWires.{sets_in}
-use Rattle.job_session.specs.Sessions.{Session, session_slot}
+use Rattle.job_session.specs.Sessions.{session_slot}
 use Rattle.job_plan.specs.Plans.{session}
 use Rattle.party_program.specs.States.{slot_of, took_in}
 use Rattle.party_desk.specs.Memories.{state_of, row_of, on_rows, Alike}

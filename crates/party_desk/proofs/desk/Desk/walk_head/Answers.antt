@@ -1,4 +1,4 @@
-use Rattle.std.proofs.Common.{◌≡◌, ◌+◌, sym, subst, arith}
+use Rattle.std.proofs.Common.{◌+◌, sym, subst, arith}
 use Rattle.party_program.specs.declared.half.Half.TheVariants.{Head}
 use Rattle.party_program.specs.Proper.{IsSlot, Multiplies}
 use Rattle.party_desk.specs.Walks.{IsAmongGates, IsBefore, NothingToCompute}

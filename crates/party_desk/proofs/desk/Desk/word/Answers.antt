@@ -1,4 +1,4 @@
-use Rattle.std.proofs.Common.{◌<◌, sym, ap, ap₂, ◌∙◌, subst}
+use Rattle.std.proofs.Common.{◌<◌, sym, ap₂, ◌∙◌, subst}
 use Rattle.circuit_model.specs.declared.gate.Gate.{Gate}
 use Rattle.job_session.specs.Sessions.{Session, product_in, row_names, session_slot}
 use Rattle.job_plan.specs.Plans.{session}
