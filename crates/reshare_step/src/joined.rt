@@ -4,8 +4,8 @@ ghost use Rattle.secret_sharing.specs.Prepared.{joined_summand};
 
 use mpc_ring::Ring;
 
-/// A summand of a prepared product: `d` is what one factor has more than its mask, `e` what the other has, and `a`, `b`
-/// and `c` are summands of both masks and of their product. The product of `d` and `e` stands in the first alone.
+/// A summand of a prepared product: `d` is what one factor has more than its mask, `e` what the other has, and `a`,
+/// `b` and `c` are summands of both masks and of their product. The product of `d` and `e` stands in the first alone.
 #[inline(always)]
 pub fn joined_summand(ring: Ring, first: bool, d: u64, e: u64, a: u64, b: u64, c: u64) -> u64
     ensures below { result < 2 ^ ring }

@@ -31,7 +31,7 @@ use Rattle.share_world.proofs.WireSums.{world_sums}
 use Rattle.share_world.proofs.Settled.{in_order, settled, product_settled}
 use Rattle.wire_tables.specs.WireTables.{summand_rows}
 use Rattle.wire_tables.specs.Steps.{IsRow}
-use Rattle.wire_tables.proofs.RowSteps.{own_alike}
+use Rattle.share_world.proofs.LocalWords.{own_alike}
 use Rattle.wire_tables.proofs.TableRows.{rows_named, wire_last, mask_last, wire_whole, mask_whole}
 use Rattle.tape_map.specs.TapeMaps.{hidden, hidden_word, growth, with_inputs, delta, raised, moved_summands, moved_mask, moved_words, piece_map, tape_of}
 use Rattle.tape_map.specs.Changes.{growths, grown_row, grown_rows, grown_mask, grown_masks, masks_of, IsTable, IsChange, AreGrowths, AreNamedRows, Fits, growth_in, growth_by, grown_words, grown_piece}
@@ -270,8 +270,8 @@ module _ (w : World) (other : List (List (List ℕ))) (group : ℕ) (whole : IsW
   growth_is p (At_gate t) inside some =
       let product = direct_product p t some in
       ap₂ (difference q)
-      (own_alike w p _ _ _ _ (λ i li. row_after t i First inside product li) (λ i li. row_after t i Second inside product li))
-      (own_alike w p _ _ _ _ (λ i li. row_before t i First inside product li) (λ i li. row_before t i Second inside product li))
+      (own_alike w.plan p _ _ _ _ (λ i li. row_after t i First inside product li) (λ i li. row_after t i Second inside product li))
+      (own_alike w.plan p _ _ _ _ (λ i li. row_before t i First inside product li) (λ i li. row_before t i Second inside product li))
     where
       direct_product : (p t : ℕ) → 0 < words_in w.plan s p (At_gate t) → is_product (gate x t).operation ≡ true
       direct_product p t some = elim (cases_Bool (deals_in w.plan s p (At_gate t))) [
@@ -280,8 +280,8 @@ module _ (w : World) (other : List (List (List ℕ))) (group : ℕ) (whole : IsW
       ]
   growth_is p (Mask_product t) inside some =
       ap₂ (difference q)
-      (own_alike w p _ _ _ _ (λ i li. mask_after t i First inside.0 inside.1 li) (λ i li. mask_after t i Second inside.0 inside.1 li))
-      (own_alike w p _ _ _ _ (λ i li. mask_before t i First inside.0 inside.1 li) (λ i li. mask_before t i Second inside.0 inside.1 li))
+      (own_alike w.plan p _ _ _ _ (λ i li. mask_after t i First inside.0 inside.1 li) (λ i li. mask_after t i Second inside.0 inside.1 li))
+      (own_alike w.plan p _ _ _ _ (λ i li. mask_before t i First inside.0 inside.1 li) (λ i li. mask_before t i Second inside.0 inside.1 li))
   growth_is p (Output o) inside some = absurd (omega (arith, some))
   growth_is p (Masked t side) inside some = absurd (omega (arith, some))
 

@@ -2,9 +2,7 @@
 use Rattle.std.specs.Prelude.{ℕ, if◌then◌else◌, List, [], ◌∷◌, ◌++◌, length}
 use Rattle.std.specs.Global.{Vec}
 use Rattle.list_laws.specs.Lists.{joined, listed}
-use Rattle.circuit_model.specs.declared.gate.Gate.{Gate}
-use Rattle.circuit_model.specs.Circuits.{is_product}
-use Rattle.secret_sharing.specs.Schemes.{Scheme, local, product_summand, summands}
+use Rattle.secret_sharing.specs.Schemes.{summands}
 use Rattle.job_session.specs.Sessions.{owners, is_prepared}
 use Rattle.job_session.specs.declared.side.Side.{Side}
 use Rattle.job_session.specs.declared.side.Side.TheVariants.{First, Second}
@@ -50,9 +48,3 @@ abbrev pub summand_rows : World → ℕ → List (List ℕ)
 summand_rows w s =
     listed (session w.plan s).wires (summand_row w s)
     ++ (if (session w.plan s).prepared then joined (length (session w.plan s).gates) (prepared_rows w s) else [])
-
--- summand i of what a gate makes of two wires, where party p deals the value v as deal p v
-abbrev pub gate_summand : Scheme → (ℕ → ℕ → ℕ → ℕ) → Gate → (ℕ → ℕ) → (ℕ → ℕ) → ℕ → ℕ
-gate_summand scheme deal gate x y i =
-    if is_product gate.operation then product_summand scheme deal x y i
-    else local scheme.modulus gate.operation gate.constant i (x i) (y i)
