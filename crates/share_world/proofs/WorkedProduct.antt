@@ -92,9 +92,9 @@ sound_session = record {
     second = second;
     output = output;
     order = in_order;
-    direct = refl;
   };
   owned = owned;
+  direct = refl;
   read = read;
 }
   where
