@@ -1,15 +1,13 @@
 -- The slots of a party's deals.
-use Rattle.std.proofs.Common.{◌≡◌, ℕ, zero, suc, ◌+◌, ◌-◌, ◌*◌, ◌<◌, ◌≤◌, Bool, true, false, nat_le, if◌then◌else◌, length, ap, ◌∙◌, subst, arith}
+use Rattle.std.proofs.Common.{◌≡◌, ℕ, zero, suc, ◌+◌, ◌<◌, ◌≤◌, Bool, true, false, nat_le, if◌then◌else◌, ap, subst, arith}
 use Rattle.std.proofs.lemmas.Bool.{cases_eq, cases_lt, cond-true, cond-false, le-leb, lt-leb}
 use mathlib.Core.Logic.{inl, inr}
 use Rattle.list_laws.specs.Lists.{total}
 use Rattle.list_laws.proofs.Totals.{total_more}
 use Rattle.list_laws.proofs.JoinedLists.{total_within}
-use Rattle.job_session.specs.Counts.{products, prepared_products}
-use Rattle.job_plan.specs.Plans.{Plan, session, slot, slots, deals_in, least_held, place}
-use Rattle.job_plan.specs.Numbers.{deals_before, deals, deal_slot, deal_place, is_mask, DealsHaveSlots}
+use Rattle.job_plan.specs.Plans.{Plan, slot, slots, deals_in}
+use Rattle.job_plan.specs.Numbers.{deals_before, deals, deal_slot, DealsHaveSlots}
 use Rattle.job_plan.proofs.SlotSums.{one}
-use Rattle.job_plan.proofs.TallyLaws.{words_before_are, masks_are}
 
 module _ (plan : Plan) (p s : ℕ) where
   abbrev before : ℕ → ℕ
@@ -18,17 +16,17 @@ module _ (plan : Plan) (p s : ℕ) where
   next : (k : ℕ) → before (k + 1) ≡ before k + one (deals_in plan s p (slot plan s k))
   next k = total_more k (λ j. one (deals_in plan s p (slot plan s j)))
 
-  rises : (j k : ℕ) → j ≤ k → before j ≤ before k
+  pub rises : (j k : ℕ) → j ≤ k → before j ≤ before k
   rises j k le = elim (cases_eq j k) [
     | inl e ↦ subst (λ z. before j ≤ before z) e (omega arith)
     | inr ne ↦ omega (arith, total_within k j (λ i. one (deals_in plan s p (slot plan s i))) (omega arith))
   ]
 
   -- of n slots the first c have at most d deals up to and with them
-  record IsCut (n d c : ℕ) : Type 0 where
-    within : c ≤ n
-    few : before c ≤ d
-    many : c < n → d < before (c + 1)
+  pub record IsCut (n d c : ℕ) : Type 0 where
+    pub within : c ≤ n
+    pub few : before c ≤ d
+    pub many : c < n → d < before (c + 1)
 
   abbrev passed : ℕ → ℕ → ℕ
   passed d k = if nat_le (before (k + 1)) d then 1 else 0
@@ -60,7 +58,7 @@ module _ (plan : Plan) (p s : ℕ) where
             subst (IsCut (suc n) d) same (record { within = omega arith; few = under; many = λ l. absurd (omega (arith, l)) })
       ]
 
-  at_cut : (d : ℕ) → IsCut (slots plan s) d (deal_slot plan p s d)
+  pub at_cut : (d : ℕ) → IsCut (slots plan s) d (deal_slot plan p s d)
   at_cut d = cut (slots plan s) d
 
   pub slot_within : (d : ℕ) → deal_slot plan p s d ≤ slots plan s
@@ -92,21 +90,6 @@ module _ (plan : Plan) (p s : ℕ) where
           | inr ne ↦ absurd (omega (arith, h.few, own, next k, rises (k + 1) c (omega arith)))
         ]
       ]
-
--- where no product is prepared, all words are drawn for deals
-pub direct_place : (plan : Plan) (p s d : ℕ) → (session plan s).prepared ≡ false → d ≤ deals plan p s → deal_place plan p s d ≡ place plan p s 0 + (length plan.groups - 1) * d
-direct_place plan p s d direct le =
-    let f : ℕ → ℕ = λ j. one (is_mask (slot plan s j)) in
-    let c = deal_slot plan p s d in
-    let none : prepared_products (session plan s) ≡ 0 = cond-false (session plan s).prepared (products (session plan s)) 0 direct in
-    let all : total (slots plan s) f ≡ 0 = masks_are plan s ∙ omega (arith, none) in
-    let unmasked : total c f ≡ 0 = elim (cases_eq c (slots plan s)) [
-      | inl e ↦ ap (λ n. total n f) e ∙ all
-      | inr ne ↦ omega (arith, all, slot_within plan p s d, total_within (slots plan s) c f (omega (arith, ne, slot_within plan p s d)))
-    ] in
-    let words = words_before_are plan p s c in
-    let dealt = ap (λ n. (length plan.groups - 1) * n) (deals_before_slot plan p s d le) in
-    omega (arith, words, dealt, ap (λ n. least_held plan p (length plan.groups) * n) unmasked)
 
 pub deals_have_slots : (plan : Plan) (p : ℕ) → DealsHaveSlots plan p
 deals_have_slots plan p s k lk e = slot_of_deal plan p s k lk e

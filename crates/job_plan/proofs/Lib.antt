@@ -14,3 +14,4 @@ pub mod MessageSlots
 pub mod TapePlaces
 pub mod DealSlots
 pub mod MaskPlaces
+pub mod DealMasks

@@ -1,26 +1,18 @@
 -- A sound plan is one whose values can be shared, and a plan without a covering pair has a scheme.
-use Rattle.std.proofs.Common.{◌≡◌, ℕ, ◌<◌, Bool, true, false, length, ap, ◌∙◌, subst, arith}
+use Rattle.std.proofs.Common.{◌≡◌, ℕ, ◌<◌, Bool, true, false, length, ◌∙◌, subst, arith}
 use Rattle.std.proofs.lemmas.Bool.{cases_lt, and_parts, both_ways}
-use Rattle.std.proofs.lemmas.List.{get_or_past}
 use Rattle.std.proofs.lemmas.Nat.{pow_below}
 use Rattle.std.proofs.lemmas.List.FromFn.{length-range_with_len, get_or-range_with_len}
 use Rattle.std.proofs.lemmas.List.Sums.{fails_before_first, passes_at_first}
 use mathlib.Core.Logic.{inl, inr}
 use Rattle.secret_sharing.specs.Schemes.{IsScheme}
 use Rattle.product_duty.proofs.PairDuties.{duty_holds}
-use Rattle.job_session.specs.Sessions.{Session, no_session}
 use Rattle.job_plan.specs.Sound.{IsSound}
-use Rattle.job_plan.specs.Plans.{Plan, session, structure, holds, duty, scheme, least_party, least_holder, Q2, IsPlan}
+use Rattle.job_plan.specs.Plans.{Plan, structure, holds, duty, scheme, least_party, least_holder, Q2, IsPlan}
 use Rattle.std.specs.List.{range_with_len}
 
 pub plan_is : (plan : Plan) → IsSound plan → IsPlan plan
-plan_is plan h = record { bits = h.some_bits; groups = h.some_groups; q2 = h.q2; direct = direct }
-  where
-    direct : (s : ℕ) → (session plan s).prepared ≡ false
-    direct s = elim (cases_lt s (length plan.sessions)) [
-      | inl l ↦ (h.sessions s l).direct
-      | inr past ↦ ap (λ (x : Session). x.prepared) (get_or_past plan.sessions s no_session past)
-    ]
+plan_is plan h = record { bits = h.some_bits; groups = h.some_groups; q2 = h.q2 }
 
 pub least_party_is : (plan : Plan) (test : ℕ → Bool) (p : ℕ) → p < plan.parties → test p ≡ true → (least_party plan test < plan.parties) × (test (least_party plan test) ≡ true)
 least_party_is plan test p l e = elim (cases_lt (least_party plan test) plan.parties) [

@@ -84,6 +84,10 @@ abbrev pub is_mask : Slot → Bool
 is_mask (Mask t side) = true
 is_mask _ = false
 
+-- how many masks stand before slot k of session s
+abbrev pub masks_before : Plan → ℕ → ℕ → ℕ
+masks_before plan s k = total k (λ j. if is_mask (slot plan s j) then 1 else 0)
+
 -- party p draws summand i of the mask in slot k of session s
 pub record DrawsSummand (plan : Plan) (p s k i : ℕ) : Type 0 where
   pub mask : is_mask (slot plan s k) ≡ true

@@ -1,5 +1,5 @@
 -- Plans: parties, maximal groups and sessions; and what a party deals in the slots of a session.
-use Rattle.std.specs.Prelude.{◌≡◌, ℕ, ◌+◌, ◌-◌, ◌<◌, Bool, true, false, ◌&&◌, nat_eq, if◌then◌else◌, List, length, slice_index, slice_index_or}
+use Rattle.std.specs.Prelude.{ℕ, ◌+◌, ◌-◌, ◌<◌, Bool, true, false, ◌&&◌, nat_eq, if◌then◌else◌, List, length, slice_index, slice_index_or}
 use Rattle.list_laws.specs.Lists.{total}
 use Rattle.secret_sharing.specs.Schemes.{Scheme, has_pair}
 use Rattle.party_set.specs.Parties.{Structure, IsQ2, has_party}
@@ -60,7 +60,6 @@ pub record IsPlan (plan : Plan) : Type 0 where
   pub bits : 0 < plan.bits
   pub groups : 0 < length plan.groups
   pub q2 : Q2 plan
-  pub direct : (s : ℕ) → (session plan s).prepared ≡ false
 
 -- ---- sessions and their slots
 

@@ -81,8 +81,8 @@ pub(crate) fn least_held(outline: &Outline, p: u32, end: u32) -> u32
     count
 }
 
-// How many prepared products session s has.
-fn prepared_products(outline: &Outline, s: u32) -> u32
+/// How many prepared products session `s` has.
+pub(crate) fn prepared_products(outline: &Outline, s: u32) -> u32
     requires { s < length outline.now.sessions }
     ensures is { result ≡ prepared_products (session outline.now s) }
     ensures few { result ≤ 65536 }

@@ -107,13 +107,12 @@ impl Outline {
         &self.parts[s as usize]
     }
 
-    /// Whether the products of session `s` are prepared. No session is made so yet.
+    /// Whether the products of session `s` are prepared.
     pub(crate) fn prepared(&self, s: u32) -> bool
         requires { s < length self.now.sessions }
         ensures { result ≡ (session self.now s).prepared }
     {
-        let _part = self.part(s);
-        false
+        self.part(s).is_prepared()
     }
 
     /// Whether party `p` deals at a product.

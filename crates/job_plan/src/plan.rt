@@ -4,7 +4,7 @@ ghost use Rattle.job_plan.specs.Messages.{messages};
 ghost use Rattle.job_plan.specs.Sound.{IsLaid};
 ghost use Rattle.job_plan.specs.Limits.{IsPlanWithin, IsPlanRefusal};
 
-use crate::counts::{deal_count, least_held, message_count, word_count};
+use crate::counts::{deal_count, least_held, message_count, prepared_products, word_count};
 use crate::key::Key;
 use crate::lists::{list_starts, list_words};
 use crate::outline::Outline;
@@ -45,7 +45,7 @@ impl Model for Plan {
 }
 
 impl Plan {
-    ghost use Rattle.std.specs.Prelude.{◌≡◌, ℕ, ◌+◌, ◌-◌, ◌<◌, ◌≤◌, true, if◌then◌else◌, map, length};
+    ghost use Rattle.std.specs.Prelude.{◌≡◌, ℕ, ◌+◌, ◌-◌, ◌*◌, ◌<◌, ◌≤◌, true, if◌then◌else◌, map, length};
     ghost use Rattle.std.specs.Prelude.{All, IfOk, IfErr, OnOk, SomeIff};
     ghost use Rattle.std.specs.Arc.{arc_value};
     ghost use Rattle.job_session.specs.KeptWires.{IsRows, live};
@@ -54,7 +54,7 @@ impl Plan {
     ghost use Rattle.secret_sharing.specs.Schemes.{has_pair};
     ghost use Rattle.job_plan.specs.Messages.{messages, slot_messages};
     ghost use Rattle.job_plan.specs.Patterns.{named, lines, pattern_at, Occurs};
-    ghost use Rattle.job_plan.specs.Numbers.{message, number, deals, deals_before, deal_place, is_mask, DrawsSummand};
+    ghost use Rattle.job_plan.specs.Numbers.{message, number, deals, deals_before, deal_place, deal_slot, is_mask, masks_before, DrawsSummand};
     ghost use Rattle.job_session.specs.SoundSessions.{IsSoundSession};
     ghost use Rattle.job_plan.specs.Sound.{IsSound};
     ghost use Rattle.job_plan.specs.Firsts.{first};
@@ -322,7 +322,27 @@ impl Plan {
         ensures in_slot { (k : ℕ) → k < slots self.now s → deals_in self.now s p (slot self.now s k) ≡ true
             → deal ≡ deals_before self.now p s k → result ≡ place self.now p s k }
     {
-        self.tape_start(p, s) + (self.shares() - 1) * deal
+        self.tape_start(p, s) + self.mask_words(p, s, deal) + (self.shares() - 1) * deal
+    }
+
+    // How many words of masks `p` draws in session `s` before deal `deal`: those of all masks, but that its deals at
+    // prepared products stand each behind both masks of the product.
+    fn mask_words(&self, p: u32, s: u32, deal: u32) -> u32
+        requires party { p < self.now.parties }
+        requires session { s < length self.now.sessions }
+        requires deal { deal ≤ deals self.now p s }
+        ensures { result ≡ least_held self.now p (length self.now.groups) * masks_before self.now s (deal_slot self.now p s deal) }
+    {
+        let products = prepared_products(&self.outline, s);
+        if products == 0 {
+            return 0;
+        }
+        let behind = if self.multiplies(p) && deal < products {
+            deal + 1
+        } else {
+            products
+        };
+        least_held(&self.outline, p, self.shares()) * (2 * behind)
     }
 
     /// The place on party `p`'s tape of summand `i` of the mask in slot `k` of session `s`; None exactly where the slot

@@ -1,10 +1,9 @@
 -- A session whose gates are in order sets each wire once, and reads it only after that, its products prepared or not.
 use Rattle.std.proofs.Common.{◌≡◌, ℕ, zero, suc, ◌+◌, ◌*◌, ◌<◌, ◌≤◌, ◌⊎◌, true, false, ◌||◌, List, [], ◌∷◌, inl, inr, length, refl, sym, ap, ap₂, ◌∙◌, subst, arith}
-use Rattle.std.specs.Prelude.{nat_eq, take, if◌then◌else◌}
+use Rattle.std.specs.Prelude.{nat_eq, take}
 use Rattle.std.specs.List.{list_any}
-use Rattle.std.proofs.lemmas.Bool.{cases_lt, cases_Bool, or_cases, or_left, or_right, cond-true, cond-false, cond_both, and_parts, eq-eqb, eqb-true, false≢true, false_from_ne_true, both_ways}
+use Rattle.std.proofs.lemmas.Bool.{cases_lt, cases_Bool, or_cases, or_left, or_right, cond-true, cond-false, and_parts, eq-eqb, eqb-true, false≢true, false_from_ne_true, both_ways}
 use Rattle.std.proofs.lemmas.List.{get_or_default}
-use Rattle.list_laws.proofs.JoinedLists.{total_within}
 use Rattle.circuit_model.specs.Circuits.{is_product}
 use Rattle.circuit_model.specs.declared.gate.Gate.{Gate}
 use Rattle.circuit_model.specs.declared.gate.Operation.{Operation}

@@ -94,7 +94,6 @@ sound_session = record {
     order = in_order;
   };
   owned = owned;
-  direct = refl;
   read = read;
 }
   where
