@@ -6,7 +6,7 @@ use Rattle.std.proofs.Math.Seq.{take-length}
 use Rattle.std.proofs.lemmas.List.Sums.{count_by_more_yes, count_by_more_no}
 use mathlib.Core.Logic.{inl, inr}
 use Rattle.list_laws.specs.Lists.{total, joined, listed, only_if}
-use Rattle.list_laws.proofs.Totals.{total_eq, total_zero, total_mul_left}
+use Rattle.list_laws.proofs.Totals.{total_eq, total_zero, total_mul_left, total_count}
 use Rattle.circuit_model.specs.declared.gate.Gate.{Gate}
 use Rattle.circuit_model.specs.Circuits.{is_product}
 use Rattle.job_session.specs.declared.side.Side.TheVariants.{First, Second}
@@ -18,25 +18,6 @@ use Rattle.job_session.specs.Counts.{products, prepared_products}
 
 abbrev pub one : Bool → ℕ
 one b = if b then 1 else 0
-
-count_front : {A : Type 0} (p : A → Bool) (xs : List A) (d : A) (n : ℕ) → n ≤ length xs → total n (λ i. one (p (slice_index_or xs i d))) ≡ count_by p (take n xs)
-count_front p xs d zero l = refl
-count_front p xs d (suc n) l =
-    let more : n + 1 ≡ suc n = omega arith in
-    let before = count_front p xs d n (omega arith) in
-    elim (cases_Bool (p (slice_index_or xs n d))) [
-      | inl e ↦
-          let here : one (p (slice_index_or xs n d)) ≡ 1 = cond-true _ 1 0 e in
-          let step = count_by_more_yes p xs n d (omega arith) e in
-          omega (arith, before, here, step, ap (λ z. count_by p (take z xs)) more)
-      | inr e ↦
-          let here : one (p (slice_index_or xs n d)) ≡ 0 = cond-false _ 1 0 e in
-          let step = count_by_more_no p xs n d (omega arith) e in
-          omega (arith, before, here, step, ap (λ z. count_by p (take z xs)) more)
-    ]
-
-pub total_count : {A : Type 0} (p : A → Bool) (xs : List A) (d : A) → total (length xs) (λ i. one (p (slice_index_or xs i d))) ≡ count_by p xs
-total_count p xs d = count_front p xs d (length xs) (omega arith) ∙ ap (count_by p) (take-length xs)
 
 -- ---- sums over lists of slots
 

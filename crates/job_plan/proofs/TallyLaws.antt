@@ -5,7 +5,7 @@ use Rattle.std.specs.Int.{from_bool}
 use Rattle.std.proofs.lemmas.Bool.{cases_eq, cond-true, cond-false, eq-eqb, ne_eqb}
 use mathlib.Core.Logic.{inl, inr}
 use Rattle.list_laws.specs.Lists.{total, joined, only_if}
-use Rattle.list_laws.proofs.Totals.{total_eq, total_zero, total_add, total_mul_left, total_swap, total_pick}
+use Rattle.list_laws.proofs.Totals.{total_eq, total_zero, total_add, total_mul_left, total_swap, total_pick, total_count}
 use Rattle.list_laws.proofs.JoinedLists.{length-joined, joined_more}
 use Rattle.secret_sharing.specs.Schemes.{has_pair}
 use Rattle.party_set.specs.Parties.{has_party}
@@ -21,7 +21,7 @@ use Rattle.job_plan.specs.Tallies.{openings, party_messages, masks_messages, tap
 use Rattle.job_session.proofs.SessionSlots.{slot_kinds}
 use Rattle.job_session.specs.SoundSessions.{Inside}
 use Rattle.job_plan.proofs.SlotMessages.{length-messages}
-use Rattle.job_plan.proofs.SlotSums.{one, total_count, by_kind, masks_same, gates_same, products_dealt}
+use Rattle.job_plan.proofs.SlotSums.{one, by_kind, masks_same, gates_same, products_dealt}
 
 -- ---- deals, openings and masks of a session
 

@@ -130,11 +130,11 @@ module _ (w : World) (got : Key → ℕ) (s p : ℕ) (h : Runs w s p) where
         let at1 = there (Mask t First) (lt, is) in
         let at2 = there (Mask t Second) (lt, is) in
         let at3 = there (Mask_product t) (lt, is) in
-        let R1 : State → Type 0 = λ τ. (σ : State) × Preparing t σ × Rowed w got s p h r1 a (suc k) 0 σ τ in
-        let R2 : State → Type 0 = λ υ. (σ : State) × (τ : State) × Preparing t σ × Rowed w got s p h r1 a (suc k) 0 σ τ × Rowed w got s p h r2 b (suc (k + 1)) 0 τ υ in
-        let up1 : Up (suc k) R1 = go_on k k (Preparing t) R1 refl up (λ σ i. doing k _ R1 σ (mask_slot w got s p h t First k 0 at1.1 at1.0 σ i.ready) (λ τ r. (σ, i, r))) in
-        let up2 : Up (suc (k + 1)) R2 = go_on (suc k) (k + 1) R1 R2 (omega arith) up1 (λ τ d. doing (k + 1) _ R2 τ (mask_slot w got s p h t Second (k + 1) 0 at2.1 at2.0 τ (ready_at w got s p h (suc k) (k + 1) 0 τ (omega arith) d.2.ready)) (λ υ r. (d.0, τ, d.1, d.2, r))) in
-        let up3 : Up (suc (k + 2)) (Preparing (suc t)) = go_on (suc (k + 1)) (k + 2) R2 (Preparing (suc t)) (omega arith) up2 (λ τ d.
+        let FirstSet : State → Type 0 = λ τ. (σ : State) × Preparing t σ × Rowed w got s p h r1 a (suc k) 0 σ τ in
+        let BothSet : State → Type 0 = λ υ. (σ : State) × (τ : State) × Preparing t σ × Rowed w got s p h r1 a (suc k) 0 σ τ × Rowed w got s p h r2 b (suc (k + 1)) 0 τ υ in
+        let up1 : Up (suc k) FirstSet = go_on k k (Preparing t) FirstSet refl up (λ σ i. doing k _ FirstSet σ (mask_slot w got s p h t First k 0 at1.1 at1.0 σ i.ready) (λ τ r. (σ, i, r))) in
+        let up2 : Up (suc (k + 1)) BothSet = go_on (suc k) (k + 1) FirstSet BothSet (omega arith) up1 (λ τ d. doing (k + 1) _ BothSet τ (mask_slot w got s p h t Second (k + 1) 0 at2.1 at2.0 τ (ready_at w got s p h (suc k) (k + 1) 0 τ (omega arith) d.2.ready)) (λ υ r. (d.0, τ, d.1, d.2, r))) in
+        let up3 : Up (suc (k + 2)) (Preparing (suc t)) = go_on (suc (k + 1)) (k + 2) BothSet (Preparing (suc t)) (omega arith) up2 (λ τ d.
         let σ : State = d.0 in
         let ρ : State = d.1 in
         let i = d.2 in
@@ -272,17 +272,17 @@ module _ (w : World) (got : Key → ℕ) (s p : ℕ) (h : Runs w s p) where
             let at3 : (k + 2 < slots plan s) × (slot plan s (k + 2) ≡ At_gate t) = subst (λ n. (k + n < slots plan s) × (slot plan s (k + n) ≡ At_gate t)) two last in
             let d : ℕ = local_excess w got p s t First (summands run t u) in
             let e : ℕ = local_excess w got p s t Second (summands run t v) in
-            let R1 : State → Type 0 = λ τ. (σ : State) × Gating t σ × Showed w got s p h First d (suc k) all_given σ τ in
-            let R2 : State → Type 0 = λ υ. (σ : State) × (τ : State) × Gating t σ × Showed w got s p h First d (suc k) all_given σ τ × Showed w got s p h Second e (suc (k + 1)) all_given τ υ in
-            let up1 : Up (suc k) R1 = go_on k k (Gating t) R1 refl up (λ σ i.
-            doing k _ R1 σ (masked_wire w got s p h t First k all_given at1.1 at1.0 σ i.ready (λ j lj held. i.wires u j lu lj held) (i.trips t lt is).first) (λ τ r. (σ, i, r))) in
-            let up2 : Up (suc (k + 1)) R2 = go_on (suc k) (k + 1) R1 R2 (omega arith) up1 (λ τ c.
+            let FirstSet : State → Type 0 = λ τ. (σ : State) × Gating t σ × Showed w got s p h First d (suc k) all_given σ τ in
+            let BothSet : State → Type 0 = λ υ. (σ : State) × (τ : State) × Gating t σ × Showed w got s p h First d (suc k) all_given σ τ × Showed w got s p h Second e (suc (k + 1)) all_given τ υ in
+            let up1 : Up (suc k) FirstSet = go_on k k (Gating t) FirstSet refl up (λ σ i.
+            doing k _ FirstSet σ (masked_wire w got s p h t First k all_given at1.1 at1.0 σ i.ready (λ j lj held. i.wires u j lu lj held) (i.trips t lt is).first) (λ τ r. (σ, i, r))) in
+            let up2 : Up (suc (k + 1)) BothSet = go_on (suc k) (k + 1) FirstSet BothSet (omega arith) up1 (λ τ c.
             let i = c.1 in
             let same : τ.rows ≡ c.0.rows = c.2.rows in
-            doing (k + 1) _ R2 τ (masked_wire w got s p h t Second (k + 1) all_given at2.1 at2.0 τ (ready_at w got s p h (suc k) (k + 1) all_given τ (omega arith) c.2.ready)
+            doing (k + 1) _ BothSet τ (masked_wire w got s p h t Second (k + 1) all_given at2.1 at2.0 τ (ready_at w got s p h (suc k) (k + 1) all_given τ (omega arith) c.2.ready)
             (λ j lj held. ap (λ (z : ℕ → ℕ → ℕ). z v j) same ∙ i.wires v j lv lj held) (trip_same t c.0 τ same (i.trips t lt is)).second)
             (λ υ r. (c.0, τ, c.1, c.2, r))) in
-            let up3 : Up (suc (k + 2)) (Gating (suc t)) = go_on (suc (k + 1)) (k + 2) R2 (Gating (suc t)) (omega arith) up2 (λ τ c.
+            let up3 : Up (suc (k + 2)) (Gating (suc t)) = go_on (suc (k + 1)) (k + 2) BothSet (Gating (suc t)) (omega arith) up2 (λ τ c.
             let σ : State = c.0 in
             let i = c.2 in
             let r1 = c.3 in
