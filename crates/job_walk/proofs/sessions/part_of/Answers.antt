@@ -13,7 +13,7 @@ of_parties parties owners owners' readers readers' o r owned read = record {
 
 pub returns-in-Ok-2-clause-sound : goal.returns-in-Ok-2-clause-sound
 returns-in-Ok-2-clause-sound c =
-    c.in-Ok-2.ensures.sound (length c.args.job.now.names) (of_parties _ _ _ _ _ c.in_ok-owners.ensures c.in_ok-readers.ensures c.requires.owners c.requires.readers)
+    c.in-Ok.ensures.sound (length c.args.job.now.names) (of_parties _ _ _ _ _ c.in_ok-owners.ensures c.in_ok-readers.ensures c.requires.owners c.requires.readers)
 
 pub returns-in_ok-prepared-in-Ok-clause-sound : goal.returns-in_ok-prepared-in-Ok-clause-sound
 returns-in_ok-prepared-in-Ok-clause-sound c =
