@@ -13,6 +13,7 @@ BAD_SESSION = '[[session]]\nlayout = "expr"\nowners = ["a", "d"]\nreaders = [["a
 GOOD_SESSION = '[[session]]\ncircuit = "m"\nlayout = "bristol"\n'
 BAD_HOSTS = 'hosts = ["x", ""]\nport = 65393\n'
 LISTED = 'version = 2\nring_bits = 8\nparties = ["a", "b", "c"]\n'
+TOLERATING = LISTED + 'tolerated = [["a"]]\n'
 
 # Texts, and the faults that are told of them.
 VERSIONS = [
@@ -61,6 +62,18 @@ SESSION_VALUES = [
     (TOP + SESSION + GOOD_SESSION + 'owners = []\nreaders = [["zz"]]\n', 'job 8 BadReader session=1 value=0 at=0'),
 ]
 
+# Products are told in version 2 alone, after the layout and before the owners.
+PRODUCTS = [
+    (TOP + SESSION + 'products = "direct"\n', 'job 4 Unknown session=0 name=products'),
+    (TOLERATING + '[[session]]\ncircuit = "."\nlayout = ""\nproducts = ["prepared"]\n', 'job 5 WrongKind session=0 field=products'),
+    (TOLERATING + '[[session]]\ncircuit = "."\nlayout = ""\nproducts = ""\n', 'job 3 Missing session=0 field=owners'),
+    (TOLERATING + SESSION + 'products = "prepared"\n' + SESSION + 'products = "Direct"\n', 'job 17 BadProducts session=1'),
+    (TOLERATING + SESSION + 'products = ""\n', 'job 17 BadProducts session=0'),
+    (TOLERATING + BAD_SESSION.replace('expr', 'none') + 'circuit = "m"\nproducts = ""\n', 'job 11 BadLayout session=0'),
+    (TOLERATING + BAD_SESSION + 'circuit = "m"\nproducts = ""\n', 'job 17 BadProducts session=0'),
+    (TOLERATING + BAD_SESSION + 'circuit = "m"\nproducts = "prepared"\n', 'job 7 BadOwner session=0 at=1'),
+]
+
 # A session stands before the hosts, and these before the port.
 HOSTS_AND_PORTS = [
     (TOP + BAD_HOSTS + SESSION + '[[session]]\n', 'job 3 Missing session=1 field=circuit'),
@@ -91,7 +104,7 @@ def refused(words, text, fault):
 
 
 JOB_FILES = [
-    *(refused(CHECK, text, fault) for table in [VERSIONS, UNKNOWN_FIELDS, TOP_FIELDS, BITS_AND_NAMES, SESSION_FIELDS, SESSION_VALUES,
+    *(refused(CHECK, text, fault) for table in [VERSIONS, UNKNOWN_FIELDS, TOP_FIELDS, BITS_AND_NAMES, SESSION_FIELDS, SESSION_VALUES, PRODUCTS,
                                                 HOSTS_AND_PORTS, FIELDS_OF_VERSIONS, TOLERATED_GROUPS] for text, fault in table),
     # A node wants hosts.
     refused(['node', 'd', 'a'], TOP + SESSION, 'job 3 Missing field=hosts'),

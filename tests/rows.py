@@ -27,6 +27,7 @@ from other_words import OTHER_WORDS
 from pairs import OTHER_FAULTS, PAIR_FAULTS, PAIRS
 from party_faults import PARTY_FAULTS
 from party_files import ACCEPTED_FILES, REFUSED_FILES
+from prepared_runs import PREPARED_RUNS
 from samples import MADE_SAMPLES, SAMPLES
 from tolerated_runs import TOLERATED
 from views import OTHER_GROUPS, VIEWS
@@ -39,6 +40,7 @@ GROUPS = {
     'accepted': ACCEPTED,
     'wide rings': WIDE_RINGS,
     'tolerated': TOLERATED,
+    'prepared': PREPARED_RUNS,
     'words': OTHER_WORDS,
     'jobs': [*JOB_FAULTS, *JOB_FILES],
     'formulas': FORMULAS,
@@ -61,7 +63,7 @@ GROUPS = {
 }
 
 # Those of which each run that writes outputs is computed in the clear.
-IN_THE_CLEAR = ['accepted', 'wide rings', 'tolerated', 'expressions']
+IN_THE_CLEAR = ['accepted', 'wide rings', 'tolerated', 'prepared', 'expressions']
 
 
 def call(program, row):

@@ -11,7 +11,7 @@ use Rattle.share_world.specs.Worlds.{World, word}
 use Rattle.message_board.specs.Plain.{plain_cell, plain_put}
 use Rattle.message_board.specs.declared.plain.PlainCells.{PlainCells}
 use Rattle.party_program.specs.declared.program.Instruction.{Instruction}
-use Rattle.party_program.specs.declared.program.Instruction.TheVariants.{Deal, Post, Take, Linear, Own, Sum, Deliver, End}
+use Rattle.party_program.specs.declared.program.Instruction.TheVariants.{Draw, Deal, Post, Take, Linear, Own, Sum, Open, Join, Deliver, End}
 use Rattle.party_desk.specs.declared.desk.Desk.{Desk}
 use Rattle.party_desk.specs.declared.desk.Stepped.{Stepped}
 use Rattle.party_desk.specs.declared.desk.Stepped.TheVariants.{Moved, NotYet, Ended}
@@ -134,12 +134,15 @@ module _ (w : World) (whole : IsWhole w) (ds : List Desk) (cells : PlainCells) (
   }
 
   after_effect : (e : Instruction) (new : PlainCells) → i ≡ e → Does new e → CellsAfter new
+  after_effect (Draw k) new e f = same_cells new f (λ n j' g. let a : Draw k ≡ Post n j' = sym e ∙ g in cc)
   after_effect (Deal k j) new e f = same_cells new f (λ n j' g. let a : Deal k j ≡ Post n j' = sym e ∙ g in cc)
   after_effect (Post n j) new e f = put_cells new n j (word w (message w.plan n)) e (let a = f.there in let b = h.count in omega arith) refl (ap (λ z. z.cells) f.put.0) (ap (λ z. z.bits) f.put.0)
   after_effect (Take n j) new e f = same_cells new f.took.0 (λ n' j' g. let a : Take n j ≡ Post n' j' = sym e ∙ g in cc)
   after_effect (Linear k) new e f = same_cells new f (λ n j' g. let a : Linear k ≡ Post n j' = sym e ∙ g in cc)
   after_effect (Own k) new e f = same_cells new f (λ n j' g. let a : Own k ≡ Post n j' = sym e ∙ g in cc)
   after_effect (Sum k) new e f = same_cells new f (λ n j' g. let a : Sum k ≡ Post n j' = sym e ∙ g in cc)
+  after_effect (Open k) new e f = same_cells new f (λ n j' g. let a : Open k ≡ Post n j' = sym e ∙ g in cc)
+  after_effect (Join k) new e f = same_cells new f (λ n j' g. let a : Join k ≡ Post n j' = sym e ∙ g in cc)
   after_effect (Deliver k) new e f = same_cells new f (λ n j' g. let a : Deliver k ≡ Post n j' = sym e ∙ g in cc)
   after_effect End new e f = absurd f
 
@@ -215,22 +218,28 @@ module _ (w : World) (whole : IsWhole w) (ds : List Desk) (cells : PlainCells) (
     pub tells : r ≡ told cells.cells j
 
   moved_as : (e : Desk) (new : PlainCells) (j : Instruction) → e.position ≡ d.position + 1 → Does new j → StepsAs e new Moved j
+  moved_as e new (Draw k) a f = record { position = a; holds = ap (λ z. z.cells) f; tells = refl }
   moved_as e new (Deal k j) a f = record { position = a; holds = ap (λ z. z.cells) f; tells = refl }
   moved_as e new (Post n j) a f = record { position = a; holds = ap (λ z. z.cells) f.put.0; tells = refl }
   moved_as e new (Take n j) a f = record { position = a; holds = ap (λ z. z.cells) f.took.0; tells = ap (λ z. if is_some z then Moved else NotYet n) f.took.1 }
   moved_as e new (Linear k) a f = record { position = a; holds = ap (λ z. z.cells) f; tells = refl }
   moved_as e new (Own k) a f = record { position = a; holds = ap (λ z. z.cells) f; tells = refl }
   moved_as e new (Sum k) a f = record { position = a; holds = ap (λ z. z.cells) f; tells = refl }
+  moved_as e new (Open k) a f = record { position = a; holds = ap (λ z. z.cells) f; tells = refl }
+  moved_as e new (Join k) a f = record { position = a; holds = ap (λ z. z.cells) f; tells = refl }
   moved_as e new (Deliver k) a f = record { position = a; holds = ap (λ z. z.cells) f; tells = refl }
   moved_as e new End a f = absurd f
 
   waited_as : (e : Desk) (new : PlainCells) (m : ℕ) (j : Instruction) → Waits plain_cells d cells e new m j → StepsAs e new (NotYet m) j
   waited_as e new m (Take n j) f = record { position = ap (λ z. z.position) f.1 ∙ omega arith; holds = ap (λ z. z.cells) f.2.0; tells = ap NotYet f.0 ∙ ap (λ z. if is_some z then Moved else NotYet n) f.2.1 }
+  waited_as e new m (Draw k) f = absurd f
   waited_as e new m (Deal k j) f = absurd f
   waited_as e new m (Post k j) f = absurd f
   waited_as e new m (Linear k) f = absurd f
   waited_as e new m (Own k) f = absurd f
   waited_as e new m (Sum k) f = absurd f
+  waited_as e new m (Open k) f = absurd f
+  waited_as e new m (Join k) f = absurd f
   waited_as e new m (Deliver k) f = absurd f
   waited_as e new m End f = absurd f
 

@@ -67,8 +67,8 @@ fn deal_three(ring: Ring, value: u64, tape: &mut Tape, out: &mut [u64])
     out[2] = ring.sub(value, ring.add(first, second));
 }
 
-// Draws the next word and spends it.
-fn next_word(ring: Ring, tape: &mut Tape) -> u64
+/// Draws the next word and spends it.
+pub fn next_word(ring: Ring, tape: &mut Tape) -> u64
     requires words { All (λ word. word < 2 ^ ring) tape.old }
     requires some { 0 < length tape.old }
     ensures is { result ≡ slice_index tape.old 0 }

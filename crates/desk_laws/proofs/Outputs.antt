@@ -1,9 +1,12 @@
 -- What a desk of a world delivers and draws.
-use Rattle.std.proofs.Common.{◌≡◌, ℕ, zero, suc, ◌-◌, ◌<◌, ◌≤◌, [], ◌∷◌, drop, List, length, refl, sym, ap, ◌∙◌, arith}
+use Rattle.std.proofs.Common.{◌≡◌, ℕ, zero, suc, ◌-◌, ◌<◌, ◌≤◌, [], ◌∷◌, drop, List, length, refl, sym, ap, ◌∙◌, subst, arith}
 use Rattle.std.specs.Prelude.{false, Option, Some, None}
-use Rattle.std.proofs.lemmas.List.{length-drop}
-use Rattle.std.proofs.lemmas.Bool.{both_ways}
-use Rattle.job_plan.specs.Plans.{reads, words}
+use Rattle.std.proofs.lemmas.List.{length-drop, get_or_past}
+use Rattle.std.proofs.lemmas.Bool.{both_ways, cases_lt}
+use mathlib.Core.Logic.{inl, inr}
+use Rattle.job_session.specs.Sessions.{readers}
+use Rattle.job_session.proofs.SessionSlots.{slots_are_numbered}
+use Rattle.job_plan.specs.Plans.{session, reads, words, words_before}
 use Rattle.share_world.specs.Worlds.{World, word}
 use Rattle.share_world.specs.Laws.{IsWhole}
 use Rattle.share_world.proofs.SentWords.{opened_are_plain}
@@ -26,7 +29,8 @@ drawn_at_end w whole s p ls lp =
     let l = given_in w s p in
     let es = program w.plan p s in
     ap (λ σ. σ.drawn) (state_is l (length es) ∙ run_all l es new_state)
-    ∙ (met w whole.sound (word w) s p ls lp (λ k i. small_words w whole s p k i)).1.drawn
+    ∙ (met w whole.sound (word w) s p ls lp (λ k i. small_words w whole s p k i)).1.ready.drawn
+    ∙ ap (words_before w.plan p s) (sym (slots_are_numbered (session w.plan s)).count)
 
 piece_is : (w : World) → IsWhole w → (s p : ℕ) → s < length w.plan.sessions → p < w.plan.parties → length (piece_of w p s) ≡ words w.plan p s
 piece_is w whole s p ls lp = (suits_in w whole s p ls lp).tape
@@ -57,11 +61,18 @@ module _ (w : World) (s p : ℕ) (d : Desk) (whole : IsWhole w) (h : IsDesk (giv
       let rest = ap length h.tape ∙ length-drop past (piece_of w p s) in
       omega (arith, long, piece, rest)
 
+  -- an output that is there is one of the session's
+  output_within : (o v : ℕ) → output_at d o ≡ Some v → o < length (readers (session w.plan s))
+  output_within o v e = elim (cases_lt o (length d.memory.outputs.items)) [
+    | inl less ↦ subst (λ z. o < z) h.fits.outputs less
+    | inr past ↦ absurd (let none : None ≡ Some v = sym (get_or_past d.memory.outputs.items o None past) ∙ e in cc)
+  ]
+
   pub right_now : IsRight w s p d
   right_now = record {
     delivered = λ o v e.
         let a = opens_right w whole.sound (word w) s p h.suits.session h.suits.party (λ k i. small_words w whole s p k i) d.position o v (sym (h.memory.outputs o) ∙ e) in
-        (a.0, a.1 ∙ opened_are_plain w (is_world w whole) p s o);
+        (a.0, a.1 ∙ opened_are_plain w (is_world w whole) p s o (output_within o v e));
     drawn = (let a = drawn_past in omega arith);
     left = h.tape ∙ drop_again past (piece_of w p s) ∙ ap (λ z. drop (z - (z - past)) (piece_of w p s)) (piece_is w whole s p h.suits.session h.suits.party) ∙ ap (λ z. drop z (piece_of w p s)) (sym drawn_past);
   }
@@ -80,7 +91,7 @@ module _ (w : World) (s p : ℕ) (d : Desk) (whole : IsWhole w) (h : IsDesk (giv
           ∙ ap (λ q. (state (given_in w s p) q).outputs o) ended
           ∙ ap (λ σ. σ.outputs o) (state_is (given_in w s p) (length (program w.plan p s)) ∙ run_all (given_in w s p) (program w.plan p s) new_state)
           ∙ (met w whole.sound (word w) s p h.suits.session h.suits.party (λ k i. small_words w whole s p k i)).1.outputs o lo reads
-          ∙ ap Some (opened_are_plain w (is_world w whole) p s o);
+          ∙ ap Some (opened_are_plain w (is_world w whole) p s o lo);
       nothing_else = λ o not_read. none_there (output_at d o) o refl not_read;
       drawn = (let a = ap length tape_is in let long = piece_is w whole s p h.suits.session h.suits.party in let piece = h.piece in omega (arith, a, long, piece));
       none_left = tape_is;

@@ -7,7 +7,7 @@ use mathlib.Core.Logic.{inl, inr}
 use Rattle.share_world.specs.Worlds.{World}
 use Rattle.message_board.specs.declared.cells.Cells.{Ghosts as Meaning}
 use Rattle.party_program.specs.declared.program.Instruction.{Instruction}
-use Rattle.party_program.specs.declared.program.Instruction.TheVariants.{Deal, Post, Take, Linear, Own, Sum, Deliver, End}
+use Rattle.party_program.specs.declared.program.Instruction.TheVariants.{Draw, Deal, Post, Take, Linear, Own, Sum, Open, Join, Deliver, End}
 use Rattle.party_program.specs.Programs.{program, at}
 use Rattle.party_desk.specs.declared.desk.Desk.{Desk}
 use Rattle.party_desk.specs.declared.desk.Stepped.{Stepped}
@@ -38,11 +38,14 @@ module _ {C : Type 0} (cells : Meaning C) where
 
   pub waited : (d e : Desk) (c f : C) (m : ℕ) (i : Instruction) → Waits cells d c e f m i → Waited d e c f i
   waited d e c f m (Take n j) x = record { number = n; share = j; takes = refl; same = x.1; none = x.2 }
+  waited d e c f m (Draw k) x = absurd x
   waited d e c f m (Deal k j) x = absurd x
   waited d e c f m (Post k j) x = absurd x
   waited d e c f m (Linear k) x = absurd x
   waited d e c f m (Own k) x = absurd x
   waited d e c f m (Sum k) x = absurd x
+  waited d e c f m (Open k) x = absurd x
+  waited d e c f m (Join k) x = absurd x
   waited d e c f m (Deliver k) x = absurd x
   waited d e c f m End x = absurd x
 

@@ -5,25 +5,26 @@ use Rattle.std.proofs.lemmas.Bool.{cases_lt}
 use Rattle.std.proofs.lemmas.List.{get_or_past}
 use Rattle.std.proofs.lemmas.List.Elements.{All-get_or}
 use Rattle.std.proofs.lemmas.Nat.{pow_pos}
+use Rattle.std.proofs.Math.Nat.{mod-lt}
 use mathlib.Core.Logic.{inl, inr}
 use Rattle.circuit_model.specs.Circuits.{set_at}
 use Rattle.circuit_model.proofs.SetAt.{set_here, set_there}
 use Rattle.job_session.specs.Sessions.{Slot}
-use Rattle.job_plan.specs.Plans.{Plan, session}
-use Rattle.job_session.specs.Sessions.Slot.{Input, At_gate, Output}
+use Rattle.job_plan.specs.Plans.{Plan}
+use Rattle.job_session.specs.Sessions.Slot.{Input, At_gate, Output, Mask, Mask_product, Masked}
 use Rattle.job_plan.specs.Messages.{messages}
 use Rattle.message_board.specs.declared.cells.Cells.{Ghosts as Meaning}
 use Rattle.party_program.specs.declared.program.Instruction.{Instruction}
-use Rattle.party_program.specs.declared.program.Instruction.TheVariants.{Deal, Post, Take, Linear, Own, Sum, Deliver, End}
+use Rattle.party_program.specs.declared.program.Instruction.TheVariants.{Draw, Deal, Post, Take, Linear, Own, Sum, Open, Join, Deliver, End}
 use Rattle.party_program.specs.Programs.{program, at}
-use Rattle.party_program.specs.States.{Given, slot_of}
+use Rattle.party_program.specs.States.{Given, State, slot_of, posted}
 use Rattle.party_program.specs.Proper.{Proper, with_got}
 use Rattle.party_program.proofs.RisingTakes.{takes_rise}
 use Rattle.program_laws.proofs.OncePosted.{once}
 use Rattle.party_desk.specs.declared.desk.Desk.{Desk}
 use Rattle.party_desk.specs.declared.desk.Stepped.{Stepped}
 use Rattle.party_desk.specs.declared.desk.Stepped.TheVariants.{Moved, NotYet, Ended}
-use Rattle.party_desk.specs.Memories.{state_of, IsMemoryOf, posted_on_rows, row_of}
+use Rattle.party_desk.specs.Memories.{state_of, row_of, on_wires, IsMemoryOf}
 use Rattle.party_desk.specs.Desks.{IsDesk, Waits, instruction_at}
 use Rattle.party_desk.specs.Steps.{word_at, with_word, Allows, MayStep, Does, Steps, KeepsCells}
 use Rattle.party_desk.proofs.AllowedSteps.{proper, posts_right}
@@ -36,28 +37,35 @@ small_of q xs k pos small = elim (cases_lt k (length xs)) [
   | inr past ↦ subst (λ z. z < q) (sym (get_or_past xs k 0 past)) pos
 ]
 
-small_post : (plan : Plan) (s : ℕ) (d : Desk) (z : Slot) (i : ℕ) → IsMemoryOf plan s d.memory → posted_on_rows (row_of d.memory) (session plan s) z i (state_of (length plan.groups) d.memory) < 2 ^ plan.bits
+small_post : (plan : Plan) (s : ℕ) (d : Desk) (z : Slot) (i : ℕ) → IsMemoryOf plan s d.memory → posted plan s z i (on_wires (row_of d.memory) (state_of (length plan.groups) d.memory)) < 2 ^ plan.bits
+small_post plan s d (Masked t side) i h = mod-lt _ (pow_pos plan.bits)
 small_post plan s d (Input v) i h = small_of (2 ^ plan.bits) d.memory.rows.items _ (pow_pos plan.bits) h.small_rows
 small_post plan s d (At_gate t) i h = small_of (2 ^ plan.bits) d.memory.rows.items _ (pow_pos plan.bits) h.small_rows
 small_post plan s d (Output o) i h = small_of (2 ^ plan.bits) d.memory.rows.items _ (pow_pos plan.bits) h.small_rows
+small_post plan s d (Mask t side) i h = small_of (2 ^ plan.bits) d.memory.rows.items _ (pow_pos plan.bits) h.small_rows
+small_post plan s d (Mask_product t) i h = small_of (2 ^ plan.bits) d.memory.rows.items _ (pow_pos plan.bits) h.small_rows
 
 module _ (l : Given) (d : Desk) (is_desk : IsDesk l d) where
   next_at : (e : Instruction) → instruction_at l d ≡ e → NextIs l d.position e
   next_at (Post n j) is =
       let there : n < length (messages l.plan) = (subst (Proper l.plan l.session) is (proper l d is_desk)).number in
       let right = posts_right l d is_desk n j is in
-      let small : posted_on_rows (row_of d.memory) (session l.plan l.session) (slot_of l.plan n) j (state_of (length l.plan.groups) d.memory) < 2 ^ l.plan.bits = small_post l.plan l.session d (slot_of l.plan n) j is_desk.fits in (
+      let here : State = on_wires (row_of d.memory) (state_of (length l.plan.groups) d.memory) in
+      let small : posted l.plan l.session (slot_of l.plan n) j here < 2 ^ l.plan.bits = small_post l.plan l.session d (slot_of l.plan n) j is_desk.fits in (
         there,
         sym ((once l.plan n there).posted.alone l.party l.session d.position j is).0,
-        subst (λ z. z < 2 ^ l.plan.bits) right (subst (λ z. posted_on_rows (row_of d.memory) (session l.plan z) (slot_of l.plan n) j (state_of (length l.plan.groups) d.memory) < 2 ^ l.plan.bits) (sym is_desk.session) small),
+        subst (λ z. z < 2 ^ l.plan.bits) right (subst (λ z. posted l.plan z (slot_of l.plan n) j here < 2 ^ l.plan.bits) (sym is_desk.session) small),
       )
   next_at (Take n j) is =
       let there : n < length (messages l.plan) = (subst (Proper l.plan l.session) is (proper l d is_desk)).number in
       (there, sym ((once l.plan n there).taken.alone l.party l.session d.position j is).0)
+  next_at (Draw k) is = tt
   next_at (Deal k j) is = tt
   next_at (Linear k) is = tt
   next_at (Own k) is = tt
   next_at (Sum k) is = tt
+  next_at (Open k) is = tt
+  next_at (Join k) is = tt
   next_at (Deliver k) is = tt
   next_at End is = tt
 
@@ -69,12 +77,15 @@ module _ {C : Type 0} (cells : Meaning C) (plan : Plan) (c : C) (l : Given) (d :
   own = subst (λ (z : Plan). IsOpenTo cells z l.party c) (sym may.same) may.is_open
 
   allows_at : (e : Instruction) → NextIs l d.position e → Allows cells c l d.position e
+  allows_at (Draw k) x = tt
   allows_at (Deal k j) x = tt
   allows_at (Post n j) x = own.posts n (word_at l d.position n j) x.0 x.1 x.2
   allows_at (Take n j) x = own.takes n x.0 x.1
   allows_at (Linear k) x = tt
   allows_at (Own k) x = tt
   allows_at (Sum k) x = tt
+  allows_at (Open k) x = tt
+  allows_at (Join k) x = tt
   allows_at (Deliver k) x = tt
   allows_at End x = tt
 
@@ -125,12 +136,15 @@ module _ {C : Type 0} (cells : Meaning C) (plan : Plan) (c : C) (l : Given) (d :
     )
 
     does : (j : Instruction) → i ≡ j → e.position ≡ d.position + 1 → Does cells l d c e f j → Still
+    does (Draw k) is more x = stays more (λ m j t. let both : Draw k ≡ Take m j = sym is ∙ t in cc) x.1
     does (Deal k n) is more x = stays more (λ m j t. let both : Deal k n ≡ Take m j = sym is ∙ t in cc) x.1
     does (Post n k) is more x = stays more (λ m j t. let both : Post n k ≡ Take m j = sym is ∙ t in cc) x.1
     does (Take n k) is more x = hears n k x.0 more is x.2 x.3
     does (Linear k) is more x = stays more (λ m j t. let both : Linear k ≡ Take m j = sym is ∙ t in cc) x.1
     does (Own k) is more x = stays more (λ m j t. let both : Own k ≡ Take m j = sym is ∙ t in cc) x.1
     does (Sum k) is more x = stays more (λ m j t. let both : Sum k ≡ Take m j = sym is ∙ t in cc) x.1
+    does (Open k) is more x = stays more (λ m j t. let both : Open k ≡ Take m j = sym is ∙ t in cc) x.1
+    does (Join k) is more x = stays more (λ m j t. let both : Join k ≡ Take m j = sym is ∙ t in cc) x.1
     does (Deliver k) is more x = stays more (λ m j t. let both : Deliver k ≡ Take m j = sym is ∙ t in cc) x.1
     does End is more x = absurd x
 
@@ -139,11 +153,14 @@ module _ {C : Type 0} (cells : Meaning C) (plan : Plan) (c : C) (l : Given) (d :
 
     waited : (m : ℕ) (j : Instruction) → Waits cells d c e f m j → Still
     waited m (Take n j) x = same_desk x.1
+    waited m (Draw k) x = absurd x
     waited m (Deal k j) x = absurd x
     waited m (Post k j) x = absurd x
     waited m (Linear k) x = absurd x
     waited m (Own k) x = absurd x
     waited m (Sum k) x = absurd x
+    waited m (Open k) x = absurd x
+    waited m (Join k) x = absurd x
     waited m (Deliver k) x = absurd x
     waited m End x = absurd x
 

@@ -9,7 +9,7 @@ use Rattle.job_plan.specs.Numbers.{message}
 use Rattle.share_world.specs.Worlds.{World, word}
 use Rattle.message_board.specs.declared.cells.Cells.{Ghosts as Meaning}
 use Rattle.party_program.specs.declared.program.Instruction.{Instruction}
-use Rattle.party_program.specs.declared.program.Instruction.TheVariants.{Deal, Post, Take, Linear, Own, Sum, Deliver, End}
+use Rattle.party_program.specs.declared.program.Instruction.TheVariants.{Draw, Deal, Post, Take, Linear, Own, Sum, Open, Join, Deliver, End}
 use Rattle.party_program.specs.Programs.{program, at}
 use Rattle.party_program.specs.States.{Given}
 use Rattle.party_program.specs.Proper.{Proper}
@@ -51,12 +51,15 @@ module _ {C : Type 0} (cells : Meaning C) (plan : Plan) (w : World) (s p : ℕ) 
   receiver_is n j is = sym ((once w.plan n (proper (Take n j) is).number).taken.alone p s d.position j (sym here ∙ is)).0
 
   allows_at : (e : Instruction) → i ≡ e → Allows cells c l d.position e
+  allows_at (Draw k) is = tt
   allows_at (Deal k j) is = tt
   allows_at (Post n j) is = subst (cells.may_post c n) (sym (word_is n j is)) (may.serves.posts n (proper (Post n j) is).number (sender_is n j is))
   allows_at (Take n j) is = may.serves.takes n (proper (Take n j) is).number (receiver_is n j is)
   allows_at (Linear k) is = tt
   allows_at (Own k) is = tt
   allows_at (Sum k) is = tt
+  allows_at (Open k) is = tt
+  allows_at (Join k) is = tt
   allows_at (Deliver k) is = tt
   allows_at End is = tt
 
@@ -82,6 +85,7 @@ module _ {C : Type 0} (cells : Meaning C) (plan : Plan) (w : World) (s p : ℕ) 
     ])
 
     does : (j : Instruction) → i ≡ j → Does cells (given_in w s p) d c e f j → DoesIn cells w p c f j × IsDesk (given_in w s p) e
+    does (Draw k) is x = (x.0, x.1)
     does (Deal k n) is x = (x.0, x.1)
     does (Post n k) is x = (record { there = (proper (Post n k) is).number; sender = sender_is n k is; answer = x.0.0; put = subst (λ z. cells.put c n z x.0.0 f) (word_is n k is) x.0.1 }, x.1)
     does (Take n k) is x =
@@ -90,6 +94,8 @@ module _ {C : Type 0} (cells : Meaning C) (plan : Plan) (w : World) (s p : ℕ) 
     does (Linear k) is x = (x.0, x.1)
     does (Own k) is x = (x.0, x.1)
     does (Sum k) is x = (x.0, x.1)
+    does (Open k) is x = (x.0, x.1)
+    does (Join k) is x = (x.0, x.1)
     does (Deliver k) is x = (x.0, x.1)
     does End is x = absurd x
 

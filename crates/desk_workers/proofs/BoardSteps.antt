@@ -12,7 +12,7 @@ use Rattle.message_board.specs.declared.cells.Cells.{Ghosts as Meaning}
 use Rattle.message_board.specs.Pairs.{Knows, Grows}
 use Rattle.message_board.specs.Seats.{BoardModel, Sitting, IsSeatOf, HasPosted, HasTaken, AllBelow}
 use Rattle.party_program.specs.declared.program.Instruction.{Instruction}
-use Rattle.party_program.specs.declared.program.Instruction.TheVariants.{Deal, Post, Take, Linear, Own, Sum, Deliver, End}
+use Rattle.party_program.specs.declared.program.Instruction.TheVariants.{Draw, Deal, Post, Take, Linear, Own, Sum, Open, Join, Deliver, End}
 use Rattle.party_desk.specs.declared.desk.Desk.{Desk}
 use Rattle.party_desk.specs.declared.desk.Stepped.{Stepped}
 use Rattle.party_desk.specs.declared.desk.Stepped.TheVariants.{Moved, NotYet, Ended}
@@ -110,12 +110,15 @@ module _ {C : Type 0} (cells : Meaning C) (seat_of : C → Sitting Promised) (li
   Did r = StepsIn cells w s p d c e f (instruction_at (given_to w k) d) r
 
   does_keep : (i : Instruction) → DoesIn cells w p c f i → Kept (seat_of c) (seat_of f)
+  does_keep (Draw a) x = same_seat _ _ (ap seat_of x)
   does_keep (Deal a b) x = same_seat _ _ (ap seat_of x)
   does_keep (Post n j) x = post_keeps board (seat_of c) (seat_of f) n (word w (message w.plan n)) x.answer (put_is n (word w (message w.plan n)) x.answer x.put)
   does_keep (Take n j) x = take_keeps board (seat_of c) (seat_of f) list n (Some (word w (message w.plan n))) (took_is n (Some (word w (message w.plan n))) x.took)
   does_keep (Linear a) x = same_seat _ _ (ap seat_of x)
   does_keep (Own a) x = same_seat _ _ (ap seat_of x)
   does_keep (Sum a) x = same_seat _ _ (ap seat_of x)
+  does_keep (Open a) x = same_seat _ _ (ap seat_of x)
+  does_keep (Join a) x = same_seat _ _ (ap seat_of x)
   does_keep (Deliver a) x = same_seat _ _ (ap seat_of x)
   does_keep End x = absurd x
 
@@ -153,12 +156,15 @@ module _ {C : Type 0} (cells : Meaning C) (seat_of : C → Sitting Promised) (li
   step_leaves P put took same Moved x = does (instruction_at (given_to w k) d) x.1
     where
       does : (i : Instruction) → DoesIn cells w p c f i → P
+      does (Draw a) x = same x
       does (Deal a b) x = same x
       does (Post n j) x = put n (word w (message w.plan n)) x.answer x.put
       does (Take n j) x = took n (Some (word w (message w.plan n))) x.took
       does (Linear a) x = same x
       does (Own a) x = same x
       does (Sum a) x = same x
+      does (Open a) x = same x
+      does (Join a) x = same x
       does (Deliver a) x = same x
       does End x = absurd x
   step_leaves P put took same (NotYet m) x = let y = counting.waited cells d e c f m (instruction_at (given_to w k) d) x in took y.number None y.none

@@ -7,7 +7,7 @@ use Rattle.job_plan.specs.Messages.{messages}
 use Rattle.job_plan.specs.Numbers.{message, no_key}
 use Rattle.share_world.specs.Worlds.{World, word}
 use Rattle.party_program.specs.declared.program.Instruction.{Instruction}
-use Rattle.party_program.specs.declared.program.Instruction.TheVariants.{Deal, Post, Take, Linear, Own, Sum, Deliver, End}
+use Rattle.party_program.specs.declared.program.Instruction.TheVariants.{Draw, Deal, Post, Take, Linear, Own, Sum, Open, Join, Deliver, End}
 use Rattle.party_program.specs.Programs.{at, program}
 use Rattle.party_desk.specs.declared.desk.Desk.{Desk}
 use Rattle.party_desk.specs.Desks.{IsDesk}
@@ -59,21 +59,27 @@ module _ (w : World) where
   pairs_are has (suc p) [] h k v known = absurd known
   pairs_are has (suc p) (Post n i ∷ es) h k v (inl same) = subst (λ m. has m v) same.0 (subst (has n) same.1 (h 0 n i (omega arith) refl))
   pairs_are has (suc p) (Post n i ∷ es) h k v (inr known) = pairs_are has p es (λ q m j l e. h (suc q) m j (omega arith) e) k v known
+  pairs_are has (suc p) (Draw a ∷ es) h k v known = pairs_are has p es (λ q m j l e. h (suc q) m j (omega arith) e) k v known
   pairs_are has (suc p) (Deal a b ∷ es) h k v known = pairs_are has p es (λ q m j l e. h (suc q) m j (omega arith) e) k v known
   pairs_are has (suc p) (Take a b ∷ es) h k v known = pairs_are has p es (λ q m j l e. h (suc q) m j (omega arith) e) k v known
   pairs_are has (suc p) (Linear a ∷ es) h k v known = pairs_are has p es (λ q m j l e. h (suc q) m j (omega arith) e) k v known
   pairs_are has (suc p) (Own a ∷ es) h k v known = pairs_are has p es (λ q m j l e. h (suc q) m j (omega arith) e) k v known
   pairs_are has (suc p) (Sum a ∷ es) h k v known = pairs_are has p es (λ q m j l e. h (suc q) m j (omega arith) e) k v known
+  pairs_are has (suc p) (Open a ∷ es) h k v known = pairs_are has p es (λ q m j l e. h (suc q) m j (omega arith) e) k v known
+  pairs_are has (suc p) (Join a ∷ es) h k v known = pairs_are has p es (λ q m j l e. h (suc q) m j (omega arith) e) k v known
   pairs_are has (suc p) (Deliver a ∷ es) h k v known = pairs_are has p es (λ q m j l e. h (suc q) m j (omega arith) e) k v known
   pairs_are has (suc p) (End ∷ es) h k v known = pairs_are has p es (λ q m j l e. h (suc q) m j (omega arith) e) k v known
 
   behind : (e : Instruction) (es : List Instruction) (k v : ℕ) → Knows (posted_pairs w es) k v → Knows (posted_pairs w (e ∷ es)) k v
   behind (Post n i) es k v known = inr known
+  behind (Draw a) es k v known = known
   behind (Deal a b) es k v known = known
   behind (Take a b) es k v known = known
   behind (Linear a) es k v known = known
   behind (Own a) es k v known = known
   behind (Sum a) es k v known = known
+  behind (Open a) es k v known = known
+  behind (Join a) es k v known = known
   behind (Deliver a) es k v known = known
   behind End es k v known = known
 

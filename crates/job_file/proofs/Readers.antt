@@ -55,10 +55,10 @@ lists_turn names vs value v within is = ap (λ xs. bad_in_lists names value (map
 
 pub sessions_turn : (two : Bool) (names : List (List ℕ)) (vs : List Value) (session : ℕ) (v : Value) (fields : Members) → session < length vs → v ≡ get_or vs session v → session_of v ≡ fields
     → sessions_fault two names session (map session_of (drop session vs))
-    ≡ option_or (session_fields_fault session fields) (option_or (session_values_fault two names session fields) (sessions_fault two names (session + 1) (map session_of (drop (session + 1) vs))))
+    ≡ option_or (session_fields_fault two session fields) (option_or (session_values_fault two names session fields) (sessions_fault two names (session + 1) (map session_of (drop (session + 1) vs))))
 unfolding sessions_fault
 sessions_turn two names vs session v fields within is same =
     let rest : Option JobFault = sessions_fault two names (session + 1) (map session_of (drop (session + 1) vs)) in
     ap (λ xs. sessions_fault two names session (map session_of xs)) (cut vs session v within is)
-    ∙ ap (λ ms. option_or (session_fields_fault session ms) (option_or (session_values_fault two names session ms) (option_or rest None))) same
-    ∙ ap (λ o. option_or (session_fields_fault session fields) (option_or (session_values_fault two names session fields) o)) (first-one rest)
+    ∙ ap (λ ms. option_or (session_fields_fault two session ms) (option_or (session_values_fault two names session ms) (option_or rest None))) same
+    ∙ ap (λ o. option_or (session_fields_fault two session fields) (option_or (session_values_fault two names session fields) o)) (first-one rest)

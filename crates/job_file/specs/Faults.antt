@@ -10,11 +10,11 @@ use Rattle.toml_fields.specs.Fields.{has_field, is_misfit}
 use Rattle.toml_fields.specs.Keys.{least_unknown}
 use Rattle.party_set.specs.Names.{party_named, names_fault}
 use Rattle.job_file.specs.declared.field.Field.{Field}
-use Rattle.job_file.specs.declared.field.Field.TheVariants.{Version, RingBits, Parties, Tolerated, Hosts, Port, Session, Circuit, Layout, Owners, Readers}
+use Rattle.job_file.specs.declared.field.Field.TheVariants.{Version, RingBits, Parties, Tolerated, Hosts, Port, Session, Circuit, Layout, Products, Owners, Readers}
 use Rattle.job_file.specs.declared.fault.JobFault.{JobFault}
-use Rattle.job_file.specs.declared.fault.JobFault.TheVariants.{NotToml, Version as OtherVersion, Missing, Unknown, WrongKind, BadRing, Names, SessionCount, BadFileName, BadLayout, BadOwner, BadReader, BadHost, BadPort, BadTolerated, TooManyTolerated}
+use Rattle.job_file.specs.declared.fault.JobFault.TheVariants.{NotToml, Version as OtherVersion, Missing, Unknown, WrongKind, BadRing, Names, SessionCount, BadFileName, BadLayout, BadProducts, BadOwner, BadReader, BadHost, BadPort, BadTolerated, TooManyTolerated}
 use Rattle.job_file.specs.Names.{field_text, field_kind, top_fields, session_fields, is_file_name, is_host, layout_of}
-use Rattle.job_file.specs.Forms.{JobForm, job_form, is_version_two, adversary_field, integer, text, texts, items, lists, tables}
+use Rattle.job_file.specs.Forms.{JobForm, job_form, is_version_two, adversary_field, prepared_in, integer, text, texts, items, lists, tables}
 
 -- ---- lists of parties' names
 
@@ -52,12 +52,12 @@ required_fault session field fields = first_fault
     ∷ [])
 
 -- a field that may be missing
-unfoldable pub optional_fault : Field → Members → Option JobFault
-optional_fault field fields = is_of_other_kind field fields answers WrongKind None field
+unfoldable pub optional_fault : Option ℕ → Field → Members → Option JobFault
+optional_fault session field fields = is_of_other_kind field fields answers WrongKind session field
 
 -- a field that must be there for a node
 abbrev pub node_fault : Bool → Field → Members → Option JobFault
-node_fault node field fields = if node then required_fault None field fields else optional_fault field fields
+node_fault node field fields = if node then required_fault None field fields else optional_fault None field fields
 
 -- a field that is not among these, the least by bytes
 unfoldable pub unknown_fault : Option ℕ → List Field → Members → Option JobFault
@@ -123,20 +123,23 @@ port_fault fields =
 
 -- ---- a session
 
-unfoldable pub session_fields_fault : ℕ → Members → Option JobFault
-session_fields_fault session fields = first_fault
-    (unknown_fault (Some session) session_fields fields
+-- that of the fields of a session, in a file of version 2 or not
+unfoldable pub session_fields_fault : Bool → ℕ → Members → Option JobFault
+session_fields_fault version_two session fields = first_fault
+    (unknown_fault (Some session) (session_fields version_two) fields
     ∷ required_fault (Some session) Circuit fields
     ∷ required_fault (Some session) Layout fields
+    ∷ optional_fault (Some session) Products fields
     ∷ required_fault (Some session) Owners fields
     ∷ required_fault (Some session) Readers fields
     ∷ [])
 
--- that of the values of a session, in a file of version 2 or not
+-- that of their values
 unfoldable pub session_values_fault : Bool → List (List ℕ) → ℕ → Members → Option JobFault
 session_values_fault version_two names session fields = first_fault
     ((not (is_file_name (text Circuit fields)) answers BadFileName session)
     ∷ (is_none (layout_of version_two (text Layout fields)) answers BadLayout session)
+    ∷ (is_none (prepared_in fields) answers BadProducts session)
     ∷ option_map (λ at. BadOwner session at) (position (is_no_party names) (texts Owners fields))
     ∷ option_map (λ bad. BadReader session bad.0 bad.1)
     (bad_in_lists names 0 (lists Readers fields))
@@ -146,7 +149,7 @@ session_values_fault version_two names session fields = first_fault
 unfoldable pub sessions_fault : Bool → List (List ℕ) → ℕ → List Members → Option JobFault
 sessions_fault version_two names session [] = None
 sessions_fault version_two names session (fields ∷ rest) = first_fault
-    (session_fields_fault session fields
+    (session_fields_fault version_two session fields
     ∷ session_values_fault version_two names session fields
     ∷ sessions_fault version_two names (session + 1) rest
     ∷ [])

@@ -1,22 +1,23 @@
 -- What a job's file gives, where it has no fault: values are total, with a default where there is none.
-use Rattle.std.specs.Prelude.{ℕ, ◌^◌, ℤ, pos, nat_abs, bit_or, Bool, if◌then◌else◌, List, map, fold}
+use Rattle.std.specs.Prelude.{ℕ, ◌^◌, ℤ, pos, nat_abs, bit_or, Bool, false, if◌then◌else◌, List, map, fold, Option, Some}
 use Rattle.std.specs.Option.{unwrap_or}
 use Rattle.std.specs.Ordering.{int_eq}
 use Rattle.toml.specs.Data.{Data, Members}
-use Rattle.toml_fields.specs.Fields.{integer_at, text_at, items_at, texts_at, texts_of, fields_of}
+use Rattle.toml_fields.specs.Fields.{has_field, integer_at, text_at, items_at, texts_at, texts_of, fields_of}
 use Rattle.party_set.specs.Names.{party_named}
 use Rattle.job_file.specs.declared.field.Field.{Field}
-use Rattle.job_file.specs.declared.field.Field.TheVariants.{Version, RingBits, Parties, Formula, Tolerated, Hosts, Port, Session, Circuit, Layout, Owners, Readers}
+use Rattle.job_file.specs.declared.field.Field.TheVariants.{Version, RingBits, Parties, Formula, Tolerated, Hosts, Port, Session, Circuit, Layout, Products, Owners, Readers}
 use Rattle.job_file.specs.declared.layout.SessionLayout.{SessionLayout}
 use Rattle.job_file.specs.declared.layout.SessionLayout.TheVariants.{Gates}
 use Rattle.circuit_model.specs.declared.layout.CircuitLayout.TheVariants.{Ring}
-use Rattle.job_file.specs.Names.{field_text, layout_of}
+use Rattle.job_file.specs.Names.{field_text, layout_of, are_prepared}
 
--- a session: the file of its circuit and what that has, the party that gives each input value, and for each output value
--- the mask of the parties that read it
+-- a session: the file of its circuit and what that has, whether its products are prepared, the party that gives each
+-- input value, and for each output value the mask of the parties that read it
 pub record SessionForm : Type 0 where
   pub circuit : List ℕ
   pub layout : SessionLayout
+  pub prepared : Bool
   pub owners : List ℕ
   pub readers : List ℕ
 
@@ -66,6 +67,11 @@ is_version_two fields = int_eq (integer Version fields) (pos 2)
 abbrev pub adversary_field : Members → Field
 adversary_field fields = if is_version_two fields then Tolerated else Formula
 
+-- whether the products of a session are prepared: they are direct where no field tells
+unfoldable pub prepared_in : Members → Option Bool
+prepared_in fields =
+    if has_field (field_text Products) fields then are_prepared (text Products fields) else Some false
+
 -- the party of this name
 abbrev pub party_of : List (List ℕ) → List ℕ → ℕ
 party_of names name = unwrap_or (party_named names name) 0
@@ -79,6 +85,7 @@ unfoldable pub session_form : Bool → List (List ℕ) → Members → SessionFo
 session_form version_two names fields = record {
   circuit = text Circuit fields;
   layout = unwrap_or (layout_of version_two (text Layout fields)) (Gates Ring);
+  prepared = unwrap_or (prepared_in fields) false;
   owners = map (party_of names) (texts Owners fields);
   readers = map (mask_of names) (lists Readers fields);
 }

@@ -12,6 +12,7 @@ abbrev pub session_view : JobSession → SessionForm
 session_view session = record {
   circuit = session.circuit;
   layout = session.layout;
+  prepared = session.prepared;
   owners = session.owners.items;
   readers = map (λ (group : Members). group.mask) session.readers.items;
 }

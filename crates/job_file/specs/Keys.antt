@@ -4,7 +4,7 @@ use Rattle.party_set.specs.declared.names.NamesFault.{NamesFault}
 use Rattle.party_set.specs.declared.names.NamesFault.TheVariants.{BadName, TwiceNamed, PartyCount, Memory as NoMemory}
 use Rattle.job_file.specs.declared.field.Field.{Field}
 use Rattle.job_file.specs.declared.fault.JobFault.{JobFault}
-use Rattle.job_file.specs.declared.fault.JobFault.TheVariants.{NotToml, Version, Missing, Unknown, WrongKind, BadRing, Names, SessionCount, BadFileName, BadLayout, BadOwner, BadReader, BadHost, BadPort, BadTolerated, TooManyTolerated, Memory}
+use Rattle.job_file.specs.declared.fault.JobFault.TheVariants.{NotToml, Version, Missing, Unknown, WrongKind, BadRing, Names, SessionCount, BadFileName, BadLayout, BadProducts, BadOwner, BadReader, BadHost, BadPort, BadTolerated, TooManyTolerated, Memory}
 
 abbrev pub fault_part : JobFault → List ℕ
 fault_part (Names fault) = codes "names"
@@ -33,6 +33,7 @@ fault_number (BadHost at) = 13
 fault_number (BadPort port) = 14
 fault_number (BadTolerated value at) = 15
 fault_number (TooManyTolerated count) = 16
+fault_number (BadProducts session) = 17
 fault_number (Names fault) = names_number fault
 fault_number Memory = 0
 
@@ -58,6 +59,7 @@ fault_name (BadHost at) = codes "BadHost"
 fault_name (BadPort port) = codes "BadPort"
 fault_name (BadTolerated value at) = codes "BadTolerated"
 fault_name (TooManyTolerated count) = codes "TooManyTolerated"
+fault_name (BadProducts session) = codes "BadProducts"
 fault_name (Names fault) = names_name fault
 fault_name Memory = codes "Memory"
 
@@ -69,6 +71,7 @@ session_key (BadOwner session at) = Some session
 session_key (BadReader session value at) = Some session
 session_key (BadFileName session) = Some session
 session_key (BadLayout session) = Some session
+session_key (BadProducts session) = Some session
 session_key _ = None
 
 abbrev pub value_key : JobFault → Option ℕ

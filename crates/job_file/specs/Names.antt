@@ -1,12 +1,12 @@
 -- The fields of a job's file, their kinds, and the texts that are taken.
-use Rattle.std.specs.Prelude.{ℕ, nat_lt, ◌==◌, Bool, not, ◌&&◌, ◌||◌, if◌then◌else◌, List, [], ◌∷◌, length, slice_index, codes, Option, Some, None}
+use Rattle.std.specs.Prelude.{ℕ, nat_lt, ◌==◌, Bool, true, false, not, ◌&&◌, ◌||◌, if◌then◌else◌, List, [], ◌∷◌, length, slice_index, codes, Option, Some, None}
 use Rattle.std.specs.Char.{is_ascii_alphanumeric}
 use Rattle.std.specs.List.{list_all}
 use Rattle.std.specs.Str.{bytes_eq}
 use Rattle.toml_fields.specs.declared.kind.Kind.{Kind}
 use Rattle.toml_fields.specs.declared.kind.Kind.TheVariants.{Integer, Text, Texts, TextLists, Tables}
 use Rattle.job_file.specs.declared.field.Field.{Field}
-use Rattle.job_file.specs.declared.field.Field.TheVariants.{Version, RingBits, Parties, Formula, Tolerated, Hosts, Port, Session, Circuit, Layout, Owners, Readers}
+use Rattle.job_file.specs.declared.field.Field.TheVariants.{Version, RingBits, Parties, Formula, Tolerated, Hosts, Port, Session, Circuit, Layout, Products, Owners, Readers}
 use Rattle.job_file.specs.declared.layout.SessionLayout.{SessionLayout}
 use Rattle.job_file.specs.declared.layout.SessionLayout.TheVariants.{Gates, Expressions}
 use Rattle.circuit_model.specs.declared.layout.CircuitLayout.TheVariants.{Bristol, Ring}
@@ -23,6 +23,7 @@ field_text Port = codes "port"
 field_text Session = codes "session"
 field_text Circuit = codes "circuit"
 field_text Layout = codes "layout"
+field_text Products = codes "products"
 field_text Owners = codes "owners"
 field_text Readers = codes "readers"
 
@@ -37,15 +38,17 @@ field_kind Port = Integer
 field_kind Session = Tables
 field_kind Circuit = Text
 field_kind Layout = Text
+field_kind Products = Text
 field_kind Owners = Texts
 field_kind Readers = TextLists
 
--- the fields of the top table, of which one tells the tolerated groups; and those of a session
+-- the fields of the top table, of which one tells the tolerated groups
 abbrev pub top_fields : Field → List Field
 top_fields adversary = Version ∷ RingBits ∷ Parties ∷ adversary ∷ Hosts ∷ Port ∷ Session ∷ []
 
-abbrev pub session_fields : List Field
-session_fields = Circuit ∷ Layout ∷ Owners ∷ Readers ∷ []
+-- the fields of a session, in a file of version 2 or not
+abbrev pub session_fields : Bool → List Field
+session_fields version_two = Circuit ∷ Layout ∷ Owners ∷ Readers ∷ (if version_two then Products ∷ [] else [])
 
 -- a letter, a digit, `.`, `_` or `-`
 abbrev pub is_file_byte : ℕ → Bool
@@ -71,4 +74,11 @@ layout_of version_two name =
     if bytes_eq name (codes "bristol") then Some (Gates Bristol)
     else if bytes_eq name (codes "ring") then Some (Gates Ring)
     else if version_two && bytes_eq name (codes "expr") then Some Expressions
+    else None
+
+-- whether this text, direct or prepared, says that products are prepared
+unfoldable pub are_prepared : List ℕ → Option Bool
+are_prepared name =
+    if bytes_eq name (codes "direct") then Some false
+    else if bytes_eq name (codes "prepared") then Some true
     else None

@@ -1,8 +1,10 @@
 //! Rows of the table of faults that speak of one field.
-ghost use Rattle.std.specs.Prelude.{◌≡◌, IfOk};
+ghost use Rattle.std.specs.Prelude.{◌≡◌, IfOk, map};
+ghost use Rattle.std.specs.Option.{option_map};
+ghost use Rattle.toml_fields.specs.Keys.{least_unknown};
 ghost use Rattle.toml.specs.View.{table_view};
 ghost use Rattle.job_file.specs.Names.{top_fields, session_fields};
-ghost use Rattle.job_file.specs.Forms.{is_version_two, adversary_field};
+ghost use Rattle.job_file.specs.Forms.{is_version_two, adversary_field, prepared_in};
 ghost use Rattle.job_file.specs.Faults.{is_there, is_of_other_kind, required_fault, optional_fault, node_fault, unknown_fault};
 ghost use Rattle.job_file.specs.Answers.{TellsFault, TellsOrMemory};
 ghost use Rattle.list_laws.specs.Checks.{◌answers◌};
@@ -10,10 +12,11 @@ ghost use Rattle.job_file.specs.declared.fault.JobFault.TheVariants.{Unknown};
 
 use crate::fault::JobFault;
 use crate::field::Field;
+use crate::texts::are_prepared;
 use party_set::NameText;
 use std::alloc::{AllocError, Global};
 use toml::Table;
-use toml_fields::{has_field, integer_at, is_misfit, least_unknown};
+use toml_fields::{has_field, integer_at, is_misfit, least_unknown, text_at};
 
 /// The fault, where the test failed.
 pub fn check(failed: bool, fault: JobFault) -> Result<(), JobFault>
@@ -50,17 +53,14 @@ pub fn check_required(table: &Table, session: Option<u32>, field: Field) -> Resu
     )
 }
 
-/// Checks a field of the top table that may be missing.
+/// Checks a field that may be missing.
 #[tactic(auto, unfolding(crate::specs::Faults::optional_fault))]
-fn check_optional(table: &Table, field: Field) -> Result<(), JobFault>
-    ensures { TellsFault result (optional_fault field (table_view table.now)) }
+pub fn check_optional(table: &Table, session: Option<u32>, field: Field) -> Result<(), JobFault>
+    ensures { TellsFault result (optional_fault session field (table_view table.now)) }
 {
     check(
         is_of_other_kind(table, field),
-        JobFault::WrongKind {
-            session: None,
-            field,
-        },
+        JobFault::WrongKind { session, field },
     )
 }
 
@@ -71,7 +71,7 @@ pub fn check_for_node(table: &Table, node: bool, field: Field) -> Result<(), Job
     if node {
         check_required(table, None, field)
     } else {
-        check_optional(table, field)
+        check_optional(table, None, field)
     }
 }
 
@@ -80,6 +80,21 @@ fn unknown(alloc: Global, session: Option<u32>, name: &str) -> Result<JobFault, 
 {
     let name = NameText::of(String::from_str(alloc, name)?);
     Ok(JobFault::Unknown { session, name })
+}
+
+fn check_known(
+    alloc: Global,
+    table: &Table,
+    session: Option<u32>,
+    known: &[&str],
+) -> Result<(), JobFault>
+    ensures { TellsOrMemory result (option_map (λ name. Unknown session name)
+        (least_unknown (map (λ name. name.now) known.now) (table_view table.now))) }
+{
+    match least_unknown(table, known) {
+        None => Ok(()),
+        Some(name) => Err(unknown(alloc, session, name)?),
+    }
 }
 
 /// Whether the file is of version 2, which lists the tolerated groups.
@@ -100,6 +115,18 @@ pub fn adversary_field(table: &Table) -> Field
     }
 }
 
+/// Whether the products of a session are prepared, by the text that tells it: they are direct where no field tells.
+#[tactic(auto, unfolding(crate::specs::Forms::prepared_in))]
+pub fn prepared_in(table: &Table) -> Option<bool>
+    ensures { result ≡ prepared_in (table_view table.now) }
+{
+    if is_there(table, Field::Products) {
+        are_prepared(text_at(table, Field::Products.text()))
+    } else {
+        Some(false)
+    }
+}
+
 /// Checks that the top table has no other fields.
 #[tactic(auto, unfolding(crate::specs::Faults::unknown_fault))]
 pub fn check_top_known(alloc: Global, table: &Table) -> Result<(), JobFault>
@@ -115,25 +142,30 @@ pub fn check_top_known(alloc: Global, table: &Table) -> Result<(), JobFault>
         Field::Port.text(),
         Field::Session.text(),
     ];
-    match least_unknown(table, &known) {
-        None => Ok(()),
-        Some(name) => Err(unknown(alloc, None, name)?),
-    }
+    check_known(alloc, table, None, &known)
 }
 
 /// Checks that the table of a session has no other fields.
 #[tactic(auto, unfolding(crate::specs::Faults::unknown_fault))]
-pub fn check_session_known(alloc: Global, table: &Table, session: u32) -> Result<(), JobFault>
-    ensures { TellsOrMemory result (unknown_fault (Some session) session_fields (table_view table.now)) }
+pub fn check_session_known(
+    alloc: Global,
+    table: &Table,
+    version_two: bool,
+    session: u32,
+) -> Result<(), JobFault>
+    ensures { TellsOrMemory result
+        (unknown_fault (Some session) (session_fields version_two) (table_view table.now)) }
 {
-    let known = [
+    let fields = [
         Field::Circuit.text(),
         Field::Layout.text(),
         Field::Owners.text(),
         Field::Readers.text(),
+        Field::Products.text(),
     ];
-    match least_unknown(table, &known) {
-        None => Ok(()),
-        Some(name) => Err(unknown(alloc, Some(session), name)?),
+    if version_two {
+        check_known(alloc, table, Some(session), &fields)
+    } else {
+        check_known(alloc, table, Some(session), &fields[..4])
     }
 }

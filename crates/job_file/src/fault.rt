@@ -54,6 +54,10 @@ pub enum JobFault {
     BadLayout {
         session: u32,
     },
+    /// The text that tells whether products are prepared is neither of its two.
+    BadProducts {
+        session: u32,
+    },
     /// There is no session, or there are more than 16.
     SessionCount {
         count: u64,

@@ -17,6 +17,7 @@ pub enum Field {
     Session,
     Circuit,
     Layout,
+    Products,
     Owners,
     Readers,
 }
@@ -38,6 +39,7 @@ impl Field {
             Field::Session => "session",
             Field::Circuit => "circuit",
             Field::Layout => "layout",
+            Field::Products => "products",
             Field::Owners => "owners",
             Field::Readers => "readers",
         }
@@ -50,7 +52,7 @@ impl Field {
     {
         match self {
             Field::Version | Field::RingBits | Field::Port => Kind::Integer,
-            Field::Formula | Field::Circuit | Field::Layout => Kind::Text,
+            Field::Formula | Field::Circuit | Field::Layout | Field::Products => Kind::Text,
             Field::Parties | Field::Hosts | Field::Owners => Kind::Texts,
             Field::Tolerated | Field::Readers => Kind::TextLists,
             Field::Session => Kind::Tables,

@@ -14,12 +14,13 @@ pub enum Adversary {
     Tolerated(Vec<Group>),
 }
 
-/// A session of a job: the file of its circuit, how that tells it, the party that gives each input value, and the group that reads each
-/// output value.
+/// A session of a job: the file of its circuit, how that tells it, whether products are prepared, the party that gives
+/// each input value, and the group that reads each output value.
 #[derive(Drop)]
 pub struct JobSession {
     pub circuit: NameText,
     pub layout: SessionLayout,
+    pub prepared: bool,
     pub owners: Vec<u32>,
     pub readers: Vec<Group>,
 }

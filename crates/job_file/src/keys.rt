@@ -38,6 +38,7 @@ impl JobFault {
             JobFault::BadPort { .. } => 14,
             JobFault::BadTolerated { .. } => 15,
             JobFault::TooManyTolerated { .. } => 16,
+            JobFault::BadProducts { .. } => 17,
             JobFault::Names { fault } => names_number(*fault),
             JobFault::Memory => 0,
         }
@@ -63,6 +64,7 @@ impl JobFault {
             JobFault::BadPort { .. } => "BadPort",
             JobFault::BadTolerated { .. } => "BadTolerated",
             JobFault::TooManyTolerated { .. } => "TooManyTolerated",
+            JobFault::BadProducts { .. } => "BadProducts",
             JobFault::Names { fault } => names_name(*fault),
             JobFault::Memory => "Memory",
         }
@@ -79,7 +81,8 @@ impl JobFault {
             JobFault::BadOwner { session, .. }
             | JobFault::BadReader { session, .. }
             | JobFault::BadFileName { session }
-            | JobFault::BadLayout { session } => Some(*session),
+            | JobFault::BadLayout { session }
+            | JobFault::BadProducts { session } => Some(*session),
             _ => None,
         }
     }

@@ -10,7 +10,7 @@ ghost use Rattle.job_file.specs.Answers.{TellsFault, TellsOrMemory};
 ghost use Rattle.job_file.specs.Faults.{session_fields_fault, session_values_fault, sessions_fault, bad_in_lists, is_no_party};
 ghost use Rattle.job_file.specs.declared.fault.JobFault.TheVariants.{BadOwner, BadReader};
 
-use crate::check::{check, check_required, check_session_known};
+use crate::check::{check, check_optional, check_required, check_session_known, prepared_in};
 use crate::fault::JobFault;
 use crate::field::Field;
 use crate::parties::{bad_in_lists, first_stranger};
@@ -21,12 +21,18 @@ use toml::{Table, Value};
 use toml_fields::{fields_of, items_at, text_at};
 
 #[tactic(auto, unfolding(crate::specs::Faults::session_fields_fault))]
-fn check_fields(alloc: Global, table: &Table, session: u32) -> Result<(), JobFault>
-    ensures { TellsOrMemory result (session_fields_fault session (table_view table.now)) }
+fn check_fields(
+    alloc: Global,
+    table: &Table,
+    version_two: bool,
+    session: u32,
+) -> Result<(), JobFault>
+    ensures { TellsOrMemory result (session_fields_fault version_two session (table_view table.now)) }
 {
-    check_session_known(alloc, table, session)?;
+    check_session_known(alloc, table, version_two, session)?;
     check_required(table, Some(session), Field::Circuit)?;
     check_required(table, Some(session), Field::Layout)?;
+    check_optional(table, Some(session), Field::Products)?;
     check_required(table, Some(session), Field::Owners)?;
     check_required(table, Some(session), Field::Readers)?;
     Ok(())
@@ -45,6 +51,10 @@ fn check_values(
     check(!is_file_name(circuit), JobFault::BadFileName { session })?;
     let layout = layout_of(version_two, text_at(table, Field::Layout.text()));
     check(layout.is_none(), JobFault::BadLayout { session })?;
+    check(
+        prepared_in(table).is_none(),
+        JobFault::BadProducts { session },
+    )?;
     check_owners(items_at(table, Field::Owners.text()), session, names)?;
     check_readers(items_at(table, Field::Readers.text()), session, names)
 }
@@ -100,7 +110,7 @@ pub fn check_sessions(
     let empty = Table::new(alloc);
     for (session, item) in sessions.iter().enumerate() {
         let table = fields_or(item, &empty);
-        check_fields(alloc, table, session as u32)?;
+        check_fields(alloc, table, version_two, session as u32)?;
         check_values(table, version_two, session as u32, names)?;
     }
     Ok(())

@@ -1,7 +1,7 @@
 //! The texts that a job's file may give.
 ghost use Rattle.std.specs.Prelude.{◌≡◌};
 ghost use Rattle.std.specs.List.{list_all};
-ghost use Rattle.job_file.specs.Names.{is_file_byte, is_file_name, is_host_byte, is_host, layout_of};
+ghost use Rattle.job_file.specs.Names.{is_file_byte, is_file_name, is_host_byte, is_host, layout_of, are_prepared};
 
 use crate::layout::SessionLayout;
 use circuit_model::CircuitLayout;
@@ -63,6 +63,18 @@ pub fn layout_of(version_two: bool, name: &str) -> Option<SessionLayout>
         "bristol" => Some(SessionLayout::Gates(CircuitLayout::Bristol)),
         "ring" => Some(SessionLayout::Gates(CircuitLayout::Ring)),
         "expr" if version_two => Some(SessionLayout::Expressions),
+        _ => None,
+    }
+}
+
+/// Whether this text, direct or prepared, says that products are prepared.
+#[tactic(auto, unfolding(crate::specs::Names::are_prepared))]
+pub fn are_prepared(name: &str) -> Option<bool>
+    ensures { result ≡ are_prepared name.now }
+{
+    match name {
+        "direct" => Some(false),
+        "prepared" => Some(true),
         _ => None,
     }
 }

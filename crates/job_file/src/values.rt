@@ -8,7 +8,7 @@ ghost use Rattle.job_file.specs.Faults.{ring_fault, port_fault};
 ghost use Rattle.job_file.specs.Jobs.{session_view, adversary_view, job_view, HasParties, IsSession, IsJob};
 ghost use Rattle.job_file.specs.declared.field.Field.TheVariants.{RingBits, Parties, Port, Session};
 
-use crate::check::{is_there, is_version_two};
+use crate::check::{is_there, is_version_two, prepared_in};
 use crate::field::Field;
 use crate::job::{Adversary, Job, JobSession};
 use crate::layout::SessionLayout;
@@ -104,11 +104,13 @@ fn session_of(
     let layout = layout_of(version_two, text_at(table, Field::Layout.text())).unwrap_or(
         SessionLayout::Gates(CircuitLayout::Ring),
     );
+    let prepared = prepared_in(table).unwrap_or(false);
     let owners = owners_of(alloc, items_at(table, Field::Owners.text()), names)?;
     let readers = groups_of(alloc, items_at(table, Field::Readers.text()), names)?;
     Ok(JobSession {
         circuit,
         layout,
+        prepared,
         owners,
         readers,
     })

@@ -1,11 +1,14 @@
 -- What the fields of a document give, by name; that they ascend, and that each is known.
-use Rattle.std.proofs.Common.{◌≡◌, ℕ, ◌≤◌, Bool, true, false, cond, ◌&&◌, List, Ordering, Less, Equal, Greater, Option, None, Some, IfSome, refl, ap, ap₂, ◌∙◌, arith}
+use Rattle.std.proofs.Common.{◌≡◌, ℕ, ◌≤◌, Bool, true, false, cond, ◌&&◌, List, Ordering, Less, Equal, Greater, Option, None, Some, IfSome, refl, sym, ap, ap₂, ◌∙◌, arith}
 use Rattle.std.specs.Ordering.{nat_cmp, is_eq, is_lt, match_ordering}
 use Rattle.std.specs.Cmp.Lexicographic.{slice_cmp}
-use Rattle.toml.specs.Data.{Data, Members, no_members, depth, get_member, is_before, members_depth, members_have_valid_dates, members_are_sorted}
+use Rattle.std.specs.Str.{bytes_eq}
+use Rattle.std.proofs.lemmas.Map.Text.{is_eq-slice_cmp}
+use Rattle.std.proofs.lemmas.Slice.Eq.{bytes_eq-Decides}
+use Rattle.toml.specs.Data.{Data, Members, no_members, member, depth, get_member, is_before, members_depth, members_have_valid_dates, members_are_sorted}
 use Rattle.toml_fields.specs.Keys.{is_known, lesser, least_unknown}
 use Rattle.job_file.specs.declared.field.Field.{Field}
-use Rattle.job_file.specs.declared.field.Field.TheVariants.{Version, RingBits, Parties, Formula, Tolerated, Hosts, Port, Session, Circuit, Layout, Owners, Readers}
+use Rattle.job_file.specs.declared.field.Field.TheVariants.{Version, RingBits, Parties, Formula, Tolerated, Hosts, Port, Session, Circuit, Layout, Products, Owners, Readers}
 use Rattle.job_file.specs.Names.{field_text}
 use Rattle.job_laws.specs.Documents.{with_field}
 use Rattle.job_laws.proofs.DocumentShapes.{IsPlain, max_below}
@@ -70,9 +73,35 @@ unfolding least_unknown
 known names field None rest e none = none
 known names field (Some d) rest e none = ap (λ b. cond b (least_unknown names rest) (Some (lesser (field_text field) (least_unknown names rest)))) e ∙ none
 
+known_if : (names : List (List ℕ)) (field : Field) (o : Option Data) (rest : Members) → IfSome o (λ d. is_known names (field_text field) ≡ true) → least_unknown names rest ≡ None → least_unknown names (with_field field o rest) ≡ None
+known_if names field None rest e none = none
+known_if names field (Some d) rest e none = known names field (Some d) rest e none
+
 none_known : (names : List (List ℕ)) → least_unknown names no_members ≡ None
 unfolding least_unknown
 none_known names = refl
+
+-- where all are known, a name that is not known is that of no field
+not_among : (names : List (List ℕ)) (key name : List ℕ) → is_known names key ≡ false → is_known names name ≡ true → bytes_eq key name ≡ false
+not_among names key name unknown is = differ (bytes_eq key name) refl
+  where
+    differ : (b : Bool) → bytes_eq key name ≡ b → bytes_eq key name ≡ false
+    differ false e = e
+    differ true e = let same : key ≡ name = (bytes_eq-Decides key name).0 e in absurd (let both = sym unknown ∙ ap (is_known names) same ∙ is in cc)
+
+all_known : (names : List (List ℕ)) (name : List ℕ) (d : Data) (rest : Members) → least_unknown names (member name d rest) ≡ None → (is_known names name ≡ true) × (least_unknown names rest ≡ None)
+unfolding least_unknown
+all_known names name d rest e = each (is_known names name) e
+  where
+    each : (b : Bool) → cond b (least_unknown names rest) (Some (lesser name (least_unknown names rest))) ≡ None → (b ≡ true) × (least_unknown names rest ≡ None)
+    each true e = (refl, e)
+    each false e = cc
+
+pub not_known : (names : List (List ℕ)) (key : List ℕ) (ms : Members) → is_known names key ≡ false → least_unknown names ms ≡ None → get_member key ms ≡ None
+not_known names key no_members unknown e = refl
+not_known names key (member name d rest) unknown e =
+    let all = all_known names name d rest e in
+    other (slice_cmp nat_cmp key name) (get_member key rest) (Some d) (is_eq-slice_cmp key name ∙ not_among names key name unknown all.0) ∙ not_known names key rest unknown all.1
 
 -- ---- the top table
 
@@ -188,19 +217,18 @@ module _ (formula hosts port tolerated : Option Data) (parties bits session vers
       (known names Session (Some session) from_tolerated s
       (known_if names Tolerated tolerated from_version t
       (known names Version (Some version) no_members v (none_known names))))))))
-    where
-      known_if : (names : List (List ℕ)) (field : Field) (o : Option Data) (rest : Members) → IfSome o (λ d. is_known names (field_text field) ≡ true) → least_unknown names rest ≡ None → least_unknown names (with_field field o rest) ≡ None
-      known_if names field None rest e none = none
-      known_if names field (Some d) rest e none = known names field (Some d) rest e none
 
 -- ---- the table of a session
 
-module _ (circuit layout owners readers : Data) where
+module _ (circuit layout owners : Data) (products : Option Data) (readers : Data) where
   abbrev from_readers : Members
   from_readers = with_field Readers (Some readers) no_members
 
+  abbrev from_products : Members
+  from_products = with_field Products products from_readers
+
   abbrev from_owners : Members
-  from_owners = with_field Owners (Some owners) from_readers
+  from_owners = with_field Owners (Some owners) from_products
 
   abbrev from_layout : Members
   from_layout = with_field Layout (Some layout) from_owners
@@ -218,20 +246,34 @@ module _ (circuit layout owners readers : Data) where
 
   pub at_owners : value_of Owners session_table ≡ Some owners
   unfolding field_text
-  at_owners = past Owners Circuit (Some circuit) from_layout refl ∙ past Owners Layout (Some layout) from_owners refl ∙ here Owners owners from_readers refl
+  at_owners = past Owners Circuit (Some circuit) from_layout refl ∙ past Owners Layout (Some layout) from_owners refl ∙ here Owners owners from_products refl
+
+  pub at_products : value_of Products session_table ≡ products
+  unfolding field_text
+  at_products =
+      past Products Circuit (Some circuit) from_layout refl ∙ past Products Layout (Some layout) from_owners refl ∙ past Products Owners (Some owners) from_products refl
+      ∙ here_or Products products from_readers refl (past Products Readers (Some readers) no_members refl)
 
   pub at_readers : value_of Readers session_table ≡ Some readers
   unfolding field_text
   at_readers =
-      past Readers Circuit (Some circuit) from_layout refl ∙ past Readers Layout (Some layout) from_owners refl ∙ past Readers Owners (Some owners) from_readers refl ∙ here Readers readers no_members refl
+      past Readers Circuit (Some circuit) from_layout refl ∙ past Readers Layout (Some layout) from_owners refl ∙ past Readers Owners (Some owners) from_products refl
+      ∙ past Readers Products products from_readers refl ∙ here Readers readers no_members refl
 
-  pub session_plain : IsPlain 2 circuit → IsPlain 2 layout → IsPlain 2 owners → IsPlain 2 readers → AreFields 2 session_table
+  pub session_plain : IsPlain 2 circuit → IsPlain 2 layout → IsPlain 2 owners → IfSome products (IsPlain 2) → IsPlain 2 readers → AreFields 2 session_table
   unfolding field_text
-  session_plain c l o r =
-      one_more 2 Circuit (Some circuit) from_layout c refl (one_more 2 Layout (Some layout) from_owners l refl
-      (one_more 2 Owners (Some owners) from_readers o refl (one_more 2 Readers (Some readers) no_members r refl (no_more 2))))
+  session_plain c l o p r =
+      one_more 2 Circuit (Some circuit) from_layout c refl
+      (one_more 2 Layout (Some layout) from_owners l refl
+      (one_more 2 Owners (Some owners) from_products o (before Owners Products products from_readers refl refl)
+      (one_more 2 Products products from_readers p refl
+      (one_more 2 Readers (Some readers) no_members r refl (no_more 2)))))
 
-  pub session_known : (names : List (List ℕ)) → is_known names (field_text Circuit) ≡ true → is_known names (field_text Layout) ≡ true → is_known names (field_text Owners) ≡ true → is_known names (field_text Readers) ≡ true
-      → least_unknown names session_table ≡ None
-  session_known names c l o r =
-      known names Circuit (Some circuit) from_layout c (known names Layout (Some layout) from_owners l (known names Owners (Some owners) from_readers o (known names Readers (Some readers) no_members r (none_known names))))
+  pub session_known : (names : List (List ℕ)) → is_known names (field_text Circuit) ≡ true → is_known names (field_text Layout) ≡ true → is_known names (field_text Owners) ≡ true
+      → IfSome products (λ d. is_known names (field_text Products) ≡ true) → is_known names (field_text Readers) ≡ true → least_unknown names session_table ≡ None
+  session_known names c l o p r =
+      known names Circuit (Some circuit) from_layout c
+      (known names Layout (Some layout) from_owners l
+      (known names Owners (Some owners) from_products o
+      (known_if names Products products from_readers p
+      (known names Readers (Some readers) no_members r (none_known names)))))

@@ -1,6 +1,6 @@
 -- The document of a job has no fault, and is read as the job.
 use Rattle.std.proofs.Common.{◌≡◌, ◌≢◌, inl, inr, ℕ, zero, suc, ◌+◌, ◌≤◌, nat_lt, Bool, true, false, cond, not, ◌||◌, ◌&&◌, ◌==◌, ℤ, pos, nat_abs, List, [], ◌∷◌, length, map, Option, None, Some, IfSome, Ok, Err, refl, ap, ap₂, ◌∙◌, arith}
-use Rattle.std.specs.Prelude.{position}
+use Rattle.std.specs.Prelude.{codes, position}
 use Rattle.std.specs.List.{AllByRecursion}
 use Rattle.std.specs.Option.{is_none, is_some, unwrap_or, option_map, option_map_or, option_or}
 use Rattle.std.specs.Str.{IsUtf8}
@@ -12,7 +12,7 @@ use Rattle.toml.specs.Parse.{parse_document}
 use Rattle.toml.specs.Text.{IsDocumentText}
 use Rattle.toml.proofs.ReadBack.{parse_document-printed}
 use Rattle.toml_fields.specs.Documents.{document_of}
-use Rattle.toml_fields.specs.Keys.{least_unknown}
+use Rattle.toml_fields.specs.Keys.{is_known, least_unknown}
 use Rattle.toml_fields.specs.declared.kind.Kind.{Kind}
 use Rattle.toml_fields.specs.declared.kind.Kind.TheVariants as kinds
 use Rattle.toml_fields.specs.Fields.{items_of, text_of, texts_of, fields_of, integer_of, has_field, is_misfit, integer_at, text_at, items_at, texts_at, is_of_kind}
@@ -21,16 +21,16 @@ use Rattle.party_set.specs.Names.{name_at, names_fault, AreNames}
 use Rattle.party_set.proofs.NameFaults.{no_fault_from}
 use Rattle.circuit_model.specs.declared.layout.CircuitLayout.TheVariants.{Bristol, Ring}
 use Rattle.job_file.specs.declared.field.Field.{Field}
-use Rattle.job_file.specs.declared.field.Field.TheVariants.{Version, RingBits, Parties, Formula, Tolerated, Hosts, Port, Session, Circuit, Layout, Owners, Readers}
+use Rattle.job_file.specs.declared.field.Field.TheVariants.{Version, RingBits, Parties, Formula, Tolerated, Hosts, Port, Session, Circuit, Layout, Products, Owners, Readers}
 use Rattle.job_file.specs.declared.fault.JobFault.{JobFault}
 use Rattle.job_file.specs.declared.fault.JobFault.TheVariants.{NotToml, Unknown}
 use Rattle.job_file.specs.declared.layout.SessionLayout.{SessionLayout}
 use Rattle.job_file.specs.declared.layout.SessionLayout.TheVariants.{Gates, Expressions}
-use Rattle.job_file.specs.Names.{field_text, field_kind, top_fields, session_fields, is_file_name, is_host, layout_of}
+use Rattle.job_file.specs.Names.{field_text, field_kind, top_fields, session_fields, is_file_name, is_host, layout_of, are_prepared}
 use Rattle.job_file.specs.Forms as forms
-use Rattle.job_file.specs.Forms.{JobForm, SessionForm, AdversaryForm, by_formula, by_list, is_version_two, adversary_field, session_form, adversary_form, job_form, party_of, mask_of}
+use Rattle.job_file.specs.Forms.{JobForm, SessionForm, AdversaryForm, by_formula, by_list, is_version_two, adversary_field, prepared_in, session_form, adversary_form, job_form, party_of, mask_of}
 use Rattle.job_file.specs.Faults.{is_no_party, bad_in_lists, is_within, required_fault, optional_fault, unknown_fault, version_fault, fields_fault, ring_fault, parties_fault, groups_fault, adversary_fault, count_fault, hosts_fault, port_fault, node_fault, session_fields_fault, session_values_fault, sessions_fault, job_fault, job_in}
-use Rattle.job_laws.specs.Documents.{texts_data, groups_data, member_names, layout_text, session_fields_of, sessions_data, version_data, formula_data, tolerated_data, hosts_data, port_data, document_of_job, HasLayout, IsSessionForm, HasGroups, AreHosts, HasPeers, IsJobForm, DocumentsSayTheirJobs}
+use Rattle.job_laws.specs.Documents.{texts_data, groups_data, member_names, layout_text, products_data, session_fields_of, sessions_data, version_data, formula_data, tolerated_data, hosts_data, port_data, document_of_job, HasLayout, HasProducts, IsSessionForm, HasGroups, AreHosts, HasPeers, IsJobForm, DocumentsSayTheirJobs}
 use Rattle.job_laws.proofs.MemberNames.{good_lists, masks_back, owners_back, owners_named}
 use Rattle.job_laws.proofs.DocumentShapes.{IsPlain, string_plain, texts_plain, groups_plain, list_plain, texts_listed, groups_back, sessions_back, items_back, length_same, are_texts, are_groups, are_sessions, nowhere}
 use Rattle.job_laws.proofs.DocumentFields as table_of
@@ -95,9 +95,9 @@ required session field ms d at kind = then_none (passed _ (ap not (there field m
     (then_none (passed _ (fits field ms (Some d) at kind))
     refl)
 
-optional : (field : Field) (ms : Members) (o : Option Data) → value_of field ms ≡ o → IfSome o (λ d. is_of_kind (field_kind field) d ≡ true) → optional_fault field ms ≡ None
+optional : (session : Option ℕ) (field : Field) (ms : Members) (o : Option Data) → value_of field ms ≡ o → IfSome o (λ d. is_of_kind (field_kind field) d ≡ true) → optional_fault session field ms ≡ None
 unfolding optional_fault
-optional field ms o at kind = passed _ (fits field ms o at kind)
+optional session field ms o at kind = passed _ (fits field ms o at kind)
 
 -- ---- a session
 
@@ -114,50 +114,77 @@ layout_back (by_list masks) (Gates Bristol) h = refl
 layout_back (by_list masks) (Gates Ring) h = refl
 layout_back (by_list masks) Expressions h = refl
 
+products_known : (adversary : AdversaryForm) (prepared : Bool) → HasProducts adversary prepared
+    → IfSome (products_data prepared) (λ d. is_known (map field_text (session_fields (two_of adversary))) (field_text Products) ≡ true)
+unfolding field_text
+products_known (by_formula text) true h = absurd h
+products_known (by_formula text) false h = tt
+products_known (by_list masks) true h = refl
+products_known (by_list masks) false h = tt
+
+products_kind : (prepared : Bool) → IfSome (products_data prepared) (λ d. is_of_kind kinds.Text d ≡ true)
+unfolding is_of_kind
+products_kind true = refl
+products_kind false = tt
+
+products_back : (prepared : Bool) (ms : Members) → value_of Products ms ≡ products_data prepared → prepared_in ms ≡ Some prepared
+unfolding prepared_in are_prepared
+products_back true ms at = ap₂ (λ told text. cond told (are_prepared text) (Some false)) (there Products ms _ at) (text_is Products ms (codes "prepared") at)
+products_back false ms at = ap (λ told. cond told (are_prepared (forms.text Products ms)) (Some false)) (not_there Products ms at)
+
 module _ (names : List (List ℕ)) (are : AreNames names) (adversary : AdversaryForm) (s : SessionForm) (is : IsSessionForm (length names) adversary s) where
   abbrev ms : Members
   ms = session_fields_of names s
 
   at_circuit : value_of Circuit ms ≡ Some (string s.circuit)
-  at_circuit = table_of.at_circuit (string s.circuit) (string (layout_text s.layout)) (texts_data (map (name_at names) s.owners)) (groups_data names s.readers)
+  at_circuit = table_of.at_circuit (string s.circuit) (string (layout_text s.layout)) (texts_data (map (name_at names) s.owners)) (products_data s.prepared) (groups_data names s.readers)
 
   at_layout : value_of Layout ms ≡ Some (string (layout_text s.layout))
-  at_layout = table_of.at_layout (string s.circuit) (string (layout_text s.layout)) (texts_data (map (name_at names) s.owners)) (groups_data names s.readers)
+  at_layout = table_of.at_layout (string s.circuit) (string (layout_text s.layout)) (texts_data (map (name_at names) s.owners)) (products_data s.prepared) (groups_data names s.readers)
 
   at_owners : value_of Owners ms ≡ Some (texts_data (map (name_at names) s.owners))
-  at_owners = table_of.at_owners (string s.circuit) (string (layout_text s.layout)) (texts_data (map (name_at names) s.owners)) (groups_data names s.readers)
+  at_owners = table_of.at_owners (string s.circuit) (string (layout_text s.layout)) (texts_data (map (name_at names) s.owners)) (products_data s.prepared) (groups_data names s.readers)
+
+  at_products : value_of Products ms ≡ products_data s.prepared
+  at_products = table_of.at_products (string s.circuit) (string (layout_text s.layout)) (texts_data (map (name_at names) s.owners)) (products_data s.prepared) (groups_data names s.readers)
 
   at_readers : value_of Readers ms ≡ Some (groups_data names s.readers)
-  at_readers = table_of.at_readers (string s.circuit) (string (layout_text s.layout)) (texts_data (map (name_at names) s.owners)) (groups_data names s.readers)
+  at_readers = table_of.at_readers (string s.circuit) (string (layout_text s.layout)) (texts_data (map (name_at names) s.owners)) (products_data s.prepared) (groups_data names s.readers)
 
-  fields_pass : (n : ℕ) → session_fields_fault n ms ≡ None
+  fields_pass : (n : ℕ) → session_fields_fault (two_of adversary) n ms ≡ None
   unfolding session_fields_fault unknown_fault field_text field_kind is_of_kind
-  fields_pass n = then_none (no_map _ (table_of.session_known (string s.circuit) (string (layout_text s.layout)) (texts_data (map (name_at names) s.owners)) (groups_data names s.readers) (map field_text session_fields) refl refl refl refl))
+  fields_pass n = then_none (no_map _ (table_of.session_known (string s.circuit) (string (layout_text s.layout)) (texts_data (map (name_at names) s.owners)) (products_data s.prepared) (groups_data names s.readers) (map field_text (session_fields (two_of adversary))) refl refl refl (products_known adversary s.prepared is.products) refl))
       (then_none (required (Some n) Circuit ms _ at_circuit refl)
       (then_none (required (Some n) Layout ms _ at_layout refl)
+      (then_none (optional (Some n) Products ms _ at_products (products_kind s.prepared))
       (then_none (required (Some n) Owners ms _ at_owners (are_texts (map (name_at names) s.owners)))
       (then_none (required (Some n) Readers ms _ at_readers (are_groups names s.readers))
-      refl))))
+      refl)))))
 
   layout_is : layout_of (two_of adversary) (forms.text Layout ms) ≡ Some s.layout
   layout_is = ap (layout_of (two_of adversary)) (text_is Layout ms (layout_text s.layout) at_layout) ∙ layout_back adversary s.layout is.layout
+
+  products_are : prepared_in ms ≡ Some s.prepared
+  products_are = products_back s.prepared ms at_products
 
   values_pass : (n : ℕ) → session_values_fault (two_of adversary) names n ms ≡ None
   unfolding session_values_fault
   values_pass n = then_none (passed _ (ap (λ text. not (is_file_name text)) (text_is Circuit ms s.circuit at_circuit) ∙ ap not is.circuit))
       (then_none (passed _ (ap is_none layout_is))
+      (then_none (passed _ (ap is_none products_are))
       (then_none (no_map _ (ap (position (is_no_party names)) (texts_are Owners ms (map (name_at names) s.owners) at_owners) ∙ nowhere (is_no_party names) (map (name_at names) s.owners) (owners_named names are s.owners is.owners)))
       (then_none (no_map _ (ap (bad_in_lists names 0) (lists_are Readers ms names s.readers at_readers) ∙ good_lists names are 0 s.readers))
-      refl)))
+      refl))))
 
-  same_session : (a b : SessionForm) → a.circuit ≡ b.circuit → a.layout ≡ b.layout → a.owners ≡ b.owners → a.readers ≡ b.readers → a ≡ b
-  same_session a b c l o r i = record { circuit = c i; layout = l i; owners = o i; readers = r i }
+  same_session : (a b : SessionForm) → a.circuit ≡ b.circuit → a.layout ≡ b.layout → a.prepared ≡ b.prepared → a.owners ≡ b.owners → a.readers ≡ b.readers → a ≡ b
+  same_session a b c l p o r i = record { circuit = c i; layout = l i; prepared = p i; owners = o i; readers = r i }
 
   session_back : session_form (two_of adversary) names ms ≡ s
   unfolding session_form
   session_back = same_session _ s
       (text_is Circuit ms s.circuit at_circuit)
       (ap (λ o. unwrap_or o (Gates Ring)) layout_is)
+      (ap (λ o. unwrap_or o false) products_are)
       (ap (map (party_of names)) (texts_are Owners ms (map (name_at names) s.owners) at_owners) ∙ owners_back names are s.owners is.owners)
       (ap (map (mask_of names)) (lists_are Readers ms names s.readers at_readers) ∙ masks_back names are s.readers is.readers)
 
@@ -334,12 +361,12 @@ module _ (node : Bool) (job : JobForm) (is : IsJobForm node job) where
   hosts_there : (b : Bool) → (b ≡ true → HasPeers job) → node_fault b Hosts fields ≡ None
   unfolding field_kind is_of_kind
   hosts_there true peers = required None Hosts fields (texts_data job.hosts) (at_hosts ∙ told_hosts job.hosts (peers refl).hosts) (are_texts job.hosts)
-  hosts_there false peers = optional Hosts fields (hosts_data job.hosts) at_hosts (hosts_kind job.hosts)
+  hosts_there false peers = optional None Hosts fields (hosts_data job.hosts) at_hosts (hosts_kind job.hosts)
 
   port_there : (b : Bool) → (b ≡ true → HasPeers job) → node_fault b Port fields ≡ None
   unfolding field_kind is_of_kind
   port_there true peers = required None Port fields (integer (pos job.port)) (at_port ∙ told_port job.port (peers refl).port) refl
-  port_there false peers = optional Port fields (port_data job.port) at_port (port_kind job.port)
+  port_there false peers = optional None Port fields (port_data job.port) at_port (port_kind job.port)
 
   fields_there : fields_fault node fields ≡ None
   unfolding fields_fault field_kind is_of_kind
@@ -455,10 +482,14 @@ module _ (node : Bool) (job : JobForm) (is : IsJobForm node job) where
   version_plain (by_formula text) = integer_plain (pos 1)
   version_plain (by_list masks) = integer_plain (pos 2)
 
+  products_plain : (prepared : Bool) → IfSome (products_data prepared) (IsPlain 2)
+  products_plain true = wider 0 2 _ (omega arith) (string_plain (codes "prepared"))
+  products_plain false = tt
+
   session_plain : (s : SessionForm) → IsPlain 3 (table (session_fields_of job.names s))
   session_plain s =
-      let all = table_of.session_plain (string s.circuit) (string (layout_text s.layout)) (texts_data (map (name_at job.names) s.owners)) (groups_data job.names s.readers) (wider 0 2 _ (omega arith) (string_plain s.circuit)) (wider 0 2 _ (omega arith) (string_plain (layout_text s.layout)))
-      (wider 1 2 _ (omega arith) (texts_plain (map (name_at job.names) s.owners))) (groups_plain job.names s.readers) in
+      let all = table_of.session_plain (string s.circuit) (string (layout_text s.layout)) (texts_data (map (name_at job.names) s.owners)) (products_data s.prepared) (groups_data job.names s.readers) (wider 0 2 _ (omega arith) (string_plain s.circuit)) (wider 0 2 _ (omega arith) (string_plain (layout_text s.layout)))
+      (wider 1 2 _ (omega arith) (texts_plain (map (name_at job.names) s.owners))) (products_plain s.prepared) (groups_plain job.names s.readers) in
       record { deep = (let deep = all.deep in omega arith); dates = all.dates; sorted = all.sorted }
 
   pub read_back : (text : List ℕ) → IsUtf8 text → IsDocumentText false fields text → job_in node text ≡ Ok job

@@ -12,6 +12,7 @@ use Rattle.std.proofs.lemmas.Nat.{pow_pos, or_lt}
 use Rattle.std.proofs.Math.Pow.{pow-lt}
 use Rattle.toml.specs.Data.{Data, Members}
 use Rattle.toml_fields.specs.Documents.{document_of}
+use Rattle.toml_fields.specs.Keys.{least_unknown}
 use Rattle.toml_fields.specs.Fields.{items_of, text_of, integer_of, fields_of, has_field, integer_at, items_at, texts_at}
 use Rattle.list_laws.specs.Checks.{◌answers◌, first_fault, or_fault}
 use Rattle.list_laws.proofs.FirstFaults.{or_fault-ok, not_failed, passed-three}
@@ -19,16 +20,17 @@ use Rattle.party_set.specs.Names.{party_named, names_fault, AreNames}
 use Rattle.party_set.proofs.NameFaults.{no_fault_tells}
 use Rattle.circuit_model.specs.declared.layout.CircuitLayout.TheVariants.{Bristol, Ring}
 use Rattle.job_file.specs.declared.field.Field.{Field}
-use Rattle.job_file.specs.declared.field.Field.TheVariants.{RingBits, Parties, Formula, Tolerated, Hosts, Port, Session, Circuit, Layout, Owners, Readers}
+use Rattle.job_file.specs.declared.field.Field.TheVariants.{RingBits, Parties, Formula, Tolerated, Hosts, Port, Session, Circuit, Layout, Products, Owners, Readers}
 use Rattle.job_file.specs.declared.fault.JobFault.{JobFault}
-use Rattle.job_file.specs.declared.fault.JobFault.TheVariants.{NotToml, BadRing, BadFileName, BadLayout, BadOwner, BadReader, BadHost, BadPort, BadTolerated, TooManyTolerated, Missing, WrongKind, Names}
+use Rattle.job_file.specs.declared.fault.JobFault.TheVariants.{NotToml, BadRing, BadFileName, BadLayout, BadProducts, BadOwner, BadReader, BadHost, BadPort, BadTolerated, TooManyTolerated, Missing, Unknown, WrongKind, Names}
 use Rattle.job_file.specs.declared.layout.SessionLayout.TheVariants.{Gates, Expressions}
-use Rattle.job_file.specs.Names.{top_fields, is_file_name, is_host, layout_of}
-use Rattle.job_file.specs.Forms.{JobForm, AdversaryForm, by_formula, by_list, integer, text, texts, items, lists, tables, is_version_two, adversary_field, session_form, adversary_form, job_form, party_of, mask_of}
-use Rattle.job_file.specs.Faults.{is_no_party, bad_name, bad_in_lists, is_there, is_of_other_kind, is_within, required_fault, unknown_fault, version_fault, fields_fault, ring_fault, parties_fault, groups_fault, adversary_fault, count_fault, hosts_fault, port_fault, session_fields_fault, session_values_fault, sessions_fault, job_fault, job_in}
+use Rattle.job_file.specs.Names.{field_text, top_fields, session_fields, is_file_name, is_host, layout_of, are_prepared}
+use Rattle.job_file.specs.Forms.{JobForm, AdversaryForm, by_formula, by_list, integer, text, texts, items, lists, tables, is_version_two, adversary_field, prepared_in, session_form, adversary_form, job_form, party_of, mask_of}
+use Rattle.job_file.specs.Faults.{is_no_party, bad_name, bad_in_lists, is_there, is_of_other_kind, is_within, required_fault, optional_fault, unknown_fault, version_fault, fields_fault, ring_fault, parties_fault, groups_fault, adversary_fault, count_fault, hosts_fault, port_fault, session_fields_fault, session_values_fault, sessions_fault, job_fault, job_in}
 use Rattle.job_file.proofs.Rows.{session_count}
-use Rattle.job_laws.specs.Documents.{HasLayout, IsSessionForm, HasGroups, AreHosts, IsJobForm}
+use Rattle.job_laws.specs.Documents.{HasLayout, HasProducts, IsSessionForm, HasGroups, AreHosts, IsJobForm}
 use Rattle.job_laws.proofs.DocumentShapes.{length_same}
+use Rattle.job_laws.proofs.DocumentFields.{not_known}
 use Rattle.job_laws.proofs.DocumentRows.{two_of}
 
 -- ---- checks that passed
@@ -113,31 +115,49 @@ layout_fits (by_formula formula) name = fits (bytes_eq name (codes "bristol")) (
     fits false true c = tt
     fits false false c = tt
 
+-- no field tells of products in version 1
+products_fit : (adversary : AdversaryForm) (s : ℕ) (fields : Members) → unknown_fault (Some s) (session_fields (two_of adversary)) fields ≡ None → HasProducts adversary (unwrap_or (prepared_in fields) false)
+unfolding unknown_fault prepared_in has_field field_text
+products_fit (by_list masks) s fields e = tt
+products_fit (by_formula formula) s fields e =
+    let known = map_none (λ name. Unknown (Some s) name) (least_unknown (map field_text (session_fields false)) fields) e in
+    let none = not_known (map field_text (session_fields false)) (field_text Products) fields refl known in
+    subst (λ told. HasProducts (by_formula formula) (unwrap_or (cond (is_some told) (are_prepared (text Products fields)) (Some false)) false)) (sym none) tt
+
 module _ (adversary : AdversaryForm) (names : List (List ℕ)) where
-  session_within : (s : ℕ) (fields : Members) → session_values_fault (two_of adversary) names s fields ≡ None → IsSessionForm (length names) adversary (session_form (two_of adversary) names fields)
+  fields_known : (s : ℕ) (fields : Members) → session_fields_fault (two_of adversary) s fields ≡ None → unknown_fault (Some s) (session_fields (two_of adversary)) fields ≡ None
+  unfolding session_fields_fault
+  fields_known s fields e =
+      (head_passed (unknown_fault (Some s) (session_fields (two_of adversary)) fields)
+      (required_fault (Some s) Circuit fields ∷ required_fault (Some s) Layout fields ∷ optional_fault (Some s) Products fields ∷ required_fault (Some s) Owners fields ∷ required_fault (Some s) Readers fields ∷ []) e).0
+
+  session_within : (s : ℕ) (fields : Members) → session_fields_fault (two_of adversary) s fields ≡ None → session_values_fault (two_of adversary) names s fields ≡ None → IsSessionForm (length names) adversary (session_form (two_of adversary) names fields)
   unfolding session_values_fault session_form
-  session_within s fields e =
+  session_within s fields there e =
       let name : Option JobFault = not (is_file_name (text Circuit fields)) answers BadFileName s in
       let layout : Option JobFault = is_none (layout_of (two_of adversary) (text Layout fields)) answers BadLayout s in
+      let products : Option JobFault = is_none (prepared_in fields) answers BadProducts s in
       let owners : Option JobFault = option_map (λ at. BadOwner s at) (position (is_no_party names) (texts Owners fields)) in
       let readers : Option JobFault = option_map (λ bad. BadReader s bad.0 bad.1) (bad_in_lists names 0 (lists Readers fields)) in
-      let one = head_passed name (layout ∷ owners ∷ readers ∷ []) e in
-      let two = head_passed layout (owners ∷ readers ∷ []) one.1 in
-      let three = head_passed owners (readers ∷ []) two.1 in
-      let four = head_passed readers [] three.1 in
+      let one = head_passed name (layout ∷ products ∷ owners ∷ readers ∷ []) e in
+      let two = head_passed layout (products ∷ owners ∷ readers ∷ []) one.1 in
+      let three = head_passed products (owners ∷ readers ∷ []) two.1 in
+      let four = head_passed owners (readers ∷ []) three.1 in
+      let five = head_passed readers [] four.1 in
       record {
         circuit = not_false (is_file_name (text Circuit fields)) (not_failed (not (is_file_name (text Circuit fields))) (BadFileName s) one.0);
         layout = layout_fits adversary (text Layout fields);
-        owners = parties_below names (texts Owners fields) (all_fail (is_no_party names) (texts Owners fields) (map_none (λ at. BadOwner s at) (position (is_no_party names) (texts Owners fields)) three.0));
-        readers = masks_below names 0 (lists Readers fields) (map_none (λ bad. BadReader s bad.0 bad.1) (bad_in_lists names 0 (lists Readers fields)) four.0);
+        products = products_fit adversary s fields (fields_known s fields there);
+        owners = parties_below names (texts Owners fields) (all_fail (is_no_party names) (texts Owners fields) (map_none (λ at. BadOwner s at) (position (is_no_party names) (texts Owners fields)) four.0));
+        readers = masks_below names 0 (lists Readers fields) (map_none (λ bad. BadReader s bad.0 bad.1) (bad_in_lists names 0 (lists Readers fields)) five.0);
       }
 
   sessions_within : (s : ℕ) (all : List Members) → sessions_fault (two_of adversary) names s all ≡ None → AllByRecursion (IsSessionForm (length names) adversary) (map (session_form (two_of adversary) names) all)
   unfolding sessions_fault
   sessions_within s [] e = tt
   sessions_within s (fields ∷ rest) e =
-      let each = passed-three (session_fields_fault s fields) (session_values_fault (two_of adversary) names s fields) (sessions_fault (two_of adversary) names (s + 1) rest) e in
-      (session_within s fields each.1, sessions_within (s + 1) rest each.2)
+      let each = passed-three (session_fields_fault (two_of adversary) s fields) (session_values_fault (two_of adversary) names s fields) (sessions_fault (two_of adversary) names (s + 1) rest) e in
+      (session_within s fields each.0 each.1, sessions_within (s + 1) rest each.2)
 
 -- ---- numbers
 

@@ -9,7 +9,7 @@ use Rattle.party_set.specs.Parties.{has_party}
 use Rattle.party_set.specs.Names.{name_at, AreNames}
 use Rattle.circuit_model.specs.declared.layout.CircuitLayout.TheVariants.{Bristol, Ring}
 use Rattle.job_file.specs.declared.field.Field.{Field}
-use Rattle.job_file.specs.declared.field.Field.TheVariants.{Version, RingBits, Parties, Formula, Tolerated, Hosts, Port, Session, Circuit, Layout, Owners, Readers}
+use Rattle.job_file.specs.declared.field.Field.TheVariants.{Version, RingBits, Parties, Formula, Tolerated, Hosts, Port, Session, Circuit, Layout, Products, Owners, Readers}
 use Rattle.job_file.specs.declared.layout.SessionLayout.{SessionLayout}
 use Rattle.job_file.specs.declared.layout.SessionLayout.TheVariants.{Gates, Expressions}
 use Rattle.job_file.specs.Names.{field_text, is_file_name, is_host}
@@ -48,13 +48,19 @@ layout_text (Gates Bristol) = codes "bristol"
 layout_text (Gates Ring) = codes "ring"
 layout_text Expressions = codes "expr"
 
--- the fields of a session's table
+-- the text that tells that products are prepared; none tells that they are direct
+abbrev pub products_data : Bool → Option Data
+products_data true = Some (string (codes "prepared"))
+products_data false = None
+
+-- the fields of a session's table, in the order of their names' bytes
 abbrev pub session_fields_of : List (List ℕ) → SessionForm → Members
 session_fields_of names s =
     with_field Circuit (Some (string s.circuit))
     (with_field Layout (Some (string (layout_text s.layout)))
     (with_field Owners (Some (texts_data (map (name_at names) s.owners)))
-    (with_field Readers (Some (groups_data names s.readers)) no_members)))
+    (with_field Products (products_data s.prepared)
+    (with_field Readers (Some (groups_data names s.readers)) no_members))))
 
 -- the tables of sessions
 abbrev pub sessions_data : List (List ℕ) → List SessionForm → Data
@@ -103,10 +109,16 @@ abbrev pub HasLayout : AdversaryForm → SessionLayout → Type 0
 HasLayout (by_formula text) Expressions = ⊥
 HasLayout _ _ = Unit {0}
 
+-- and so do prepared products
+abbrev pub HasProducts : AdversaryForm → Bool → Type 0
+HasProducts (by_formula text) true = ⊥
+HasProducts _ _ = Unit {0}
+
 -- a session of so many parties
 pub record IsSessionForm (n : ℕ) (adversary : AdversaryForm) (s : SessionForm) : Type 0 where
   pub circuit : is_file_name s.circuit ≡ true
   pub layout : HasLayout adversary s.layout
+  pub products : HasProducts adversary s.prepared
   pub owners : AllByRecursion (λ p. p < n) s.owners
   pub readers : AllByRecursion (λ mask. mask < 2 ^ n) s.readers
 

@@ -1,17 +1,16 @@
 -- Messages differ, and so do places.
-use Rattle.std.proofs.Common.{◌≡◌, ℕ, zero, suc, ◌+◌, ◌-◌, ◌*◌, ◌<◌, ◌≢◌, Bool, true, false, nat_eq, if◌then◌else◌, List, [], ◌∷◌, ◌++◌, length, refl, sym, ap, ap₂, ◌∙◌, arith}
+use Rattle.std.proofs.Common.{◌≡◌, ℕ, zero, suc, ◌<◌, ◌≢◌, Bool, true, false, nat_eq, List, [], ◌∷◌, ◌++◌, length, refl, sym, ap, ◌∙◌, arith}
 use Rattle.std.specs.Prelude.{slice_index, slice_index_or}
 use Rattle.std.specs.List.{AllByRecursion}
 use Rattle.std.proofs.lemmas.Bool.{and_parts, and_from, eq-eqb, eqb-true, false_from_ne_true}
 use Rattle.std.proofs.lemmas.List.Sums.{position_or_len_is, passes_at_first}
-use Rattle.list_laws.specs.Lists.{total, joined, listed, only_if}
-use Rattle.job_session.specs.Sessions.{owners, Slot}
-use Rattle.job_plan.specs.Plans.{Plan, session, slot, slots, words_in, deals_in, opens_to}
+use Rattle.list_laws.specs.Lists.{joined, listed, only_if}
+use Rattle.job_session.specs.Sessions.{Slot}
+use Rattle.job_plan.specs.Plans.{Plan, slot, slots, giver, least_holder, words_in, deals_in, opens_to}
 use Rattle.job_plan.specs.declared.key.Key.{Key}
-use Rattle.job_plan.specs.Messages.{messages, slot_messages, deal_messages, open_messages}
-use Rattle.job_session.specs.Sessions.Slot.{Input, At_gate, Output}
-use Rattle.job_plan.specs.Numbers.{same_key, no_key, message, number, NumbersAreInverse, PlacesDiffer, deals_before, deals, PlacesByDeals}
-use Rattle.list_laws.proofs.Totals.{total_eq, total_mul_left}
+use Rattle.job_plan.specs.Messages.{messages, slot_messages, deal_message, open_messages, product_messages}
+use Rattle.job_session.specs.Sessions.Slot.{Input, At_gate, Output, Mask, Mask_product, Masked}
+use Rattle.job_plan.specs.Numbers.{same_key, no_key, message, number, NumbersAreInverse, PlacesDiffer}
 use Rattle.list_laws.proofs.JoinedLists.{every_append, every_joined, every_only_if, every_weaker, laid_at}
 
 -- ---- lists whose elements differ
@@ -59,14 +58,12 @@ distinct_at (x ∷ xs) (suc i) (suc j) d h l b e = distinct_at xs i j d h.1 (ome
 
 -- ---- messages
 
-every_deal : (P : Key → Type 0) (plan : Plan) (s k p : ℕ) → ((i q : ℕ) → P (record { session = s; slot = k; share = i; sender = p; receiver = q })) → AllByRecursion P (deal_messages plan s k p)
-every_deal P plan s k p h = every_joined P (length plan.groups) _ (λ i li. every_joined P plan.parties _ (λ q lq. every_one P _ _ (h i q)))
+-- summand i of a deal by another sender for each summand
+abbrev rows : Plan → ℕ → ℕ → (ℕ → ℕ) → List Key
+rows plan s k sender = joined (length plan.groups) (λ i. joined plan.parties (deal_message plan s k (sender i) i))
 
-every_open : (P : Key → Type 0) (plan : Plan) (s k r : ℕ) → ((i p : ℕ) → P (record { session = s; slot = k; share = i; sender = p; receiver = r })) → AllByRecursion P (open_messages plan s k r)
-every_open P plan s k r h = every_joined P (length plan.groups) _ (λ i li. every_one P _ _ (h i _))
-
-deal_distinct : (plan : Plan) (s k p : ℕ) → Distinct (deal_messages plan s k p)
-deal_distinct plan s k p =
+rows_distinct : (plan : Plan) (s k : ℕ) (sender : ℕ → ℕ) → Distinct (rows plan s k sender)
+rows_distinct plan s k sender =
     distinct_joined (λ x. x.share) (length plan.groups) _
     (λ i li. distinct_joined (λ x. x.receiver) plan.parties _ (λ q lq. distinct_one _ _) (λ q lq. every_one (λ x. x.receiver ≡ q) _ _ refl))
     (λ i li. every_joined (λ x. x.share ≡ i) plan.parties _ (λ q lq. every_one (λ x. x.share ≡ i) _ _ refl))
@@ -75,19 +72,46 @@ open_distinct : (plan : Plan) (s k r : ℕ) → Distinct (open_messages plan s k
 open_distinct plan s k r =
     distinct_joined (λ x. x.share) (length plan.groups) _ (λ i li. distinct_one _ _) (λ i li. every_one (λ x. x.share ≡ i) _ _ refl)
 
-slot_distinct : (plan : Plan) (s k : ℕ) (z : Slot) → Distinct (slot_messages plan s k z)
-slot_distinct plan s k (Input v) = deal_distinct plan s k (slice_index (owners (session plan s)) v)
-slot_distinct plan s k (At_gate t) =
-    distinct_joined (λ x. x.sender) plan.parties _ (λ p lp. distinct_only_if (deals_in plan s p (At_gate t)) _ (deal_distinct plan s k p))
-    (λ p lp. every_only_if (λ x. x.sender ≡ p) (deals_in plan s p (At_gate t)) _ (λ e. every_deal (λ x. x.sender ≡ p) plan s k p (λ i q. refl)))
-slot_distinct plan s k (Output o) =
-    distinct_joined (λ x. x.receiver) plan.parties _ (λ r lr. distinct_only_if (opens_to plan s r (Output o)) _ (open_distinct plan s k r))
-    (λ r lr. every_only_if (λ x. x.receiver ≡ r) (opens_to plan s r (Output o)) _ (λ e. every_open (λ x. x.receiver ≡ r) plan s k r (λ i p. refl)))
+-- what holds of each message that a slot may have holds of those that it has
+module _ (P : Key → Type 0) (plan : Plan) (s k : ℕ) (h : (i p q : ℕ) → i < length plan.groups → P (record { session = s; slot = k; share = i; sender = p; receiver = q })) where
+  every_row : (sender : ℕ → ℕ) → AllByRecursion P (rows plan s k sender)
+  every_row sender = every_joined P (length plan.groups) _ (λ i li. every_joined P plan.parties _ (λ q lq. every_one P _ _ (h i (sender i) q li)))
+
+  every_open : (r : ℕ) → AllByRecursion P (open_messages plan s k r)
+  every_open r = every_joined P (length plan.groups) _ (λ i li. every_one P _ _ (h i (least_holder plan i) r li))
+
+  every_product : (z : Slot) → AllByRecursion P (product_messages plan s k z)
+  every_product z = every_joined P plan.parties _ (λ p lp. every_only_if P (deals_in plan s p z) _ (λ e. every_row (λ i. p)))
+
+  pub every_summand : (z : Slot) → AllByRecursion P (slot_messages plan s k z)
+  every_summand (Input v) = every_row (λ i. giver plan s v)
+  every_summand (At_gate t) = every_product (At_gate t)
+  every_summand (Output o) = every_joined P plan.parties _ (λ r lr. every_only_if P (opens_to plan s r (Output o)) _ (λ e. every_open r))
+  every_summand (Mask t side) = every_row (least_holder plan)
+  every_summand (Mask_product t) = every_product (Mask_product t)
+  every_summand (Masked t side) = every_joined P plan.parties _ (λ r lr. every_open r)
 
 pub every_slot : (P : Key → Type 0) (plan : Plan) (s k : ℕ) (z : Slot) → ((i p q : ℕ) → P (record { session = s; slot = k; share = i; sender = p; receiver = q })) → AllByRecursion P (slot_messages plan s k z)
-every_slot P plan s k (Input v) h = every_deal P plan s k (slice_index (owners (session plan s)) v) (λ i q. h i _ q)
-every_slot P plan s k (At_gate t) h = every_joined P plan.parties _ (λ p lp. every_only_if P _ _ (λ e. every_deal P plan s k p (λ i q. h i p q)))
-every_slot P plan s k (Output o) h = every_joined P plan.parties _ (λ r lr. every_only_if P _ _ (λ e. every_open P plan s k r (λ i p. h i p r)))
+every_slot P plan s k z h = every_summand P plan s k (λ i p q li. h i p q) z
+
+product_distinct : (plan : Plan) (s k : ℕ) (z : Slot) → Distinct (product_messages plan s k z)
+product_distinct plan s k z =
+    distinct_joined (λ x. x.sender) plan.parties _ (λ p lp. distinct_only_if (deals_in plan s p z) _ (rows_distinct plan s k (λ i. p)))
+    (λ p lp. every_only_if (λ x. x.sender ≡ p) (deals_in plan s p z) _ (λ e. every_joined (λ x. x.sender ≡ p) (length plan.groups) _ (λ i li. every_joined (λ x. x.sender ≡ p) plan.parties _ (λ q lq. every_one (λ x. x.sender ≡ p) _ _ refl))))
+
+-- openings to one receiver after another
+opens_distinct : (plan : Plan) (s k : ℕ) (wanted : ℕ → Bool) → Distinct (joined plan.parties (λ r. only_if (wanted r) (open_messages plan s k r)))
+opens_distinct plan s k wanted =
+    distinct_joined (λ x. x.receiver) plan.parties _ (λ r lr. distinct_only_if (wanted r) _ (open_distinct plan s k r))
+    (λ r lr. every_only_if (λ x. x.receiver ≡ r) (wanted r) _ (λ e. every_joined (λ x. x.receiver ≡ r) (length plan.groups) _ (λ i li. every_one (λ x. x.receiver ≡ r) _ _ refl)))
+
+slot_distinct : (plan : Plan) (s k : ℕ) (z : Slot) → Distinct (slot_messages plan s k z)
+slot_distinct plan s k (Input v) = rows_distinct plan s k (λ i. giver plan s v)
+slot_distinct plan s k (At_gate t) = product_distinct plan s k (At_gate t)
+slot_distinct plan s k (Output o) = opens_distinct plan s k (λ r. opens_to plan s r (Output o))
+slot_distinct plan s k (Mask t side) = rows_distinct plan s k (least_holder plan)
+slot_distinct plan s k (Mask_product t) = product_distinct plan s k (Mask_product t)
+slot_distinct plan s k (Masked t side) = opens_distinct plan s k (λ r. true)
 
 messages_distinct : (plan : Plan) → Distinct (messages plan)
 messages_distinct plan =
@@ -131,17 +155,3 @@ places_differ plan p s k i s' k' i' ls lk li ls' lk' li' e =
     sym (laid_at (length plan.sessions) count len f s k i ls lk li) ∙ ap (slice_index (joined (length plan.sessions) (λ r. joined (count r) (λ j. listed (len r j) (f r j))))) e
     ∙ laid_at (length plan.sessions) count len f s' k' i' ls' lk' li' in
     (tells (λ s k i. s), tells (λ s k i. k), tells (λ s k i. i))
-
-pub words_by_deals : (plan : Plan) (p s k : ℕ) → total k (λ j. words_in plan s p (slot plan s j)) ≡ (length plan.groups - 1) * deals_before plan p s k
-words_by_deals plan p s k =
-    total_eq k _ _ (λ j l. each (deals_in plan s p (slot plan s j)) (length plan.groups - 1))
-    ∙ total_mul_left k (length plan.groups - 1) (λ j. if deals_in plan s p (slot plan s j) then 1 else 0)
-  where
-    each : (b : Bool) (m : ℕ) → (if b then m else 0) ≡ m * (if b then 1 else 0)
-    each true m = omega arith
-    each false m = omega arith
-
-pub places_by_deals : (plan : Plan) (p : ℕ) → PlacesByDeals plan p
-places_by_deals plan p s k =
-    let before = total_eq s _ _ (λ r l. words_by_deals plan p r (slots plan r)) ∙ total_mul_left s (length plan.groups - 1) (deals plan p) in
-    ap₂ (λ a b. a + b) before (words_by_deals plan p s k) ∙ omega arith

@@ -1,5 +1,6 @@
 pub mod PlanSchemes
 pub mod Slots
+pub mod SlotSums
 pub mod DistinctMessages
 pub mod SlotMessages
 pub mod TallyLaws
@@ -11,3 +12,6 @@ pub mod RankSearch
 pub mod PartSearch
 pub mod MessageSlots
 pub mod TapePlaces
+pub mod DealSlots
+pub mod MaskPlaces
+pub mod DealMasks

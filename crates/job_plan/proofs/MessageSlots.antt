@@ -1,36 +1,15 @@
 -- Which slot a message stands in.
-use Rattle.std.proofs.Common.{◌≡◌, ℕ, zero, suc, ◌+◌, ◌-◌, ◌<◌, List, length, refl, sym, ap, ◌∙◌, subst, arith, length-append}
-use Rattle.std.specs.Prelude.{slice_index, slice_index_or}
-use Rattle.std.specs.List.{AllByRecursion}
-use Rattle.std.proofs.lemmas.Bool.{cases_lt}
+use Rattle.std.proofs.Common.{◌≡◌, ℕ, ◌+◌, ◌<◌, length, refl, sym, ap, ◌∙◌, subst}
+use Rattle.std.specs.Prelude.{slice_index_or}
 use Rattle.std.proofs.lemmas.List.Sums.{passes_at_first}
-use mathlib.Core.Logic.{inl, inr}
-use Rattle.list_laws.specs.Lists.{total, joined}
-use Rattle.list_laws.proofs.JoinedLists.{length-joined, every_joined, every_only_if}
-use Rattle.job_session.specs.Sessions.{Slot, owners}
-use Rattle.job_plan.specs.Plans.{Plan, session, slot, slots}
-use Rattle.job_session.specs.Sessions.Slot.{Input, At_gate, Output}
+use Rattle.list_laws.proofs.JoinedLists.{joined_place, locate}
+use Rattle.job_plan.specs.Plans.{Plan, slot, slots}
 use Rattle.job_plan.specs.declared.key.Key.{Key}
-use Rattle.job_plan.specs.Messages.{deal_messages, open_messages, slot_messages, session_messages, messages}
+use Rattle.job_plan.specs.Messages.{slot_messages, session_messages, messages}
 use Rattle.job_plan.specs.Numbers.{no_key, same_key, number}
 use Rattle.job_plan.specs.Firsts.{count, first}
-use Rattle.job_plan.proofs.SlotMessages.{joined_place, message_at, number_within}
-use Rattle.job_plan.proofs.DistinctMessages.{number_of_message, every_one, every_place, every_slot, same_key-true}
-
--- the part in which place m of joined parts lies
-record IsIn {A : Type 0} (n : ℕ) (f : ℕ → List A) (m : ℕ) : Type 0 where
-  part : ℕ
-  place : ℕ
-  there : part < n
-  within : place < length (f part)
-  is : m ≡ total part (λ j. length (f j)) + place
-
-locate : {A : Type 0} (n : ℕ) (f : ℕ → List A) (m : ℕ) → m < length (joined n f) → IsIn n f m
-locate zero f m l = absurd (omega arith)
-locate (suc n) f m l = elim (cases_lt m (length (joined n f))) [
-  | inl less ↦ (let h = locate n f m less in record { part = h.part; place = h.place; there = (let there = h.there in omega arith); within = h.within; is = h.is })
-  | inr past ↦ (let long = length-append (joined n f) (f n) in let before = length-joined n f in record { part = n; place = m - length (joined n f); there = omega arith; within = omega arith; is = omega arith })
-]
+use Rattle.job_plan.proofs.SlotMessages.{message_at, number_within}
+use Rattle.job_plan.proofs.DistinctMessages.{number_of_message, every_place, every_summand, every_slot, same_key-true}
 
 -- the key stands in slot k of session s
 pub record IsThere (plan : Plan) (key : Key) (s k : ℕ) : Type 0 where
@@ -70,23 +49,8 @@ module _ (plan : Plan) where
 
 -- ---- summands
 
-module _ (plan : Plan) (s k : ℕ) where
-  abbrev Within : Key → Type 0
-  Within x = x.share < length plan.groups
-
-  deal_shares : (p : ℕ) → AllByRecursion Within (deal_messages plan s k p)
-  deal_shares p = every_joined Within (length plan.groups) _ (λ i li. every_joined Within plan.parties _ (λ q lq. every_one Within _ _ li))
-
-  open_shares : (r : ℕ) → AllByRecursion Within (open_messages plan s k r)
-  open_shares r = every_joined Within (length plan.groups) _ (λ i li. every_one Within _ _ li)
-
-  slot_shares : (z : Slot) → AllByRecursion Within (slot_messages plan s k z)
-  slot_shares (Input v) = deal_shares (slice_index (owners (session plan s)) v)
-  slot_shares (At_gate t) = every_joined Within plan.parties _ (λ p lp. every_only_if Within _ _ (λ e. deal_shares p))
-  slot_shares (Output o) = every_joined Within plan.parties _ (λ r lr. every_only_if Within _ _ (λ e. open_shares r))
-
-  -- the summand of each message of a slot is one of the plan's
-  pub share_within : (i : ℕ) → i < count plan s k → (slice_index_or (slot_messages plan s k (slot plan s k)) i no_key).share < length plan.groups
-  share_within i l =
-      let at = slot plan s k in
-      every_place Within (slot_messages plan s k at) i no_key (slot_shares at) l
+-- the summand of each message of a slot is one of the plan's
+pub share_within : (plan : Plan) (s k i : ℕ) → i < count plan s k → (slice_index_or (slot_messages plan s k (slot plan s k)) i no_key).share < length plan.groups
+share_within plan s k i l =
+    let Within : Key → Type 0 = λ x. x.share < length plan.groups in
+    every_place Within (slot_messages plan s k (slot plan s k)) i no_key (every_summand Within plan s k (λ i p q li. li) (slot plan s k)) l

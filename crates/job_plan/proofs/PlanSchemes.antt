@@ -1,4 +1,4 @@
--- A plan without a covering pair has a scheme.
+-- A sound plan is one whose values can be shared, and a plan without a covering pair has a scheme.
 use Rattle.std.proofs.Common.{◌≡◌, ℕ, ◌<◌, Bool, true, false, length, ◌∙◌, subst, arith}
 use Rattle.std.proofs.lemmas.Bool.{cases_lt, and_parts, both_ways}
 use Rattle.std.proofs.lemmas.Nat.{pow_below}
@@ -7,8 +7,12 @@ use Rattle.std.proofs.lemmas.List.Sums.{fails_before_first, passes_at_first}
 use mathlib.Core.Logic.{inl, inr}
 use Rattle.secret_sharing.specs.Schemes.{IsScheme}
 use Rattle.product_duty.proofs.PairDuties.{duty_holds}
+use Rattle.job_plan.specs.Sound.{IsSound}
 use Rattle.job_plan.specs.Plans.{Plan, structure, holds, duty, scheme, least_party, least_holder, Q2, IsPlan}
 use Rattle.std.specs.List.{range_with_len}
+
+pub plan_is : (plan : Plan) → IsSound plan → IsPlan plan
+plan_is plan h = record { bits = h.some_bits; groups = h.some_groups; q2 = h.q2 }
 
 pub least_party_is : (plan : Plan) (test : ℕ → Bool) (p : ℕ) → p < plan.parties → test p ≡ true → (least_party plan test < plan.parties) × (test (least_party plan test) ≡ true)
 least_party_is plan test p l e = elim (cases_lt (least_party plan test) plan.parties) [

@@ -7,10 +7,10 @@ use Rattle.secret_sharing.specs.Schemes.{has_pair}
 use Rattle.party_set.specs.Parties.{has_party}
 use Rattle.job_plan.specs.declared.pattern.Line.{Line}
 use Rattle.job_plan.specs.declared.pattern.LineOrder.{LineOrder}
-use Rattle.job_plan.specs.declared.pattern.LineOrder.TheVariants.{BySender, ByReceiver}
+use Rattle.job_plan.specs.declared.pattern.LineOrder.TheVariants.{BySender, BySummand, ByReceiver}
 use Rattle.job_plan.specs.declared.pattern.Pattern.{Pattern}
-use Rattle.job_plan.specs.declared.pattern.Pattern.TheVariants.{Silent, Dealt, Multiplied, Opened}
-use Rattle.job_plan.specs.Plans.{Plan, scheme, holds}
+use Rattle.job_plan.specs.declared.pattern.Pattern.TheVariants.{Silent, Dealt, Multiplied, Opened, HandedOut, OpenedToAll, Joined}
+use Rattle.job_plan.specs.Plans.{Plan, scheme, holds, least_holder}
 use Rattle.job_plan.specs.Numbers.{rank, IsRising}
 use Rattle.job_plan.specs.Patterns.{named, deal_line, deal_lines, open_lines, lines, order_of}
 use Rattle.job_plan.proofs.RankSearch.{no_line, named_at}
@@ -65,18 +65,25 @@ module _ (plan : Plan) (s k : ℕ) (parties : plan.parties ≤ 12) (shares : len
   abbrev rank_of : LineOrder → Line → ℕ
   rank_of order line = rank order (named s k line)
 
+  -- one summand of a deal, where the rank rises with the receiver
+  row_rises : (order : LineOrder) (p i base : ℕ) → ((q : ℕ) → rank_of order (record { share = i; sender = p; receiver = q }) ≡ base + q)
+      → Rise (rank_of order) base (base + 12) (joined plan.parties (deal_line plan p i))
+  row_rises order p i base at =
+      rise_wider (rank_of order) base (base + plan.parties * 1) (base + 12) (joined plan.parties (deal_line plan p i)) (omega arith)
+      (rise_joined (rank_of order) base 1 plan.parties (deal_line plan p i) (λ q lq. rise_one (rank_of order) (base + q * 1) (base + q * 1 + 1) (not (nat_eq q p) && holds plan q i) _ (omega (arith, at q)) (omega (arith, at q))))
+
   deal_rises : (p : ℕ) → Rise (rank_of BySender) (p * 768) (p * 768 + 768) (deal_lines plan p)
   deal_rises p =
-      let row : (i : ℕ) → Rise (rank_of BySender) (p * 768 + i * 12) (p * 768 + i * 12 + 12) (joined plan.parties (deal_line plan p i)) = λ i.
-      rise_wider (rank_of BySender) (p * 768 + i * 12) (p * 768 + i * 12 + plan.parties * 1) (p * 768 + i * 12 + 12) (joined plan.parties (deal_line plan p i)) (omega arith)
-      (rise_joined (rank_of BySender) (p * 768 + i * 12) 1 plan.parties (deal_line plan p i) (λ q lq. rise_one (rank_of BySender) (p * 768 + i * 12 + q * 1) (p * 768 + i * 12 + q * 1 + 1) (not (nat_eq q p) && holds plan q i) _ (omega arith) (omega arith))) in
       rise_wider (rank_of BySender) (p * 768) (p * 768 + length plan.groups * 12) (p * 768 + 768) (deal_lines plan p) (omega arith)
-      (rise_joined (rank_of BySender) (p * 768) 12 (length plan.groups) (λ i. joined plan.parties (deal_line plan p i)) (λ i li. row i))
+      (rise_joined (rank_of BySender) (p * 768) 12 (length plan.groups) (λ i. joined plan.parties (deal_line plan p i)) (λ i li. row_rises BySender p i (p * 768 + i * 12) (λ q. omega arith)))
 
   open_rises : (r : ℕ) → Rise (rank_of ByReceiver) (r * 64) (r * 64 + 64) (open_lines plan r)
   open_rises r =
       rise_wider (rank_of ByReceiver) (r * 64) (r * 64 + length plan.groups * 1) (r * 64 + 64) (open_lines plan r) (omega arith)
       (rise_joined (rank_of ByReceiver) (r * 64) 1 (length plan.groups) (open_line plan r) (λ i li. rise_one (rank_of ByReceiver) (r * 64 + i * 1) (r * 64 + i * 1 + 1) (not (holds plan r i)) _ (omega arith) (omega arith)))
+
+  opens_at : (r : ℕ) → Rise (rank_of ByReceiver) (0 + r * 64) (0 + r * 64 + 64) (open_lines plan r)
+  opens_at r = let none : r * 64 ≡ 0 + r * 64 = omega arith in subst (λ z. Rise (rank_of ByReceiver) z (z + 64) (open_lines plan r)) none (open_rises r)
 
   pattern_rises : (pattern : Pattern) → (lo : ℕ) × (hi : ℕ) × Rise (rank_of (order_of pattern)) lo hi (lines plan pattern)
   pattern_rises Silent = (0, 0, omega arith)
@@ -89,8 +96,15 @@ module _ (plan : Plan) (s k : ℕ) (parties : plan.parties ≤ 12) (shares : len
   pattern_rises (Opened readers) = (
     0,
     0 + plan.parties * 64,
-    rise_joined (rank_of ByReceiver) 0 64 plan.parties _ (λ r lr. rise_only_if (rank_of ByReceiver) (0 + r * 64) (0 + r * 64 + 64) (has_party readers r) (open_lines plan r) (omega arith) (let none : r * 64 ≡ 0 + r * 64 = omega arith in subst (λ z. Rise (rank_of ByReceiver) z (z + 64) (open_lines plan r)) none (open_rises r))),
+    rise_joined (rank_of ByReceiver) 0 64 plan.parties _ (λ r lr. rise_only_if (rank_of ByReceiver) (0 + r * 64) (0 + r * 64 + 64) (has_party readers r) (open_lines plan r) (omega arith) (opens_at r)),
   )
+  pattern_rises HandedOut = (
+    0,
+    0 + length plan.groups * 12,
+    rise_joined (rank_of BySummand) 0 12 (length plan.groups) _ (λ i li. row_rises BySummand (least_holder plan i) i (0 + i * 12) (λ q. omega arith)),
+  )
+  pattern_rises OpenedToAll = (0, 0 + plan.parties * 64, rise_joined (rank_of ByReceiver) 0 64 plan.parties (open_lines plan) (λ r lr. opens_at r))
+  pattern_rises Joined = (0, 0, omega arith)
 
   -- in the order of the pattern
   pub lines_rise : (pattern : Pattern) → IsRising (rank (order_of pattern)) (map (named s k) (lines plan pattern))

@@ -1,31 +1,19 @@
 -- The messages of a slot, by number and by key.
-use Rattle.std.proofs.Common.{◌≡◌, ℕ, zero, suc, ◌+◌, ◌<◌, ◌≤◌, Bool, true, List, [], ◌∷◌, ◌++◌, map, length, refl, sym, ap, ◌∙◌, subst, arith}
+use Rattle.std.proofs.Common.{◌≡◌, ℕ, ◌+◌, ◌<◌, ◌≤◌, Bool, true, List, [], ◌∷◌, map, length, refl, sym, ap, ◌∙◌, subst, arith}
 use Rattle.std.specs.Prelude.{slice_index_or}
 use Rattle.std.specs.List.{AllByRecursion, filter}
 use Rattle.std.proofs.lemmas.Bool.{cases_eq, cases_Bool, cond-true, cond-false}
-use Rattle.std.proofs.lemmas.List.{get_or-append-add, ext_get_or}
+use Rattle.std.proofs.lemmas.List.{ext_get_or}
 use Rattle.std.proofs.lemmas.List.FromFn.{length-map-range_with_len, get_or-map-range_with_len}
-use Rattle.std.proofs.Math.ListN.{get_or-append}
 use mathlib.Core.Logic.{inl, inr}
 use Rattle.list_laws.specs.Lists.{total, joined}
 use Rattle.job_plan.specs.Plans.{Plan, slot, slots}
 use Rattle.job_plan.specs.declared.key.Key.{Key}
 use Rattle.job_plan.specs.Messages.{slot_messages, messages}
 use Rattle.job_plan.specs.Numbers.{message, no_key}
-use Rattle.list_laws.proofs.JoinedLists.{length-joined, total_within, every_range, every_both}
+use Rattle.list_laws.proofs.JoinedLists.{length-joined, joined_place, total_within, every_range, every_both}
 use Rattle.list_laws.proofs.Totals.{total_eq}
 use Rattle.job_plan.specs.Firsts.{count, session_count, first, numbers}
-
--- what stands at place i of part k
-pub joined_place : {A : Type 0} (d : A) (n k : ℕ) (f : ℕ → List A) (i : ℕ) → k < n → i < length (f k) → slice_index_or (joined n f) (total k (λ j. length (f j)) + i) d ≡ slice_index_or (f k) i d
-joined_place d zero k f i l b = absurd (omega arith)
-joined_place d (suc n) k f i l b = elim (cases_eq k n) [
-  | inl e ↦ subst (λ z. slice_index_or (joined n f ++ f n) (total z (λ j. length (f j)) + i) d ≡ slice_index_or (f z) i d) (sym e)
-      (ap (λ z. slice_index_or (joined n f ++ f n) (z + i) d) (sym (length-joined n f)) ∙ get_or-append-add (joined n f) (f n) i d)
-  | inr ne ↦
-      let within : total k (λ j. length (f j)) + length (f k) ≤ total n (λ j. length (f j)) = total_within n k (λ j. length (f j)) (omega arith) in
-      get_or-append (joined n f) (f n) d (total k (λ j. length (f j)) + i) (omega (arith, within, b, length-joined n f)) ∙ joined_place d n k f i (omega arith) b
-]
 
 module _ (plan : Plan) (s k : ℕ) (ls : s < length plan.sessions) (lk : k < slots plan s) where
   abbrev part : ℕ → List Key

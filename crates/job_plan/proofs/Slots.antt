@@ -1,36 +1,21 @@
--- The slots of a session, one after another.
-use Rattle.std.proofs.Common.{◌≡◌, ℕ, ◌+◌, ◌<◌, ◌++◌, length, refl, ap, ap₂, ◌∙◌, arith}
-use Rattle.list_laws.specs.Lists.{listed}
-use Rattle.list_laws.proofs.JoinedLists.{listed-add, listed_eq}
-use Rattle.job_session.specs.Sessions.{Session, Slot, owners, readers}
-use Rattle.job_plan.specs.Plans.{Plan, SlotsAreListed, SlotsAreNumbered, session, slot, slots, slot_number}
-use Rattle.job_session.specs.Sessions.Slot.{Input, At_gate, Output}
-use Rattle.job_session.specs.SoundSessions.{Inside}
-use Rattle.job_session.proofs.SessionSlots.{slot_input, slot_gate, slot_output, slot_cases}
+-- The slots of a session of a plan.
+use Rattle.std.proofs.Common.{◌≡◌, ℕ, zero, suc, ◌<◌, ◌≤◌, Bool, true, false, if◌then◌else◌, length, arith}
+use Rattle.job_session.specs.Sessions.{Session, is_prepared, session_slots}
+use Rattle.job_session.specs.SoundSessions.{IsWired}
+use Rattle.job_session.specs.SlotNumbers.{prepared_before}
+use Rattle.job_plan.specs.Plans.{Plan, session, slot, slots, slot_number}
+use Rattle.job_session.proofs.SessionSlots.{slots_are_numbered}
 
-pub slots_are_listed : (plan : Plan) (s : ℕ) → SlotsAreListed plan s
-slots_are_listed plan s =
-    let x : Session = session plan s in
-    let inputs = length (owners x) in
-    let gates = length x.gates in
-    let outputs = length (readers x) in
-    listed-add (inputs + gates) outputs (slot plan s)
-    ∙ ap₂ (λ a b. a ++ b) (listed-add inputs gates (slot plan s)) (listed_eq outputs _ (λ o. Output o) (λ o l. slot_output x o))
-    ∙ ap (λ a. a ++ listed outputs (λ o. Output o))
-    (ap₂ (λ a b. a ++ b) (listed_eq inputs _ (λ v. Input v) (λ v l. slot_input x v l)) (listed_eq gates _ (λ t. At_gate t) (λ t l. slot_gate x t l)))
+pub at_its_number : (plan : Plan) (s k : ℕ) → k < slots plan s → slot_number plan s (slot plan s k) ≡ k
+at_its_number plan s k lk = (slots_are_numbered (session plan s)).number k lk
 
-module _ (plan : Plan) (s : ℕ) where
-  pub at_its_number : (k : ℕ) → k < slots plan s → slot_number plan s (slot plan s k) ≡ k
-  at_its_number k lk = slot_cases (session plan s) (λ k z. slot_number plan s z ≡ k) (λ v lv. refl) (λ t lt. refl) (λ o lo. refl) k lk
+few_prepared : (s : Session) (t : ℕ) → prepared_before s t ≤ t
+few_prepared s zero = omega arith
+few_prepared s (suc t) = (let one = at_most_one (is_prepared s t) in omega (arith, few_prepared s t, one))
+  where
+    at_most_one : (b : Bool) → (if b then 1 else 0) ≤ 1
+    at_most_one true = omega arith
+    at_most_one false = omega arith
 
-  there : (kind : Slot) → Inside (session plan s) kind → (slot_number plan s kind < slots plan s) × (slot plan s (slot_number plan s kind) ≡ kind)
-  there (Input v) l = (omega arith, slot_input (session plan s) v l)
-  there (At_gate t) l = (omega arith, slot_gate (session plan s) t l)
-  there (Output o) l = (omega arith, slot_output (session plan s) o)
-
-  pub slots_are_numbered : SlotsAreNumbered plan s
-  slots_are_numbered = record {
-    inside = λ k lk. slot_cases (session plan s) (λ k z. Inside (session plan s) z) (λ v lv. lv) (λ t lt. lt) (λ o lo. lo) k lk;
-    number = at_its_number;
-    there = there;
-  }
+pub few_slots : (s : Session) → IsWired s → session_slots s ≤ 655360
+few_slots s h = omega (arith, h.wires, h.gates, h.input_wires, h.output_wires, few_prepared s (length s.gates), (slots_are_numbered s).count)

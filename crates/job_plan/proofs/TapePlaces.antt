@@ -1,14 +1,15 @@
--- Tape places by words, and within the limits.
-use Rattle.std.proofs.Common.{◌≡◌, ℕ, ◌+◌, ◌-◌, ◌*◌, ◌<◌, ◌≤◌, length, ap, ◌∙◌, arith}
-use Rattle.std.proofs.Math.Nat.{mul-le-mul_left}
+-- Tape places by words, within the limits, and those of masks.
+use Rattle.std.proofs.Common.{◌≡◌, ℕ, ◌+◌, ◌<◌, ◌≤◌, nat_eq, if◌then◌else◌, length, refl, ap, ◌∙◌, arith}
+use Rattle.std.proofs.lemmas.Bool.{cases_eq, cases_lt, cond-true, eq-eqb}
+use mathlib.Core.Logic.{inl, inr}
 use Rattle.list_laws.specs.Lists.{total}
 use Rattle.list_laws.proofs.Totals.{total_more}
 use Rattle.list_laws.proofs.JoinedLists.{listed_at, total_within}
-use Rattle.job_plan.specs.Plans.{Plan, slot, slots, words_in, words, place}
-use Rattle.job_plan.specs.Numbers.{deals, deals_before, deal_place}
+use Rattle.job_plan.specs.Plans.{Plan, slot, slots, least_holder, least_held, words_in, words, words_before, place}
+use Rattle.job_plan.specs.Numbers.{MasksHaveWords}
 use Rattle.job_plan.specs.Firsts.{PlacesByWords}
 use Rattle.job_plan.specs.Tallies.{tape_length}
-use Rattle.job_plan.proofs.DistinctMessages.{words_by_deals}
+use Rattle.job_plan.specs.Sound.{IsSound}
 
 pub places_by_words : (plan : Plan) (p : ℕ) → PlacesByWords plan p
 places_by_words plan p = record {
@@ -22,14 +23,31 @@ places_by_words plan p = record {
 pub session_end : (plan : Plan) (p s : ℕ) → place plan p (s + 1) 0 ≡ place plan p s 0 + words plan p s
 session_end plan p s = omega (arith, total_more s (words plan p))
 
-pub words_is : (plan : Plan) (p s : ℕ) → words plan p s ≡ (length plan.groups - 1) * deals plan p s
-words_is plan p s = words_by_deals plan p s (slots plan s)
+-- the place of each slot, and that behind the last, lies on the tape
+pub place_within : (plan : Plan) (p s k : ℕ) → s < length plan.sessions → k ≤ slots plan s → place plan p s k ≤ tape_length plan p
+place_within plan p s k ls lk =
+    let within = total_within (length plan.sessions) s (words plan p) ls in
+    elim (cases_eq k (slots plan s)) [
+      | inl e ↦ omega (arith, within, ap (words_before plan p s) e)
+      | inr ne ↦ omega (arith, within, total_within (slots plan s) k (λ j. words_in plan s p (slot plan s j)) (omega arith))
+    ]
 
-pub place_of_deal : (plan : Plan) (p s k : ℕ) → place plan p s k ≡ deal_place plan p s (deals_before plan p s k)
-place_of_deal plan p s k = ap (λ n. total s (words plan p) + n) (words_by_deals plan p s k)
+pub few_places : (plan : Plan) (p s k : ℕ) → IsSound plan → p < plan.parties → s < length plan.sessions → k ≤ slots plan s → place plan p s k ≤ 1048576
+few_places plan p s k sound lp ls lk = omega (arith, place_within plan p s k ls lk, sound.few_words p lp)
 
-pub place_within : (plan : Plan) (p s d : ℕ) → s < length plan.sessions → d ≤ deals plan p s → deal_place plan p s d ≤ tape_length plan p
-place_within plan p s d l b =
-    let within = total_within (length plan.sessions) s (words plan p) l in
-    let before = mul-le-mul_left (length plan.groups - 1) b in
-    omega (arith, within, before, words_is plan p s)
+-- ---- masks
+
+pub held_within : (plan : Plan) (i n : ℕ) → i < n → least_held plan (least_holder plan i) i < least_held plan (least_holder plan i) n
+held_within plan i n l =
+    let f : ℕ → ℕ = λ j. if nat_eq (least_holder plan j) (least_holder plan i) then 1 else 0 in
+    let own : f i ≡ 1 = cond-true (nat_eq (least_holder plan i) (least_holder plan i)) 1 0 (eq-eqb (least_holder plan i) (least_holder plan i) refl) in
+    omega (arith, own, total_within n i f l)
+
+pub masks_have_words : (plan : Plan) → MasksHaveWords plan
+masks_have_words plan = record {
+  within = λ s t i side l. held_within plan i (length plan.groups) l;
+  apart = λ i j e ne same. elim (cases_lt i j) [
+    | inl l ↦ (let less = held_within plan i j l in omega (arith, same, less, ap (λ p. least_held plan p j) e))
+    | inr past ↦ (let less = held_within plan j i (omega arith) in omega (arith, same, less, ap (λ p. least_held plan p i) e))
+  ];
+}

@@ -1,10 +1,9 @@
--- Where the messages of a slot begin, and the words and deals of a session.
+-- Where the messages of a slot begin, and the words of a session.
 use Rattle.std.specs.Prelude.{◌≡◌, ℕ, ◌+◌, ◌≤◌, List, length, slice_index}
 use Rattle.std.specs.List.{range_with_len}
 use Rattle.list_laws.specs.Lists.{total, listed}
 use Rattle.job_plan.specs.Plans.{Plan, slot, slots, words_in, words, place}
 use Rattle.job_plan.specs.Messages.{slot_messages}
-use Rattle.job_plan.specs.Numbers.{deals}
 use Rattle.job_plan.specs.Tallies.{tape_length}
 
 -- how many messages stand in slot k of session s
@@ -46,11 +45,3 @@ pub record PlacesByWords (plan : Plan) (p : ℕ) : Type 0 where
   pub next_slot : (s k : ℕ) → place plan p s (k + 1) ≡ place plan p s k + words_in plan s p (slot plan s k)
   pub next_session : (s : ℕ) → place plan p (s + 1) 0 ≡ place plan p s (slots plan s)
   pub end : place plan p (length plan.sessions) 0 ≡ tape_length plan p
-
--- how many deals p makes before each session, and at the end in all
-abbrev pub deal_starts : Plan → ℕ → List ℕ
-deal_starts plan p = listed (length plan.sessions + 1) (λ s. total s (deals plan p))
-
--- so for each party
-abbrev pub deal_starts_of : Plan → List (List ℕ)
-deal_starts_of plan = listed plan.parties (deal_starts plan)

@@ -3,8 +3,8 @@ use Rattle.std.specs.Prelude.{ℕ, ◌&&◌, not, nat_eq, List, [], ◌∷◌, l
 use Rattle.list_laws.specs.Lists.{joined, only_if}
 use Rattle.job_plan.specs.declared.key.Key.{Key}
 use Rattle.job_session.specs.Sessions.{Slot}
-use Rattle.job_plan.specs.Plans.{Plan, holds, least_holder, deals_in, session, slot, slots, opens_to, giver}
-use Rattle.job_session.specs.Sessions.Slot.{Input, At_gate, Output}
+use Rattle.job_plan.specs.Plans.{Plan, holds, least_holder, deals_in, slot, slots, opens_to, giver}
+use Rattle.job_session.specs.Sessions.Slot.{Input, At_gate, Output, Mask, Mask_product, Masked}
 
 -- summand i of a deal of p, to party q: a message where q is another party that holds it
 abbrev pub deal_message : Plan → ℕ → ℕ → ℕ → ℕ → ℕ → List Key
@@ -22,13 +22,25 @@ open_messages plan s k r =
     joined (length plan.groups) (λ i. only_if (not (holds plan r i))
     (record { session = s; slot = k; share = i; sender = least_holder plan i; receiver = r } ∷ []))
 
--- an input is dealt by its owner, a product by each party that has a pair, and an output is opened to each reader
+-- a deal by each party that deals in the slot
+abbrev pub product_messages : Plan → ℕ → ℕ → Slot → List Key
+product_messages plan s k z = joined plan.parties (λ p. only_if (deals_in plan s p z) (deal_messages plan s k p))
+
+-- a mask: each summand from its least holder to each other party that holds it
+abbrev pub mask_messages : Plan → ℕ → ℕ → List Key
+mask_messages plan s k =
+    joined (length plan.groups) (λ i. joined plan.parties (deal_message plan s k (least_holder plan i) i))
+
+-- an input is dealt by its owner, a product by each party that has a pair, an output is opened to each reader, and a
+-- masked wire to all
 abbrev pub slot_messages : Plan → ℕ → ℕ → Slot → List Key
 slot_messages plan s k (Input v) = deal_messages plan s k (giver plan s v)
-slot_messages plan s k (At_gate t) =
-    joined plan.parties (λ p. only_if (deals_in plan s p (At_gate t)) (deal_messages plan s k p))
+slot_messages plan s k (At_gate t) = product_messages plan s k (At_gate t)
 slot_messages plan s k (Output o) =
     joined plan.parties (λ r. only_if (opens_to plan s r (Output o)) (open_messages plan s k r))
+slot_messages plan s k (Mask t side) = mask_messages plan s k
+slot_messages plan s k (Mask_product t) = product_messages plan s k (Mask_product t)
+slot_messages plan s k (Masked t side) = joined plan.parties (open_messages plan s k)
 
 -- the messages of session s, slot by slot
 abbrev pub session_messages : Plan → ℕ → List Key

@@ -1,6 +1,6 @@
 -- The plan of one product: three parties of which any two are qualified, the inputs of a and b, and c reads the
 -- product.
-use Rattle.std.specs.Prelude.{ℕ, [], ◌∷◌}
+use Rattle.std.specs.Prelude.{ℕ, false, [], ◌∷◌}
 use Rattle.circuit_model.specs.declared.gate.Operation.TheVariants.{Mul}
 use Rattle.party_set.specs.Parties.{Structure}
 use Rattle.job_session.specs.Sessions.{Session}
@@ -17,6 +17,7 @@ multiply_session = record {
   wires = 3;
   inputs = record { width = 1; owner = 0 } ∷ record { width = 1; owner = 1 } ∷ [];
   outputs = record { width = 1; readers = record { parties = 3; mask = 4 } } ∷ [];
+  prepared = false;
 }
 
 -- in the ring of so many bits

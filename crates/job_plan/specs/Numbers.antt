@@ -1,11 +1,14 @@
 -- The numbers of messages, and the places of tape words.
-use Rattle.std.specs.Prelude.{◌≡◌, ℕ, ◌+◌, ◌-◌, ◌*◌, ◌<◌, Bool, ◌&&◌, nat_eq, List, length, slice_index_or, if◌then◌else◌}
+use Rattle.std.specs.Prelude.{◌≡◌, ◌≢◌, ℕ, ◌+◌, ◌*◌, ◌<◌, Bool, true, false, ◌&&◌, nat_eq, nat_le, List, length, slice_index_or, if◌then◌else◌}
 use Rattle.std.specs.List.{position_or_len}
 use Rattle.list_laws.specs.Lists.{total}
-use Rattle.job_plan.specs.Plans.{Plan, slot, slots, words_in, words, place, deals_in}
+use Rattle.job_session.specs.declared.side.Side.{Side}
+use Rattle.job_session.specs.Sessions.{Slot}
+use Rattle.job_session.specs.Sessions.Slot.{Mask}
+use Rattle.job_plan.specs.Plans.{Plan, slot, slots, least_holder, least_held, words_in, place, deals_in}
 use Rattle.job_plan.specs.declared.key.Key.{Key}
 use Rattle.job_plan.specs.declared.pattern.LineOrder.{LineOrder}
-use Rattle.job_plan.specs.declared.pattern.LineOrder.TheVariants.{BySender, ByReceiver}
+use Rattle.job_plan.specs.declared.pattern.LineOrder.TheVariants.{BySender, BySummand, ByReceiver}
 use Rattle.job_plan.specs.Messages.{messages}
 
 -- two keys name the same message
@@ -26,9 +29,11 @@ message plan n = slice_index_or (messages plan) n no_key
 abbrev pub number : Plan → Key → ℕ
 number plan key = position_or_len (same_key key) (messages plan)
 
--- what rises along messages that stand in this order: by sender, summand and receiver, or by receiver and summand
+-- what rises along messages that stand in this order: by sender, summand and receiver, by summand and receiver, or by
+-- receiver and summand
 abbrev pub rank : LineOrder → Key → ℕ
 rank BySender key = (key.sender * 64 + key.share) * 12 + key.receiver
+rank BySummand key = key.share * 12 + key.receiver
 rank ByReceiver key = key.receiver * 64 + key.share
 
 -- f rises along the keys
@@ -59,12 +64,38 @@ deals_before plan p s k = total k (λ j. if deals_in plan s p (slot plan s j) th
 abbrev pub deals : Plan → ℕ → ℕ → ℕ
 deals plan p s = deals_before plan p s (slots plan s)
 
--- the place on p's tape of the first word of deal d of session s, behind the words of the sessions before and those of
--- the deals before it
-abbrev pub deal_place : Plan → ℕ → ℕ → ℕ → ℕ
-deal_place plan p s d = total s (words plan p) + (length plan.groups - 1) * d
+-- the slot of deal d of p in session s: as many slots stand before it as there are with at most d deals up to and with
+-- them; past the last deal, the count of slots
+abbrev pub deal_slot : Plan → ℕ → ℕ → ℕ → ℕ
+deal_slot plan p s d = total (slots plan s) (λ k. if nat_le (deals_before plan p s (k + 1)) d then 1 else 0)
 
--- all words are drawn for deals, so that places follow from the number of deals before them
-abbrev pub PlacesByDeals : Plan → ℕ → Type 0
-PlacesByDeals plan p =
-    (s k : ℕ) → place plan p s k ≡ (length plan.groups - 1) * (total s (deals plan p) + deals_before plan p s k)
+-- the place on p's tape of the first word of deal d of session s, behind all words that it draws before
+abbrev pub deal_place : Plan → ℕ → ℕ → ℕ → ℕ
+deal_place plan p s d = place plan p s (deal_slot plan p s d)
+
+-- the slots in which p deals are those of its deals, in order
+abbrev pub DealsHaveSlots : Plan → ℕ → Type 0
+DealsHaveSlots plan p =
+    (s k : ℕ) → k < slots plan s → deals_in plan s p (slot plan s k) ≡ true
+    → deal_slot plan p s (deals_before plan p s k) ≡ k
+
+-- a slot of the mask of a wire
+abbrev pub is_mask : Slot → Bool
+is_mask (Mask t side) = true
+is_mask _ = false
+
+-- how many masks stand before slot k of session s
+abbrev pub masks_before : Plan → ℕ → ℕ → ℕ
+masks_before plan s k = total k (λ j. if is_mask (slot plan s j) then 1 else 0)
+
+-- party p draws summand i of the mask in slot k of session s
+pub record DrawsSummand (plan : Plan) (p s k i : ℕ) : Type 0 where
+  pub mask : is_mask (slot plan s k) ≡ true
+  pub drawer : least_holder plan i ≡ p
+
+-- each summand of a mask is one of the words that its least holder draws in the slot, and no two are the same word
+pub record MasksHaveWords (plan : Plan) : Type 0 where
+  pub within : (s t i : ℕ) (side : Side) → i < length plan.groups
+      → least_held plan (least_holder plan i) i < words_in plan s (least_holder plan i) (Mask t side)
+  pub apart : (i j : ℕ) → least_holder plan i ≡ least_holder plan j → i ≢ j
+      → least_held plan (least_holder plan i) i ≢ least_held plan (least_holder plan j) j

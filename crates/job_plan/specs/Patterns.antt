@@ -1,18 +1,17 @@
 -- The patterns of slots: how the messages of a slot go, which depends on its kind alone.
 use Rattle.std.specs.Prelude.{◌≡◌, ℕ, ◌<◌, ◌&&◌, not, nat_eq, if◌then◌else◌, List, [], ◌∷◌, map, length, slice_index}
 use Rattle.list_laws.specs.Lists.{joined, only_if}
-use Rattle.circuit_model.specs.Circuits.{is_product}
 use Rattle.secret_sharing.specs.Schemes.{has_pair}
 use Rattle.party_set.specs.Parties.{has_party}
 use Rattle.job_plan.specs.declared.key.Key.{Key}
 use Rattle.job_plan.specs.declared.pattern.Line.{Line}
 use Rattle.job_plan.specs.declared.pattern.LineOrder.{LineOrder}
-use Rattle.job_plan.specs.declared.pattern.LineOrder.TheVariants.{BySender, ByReceiver}
+use Rattle.job_plan.specs.declared.pattern.LineOrder.TheVariants.{BySender, BySummand, ByReceiver}
 use Rattle.job_plan.specs.declared.pattern.Pattern.{Pattern}
-use Rattle.job_plan.specs.declared.pattern.Pattern.TheVariants.{Silent, Dealt, Multiplied, Opened}
-use Rattle.job_session.specs.Sessions.{Slot, readers, gate}
+use Rattle.job_plan.specs.declared.pattern.Pattern.TheVariants.{Silent, Dealt, Multiplied, Opened, HandedOut, OpenedToAll, Joined}
+use Rattle.job_session.specs.Sessions.{Slot, readers, is_direct, is_prepared}
 use Rattle.job_plan.specs.Plans.{Plan, holds, least_holder, scheme, session, slot, giver}
-use Rattle.job_session.specs.Sessions.Slot.{Input, At_gate, Output}
+use Rattle.job_session.specs.Sessions.Slot.{Input, At_gate, Output, Mask, Mask_product, Masked}
 use Rattle.job_plan.specs.Messages.{slot_messages}
 
 -- the message of a line, in slot k of session s
@@ -36,27 +35,40 @@ open_lines plan r =
     joined (length plan.groups) (λ i. only_if (not (holds plan r i))
     (record { share = i; sender = least_holder plan i; receiver = r } ∷ []))
 
--- the lines of a pattern, in order: of a product each party that has a pair deals, an output is opened to each reader
+-- the lines of a pattern, in order: of a product each party that has a pair deals, an output is opened to each reader,
+-- and the summands of a mask are handed out by their least holders
 abbrev pub lines : Plan → Pattern → List Line
 lines plan Silent = []
 lines plan (Dealt p) = deal_lines plan p
 lines plan Multiplied = joined plan.parties (λ p. only_if (has_pair (scheme plan) p) (deal_lines plan p))
 lines plan (Opened readers) = joined plan.parties (λ r. only_if (has_party readers r) (open_lines plan r))
+lines plan HandedOut =
+    joined (length plan.groups) (λ i. joined plan.parties (deal_line plan (least_holder plan i) i))
+lines plan OpenedToAll = joined plan.parties (open_lines plan)
+lines plan Joined = []
 
--- the order in which the lines of a pattern stand: openings by their receivers, all others by their senders
+-- the order in which the lines of a pattern stand: openings by their receivers, masks by their summands, all others by
+-- their senders
 abbrev pub order_of : Pattern → LineOrder
 order_of Silent = BySender
 order_of (Dealt p) = BySender
 order_of Multiplied = BySender
 order_of (Opened readers) = ByReceiver
+order_of HandedOut = BySummand
+order_of OpenedToAll = ByReceiver
+order_of Joined = BySender
 
 -- ---- the pattern of a slot
 
 -- how the messages of this slot of session s go
 abbrev pub pattern : Plan → ℕ → Slot → Pattern
 pattern plan s (Input v) = Dealt (giver plan s v)
-pattern plan s (At_gate t) = if is_product (gate (session plan s) t).operation then Multiplied else Silent
+pattern plan s (At_gate t) =
+    if is_direct (session plan s) t then Multiplied else if is_prepared (session plan s) t then Joined else Silent
 pattern plan s (Output o) = Opened (slice_index (readers (session plan s)) o)
+pattern plan s (Mask t side) = HandedOut
+pattern plan s (Mask_product t) = Multiplied
+pattern plan s (Masked t side) = OpenedToAll
 
 -- the pattern of slot k of session s
 abbrev pub pattern_at : Plan → ℕ → ℕ → Pattern
@@ -70,12 +82,11 @@ pub record IsReadBy (plan : Plan) (mask : ℕ) : Type 0 where
   pub output_there : output < length (readers (session plan at))
   pub is : mask ≡ slice_index (readers (session plan at)) output
 
--- a pattern that slots of the plan may have: a deal of a party, a product, or an opening to the readers of an output
+-- a pattern that slots of the plan may have: a deal is of a party, an opening to the readers of an output
 abbrev pub Occurs : Plan → Pattern → Type 0
-Occurs plan Silent = Unit {0}
 Occurs plan (Dealt p) = p < plan.parties
-Occurs plan Multiplied = Unit {0}
 Occurs plan (Opened mask) = IsReadBy plan mask
+Occurs plan _ = Unit {0}
 
 -- the messages of a slot are the lines of its pattern, named by the slot
 abbrev pub SlotsFollowPatterns : Plan → Type 0

@@ -1,12 +1,11 @@
 -- Plans: parties, maximal groups and sessions; and what a party deals in the slots of a session.
-use Rattle.std.specs.Prelude.{◌≡◌, ℕ, ◌+◌, ◌-◌, ◌<◌, Bool, false, ◌&&◌, nat_eq, if◌then◌else◌, List, ◌++◌, length, slice_index, slice_index_or}
-use Rattle.list_laws.specs.Lists.{total, listed}
-use Rattle.circuit_model.specs.Circuits.{is_product}
+use Rattle.std.specs.Prelude.{ℕ, ◌+◌, ◌-◌, ◌<◌, Bool, true, false, ◌&&◌, nat_eq, if◌then◌else◌, List, length, slice_index, slice_index_or}
+use Rattle.list_laws.specs.Lists.{total}
 use Rattle.secret_sharing.specs.Schemes.{Scheme, has_pair}
 use Rattle.party_set.specs.Parties.{Structure, IsQ2, has_party}
-use Rattle.job_session.specs.Sessions.{Session, Slot, owners, readers, gate, no_session, session_slot, session_slots}
-use Rattle.job_session.specs.Sessions.Slot.{Input, At_gate, Output}
-use Rattle.job_session.specs.SoundSessions.{Inside}
+use Rattle.job_session.specs.Sessions.{Session, Slot, owners, readers, is_direct, no_session, session_slot, session_slots}
+use Rattle.job_session.specs.Sessions.Slot.{Input, At_gate, Output, Mask, Mask_product, Masked}
+use Rattle.job_session.specs.SlotNumbers.{session_slot_number}
 use Rattle.share_layout.specs.Layouts as layout
 use Rattle.product_duty.specs.Duties as duties
 
@@ -52,6 +51,10 @@ scheme plan = duties.scheme_of plan.bits (structure plan)
 abbrev pub Q2 : Plan → Type 0
 Q2 plan = IsQ2 (structure plan)
 
+-- session s of a plan
+abbrev pub session : Plan → ℕ → Session
+session plan s = slice_index_or plan.sessions s no_session
+
 -- values can be shared, and products computed
 pub record IsPlan (plan : Plan) : Type 0 where
   pub bits : 0 < plan.bits
@@ -59,10 +62,6 @@ pub record IsPlan (plan : Plan) : Type 0 where
   pub q2 : Q2 plan
 
 -- ---- sessions and their slots
-
--- session s of a plan
-abbrev pub session : Plan → ℕ → Session
-session plan s = slice_index_or plan.sessions s no_session
 
 -- slot k of session s of a plan
 abbrev pub slot : Plan → ℕ → ℕ → Slot
@@ -72,29 +71,9 @@ slot plan s k = session_slot (session plan s) k
 abbrev pub slots : Plan → ℕ → ℕ
 slots plan s = session_slots (session plan s)
 
--- the slots of session s by their kinds, in their order
-abbrev pub slot_list : Plan → ℕ → List Slot
-slot_list plan s =
-    listed (length (owners (session plan s))) (λ v. Input v)
-    ++ listed (length (session plan s).gates) (λ t. At_gate t)
-    ++ listed (length (readers (session plan s))) (λ o. Output o)
-
 -- the number of a slot of session s
 abbrev pub slot_number : Plan → ℕ → Slot → ℕ
-slot_number plan s (Input v) = v
-slot_number plan s (At_gate t) = length (owners (session plan s)) + t
-slot_number plan s (Output o) = length (owners (session plan s)) + length (session plan s).gates + o
-
--- the slots of session s, one after another, are its list
-abbrev pub SlotsAreListed : Plan → ℕ → Type 0
-SlotsAreListed plan s = listed (slots plan s) (slot plan s) ≡ slot_list plan s
-
--- each slot stands at its number, and each number below the count of slots is one slot's
-pub record SlotsAreNumbered (plan : Plan) (s : ℕ) : Type 0 where
-  pub inside : (k : ℕ) → k < slots plan s → Inside (session plan s) (slot plan s k)
-  pub number : (k : ℕ) → k < slots plan s → slot_number plan s (slot plan s k) ≡ k
-  pub there : (kind : Slot) → Inside (session plan s) kind
-      → (slot_number plan s kind < slots plan s) × (slot plan s (slot_number plan s kind) ≡ kind)
+slot_number plan s z = session_slot_number (session plan s) z
 
 -- ---- what is done in a slot of session s
 
@@ -114,17 +93,18 @@ given_before plan p s v = total v (λ u. if gives plan s p u then 1 else 0)
 abbrev pub input_count : Plan → ℕ → ℕ → ℕ
 input_count plan p s = given_before plan p s (length (owners (session plan s)))
 
--- party p deals: an input of its own, or its part of a product
+-- party p deals: an input of its own, or its part of a product, which of a prepared one is the product of its masks
 abbrev pub deals_in : Plan → ℕ → ℕ → Slot → Bool
 deals_in plan s p (Input v) = gives plan s p v
-deals_in plan s p (At_gate t) = is_product (gate (session plan s) t).operation && has_pair (scheme plan) p
-deals_in plan s p (Output o) = false
+deals_in plan s p (At_gate t) = is_direct (session plan s) t && has_pair (scheme plan) p
+deals_in plan s p (Mask_product t) = has_pair (scheme plan) p
+deals_in plan s p _ = false
 
--- something is opened to party r: an output that it reads
+-- something is opened to party r: an output that it reads, or, to each party, a masked wire
 abbrev pub opens_to : Plan → ℕ → ℕ → Slot → Bool
-opens_to plan s r (Input v) = false
-opens_to plan s r (At_gate t) = false
 opens_to plan s r (Output o) = has_party (slice_index (readers (session plan s)) o) r
+opens_to plan s r (Masked t side) = true
+opens_to plan s r _ = false
 
 -- party p reads output wire o of session s
 abbrev pub reads : Plan → ℕ → ℕ → ℕ → Bool
@@ -132,9 +112,15 @@ reads plan p s o = opens_to plan s p (Output o)
 
 -- ---- tape words
 
--- how many tape words p draws in this slot
+-- of how many of the first i summands party p is the least holder
+abbrev pub least_held : Plan → ℕ → ℕ → ℕ
+least_held plan p i = total i (λ j. if nat_eq (least_holder plan j) p then 1 else 0)
+
+-- how many tape words p draws in this slot: of a mask one for each summand of which it is the least holder, and for a
+-- deal one less than there are summands
 abbrev pub words_in : Plan → ℕ → ℕ → Slot → ℕ
-words_in plan s p k = if deals_in plan s p k then length plan.groups - 1 else 0
+words_in plan s p (Mask t side) = least_held plan p (length plan.groups)
+words_in plan s p z = if deals_in plan s p z then length plan.groups - 1 else 0
 
 -- how many p draws in session s before slot k
 abbrev pub words_before : Plan → ℕ → ℕ → ℕ → ℕ
@@ -147,3 +133,7 @@ words plan p s = words_before plan p s (slots plan s)
 -- the place on p's tape of the first word that it draws in slot k of session s
 abbrev pub place : Plan → ℕ → ℕ → ℕ → ℕ
 place plan p s k = total s (words plan p) + words_before plan p s k
+
+-- the place of summand i of the mask in slot k, on the tape of its least holder
+abbrev pub random_place : Plan → ℕ → ℕ → ℕ → ℕ
+random_place plan s k i = place plan (least_holder plan i) s k + least_held plan (least_holder plan i) i

@@ -6,7 +6,7 @@ use Rattle.job_session.specs.SoundSessions.{IsSoundSession}
 use Rattle.job_plan.specs.declared.patterns.Patterns.{Patterns}
 use Rattle.job_plan.specs.Messages.{messages}
 use Rattle.job_plan.specs.Tables.{AreLines}
-use Rattle.job_plan.specs.Firsts.{starts_of, word_starts_of, deal_starts_of}
+use Rattle.job_plan.specs.Firsts.{starts_of, word_starts_of}
 
 -- a sharing in which products can be computed, and all is within the limits but for the messages and the tape words
 pub record IsOutline (plan : Plan) : Type 0 where
@@ -36,11 +36,10 @@ pub record IsSound (plan : Plan) : Type 0 where
   pub sessions : (s : ℕ) → s < length plan.sessions → IsSoundSession plan.parties (session plan s)
 
 -- a plan's tables: how many messages there are, the lines of its patterns, where the messages of each slot begin, and
--- each party's words and deals before each session
-pub record IsLaid (plan : Plan) (count : ℕ) (patterns : Patterns) (starts words deals : List (List ℕ)) : Type 0 where
+-- each party's words before each session
+pub record IsLaid (plan : Plan) (count : ℕ) (patterns : Patterns) (starts words : List (List ℕ)) : Type 0 where
   pub sound : IsSound plan
   pub counted : count ≡ length (messages plan)
   pub lines : AreLines plan patterns
   pub begin : starts ≡ starts_of plan
   pub drawn : words ≡ word_starts_of plan
-  pub dealt : deals ≡ deal_starts_of plan

@@ -1,11 +1,11 @@
 //! How many messages and tape words a plan has, found without making a list of them.
-ghost use Rattle.std.specs.Prelude.{◌≡◌, ℕ, ◌^◌, ◌<◌, ◌≤◌, ◌&&◌, nat_eq, not, length};
+ghost use Rattle.std.specs.Prelude.{◌≡◌, ℕ, ◌*◌, ◌^◌, ◌<◌, ◌≤◌, ◌&&◌, nat_eq, not, length};
 ghost use Rattle.list_laws.specs.Lists.{total, joined};
-ghost use Rattle.job_plan.specs.Plans.{holds, session, words};
-ghost use Rattle.job_plan.specs.Messages.{deal_message, deal_messages, open_messages, messages};
+ghost use Rattle.job_plan.specs.Plans.{holds, session, least_held, words};
+ghost use Rattle.job_plan.specs.Messages.{deal_message, deal_messages, open_messages, mask_messages, messages};
 ghost use Rattle.job_plan.specs.Numbers.{deals};
-ghost use Rattle.job_session.specs.Counts.{outputs_read};
-ghost use Rattle.job_plan.specs.Tallies.{party_messages, tape_length};
+ghost use Rattle.job_session.specs.Counts.{prepared_products};
+ghost use Rattle.job_plan.specs.Tallies.{openings, party_messages, masks_messages, tape_length};
 
 use crate::outline::Outline;
 
@@ -56,6 +56,44 @@ fn opening_size(outline: &Outline, r: u32) -> u32
     count
 }
 
+// How many messages a mask has.
+fn mask_size(outline: &Outline) -> u32
+    ensures is { (s k : ℕ) → result ≡ length (mask_messages outline.now s k) }
+    ensures few { result ≤ 768 }
+{
+    let mut count = 0;
+    for i in 0..outline.shares() {
+        count += receivers(outline, outline.least_holder(i), i);
+    }
+    count
+}
+
+/// Of how many of the first `end` summands party `p` is the least holder.
+pub(crate) fn least_held(outline: &Outline, p: u32, end: u32) -> u32
+    requires { end ≤ length outline.now.groups }
+    ensures is { result ≡ least_held outline.now p end }
+    ensures few { result ≤ end }
+{
+    let mut count = 0;
+    for i in 0..end {
+        count += u32::from(outline.least_holder(i) == p);
+    }
+    count
+}
+
+/// How many prepared products session `s` has.
+pub(crate) fn prepared_products(outline: &Outline, s: u32) -> u32
+    requires { s < length outline.now.sessions }
+    ensures is { result ≡ prepared_products (session outline.now s) }
+    ensures few { result ≤ 65536 }
+{
+    if outline.prepared(s) {
+        outline.part(s).products() as u32
+    } else {
+        0
+    }
+}
+
 /// How many deals party `p` makes in session `s`.
 pub(crate) fn deal_count(outline: &Outline, p: u32, s: u32) -> u32
     requires party { p < outline.now.parties }
@@ -77,9 +115,11 @@ pub(crate) fn session_words(outline: &Outline, p: u32, s: u32) -> u32
     requires party { p < outline.now.parties }
     requires session { s < length outline.now.sessions }
     ensures is { result ≡ words outline.now p s }
-    ensures few { result ≤ 12386304 }
+    ensures few { result ≤ 20774912 }
 {
-    (outline.shares() - 1) * deal_count(outline, p, s)
+    let for_deals = (outline.shares() - 1) * deal_count(outline, p, s);
+    let held = least_held(outline, p, outline.shares());
+    for_deals + held * (2 * prepared_products(outline, s))
 }
 
 // How many deals p makes in all sessions.
@@ -95,15 +135,39 @@ fn all_deals(outline: &Outline, p: u32) -> u64
     count
 }
 
-// How many output wires r reads in all sessions.
-fn all_reads(outline: &Outline, r: u32) -> u64
+// How many openings there are to r in session s.
+fn opening_count(outline: &Outline, r: u32, s: u32) -> u32
+    requires party { r < outline.now.parties }
+    requires session { s < length outline.now.sessions }
+    ensures is { result ≡ openings outline.now r s }
+    ensures few { result ≤ 262144 }
+{
+    let _parties = outline.parties();
+    outline.part(s).outputs_read(r) as u32 + 2 * prepared_products(outline, s)
+}
+
+// How many openings there are to r in all sessions.
+fn all_openings(outline: &Outline, r: u32) -> u64
     requires { r < outline.now.parties }
-    ensures is { result ≡ total (length outline.now.sessions) (λ s. outputs_read (session outline.now s) r) }
+    ensures is { result ≡ total (length outline.now.sessions) (openings outline.now r) }
+    ensures few { result ≤ 4194304 }
+{
+    let mut count = 0;
+    for s in 0..outline.sessions() {
+        count += u64::from(opening_count(outline, r, s));
+    }
+    count
+}
+
+// How many masks there are in all sessions.
+fn all_masks(outline: &Outline) -> u64
+    ensures is { result ≡ total (length outline.now.sessions)
+        (λ s. 2 * prepared_products (session outline.now s)) }
     ensures few { result ≤ 2097152 }
 {
     let mut count = 0;
     for s in 0..outline.sessions() {
-        count += outline.part(s).outputs_read(r) as u64;
+        count += u64::from(2 * prepared_products(outline, s));
     }
     count
 }
@@ -115,7 +179,15 @@ fn party_message_count(outline: &Outline, p: u32) -> u64
     ensures few { result < 2 ^ 32 }
 {
     u64::from(deal_size(outline, p)) * all_deals(outline, p)
-        + u64::from(opening_size(outline, p)) * all_reads(outline, p)
+        + u64::from(opening_size(outline, p)) * all_openings(outline, p)
+}
+
+// How many messages the masks have in all sessions.
+fn mask_message_count(outline: &Outline) -> u64
+    ensures is { result ≡ masks_messages outline.now }
+    ensures few { result < 2 ^ 32 }
+{
+    u64::from(mask_size(outline)) * all_masks(outline)
 }
 
 /// How many messages there are in all sessions.
@@ -126,7 +198,7 @@ pub(crate) fn message_count(outline: &Outline) -> u64
     for p in 0..outline.parties() {
         count += party_message_count(outline, p);
     }
-    count
+    count + mask_message_count(outline)
 }
 
 /// How many tape words party `p` draws in all sessions.

@@ -16,12 +16,9 @@ mod ranks;
 mod starts;
 
 pub use inputs::Inputs;
-pub use job_session::{InputValue, OutputValue, RowTable, SessionPart, SlotKind};
+pub use job_session::{InputValue, OutputValue, RowTable, SessionPart, Side, SlotKind};
 pub use key::Key;
-pub use laws::{
-    numbers_are_inverse, places_are_apart, slots_are_listed, slots_follow_patterns,
-    words_are_drawn_for_deals,
-};
+pub use laws::{deals_have_slots, numbers_are_inverse, places_are_apart, slots_follow_patterns};
 pub use pattern::{Line, Pattern};
 pub use plan::Plan;
 pub use plan_faults::{PartFault, PlanFault};

@@ -1,11 +1,11 @@
-//! Lists where the messages of each slot begin, and each party's words and deals.
+//! Lists where the messages of each slot begin, and each party's words.
 ghost use Rattle.std.specs.Prelude.{◌≡◌, ◌<◌, ◌≤◌, IfOk, length};
 ghost use Rattle.job_plan.specs.Messages.{messages};
 ghost use Rattle.job_plan.specs.Firsts.{first, session_starts, starts_of};
-ghost use Rattle.job_plan.specs.Firsts.{word_starts, word_starts_of, deal_starts, deal_starts_of};
+ghost use Rattle.job_plan.specs.Firsts.{word_starts, word_starts_of};
 ghost use Rattle.job_plan.specs.Tables.{AreLines};
 
-use crate::counts::{deal_count, session_words};
+use crate::counts::session_words;
 use crate::outline::Outline;
 use crate::patterns::Patterns;
 use crate::starts::Starts;
@@ -78,32 +78,6 @@ pub(crate) fn list_words(alloc: Global, outline: &Outline) -> Result<Vec<Starts>
     let mut list = Vec::new(alloc);
     for p in 0..outline.parties() {
         list.push(list_words_of(alloc, outline, p)?)?;
-    }
-    Ok(list)
-}
-
-// How many deals p makes in the sessions before each, and at the end in all.
-fn list_deals_of(alloc: Global, outline: &Outline, p: u32) -> Result<Starts, AllocError>
-    requires { p < outline.now.parties }
-    ensures { IfOk result (λ made. made ≡ deal_starts outline.now p) }
-{
-    let mut starts = Vec::new(alloc);
-    let mut count = 0;
-    for s in 0..outline.sessions() {
-        starts.push(count)?;
-        count += deal_count(outline, p, s);
-    }
-    starts.push(count)?;
-    Ok(Starts::of(starts))
-}
-
-/// For each party, how many deals it makes in the sessions before each, and at the end in all.
-pub(crate) fn list_deals(alloc: Global, outline: &Outline) -> Result<Vec<Starts>, AllocError>
-    ensures { IfOk result (λ made. made.items ≡ deal_starts_of outline.now) }
-{
-    let mut list = Vec::new(alloc);
-    for p in 0..outline.parties() {
-        list.push(list_deals_of(alloc, outline, p)?)?;
     }
     Ok(list)
 }

@@ -32,8 +32,10 @@ impl Model for Outline {
 impl Outline {
     ghost use Rattle.std.specs.Prelude.{◌≡◌, ◌<◌, ◌≤◌, All, length};
     ghost use Rattle.secret_sharing.specs.Schemes.{has_pair};
-    ghost use Rattle.job_plan.specs.Plans.{structure, scheme, session, slots, plan_of, holds, least_holder};
-    ghost use Rattle.job_plan.specs.Patterns.{pattern_at, Occurs};
+    ghost use Rattle.job_plan.specs.Plans.{structure, scheme, session, slot, slots, plan_of, holds, least_holder};
+    ghost use Rattle.job_plan.specs.Numbers.{is_mask};
+    ghost use Rattle.job_session.specs.Sessions.Slot.{At_gate};
+    ghost use Rattle.job_plan.specs.Patterns.{pattern, pattern_at, Occurs};
     ghost use Rattle.job_session.specs.SoundSessions.{IsSoundSession};
     ghost use Rattle.job_plan.specs.Sound.{IsOutline};
 
@@ -105,6 +107,14 @@ impl Outline {
         &self.parts[s as usize]
     }
 
+    /// Whether the products of session `s` are prepared.
+    pub(crate) fn prepared(&self, s: u32) -> bool
+        requires { s < length self.now.sessions }
+        ensures { result ≡ (session self.now s).prepared }
+    {
+        self.part(s).is_prepared()
+    }
+
     /// Whether party `p` deals at a product.
     pub(crate) fn multiplies(&self, p: u32) -> bool
         requires { p < self.now.parties }
@@ -131,6 +141,15 @@ impl Outline {
         self.layout.least_holder(i)
     }
 
+    /// Whether slot `k` of session `s` is of a mask.
+    pub(crate) fn is_mask(&self, s: u32, k: u32) -> bool
+        requires session { s < length self.now.sessions }
+        requires slot { k < slots self.now s }
+        ensures { result ≡ is_mask (slot self.now s k) }
+    {
+        matches!(self.part(s).slot_kind(k), SlotKind::Mask(_, _))
+    }
+
     /// How the messages of slot `k` of session `s` go.
     pub(crate) fn pattern(&self, s: u32, k: u32) -> Pattern
         requires session { s < length self.now.sessions }
@@ -141,14 +160,26 @@ impl Outline {
         let part = self.part(s);
         match part.slot_kind(k) {
             SlotKind::Input(v) => Pattern::Dealt(part.wire_owner(v)),
-            SlotKind::Gate(t) => {
-                if part.gate(t).operation.is_product() {
-                    Pattern::Multiplied
-                } else {
-                    Pattern::Silent
-                }
-            }
+            SlotKind::Gate(t) => self.gate_pattern(s, t),
             SlotKind::Output(o) => Pattern::Opened(part.wire_readers(o)),
+            SlotKind::Mask(_, _) => Pattern::HandedOut,
+            SlotKind::MaskProduct(_) => Pattern::Multiplied,
+            SlotKind::Masked(_, _) => Pattern::OpenedToAll,
+        }
+    }
+
+    // How the messages of gate t of session s go.
+    fn gate_pattern(&self, s: u32, t: u32) -> Pattern
+        requires session { s < length self.now.sessions }
+        requires gate { t < length (session self.now s).gates }
+        ensures { result ≡ pattern self.now s (At_gate t) }
+    {
+        if !self.part(s).gate(t).operation.is_product() {
+            Pattern::Silent
+        } else if self.prepared(s) {
+            Pattern::Joined
+        } else {
+            Pattern::Multiplied
         }
     }
 }

@@ -39,6 +39,12 @@ pub enum Pattern {
     Multiplied,
     /// An output is opened to this group of readers, as a mask.
     Opened(u32),
+    /// The summands of a mask are handed out, each by its least holder.
+    HandedOut,
+    /// What is masked is opened to all parties.
+    OpenedToAll,
+    /// There are none: a prepared product is joined.
+    Joined,
 }
 
 impl Pattern {
@@ -50,8 +56,11 @@ impl Pattern {
         ensures { result ≡ order_of self }
     {
         match self {
-            Pattern::Silent | Pattern::Dealt(_) | Pattern::Multiplied => LineOrder::BySender,
-            Pattern::Opened(_) => LineOrder::ByReceiver,
+            Pattern::Silent | Pattern::Dealt(_) | Pattern::Multiplied | Pattern::Joined => {
+                LineOrder::BySender
+            }
+            Pattern::HandedOut => LineOrder::BySummand,
+            Pattern::Opened(_) | Pattern::OpenedToAll => LineOrder::ByReceiver,
         }
     }
 }
@@ -61,6 +70,8 @@ impl Pattern {
 pub(crate) enum LineOrder {
     /// By sender, then summand, then receiver.
     BySender,
+    /// By summand, then receiver.
+    BySummand,
     /// By receiver, then summand.
     ByReceiver,
 }

@@ -3,7 +3,7 @@ ghost use Rattle.std.specs.Prelude.{◌≡◌, ◌<◌, ◌++◌, OnOk, IfOk, le
 ghost use Rattle.list_laws.specs.Lists.{joined, listed, only_if};
 ghost use Rattle.secret_sharing.specs.Schemes.{has_pair};
 ghost use Rattle.party_set.specs.Parties.{has_party};
-ghost use Rattle.job_plan.specs.declared.pattern.Pattern.TheVariants.{Multiplied, Opened};
+ghost use Rattle.job_plan.specs.declared.pattern.Pattern.TheVariants.{Multiplied, Opened, HandedOut, OpenedToAll};
 ghost use Rattle.job_plan.specs.Plans.{scheme};
 ghost use Rattle.job_plan.specs.Patterns.{deal_line, deal_lines, open_lines, lines};
 
@@ -103,6 +103,28 @@ pub(crate) fn multiplied_lines(alloc: Global, outline: &Outline) -> Result<Lines
     let mut lines = Lines::new(alloc);
     for p in 0..outline.parties() {
         push_product_of(outline, p, &mut lines)?;
+    }
+    Ok(lines)
+}
+
+/// The lines of a mask.
+pub(crate) fn handed_out_lines(alloc: Global, outline: &Outline) -> Result<Lines, AllocError>
+    ensures { IfOk result (λ made. made ≡ lines outline.now HandedOut) }
+{
+    let mut lines = Lines::new(alloc);
+    for share in 0..outline.shares() {
+        push_summand(outline, outline.least_holder(share), share, &mut lines)?;
+    }
+    Ok(lines)
+}
+
+/// The lines of an opening to all parties.
+pub(crate) fn opened_to_all_lines(alloc: Global, outline: &Outline) -> Result<Lines, AllocError>
+    ensures { IfOk result (λ made. made ≡ lines outline.now OpenedToAll) }
+{
+    let mut lines = Lines::new(alloc);
+    for r in 0..outline.parties() {
+        push_opening(outline, r, &mut lines)?;
     }
     Ok(lines)
 }

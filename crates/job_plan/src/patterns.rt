@@ -9,15 +9,19 @@ ghost use Rattle.job_plan.specs.Tables.{AreOpenings, HasOpening};
 use crate::lines::Lines;
 use crate::outline::Outline;
 use crate::pattern::{Line, Pattern};
-use crate::pattern_lines::{dealt_lines, multiplied_lines, opened_lines};
+use crate::pattern_lines::{
+    dealt_lines, handed_out_lines, multiplied_lines, opened_lines, opened_to_all_lines,
+};
 use indexmap::IndexMap;
 use std::alloc::{AllocError, Global};
 
-/// The lines of each pattern that the slots of a plan may have: of a product, of a deal of each party, and of an
-/// opening to each group that reads an output.
+/// The lines of each pattern that the slots of a plan may have: of a product, of a mask, of an opening to all, of a
+/// deal of each party, and of an opening to each group that reads an output.
 #[derive(Drop)]
 pub(crate) struct Patterns {
     product: Lines,
+    handed_out: Lines,
+    opened_to_all: Lines,
     deals: Vec<Lines>,
     openings: IndexMap<u32, Lines>,
 }
@@ -33,10 +37,14 @@ impl Patterns {
         ensures { IfOk result (AreLines outline.now) }
     {
         let product = multiplied_lines(alloc, outline)?;
+        let handed_out = handed_out_lines(alloc, outline)?;
+        let opened_to_all = opened_to_all_lines(alloc, outline)?;
         let deals = deals_of_each(alloc, outline)?;
         let openings = openings_of_each(alloc, outline)?;
         Ok(Patterns {
             product,
+            handed_out,
+            opened_to_all,
             deals,
             openings,
         })
@@ -48,9 +56,11 @@ impl Patterns {
         ensures { (plan : Plan) → AreLines plan self.now → Occurs plan pattern → result.now ≡ lines plan pattern }
     {
         match pattern {
-            Pattern::Silent => &[],
+            Pattern::Silent | Pattern::Joined => &[],
             Pattern::Dealt(p) => self.deals[p as usize].as_slice(),
             Pattern::Multiplied => self.product.as_slice(),
+            Pattern::HandedOut => self.handed_out.as_slice(),
+            Pattern::OpenedToAll => self.opened_to_all.as_slice(),
             Pattern::Opened(readers) => self.opening(readers),
         }
     }

@@ -4,9 +4,9 @@ ghost use Rattle.job_plan.specs.Messages.{messages};
 ghost use Rattle.job_plan.specs.Sound.{IsLaid};
 ghost use Rattle.job_plan.specs.Limits.{IsPlanWithin, IsPlanRefusal};
 
-use crate::counts::{message_count, word_count};
+use crate::counts::{deal_count, least_held, message_count, prepared_products, word_count};
 use crate::key::Key;
-use crate::lists::{list_deals, list_starts, list_words};
+use crate::lists::{list_starts, list_words};
 use crate::outline::Outline;
 use crate::pattern::{Line, Pattern};
 use crate::patterns::Patterns;
@@ -31,7 +31,6 @@ pub struct Plan {
     patterns: Patterns,
     starts: Vec<Starts>,
     words: Vec<Starts>,
-    deals: Vec<Starts>,
 }
 
 impl Model for Plan {
@@ -42,19 +41,20 @@ impl Model for Plan {
 
     ghost view = { λ p. p.outline };
 
-    ghost invariant = { λ p. IsLaid p.outline p.count p.patterns p.starts.items p.words.items p.deals.items };
+    ghost invariant = { λ p. IsLaid p.outline p.count p.patterns p.starts.items p.words.items };
 }
 
 impl Plan {
-    ghost use Rattle.std.specs.Prelude.{◌≡◌, ℕ, ◌+◌, ◌<◌, ◌≤◌, All, IfOk, IfErr, OnOk, SomeIff, map, length};
+    ghost use Rattle.std.specs.Prelude.{◌≡◌, ℕ, ◌+◌, ◌-◌, ◌*◌, ◌<◌, ◌≤◌, true, if◌then◌else◌, map, length};
+    ghost use Rattle.std.specs.Prelude.{All, IfOk, IfErr, OnOk, SomeIff};
     ghost use Rattle.std.specs.Arc.{arc_value};
-    ghost use Rattle.list_laws.specs.Lists.{total};
     ghost use Rattle.job_session.specs.KeptWires.{IsRows, live};
-    ghost use Rattle.job_plan.specs.Plans.{plan_of, structure, scheme, session, slot, slots, words, place};
+    ghost use Rattle.job_plan.specs.Plans.{plan_of, structure, scheme, session, slot, slots, deals_in};
+    ghost use Rattle.job_plan.specs.Plans.{words, place, random_place, least_held};
     ghost use Rattle.secret_sharing.specs.Schemes.{has_pair};
     ghost use Rattle.job_plan.specs.Messages.{messages, slot_messages};
     ghost use Rattle.job_plan.specs.Patterns.{named, lines, pattern_at, Occurs};
-    ghost use Rattle.job_plan.specs.Numbers.{message, number, deals, deals_before, deal_place};
+    ghost use Rattle.job_plan.specs.Numbers.{message, number, deals, deals_before, deal_place, deal_slot, is_mask, masks_before, DrawsSummand};
     ghost use Rattle.job_session.specs.SoundSessions.{IsSoundSession};
     ghost use Rattle.job_plan.specs.Sound.{IsSound};
     ghost use Rattle.job_plan.specs.Firsts.{first};
@@ -83,7 +83,6 @@ impl Plan {
             patterns,
             starts,
             words,
-            deals,
         } = tables;
         Ok(Plan {
             outline,
@@ -91,7 +90,6 @@ impl Plan {
             patterns,
             starts,
             words,
-            deals,
         })
     }
 
@@ -170,6 +168,14 @@ impl Plan {
         ensures { result ≡ has_pair (scheme self.now) p }
     {
         self.outline.multiplies(p)
+    }
+
+    /// Of how many of the first `end` summands party `p` is the least holder. Of all, as many words as it draws for a mask.
+    pub fn least_held(&self, p: u32, end: u32) -> u32
+        requires { end ≤ length self.now.groups }
+        ensures { result ≡ least_held self.now p end }
+    {
+        least_held(&self.outline, p, end)
     }
 
     /// How many messages there are, over all sessions.
@@ -282,8 +288,7 @@ impl Plan {
         requires session { s < length self.now.sessions }
         ensures { result ≡ deals self.now p s }
     {
-        let before = self.deals_before(p, s);
-        self.deals_before(p, s + 1) - before
+        deal_count(&self.outline, p, s)
     }
 
     /// How many tape words party `p` draws in session `s`.
@@ -307,26 +312,92 @@ impl Plan {
         self.words[p as usize].at(s)
     }
 
-    /// The place on party `p`'s tape of the first word of deal `deal` of session `s`, behind the words of the sessions
-    /// and deals before it. At the count of its deals, the place behind them.
+    /// The place on party `p`'s tape of the first word of deal `deal` of session `s`, behind all words that it draws
+    /// before. At the count of its deals, the place behind them.
     pub fn tape_place(&self, p: u32, s: u32, deal: u32) -> u32
         requires party { p < self.now.parties }
         requires session { s < length self.now.sessions }
         requires deal { deal ≤ deals self.now p s }
         ensures is { result ≡ deal_place self.now p s deal }
-        ensures in_slot { (k : ℕ) → deal ≡ deals_before self.now p s k → result ≡ place self.now p s k }
+        ensures in_slot { (k : ℕ) → k < slots self.now s → deals_in self.now s p (slot self.now s k) ≡ true
+            → deal ≡ deals_before self.now p s k → result ≡ place self.now p s k }
     {
-        self.tape_start(p, s) + (self.shares() - 1) * deal
+        self.tape_start(p, s) + self.mask_words(p, s, deal) + (self.shares() - 1) * deal
     }
 
-    // How many deals p makes in the sessions before s.
-    fn deals_before(&self, p: u32, s: u32) -> u32
+    // How many words of masks `p` draws in session `s` before deal `deal`: those of all masks, but that its deals at
+    // prepared products stand each behind both masks of the product.
+    fn mask_words(&self, p: u32, s: u32, deal: u32) -> u32
         requires party { p < self.now.parties }
-        requires session { s ≤ length self.now.sessions }
-        ensures is { result ≡ total s (deals self.now p) }
+        requires session { s < length self.now.sessions }
+        requires deal { deal ≤ deals self.now p s }
+        ensures { result ≡ least_held self.now p (length self.now.groups) * masks_before self.now s (deal_slot self.now p s deal) }
+    {
+        let products = prepared_products(&self.outline, s);
+        if products == 0 {
+            return 0;
+        }
+        let behind = if self.multiplies(p) && deal < products {
+            deal + 1
+        } else {
+            products
+        };
+        least_held(&self.outline, p, self.shares()) * (2 * behind)
+    }
+
+    /// The place on party `p`'s tape of summand `i` of the mask in slot `k` of session `s`; None exactly where the slot
+    /// is no mask, or `p` doesn't draw the summand.
+    pub fn random_place(&self, p: u32, s: u32, k: u32, i: u32) -> Option<u32>
+        requires party { p < self.now.parties }
+        requires session { s < length self.now.sessions }
+        requires slot { k < slots self.now s }
+        requires summand { i < length self.now.groups }
+        ensures { SomeIff result (DrawsSummand self.now p s k i) (random_place self.now s k i) }
+    {
+        if self.outline.is_mask(s, k) && self.outline.least_holder(i) == p {
+            Some(self.summand_place(p, s, k, i))
+        } else {
+            None
+        }
+    }
+
+    // The place on p's tape of summand i of the mask in slot k, where p draws it.
+    fn summand_place(&self, p: u32, s: u32, k: u32, i: u32) -> u32
+        requires party { p < self.now.parties }
+        requires session { s < length self.now.sessions }
+        requires slot { k < slots self.now s }
+        requires summand { i < length self.now.groups }
+        requires drawn { DrawsSummand self.now p s k i }
+        ensures { result ≡ random_place self.now s k i }
+    {
+        self.mask_place(p, s, k) + least_held(&self.outline, p, i)
+    }
+
+    // The place on p's tape of the first word that it draws for the mask in slot k: all slots before it are the masks
+    // of products, and the products of these, three for each product.
+    fn mask_place(&self, p: u32, s: u32, k: u32) -> u32
+        requires party { p < self.now.parties }
+        requires session { s < length self.now.sessions }
+        requires slot { k < slots self.now s }
+        requires mask { is_mask (slot self.now s k) ≡ true }
+        ensures is { result ≡ place self.now p s k }
         ensures sound { IsSound self.now }
     {
-        self.deals[p as usize].at(s)
+        let held = least_held(&self.outline, p, self.shares());
+        let each = 2 * held + self.product_words(p);
+        self.tape_start(p, s) + k / 3 * each + k % 3 * held
+    }
+
+    // How many words p draws at a product that it deals.
+    fn product_words(&self, p: u32) -> u32
+        requires { p < self.now.parties }
+        ensures { result ≡ (if has_pair (scheme self.now) p then length self.now.groups - 1 else 0) }
+    {
+        if self.multiplies(p) {
+            self.shares() - 1
+        } else {
+            0
+        }
     }
 }
 
@@ -340,13 +411,12 @@ struct Tables {
     patterns: Patterns,
     starts: Vec<Starts>,
     words: Vec<Starts>,
-    deals: Vec<Starts>,
 }
 
 // The tables of a plan, unless it is refused.
 fn tables_of(alloc: Global, outline: &Outline) -> Result<Tables, PlanFault>
     ensures laid { IfOk result (λ made.
-        IsLaid outline.now made.count made.patterns made.starts.items made.words.items made.deals.items) }
+        IsLaid outline.now made.count made.patterns made.starts.items made.words.items) }
     ensures limits { MatchResult result (λ _. IsPlanWithin outline.now) (IsPlanRefusal outline.now) }
 {
     let _ = outline.parties();
@@ -359,13 +429,11 @@ fn tables_of(alloc: Global, outline: &Outline) -> Result<Tables, PlanFault>
     let patterns = Patterns::make(alloc, outline)?;
     let starts = list_starts(alloc, outline, &patterns)?;
     let words = list_words(alloc, outline)?;
-    let deals = list_deals(alloc, outline)?;
     Ok(Tables {
         count,
         patterns,
         starts,
         words,
-        deals,
     })
 }
 

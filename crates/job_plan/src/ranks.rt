@@ -15,6 +15,7 @@ fn rank(order: LineOrder, key: Key) -> u64
         LineOrder::BySender => {
             (u64::from(key.sender) * 64 + share) * 12 + u64::from(key.receiver)
         }
+        LineOrder::BySummand => share * 12 + u64::from(key.receiver),
         LineOrder::ByReceiver => u64::from(key.receiver) * 64 + share,
     }
 }

@@ -1,23 +1,32 @@
--- Which wires are kept at which slots, and a row for each wire: those that are kept together have rows of their own.
+-- Which wires are kept at which slots, and a row for each wire: those that are kept together have rows of their own. The
+-- masks of a prepared product, and their product, are wires behind those of the circuit.
 use Rattle.std.specs.Prelude.{◌≡◌, ◌≢◌, ℕ, zero, suc, ◌+◌, ◌<◌, max, nat_eq, nat_le, Bool, true, false, ◌&&◌, if◌then◌else◌, List, [], ◌∷◌, length, slice_index, All}
 use Rattle.std.specs.List.{list_any}
 use Rattle.list_laws.specs.Lists.{total, some_below}
 use Rattle.circuit_model.specs.Netlists.{read_by}
 use Rattle.job_session.specs.declared.row_table.RowTable.{RowTable}
-use Rattle.job_session.specs.Sessions.{Session, Slot, gate, output_wire, session_slot, session_slots}
-use Rattle.job_session.specs.Sessions.Slot.{Input, At_gate, Output}
+use Rattle.job_session.specs.Sessions.{Session, Slot, gate, is_prepared, operand, mask_wire, product_wire, row_names, output_wire, session_slot, session_slots}
+use Rattle.job_session.specs.declared.side.Side.TheVariants.{First, Second}
+use Rattle.job_session.specs.Sessions.Slot.{Input, At_gate, Output, Mask, Mask_product, Masked}
 
 -- the wires that a slot sets
 abbrev pub sets_in : Session → Slot → List ℕ
 sets_in s (Input v) = v ∷ []
 sets_in s (At_gate t) = (gate s t).output ∷ []
 sets_in s (Output o) = []
+sets_in s (Mask t side) = mask_wire s t side ∷ []
+sets_in s (Mask_product t) = product_wire s t ∷ []
+sets_in s (Masked t side) = []
 
--- the wires that a slot reads
+-- the wires that a slot reads; a prepared product joins its masks and their product
 abbrev pub reads_in : Session → Slot → List ℕ
 reads_in s (Input v) = []
-reads_in s (At_gate t) = read_by (gate s t)
+reads_in s (At_gate t) =
+    if is_prepared s t then mask_wire s t First ∷ mask_wire s t Second ∷ product_wire s t ∷ [] else read_by (gate s t)
 reads_in s (Output o) = output_wire s o ∷ []
+reads_in s (Mask t side) = []
+reads_in s (Mask_product t) = mask_wire s t First ∷ mask_wire s t Second ∷ []
+reads_in s (Masked t side) = operand (gate s t) side ∷ mask_wire s t side ∷ []
 
 -- slot k sets wire w
 abbrev pub slot_sets : Session → ℕ → ℕ → Bool
@@ -41,7 +50,7 @@ is_kept s k w =
 
 -- how many wires are kept before slot k
 unfoldable pub kept : Session → ℕ → ℕ
-kept s k = total s.wires (λ w. if is_kept s k w then 1 else 0)
+kept s k = total (row_names s) (λ w. if is_kept s k w then 1 else 0)
 
 -- the greatest of f 0 to f (n - 1), and 0 where there is none
 abbrev pub greatest : ℕ → (ℕ → ℕ) → ℕ
@@ -61,7 +70,7 @@ is_read s w = some_below (session_slots s) (λ m. slot_reads s m w)
 -- a row for each wire: the first for those that no slot reads, and else another than each wire has that an earlier slot
 -- sets and a later one reads
 pub record IsRowTable (s : Session) (rows : List ℕ) : Type 0 where
-  pub wires : length rows ≡ s.wires
+  pub wires : length rows ≡ row_names s
   pub below : All (λ row. row < live s + 1) rows
   pub unread : (w : ℕ) → is_read s w ≡ false → slice_index rows w ≡ 0
   pub read : (w : ℕ) → is_read s w ≡ true → 0 < slice_index rows w

@@ -2,13 +2,13 @@
 use Rattle.std.specs.Prelude.{◌≡◌, ◌≢◌, ℕ, ◌+◌, ◌<◌, nat_eq, nat_lt, Bool, true, false, not, ◌&&◌, ◌||◌, if◌then◌else◌, List, [], length, slice_index, count_by, Option, ◌⊎◌}
 use Rattle.list_laws.specs.Lists.{total}
 use Rattle.job_session.specs.declared.row_scan.RowScan.{RowScan}
-use Rattle.job_session.specs.Sessions.{Session, session_slots}
+use Rattle.job_session.specs.Sessions.{Session, row_names, session_slots}
 use Rattle.job_session.specs.KeptWires.{greatest, is_kept, is_read, kept, slot_reads, slot_sets}
 use Rattle.job_session.specs.Wirings.{is_named}
 
 -- for each wire the number of the slot behind the last before slot n that reads it, and 0 where there is none
 pub record AreLastReads (s : Session) (n : ℕ) (last : List ℕ) : Type 0 where
-  pub wires : length last ≡ s.wires
+  pub wires : length last ≡ row_names s
   pub read : (m w : ℕ) → slice_index last w ≡ m + 1 → (m < n) × (slot_reads s m w ≡ true)
   pub past : (m w : ℕ) → m < n → slot_reads s m w ≡ true → m < slice_index last w
 
@@ -46,7 +46,7 @@ IsReadOne wire last read = (w : ℕ) → is_named read w ≡ (is_named wire w &&
 -- before slot k the wires that are kept hold rows, of one more than were kept at most so far; those that no slot reads
 -- have the first row
 pub record IsScan (s : Session) (k : ℕ) (scan : RowScan) : Type 0 where
-  pub wires : length scan.rows.items ≡ s.wires
+  pub wires : length scan.rows.items ≡ row_names s
   pub held : AreHeld (is_kept s k) scan
   pub made : scan.made ≡ greatest (k + 1) (kept s) + 1
   pub unread : (w : ℕ) → is_read s w ≡ false → slice_index scan.rows.items w ≡ 0

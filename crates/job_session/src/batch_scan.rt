@@ -1,42 +1,48 @@
 //! The batches of a session, found slot by slot.
-ghost use Rattle.std.specs.Prelude.{◌≡◌, ℕ, IfOk, nat_eq, false, ◌&&◌};
-ghost use Rattle.circuit_model.specs.Circuits.{is_product};
+ghost use Rattle.std.specs.Prelude.{◌≡◌, ◌-◌, IfOk, OnOk, false};
+ghost use Rattle.job_session.specs.Sessions.{session_slots};
 ghost use Rattle.job_session.specs.Batches.{AreBatchEnds};
-ghost use Rattle.job_session.specs.Wirings.{IsWiring, is_named, session_in};
+ghost use Rattle.job_session.specs.BatchScans.{IsBatchScan};
+ghost use Rattle.job_session.specs.Wirings.{IsWiring, session_in};
 
-use crate::touched::read_wires;
+use crate::slot_kind::SlotKind;
+use crate::touched::{completed, read_wires};
 use crate::wiring::Wiring;
 use circuit_model::Gate;
 use std::alloc::{AllocError, Global};
 
 /// The batches so far: for each wire one more than the first slot of the batch in which it was last completed, for each
-/// slot of the batches that have ended the one behind its batch, and the first slot of the batch that is begun.
+/// slot of the batches that have ended the one behind its batch, the first slot of the batch that is begun, and whether
+/// a slot of that joins words.
 #[derive(Drop)]
 pub(crate) struct BatchScan {
     stamps: Vec<u32>,
     ends: Vec<u32>,
     first: u32,
+    joins: bool,
 }
 
 impl BatchScan {
-    ghost use Rattle.std.specs.Prelude.{◌≡◌, ℕ, ◌+◌, ◌-◌, ◌<◌, ◌≤◌, true, ◌||◌, ◌++◌, IfOk, OnOk, Some, length, replicate};
-    ghost use Rattle.job_session.specs.Sessions.{Session, session_slots};
-    ghost use Rattle.job_session.specs.Batches.{AreBatchEnds};
-    ghost use Rattle.job_session.specs.BatchScans.{AreReads, IsBatchScan, IsCompleted, IsGateSlot, has_stamp};
+    ghost use Rattle.std.specs.Prelude.{◌≡◌, ℕ, ◌+◌, ◌-◌, ◌<◌, ◌≤◌, true, false, ◌&&◌, ◌||◌, ◌++◌, IfOk, OnOk, Some, length, replicate};
+    ghost use Rattle.job_session.specs.Sessions.{Session, row_names, session_slot, session_slots};
+    ghost use Rattle.job_session.specs.SoundSessions.{slot_of_kind, Inside};
+    ghost use Rattle.job_session.specs.Batches.{AreBatchEnds, is_join, sets_early};
+    ghost use Rattle.job_session.specs.BatchScans.{AreEarlyReads, IsBatchScan, IsCompleted, IsGateSlot, has_stamp};
     ghost use Rattle.job_session.specs.Wirings.{IsWiring, is_named, session_in};
 
     // Before the first slot, over so many wires, with room for the ends of so many slots.
     fn start(alloc: Global, wires: usize, slots: usize) -> Result<BatchScan, AllocError>
-        ensures { IfOk result (λ scan. (s : Session) → s.wires ≡ wires → IsBatchScan s 0 0 scan) }
+        ensures { IfOk result (λ scan. (s : Session) → row_names s ≡ wires → IsBatchScan s 0 0 scan) }
     {
         Ok(BatchScan {
             stamps: vec![in alloc; 0; wires]?,
             ends: Vec::with_capacity(alloc, slots)?,
             first: 0,
+            joins: false,
         })
     }
 
-    // Slot `k`, which reads these wires and completes this one.
+    // Slot `k` of a direct session, which reads these wires and completes this one.
     #[inline(always)]
     fn step(
         &mut self,
@@ -46,28 +52,45 @@ impl BatchScan {
         wiring: &Wiring,
     ) -> Result<(), AllocError>
         requires wiring { IsWiring wiring.now }
+        requires direct { wiring.now.prepared ≡ false }
         requires slot { k < session_slots (session_in wiring.now) }
-        requires reads { AreReads (session_in wiring.now) k reads.0 reads.1 }
+        requires reads { AreEarlyReads (session_in wiring.now) k reads.0 reads.1 }
         requires completes { IsCompleted (session_in wiring.now) k completes }
         requires scan { IsBatchScan (session_in wiring.now) (k - 1) k self.old }
         ensures { OnOk result (IsBatchScan (session_in wiring.now) k (k + 1) self.new) }
     {
-        self.begin(k, reads, wiring)?;
-        self.complete(completes);
+        self.begin(k, reads, false, wiring)?;
+        self.complete(completes, false);
         Ok(())
     }
 
-    // Slot `k`, of this gate.
+    // Slot `k`, which is of this kind.
+    fn step_kind(&mut self, k: u32, kind: SlotKind, wiring: &Wiring) -> Result<(), AllocError>
+        requires wiring { IsWiring wiring.now }
+        requires slot { k < session_slots (session_in wiring.now) }
+        requires kind { slot_of_kind kind ≡ session_slot (session_in wiring.now) k }
+        requires inside { Inside (session_in wiring.now) (slot_of_kind kind) }
+        requires scan { IsBatchScan (session_in wiring.now) (k - 1) k self.old }
+        ensures { OnOk result (IsBatchScan (session_in wiring.now) k (k + 1) self.new) }
+    {
+        let late = self.joins && wiring.sets_early(kind);
+        self.begin(k, wiring.early_reads(kind), late, wiring)?;
+        self.complete(wiring.completes(kind), wiring.is_join(kind));
+        Ok(())
+    }
+
+    // Slot `k` of a direct session, of this gate.
     #[inline(always)]
     fn step_gate(&mut self, k: u32, gate: Gate, wiring: &Wiring) -> Result<(), AllocError>
         requires wiring { IsWiring wiring.now }
+        requires direct { wiring.now.prepared ≡ false }
         requires slot { k < session_slots (session_in wiring.now) }
         requires gate { IsGateSlot (session_in wiring.now) k gate }
         requires scan { IsBatchScan (session_in wiring.now) (k - 1) k self.old }
         ensures { OnOk result (IsBatchScan (session_in wiring.now) k (k + 1) self.new) }
     {
         self.begin_gate(k, gate, wiring)?;
-        self.complete(completed(gate));
+        self.complete(completed(gate), false);
         Ok(())
     }
 
@@ -76,36 +99,41 @@ impl BatchScan {
     #[inline(always)]
     fn begin_gate(&mut self, k: u32, gate: Gate, wiring: &Wiring) -> Result<(), AllocError>
         requires wiring { IsWiring wiring.now }
+        requires direct { wiring.now.prepared ≡ false }
         requires slot { k < session_slots (session_in wiring.now) }
         requires gate { IsGateSlot (session_in wiring.now) k gate }
         requires scan { IsBatchScan (session_in wiring.now) (k - 1) k self.old }
         ensures { OnOk result (IsBatchScan (session_in wiring.now) k k self.new) }
     {
         if self.names_stamped(gate) {
-            return self.begin(k, read_wires(gate), wiring);
+            return self.begin(k, read_wires(gate), false, wiring);
         }
         Ok(())
     }
 
-    // Slot `k` is of the batch that is begun, unless it reads a wire that a slot of it completes: then it begins
-    // another. It is out of line, since few gates come to it.
+    // Slot `k` is of the batch that is begun, unless it reads a wire that a slot of it completes, or sets one before
+    // a slot of it has joined its words: then it begins another. It is out of line, since few gates come to it.
     #[inline(never)]
     fn begin(
         &mut self,
         k: u32,
         reads: (Option<u32>, Option<u32>),
+        before_join: bool,
         wiring: &Wiring,
     ) -> Result<(), AllocError>
         requires wiring { IsWiring wiring.now }
         requires slot { k < session_slots (session_in wiring.now) }
-        requires reads { AreReads (session_in wiring.now) k reads.0 reads.1 }
+        requires reads { AreEarlyReads (session_in wiring.now) k reads.0 reads.1 }
+        requires before_join { before_join
+            ≡ (self.old.joins && sets_early (session_in wiring.now) (session_slot (session_in wiring.now) k)) }
         requires scan { IsBatchScan (session_in wiring.now) (k - 1) k self.old }
         ensures { OnOk result (IsBatchScan (session_in wiring.now) k k self.new) }
     {
         let _ = wiring;
-        if self.waits(reads) {
+        if self.waits(reads) || before_join {
             self.end_batch(k)?;
             self.first = k;
+            self.joins = false;
         }
         Ok(())
     }
@@ -169,29 +197,19 @@ impl BatchScan {
         self.ends.resize(k as usize, k)
     }
 
-    // Gives the wire, if there is one, the stamp of the batch that is begun.
+    // Gives the wire, if there is one, the stamp of the batch that is begun, in which a slot joins words from now on,
+    // if this one does.
     #[inline(always)]
-    fn complete(&mut self, wire: Option<u32>)
+    fn complete(&mut self, wire: Option<u32>, join: bool)
         requires within { (w : ℕ) → is_named wire w ≡ true → w < length self.old.stamps.items }
         requires few { self.old.first < 4294967295 }
-        ensures { (s : Session) (k : ℕ) → IsCompleted s k wire → IsBatchScan s k k self.old
-            → IsBatchScan s k (k + 1) self.new }
+        ensures { (s : Session) (k : ℕ) → IsCompleted s k wire → join ≡ is_join s (session_slot s k)
+            → IsBatchScan s k k self.old → IsBatchScan s k (k + 1) self.new }
     {
         if let Some(found) = wire {
             self.stamps[found as usize] = self.first + 1;
         }
-    }
-}
-
-// The wire that a gate completes once what others post of it was taken.
-#[inline(always)]
-fn completed(gate: Gate) -> Option<u32>
-    ensures { (w : ℕ) → is_named result w ≡ (is_product gate.operation && nat_eq w gate.output) }
-{
-    if gate.operation.is_product() {
-        Some(gate.output)
-    } else {
-        None
+        self.joins |= join;
     }
 }
 
@@ -200,7 +218,25 @@ pub(crate) fn batch_ends(alloc: Global, wiring: &Wiring) -> Result<Vec<u32>, All
     requires { IsWiring wiring.now }
     ensures { IfOk result (λ ends. AreBatchEnds (session_in wiring.now) ends.items) }
 {
-    let mut scan = BatchScan::start(alloc, wiring.wires as usize, wiring.slots() as usize)?;
+    let names = wiring.row_names() as usize;
+    let mut scan = BatchScan::start(alloc, names, wiring.slots() as usize)?;
+    if wiring.prepared {
+        scan_kinds(wiring, &mut scan)?;
+    } else {
+        scan_direct(wiring, &mut scan)?;
+    }
+    scan.into_ends(wiring)
+}
+
+// All slots of a direct session.
+#[inline(always)]
+fn scan_direct(wiring: &Wiring, scan: &mut BatchScan) -> Result<(), AllocError>
+    requires wiring { IsWiring wiring.now }
+    requires direct { wiring.now.prepared ≡ false }
+    requires scan { IsBatchScan (session_in wiring.now) 0 0 scan.old }
+    ensures { OnOk result (IsBatchScan (session_in wiring.now) (session_slots (session_in wiring.now) - 1)
+        (session_slots (session_in wiring.now)) scan.new) }
+{
     let inputs = wiring.owners.len() as u32;
     let gates = wiring.gates.len() as u32;
     for v in 0..inputs {
@@ -214,5 +250,18 @@ pub(crate) fn batch_ends(alloc: Global, wiring: &Wiring) -> Result<Vec<u32>, All
         let read = (Some(wiring.output_wire(o)), None);
         scan.step(inputs + gates + o, read, None, wiring)?;
     }
-    scan.into_ends(wiring)
+    Ok(())
+}
+
+// All slots of a session, by their kinds.
+fn scan_kinds(wiring: &Wiring, scan: &mut BatchScan) -> Result<(), AllocError>
+    requires wiring { IsWiring wiring.now }
+    requires scan { IsBatchScan (session_in wiring.now) 0 0 scan.old }
+    ensures { OnOk result (IsBatchScan (session_in wiring.now) (session_slots (session_in wiring.now) - 1)
+        (session_slots (session_in wiring.now)) scan.new) }
+{
+    for k in 0..wiring.slots() {
+        scan.step_kind(k, wiring.slot_kind(k), wiring)?;
+    }
+    Ok(())
 }

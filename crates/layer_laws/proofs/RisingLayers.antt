@@ -1,20 +1,25 @@
 -- Where gates stand by layers, each batch begins in a later layer than the one before it.
-use Rattle.std.proofs.Common.{◌≡◌, ℕ, zero, suc, ◌+◌, ◌-◌, ◌<◌, ◌≤◌, Bool, true, false, ◌||◌, nat_eq, if◌then◌else◌, List, [], ◌∷◌, length, inl, inr, refl, sym, ap, ◌∙◌, arith}
+use Rattle.std.proofs.Common.{◌≡◌, ℕ, zero, suc, ◌+◌, ◌-◌, ◌*◌, ◌<◌, ◌≤◌, ◌⊎◌, Bool, true, false, not, ◌&&◌, ◌||◌, nat_eq, if◌then◌else◌, List, [], ◌∷◌, length, inl, inr, refl, sym, ap, ◌∙◌, arith}
 use Rattle.std.specs.List.{list_any}
-use Rattle.std.proofs.lemmas.Bool.{cases_Bool, cases_eq, cond-true, cond-false, eq-eqb, eqb-true, or_cases, or_left, false≢true}
+use Rattle.std.proofs.lemmas.Bool.{cases_Bool, cases_eq, cases_lt, cond-true, cond-false, and_parts, eq-eqb, eqb-true, or_cases, or_left, false≢true}
 use Rattle.std.proofs.Math.Nat.{le-max_left, le-max_right}
-use Rattle.list_laws.specs.Lists.{total}
+use Rattle.list_laws.specs.Lists.{only_if, total}
 use Rattle.circuit_model.specs.Circuits.{is_product}
 use Rattle.circuit_model.specs.Netlists.{read_by}
-use Rattle.job_session.specs.Sessions.{Session, Slot, gate, owners, session_slot, session_slots}
-use Rattle.job_session.specs.Sessions.Slot.{Input, At_gate, Output}
-use Rattle.job_session.specs.SoundSessions.{IsWired}
-use Rattle.job_session.specs.KeptWires.{greatest, reads_in, sets_in, slot_sets}
-use Rattle.job_session.specs.Batches.{batch, batches, completes, slot_completes, waits_for}
-use Rattle.job_session.proofs.SessionSlots.{slot_cases, slot_gate}
+use Rattle.job_session.specs.declared.side.Side.{Side}
+use Rattle.job_session.specs.declared.side.Side.TheVariants.{First, Second}
+use Rattle.job_session.specs.Sessions.{Session, Slot, gate, is_prepared, mask_wire, operand, product_wire, session_slot, session_slots}
+use Rattle.job_session.specs.Sessions.Slot.{Input, At_gate, Output, Mask, Mask_product, Masked}
+use Rattle.job_session.specs.SlotNumbers.{first_of_gate, prepared_before, session_slot_number}
+use Rattle.job_session.specs.SoundSessions.{IsWired, Inside}
+use Rattle.job_session.specs.Counts.{prepared_products, products}
+use Rattle.job_session.specs.KeptWires.{greatest, sets_in, slot_sets}
+use Rattle.job_session.specs.Batches.{batch, batches, completes, is_join, reads_early, sets_early, slot_completes, waits_for}
+use Rattle.job_session.proofs.SessionSlots.{all_prepared, gate_rises, more_before, none_before, none_prepared, number_within, one_more, slot_kinds, slot_there, slots_are_numbered}
 use Rattle.job_session.proofs.BatchOrder.{batch_within, begins_waiting, rising}
+use Rattle.job_session.proofs.GateOrder.{operand_read}
 use Rattle.job_session.proofs.KeptRows.{one_wire}
-use Rattle.layer_laws.specs.Layers.{most, product, products_to, layer, depth, StandsByLayers}
+use Rattle.layer_laws.specs.Layers.{most, product, products_to, layer, depth, JoinsLast, StandsByLayers}
 
 -- one of a list passes both tests
 any_both : (f : ℕ → Bool) (vs : List ℕ) → list_any f vs ≡ true → (v : ℕ) × (list_any (nat_eq v) vs ≡ true) × (f v ≡ true)
@@ -42,76 +47,305 @@ greatest_at (suc n) f i l = elim (cases_eq i n) [
   | inr ne ↦ let less = greatest_at n f i (omega (arith, l, ne)) in let left = le-max_left (greatest n f) (f n) in omega (arith, less, left)
 ]
 
-module _ (s : Session) (wired : IsWired s) (by_layers : StandsByLayers s) where
-  abbrev inputs : ℕ
-  inputs = length (owners s)
+abbrev side_place : Side → ℕ
+side_place First = 0
+side_place Second = 1
 
-  -- the layer of a slot: inputs come before all gates, and outputs behind them
+one_wire_of : (a b w : ℕ) → (nat_eq w a || (nat_eq w b || false)) ≡ true → (w ≡ a) ⊎ (w ≡ b)
+one_wire_of a b w e = elim (or_cases (nat_eq w a) (nat_eq w b || false) e) [ inl first ↦ inl (eqb-true w a first) | inr second ↦ inr (one_wire b w second) ]
+
+two_ones : (b : Bool) → (if b then 2 else 0) ≡ 2 * (if b then 1 else 0)
+two_ones true = refl
+two_ones false = refl
+
+not_false : (b : Bool) → not b ≡ true → b ≡ false
+not_false true e = sym e
+not_false false e = refl
+
+module _ (s : Session) (wired : IsWired s) (by_layers : StandsByLayers s) (joins_last : JoinsLast s) where
+  abbrev count : ℕ
+  count = length s.gates
+
+  -- how many products are prepared
+  abbrev all : ℕ
+  all = prepared_before s count
+
+  -- the layer of a slot: what is prepared comes first, product by product, then the inputs, the gates and the outputs
   abbrev rank_of : Slot → ℕ
-  rank_of (Input v) = 0
-  rank_of (At_gate t) = suc (layer s t)
-  rank_of (Output o) = suc (depth s)
+  rank_of (Mask t side) = prepared_before s t
+  rank_of (Mask_product t) = suc (prepared_before s t)
+  rank_of (Input v) = all
+  rank_of (Masked t side) = suc (all + layer s t)
+  rank_of (At_gate t) = suc (all + layer s t)
+  rank_of (Output o) = suc (all + depth s)
 
   abbrev rank : ℕ → ℕ
   rank k = rank_of (session_slot s k)
 
-  within_depth : (t : ℕ) → t < length s.gates → layer s t + product s t ≤ depth s
-  within_depth t l = greatest_at (length s.gates) (λ i. layer s i + product s i) t l
+  within_depth : (t : ℕ) → t < count → layer s t + product s t ≤ depth s
+  within_depth t l = greatest_at count (λ i. layer s i + product s i) t l
 
-  rank_most : (k : ℕ) → k < session_slots s → rank k ≤ suc (depth s)
-  rank_most = slot_cases s (λ k z. rank_of z ≤ suc (depth s)) (λ v l. omega arith) (λ t l. (let d = within_depth t l in omega (arith, d))) (λ o l. omega arith)
+  one_product : (t : ℕ) → is_product (gate s t).operation ≡ true → ◌≡◌ {A = ℕ} (product s t) 1
+  one_product t e = cond-true (is_product (gate s t).operation) 1 0 e
+
+  mask_is : (t : ℕ) (side : Side) → (mask_wire s t side ≡ s.wires + 3 * t + side_place side) × (side_place side < 2)
+  mask_is t First = (omega arith, omega arith)
+  mask_is t Second = (omega arith, omega arith)
+
+  before_all : (t : ℕ) → t < count → is_prepared s t ≡ true → prepared_before s t < all
+  before_all t l e = (let more = more_before s t count l in let one = one_more s t e in omega (arith, more, one))
+
+  -- ---- ranks rise
+
+  -- a slot of masks has such a number and rank
+  record IsOfMask (n r : ℕ) : Type 0 where
+    before : ℕ
+    place : ℕ
+    late : ℕ
+    within : before < all
+    few : place < 3
+    from : 2 * late ≤ place
+    to : place ≤ late + 1
+    number : n ≡ 3 * before + place
+    is : r ≡ before + late
+
+  -- one of a gate
+  record IsOfGate (n r : ℕ) : Type 0 where
+    gate_of : ℕ
+    there : gate_of < count
+    from : first_of_gate s gate_of ≤ n
+    to : n ≤ first_of_gate s gate_of + 2 * (if is_prepared s gate_of then 1 else 0)
+    is : r ≡ suc (all + layer s gate_of)
+
+  -- an input slot, and an output slot
+  abbrev IsOfInput : ℕ → ℕ → Type 0
+  IsOfInput n r = (3 * all ≤ n) × (n < first_of_gate s 0) × (r ≡ all)
+
+  abbrev IsOfOutput : ℕ → ℕ → Type 0
+  IsOfOutput n r = (first_of_gate s count ≤ n) × (r ≡ suc (all + depth s))
+
+  abbrev Stands : ℕ → ℕ → Type 0
+  Stands n r = (IsOfMask n r ⊎ IsOfInput n r) ⊎ (IsOfGate n r ⊎ IsOfOutput n r)
+
+  stands : (z : Slot) → Inside s z → Stands (session_slot_number s z) (rank_of z)
+  stands (Mask t First) i = inl (inl (record {
+    before = prepared_before s t;
+    place = 0;
+    late = 0;
+    within = before_all t i.0 i.1;
+    few = omega arith;
+    from = omega arith;
+    to = omega arith;
+    number = omega arith;
+    is = omega arith;
+  }))
+  stands (Mask t Second) i = inl (inl (record {
+    before = prepared_before s t;
+    place = 1;
+    late = 0;
+    within = before_all t i.0 i.1;
+    few = omega arith;
+    from = omega arith;
+    to = omega arith;
+    number = omega arith;
+    is = omega arith;
+  }))
+  stands (Mask_product t) i = inl (inl (record {
+    before = prepared_before s t;
+    place = 2;
+    late = 1;
+    within = before_all t i.0 i.1;
+    few = omega arith;
+    from = omega arith;
+    to = omega arith;
+    number = omega arith;
+    is = omega arith;
+  }))
+  stands (Input v) l = inl (inr (omega arith, omega (arith, l), refl))
+  stands (Masked t First) i = inr (inl (record { gate_of = t; there = i.0; from = omega arith; to = omega arith; is = refl }))
+  stands (Masked t Second) i = inr (inl (record { gate_of = t; there = i.0; from = omega arith; to = (let one = one_more s t i.1 in omega (arith, one)); is = refl }))
+  stands (At_gate t) l = inr (inl (record { gate_of = t; there = l; from = omega arith; to = (let two = two_ones (is_prepared s t) in omega (arith, two)); is = refl }))
+  stands (Output o) l = inr (inr (omega arith, refl))
+
+  rise : (n m r q : ℕ) → Stands n r → Stands m q → n ≤ m → r ≤ q
+  rise n m r q (inl (inl a)) (inl (inl b)) le = omega (arith, le, a.number, b.number, a.few, b.few, a.from, a.to, b.from, b.to, a.is, b.is)
+  rise n m r q (inl (inl a)) (inl (inr b)) le = omega (arith, a.within, a.from, a.few, a.is, b.2)
+  rise n m r q (inl (inl a)) (inr (inl b)) le = omega (arith, a.within, a.from, a.few, a.is, b.is)
+  rise n m r q (inl (inl a)) (inr (inr b)) le = omega (arith, a.within, a.from, a.few, a.is, b.1)
+  rise n m r q (inl (inr a)) (inl (inl b)) le = absurd (omega (arith, le, a.0, b.number, b.within, b.few))
+  rise n m r q (inl (inr a)) (inl (inr b)) le = omega (arith, a.2, b.2)
+  rise n m r q (inl (inr a)) (inr (inl b)) le = omega (arith, a.2, b.is)
+  rise n m r q (inl (inr a)) (inr (inr b)) le = omega (arith, a.2, b.1)
+  rise n m r q (inr (inl a)) (inl (inl b)) le = absurd (omega (arith, le, a.from, b.number, b.within, b.few))
+  rise n m r q (inr (inl a)) (inl (inr b)) le = absurd (omega (arith, le, a.from, b.1))
+  rise n m r q (inr (inl a)) (inr (inl b)) le = elim (cases_lt b.gate_of a.gate_of) [
+    | inl back ↦ absurd (let more = more_before s b.gate_of a.gate_of back in omega (arith, le, a.from, b.to, more, back))
+    | inr on ↦ let later = by_layers a.gate_of b.gate_of on b.there in omega (arith, a.is, b.is, later)
+  ]
+  rise n m r q (inr (inl a)) (inr (inr b)) le = (let deep = within_depth a.gate_of a.there in omega (arith, a.is, b.1, deep))
+  rise n m r q (inr (inr a)) (inl (inl b)) le = absurd (omega (arith, le, a.0, b.number, b.within, b.few))
+  rise n m r q (inr (inr a)) (inl (inr b)) le = absurd (omega (arith, le, a.0, b.1))
+  rise n m r q (inr (inr a)) (inr (inl b)) le = absurd (let more = more_before s b.gate_of count b.there in omega (arith, le, a.0, b.to, more, b.there))
+  rise n m r q (inr (inr a)) (inr (inr b)) le = omega (arith, a.1, b.1)
+
+  stands_at : (k : ℕ) → k < session_slots s → Stands k (rank k)
+  stands_at = slot_kinds s (λ k z. Stands k (rank_of z)) stands
 
   ranks_rise : (j k : ℕ) → j ≤ k → k < session_slots s → rank j ≤ rank k
-  ranks_rise j k le lk = slot_cases s (λ k z. (j : ℕ) → j ≤ k → j < session_slots s → rank j ≤ rank_of z)
-      (λ v lv j b lj. slot_cases s (λ j z. j ≤ v → rank_of z ≤ 0) (λ u l b. omega arith) (λ u l b. absurd (omega (arith, lv, b))) (λ o l b. absurd (omega (arith, lv, b))) j lj b)
-      (λ t lt j b lj. slot_cases s (λ j z. j ≤ inputs + t → rank_of z ≤ suc (layer s t)) (λ u l b. omega arith) (λ u l b. (let r = by_layers u t (omega (arith, b)) lt in omega (arith, r))) (λ o l b. absurd (omega (arith, lt, b))) j lj b)
-      (λ o lo j b lj. slot_cases s (λ j z. j ≤ inputs + length s.gates + o → rank_of z ≤ suc (depth s)) (λ u l b. omega arith) (λ u l b. (let d = within_depth u l in omega (arith, d))) (λ u l b. omega arith) j lj b)
-      k lk j le (omega (arith, le, lk))
+  ranks_rise j k le lk = rise j k (rank j) (rank k) (stands_at j (omega (arith, le, lk))) (stands_at k lk) le
+
+  rank_most : (k : ℕ) → k < session_slots s → rank k ≤ suc (all + depth s)
+  rank_most k l = most_of (stands_at k l)
+    where
+      most_of : {n r : ℕ} → Stands n r → r ≤ suc (all + depth s)
+      most_of (inl (inl a)) = omega (arith, a.within, a.from, a.few, a.is)
+      most_of (inl (inr a)) = omega (arith, a.2)
+      most_of (inr (inl a)) = (let deep = within_depth a.gate_of a.there in omega (arith, a.is, deep))
+      most_of (inr (inr a)) = omega (arith, a.1)
+
+  -- ---- a slot that waits for another is of a later layer
+
+  gate_sets : (t : ℕ) → t < count → slot_sets s (session_slot_number s (At_gate t)) (gate s t).output ≡ true
+  gate_sets t l = ap (λ z. list_any (nat_eq (gate s t).output) (sets_in s z)) (slot_there s (At_gate t) l) ∙ or_left (nat_eq (gate s t).output (gate s t).output) false (eq-eqb (gate s t).output (gate s t).output refl)
 
   -- a wire keeps the products that stand before it, as no later gate sets it
-  kept : (u n : ℕ) → u < length s.gates → u + suc n ≤ length s.gates → products_to s (u + suc n) (gate s u).output ≡ layer s u + product s u
+  kept : (u n : ℕ) → u < count → u + suc n ≤ count → products_to s (u + suc n) (gate s u).output ≡ layer s u + product s u
   kept u zero lu l =
       let next : u + 1 ≡ suc u = omega arith in
       ap (λ z. products_to s z (gate s u).output) next ∙ cond-true (nat_eq (gate s u).output (gate s u).output) (layer s u + product s u) (products_to s u (gate s u).output) (eq-eqb (gate s u).output (gate s u).output refl)
   kept u (suc n) lu l =
       let t : ℕ = u + suc n in
-      let lt : t < length s.gates = omega (arith, l) in
+      let lt : t < count = omega (arith, l) in
       let next : u + suc (suc n) ≡ suc t = omega arith in
       let v : ℕ = (gate s u).output in
-      let set_here : slot_sets s (inputs + u) v ≡ true = ap (λ z. list_any (nat_eq v) (sets_in s z)) (slot_gate s u lu) ∙ or_left (nat_eq v v) false (eq-eqb v v refl) in
-      let not_there : slot_sets s (inputs + t) v ≡ false = wired.order.once (inputs + u) (inputs + t) v (omega arith) (omega (arith, lt)) set_here in
-      let other : nat_eq v (gate s t).output ≡ false = one_false (nat_eq v (gate s t).output) (sym (ap (λ z. list_any (nat_eq v) (sets_in s z)) (slot_gate s t lt)) ∙ not_there) in
+      let before = gate_rises s u t (omega arith) in
+      let not_there : slot_sets s (session_slot_number s (At_gate t)) v ≡ false =
+      wired.order.once (session_slot_number s (At_gate u)) (session_slot_number s (At_gate t)) v (omega (arith, before)) (number_within s (At_gate t) lt) (gate_sets u lu) in
+      let other : nat_eq v (gate s t).output ≡ false = one_false (nat_eq v (gate s t).output) (sym (ap (λ z. list_any (nat_eq v) (sets_in s z)) (slot_there s (At_gate t) lt)) ∙ not_there) in
       ap (λ z. products_to s z v) next ∙ cond-false (nat_eq v (gate s t).output) (layer s t + product s t) (products_to s t v) other ∙ kept u n lu (omega (arith, l))
     where
       one_false : (a : Bool) → (a || false) ≡ false → a ≡ false
       one_false true e = e
       one_false false e = refl
 
-  -- a slot that waits for another is of a later layer
+  -- a gate that reads what a product sets is of a later layer
+  reading_rises : (u t w : ℕ) → u < t → t < count → is_product (gate s u).operation ≡ true → w ≡ (gate s u).output → list_any (nat_eq w) (read_by (gate s t)) ≡ true → layer s u < layer s t
+  reading_rises u t w before lt multiplies its read =
+      let more = most_at (products_to s t) (read_by (gate s t)) w read in
+      let there : u + suc (t - suc u) ≡ t = omega (arith, before) in
+      let stays = kept u (t - suc u) (omega (arith, before, lt)) (omega (arith, there, lt)) in
+      let same : products_to s t w ≡ layer s u + product s u = ap (products_to s t) its ∙ sym (ap (λ z. products_to s z (gate s u).output) there) ∙ stays in
+      omega (arith, more, same, one_product u multiplies)
+
+  -- by their numbers
+  masked_most : (t : ℕ) (side : Side) → is_prepared s t ≡ true → session_slot_number s (Masked t side) ≤ session_slot_number s (At_gate t)
+  masked_most t First e = omega arith
+  masked_most t Second e = (let two : ◌≡◌ {A = ℕ} (if is_prepared s t then 2 else 0) 2 = cond-true (is_prepared s t) 2 0 e in omega (arith, two))
+
+  gate_before : (u t n : ℕ) → n ≤ session_slot_number s (At_gate t) → session_slot_number s (At_gate u) < n → u < t
+  gate_before u t n most before = elim (cases_lt u t) [
+    | inl l ↦ l
+    | inr past ↦ elim (cases_lt t u) [
+      | inl back ↦ absurd (let rises = gate_rises s t u back in omega (arith, rises, most, before))
+      | inr same ↦ absurd (let e : u ≡ t = omega (arith, past, same) in let at = ap (λ g. session_slot_number s (At_gate g)) e in omega (arith, at, most, before))
+    ]
+  ]
+
+  -- a gate whose product is prepared reads nothing early
+  gate_early : (t w : ℕ) → list_any (nat_eq w) (reads_early s (At_gate t)) ≡ true → list_any (nat_eq w) (read_by (gate s t)) ≡ true
+  gate_early t w e = go (is_prepared s t) e
+    where
+      go : (b : Bool) → list_any (nat_eq w) (only_if (not b) (if b then mask_wire s t First ∷ mask_wire s t Second ∷ product_wire s t ∷ [] else read_by (gate s t))) ≡ true → list_any (nat_eq w) (read_by (gate s t)) ≡ true
+      go true e = absurd (false≢true e)
+      go false e = e
+
+  gate_completes : (u w : ℕ) → list_any (nat_eq w) (completes s (At_gate u)) ≡ true → (is_product (gate s u).operation ≡ true) × (w ≡ (gate s u).output)
+  gate_completes u w e = go (is_product (gate s u).operation) e
+    where
+      go : (b : Bool) → list_any (nat_eq w) (only_if b ((gate s u).output ∷ [])) ≡ true → (b ≡ true) × (w ≡ (gate s u).output)
+      go true e = (refl, one_wire (gate s u).output w e)
+      go false e = absurd (false≢true e)
+
+  -- the wires of a product of masks are behind those of the circuit
+  masks_read : (t w : ℕ) → list_any (nat_eq w) (reads_early s (Mask_product t)) ≡ true → (place : ℕ) × (place < 2) × (w ≡ s.wires + 3 * t + place)
+  masks_read t w e = elim (one_wire_of (mask_wire s t First) (mask_wire s t Second) w e) [
+    | inl first ↦ (0, omega arith, omega (arith, first))
+    | inr second ↦ (1, omega arith, omega (arith, second))
+  ]
+
+  reads_rise : (y z : Slot) (w : ℕ) → Inside s y → Inside s z → session_slot_number s y < session_slot_number s z → list_any (nat_eq w) (completes s y) ≡ true → list_any (nat_eq w) (reads_early s z) ≡ true → rank_of y < rank_of z
+  reads_rise y (Input v) w i j b c r = absurd (false≢true r)
+  reads_rise y (Mask t side) w i j b c r = absurd (false≢true r)
+  reads_rise (Output o) z w i j b c r = absurd (false≢true c)
+  reads_rise (Masked u side) z w i j b c r = absurd (false≢true c)
+  reads_rise (Input v) (Mask_product t) w i j b c r = absurd (let is = one_wire v w c in let mask = masks_read t w r in omega (arith, is, mask.2, i, wired.input_wires))
+  reads_rise (Input v) (Masked t side) w i j b c r = omega arith
+  reads_rise (Input v) (At_gate t) w i j b c r = omega arith
+  reads_rise (Input v) (Output o) w i j b c r = omega arith
+  reads_rise (Mask u side) (Mask_product t) w i j b c r =
+      let is = one_wire (mask_wire s u side) w c in
+      let mask = masks_read t w r in
+      let place = mask_is u side in
+      let same : u ≡ t = omega (arith, is, mask.1, mask.2, place.0, place.1) in
+      let at = ap (λ g. prepared_before s g) same in
+      omega (arith, at)
+  reads_rise (Mask u side) (Masked t _) w i j b c r = (let less = before_all u i.0 i.1 in omega (arith, less))
+  reads_rise (Mask u side) (At_gate t) w i j b c r = (let less = before_all u i.0 i.1 in omega (arith, less))
+  reads_rise (Mask u side) (Output o) w i j b c r = (let less = before_all u i.0 i.1 in omega (arith, less))
+  reads_rise (Mask_product u) (Mask_product t) w i j b c r = absurd (let is = one_wire (product_wire s u) w c in let mask = masks_read t w r in omega (arith, is, mask.1, mask.2))
+  reads_rise (Mask_product u) (Masked t side) w i j b c r = (let less = before_all u i.0 i.1 in omega (arith, less))
+  reads_rise (Mask_product u) (At_gate t) w i j b c r = (let less = before_all u i.0 i.1 in omega (arith, less))
+  reads_rise (Mask_product u) (Output o) w i j b c r = (let less = before_all u i.0 i.1 in omega (arith, less))
+  reads_rise (At_gate u) (Mask_product t) w i j b c r = absurd (let made = gate_completes u w c in let mask = masks_read t w r in omega (arith, made.1, mask.2, wired.output u i))
+  reads_rise (At_gate u) (Masked t side) w i j b c r =
+      let made = gate_completes u w c in
+      elim (one_wire_of (operand (gate s t) side) (mask_wire s t side) w r) [
+        | inl wire ↦
+            let read : list_any (nat_eq w) (read_by (gate s t)) ≡ true =
+            ap (λ v. list_any (nat_eq v) (read_by (gate s t))) wire ∙ operand_read (gate s t) side (and_parts s.prepared (is_product (gate s t).operation) j.1).1 in
+            let later = reading_rises u t w (gate_before u t (session_slot_number s (Masked t side)) (masked_most t side j.1) b) j.0 made.0 made.1 read in
+            omega (arith, later)
+        | inr mask ↦ absurd (let place = mask_is t side in omega (arith, made.1, mask, place.0, wired.output u i))
+      ]
+  reads_rise (At_gate u) (At_gate t) w i j b c r =
+      let made = gate_completes u w c in
+      let later = reading_rises u t w (gate_before u t (session_slot_number s (At_gate t)) (omega arith) b) j made.0 made.1 (gate_early t w r) in
+      omega (arith, later)
+  reads_rise (At_gate u) (Output o) w i j b c r =
+      let made = gate_completes u w c in
+      let deep = within_depth u i in
+      omega (arith, deep, one_product u made.0)
+
+  join_rises : (y z : Slot) → Inside s y → Inside s z → session_slot_number s y < session_slot_number s z → is_join s y ≡ true → sets_early s z ≡ true → rank_of y < rank_of z
+  join_rises (Input v) z i j b e f = absurd (false≢true e)
+  join_rises (Output o) z i j b e f = absurd (false≢true e)
+  join_rises (Mask t side) z i j b e f = absurd (false≢true e)
+  join_rises (Mask_product t) z i j b e f = absurd (false≢true e)
+  join_rises (Masked t side) z i j b e f = absurd (false≢true e)
+  join_rises (At_gate u) (Output o) i j b e f = absurd (false≢true f)
+  join_rises (At_gate u) (Masked t side) i j b e f = absurd (false≢true f)
+  join_rises (At_gate u) (Input v) i j b e f = absurd (omega (arith, b, j))
+  join_rises (At_gate u) (Mask t First) i j b e f = absurd (let less = before_all t j.0 j.1 in omega (arith, b, less))
+  join_rises (At_gate u) (Mask t Second) i j b e f = absurd (let less = before_all t j.0 j.1 in omega (arith, b, less))
+  join_rises (At_gate u) (Mask_product t) i j b e f = absurd (let less = before_all t j.0 j.1 in omega (arith, b, less))
+  join_rises (At_gate u) (At_gate t) i j b e f =
+      let multiplies = is_product (gate s t).operation in
+      let none : is_prepared s t ≡ false = not_false (is_prepared s t) (and_parts (not (is_prepared s t)) true f).0 in
+      let linear : multiplies ≡ false = sym (ap (λ p. p && multiplies) (and_parts s.prepared (is_product (gate s u).operation) e).0) ∙ none in
+      let later = joins_last u t (gate_before u t (session_slot_number s (At_gate t)) (omega arith) b) j e linear in
+      omega (arith, later)
+
   waiting_rises : (j k : ℕ) → j < k → k < session_slots s → waits_for s k j ≡ true → rank j < rank k
   waiting_rises j k less lk e =
-      let found = any_both (slot_completes s j) (reads_in s (session_slot s k)) e in
-      slot_cases s (λ j z. j < k → list_any (nat_eq found.0) (completes s z) ≡ true → rank_of z < rank k)
-      (λ v lv b c. slot_cases s (λ k z. list_any (nat_eq found.0) (reads_in s z) ≡ true → 0 < rank_of z) (λ u l r. absurd (false≢true r)) (λ t l r. omega arith) (λ o l r. omega arith) k lk found.1)
-      (λ u lu b c. elim (cases_Bool (is_product (gate s u).operation)) [
-        | inl multiplies ↦
-            let v : ℕ = found.0 in
-            let one : product s u ≡ 1 = cond-true (is_product (gate s u).operation) 1 0 multiplies in
-            let its : v ≡ (gate s u).output = one_wire (gate s u).output v (sym (ap (λ z. list_any (nat_eq v) z) (cond-true (is_product (gate s u).operation) ((gate s u).output ∷ []) [] multiplies)) ∙ c) in
-            slot_cases s (λ k z. inputs + u < k → list_any (nat_eq v) (reads_in s z) ≡ true → suc (layer s u) < rank_of z)
-            (λ w l b r. absurd (false≢true r))
-            (λ t lt b r.
-            (let more = most_at (products_to s t) (read_by (gate s t)) v r in
-            let there : u + suc (t - suc u) ≡ t = omega (arith, b) in
-            let stays = kept u (t - suc u) lu (omega (arith, there, lt)) in
-            let same : products_to s t v ≡ layer s u + product s u = ap (products_to s t) its ∙ sym (ap (λ z. products_to s z (gate s u).output) there) ∙ stays in
-            omega (arith, more, same, one)))
-            (λ o lo b r. (let d = within_depth u lu in omega (arith, d, one)))
-            k lk b found.1
-        | inr linear ↦ absurd (false≢true (sym (ap (λ z. list_any (nat_eq found.0) z) (cond-false (is_product (gate s u).operation) ((gate s u).output ∷ []) [] linear)) ∙ c))
-      ])
-      (λ o lo b c. absurd (false≢true c))
-      j (omega (arith, less, lk)) less found.2
+      let lj : j < session_slots s = omega (arith, less, lk) in
+      let y = session_slot s j in
+      let z = session_slot s k in
+      let are = slots_are_numbered s in
+      let before : session_slot_number s y < session_slot_number s z = (let a = are.number j lj in let b = are.number k lk in omega (arith, a, b, less)) in
+      elim (or_cases (list_any (slot_completes s j) (reads_early s z)) (is_join s y && sets_early s z) e) [
+        | inl reads ↦ (let found = any_both (slot_completes s j) (reads_early s z) reads in reads_rise y z found.0 (are.inside j lj) (are.inside k lk) before found.2 found.1)
+        | inr joins ↦ (let both = and_parts (is_join s y) (sets_early s z) joins in join_rises y z (are.inside j lj) (are.inside k lk) before both.0 both.1)
+      ]
 
   -- the batches that begin in the first slots are no more than the layers up to the last of these
   begun_few : (n : ℕ) → n < session_slots s → total (suc n) (λ k. if nat_eq (batch s k) k then 1 else 0) ≤ suc (rank (batch s n))
@@ -135,12 +369,29 @@ module _ (s : Session) (wired : IsWired s) (by_layers : StandsByLayers s) where
             omega (arith, before, higher, none)
       ]
 
-  pub batches_few : batches s ≤ depth s + 2
-  batches_few = all (session_slots s) refl
+  -- each batch begins in a later layer than the one before it
+  pub few_begin : batches s ≤ all + depth s + 2
+  few_begin = go (session_slots s) refl
     where
-      all : (n : ℕ) → n ≡ session_slots s → total n (λ k. if nat_eq (batch s k) k then 1 else 0) ≤ depth s + 2
-      all zero e = omega arith
-      all (suc n) e =
+      go : (n : ℕ) → n ≡ session_slots s → total n (λ k. if nat_eq (batch s k) k then 1 else 0) ≤ all + depth s + 2
+      go zero e = omega arith
+      go (suc n) e =
           let few = begun_few n (omega (arith, e)) in
           let most_rank = rank_most (batch s n) (let b = batch_within s n in omega (arith, b, e)) in
           omega (arith, few, most_rank)
+
+-- ---- the laws
+
+pub prepared_few : (s : Session) → IsWired s → StandsByLayers s → JoinsLast s → batches s ≤ prepared_products s + depth s + 2
+prepared_few s wired by_layers joins_last =
+    let few = few_begin s wired by_layers joins_last in
+    elim (cases_Bool s.prepared) [
+      | inl e ↦ (let are = all_prepared s e in let count = cond-true s.prepared (products s) 0 e in omega (arith, few, are, count))
+      | inr e ↦ (let none = none_before s e (length s.gates) in omega (arith, few, none))
+    ]
+
+pub batches_few : (s : Session) → IsWired s → s.prepared ≡ false → StandsByLayers s → batches s ≤ depth s + 2
+batches_few s wired direct by_layers =
+    let few = few_begin s wired by_layers (λ t u less l e linear. absurd (false≢true (sym (none_prepared s direct t) ∙ e))) in
+    let none = none_before s direct (length s.gates) in
+    omega (arith, few, none)

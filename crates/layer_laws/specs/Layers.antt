@@ -1,9 +1,9 @@
 -- The layers of a circuit's products.
-use Rattle.std.specs.Prelude.{ℕ, zero, suc, ◌+◌, ◌<◌, ◌≤◌, max, nat_eq, if◌then◌else◌, List, [], ◌∷◌, length}
+use Rattle.std.specs.Prelude.{◌≡◌, ℕ, zero, suc, ◌+◌, ◌<◌, ◌≤◌, max, nat_eq, true, false, if◌then◌else◌, List, [], ◌∷◌, length}
 use Rattle.circuit_model.specs.Circuits.{is_product}
 use Rattle.circuit_model.specs.Netlists.{read_by}
 use Rattle.job_session.specs.KeptWires.{greatest}
-use Rattle.job_session.specs.Sessions.{Session, gate}
+use Rattle.job_session.specs.Sessions.{Session, gate, is_prepared}
 
 -- the greatest number that f gives to one of these wires, and 0 where there is none
 abbrev pub most : (ℕ → ℕ) → List ℕ → ℕ
@@ -31,3 +31,9 @@ depth s = greatest (length s.gates) (λ t. layer s t + product s t)
 -- no gate stands behind one of a later layer
 abbrev pub StandsByLayers : Session → Type 0
 StandsByLayers s = (t u : ℕ) → t ≤ u → u < length s.gates → layer s t ≤ layer s u
+
+-- no linear gate stands behind a prepared product of its layer
+abbrev pub JoinsLast : Session → Type 0
+JoinsLast s =
+    (t u : ℕ) → t < u → u < length s.gates → is_prepared s t ≡ true → is_product (gate s u).operation ≡ false
+    → layer s t < layer s u

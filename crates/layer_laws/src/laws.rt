@@ -1,12 +1,20 @@
-//! The law of circuits in layers.
-ghost use Rattle.std.specs.Prelude.{◌+◌, ◌≤◌};
+//! The laws of circuits in layers.
+ghost use Rattle.std.specs.Prelude.{◌≡◌, ◌+◌, ◌≤◌, false};
 ghost use Rattle.job_session.specs.Sessions.{Session};
 ghost use Rattle.job_session.specs.SoundSessions.{IsWired};
+ghost use Rattle.job_session.specs.Counts.{prepared_products};
 ghost use Rattle.job_session.specs.Batches.{batches};
-ghost use Rattle.layer_laws.specs.Layers.{StandsByLayers, depth};
+ghost use Rattle.layer_laws.specs.Layers.{JoinsLast, StandsByLayers, depth};
 
-/// Where no gate stands behind one of a later layer, there is at most a batch for the inputs, one for each product of
-/// the longest path, and one for the outputs.
+/// Where no product is prepared and no gate stands behind one of a later layer, there is at most a batch for the inputs,
+/// one for each product of the longest path, and one for the outputs.
 pub fn batches_are_few()
-    ensures { (s : Session) → IsWired s → StandsByLayers s → batches s ≤ depth s + 2 }
+    ensures { (s : Session) → IsWired s → s.prepared ≡ false → StandsByLayers s → batches s ≤ depth s + 2 }
+{}
+
+/// With prepared products there is one more for each of them, where in each layer the linear gates stand before the
+/// products.
+pub fn prepared_batches_are_few()
+    ensures { (s : Session) → IsWired s → StandsByLayers s → JoinsLast s
+        → batches s ≤ prepared_products s + depth s + 2 }
 {}

@@ -6,11 +6,13 @@ use Rattle.std.proofs.lemmas.List.{length-take, get_or-append-add, get_or-set_sa
 use Rattle.std.proofs.Math.ListN.{get_or-append}
 use mathlib.Core.Logic.{inl, inr}
 use Rattle.std.proofs.lemmas.List.Filters.{length-filter_more, length-filter_both}
-use Rattle.job_plan.specs.Plans.{Plan, IsPlan}
+use Rattle.job_plan.specs.Plans.{Plan, session}
 use Rattle.job_plan.specs.Sound.{IsSound}
 use Rattle.job_plan.specs.declared.key.Key.{Key}
 use Rattle.job_plan.specs.Messages.{messages}
 use Rattle.job_plan.specs.Numbers.{message, no_key}
+use Rattle.job_plan.proofs.PlanSchemes.{plan_is}
+use Rattle.job_plan.proofs.Slots.{few_slots}
 use Rattle.job_plan.proofs.DistinctMessages.{every_place}
 use Rattle.party_program.specs.Proper.{Proper}
 use Rattle.program_laws.specs.Once.{IsBetweenParties}
@@ -80,11 +82,8 @@ module _ (plan : Plan) (me n : ℕ) (l : n < length (messages plan)) where
 
 -- ---- frames
 
-pub plan_of : (plan : Plan) → IsSound plan → IsPlan plan
-plan_of plan h = record { bits = h.some_bits; groups = h.some_groups; q2 = h.q2 }
-
 pub between_parties : (plan : Plan) → IsSound plan → (m : ℕ) → m < length (messages plan) → IsBetweenParties plan (message plan m)
-between_parties plan h m lm = between plan m (plan_of plan h) (λ s v ls lv. (h.sessions s ls).owned v lv) lm
+between_parties plan h m lm = between plan m (plan_is plan h) (λ s v ls lv. (h.sessions s ls).owned v lv) lm
 
 -- a frame has room for the name of each message
 pub fits_frame : (plan : Plan) → IsSound plan → (m : ℕ) → m < length (messages plan) → FitsFrame (message plan m)
@@ -93,10 +92,10 @@ fits_frame plan h m lm =
     let o = once plan m lm in
     let b = between_parties plan h m lm in
     let p = subst (Proper plan key.session) o.posted.stands (proper_at plan h key.session key.sender o.session_there b.sender o.posted.position) in
-    let x = (h.sessions key.session o.session_there).wired in
+    let few = few_slots (session plan key.session) (h.sessions key.session o.session_there).wired in
     record {
       session = (let a = o.session_there in let c = h.few_sessions in omega arith);
-      slot = (let a = o.slot_there in let c = x.wires in let d = x.gates in let e = x.input_wires in let f = x.output_wires in omega arith);
+      slot = (let a = o.slot_there in omega arith);
       share = (let a = p.share in let c = h.groups in omega arith);
       sender = (let a = b.sender in let c = h.parties in omega arith);
       receiver = (let a = b.receiver in let c = h.parties in omega arith);

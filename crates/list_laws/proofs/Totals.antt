@@ -1,6 +1,9 @@
 -- Sums over the numbers below n.
-use Rattle.std.proofs.Common.{◌≡◌, ℕ, zero, suc, ◌+◌, ◌*◌, ◌<◌, ◌≢◌, nat_eq, if◌then◌else◌, refl, sym, ap, ◌∙◌, subst, arith}
-use Rattle.std.proofs.lemmas.Bool.{cases_eq, cond-true, cond-false, eq-eqb, ne_eqb}
+use Rattle.std.proofs.Common.{◌≡◌, ℕ, zero, suc, ◌+◌, ◌*◌, ◌<◌, ◌≤◌, ◌≢◌, nat_eq, Bool, if◌then◌else◌, List, length, take, refl, sym, ap, ◌∙◌, subst, arith}
+use Rattle.std.specs.Prelude.{slice_index_or, count_by}
+use Rattle.std.proofs.Math.Seq.{take-length}
+use Rattle.std.proofs.lemmas.List.Sums.{count_by_more_yes, count_by_more_no}
+use Rattle.std.proofs.lemmas.Bool.{cases_Bool, cases_eq, cond-true, cond-false, eq-eqb, ne_eqb}
 use mathlib.Core.Logic.{inl, inr}
 use Rattle.list_laws.specs.Lists.{total}
 
@@ -59,3 +62,23 @@ total_pick (suc n) d a l = elim (cases_eq d n) [
 
 pub total_more : (n : ℕ) (f : ℕ → ℕ) → total (n + 1) f ≡ total n f + f n
 total_more n f = let more : n + 1 ≡ suc n = omega arith in ap (λ z. total z f) more
+
+-- how many items pass
+count_front : {A : Type 0} (p : A → Bool) (xs : List A) (d : A) (n : ℕ) → n ≤ length xs → total n (λ i. if p (slice_index_or xs i d) then 1 else 0) ≡ count_by p (take n xs)
+count_front p xs d zero l = refl
+count_front p xs d (suc n) l =
+    let more : n + 1 ≡ suc n = omega arith in
+    let before = count_front p xs d n (omega arith) in
+    elim (cases_Bool (p (slice_index_or xs n d))) [
+      | inl e ↦
+          let here : ◌≡◌ {A = ℕ} (if p (slice_index_or xs n d) then 1 else 0) 1 = cond-true _ 1 0 e in
+          let step = count_by_more_yes p xs n d (omega arith) e in
+          omega (arith, before, here, step, ap (λ z. count_by p (take z xs)) more)
+      | inr e ↦
+          let here : ◌≡◌ {A = ℕ} (if p (slice_index_or xs n d) then 1 else 0) 0 = cond-false _ 1 0 e in
+          let step = count_by_more_no p xs n d (omega arith) e in
+          omega (arith, before, here, step, ap (λ z. count_by p (take z xs)) more)
+    ]
+
+pub total_count : {A : Type 0} (p : A → Bool) (xs : List A) (d : A) → total (length xs) (λ i. if p (slice_index_or xs i d) then 1 else 0) ≡ count_by p xs
+total_count p xs d = count_front p xs d (length xs) (omega arith) ∙ ap (count_by p) (take-length xs)

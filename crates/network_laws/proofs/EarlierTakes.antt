@@ -1,7 +1,6 @@
 -- What a party posts is the world's, where what it took before is.
 use Rattle.std.proofs.Common.{◌≡◌, ℕ, ◌<◌, length, sym, ap, ◌∙◌}
 use Rattle.job_plan.specs.declared.key.Key.{Key}
-use Rattle.job_plan.specs.Plans.{session}
 use Rattle.job_plan.specs.Numbers.{message}
 use Rattle.share_world.specs.Worlds.{World, word}
 use Rattle.share_world.specs.Locals.{local_word}
@@ -21,5 +20,5 @@ module _ (w : World) (whole : IsWhole w) (s p : ℕ) (ls : s < length w.plan.ses
   posts_world =
       let mine = goes w whole.sound got s p ls lp (λ k j. small_words w whole s p k j) position (Post m i) stands (λ f. cc) in
       sym mine.1.1
-      ∙ ap (posted (session w.plan s) (slot_of w.plan m) i) (state_same (local_given w got s p) (λ n. word w (message w.plan n)) position before)
+      ∙ ap (posted w.plan s (slot_of w.plan m) i) (state_same (local_given w got s p) (λ n. word w (message w.plan n)) position before)
       ∙ (lawful w whole).right s p position m i ls lp stands

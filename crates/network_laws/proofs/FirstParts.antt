@@ -12,7 +12,7 @@ use Rattle.job_plan.specs.Plans.{Plan}
 use Rattle.job_plan.specs.declared.key.Key.{Key}
 use Rattle.job_plan.specs.Numbers.{message, no_key}
 use Rattle.party_program.specs.declared.program.Instruction.{Instruction}
-use Rattle.party_program.specs.declared.program.Instruction.TheVariants.{Deal, Post, Take, Linear, Own, Sum, Deliver, End}
+use Rattle.party_program.specs.declared.program.Instruction.TheVariants.{Post, End}
 use Rattle.party_program.specs.Programs.{program, at, to}
 use Rattle.frame_code.specs.Frames.{frame}
 use Rattle.frame_code.proofs.ReadFrames.{length-frame}
@@ -79,13 +79,7 @@ at_take (x ∷ es) (suc n) (suc j) m i e = let r = at_take es n j m i e in (omeg
 module _ (plan : Plan) (q : ℕ) (P : Key → Type 0) where
   one_posted : (e : Instruction) → ((m i : ℕ) → e ≡ Post m i → P (message plan m)) → AllByRecursion P (post_to plan q e)
   one_posted (Post m i) h = every_only_if P (to plan q m) (message plan m ∷ []) (λ yes'. (h m i refl, tt))
-  one_posted (Deal k d) h = tt
-  one_posted (Take m i) h = tt
-  one_posted (Linear k) h = tt
-  one_posted (Own k) h = tt
-  one_posted (Sum k) h = tt
-  one_posted (Deliver k) h = tt
-  one_posted End h = tt
+  one_posted _ h = tt
 
   posted_in : (es : List Instruction) → ((j m i : ℕ) → at es j ≡ Post m i → P (message plan m)) → AllByRecursion P (flat_map (post_to plan q) es)
   posted_in [] h = tt

@@ -123,7 +123,7 @@ module _ (w : World) (whole : IsWhole w) (digest : List ℕ) (p : ℕ) (lp : p <
     session_count = length-listed (length w.plan.sessions) row;
     words = got_word;
     sent = λ m lm from. sent_word m lm from ∙ ap Some (sym (own_right me whole lp (word w) right m lm from));
-    outputs = λ s o ls lo read. output_at s o ls lo ∙ cond-true (reads w.plan p s o) _ None read ∙ ap Some (sym (opened_are_plain w is_world p s o));
+    outputs = λ s o ls lo read. output_at s o ls lo ∙ cond-true (reads w.plan p s o) _ None read ∙ ap Some (sym (opened_are_plain w is_world p s o lo));
     no_word = none_else;
     no_output = no_other;
   }

@@ -15,7 +15,7 @@ use Rattle.message_board.specs.declared.cells.Posted.{Posted}
 use Rattle.message_board.specs.declared.cells.Posted.TheVariants.{Done}
 use Rattle.message_board.specs.declared.cells.Cells.{Ghosts as Meaning}
 use Rattle.party_program.specs.declared.program.Instruction.{Instruction}
-use Rattle.party_program.specs.declared.program.Instruction.TheVariants.{Deal, Post, Take, Linear, Own, Sum, Deliver, End}
+use Rattle.party_program.specs.declared.program.Instruction.TheVariants.{Post, Take, End}
 use Rattle.party_program.specs.Programs.{program, at}
 use Rattle.party_program.specs.States.{Given, state}
 use Rattle.party_desk.specs.declared.desk.Desk.{Desk}
@@ -146,7 +146,6 @@ module _ (cells : Meaning Mail) (are : AreNodeCells cells) (n : Node) (s : ℕ) 
   e = at (program n.world.plan n.me s) d.position
 
   allows_at : (got : Key → ℕ) (i : Instruction) → NextIs (l got) d.position i → Allows cells c (l got) d.position i
-  allows_at got (Deal k' j) x = tt
   allows_at got (Post m j) x = are.may_post c m (word_at (l got) d.position m j) (record {
     there = subst (λ z. m < length (messages z)) (sym h.going.own.plan) x.0;
     sender = ap (λ z. (message z m).sender) h.going.own.plan ∙ x.1 ∙ sym h.going.own.me;
@@ -156,11 +155,7 @@ module _ (cells : Meaning Mail) (are : AreNodeCells cells) (n : Node) (s : ℕ) 
     there = subst (λ z. m < length (messages z)) (sym h.going.own.plan) x.0;
     receiver = ap (λ z. (message z m).receiver) h.going.own.plan ∙ x.1 ∙ sym h.going.own.me;
   })
-  allows_at got (Linear k') x = tt
-  allows_at got (Own k') x = tt
-  allows_at got (Sum k') x = tt
-  allows_at got (Deliver k') x = tt
-  allows_at got End x = tt
+  allows_at got _ x = tt
 
   pub may_step : (got : Key → ℕ) → Agrees n c.words.cells got → MayStep cells n.world.plan c (local_given n.world got s n.me) d
   may_step got ag = record { same = refl; desk = h.desk got ag; allows = allows_at got (instruction_at (l got) d) (next_is (l got) d (h.desk got ag)) }
@@ -461,14 +456,10 @@ module _ (cells : Meaning Mail) (are : AreNodeCells cells) (n : Node) (s : ℕ) 
             (subst (λ z. SentTo (message c.plan m).receiver (frame (message c.plan m) z) (with_post c m z) c') own put)
 
     moved_at : (i : Instruction) → e ≡ i → Next
-    moved_at (Deal k' j) is = stays (Deal k' j) is (λ f. cc) (λ q word. refl) (λ m j' f. cc) (λ m j' f. cc) (subst (Does cells (l old) d c d' c') is first.1).0 (λ got ag. (subst (Does cells (l got) d c d' c') is (step got ag).1).1)
     moved_at (Post m j) is = posts m j is
     moved_at (Take m j) is = takes m j is
-    moved_at (Linear k') is = stays (Linear k') is (λ f. cc) (λ q word. refl) (λ m j' f. cc) (λ m j' f. cc) (subst (Does cells (l old) d c d' c') is first.1).0 (λ got ag. (subst (Does cells (l got) d c d' c') is (step got ag).1).1)
-    moved_at (Own k') is = stays (Own k') is (λ f. cc) (λ q word. refl) (λ m j' f. cc) (λ m j' f. cc) (subst (Does cells (l old) d c d' c') is first.1).0 (λ got ag. (subst (Does cells (l got) d c d' c') is (step got ag).1).1)
-    moved_at (Sum k') is = stays (Sum k') is (λ f. cc) (λ q word. refl) (λ m j' f. cc) (λ m j' f. cc) (subst (Does cells (l old) d c d' c') is first.1).0 (λ got ag. (subst (Does cells (l got) d c d' c') is (step got ag).1).1)
-    moved_at (Deliver k') is = stays (Deliver k') is (λ f. cc) (λ q word. refl) (λ m j' f. cc) (λ m j' f. cc) (subst (Does cells (l old) d c d' c') is first.1).0 (λ got ag. (subst (Does cells (l got) d c d' c') is (step got ag).1).1)
     moved_at End is = absurd (subst (Does cells (l old) d c d' c') is first.1)
+    moved_at i is = stays i is (λ f. cc) (λ q word. refl) (λ m j f. cc) (λ m j f. cc) (subst (Does cells (l old) d c d' c') is first.1).0 (λ got ag. (subst (Does cells (l got) d c d' c') is (step got ag).1).1)
 
     pub moved : (c'.failed ≡ None → InSession n s start d' c') × (c'.failed ≢ None → Halted n start c')
     moved = moved_at e refl
@@ -488,13 +479,7 @@ module _ (cells : Meaning Mail) (are : AreNodeCells cells) (n : Node) (s : ℕ) 
           }),
           subst (Awaits n s d') (sym x.0) (subst (λ z. Awaits n s z m') (sym x.1) (j, act_is (inside (λ f. (let g : Take m' j ≡ End = sym is ∙ f in cc))) ∙ is)),
         )
-    waited_at (Deal k' j) is x = absurd x
-    waited_at (Post m' j) is x = absurd x
-    waited_at (Linear k') is x = absurd x
-    waited_at (Own k') is x = absurd x
-    waited_at (Sum k') is x = absurd x
-    waited_at (Deliver k') is x = absurd x
-    waited_at End is x = absurd x
+    waited_at _ is x = absurd x
 
     pub waited : InSession n s start d' c' × MayTake c' m × Awaits n s d' m
     waited = waited_at e refl (steps (l (known n c.words.cells)) (may_step (known n c.words.cells) (agrees_known n c.words.cells h.going.own.cells)))

@@ -1,26 +1,24 @@
 -- The posts of p to q, in the order of its instructions, are the messages from p to q in the order of their numbers.
-use Rattle.std.proofs.Common.{◌≡◌, ℕ, zero, suc, ◌+◌, ◌-◌, ◌<◌, ◌≤◌, not, List, [], ◌∷◌, ◌++◌, length, take, map, refl, sym, ap, ap₂, ◌∙◌, arith, append_assoc}
+use Rattle.std.proofs.Common.{◌≡◌, ℕ, zero, suc, ◌<◌, ◌≤◌, List, [], ◌∷◌, ◌++◌, length, take, map, refl, sym, ap, ap₂, ◌∙◌, arith, append_assoc}
 use Rattle.std.specs.Prelude.{filter}
 use Rattle.std.specs.List.{flat_map, AllByRecursion}
 use Rattle.std.proofs.lemmas.Bool.{cases_Bool, cond-true, cond-false, and_from, and_left, and_right}
 use Rattle.std.proofs.lemmas.List.{append-nil, take_all}
 use Rattle.std.proofs.lemmas.Grind.{flat_map-append}
 use mathlib.Core.Logic.{inl, inr}
-use Rattle.list_laws.specs.Lists.{joined, only_if}
-use Rattle.list_laws.proofs.JoinedLists.{joined_eq, every_append, every_joined, every_only_if}
-use Rattle.circuit_model.specs.Circuits.{is_product}
-use Rattle.job_session.specs.Sessions.{Session, Slot, gate}
-use Rattle.job_session.specs.Batches.{batch, is_last}
-use Rattle.job_session.specs.Sessions.Slot.{Input, At_gate, Output}
-use Rattle.job_plan.specs.Plans.{Plan, session, slot, slots, deals_in, opens_to}
+use Rattle.list_laws.specs.Lists.{joined}
+use Rattle.list_laws.proofs.JoinedLists.{joined_eq}
+use Rattle.job_plan.specs.Plans.{Plan, slot, slots}
 use Rattle.job_plan.specs.declared.key.Key.{Key}
 use Rattle.job_plan.specs.Firsts.{numbers}
 use Rattle.job_plan.specs.Messages.{slot_messages, session_messages}
-use Rattle.job_plan.specs.Numbers.{message, deals_before}
+use Rattle.job_plan.specs.Numbers.{message}
 use Rattle.job_plan.proofs.SlotMessages.{keys_are}
 use Rattle.party_program.specs.declared.program.Instruction.{Instruction}
-use Rattle.party_program.specs.declared.program.Instruction.TheVariants.{Deal, Linear, Own, Sum, Deliver}
-use Rattle.party_program.specs.Programs.{program, at, from, to, post, take_of, opening, posts, takes, closing, head, tail, tails, turn}
+use Rattle.party_program.specs.declared.program.Instruction.TheVariants.{Post}
+use Rattle.party_program.specs.Programs.{program, at, from, to, post, opening, posts, head, tail, slot_program}
+use Rattle.program_laws.proofs.ProgramParts.{every_opening}
+use Rattle.program_laws.proofs.SameTalks.{Quiet, quiet_tail, told_stays}
 use Rattle.node_talk.specs.Talks.{Node, acts, goes, messages_between, stream, post_to, posts_to, TalkIsSaid}
 use Rattle.node_talk.proofs.PassedLists.{filter_joined}
 
@@ -32,76 +30,63 @@ none_of : {A : Type 0} (f : Instruction → List A) (es : List Instruction) → 
 none_of f [] h = refl
 none_of f (e ∷ es) h = ap₂ (λ a b. a ++ b) h.0 (none_of f es h.1)
 
--- ---- one slot
+-- ---- one session, where p goes slot by slot
 
-module _ (plan : Plan) (p q s k : ℕ) where
-  abbrev None : Instruction → Type 0
-  None e = post_to plan q e ≡ []
+module _ (plan : Plan) (p q s : ℕ) where
+  abbrev sent : Instruction → List Key
+  sent = post_to plan q
 
-  opening_posts : (z : Slot) → AllByRecursion None (opening plan p s k z)
-  opening_posts (Input v) = every_only_if None (deals_in plan s p (Input v)) (Deal k (deals_before plan p s k) ∷ []) (λ h. (refl, tt))
-  opening_posts (At_gate t) =
-      every_append None _ _ (every_only_if None (deals_in plan s p (At_gate t)) (Own k ∷ Deal k (deals_before plan p s k) ∷ []) (λ h. (refl, (refl, tt))))
-      (every_only_if None (not (is_product (gate (session plan s) t).operation)) (Linear k ∷ []) (λ h. (refl, tt)))
-  opening_posts (Output o) = tt
+  quiet : Quiet plan s p sent
+  quiet (Post m i) own = absurd own
+  quiet _ own = refl
 
-  closing_posts : (z : Slot) → AllByRecursion None (closing plan p s k z)
-  closing_posts (Input v) = tt
-  closing_posts (At_gate t) = every_only_if None (is_product (gate (session plan s) t).operation) (Sum k ∷ []) (λ h. (refl, tt))
-  closing_posts (Output o) = every_only_if None (opens_to plan s p (Output o)) (Deliver k ∷ []) (λ h. (refl, tt))
+  tail_posts : (k : ℕ) → flat_map sent (tail plan p s k) ≡ []
+  tail_posts = quiet_tail plan s p sent quiet (λ n i. refl)
 
-  no_takes : (ns : List ℕ) → AllByRecursion None (map (take_of plan) ns)
-  no_takes [] = tt
-  no_takes (n ∷ ns) = (refl, no_takes ns)
+  opening_posts : (k : ℕ) → flat_map sent (opening plan p s k (slot plan s k)) ≡ []
+  opening_posts k = none_of sent _ (every_opening plan s p (λ e. sent e ≡ []) k (record {
+    draws = λ t side is some. refl;
+    inputs = λ v is gives. refl;
+    products = λ z is product pair. (refl, refl);
+    linears = λ t is linear. refl;
+  }))
 
-  -- a tail has no post
-  tail_posts : AllByRecursion None (tail plan p s k)
-  tail_posts = every_append None (takes plan p s k) (closing plan p s k (slot plan s k)) (no_takes (filter (to plan p) (numbers plan s k))) (closing_posts (slot plan s k))
-
-  posted_keys : (ns : List ℕ) → flat_map (post_to plan q) (map (post plan) (filter (from plan p) ns)) ≡ filter (goes p q) (map (message plan) ns)
+  posted_keys : (ns : List ℕ) → flat_map sent (map (post plan) (filter (from plan p) ns)) ≡ filter (goes p q) (map (message plan) ns)
   posted_keys [] = refl
   posted_keys (n ∷ ns) =
       let rest : List Key = filter (goes p q) (map (message plan) ns) in
       elim (cases_Bool (from plan p n)) [
-        | inl f ↦ ap (λ z. flat_map (post_to plan q) (map (post plan) z)) (cond-true (from plan p n) (n ∷ filter (from plan p) ns) (filter (from plan p) ns) f)
+        | inl is ↦ ap (λ z. flat_map sent (map (post plan) z)) (cond-true (from plan p n) (n ∷ filter (from plan p) ns) (filter (from plan p) ns) is)
             ∙ elim (cases_Bool (to plan q n)) [
               | inl t ↦ ap₂ (λ a b. a ++ b) (cond-true (to plan q n) (message plan n ∷ []) [] t) (posted_keys ns)
-                  ∙ sym (cond-true (goes p q (message plan n)) (message plan n ∷ rest) rest (and_from (from plan p n) (to plan q n) f t))
+                  ∙ sym (cond-true (goes p q (message plan n)) (message plan n ∷ rest) rest (and_from (from plan p n) (to plan q n) is t))
               | inr t ↦ ap₂ (λ a b. a ++ b) (cond-false (to plan q n) (message plan n ∷ []) [] t) (posted_keys ns)
                   ∙ sym (cond-false (goes p q (message plan n)) (message plan n ∷ rest) rest (and_right (from plan p n) (to plan q n) t))
             ]
-        | inr f ↦ ap (λ z. flat_map (post_to plan q) (map (post plan) z)) (cond-false (from plan p n) (n ∷ filter (from plan p) ns) (filter (from plan p) ns) f)
+        | inr is ↦ ap (λ z. flat_map sent (map (post plan) z)) (cond-false (from plan p n) (n ∷ filter (from plan p) ns) (filter (from plan p) ns) is)
             ∙ posted_keys ns
-            ∙ sym (cond-false (goes p q (message plan n)) (message plan n ∷ rest) rest (and_left (from plan p n) (to plan q n) f))
+            ∙ sym (cond-false (goes p q (message plan n)) (message plan n ∷ rest) rest (and_left (from plan p n) (to plan q n) is))
       ]
 
-  head_posts : flat_map (post_to plan q) (head plan p s k) ≡ filter (goes p q) (map (message plan) (numbers plan s k))
-  head_posts =
-      let f = post_to plan q in
-      let o = opening plan p s k (slot plan s k) in
-      flat_map-append f o (posts plan p s k) ∙ ap₂ (λ x y. x ++ y) (none_of f o (opening_posts (slot plan s k))) (posted_keys (numbers plan s k))
+  slot_posts : (k : ℕ) → flat_map sent (slot_program plan p s k) ≡ filter (goes p q) (map (message plan) (numbers plan s k))
+  slot_posts k =
+      flat_map-append sent (head plan p s k) (tail plan p s k)
+      ∙ ap₂ (λ a b. a ++ b) (flat_map-append sent (opening plan p s k (slot plan s k)) (posts plan p s k) ∙ ap₂ (λ a b. a ++ b) (opening_posts k) (posted_keys (numbers plan s k))) (tail_posts k)
+      ∙ append-nil (filter (goes p q) (map (message plan) (numbers plan s k)))
 
--- those of a turn are those of its head
-turn_posts : (plan : Plan) (p q s k : ℕ) → flat_map (post_to plan q) (turn plan p s k) ≡ filter (goes p q) (map (message plan) (numbers plan s k))
-turn_posts plan p q s k =
-    let x : Session = session plan s in
-    let f = post_to plan q in
-    let rest : List Instruction = only_if (is_last x k) (tails plan p s (batch x k) (suc k)) in
-    let none : AllByRecursion (None plan p q s k) rest =
-    every_only_if (None plan p q s k) (is_last x k) (tails plan p s (batch x k) (suc k)) (λ e. every_joined (None plan p q s k) (suc k - batch x k) (λ j. tail plan p s (batch x k + j)) (λ j lj. tail_posts plan p q s (batch x k + j))) in
-    flat_map-append f (head plan p s k) rest
-    ∙ ap₂ (λ a b. a ++ b) (head_posts plan p q s k) (none_of f rest none)
-    ∙ append-nil (filter (goes p q) (map (message plan) (numbers plan s k)))
+  session_posts : s < length plan.sessions → flat_map sent (program plan p s) ≡ filter (goes p q) (session_messages plan s)
+  session_posts ls =
+      told_stays plan s p sent (inr tail_posts)
+      ∙ flat_joined sent (slots plan s) (slot_program plan p s)
+      ∙ joined_eq (slots plan s) _ (λ k. filter (goes p q) (slot_messages plan s k (slot plan s k))) (λ k lk. slot_posts k ∙ ap (filter (goes p q)) (keys_are plan s k ls lk))
+      ∙ sym (filter_joined (goes p q) (slots plan s) (λ k. slot_messages plan s k (slot plan s k)))
 
 -- ---- all instructions
 
 pub posts_in_order : (plan : Plan) (p q : ℕ) → flat_map (post_to plan q) (joined (length plan.sessions) (program plan p)) ≡ messages_between plan p q
 posts_in_order plan p q =
     flat_joined (post_to plan q) (length plan.sessions) (program plan p)
-    ∙ joined_eq (length plan.sessions) _ (λ s. filter (goes p q) (session_messages plan s)) (λ s ls.
-    flat_joined (post_to plan q) (slots plan s) (turn plan p s)
-    ∙ joined_eq (slots plan s) _ (λ k. filter (goes p q) (slot_messages plan s k (slot plan s k))) (λ k lk. turn_posts plan p q s k ∙ ap (filter (goes p q)) (keys_are plan s k ls lk))
-    ∙ sym (filter_joined (goes p q) (slots plan s) (λ k. slot_messages plan s k (slot plan s k))))
+    ∙ joined_eq (length plan.sessions) _ (λ s. filter (goes p q) (session_messages plan s)) (λ s ls. session_posts plan p q s ls)
     ∙ sym (filter_joined (goes p q) (length plan.sessions) (session_messages plan))
 
 pub posts_are_all : (n : Node) (q : ℕ) → posts_to n q (length (acts n)) ≡ messages_between n.world.plan n.me q

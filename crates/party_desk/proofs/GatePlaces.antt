@@ -1,13 +1,14 @@
 -- Where a desk stands at gates.
-use Rattle.std.proofs.Common.{◌≡◌, ◌≢◌, ℕ, zero, suc, ◌+◌, ◌-◌, ◌<◌, ◌≤◌, ◌^◌, Bool, if◌then◌else◌, List, length, drop, refl, sym, ap, ◌∙◌, subst, inl, inr, arith}
+use Rattle.std.proofs.Common.{◌≡◌, ◌≢◌, ℕ, zero, suc, ◌+◌, ◌<◌, ◌≤◌, ◌^◌, Bool, true, false, not, ◌&&◌, if◌then◌else◌, List, [], ◌∷◌, length, drop, refl, sym, ap, ◌∙◌, subst, inl, inr, arith}
 use Rattle.std.specs.Prelude.{slice_index, slice_index_or}
-use Rattle.std.proofs.lemmas.Bool.{cases_lt}
+use Rattle.std.proofs.lemmas.Bool.{cases_lt, false≢true}
 use Rattle.circuit_model.specs.Circuits.{is_product}
 use Rattle.circuit_model.specs.declared.gate.Gate.{Gate}
 use Rattle.job_session.specs.Batches.{IsBatch}
-use Rattle.job_session.specs.Sessions.{Session, owners, gate, session_slot, session_slots}
-use Rattle.job_session.proofs.SessionSlots.{slot_gate, slot_cases}
-use Rattle.job_plan.specs.declared.pattern.Pattern.TheVariants.{Silent, Multiplied}
+use Rattle.job_session.specs.Sessions.{Session, Slot, owners, session_slot, session_slots, product_in}
+use Rattle.job_session.specs.Sessions.Slot.{Input, At_gate, Output, Mask, Mask_product, Masked}
+use Rattle.job_session.proofs.SessionSlots.{slot_cases}
+use Rattle.job_plan.specs.declared.pattern.Pattern.TheVariants.{Silent, Multiplied, Joined}
 use Rattle.job_plan.specs.Plans.{Plan, session, slot, slots}
 use Rattle.job_plan.specs.Numbers.{deals_before}
 use Rattle.job_plan.specs.Firsts.{first}
@@ -21,27 +22,28 @@ use Rattle.party_program.specs.declared.step.Step.{Step}
 use Rattle.party_program.specs.declared.step.Step.TheVariants as step
 use Rattle.party_program.specs.Programs.{half_program, program, at}
 use Rattle.party_program.specs.PartySteps.{steps, placed}
-use Rattle.party_program.specs.Proper.{IsGate, IsGivenWord, IsSlot, Proper, drawn_by}
+use Rattle.party_program.specs.Proper.{IsGate, IsGivenWord, IsSlot, Multiplies, Proper, drawn_by}
 use Rattle.party_program.specs.ProgramPlaces.{position_of, InProduct, IsPlace}
-use Rattle.party_program.specs.States.{Given, computed, gate_in_slot, summed}
+use Rattle.party_program.specs.States.{Given, computed, summed}
 use Rattle.party_program.proofs.GateInstructions.{linear_place}
 use Rattle.party_program.proofs.ProgramPlaces.{batch_of, before_more, count_at, ends_there, in_slot, instruction_is, length-half, step_is}
 use Rattle.party_program.proofs.GateSlots.{first_place, first_is, linear_at, linear_more, linear_one}
 use Rattle.program_laws.specs.WordsRead.{gate_at}
 use Rattle.party_desk.specs.declared.desk.Desk.{Desk}
 use Rattle.party_desk.specs.declared.memory.Memory.{Memory}
-use Rattle.party_desk.specs.Memories.{state_of, row_of, Alike, IsMemoryOf, KeepsGiven}
-use Rattle.party_desk.specs.Rows.{gate_in, gate_on_rows}
+use Rattle.party_desk.specs.Memories.{state_of, row_of, on_rows, Alike, IsMemoryOf, KeepsGiven}
+use Rattle.party_desk.specs.Rows.{gate_in, AreLinear, IsFirstProduct}
 use Rattle.party_desk.specs.Desks.{Advanced, IsDesk, after_on_rows, instruction_at, posts_in, takes_in}
-use Rattle.party_desk.specs.Walks.{IsDeskOfPlan, IsUnplaced, IsBefore, IsAmongGates, AreGatesFrom, NoPosts, Computes, at_place}
+use Rattle.party_desk.specs.Walks.{IsDeskOfPlan, IsUnplaced, IsBefore, IsAmongGates, IsSlotOf, AreGatesFrom, NoPosts, Computes, at_place}
 use Rattle.party_desk.proofs.AllowedSteps.{proper_own, stays}
 use Rattle.party_desk.proofs.GateWalks.{few_done, moved_place, silent_computes}
+use Rattle.party_desk.proofs.NamedSlots.{product_in_slot}
 
 -- ---- an instruction that changes the memory alone
 
 -- the desk goes on to this place with this memory
 module _ (l : Given) (d : Desk) (h : IsDesk l d) (i : Instruction) (m : Memory) (place : Place) (is : IsPlace l.plan l.party l.session place (d.position + 1)) (fits : IsMemoryOf l.plan d.session m) (kept : KeepsGiven d.memory m) where
-  pub advances_at : posts_in i ≡ 0 → takes_in i ≡ 0 → drawn_by l.plan i ≡ 0
+  pub advances_at : posts_in i ≡ 0 → takes_in i ≡ 0 → drawn_by l.plan d.party i ≡ 0
       → Alike (length l.plan.groups) (state_of (length l.plan.groups) m)
       (after_on_rows (row_of d.memory) l.plan d.party d.session (slice_index d.memory.tape) (slice_index d.memory.inputs.items d.memory.given) 0 i (state_of (length l.plan.groups) d.memory))
       → Advanced l.plan 0 i d (at_place (record d { position = d.position + 1; memory = m }) place)
@@ -64,44 +66,62 @@ module _ (l : Given) (d : Desk) (h : IsDesk l d) (i : Instruction) (m : Memory) 
 
 -- ---- slots of gates
 
--- the slot of a gate is among those of gates
-pub gate_slot : (s : Session) (k : ℕ) → k < session_slots s → IsGate (session_slot s k) → (length (owners s) ≤ k) × (k < length (owners s) + length s.gates)
-gate_slot s k lk =
-    slot_cases s (λ j z. IsGate z → (length (owners s) ≤ j) × (j < length (owners s) + length s.gates))
+-- where products are dealt themselves, the slot of a product is among those of gates
+pub gate_slot : (s : Session) → s.prepared ≡ false → (k : ℕ) → k < session_slots s → Multiplies (session_slot s k) → (length (owners s) ≤ k) × (k < length (owners s) + length s.gates)
+gate_slot s direct k lk =
+    slot_cases s direct (λ j z. Multiplies z → (length (owners s) ≤ j) × (j < length (owners s) + length s.gates))
     (λ v l h. absurd h) (λ t l h. (omega arith, omega arith)) (λ o l h. absurd h) k lk
 
-module _ (plan : Plan) (s : ℕ) where
-  -- a slot of a product is of a gate
-  pub product_gate : (k : ℕ) → k < slots plan s → pattern_at plan s k ≡ Multiplied → IsGate (slot plan s k)
-  product_gate k lk = slot_cases (session plan s) (λ j z. pattern plan s z ≡ Multiplied → IsGate z) (λ v l e. cc) (λ t l e. tt) (λ o l e. cc) k lk
+-- a slot of a product is of a gate, or of a product of masks
+pub product_gate : (plan : Plan) (s k : ℕ) → pattern_at plan s k ≡ Multiplied → Multiplies (slot plan s k)
+product_gate plan s k = product_in_slot plan s (slot plan s k)
 
-  module _ (t : ℕ) (lt : t < length (session plan s).gates) where
-    -- how the slot of a gate goes
-    pub gate_pattern : (product : Bool) → is_product (gate (session plan s) t).operation ≡ product → pattern_at plan s (length (owners (session plan s)) + t) ≡ (if product then Multiplied else Silent)
-    gate_pattern product is = ap (pattern plan s) (slot_gate (session plan s) t lt) ∙ ap (λ b. if b then Multiplied else Silent) is
+-- a slot of a gate is one in which a product may be
+pub gate_multiplies : (z : Slot) → IsGate z → Multiplies z
+gate_multiplies (At_gate t) h = tt
+gate_multiplies (Input v) h = absurd h
+gate_multiplies (Output o) h = absurd h
+gate_multiplies (Mask t side) h = absurd h
+gate_multiplies (Mask_product t) h = absurd h
+gate_multiplies (Masked t side) h = absurd h
 
-    -- its gate
-    pub gate_is : gate_at plan s (length (owners (session plan s)) + t) ≡ gate (session plan s) t
-    gate_is = ap (gate_in_slot (session plan s)) (slot_gate (session plan s) t lt)
+-- how the slot of a gate goes that isn't a prepared product
+by_product : (prepared product : Bool) → (prepared && product) ≡ false → (if (not prepared && product) then Multiplied else if (prepared && product) then Joined else Silent) ≡ (if product then Multiplied else Silent)
+by_product true true e = absurd (false≢true (sym e))
+by_product true false e = refl
+by_product false true e = refl
+by_product false false e = refl
+
+pub gate_pattern : (plan : Plan) (s k : ℕ) (g : Gate) (of : IsSlotOf (session plan s) k g) (product : Bool) → is_product g.operation ≡ product → ((session plan s).prepared && product) ≡ false → pattern_at plan s k ≡ (if product then Multiplied else Silent)
+gate_pattern plan s k g of product is dealt =
+    ap (pattern plan s) of.slot
+    ∙ ap (λ b. if (not (session plan s).prepared && b) then Multiplied else if ((session plan s).prepared && b) then Joined else Silent) (ap (λ (z : Gate). is_product z.operation) of.is ∙ is)
+    ∙ by_product (session plan s).prepared product dealt
 
 -- ---- the slot that an instruction names is the one where it stands
 
 placed_linear : (k first deals j : ℕ) (x : Step) → placed k first deals x ≡ Linear j → j ≡ k
+placed_linear k first deals j step.Draw e = cc
 placed_linear k first deals j step.Deal e = cc
 placed_linear k first deals j step.Own e = cc
 placed_linear k first deals j (step.Post share place) e = cc
 placed_linear k first deals j (step.Take share place) e = cc
 placed_linear k first deals j step.Linear e = cc
 placed_linear k first deals j step.Sum e = cc
+placed_linear k first deals j step.Open e = cc
+placed_linear k first deals j step.Join e = cc
 placed_linear k first deals j step.Deliver e = cc
 
 placed_sum : (k first deals j : ℕ) (x : Step) → placed k first deals x ≡ Sum j → j ≡ k
+placed_sum k first deals j step.Draw e = cc
 placed_sum k first deals j step.Deal e = cc
 placed_sum k first deals j step.Own e = cc
 placed_sum k first deals j (step.Post share place) e = cc
 placed_sum k first deals j (step.Take share place) e = cc
 placed_sum k first deals j step.Linear e = cc
 placed_sum k first deals j step.Sum e = cc
+placed_sum k first deals j step.Open e = cc
+placed_sum k first deals j step.Join e = cc
 placed_sum k first deals j step.Deliver e = cc
 
 module _ (l : Given) (d : Desk) (h : IsDesk l d) (more : instruction_at l d ≢ End) where
@@ -173,7 +193,7 @@ module _ (plan : Plan) (l : Given) (d : Desk) (goes : IsDeskOfPlan plan l d) (i 
   abbrev after : Desk
   after = record d { position = d.position + 1; memory = m }
 
-  pub ends_half : posts_in i ≡ 0 → takes_in i ≡ 0 → drawn_by l.plan i ≡ 0
+  pub ends_half : posts_in i ≡ 0 → takes_in i ≡ 0 → drawn_by l.plan d.party i ≡ 0
       → Alike (length l.plan.groups) (state_of (length l.plan.groups) m)
       (after_on_rows (row_of d.memory) l.plan d.party d.session (slice_index d.memory.tape) (slice_index d.memory.inputs.items d.memory.given) 0 i (state_of (length l.plan.groups) d.memory))
       → IsBefore plan l d.place.half (d.place.slot + 1) after
@@ -205,20 +225,20 @@ module _ (plan : Plan) (l : Given) (d : Desk) (goes : IsDeskOfPlan plan l d) (i 
 
 -- the sum of a product leaves all before the next tail done
 pub sum_after : (plan : Plan) (l : Given) (d : Desk) (goes : IsDeskOfPlan plan l d) (k : ℕ) → instruction_at l d ≡ Sum k → InProduct Tail d.place → d.place.done + 1 ≡ d.place.count → (m : Memory) → IsMemoryOf plan d.session m → KeepsGiven d.memory m
-    → Alike (length plan.groups) (state_of (length plan.groups) m) (summed plan d.party (gate_on_rows (row_of d.memory) (gate_at plan d.session k)) (state_of (length plan.groups) d.memory))
+    → Alike (length plan.groups) (state_of (length plan.groups) m) (on_rows (row_of d.memory) ((gate_at plan d.session k).output ∷ []) (summed plan d.party (gate_at plan d.session k)) (state_of (length plan.groups) d.memory))
     → IsBefore plan l Tail (k + 1) (record d { position = d.position + 1; memory = m })
 sum_after plan l d goes k is in_product last m fits kept state =
     let its : k ≡ d.place.slot = sum_here l d goes.desk (λ z. let both : Sum k ≡ End = sym is ∙ z in cc) k is in
     let fits' : IsMemoryOf l.plan d.session m = subst (λ z. IsMemoryOf z d.session m) (sym goes.same) fits in
-    let state' : Alike (length l.plan.groups) (state_of (length l.plan.groups) m) (summed l.plan d.party (gate_on_rows (row_of d.memory) (gate_at l.plan d.session k)) (state_of (length l.plan.groups) d.memory)) =
-    subst (λ z. Alike (length z.groups) (state_of (length z.groups) m) (summed z d.party (gate_on_rows (row_of d.memory) (gate_at z d.session k)) (state_of (length z.groups) d.memory))) (sym goes.same) state in
+    let state' : Alike (length l.plan.groups) (state_of (length l.plan.groups) m) (on_rows (row_of d.memory) ((gate_at l.plan d.session k).output ∷ []) (summed l.plan d.party (gate_at l.plan d.session k)) (state_of (length l.plan.groups) d.memory)) =
+    subst (λ z. Alike (length z.groups) (state_of (length z.groups) m) (on_rows (row_of d.memory) ((gate_at z d.session k).output ∷ []) (summed z d.party (gate_at z d.session k)) (state_of (length z.groups) d.memory))) (sym goes.same) state in
     subst (λ z. IsBefore plan l Tail (z + 1) (record d { position = d.position + 1; memory = m })) (sym its)
     (subst (λ z. IsBefore plan l z (d.place.slot + 1) (record d { position = d.position + 1; memory = m })) in_product.0
     (ends_half plan l d goes (Sum k) is (λ z. cc) tt last m fits' kept refl refl refl state'))
 
 -- a linear gate leaves all before the next head done
 pub linear_after : (plan : Plan) (l : Given) (d : Desk) (goes : IsDeskOfPlan plan l d) (k : ℕ) → instruction_at l d ≡ Linear k → (m : Memory) → IsMemoryOf plan d.session m → KeepsGiven d.memory m
-    → Alike (length plan.groups) (state_of (length plan.groups) m) (computed (2 ^ plan.bits) (gate_on_rows (row_of d.memory) (gate_at plan d.session k)) (state_of (length plan.groups) d.memory))
+    → Alike (length plan.groups) (state_of (length plan.groups) m) (on_rows (row_of d.memory) ((gate_at plan d.session k).output ∷ []) (computed (2 ^ plan.bits) (gate_at plan d.session k)) (state_of (length plan.groups) d.memory))
     → IsBefore plan l Head (k + 1) (record d { position = d.position + 1; memory = m })
 linear_after plan l d goes k is m fits kept state =
     let ne : instruction_at l d ≢ End = λ z. let both : Linear k ≡ End = sym is ∙ z in cc in
@@ -233,8 +253,8 @@ linear_after plan l d goes k is m fits kept state =
     let count : d.place.count ≡ length (half_program l.plan l.party l.session Head d.place.slot) =
     place.count ∙ count_at l.plan l.party l.session d.place.half d.place.slot there ∙ ap (λ z. length (half_program l.plan l.party l.session z d.place.slot)) gate'.0 in
     let fits' : IsMemoryOf l.plan d.session m = subst (λ z. IsMemoryOf z d.session m) (sym goes.same) fits in
-    let state' : Alike (length l.plan.groups) (state_of (length l.plan.groups) m) (computed (2 ^ l.plan.bits) (gate_on_rows (row_of d.memory) (gate_at l.plan d.session k)) (state_of (length l.plan.groups) d.memory)) =
-    subst (λ z. Alike (length z.groups) (state_of (length z.groups) m) (computed (2 ^ z.bits) (gate_on_rows (row_of d.memory) (gate_at z d.session k)) (state_of (length z.groups) d.memory))) (sym goes.same) state in
+    let state' : Alike (length l.plan.groups) (state_of (length l.plan.groups) m) (on_rows (row_of d.memory) ((gate_at l.plan d.session k).output ∷ []) (computed (2 ^ l.plan.bits) (gate_at l.plan d.session k)) (state_of (length l.plan.groups) d.memory)) =
+    subst (λ z. Alike (length z.groups) (state_of (length z.groups) m) (on_rows (row_of d.memory) ((gate_at z d.session k).output ∷ []) (computed (2 ^ z.bits) (gate_at z d.session k)) (state_of (length z.groups) d.memory))) (sym goes.same) state in
     subst (λ z. IsBefore plan l Head (z + 1) (record d { position = d.position + 1; memory = m })) (sym its)
     (subst (λ z. IsBefore plan l z (d.place.slot + 1) (record d { position = d.position + 1; memory = m })) gate'.0
     (ends_half plan l d goes (Linear k) is (λ z. cc) tt (omega (arith, more, count, one)) m fits' kept refl refl refl state'))
@@ -269,15 +289,15 @@ module _ (plan : Plan) (l : Given) (d : Desk) (k : ℕ) (before : IsBefore plan 
   few_before = few_done l desk stands_there
 
   pub gate_before : (m : Memory) → IsMemoryOf plan d.session m → KeepsGiven d.memory m
-      → Alike (length plan.groups) (state_of (length plan.groups) m) (computed (2 ^ plan.bits) (gate_on_rows (row_of d.memory) (gate_at plan d.session k)) (state_of (length plan.groups) d.memory))
+      → Alike (length plan.groups) (state_of (length plan.groups) m) (on_rows (row_of d.memory) ((gate_at plan d.session k).output ∷ []) (computed (2 ^ plan.bits) (gate_at plan d.session k)) (state_of (length plan.groups) d.memory))
       → IsBefore plan l Head (k + 1) (record d { position = d.position + 1; memory = m })
   gate_before m fits kept state =
       let more = linear_more l.plan l.party l.session d.place.batch d.place.end k ls before.batch before.from less silent in
       let here = before.position in
       let lower = before.from in
       let fits' : IsMemoryOf l.plan d.session m = subst (λ z. IsMemoryOf z d.session m) (sym before.unplaced.same) fits in
-      let state' : Alike (length l.plan.groups) (state_of (length l.plan.groups) m) (computed (2 ^ l.plan.bits) (gate_on_rows (row_of d.memory) (gate_at l.plan d.session k)) (state_of (length l.plan.groups) d.memory)) =
-      subst (λ z. Alike (length z.groups) (state_of (length z.groups) m) (computed (2 ^ z.bits) (gate_on_rows (row_of d.memory) (gate_at z d.session k)) (state_of (length z.groups) d.memory))) (sym before.unplaced.same) state in
+      let state' : Alike (length l.plan.groups) (state_of (length l.plan.groups) m) (on_rows (row_of d.memory) ((gate_at l.plan d.session k).output ∷ []) (computed (2 ^ l.plan.bits) (gate_at l.plan d.session k)) (state_of (length l.plan.groups) d.memory)) =
+      subst (λ z. Alike (length z.groups) (state_of (length z.groups) m) (on_rows (row_of d.memory) ((gate_at z d.session k).output ∷ []) (computed (2 ^ z.bits) (gate_at z d.session k)) (state_of (length z.groups) d.memory))) (sym before.unplaced.same) state in
       record {
         unplaced = record {
           same = before.unplaced.same;
@@ -304,51 +324,54 @@ module _ (plan : Plan) (l : Given) (d : Desk) (k : ℕ) (before : IsBefore plan 
 -- ---- one gate after another
 
 -- the gates of the batch from that of this slot on, of the desk's session
-module _ (plan : Plan) (l : Given) (d : Desk) (slot i : ℕ) (part : Session) (gates : List Gate) (same : l.plan ≡ plan) (session' : d.session ≡ l.session) (own : part ≡ session plan d.session) (among : IsAmongGates part slot) (end : ℕ)
-    (are : AreGatesFrom part slot end gates) (less : i < length gates) where
-  abbrev t : ℕ
-  t = slot - length (owners part) + i
-
+module _ (plan : Plan) (l : Given) (d : Desk) (slot i : ℕ) (part : Session) (gates : List Gate) (same : l.plan ≡ plan) (session' : d.session ≡ l.session) (own : part ≡ session plan d.session) (end : ℕ) (are : AreGatesFrom part slot end gates) (less : i < length gates)
+    (linear : AreLinear gates i) where
   own_part : part ≡ session l.plan l.session
   own_part = own ∙ ap (λ z. session z d.session) (sym same) ∙ ap (session l.plan) session'
-
-  far : length (owners part) + t ≡ slot + i
-  far = let from = among.0 in omega (arith, from)
-
-  far_own : length (owners (session l.plan l.session)) + t ≡ slot + i
-  far_own = ap (λ z. length (owners z) + t) (sym own_part) ∙ far
-
-  lt : t < length (session l.plan l.session).gates
-  lt = subst (λ (z : Session). t < length z.gates) own_part (let there = are.there in let from = among.0 in omega (arith, there, from, less))
-
-  gate_found : gate (session l.plan l.session) t ≡ gate_in gates i
-  gate_found = ap (λ z. gate z t) (sym own_part) ∙ sym (are.is i less)
 
   pub gate_to : slot + i < end
   gate_to = let to = are.to in omega (arith, to, less)
 
-  pub gate_there : slot + i < slots l.plan l.session
-  gate_there = let a = far_own in let b = lt in omega (arith, a, b)
+  -- gate i is no prepared product
+  module _ (product : Bool) (is : is_product (gate_in gates i).operation ≡ product) (dealt : (part.prepared && product) ≡ false) where
+    slot_of : IsSlotOf (session l.plan l.session) (slot + i) (gate_in gates i)
+    slot_of = subst (λ z. IsSlotOf z (slot + i) (gate_in gates i)) own_part (are.is i less linear (ap (λ b. part.prepared && b) is ∙ dealt))
 
-  -- its slot is of its pattern
-  pub later_pattern : (product : Bool) → is_product (gate_in gates i).operation ≡ product → pattern_at l.plan l.session (slot + i) ≡ (if product then Multiplied else Silent)
-  later_pattern product is =
-      ap (pattern_at l.plan l.session) (sym far_own)
-      ∙ gate_pattern l.plan l.session t lt product (ap (λ (z : Gate). is_product z.operation) gate_found ∙ is)
+    -- its slot is of its pattern
+    pub later_pattern : pattern_at l.plan l.session (slot + i) ≡ (if product then Multiplied else Silent)
+    later_pattern =
+        gate_pattern l.plan l.session (slot + i) (gate_in gates i) slot_of product is
+        (subst (λ (z : Session). (z.prepared && product) ≡ false) own_part dealt)
 
-  pub later_gate : gate_at plan d.session (slot + i) ≡ gate_in gates i
-  later_gate =
-      ap (λ z. gate_at z d.session (slot + i)) (sym same) ∙ ap (λ z. gate_at l.plan z (slot + i)) session'
-      ∙ ap (gate_at l.plan l.session) (sym far_own) ∙ gate_is l.plan l.session t lt ∙ gate_found
+    pub later_gate : gate_at plan d.session (slot + i) ≡ gate_in gates i
+    later_gate =
+        ap (λ z. gate_at z d.session (slot + i)) (sym same) ∙ ap (λ z. gate_at l.plan z (slot + i)) session'
+        ∙ ap (product_in (session l.plan l.session)) slot_of.slot ∙ slot_of.is
+
+-- no gate is prepared in a session without, nor where it is no product
+pub never_prepared : (b : Bool) → (b && false) ≡ false
+never_prepared true = refl
+never_prepared false = refl
 
 -- behind the slot of a gate stands another, or the first slot after those
-pub among_next : (plan : Plan) (s k : ℕ) (part : Session) → part ≡ session plan s → IsSlot plan s k IsGate → IsAmongGates part (k + 1)
-among_next plan s k part own named =
-    subst (λ z. IsAmongGates z (k + 1)) (sym own)
-    (let among = gate_slot (session plan s) k named.slot named.kind in
-    let from = among.0 in
+pub among_next : (plan : Plan) (s k : ℕ) (part : Session) → part ≡ session plan s → IsSlot plan s k Multiplies → IsAmongGates part (k + 1)
+among_next plan s k part own named direct =
+    let among = gate_slot (session plan s) (ap (λ (z : Session). z.prepared) (sym own) ∙ direct) k named.slot named.kind in
+    subst (λ z. (length (owners z) ≤ k + 1) × (k + 1 ≤ length (owners z) + length z.gates)) (sym own)
+    (let from = among.0 in
     let to = among.1 in
     (omega (arith, from), omega (arith, to)))
+
+-- and so behind linear ones
+pub among_on : (part : Session) (slot end n : ℕ) (gates : List Gate) → AreGatesFrom part slot end gates → IsFirstProduct gates n → IsAmongGates part slot → IsAmongGates part (slot + n)
+among_on part slot end zero gates are first among direct = let here : slot ≡ slot + 0 = omega arith in subst (λ z. (length (owners part) ≤ z) × (z ≤ length (owners part) + length part.gates)) here (among direct)
+among_on part slot end (suc n) gates are first among direct =
+    let few = first.few in
+    let from = (among direct).0 in
+    let last = are.is n (omega (arith, few)) (λ t less. first.linear t (omega (arith, less))) (ap (λ b. part.prepared && b) (first.linear n (omega arith)) ∙ never_prepared part.prepared) in
+    let within = gate_slot part direct (slot + n) last.there (subst Multiplies (sym last.slot) tt) in
+    let to = within.1 in
+    (omega (arith, from), omega (arith, to))
 
 -- the tails of linear gates are empty
 pub tails_stay : (plan : Plan) (p s a b : ℕ) → s < length plan.sessions → (k n : ℕ) → k + n ≤ slots plan s → ((t : ℕ) → t < n → pattern_at plan s (k + t) ≡ Silent)
@@ -395,12 +418,12 @@ one_silent l d e i is no_post more x m j from to at' =
     no_post m j (sym is ∙ ap (at (program l.plan l.party l.session)) (sym here) ∙ at')
 
 -- a linear gate that comes next is that of the desk's slot
-pub linear_begins : (plan : Plan) (l : Given) (d : Desk) (goes : IsDeskOfPlan plan l d) (k : ℕ) → instruction_at l d ≡ Linear k → (k ≡ d.place.slot) × IsSlot l.plan l.session d.place.slot IsGate
+pub linear_begins : (plan : Plan) (l : Given) (d : Desk) (goes : IsDeskOfPlan plan l d) (k : ℕ) → instruction_at l d ≡ Linear k → (k ≡ d.place.slot) × IsSlot l.plan l.session d.place.slot Multiplies
 linear_begins plan l d goes k is =
     let ne : instruction_at l d ≢ End = λ z. let both : Linear k ≡ End = sym is ∙ z in cc in
     let its = linear_here l d goes.desk ne k is in
     let proper : Proper l.plan l.session (Linear k) = subst (λ z. Proper l.plan z (Linear k)) goes.desk.session (subst (Proper l.plan d.session) is (proper_own l d goes.desk)) in
-    (its, subst (λ z. IsSlot l.plan l.session z IsGate) its proper)
+    (its, subst (λ z. IsSlot l.plan l.session z Multiplies) its (record { kind = gate_multiplies (slot l.plan l.session k) proper.kind; slot = proper.slot }))
 
 -- an instruction that is no post, and what comes after it
 pub first_computes : (l : Given) (d e f : Desk) (i : Instruction) → instruction_at l d ≡ i → ((m j : ℕ) → i ≢ Post m j) → e.position ≡ d.position + 1 → Computes l e f → Computes l d f

@@ -3,11 +3,11 @@ use Rattle.std.proofs.Common.{◌≡◌, ◌≢◌, ℕ, ◌+◌, ◌-◌, ◌<�
 use Rattle.std.specs.Prelude.{slice_index, slice_index_or}
 use Rattle.std.proofs.lemmas.Bool.{cases_lt}
 use Rattle.secret_sharing.specs.Schemes.{has_pair}
-use Rattle.job_session.specs.Sessions.{Session, Slot}
-use Rattle.job_session.specs.Sessions.Slot.{Input, At_gate, Output}
+use Rattle.job_session.specs.KeptWires.{sets_in}
 use Rattle.job_plan.specs.declared.pattern.Pattern.TheVariants.{Multiplied}
 use Rattle.job_plan.specs.Plans.{Plan, scheme, session, slot, slots}
 use Rattle.job_plan.specs.Numbers.{message}
+use Rattle.job_plan.specs.Sound.{IsSound}
 use Rattle.message_board.specs.declared.cells.Posted.{Posted}
 use Rattle.message_board.specs.declared.steps.View.{View}
 use Rattle.message_board.specs.Pairs.{Knows}
@@ -21,16 +21,16 @@ use Rattle.party_program.specs.declared.step.Step.{Step}
 use Rattle.party_program.specs.Programs.{half_program, program, at}
 use Rattle.party_program.specs.PartySteps.{steps}
 use Rattle.party_program.specs.ProgramPlaces.{position_of, InProduct, IsPlace, IsProgram}
-use Rattle.party_program.specs.Proper.{IsGate, IsGivenWord, IsSlot}
-use Rattle.party_program.specs.States.{Given, State, gate_in_slot, slot_of, took_in}
+use Rattle.party_program.specs.Proper.{IsGivenWord, IsSlot, Multiplies}
+use Rattle.party_program.specs.States.{Given, posted, slot_of, took_in}
 use Rattle.party_program.proofs.GateSlots.{product_at, product_count, product_ends, product_there, product_two}
 use Rattle.party_program.proofs.ProgramPlaces.{batch_of, count_at, half_within, in_slot, is_own}
 use Rattle.program_laws.proofs.Lengths.{program_is_short}
 use Rattle.program_laws.specs.WordsRead.{gate_at}
 use Rattle.party_desk.specs.declared.desk.Desk.{Desk}
 use Rattle.party_desk.specs.declared.memory.Memory.{Memory}
-use Rattle.party_desk.specs.Memories.{state_of, row_of, posted_on_rows, Alike, IsMemoryOf, KeepsGiven}
-use Rattle.party_desk.specs.Rows.{row, SameRow, slot_on_rows}
+use Rattle.party_desk.specs.Memories.{state_of, row_of, on_rows, on_wires, added, Alike, GateWithin, IsMemoryOf, KeepsGiven}
+use Rattle.party_desk.specs.Rows.{row, SameRow}
 use Rattle.party_desk.specs.Desks.{Advanced, IsDesk, instruction_at, word_in_memory}
 use Rattle.party_desk.specs.Steps.{word_at}
 use Rattle.party_desk.specs.Walks.{Computes, DoesHead, DoesSilentHead, IsBefore, IsDeskOfPlan, IsSending, NoPosts, NothingToCompute, Sends, Walks, WentOn, at_place, further, taken_on}
@@ -39,6 +39,8 @@ use Rattle.party_desk.proofs.ComputedGates.{head_takes_none}
 use Rattle.party_desk.proofs.GateWalks.{goes_names, goes_proper, rest_walks}
 use Rattle.party_desk.proofs.GatePlaces.{place_on, position_more, product_gate, unplaced}
 use Rattle.party_desk.proofs.ProductSteps.{posts_there, product_long, takes_there}
+use Rattle.party_desk.proofs.NamedRows.{slot_within_rows}
+use Rattle.party_desk.proofs.RowStates.{AddsUp, added_on_rows, posted_of_product, products_add_up}
 
 -- the instruction that was found at the place of a desk
 module _ (plan : Plan) (l : Given) (d : Desk) (goes : IsDeskOfPlan plan l d) where
@@ -333,24 +335,18 @@ module _ (plan : Plan) (l : Given) (n : ℕ) (d : Desk) (sending : IsSending pla
         table = refl;
         inputs = refl;
         tape = refl;
-        state = record { rows = λ v j lj. refl; own = refl; sums = λ j lj. refl; given = refl; outputs = λ o. refl };
+        state = record { rows = λ v j lj. refl; own = refl; sums = λ j lj. refl; excess = λ side. refl; given = refl; outputs = λ o. refl };
       })
 
--- the word of a product is that of the row of its wire
-posted_of_gate : (x : Session) (z : Slot) (row_of : ℕ → ℕ) (i : ℕ) (σ : State) → IsGate z → posted_on_rows row_of x z i σ ≡ σ.rows (row_of (gate_in_slot x z).output) i
-posted_of_gate x (Input v) row_of i σ h = absurd h
-posted_of_gate x (At_gate t) row_of i σ h = refl
-posted_of_gate x (Output o) row_of i σ h = absurd h
-
 module _ (plan : Plan) (l : Given) (d : Desk) (goes : IsDeskOfPlan plan l d) (within : d.place.slot < slots plan d.session) (product : d.place.pattern ≡ Multiplied) where
-  -- the slot of a desk at a product is of a gate
-  pub of_gate : IsGate (slot plan d.session d.place.slot)
-  of_gate =
+  -- the slot of a desk at a product is of one
+  pub of_product : Multiplies (slot plan d.session d.place.slot)
+  of_product =
       let within' = subst (λ z. d.place.slot < slots z d.session) (sym goes.same) within in
       let here : d.place.slot < slots l.plan l.session = subst (λ z. d.place.slot < slots l.plan z) goes.desk.session within' in
-      subst (λ z. IsGate (slot z d.session d.place.slot)) goes.same
-      (subst (λ z. IsGate (slot l.plan z d.place.slot)) (sym goes.desk.session)
-      (product_gate l.plan l.session d.place.slot here (sym (goes.desk.place.pattern here) ∙ product)))
+      subst (λ z. Multiplies (slot z d.session d.place.slot)) goes.same
+      (subst (λ z. Multiplies (slot l.plan z d.place.slot)) (sym goes.desk.session)
+      (product_gate l.plan l.session d.place.slot (sym (goes.desk.place.pattern here) ∙ product)))
 
   -- what it posts
   pub summand_posted : (n i : ℕ) (summands : List ℕ) (wire : ℕ) → instruction_at l d ≡ Post n i → wire ≡ (gate_at plan d.session d.place.slot).output
@@ -360,8 +356,17 @@ module _ (plan : Plan) (l : Given) (d : Desk) (goes : IsDeskOfPlan plan l d) (wi
       let here : (message plan n).slot ≡ d.place.slot = goes_names plan l d goes (Post n i) (sym is) in
       are i proper.share
       ∙ ap (λ v. row (length plan.groups) d.memory.rows.items (row_of d.memory v) i) same
-      ∙ sym (posted_of_gate (session plan d.session) (slot plan d.session d.place.slot) (row_of d.memory) i (state_of (length plan.groups) d.memory) of_gate)
-      ∙ ap₂ (λ s k. posted_on_rows (row_of d.memory) (session plan d.session) (slot plan s k) i (state_of (length plan.groups) d.memory)) (sym proper.session) (sym here)
+      ∙ sym (posted_of_product plan d.session (slot plan d.session d.place.slot) i (on_wires (row_of d.memory) (state_of (length plan.groups) d.memory)) of_product)
+      ∙ ap₂ (λ s k. posted plan d.session (slot plan s k) i (on_wires (row_of d.memory) (state_of (length plan.groups) d.memory))) (sym proper.session) (sym here)
+
+  -- a word that it takes joins the sums
+  pub product_taken : (n i w : ℕ) → instruction_at l d ≡ Take n i → (m : Memory) → Alike (length plan.groups) (state_of (length plan.groups) m) (added (2 ^ plan.bits) i w (state_of (length plan.groups) d.memory))
+      → Alike (length plan.groups) (state_of (length plan.groups) m) (on_rows (row_of d.memory) (sets_in (session plan d.session) (slot_of plan n)) (took_in plan d.session (slot_of plan n) i w) (state_of (length plan.groups) d.memory))
+  product_taken n i w is m state =
+      let proper = goes_proper plan l d goes (Take n i) (sym is) in
+      let here : slot plan d.session d.place.slot ≡ slot_of plan n = ap₂ (slot plan) (sym proper.session) (sym (goes_names plan l d goes (Take n i) (sym is))) in
+      added_on_rows plan d.session (row_of d.memory) (state_of (length plan.groups) d.memory) (state_of (length plan.groups) m) i w state (slot_of plan n)
+      (subst AddsUp here (products_add_up plan d.session (slot plan d.session d.place.slot) of_product))
 
 -- ---- one post after another
 
@@ -457,17 +462,25 @@ sent_all plan l n d now all =
       position = omega (arith, here, done, none, more, count, all);
     }
 
--- its slot is of a gate
-pub sent_gate : (plan : Plan) (l : Given) (n : ℕ) (d : Desk) → IsSending plan l n d → IsSlot l.plan l.session d.place.slot IsGate
+-- its slot is of a product
+pub sent_gate : (plan : Plan) (l : Given) (n : ℕ) (d : Desk) → IsSending plan l n d → IsSlot l.plan l.session d.place.slot Multiplies
 sent_gate plan l n d now =
     let own = now.unplaced.own_program in
     let there = product_there l.plan l.party l.session own.session_there Head d.place now.product now.begun now.place in
-    record { kind = product_gate l.plan l.session d.place.slot there (sym (now.place.pattern there) ∙ now.product.1); slot = there }
+    record { kind = product_gate l.plan l.session d.place.slot (sym (now.place.pattern there) ∙ now.product.1); slot = there }
 
-pub sent_slot : (plan : Plan) (l : Given) (n : ℕ) (d : Desk) → IsSending plan l n d → IsSlot plan d.session d.place.slot IsGate
+pub sent_slot : (plan : Plan) (l : Given) (n : ℕ) (d : Desk) → IsSending plan l n d → IsSlot plan d.session d.place.slot Multiplies
 sent_slot plan l n d now =
-    subst (λ z. IsSlot z d.session d.place.slot IsGate) now.unplaced.same
-    (subst (λ z. IsSlot l.plan z d.place.slot IsGate) (sym now.unplaced.session) (sent_gate plan l n d now))
+    subst (λ z. IsSlot z d.session d.place.slot Multiplies) now.unplaced.same
+    (subst (λ z. IsSlot l.plan z d.place.slot Multiplies) (sym now.unplaced.session) (sent_gate plan l n d now))
+
+-- the wire of its product has a row
+pub sent_within : (plan : Plan) (l : Given) (n : ℕ) (d : Desk) → IsSending plan l n d → GateWithin plan d.session (gate_at plan d.session d.place.slot)
+sent_within plan l n d now =
+    let own = now.unplaced.own_program in
+    slot_within_rows plan (subst IsSound now.unplaced.same own.sound) d.session
+    (subst (λ (z : Plan). d.session < length z.sessions) now.unplaced.same (subst (λ z. z < length l.plan.sessions) (sym now.unplaced.session) own.session_there))
+    d.place.slot (sent_slot plan l n d now)
 
 -- a post that was found
 module _ (plan : Plan) (l : Given) (d : Desk) (first : IsSending plan l 2 d) (n : ℕ) (from : 2 ≤ n) (left : n < d.place.count) (now : IsSending plan l n (posted_on d (n - 2))) (i : Instruction)
@@ -522,7 +535,7 @@ module _ (l : Given) (d : Desk) (moves : ℕ) (more : d.place.done + moves + 1 <
       (place_on l.plan l.party l.session (further d.place moves) (d.position + moves) 1 here more))))
 
   pub taken_more : (n i w : ℕ) (m : Memory) → IsDesk l (taken_on d moves) → IsMemoryOf l.plan d.session m → KeepsGiven d.memory m
-      → Alike (length l.plan.groups) (state_of (length l.plan.groups) m) (took_in (2 ^ l.plan.bits) (slot_on_rows (row_of d.memory) (slot_of l.plan n)) i w (state_of (length l.plan.groups) d.memory))
+      → Alike (length l.plan.groups) (state_of (length l.plan.groups) m) (on_rows (row_of d.memory) (sets_in (session l.plan d.session) (slot_of l.plan n)) (took_in l.plan d.session (slot_of l.plan n) i w) (state_of (length l.plan.groups) d.memory))
       → Advanced l.plan w (Take n i) (taken_on d moves) (taken_on (record d { memory = m }) (moves + 1))
   taken_more n i w m h fits kept state = record {
     party = refl;

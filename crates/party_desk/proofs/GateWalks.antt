@@ -34,7 +34,7 @@ moved_place l d place h is = record {
   inputs = h.inputs;
   piece = h.piece;
   tape = h.tape;
-  memory = record { rows = h.memory.rows; own = h.memory.own; sums = h.memory.sums; given = h.memory.given; outputs = h.memory.outputs };
+  memory = record { rows = h.memory.rows; own = h.memory.own; sums = h.memory.sums; excess = h.memory.excess; given = h.memory.given; outputs = h.memory.outputs };
 }
 
 -- a desk goes by few instructions

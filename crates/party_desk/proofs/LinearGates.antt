@@ -1,12 +1,14 @@
 -- Gates of a batch one after another: linear ones that a desk computes, and those whose empty tails it passes.
-use Rattle.std.proofs.Common.{◌≡◌, ℕ, zero, suc, ◌+◌, ◌<◌, ◌≤◌, ◌^◌, true, false, All, List, length, refl, sym, ap, ◌∙◌, subst, arith}
+use Rattle.std.proofs.Common.{◌≡◌, ℕ, zero, suc, ◌+◌, ◌<◌, ◌≤◌, ◌^◌, true, false, ◌&&◌, All, List, [], ◌∷◌, length, refl, sym, ap, ◌∙◌, subst, arith}
 use Rattle.std.specs.Arc.{arc_value}
 use Rattle.std.specs.Global.{Vec}
 use Rattle.std.specs.Vec.{with_items}
 use Rattle.std.proofs.lemmas.List.{with_items_is}
 use Rattle.circuit_model.specs.Circuits.{is_product}
 use Rattle.circuit_model.specs.declared.gate.Gate.{Gate}
-use Rattle.job_session.specs.Sessions.{Session}
+use Rattle.job_session.specs.Sessions.{Session, gate}
+use Rattle.job_session.specs.Sessions.Slot.{At_gate}
+use Rattle.job_plan.specs.Sound.{IsSound}
 use Rattle.job_plan.specs.declared.pattern.Pattern.TheVariants.{Multiplied}
 use Rattle.job_plan.specs.Patterns.{pattern_at}
 use Rattle.job_plan.specs.Plans.{Plan, session}
@@ -17,13 +19,15 @@ use Rattle.party_program.specs.States.{Given}
 use Rattle.program_laws.specs.WordsRead.{gate_at}
 use Rattle.party_desk.specs.declared.desk.Desk.{Desk}
 use Rattle.party_desk.specs.declared.memory.Memory.{Memory}
-use Rattle.party_desk.specs.Memories.{state_of, row_of, Alike, IsMemoryOf}
-use Rattle.party_desk.specs.Rows.{FillsRow, FillsRows, IsFirstProduct, gate_in, gate_on_rows, row}
+use Rattle.party_desk.specs.Memories.{state_of, row_of, on_rows, Alike, GateWithin, GatesWithin, IsMemoryOf}
+use Rattle.party_desk.specs.Rows.{AreLinear, FillsRow, FillsRows, IsFirstProduct, gate_in, gate_on_rows, row}
 use Rattle.party_program.specs.States.{computed}
 use Rattle.party_desk.specs.Desks.{IsDesk}
-use Rattle.party_desk.specs.Walks.{AreGatesFrom, Computes, IsAmongGates, IsBefore, NoPosts, at_place}
+use Rattle.party_desk.specs.Walks.{AreGatesFrom, Computes, IsBefore, NoPosts, at_place}
 use Rattle.party_desk.proofs.GateWalks.{posts_on}
-use Rattle.party_desk.proofs.GatePlaces.{entered, few_before, gate_before, gate_silent, gate_to, later_gate, later_pattern, tails_stay}
+use Rattle.party_desk.proofs.GatePlaces.{entered, few_before, gate_before, gate_silent, gate_to, later_gate, later_pattern, never_prepared, tails_stay}
+use Rattle.party_desk.proofs.NamedRows.{product_within_rows}
+use Rattle.party_desk.proofs.RowStates.{gate_filled}
 
 -- the memory with this table
 abbrev with_table : Memory → Vec ℕ → Memory
@@ -46,6 +50,7 @@ table_fits plan s m table h long small = record {
   small_inputs = h.small_inputs;
   small_tape = h.small_tape;
   small_own = h.small_own;
+  small_excess = h.small_excess;
 }
 
 same_fits : (plan : Plan) (s : ℕ) (m : Memory) (table : Vec ℕ) → table.items ≡ m.rows.items → IsMemoryOf plan s m → IsMemoryOf plan s (with_table m table)
@@ -70,6 +75,7 @@ same_desk l d table same h = record {
     rows = λ v i less set read. ap (λ xs. row (length l.plan.groups) xs (row_of d.memory v) i) same ∙ h.memory.rows v i less set read;
     own = h.memory.own;
     sums = h.memory.sums;
+    excess = h.memory.excess;
     given = h.memory.given;
     outputs = h.memory.outputs;
   };
@@ -78,6 +84,17 @@ same_desk l d table same h = record {
 -- gates up to the end of a batch, by what it was found to be
 pub from_end : (part : Session) (slot found end : ℕ) (gates : List Gate) → found ≡ end → AreGatesFrom part slot found gates → AreGatesFrom part slot end gates
 from_end part slot found end gates is are = subst (λ z. AreGatesFrom part slot z gates) is are
+
+-- the wires of these gates have rows
+pub gates_have_rows : (plan : Plan) (l : Given) (d : Desk) (slot : ℕ) (part : Session) (gates : List Gate) → IsBefore plan l Head slot d → part ≡ session plan d.session → (end : ℕ) → AreGatesFrom part slot end gates → GatesWithin plan d.session gates
+gates_have_rows plan l d slot part gates start own end are t less =
+    let program = start.unplaced.own_program in
+    let there : d.session < length plan.sessions = subst (λ (z : Plan). d.session < length z.sessions) start.unplaced.same (subst (λ z. z < length l.plan.sessions) (sym start.unplaced.session) program.session_there) in
+    let found = are.of t less in
+    subst (GateWithin plan d.session) found.2
+    (subst (λ z. GateWithin plan d.session (gate z found.0)) (sym own)
+    (product_within_rows plan (subst IsSound start.unplaced.same program.sound) d.session there (At_gate found.0)
+    (subst (λ (z : Session). found.0 < length z.gates) own found.1) tt))
 
 -- before the first of the gates
 none_done : (plan : Plan) (l : Given) (d : Desk) (slot : ℕ) (table : Vec ℕ) → table.items ≡ d.memory.rows.items → IsBefore plan l Head slot d → IsBefore plan l Head (slot + 0) (after_gates d 0 table)
@@ -102,7 +119,7 @@ none_done plan l d slot table same h =
     }))
 
 -- the gates of the batch from that of this slot on
-module _ (plan : Plan) (l : Given) (d : Desk) (slot : ℕ) (part : Session) (gates : List Gate) (start : IsBefore plan l Head slot d) (own : part ≡ session plan d.session) (among : IsAmongGates part slot) (are : AreGatesFrom part slot d.place.end gates)
+module _ (plan : Plan) (l : Given) (d : Desk) (slot : ℕ) (part : Session) (gates : List Gate) (start : IsBefore plan l Head slot d) (own : part ≡ session plan d.session) (are : AreGatesFrom part slot d.place.end gates)
     (few : d.position < 4294967296) where
   fits : IsMemoryOf plan d.session d.memory
   fits = subst (λ (z : Plan). IsMemoryOf z d.session d.memory) start.unplaced.same (subst (λ z. IsMemoryOf l.plan z d.memory) (sym start.unplaced.session) start.unplaced.fits)
@@ -114,30 +131,32 @@ module _ (plan : Plan) (l : Given) (d : Desk) (slot : ℕ) (part : Session) (gat
     long : length rows ≡ length d.memory.rows.items
     reached : d.position + n < 4294967296
 
-  one_more : (n : ℕ) (rows rows' : List ℕ) → n < length gates → is_product (gate_in gates n).operation ≡ false → HasDone n rows
+  one_more : (n : ℕ) (rows rows' : List ℕ) → n < length gates → AreLinear gates n → is_product (gate_in gates n).operation ≡ false → HasDone n rows
       → FillsRow (2 ^ plan.bits) (length plan.groups) (gate_in gates n).operation (gate_on_rows (row_of d.memory) (gate_in gates n)) rows rows'
       → All (λ x. x < 2 ^ plan.bits) rows' → length rows' ≡ length rows → HasDone (suc n) rows'
-  one_more n rows rows' less linear so_far fill small long =
+  one_more n rows rows' less all_linear linear so_far fill small long =
       let table : Vec ℕ = with_items d.memory.rows rows in
       let is : table.items ≡ rows = with_items_is d.memory.rows rows (so_far.long ∙ sym d.memory.rows.ok.0) in
       let e : Desk = after_gates d n table in
       let before : IsBefore plan l Head (slot + n) e = so_far.before table is in
       let next : d.position + n + 1 ≡ d.position + suc n = omega arith in
       let slot_next : slot + n + 1 ≡ slot + suc n = omega arith in
-      let to : slot + n < d.place.end = gate_to plan l d slot n part gates start.unplaced.same start.unplaced.session own among d.place.end are less in
-      let silent = later_pattern plan l d slot n part gates start.unplaced.same start.unplaced.session own among d.place.end are less false linear in
-      let its : gate_at plan d.session (slot + n) ≡ gate_in gates n = later_gate plan l d slot n part gates start.unplaced.same start.unplaced.session own among d.place.end are less in
+      let to : slot + n < d.place.end = gate_to plan l d slot n part gates start.unplaced.same start.unplaced.session own d.place.end are less all_linear in
+      let silent = later_pattern plan l d slot n part gates start.unplaced.same start.unplaced.session own d.place.end are less all_linear false linear (never_prepared part.prepared) in
+      let its : gate_at plan d.session (slot + n) ≡ gate_in gates n = later_gate plan l d slot n part gates start.unplaced.same start.unplaced.session own d.place.end are less all_linear false linear (never_prepared part.prepared) in
       let reached = few_before plan l e (slot + n) before to silent in
       let all_long : length rows' ≡ length d.memory.rows.items = long ∙ so_far.long in
       let filled : FillsRow (2 ^ plan.bits) (length plan.groups) (gate_in gates n).operation (gate_on_rows (row_of d.memory) (gate_in gates n)) table.items rows' =
       subst (λ xs. FillsRow (2 ^ plan.bits) (length plan.groups) (gate_in gates n).operation (gate_on_rows (row_of d.memory) (gate_in gates n)) xs rows') (sym is) fill in
       record {
         before = λ table' is'.
-            let of_gate : Alike (length plan.groups) (state_of (length plan.groups) (with_table d.memory table')) (computed (2 ^ plan.bits) (gate_on_rows (row_of d.memory) (gate_in gates n)) (state_of (length plan.groups) e.memory)) =
+            let of_gate : Alike (length plan.groups) (state_of (length plan.groups) (with_table d.memory table')) (on_rows (row_of d.memory) ((gate_in gates n).output ∷ []) (computed (2 ^ plan.bits) (gate_in gates n)) (state_of (length plan.groups) e.memory)) =
             record {
-              rows = subst (FillsRow (2 ^ plan.bits) (length plan.groups) (gate_in gates n).operation (gate_on_rows (row_of d.memory) (gate_in gates n)) table.items) (sym is') filled;
+              rows = gate_filled (2 ^ plan.bits) (length plan.groups) (row_of d.memory) (gate_in gates n) table.items table'.items (state_of (length plan.groups) e.memory) refl
+                  (subst (FillsRow (2 ^ plan.bits) (length plan.groups) (gate_in gates n).operation (gate_on_rows (row_of d.memory) (gate_in gates n)) table.items) (sym is') filled);
               own = refl;
               sums = λ i l'. refl;
+              excess = λ side. refl;
               given = refl;
               outputs = λ o. refl;
             } in
@@ -146,14 +165,14 @@ module _ (plan : Plan) (l : Given) (d : Desk) (slot : ℕ) (part : Session) (gat
             (gate_before plan l e (slot + n) before to silent (with_table d.memory table')
             (table_fits plan d.session d.memory table' fits (ap (length {A = ℕ}) is' ∙ all_long) (subst (All (λ x. x < 2 ^ plan.bits)) (sym is') small))
             (record { table = refl; inputs = refl; tape = refl })
-            (subst (λ z. Alike (length plan.groups) (state_of (length plan.groups) (with_table d.memory table')) (computed (2 ^ plan.bits) (gate_on_rows (row_of d.memory) z) (state_of (length plan.groups) e.memory))) (sym its) of_gate)));
+            (subst (λ z. Alike (length plan.groups) (state_of (length plan.groups) (with_table d.memory table')) (on_rows (row_of d.memory) (z.output ∷ []) (computed (2 ^ plan.bits) z) (state_of (length plan.groups) e.memory))) (sym its) of_gate)));
         silent = subst (NoPosts l d.position) next
             (posts_on l d.position (d.position + n) (d.position + n + 1) so_far.silent (gate_silent plan l e (slot + n) before to silent));
         long = all_long;
         reached = omega (arith, reached);
       }
 
-  has_done : (n : ℕ) (rows : List ℕ) → n ≤ length gates → ((t : ℕ) → t < n → is_product (gate_in gates t).operation ≡ false)
+  has_done : (n : ℕ) (rows : List ℕ) → n ≤ length gates → AreLinear gates n
       → FillsRows (2 ^ plan.bits) (length plan.groups) (arc_value d.memory.table).rows.items gates n d.memory.rows.items rows → HasDone n rows
   has_done zero rows within linear same = record {
     before = λ table is. none_done plan l d slot table (is ∙ same) start;
@@ -162,7 +181,7 @@ module _ (plan : Plan) (l : Given) (d : Desk) (slot : ℕ) (part : Session) (gat
     reached = omega (arith, few);
   }
   has_done (suc n) rows within linear (between, before, fill, small, long) =
-      one_more n between rows (omega (arith, within)) (linear n (omega arith)) (has_done n between (omega (arith, within)) (λ t less. linear t (omega (arith, less))) before) fill small long
+      one_more n between rows (omega (arith, within)) (λ t less. linear t (omega (arith, less))) (linear n (omega arith)) (has_done n between (omega (arith, within)) (λ t less. linear t (omega (arith, less))) before) fill small long
 
   -- the desk's memory after these gates
   module _ (n : ℕ) (m : Memory) (rest_is : m ≡ with_table d.memory m.rows) (first : IsFirstProduct gates n)
@@ -188,16 +207,16 @@ module _ (plan : Plan) (l : Given) (d : Desk) (slot : ℕ) (part : Session) (gat
         (entered plan l d (after_gates d n m.rows) Head (slot + n) place (done.before m.rows refl) done.silent (omega arith) at')
 
 -- where the gates end before the last one comes a product
-module _ (plan : Plan) (l : Given) (d : Desk) (slot : ℕ) (part : Session) (gates : List Gate) (same : l.plan ≡ plan) (session' : d.session ≡ l.session) (of_session : d.program.session ≡ l.session) (own : part ≡ session plan d.session) (among : IsAmongGates part slot)
-    (are : AreGatesFrom part slot d.place.end gates) (n : ℕ) (first : IsFirstProduct gates n) where
+module _ (plan : Plan) (l : Given) (d : Desk) (slot : ℕ) (part : Session) (gates : List Gate) (same : l.plan ≡ plan) (session' : d.session ≡ l.session) (of_session : d.program.session ≡ l.session) (own : part ≡ session plan d.session)
+    (are : AreGatesFrom part slot d.place.end gates) (n : ℕ) (first : IsFirstProduct gates n) (direct : part.prepared ≡ false) where
   pub gates_product : n < length gates → pattern_at plan d.program.session (slot + n) ≡ Multiplied
   gates_product less =
       subst (λ z. pattern_at z d.program.session (slot + n) ≡ Multiplied) same
       (subst (λ z. pattern_at l.plan z (slot + n) ≡ Multiplied) (sym of_session)
-      (later_pattern plan l d slot n part gates same session' own among d.place.end are less true (first.ends less)))
+      (later_pattern plan l d slot n part gates same session' own d.place.end are less first.linear true (first.ends less) (ap (λ b. b && true) direct)))
 
 -- the tails of linear gates are empty, so who is before them is behind them too
-module _ (plan : Plan) (l : Given) (d : Desk) (slot : ℕ) (part : Session) (gates : List Gate) (start : IsBefore plan l Tail slot d) (own : part ≡ session plan d.session) (among : IsAmongGates part slot) (are : AreGatesFrom part slot d.place.end gates)
+module _ (plan : Plan) (l : Given) (d : Desk) (slot : ℕ) (part : Session) (gates : List Gate) (start : IsBefore plan l Tail slot d) (own : part ≡ session plan d.session) (are : AreGatesFrom part slot d.place.end gates)
     (n : ℕ) (first : IsFirstProduct gates n) where
   pub passed : IsBefore plan l Tail (slot + n) d
   passed =
@@ -212,7 +231,7 @@ module _ (plan : Plan) (l : Given) (d : Desk) (slot : ℕ) (part : Session) (gat
         to = omega (arith, to, few);
         position = start.position
             ∙ sym (tails_stay l.plan l.party l.session d.place.batch d.place.end start.unplaced.own_program.session_there slot n (omega (arith, to, few, there))
-            (λ t less. later_pattern plan l d slot t part gates start.unplaced.same start.unplaced.session own among d.place.end are (omega (arith, less, few)) false (first.linear t less)));
+            (λ t less. later_pattern plan l d slot t part gates start.unplaced.same start.unplaced.session own d.place.end are (omega (arith, less, few)) (λ u more. first.linear u (omega (arith, less, more))) false (first.linear t less) (never_prepared part.prepared)));
       }
 
   pub tail_entered : (place : Place) → IsPlace plan d.program.party d.program.session place (position_of plan d.program.party d.program.session Tail d.place.batch d.place.end (slot + n)) → Computes l d (at_place d place)

@@ -1,49 +1,42 @@
 -- The own product at the start of a product, and its deal.
-use Rattle.std.proofs.Common.{◌≡◌, ℕ, ◌+◌, ◌-◌, ◌<◌, ◌≤◌, true, length, refl, sym, ap, ◌∙◌, subst, arith}
+use Rattle.std.proofs.Common.{◌≡◌, ℕ, ◌+◌, ◌-◌, ◌<◌, ◌≤◌, true, [], ◌∷◌, length, refl, sym, ap, ◌∙◌, subst, arith}
 use Rattle.std.specs.Prelude.{slice_index}
 use Rattle.circuit_model.specs.declared.gate.Gate.{Gate}
 use Rattle.secret_sharing.specs.Schemes.{has_pair}
-use Rattle.job_session.specs.Sessions.{Slot}
-use Rattle.job_session.specs.Sessions.Slot.{Input, At_gate, Output}
-use Rattle.job_plan.specs.Plans.{Plan, scheme, session, slot}
+use Rattle.job_plan.specs.Plans.{Plan, scheme, slot}
 use Rattle.job_plan.specs.Numbers.{deals_before}
 use Rattle.party_program.specs.declared.half.Half.TheVariants.{Head}
 use Rattle.party_program.specs.declared.program.Instruction.TheVariants.{Deal, Own, Post}
 use Rattle.party_program.specs.Programs.{program, at}
 use Rattle.party_program.specs.ProgramPlaces.{InProduct, IsPlace}
-use Rattle.party_program.specs.Proper.{IsGate, IsSlot}
-use Rattle.party_program.specs.States.{Given, State, gate_in_slot, dealt_as, multiplied}
+use Rattle.party_program.specs.Proper.{IsSlot, Multiplies}
+use Rattle.party_program.specs.States.{Given, dealt_as, multiplied}
 use Rattle.party_program.proofs.GateSlots.{product_deal, product_own, product_two}
 use Rattle.program_laws.specs.WordsRead.{gate_at}
 use Rattle.party_desk.specs.declared.desk.Desk.{Desk}
 use Rattle.party_desk.specs.declared.memory.Memory.{Memory}
-use Rattle.party_desk.specs.Memories.{state_of, row_of, dealt_on_rows, Alike, Drew, IsMemoryOf, KeepsGiven}
-use Rattle.party_desk.specs.Rows.{gate_on_rows}
+use Rattle.party_desk.specs.Memories.{state_of, row_of, on_rows, Alike, Drew, IsMemoryOf, KeepsGiven}
 use Rattle.party_desk.specs.Desks.{after_on_rows}
 use Rattle.party_desk.specs.Walks.{IsDeskOfPlan, IsSending, NoPosts}
 use Rattle.party_desk.proofs.GateWalks.{few_done, goes_deals, goes_proper, posts_on}
 use Rattle.party_desk.proofs.GatePosts.{sender, sender_goes, sending_start, sends_on}
+use Rattle.party_desk.proofs.RowStates.{dealt_at_product}
 
 -- the desk so many instructions on, with this memory
 abbrev pub stepped_on : Desk → ℕ → Memory → Desk
 stepped_on d steps m = record d { position = d.position + steps; memory = m }
 
 -- the own product of gate g, in memory m
-abbrev pub Multiplies : Plan → Desk → Gate → Memory → Type 0
-Multiplies plan d g m =
+abbrev pub FormsOwn : Plan → Desk → Gate → Memory → Type 0
+FormsOwn plan d g m =
     IsMemoryOf plan d.session m × KeepsGiven d.memory m
-    × Alike (length plan.groups) (state_of (length plan.groups) m) (multiplied plan d.party (gate_on_rows (row_of d.memory) g) (state_of (length plan.groups) d.memory))
+    × Alike (length plan.groups) (state_of (length plan.groups) m) (on_rows (row_of d.memory) [] (multiplied plan d.party g) (state_of (length plan.groups) d.memory))
 
 -- its deal, from memory m to memory n
 abbrev pub DealsProduct : Plan → Desk → Gate → Memory → Memory → Type 0
 DealsProduct plan d g m n =
-    IsMemoryOf plan d.session n × Drew plan m n
-    × Alike (length plan.groups) (state_of (length plan.groups) n) (dealt_as plan (slice_index m.tape) m.own (row_of m g.output) (state_of (length plan.groups) m))
-
-dealt_at_gate : (plan : Plan) (s : ℕ) (row_of : ℕ → ℕ) (words : ℕ → ℕ) (input : ℕ) (z : Slot) (σ : State) → IsGate z → dealt_as plan words σ.own (row_of (gate_in_slot (session plan s) z).output) σ ≡ dealt_on_rows row_of plan s words input z σ
-dealt_at_gate plan s row_of words input (Input v) σ h = absurd h
-dealt_at_gate plan s row_of words input (At_gate t) σ h = refl
-dealt_at_gate plan s row_of words input (Output o) σ h = absurd h
+    IsMemoryOf plan d.session n × Drew (length plan.groups - 1) m n
+    × Alike (length plan.groups) (state_of (length plan.groups) n) (on_rows (row_of m) (g.output ∷ []) (dealt_as plan (slice_index m.tape) m.own g.output) (state_of (length plan.groups) m))
 
 -- a desk at the start of a product, for which it has a pair of summands to multiply
 module _ (plan : Plan) (l : Given) (d : Desk) (goes : IsDeskOfPlan plan l d) (in_product : InProduct Head d.place) (starts : d.place.done ≡ 0) (has : has_pair (scheme l.plan) l.party ≡ true) where
@@ -84,11 +77,11 @@ module _ (plan : Plan) (l : Given) (d : Desk) (goes : IsDeskOfPlan plan l d) (in
   some : 0 < d.place.count
   some = let all = two in omega (arith, all)
 
-  own_slot_here : IsSlot plan d.session k IsGate
+  own_slot_here : IsSlot plan d.session k Multiplies
   own_slot_here = goes_proper plan l d goes (Own k) (sym own_next)
 
   -- the own product, in this memory
-  module _ (m : Memory) (multiplies : Multiplies l.plan d (gate_at l.plan d.session k) m) where
+  module _ (m : Memory) (multiplies : FormsOwn l.plan d (gate_at l.plan d.session k) m) where
     abbrev fits : IsMemoryOf l.plan d.session m
     fits = multiplies.0
 
@@ -127,14 +120,14 @@ module _ (plan : Plan) (l : Given) (d : Desk) (goes : IsDeskOfPlan plan l d) (in
 
     -- and its deal, in this one
     module _ (n : Memory) (deals : DealsProduct l.plan d (gate_at l.plan d.session k) m n) where
-      gate_here : IsGate (slot l.plan d.session k)
-      gate_here = subst (λ z. IsGate (slot z d.session k)) (sym goes.same) own_slot_here.kind
+      gate_here : Multiplies (slot l.plan d.session k)
+      gate_here = subst (λ z. Multiplies (slot z d.session k)) (sym goes.same) own_slot_here.kind
 
       state : Alike (length l.plan.groups) (state_of (length l.plan.groups) n)
           (after_on_rows (row_of m) l.plan d.party d.session (slice_index m.tape) (slice_index m.inputs.items m.given) 0 (Deal k next_deal) (state_of (length l.plan.groups) m))
       state =
           subst (Alike (length l.plan.groups) (state_of (length l.plan.groups) n))
-          (dealt_at_gate l.plan d.session (row_of m) (slice_index m.tape) (slice_index m.inputs.items m.given) (slot l.plan d.session k) (state_of (length l.plan.groups) m) gate_here)
+          (dealt_at_product l.plan d.session (row_of m) (slice_index m.tape) (slice_index m.inputs.items m.given) (slot l.plan d.session k) (state_of (length l.plan.groups) m) gate_here)
           deals.2
 
       both_done : IsSending plan l (0 + 1 + 1) (record d { position = d.position + 1 + 1; memory = n })
@@ -173,21 +166,21 @@ module _ (plan : Plan) (l : Given) (d : Desk) (goes : IsDeskOfPlan plan l d) (in
   abbrev has_here : has_pair (scheme l.plan) l.party ≡ true
   has_here = subst (λ z. has_pair (scheme z) l.party ≡ true) (sym goes.same) (subst (λ z. has_pair (scheme plan) z ≡ true) goes.desk.party has)
 
-  -- its slot is of a gate
-  pub own_slot : IsSlot plan d.session d.place.slot IsGate
+  -- its slot is of a product
+  pub own_slot : IsSlot plan d.session d.place.slot Multiplies
   own_slot = own_slot_here plan l d goes in_product starts has_here
 
   pub own_no_post : NoPosts l d.position (d.position + 2)
   own_no_post = own_silent plan l d goes in_product starts has_here
 
 module _ (plan : Plan) (l : Given) (d : Desk) (goes : IsDeskOfPlan plan l d) (in_product : InProduct Head d.place) (starts : d.place.done ≡ 0) (has : has_pair (scheme plan) d.party ≡ true) (g : Gate) (is : g ≡ gate_at plan d.session d.place.slot) (m : Memory)
-    (multiplies : Multiplies plan d g m) where
+    (multiplies : FormsOwn plan d g m) where
   abbrev has_own : has_pair (scheme l.plan) l.party ≡ true
   has_own = has_here plan l d goes in_product starts has
 
-  multiplies_here : Multiplies l.plan d (gate_at l.plan d.session d.place.slot) m
+  multiplies_here : FormsOwn l.plan d (gate_at l.plan d.session d.place.slot) m
   multiplies_here =
-      subst (λ z. Multiplies z d (gate_at z d.session d.place.slot) m) (sym goes.same) (subst (λ z. Multiplies plan d z m) is multiplies)
+      subst (λ z. FormsOwn z d (gate_at z d.session d.place.slot) m) (sym goes.same) (subst (λ z. FormsOwn plan d z m) is multiplies)
 
   pub own_can_deal : length plan.groups - 1 ≤ length m.tape
   own_can_deal = own_words plan l d goes in_product starts has_own m multiplies_here

@@ -1,6 +1,6 @@
 -- What stands in the halves of products: in a head posts come after the own product and its deal, and in a tail takes
 -- before the sum.
-use Rattle.std.proofs.Common.{◌≡◌, ◌≢◌, ℕ, zero, suc, ◌+◌, ◌<◌, ◌≤◌, true, nat_eq, List, [], ◌∷◌, ◌++◌, map, length, refl, sym, ap, ◌∙◌, subst, inl, inr, arith}
+use Rattle.std.proofs.Common.{◌≡◌, ◌≢◌, ℕ, zero, suc, ◌+◌, ◌<◌, ◌≤◌, true, nat_eq, nat_lt, List, [], ◌∷◌, ◌++◌, map, length, refl, sym, ap, ◌∙◌, subst, inl, inr, arith}
 use Rattle.std.specs.Prelude.{slice_index_or}
 use Rattle.std.specs.List.{AllByRecursion, filter, enumerate_from}
 use Rattle.std.proofs.lemmas.Bool.{cases_lt}
@@ -9,8 +9,8 @@ use Rattle.list_laws.proofs.JoinedLists.{every_append, every_only_if}
 use Rattle.secret_sharing.specs.Schemes.{has_pair}
 use Rattle.job_plan.specs.declared.pattern.Line.{Line}
 use Rattle.job_plan.specs.declared.pattern.Pattern.{Pattern}
-use Rattle.job_plan.specs.declared.pattern.Pattern.TheVariants.{Silent, Dealt, Multiplied, Opened}
-use Rattle.job_plan.specs.Plans.{Plan, scheme, slots}
+use Rattle.job_plan.specs.declared.pattern.Pattern.TheVariants.{Silent, Dealt, Multiplied, Opened, HandedOut, OpenedToAll, Joined}
+use Rattle.job_plan.specs.Plans.{Plan, least_held, scheme, slots}
 use Rattle.job_plan.specs.Numbers.{deals_before}
 use Rattle.job_plan.specs.Firsts.{first}
 use Rattle.job_plan.specs.Patterns.{lines, pattern_at}
@@ -20,7 +20,7 @@ use Rattle.party_program.specs.declared.half.Half.TheVariants.{Head, Tail}
 use Rattle.party_program.specs.declared.place.Place.{Place}
 use Rattle.party_program.specs.declared.program.Instruction.TheVariants as instruction
 use Rattle.party_program.specs.declared.step.Step.{Step}
-use Rattle.party_program.specs.declared.step.Step.TheVariants.{Deal, Own, Post, Take, Linear, Sum, Deliver}
+use Rattle.party_program.specs.declared.step.Step.TheVariants.{Draw, Deal, Own, Post, Take, Linear, Sum, Open, Join, Deliver}
 use Rattle.party_program.specs.Programs.{half_program, program, at}
 use Rattle.party_program.specs.PartySteps.{steps_before, post_steps, take_steps, post_step, take_step, is_from, is_to, steps, placed}
 use Rattle.party_program.specs.ProgramPlaces.{InProduct, IsPlace}
@@ -77,6 +77,9 @@ module _ (plan : Plan) (p : ℕ) where
   none_before (Dealt q) = every_only_if NotTake (nat_eq q p) (Deal ∷ []) (λ e. (tt, tt))
   none_before Multiplied = every_only_if NotTake (has_pair (scheme plan) p) (Own ∷ Deal ∷ []) (λ e. (tt, (tt, tt)))
   none_before (Opened readers) = tt
+  none_before HandedOut = every_only_if NotTake (nat_lt 0 (least_held plan p (length plan.groups))) (Draw ∷ []) (λ e. (tt, tt))
+  none_before OpenedToAll = tt
+  none_before Joined = tt
 
   head_not_take : (pattern : Pattern) (i : ℕ) (d : Step) → i < length (steps plan p Head pattern) → NotTake (slice_index_or (steps plan p Head pattern) i d)
   head_not_take pattern i d =
@@ -90,27 +93,36 @@ module _ (k first' deals : ℕ) where
   post_of (Post share place) h = (first' + place, share, refl)
   post_of (Take share place) h = absurd h
   post_of Deal h = absurd h
+  post_of Draw h = absurd h
   post_of Own h = absurd h
   post_of Linear h = absurd h
   post_of Sum h = absurd h
+  post_of Open h = absurd h
+  post_of Join h = absurd h
   post_of Deliver h = absurd h
 
   take_of : (x : Step) → IsTake x → (n i : ℕ) × (placed k first' deals x ≡ instruction.Take n i)
   take_of (Take share place) h = (first' + place, share, refl)
   take_of (Post share place) h = absurd h
   take_of Deal h = absurd h
+  take_of Draw h = absurd h
   take_of Own h = absurd h
   take_of Linear h = absurd h
   take_of Sum h = absurd h
+  take_of Open h = absurd h
+  take_of Join h = absurd h
   take_of Deliver h = absurd h
 
   no_take_of : (x : Step) (n i : ℕ) → NotTake x → placed k first' deals x ≢ instruction.Take n i
   no_take_of (Post share place) n i h e = cc
   no_take_of (Take share place) n i h e = absurd h
   no_take_of Deal n i h e = cc
+  no_take_of Draw n i h e = cc
   no_take_of Own n i h e = cc
   no_take_of Linear n i h e = cc
   no_take_of Sum n i h e = cc
+  no_take_of Open n i h e = cc
+  no_take_of Join n i h e = cc
   no_take_of Deliver n i h e = cc
 
 -- a place in a half of a product

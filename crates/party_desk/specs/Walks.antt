@@ -1,8 +1,10 @@
 -- Instructions of a desk at gates, one after another, on a board.
-use Rattle.std.specs.Prelude.{◌≡◌, ◌≢◌, ℕ, ◌+◌, ◌-◌, ◌<◌, ◌≤◌, Bool, true, false, List, length, slice_get, Some}
+use Rattle.std.specs.Prelude.{◌≡◌, ◌≢◌, ℕ, ◌+◌, ◌<◌, ◌≤◌, ◌&&◌, Bool, true, false, List, length, slice_get, Some}
 use Rattle.circuit_model.specs.declared.gate.Gate.{Gate}
+use Rattle.circuit_model.specs.Circuits.{is_product}
 use Rattle.job_session.specs.Batches.{IsBatch}
-use Rattle.job_session.specs.Sessions.{Session, owners, gate}
+use Rattle.job_session.specs.Sessions.{Session, owners, gate, session_slot, session_slots}
+use Rattle.job_session.specs.Sessions.Slot.{At_gate}
 use Rattle.job_plan.specs.declared.pattern.Pattern.TheVariants.{Multiplied}
 use Rattle.job_plan.specs.Plans.{Plan, scheme, session}
 use Rattle.secret_sharing.specs.Schemes.{has_pair}
@@ -17,11 +19,11 @@ use Rattle.party_program.specs.declared.program.Instruction.TheVariants.{Linear,
 use Rattle.party_program.specs.Programs.{program, at}
 use Rattle.party_program.specs.ProgramPlaces.{position_of, InProduct, IsPlace, IsProgram}
 use Rattle.party_program.specs.States.{Given}
-use Rattle.party_program.specs.Proper.{IsGate, IsSlot}
+use Rattle.party_program.specs.Proper.{IsSlot, Multiplies}
 use Rattle.party_desk.specs.declared.desk.Desk.{Desk}
 use Rattle.party_desk.specs.declared.memory.Memory.{Memory}
 use Rattle.party_desk.specs.Memories.{IsMemoryOf}
-use Rattle.party_desk.specs.Rows.{gate_in}
+use Rattle.party_desk.specs.Rows.{gate_in, AreLinear}
 use Rattle.party_desk.specs.Desks.{IsDesk, instruction_at}
 use Rattle.party_desk.specs.Steps.{word_at}
 
@@ -177,9 +179,9 @@ pub record Sends {W : Type 0} (given : Given) (seat : Sitting W) (q : ℕ) (seat
   pub seats : seat'.view.seats ≡ seat.view.seats
   pub out : seat'.view.out ≡ seat.view.out
 
--- the desk did all of its slot's head, that of a gate, and none of it was a post
+-- the desk did all of its slot's head, that of a gate or of a product of masks, and none of it was a post
 pub record DoesSilentHead (plan : Plan) (given : Given) (d d' : Desk) : Type 0 where
-  pub gate : IsSlot given.plan given.session d.place.slot IsGate
+  pub gate : IsSlot given.plan given.session d.place.slot Multiplies
   pub before : IsBefore plan given Head (d.place.slot + 1) d'
   pub on : d.position < d'.position
   pub no_post : NoPosts given d.position d'.position
@@ -187,17 +189,26 @@ pub record DoesSilentHead (plan : Plan) (given : Given) (d d' : Desk) : Type 0 w
 -- the same, with posts, and the seat knows what was posted
 pub record DoesHead {W : Type 0} (plan : Plan) (given : Given) (seat : Sitting W) (d : Desk) (seat' : Sitting W)
     (d' : Desk) : Type 0 where
-  pub gate : IsSlot given.plan given.session d.place.slot IsGate
+  pub gate : IsSlot given.plan given.session d.place.slot Multiplies
   pub before : IsBefore plan given Head (d.place.slot + 1) d'
   pub on : d.position < d'.position
   pub sends : Sends given seat d.position seat' d'.position
 
--- slot k is of a gate, or the first after those
+-- where products are dealt themselves, slot k is of a gate, or the first after those
 abbrev pub IsAmongGates : Session → ℕ → Type 0
-IsAmongGates s k = (length (owners s) ≤ k) × (k ≤ length (owners s) + length s.gates)
+IsAmongGates s k = s.prepared ≡ false → (length (owners s) ≤ k) × (k ≤ length (owners s) + length s.gates)
 
--- these are the gates from slot k up to slot e, as far as there are gates
+-- slot k is of gate g
+pub record IsSlotOf (s : Session) (k : ℕ) (g : Gate) : Type 0 where
+  pub number : ℕ
+  pub slot : session_slot s k ≡ At_gate number
+  pub is : gate s number ≡ g
+  pub there : k < session_slots s
+
+-- these are gates of the session: of the slots from k up to slot e, as far as the first product, and with it where
+-- products are dealt themselves
 pub record AreGatesFrom (s : Session) (k e : ℕ) (gates : List Gate) : Type 0 where
-  pub is : (t : ℕ) → t < length gates → gate_in gates t ≡ gate s (k - length (owners s) + t)
+  pub of : (t : ℕ) → t < length gates → (u : ℕ) × (u < length s.gates) × (gate s u ≡ gate_in gates t)
+  pub is : (t : ℕ) → t < length gates → AreLinear gates t
+      → (s.prepared && is_product (gate_in gates t).operation) ≡ false → IsSlotOf s (k + t) (gate_in gates t)
   pub to : k + length gates ≤ e
-  pub there : k + length gates ≤ length (owners s) + length s.gates

@@ -1,17 +1,20 @@
 //! Instructions of a desk at gates, one after another, on a board that threads share: head after head as far as a
 //! batch goes, and then tail after tail. Each kind has a loop of its own, in which little but words and summands is
 //! looked up.
-ghost use Rattle.std.specs.Prelude.{◌≡◌, ℕ, ◌+◌, ◌-◌, ◌<◌, ◌≤◌};
+ghost use Rattle.std.specs.Prelude.{◌≡◌, ℕ, ◌+◌, ◌-◌, ◌<◌, ◌≤◌, length};
+ghost use Rattle.job_session.specs.Sessions.{session_slots};
+ghost use Rattle.job_session.specs.SoundSessions.{IsSoundSession};
 ghost use Rattle.message_board.specs.Seats.{IsSeatOf};
 ghost use Rattle.party_program.specs.declared.half.Half.TheVariants.{Tail};
 ghost use Rattle.party_program.specs.ProgramPlaces.{InProduct};
+ghost use Rattle.party_desk.specs.Rows.{gate_in};
 ghost use Rattle.party_desk.specs.Walks.{MayTake, TakesLead, LooksAfter, WaitsAfter, AreGatesFrom, IsAmongGates};
 
-use crate::desk::{Desk, product_in};
+use crate::desk::Desk;
 use crate::memory::Memory;
 use crate::rows;
 use circuit_model::Gate;
-use job_plan::{Pattern, Plan, SessionPart};
+use job_plan::{Pattern, Plan, SessionPart, SlotKind};
 use message_board::{Board, BoardSeat, Promise, SlotItem};
 use mpc_ring::Ring;
 use party_program::{Half, Instruction, Place, Program};
@@ -53,28 +56,59 @@ fn take_words<W: Promise, T: SlotItem<W>>(
         let Some(word) = board.take(seat, number) else {
             return next;
         };
-        let kind = product_in(plan, session, place.slot());
-        memory.take(plan, session, kind, share, word);
+        memory.add(plan, session, share, word);
         next += 1;
     }
     next
 }
 
-// The gates from this slot on, up to the end of a batch.
+// The gates from this one on, at most so many.
+#[inline(always)]
+fn gates_at(gates: &[Gate], first: usize, most: usize) -> &[Gate]
+    requires { first ≤ length gates.now }
+    ensures most { length result.now ≤ most }
+    ensures there { first + length result.now ≤ length gates.now }
+    ensures are { (i : ℕ) → i < length result.now → gate_in result.now i ≡ gate_in gates.now (first + i) }
+{
+    let rest = &gates[first..];
+    if rest.len() <= most {
+        rest
+    } else {
+        &rest[..most]
+    }
+}
+
+// The gates from this slot on, up to the end of a batch. Those behind a prepared product have no slots of the run.
 #[inline(always)]
 fn gates_from(part: &SessionPart, slot: u32, end: u32) -> &[Gate]
+    requires sound { (parties : ℕ) × IsSoundSession parties part.now }
     requires among { IsAmongGates part.now slot }
     requires end { slot ≤ end }
+    requires there { end ≤ session_slots part.now }
     ensures { AreGatesFrom part.now slot end result.now }
 {
-    let inputs = part.input_wires() as u32;
-    let gates = part.gates();
-    let first = (slot - inputs) as usize;
-    let mut last = (end - inputs) as usize;
-    if last > gates.len() {
-        last = gates.len();
+    if part.is_prepared() {
+        return listed_gates(part, slot, end);
     }
-    &gates[first..last]
+    let first = slot - part.input_wires() as u32;
+    gates_at(part.gates(), first as usize, (end - slot) as usize)
+}
+
+// The same where the slots of gates aren't counted from the first.
+#[inline(never)]
+fn listed_gates(part: &SessionPart, slot: u32, end: u32) -> &[Gate]
+    requires sound { (parties : ℕ) × IsSoundSession parties part.now }
+    requires end { slot ≤ end }
+    requires there { end ≤ session_slots part.now }
+    ensures { AreGatesFrom part.now slot end result.now }
+{
+    if slot == end {
+        return &[];
+    }
+    let SlotKind::Gate(t) = part.slot_kind(slot) else {
+        return &[];
+    };
+    gates_at(part.gates(), t as usize, (end - slot) as usize)
 }
 
 impl Desk {
@@ -144,16 +178,39 @@ impl Desk {
         ensures still { self.new.position ≡ self.old.position → self.new ≡ self.old }
     {
         let slot = self.place.slot();
-        let done = match self.place.pattern() {
-            Pattern::Multiplied => self.send_product(plan, board, seat),
-            Pattern::Silent => self.linear_gate(plan),
-            _ => false,
-        };
+        let done = self.do_head(plan, board, seat);
         if done {
             let part = plan.part(self.session);
             self.compute_gates(plan, part, slot + 1);
         }
         done
+    }
+
+    // In a head of a gate, what the party does there. It answers whether it stood in one. The place stays behind.
+    #[inline(always)]
+    fn do_head<W: Promise, T: SlotItem<W>>(
+        &mut self,
+        plan: &Plan,
+        board: &Board<W, T>,
+        seat: &mut BoardSeat<W, T>,
+    ) -> bool
+        requires may { (given : Given) × MayWalk plan.now (W.list board.now.about.world) given self.old }
+        requires seat { IsSeatOf board.now seat.old }
+        requires head { self.old.place.half ≡ Head }
+        ensures seat { IsSeatOf board.now seat.new }
+        ensures does { result ≡ true
+            → (given : Given) → MayWalk plan.now (W.list board.now.about.world) given self.old
+            → DoesHead plan.now given seat.old self.old seat.new self.new }
+        ensures still { result ≡ false → (self.new ≡ self.old) × (seat.new ≡ seat.old) }
+        ensures through { result ≡ false
+            → (given : Given) → MayWalk plan.now (W.list board.now.about.world) given self.old
+            → NothingToCompute given self.new }
+    {
+        match self.place.pattern() {
+            Pattern::Multiplied => self.send_product(plan, board, seat),
+            Pattern::Silent => self.linear_gate(plan),
+            _ => false,
+        }
     }
 
     // In a tail of a product, the takes that come next, and the sum. It answers whether it came to that.
@@ -424,7 +481,7 @@ impl Desk {
             .linear_gates(plan, self.session, ring, shares, gates);
         let next = slot + computed as u32;
         self.position += computed as u32;
-        if computed < gates.len() {
+        if computed < gates.len() && !part.is_prepared() {
             self.program
                 .enter_product(plan, &mut self.place, Half::Head, next);
         } else {
@@ -459,7 +516,7 @@ impl Desk {
         let gates = gates_from(part, slot, self.place.end());
         let linear = rows::linear_count(gates);
         let next = slot + linear as u32;
-        if linear < gates.len() {
+        if linear < gates.len() && !part.is_prepared() {
             self.program
                 .enter_product(plan, &mut self.place, Half::Tail, next);
         } else {

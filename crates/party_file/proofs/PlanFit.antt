@@ -16,7 +16,7 @@ use Rattle.toml_fields.specs.Fields.{has_field, text_at, texts_at}
 use Rattle.job_session.specs.Sessions.{owners}
 use Rattle.job_plan.specs.Plans.{Plan, session, words, gives}
 use Rattle.job_session.specs.Counts.{owned}
-use Rattle.job_plan.proofs.TallyLaws.{total_count}
+use Rattle.list_laws.proofs.Totals.{total_count}
 use Rattle.list_laws.specs.Checks.{◌answers◌, first_fault}
 use Rattle.party_file.specs.Table.{version_checks, name_checks, kind_checks, count_checks, session_checks, input_checks, random_checks, tape_checks, seed_checks, seed_in, party_checks, party_given, PartyForm, numbers_in, tapes_of, first_outside, out_of_ring, bad_words, word_counts}
 use Rattle.party_file.specs.declared.fault.PartyFault.TheVariants.{CountDiffers, TapeShort}

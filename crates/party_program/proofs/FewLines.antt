@@ -7,7 +7,7 @@ use Rattle.secret_sharing.specs.Schemes.{has_pair}
 use Rattle.party_set.specs.Parties.{has_party}
 use Rattle.job_plan.specs.declared.pattern.Line.{Line}
 use Rattle.job_plan.specs.declared.pattern.Pattern.{Pattern}
-use Rattle.job_plan.specs.declared.pattern.Pattern.TheVariants.{Silent, Dealt, Multiplied, Opened}
+use Rattle.job_plan.specs.declared.pattern.Pattern.TheVariants.{Silent, Dealt, Multiplied, Opened, HandedOut, OpenedToAll, Joined}
 use Rattle.job_plan.specs.Plans.{Plan, holds, least_holder, scheme}
 use Rattle.job_plan.specs.Patterns.{deal_line, deal_lines, open_lines, lines}
 use Rattle.job_plan.specs.Sound.{IsSound}
@@ -33,9 +33,12 @@ joined_few n most c f l h =
     omega arith
 
 module _ (plan : Plan) (sound : IsSound plan) where
+  -- of one summand
+  summand_few : (p i : ℕ) → length (joined plan.parties (deal_line plan p i)) ≤ 12
+  summand_few p i = joined_few plan.parties 12 1 (deal_line plan p i) sound.parties (λ q. only_few (not (nat_eq q p) && holds plan q i) (record { share = i; sender = p; receiver = q } ∷ []) 1 (omega arith))
+
   deal_few : (p : ℕ) → length (deal_lines plan p) ≤ 768
-  deal_few p = joined_few (length plan.groups) 64 12 (λ i. joined plan.parties (deal_line plan p i)) sound.groups (λ i. joined_few plan.parties 12 1 (deal_line plan p i) sound.parties (λ q.
-      only_few (not (nat_eq q p) && holds plan q i) (record { share = i; sender = p; receiver = q } ∷ []) 1 (omega arith)))
+  deal_few p = joined_few (length plan.groups) 64 12 (λ i. joined plan.parties (deal_line plan p i)) sound.groups (λ i. summand_few p i)
 
   open_few : (r : ℕ) → length (open_lines plan r) ≤ 64
   open_few r = joined_few (length plan.groups) 64 1 _ sound.groups (λ i. only_few (not (holds plan r i)) (record { share = i; sender = least_holder plan i; receiver = r } ∷ []) 1 (omega arith))
@@ -45,3 +48,6 @@ module _ (plan : Plan) (sound : IsSound plan) where
   few_lines (Dealt p) = let few = deal_few p in omega arith
   few_lines Multiplied = joined_few plan.parties 12 768 _ sound.parties (λ p. only_few (has_pair (scheme plan) p) (deal_lines plan p) 768 (deal_few p))
   few_lines (Opened readers) = let few = joined_few plan.parties 12 64 _ sound.parties (λ r. only_few (has_party readers r) (open_lines plan r) 64 (open_few r)) in omega arith
+  few_lines HandedOut = let few = joined_few (length plan.groups) 64 12 (λ i. joined plan.parties (deal_line plan (least_holder plan i) i)) sound.groups (λ i. summand_few (least_holder plan i) i) in omega arith
+  few_lines OpenedToAll = let few = joined_few plan.parties 12 64 (open_lines plan) sound.parties open_few in omega arith
+  few_lines Joined = omega arith

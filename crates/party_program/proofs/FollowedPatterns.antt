@@ -1,5 +1,5 @@
 -- The instructions of a half of a slot are the steps of its pattern.
-use Rattle.std.proofs.Common.{◌≡◌, ℕ, suc, ◌+◌, ◌<◌, Bool, true, false, not, ◌&&◌, nat_eq, if◌then◌else◌, List, [], ◌∷◌, ◌++◌, map, length, refl, sym, ap, ap₂, ◌∙◌, subst, arith, append-nil}
+use Rattle.std.proofs.Common.{◌≡◌, ℕ, suc, ◌+◌, ◌<◌, Bool, true, false, not, ◌&&◌, nat_eq, nat_lt, if◌then◌else◌, List, [], ◌∷◌, ◌++◌, map, length, refl, sym, ap, ap₂, ◌∙◌, subst, arith, append-nil}
 use Rattle.std.specs.Prelude.{slice_index_or}
 use Rattle.std.specs.List.{range_with_len, filter, enumerate_from}
 use Rattle.std.proofs.lemmas.Bool.{cases_Bool, cond-true, cond-false}
@@ -11,10 +11,10 @@ use Rattle.secret_sharing.specs.Schemes.{has_pair}
 use Rattle.job_plan.specs.declared.key.Key.{Key}
 use Rattle.job_plan.specs.declared.pattern.Line.{Line}
 use Rattle.job_plan.specs.declared.pattern.Pattern.{Pattern}
-use Rattle.job_plan.specs.declared.pattern.Pattern.TheVariants.{Silent, Multiplied}
+use Rattle.job_plan.specs.declared.pattern.Pattern.TheVariants.{Silent, Multiplied, Joined}
 use Rattle.job_session.specs.Sessions.{Slot, gate}
-use Rattle.job_plan.specs.Plans.{Plan, scheme, session, slot, slots, gives, opens_to}
-use Rattle.job_session.specs.Sessions.Slot.{Input, At_gate, Output}
+use Rattle.job_plan.specs.Plans.{Plan, scheme, session, slot, slots, gives, opens_to, least_held}
+use Rattle.job_session.specs.Sessions.Slot.{Input, At_gate, Output, Mask, Mask_product, Masked}
 use Rattle.job_plan.specs.Numbers.{message, no_key, deals_before}
 use Rattle.job_plan.specs.Firsts.{count, first, numbers}
 use Rattle.job_plan.specs.Patterns.{named, lines, pattern, pattern_at}
@@ -25,7 +25,7 @@ use Rattle.party_program.specs.declared.half.Half.TheVariants.{Head, Tail}
 use Rattle.party_program.specs.declared.program.Instruction.{Instruction}
 use Rattle.party_program.specs.declared.program.Instruction.TheVariants as instruction
 use Rattle.party_program.specs.declared.step.Step.{Step}
-use Rattle.party_program.specs.declared.step.Step.TheVariants.{Deal, Own, Deliver}
+use Rattle.party_program.specs.declared.step.Step.TheVariants.{Draw, Deal, Own, Deliver}
 use Rattle.party_program.specs.Programs as programs
 use Rattle.party_program.specs.PartySteps.{steps_before, steps_after, post_steps, take_steps, post_step, take_step, is_from, is_to, steps, placed}
 
@@ -55,28 +55,47 @@ passing f test g check a j (l ∷ ls) h =
           ∙ ap (map g) (sym (cond-false (check (j, l)) ((j, l) ∷ filter check (enumerate_from (j + 1) ls)) (filter check (enumerate_from (j + 1) ls)) e))
     ]
 
+-- the pattern of a gate, by whether products are prepared and whether it is one
+abbrev pub gate_pattern : Bool → Bool → Pattern
+gate_pattern prepared product = if not prepared && product then Multiplied else if prepared && product then Joined else Silent
+
 module _ (plan : Plan) (p s k : ℕ) where
   abbrev place : Step → Instruction
   place = placed k (first plan s k) (deals_before plan p s k)
 
-  before_gate : (b : Bool) → only_if (b && has_pair (scheme plan) p) (instruction.Own k ∷ instruction.Deal k (deals_before plan p s k) ∷ []) ++ only_if (not b) (instruction.Linear k ∷ [])
-      ≡ map place (steps_before plan p (if b then Multiplied else Silent))
-  before_gate true = append-nil (only_if (has_pair (scheme plan) p) (instruction.Own k ∷ instruction.Deal k (deals_before plan p s k) ∷ [])) ∙ sym (map_only_if place (has_pair (scheme plan) p) (Own ∷ Deal ∷ []))
-  before_gate false = refl
+  dealt_product : only_if (has_pair (scheme plan) p) (instruction.Own k ∷ instruction.Deal k (deals_before plan p s k) ∷ []) ≡ map place (steps_before plan p Multiplied)
+  dealt_product = sym (map_only_if place (has_pair (scheme plan) p) (Own ∷ Deal ∷ []))
+
+  before_gate : (prepared product : Bool)
+      → only_if ((not prepared && product) && has_pair (scheme plan) p) (instruction.Own k ∷ instruction.Deal k (deals_before plan p s k) ∷ []) ++ only_if (not product) (instruction.Linear k ∷ [])
+      ≡ map place (steps_before plan p (gate_pattern prepared product))
+  before_gate true true = refl
+  before_gate true false = refl
+  before_gate false true = append-nil (only_if (has_pair (scheme plan) p) (instruction.Own k ∷ instruction.Deal k (deals_before plan p s k) ∷ [])) ∙ dealt_product
+  before_gate false false = refl
 
   opening_is : (z : Slot) → programs.opening plan p s k z ≡ map place (steps_before plan p (pattern plan s z))
   opening_is (Input v) = sym (map_only_if place (gives plan s p v) (Deal ∷ []))
-  opening_is (At_gate t) = before_gate (is_product (gate (session plan s) t).operation)
+  opening_is (At_gate t) = before_gate (session plan s).prepared (is_product (gate (session plan s) t).operation)
   opening_is (Output o) = refl
+  opening_is (Mask t side) = sym (map_only_if place (nat_lt 0 (least_held plan p (length plan.groups))) (Draw ∷ []))
+  opening_is (Mask_product t) = dealt_product
+  opening_is (Masked t side) = refl
 
-  after_gate : (b : Bool) → only_if b (instruction.Sum k ∷ []) ≡ map place (steps_after p (if b then Multiplied else Silent))
-  after_gate true = refl
-  after_gate false = refl
+  after_gate : (prepared product : Bool) → only_if (not prepared && product) (instruction.Sum k ∷ []) ++ only_if (prepared && product) (instruction.Join k ∷ [])
+      ≡ map place (steps_after p (gate_pattern prepared product))
+  after_gate true true = refl
+  after_gate true false = refl
+  after_gate false true = refl
+  after_gate false false = refl
 
   closing_is : (z : Slot) → programs.closing plan p s k z ≡ map place (steps_after p (pattern plan s z))
   closing_is (Input v) = refl
-  closing_is (At_gate t) = after_gate (is_product (gate (session plan s) t).operation)
+  closing_is (At_gate t) = after_gate (session plan s).prepared (is_product (gate (session plan s) t).operation)
   closing_is (Output o) = sym (map_only_if place (opens_to plan s p (Output o)) (Deliver ∷ []))
+  closing_is (Mask t side) = refl
+  closing_is (Mask_product t) = refl
+  closing_is (Masked t side) = refl
 
   module _ (ls : s < length plan.sessions) (lk : k < slots plan s) where
     abbrev its : Pattern

@@ -12,7 +12,7 @@ use Rattle.party_program.specs.declared.half.Half.TheVariants.{Head, Tail}
 use Rattle.party_program.specs.declared.program.Program.{Program}
 use Rattle.party_program.specs.declared.program.Instruction.TheVariants.{End}
 use Rattle.party_program.specs.declared.step.Step.{Step}
-use Rattle.party_program.specs.declared.step.Step.TheVariants.{Deal}
+use Rattle.party_program.specs.declared.step.Step.TheVariants.{Draw}
 use Rattle.party_program.specs.Programs.{half_program}
 use Rattle.party_program.specs.PartySteps.{steps, placed, IsPlaced}
 use Rattle.party_program.specs.ProgramPlaces.{instructions_before, halves_before, count_in, OccursIn, IsProgram}
@@ -72,10 +72,10 @@ module _ (plan : Plan) (own : Program) (is : IsProgram plan own.party own.sessio
       within : i < length (steps plan own.party half (pattern_at plan own.session k))
       within = subst (λ (xs : List Step). i < length xs) are found_within
 
-      pub fits : IsPlaced (2 ^ 32 - first plan own.session k) (slice_index_or found i Deal)
-      fits = subst (λ xs. IsPlaced (2 ^ 32 - first plan own.session k) (slice_index_or xs i Deal)) (sym are) (step_fits plan own.party own.session half k is.session_there lk i Deal is.sound within)
+      pub fits : IsPlaced (2 ^ 32 - first plan own.session k) (slice_index_or found i Draw)
+      fits = subst (λ xs. IsPlaced (2 ^ 32 - first plan own.session k) (slice_index_or xs i Draw)) (sym are) (step_fits plan own.party own.session half k is.session_there lk i Draw is.sound within)
 
-      pub instruction : placed k (first plan own.session k) (deals_before plan own.party own.session k) (slice_index_or found i Deal) ≡ slice_index_or (half_program plan own.party own.session half k) i End
+      pub instruction : placed k (first plan own.session k) (deals_before plan own.party own.session k) (slice_index_or found i Draw) ≡ slice_index_or (half_program plan own.party own.session half k) i End
       instruction =
-          ap (λ xs. placed k (first plan own.session k) (deals_before plan own.party own.session k) (slice_index_or xs i Deal)) are
-          ∙ sym (step_is plan own.party own.session half k is.session_there lk i Deal within)
+          ap (λ xs. placed k (first plan own.session k) (deals_before plan own.party own.session k) (slice_index_or xs i Draw)) are
+          ∙ sym (step_is plan own.party own.session half k is.session_there lk i Draw within)

@@ -1,5 +1,5 @@
 -- Where in a slot the instructions stand that compute something of a gate.
-use Rattle.std.proofs.Common.{◌≡◌, ◌≢◌, ℕ, zero, suc, ◌+◌, ◌<◌, Bool, true, false, nat_eq, List, [], ◌∷◌, ◌++◌, map, length, refl, sym, ap, ◌∙◌, subst, inl, inr, arith}
+use Rattle.std.proofs.Common.{◌≡◌, ◌≢◌, ℕ, zero, suc, ◌+◌, ◌<◌, Bool, true, false, nat_eq, nat_lt, List, [], ◌∷◌, ◌++◌, map, length, refl, sym, ap, ◌∙◌, subst, inl, inr, arith}
 use Rattle.std.specs.Prelude.{slice_index_or}
 use Rattle.std.specs.List.{AllByRecursion, filter, enumerate_from}
 use Rattle.std.proofs.lemmas.Bool.{cases_lt}
@@ -9,8 +9,8 @@ use Rattle.secret_sharing.specs.Schemes.{has_pair}
 use Rattle.party_set.specs.Parties.{has_party}
 use Rattle.job_plan.specs.declared.pattern.Line.{Line}
 use Rattle.job_plan.specs.declared.pattern.Pattern.{Pattern}
-use Rattle.job_plan.specs.declared.pattern.Pattern.TheVariants.{Silent, Dealt, Multiplied, Opened}
-use Rattle.job_plan.specs.Plans.{Plan, scheme, slots}
+use Rattle.job_plan.specs.declared.pattern.Pattern.TheVariants.{Silent, Dealt, Multiplied, Opened, HandedOut, OpenedToAll, Joined}
+use Rattle.job_plan.specs.Plans.{Plan, scheme, slots, least_held}
 use Rattle.job_plan.specs.Numbers.{deals_before}
 use Rattle.job_plan.specs.Firsts.{first}
 use Rattle.job_plan.specs.Patterns.{lines}
@@ -21,7 +21,7 @@ use Rattle.party_program.specs.declared.place.Place.{Place}
 use Rattle.party_program.specs.declared.program.Instruction.{Instruction}
 use Rattle.party_program.specs.declared.program.Instruction.TheVariants as instruction
 use Rattle.party_program.specs.declared.step.Step.{Step}
-use Rattle.party_program.specs.declared.step.Step.TheVariants.{Deal, Own, Post, Take, Linear, Sum, Deliver}
+use Rattle.party_program.specs.declared.step.Step.TheVariants.{Draw, Deal, Own, Post, Take, Linear, Sum, Open, Join, Deliver}
 use Rattle.party_program.specs.Programs.{program, at}
 use Rattle.party_program.specs.PartySteps.{steps_before, steps_after, post_steps, take_steps, post_step, take_step, is_from, is_to, steps, placed}
 use Rattle.party_program.specs.ProgramPlaces.{IsPlace}
@@ -76,6 +76,9 @@ module _ (plan : Plan) (p : ℕ) where
   linear_silent half (Dealt q) i d l is = absurd (not_in NotLinear half (Dealt q) i d Linear (every_step NotLinear (λ a b. tt) (λ a b. tt) half (Dealt q) (none_if NotLinear (nat_eq q p) (Deal ∷ []) (tt, tt)) tt) l is (λ z. z))
   linear_silent half Multiplied i d l is = absurd (not_in NotLinear half Multiplied i d Linear (every_step NotLinear (λ a b. tt) (λ a b. tt) half Multiplied (none_if NotLinear (has_pair (scheme plan) p) (Own ∷ Deal ∷ []) (tt, (tt, tt))) (tt, tt)) l is (λ z. z))
   linear_silent half (Opened readers) i d l is = absurd (not_in NotLinear half (Opened readers) i d Linear (every_step NotLinear (λ a b. tt) (λ a b. tt) half (Opened readers) tt (none_if NotLinear (has_party readers p) (Deliver ∷ []) (tt, tt))) l is (λ z. z))
+  linear_silent half HandedOut i d l is = absurd (not_in NotLinear half HandedOut i d Linear (every_step NotLinear (λ a b. tt) (λ a b. tt) half HandedOut (none_if NotLinear (nat_lt 0 (least_held plan p (length plan.groups))) (Draw ∷ []) (tt, tt)) tt) l is (λ z. z))
+  linear_silent half OpenedToAll i d l is = absurd (not_in NotLinear half OpenedToAll i d Linear (every_step NotLinear (λ a b. tt) (λ a b. tt) half OpenedToAll tt (tt, tt)) l is (λ z. z))
+  linear_silent half Joined i d l is = absurd (not_in NotLinear half Joined i d Linear (every_step NotLinear (λ a b. tt) (λ a b. tt) half Joined tt (tt, tt)) l is (λ z. z))
 
   -- a sum is the last step of the tail of a product
   sum_is_last : (half : Half) (pattern : Pattern) (i : ℕ) (d : Step) → i < length (steps plan p half pattern) → slice_index_or (steps plan p half pattern) i d ≡ Sum
@@ -92,6 +95,9 @@ module _ (plan : Plan) (p : ℕ) where
     ],
   )
   sum_is_last half (Opened readers) i d l is = absurd (not_in NotSum half (Opened readers) i d Sum (every_step NotSum (λ a b. tt) (λ a b. tt) half (Opened readers) tt (none_if NotSum (has_party readers p) (Deliver ∷ []) (tt, tt))) l is (λ z. z))
+  sum_is_last half HandedOut i d l is = absurd (not_in NotSum half HandedOut i d Sum (every_step NotSum (λ a b. tt) (λ a b. tt) half HandedOut (none_if NotSum (nat_lt 0 (least_held plan p (length plan.groups))) (Draw ∷ []) (tt, tt)) tt) l is (λ z. z))
+  sum_is_last half OpenedToAll i d l is = absurd (not_in NotSum half OpenedToAll i d Sum (every_step NotSum (λ a b. tt) (λ a b. tt) half OpenedToAll tt (tt, tt)) l is (λ z. z))
+  sum_is_last half Joined i d l is = absurd (not_in NotSum half Joined i d Sum (every_step NotSum (λ a b. tt) (λ a b. tt) half Joined tt (tt, tt)) l is (λ z. z))
 
   -- an own product is the first step of a product
   own_first : (b : Bool) (i : ℕ) (d : Step) → i < length (only_if b (Own ∷ Deal ∷ []) ++ post_steps plan p Multiplied) → slice_index_or (only_if b (Own ∷ Deal ∷ []) ++ post_steps plan p Multiplied) i d ≡ Own → (i ≡ 0) × (b ≡ true)
@@ -108,34 +114,46 @@ module _ (plan : Plan) (p : ℕ) where
   own_is_first Head Multiplied i d l is = let first = own_first (has_pair (scheme plan) p) i d l is in (refl, refl, first.0, first.1)
   own_is_first Tail Multiplied i d l is = absurd (not_in NotOwn Tail Multiplied i d Own (every_append NotOwn (take_steps plan p Multiplied) (Sum ∷ []) (every_take NotOwn (λ a b. tt) (λ a b. tt) Multiplied) (tt, tt)) l is (λ z. z))
   own_is_first half (Opened readers) i d l is = absurd (not_in NotOwn half (Opened readers) i d Own (every_step NotOwn (λ a b. tt) (λ a b. tt) half (Opened readers) tt (none_if NotOwn (has_party readers p) (Deliver ∷ []) (tt, tt))) l is (λ z. z))
+  own_is_first half HandedOut i d l is = absurd (not_in NotOwn half HandedOut i d Own (every_step NotOwn (λ a b. tt) (λ a b. tt) half HandedOut (none_if NotOwn (nat_lt 0 (least_held plan p (length plan.groups))) (Draw ∷ []) (tt, tt)) tt) l is (λ z. z))
+  own_is_first half OpenedToAll i d l is = absurd (not_in NotOwn half OpenedToAll i d Own (every_step NotOwn (λ a b. tt) (λ a b. tt) half OpenedToAll tt (tt, tt)) l is (λ z. z))
+  own_is_first half Joined i d l is = absurd (not_in NotOwn half Joined i d Own (every_step NotOwn (λ a b. tt) (λ a b. tt) half Joined tt (tt, tt)) l is (λ z. z))
 
 -- only steps of its kind become an instruction
 module _ (k first deals j : ℕ) where
   is_linear : (step : Step) → placed k first deals step ≡ instruction.Linear j → step ≡ Linear
+  is_linear Draw is = absurd cc
   is_linear Deal is = absurd cc
   is_linear Own is = absurd cc
   is_linear (Post share place) is = absurd cc
   is_linear (Take share place) is = absurd cc
   is_linear Linear is = refl
   is_linear Sum is = absurd cc
+  is_linear Open is = absurd cc
+  is_linear Join is = absurd cc
   is_linear Deliver is = absurd cc
 
   is_sum : (step : Step) → placed k first deals step ≡ instruction.Sum j → step ≡ Sum
+  is_sum Draw is = absurd cc
   is_sum Deal is = absurd cc
   is_sum Own is = absurd cc
   is_sum (Post share place) is = absurd cc
   is_sum (Take share place) is = absurd cc
   is_sum Linear is = absurd cc
   is_sum Sum is = refl
+  is_sum Open is = absurd cc
+  is_sum Join is = absurd cc
   is_sum Deliver is = absurd cc
 
   is_own : (step : Step) → placed k first deals step ≡ instruction.Own j → step ≡ Own
+  is_own Draw is = absurd cc
   is_own Deal is = absurd cc
   is_own Own is = refl
   is_own (Post share place) is = absurd cc
   is_own (Take share place) is = absurd cc
   is_own Linear is = absurd cc
   is_own Sum is = absurd cc
+  is_own Open is = absurd cc
+  is_own Join is = absurd cc
   is_own Deliver is = absurd cc
 
 -- a place tells by its half, its pattern and what is done which instruction of a gate may stand there

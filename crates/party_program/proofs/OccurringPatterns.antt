@@ -1,33 +1,42 @@
 -- The patterns of a session's slots.
-use Rattle.std.proofs.Common.{◌≡◌, ℕ, ◌<◌, Bool, true, false, ◌&&◌, if◌then◌else◌, List, length, refl, sym, ap, ◌∙◌, subst}
+use Rattle.std.proofs.Common.{◌≡◌, ℕ, ◌+◌, ◌<◌, ◌≤◌, Bool, true, false, not, ◌&&◌, List, length, refl, sym, ap, ◌∙◌, subst, arith}
 use Rattle.circuit_model.specs.Circuits.{is_product}
 use Rattle.secret_sharing.specs.Schemes.{has_pair}
 use Rattle.job_plan.specs.declared.pattern.Pattern.{Pattern}
-use Rattle.job_plan.specs.declared.pattern.Pattern.TheVariants.{Silent, Multiplied}
-use Rattle.job_session.specs.Sessions.{Slot, gate}
+use Rattle.job_plan.specs.declared.pattern.Pattern.TheVariants.{Opened}
+use Rattle.job_session.specs.Sessions.{Slot, gate, readers_of}
+use Rattle.job_session.specs.SlotNumbers.{session_slot_number}
+use Rattle.job_session.specs.SoundSessions.{Inside}
 use Rattle.job_plan.specs.Plans.{Plan, scheme, session, slots, deals_in}
-use Rattle.job_session.specs.Sessions.Slot.{Input, At_gate, Output}
+use Rattle.job_session.specs.Sessions.Slot.{Input, At_gate, Output, Mask, Mask_product, Masked}
 use Rattle.job_plan.specs.Patterns.{pattern, pattern_at, Occurs}
 use Rattle.job_plan.specs.Sound.{IsSound}
-use Rattle.job_session.proofs.SessionSlots.{slot_cases}
+use Rattle.job_session.proofs.SessionSlots.{slot_count, slot_kinds}
 use Rattle.party_program.specs.declared.half.Half.{Half}
 use Rattle.party_program.specs.declared.step.Step.{Step}
 use Rattle.party_program.specs.declared.step_table.StepTable.{StepTable}
 use Rattle.party_program.specs.PartySteps.{deals_in_pattern, steps}
 use Rattle.party_program.specs.ProgramPlaces.{AreSteps, OccursIn}
+use Rattle.party_program.proofs.FollowedPatterns.{gate_pattern}
 
 module _ (plan : Plan) (s : ℕ) where
-  gate_occurs : (b : Bool) → Occurs plan (if b then Multiplied else Silent)
-  gate_occurs true = tt
-  gate_occurs false = tt
+  gate_occurs : (prepared product : Bool) → Occurs plan (gate_pattern prepared product)
+  gate_occurs true true = tt
+  gate_occurs true false = tt
+  gate_occurs false true = tt
+  gate_occurs false false = tt
+
+  kind_occurs : IsSound plan → s < length plan.sessions → (z : Slot) → Inside (session plan s) z → Occurs plan (pattern plan s z)
+  kind_occurs sound ls (Input v) l = (sound.sessions s ls).owned v l
+  kind_occurs sound ls (At_gate t) l = gate_occurs (session plan s).prepared (is_product (gate (session plan s) t).operation)
+  kind_occurs sound ls (Output o) l = record { at = s; output = o; session_there = ls; output_there = l; is = refl }
+  kind_occurs sound ls (Mask t side) l = tt
+  kind_occurs sound ls (Mask_product t) l = tt
+  kind_occurs sound ls (Masked t side) l = tt
 
   -- the pattern of a slot is one of the plan
   pattern_occurs : (k : ℕ) → IsSound plan → s < length plan.sessions → k < slots plan s → Occurs plan (pattern_at plan s k)
-  pattern_occurs k sound ls = slot_cases (session plan s) (λ k z. Occurs plan (pattern plan s z))
-      (sound.sessions s ls).owned
-      (λ t l. gate_occurs (is_product (gate (session plan s) t).operation))
-      (λ o l. record { at = s; output = o; session_there = ls; output_there = l; is = refl })
-      k
+  pattern_occurs k sound ls = slot_kinds (session plan s) (λ k z. Occurs plan (pattern plan s z)) (kind_occurs sound ls) k
 
   pub occurs_in : (k : ℕ) (its : Pattern) → IsSound plan → s < length plan.sessions → k < slots plan s → its ≡ pattern_at plan s k → OccursIn plan s its
   occurs_in k its sound ls lk e = record { slot = k; slot_there = lk; is = e; occurs = subst (Occurs plan) (sym e) (pattern_occurs k sound ls lk) }
@@ -40,9 +49,32 @@ module _ (plan : Plan) (s : ℕ) where
   -- whether a party deals in a slot, its pattern tells
   pub deals_by_pattern : (p : ℕ) (z : Slot) → deals_in_pattern plan p (pattern plan s z) ≡ deals_in plan s p z
   deals_by_pattern p (Input v) = refl
-  deals_by_pattern p (At_gate t) = of_gate (is_product (gate (session plan s) t).operation)
+  deals_by_pattern p (At_gate t) = of_gate (session plan s).prepared (is_product (gate (session plan s) t).operation)
     where
-      of_gate : (b : Bool) → deals_in_pattern plan p (if b then Multiplied else Silent) ≡ (b && has_pair (scheme plan) p)
-      of_gate true = refl
-      of_gate false = refl
+      of_gate : (prepared product : Bool) → deals_in_pattern plan p (gate_pattern prepared product) ≡ ((not prepared && product) && has_pair (scheme plan) p)
+      of_gate true true = refl
+      of_gate true false = refl
+      of_gate false true = refl
+      of_gate false false = refl
   deals_by_pattern p (Output o) = refl
+  deals_by_pattern p (Mask t side) = refl
+  deals_by_pattern p (Mask_product t) = refl
+  deals_by_pattern p (Masked t side) = refl
+
+  -- only outputs are opened to readers, and they are the last slots
+  pub opened_last : (k readers : ℕ) → k < slots plan s → pattern_at plan s k ≡ Opened readers → slots plan s ≤ k + length (readers_of (session plan s).outputs)
+  opened_last k readers = slot_kinds (session plan s) (λ k z. pattern plan s z ≡ Opened readers → slots plan s ≤ k + length (readers_of (session plan s).outputs)) by_kind k
+    where
+      not_opened : (prepared product : Bool) → gate_pattern prepared product ≡ Opened readers → ⊥
+      not_opened true true e = absurd cc
+      not_opened true false e = absurd cc
+      not_opened false true e = absurd cc
+      not_opened false false e = absurd cc
+
+      by_kind : (z : Slot) → Inside (session plan s) z → pattern plan s z ≡ Opened readers → slots plan s ≤ session_slot_number (session plan s) z + length (readers_of (session plan s).outputs)
+      by_kind (Input v) l e = absurd cc
+      by_kind (At_gate t) l e = absurd (not_opened (session plan s).prepared (is_product (gate (session plan s) t).operation) e)
+      by_kind (Output o) l e = omega (arith, slot_count (session plan s))
+      by_kind (Mask t side) l e = absurd cc
+      by_kind (Mask_product t) l e = absurd cc
+      by_kind (Masked t side) l e = absurd cc

@@ -1,5 +1,5 @@
 -- The messages that steps name are those of their pattern.
-use Rattle.std.proofs.Common.{ℕ, ◌+◌, ◌<◌, ◌≤◌, Bool, nat_eq, List, [], ◌∷◌, map, length, sym, subst, arith}
+use Rattle.std.proofs.Common.{ℕ, ◌+◌, ◌<◌, ◌≤◌, Bool, nat_eq, nat_lt, List, [], ◌∷◌, map, length, sym, subst, arith}
 use Rattle.std.specs.Prelude.{slice_index_or}
 use Rattle.std.specs.List.{AllByRecursion, filter, enumerate_from}
 use Rattle.std.proofs.lemmas.Bool.{cases_Bool, cond-true, cond-false}
@@ -9,14 +9,14 @@ use Rattle.secret_sharing.specs.Schemes.{has_pair}
 use Rattle.party_set.specs.Parties.{has_party}
 use Rattle.job_plan.specs.declared.pattern.Line.{Line}
 use Rattle.job_plan.specs.declared.pattern.Pattern.{Pattern}
-use Rattle.job_plan.specs.declared.pattern.Pattern.TheVariants.{Silent, Dealt, Multiplied, Opened}
-use Rattle.job_plan.specs.Plans.{Plan, scheme}
+use Rattle.job_plan.specs.declared.pattern.Pattern.TheVariants.{Silent, Dealt, Multiplied, Opened, HandedOut, OpenedToAll, Joined}
+use Rattle.job_plan.specs.Plans.{Plan, scheme, least_held}
 use Rattle.job_plan.specs.Patterns.{lines}
 use Rattle.job_plan.proofs.DistinctMessages.{every_place}
 use Rattle.party_program.specs.declared.half.Half.{Half}
 use Rattle.party_program.specs.declared.half.Half.TheVariants.{Head, Tail}
 use Rattle.party_program.specs.declared.step.Step.{Step}
-use Rattle.party_program.specs.declared.step.Step.TheVariants.{Deal, Own, Deliver}
+use Rattle.party_program.specs.declared.step.Step.TheVariants.{Draw, Deal, Own, Deliver}
 use Rattle.party_program.specs.PartySteps.{steps_before, steps_after, post_steps, take_steps, post_step, take_step, is_from, is_to, steps, IsPlaced}
 
 passing_placed : (f : ℕ × Line → Step) (test : ℕ × Line → Bool) (n j : ℕ) (ls : List Line) → ((e : ℕ × Line) → e.0 < n → IsPlaced n (f e)) → j + length ls ≤ n
@@ -35,12 +35,18 @@ module _ (plan : Plan) (p n : ℕ) where
   before_placed (Dealt q) = every_only_if (IsPlaced n) (nat_eq q p) (Deal ∷ []) (λ e. (tt, tt))
   before_placed Multiplied = every_only_if (IsPlaced n) (has_pair (scheme plan) p) (Own ∷ Deal ∷ []) (λ e. (tt, (tt, tt)))
   before_placed (Opened readers) = tt
+  before_placed HandedOut = every_only_if (IsPlaced n) (nat_lt 0 (least_held plan p (length plan.groups))) (Draw ∷ []) (λ e. (tt, tt))
+  before_placed OpenedToAll = tt
+  before_placed Joined = tt
 
   after_placed : (pattern : Pattern) → AllByRecursion (IsPlaced n) (steps_after p pattern)
   after_placed Silent = tt
   after_placed (Dealt q) = tt
   after_placed Multiplied = (tt, tt)
   after_placed (Opened readers) = every_only_if (IsPlaced n) (has_party readers p) (Deliver ∷ []) (λ e. (tt, tt))
+  after_placed HandedOut = tt
+  after_placed OpenedToAll = (tt, tt)
+  after_placed Joined = (tt, tt)
 
 module _ (plan : Plan) (p : ℕ) (pattern : Pattern) where
   abbrev n : ℕ

@@ -6,7 +6,7 @@ use Rattle.std.proofs.lemmas.List.{length-append, length-map, get_or-map, get_or
 use mathlib.Core.Logic.{inl, inr}
 use Rattle.list_laws.specs.Lists.{total, joined, only_if}
 use Rattle.list_laws.proofs.Totals.{total_more}
-use Rattle.list_laws.proofs.JoinedLists.{length-joined, total_within}
+use Rattle.list_laws.proofs.JoinedLists.{length-joined, joined_place, total_within}
 use Rattle.job_session.specs.Sessions.{Session, session_slots}
 use Rattle.job_session.specs.Batches.{batch, is_last, IsBatch}
 use Rattle.job_session.proofs.BatchOrder.{batch_within}
@@ -16,7 +16,7 @@ use Rattle.job_plan.specs.Numbers.{deals_before}
 use Rattle.job_plan.specs.Firsts.{first}
 use Rattle.job_plan.specs.Patterns.{pattern_at}
 use Rattle.job_plan.specs.Sound.{IsSound}
-use Rattle.job_plan.proofs.SlotMessages.{joined_place, first_within}
+use Rattle.job_plan.proofs.SlotMessages.{first_within}
 use Rattle.party_program.specs.declared.half.Half.{Half}
 use Rattle.party_program.specs.declared.half.Half.TheVariants.{Head, Tail}
 use Rattle.party_program.specs.declared.program.Instruction.{Instruction}
@@ -24,7 +24,7 @@ use Rattle.party_program.specs.declared.program.Instruction.TheVariants.{End}
 use Rattle.party_program.specs.declared.program.Program.{Program}
 use Rattle.party_program.specs.declared.place.Place.{Place}
 use Rattle.party_program.specs.declared.step.Step.{Step}
-use Rattle.party_program.specs.declared.step.Step.TheVariants.{Deal, Own, Post, Take, Linear, Sum, Deliver}
+use Rattle.party_program.specs.declared.step.Step.TheVariants.{Draw, Deal, Own, Post, Take, Linear, Sum, Open, Join, Deliver}
 use Rattle.party_program.specs.Programs.{head, tail, tails, turn, half_program, program, at}
 use Rattle.party_program.specs.PartySteps.{steps, placed, IsPlaced}
 use Rattle.party_program.specs.ProgramPlaces.{instructions_before, halves_before, position_of, count_in, IsPlace, IsProgram}
@@ -33,12 +33,15 @@ use Rattle.party_program.proofs.FewLines.{few_lines}
 use Rattle.party_program.proofs.PlacedSteps.{steps_placed}
 
 placed_within : (n m : ℕ) (step : Step) → n ≤ m → IsPlaced n step → IsPlaced m step
+placed_within n m Draw l h = tt
 placed_within n m Deal l h = tt
 placed_within n m Own l h = tt
 placed_within n m (Post share place) l h = omega arith
 placed_within n m (Take share place) l h = omega arith
 placed_within n m Linear l h = tt
 placed_within n m Sum l h = tt
+placed_within n m Open l h = tt
+placed_within n m Join l h = tt
 placed_within n m Deliver l h = tt
 
 -- a program is that of the party and the session that it names

@@ -1,19 +1,22 @@
 -- The count of a program's instructions is small.
-use Rattle.std.proofs.Common.{ℕ, zero, suc, ◌+◌, ◌*◌, ◌<◌, ◌≤◌, Bool, true, false, not, List, [], ◌∷◌, map, length, sym, subst, arith, length-append}
+use Rattle.std.proofs.Common.{ℕ, zero, suc, ◌+◌, ◌*◌, ◌<◌, ◌≤◌, Bool, true, false, not, ◌&&◌, nat_lt, List, [], ◌∷◌, ◌++◌, map, length, sym, subst, arith, length-append}
 use Rattle.std.specs.List.{range_with_len, filter}
 use Rattle.std.proofs.lemmas.Bool.{cases_Bool, cond-true, cond-false}
 use mathlib.Core.Logic.{inl, inr}
 use Rattle.list_laws.specs.Lists.{total, only_if}
 use Rattle.circuit_model.specs.Circuits.{is_product}
-use Rattle.job_session.specs.Sessions.{Slot, gate}
-use Rattle.job_plan.specs.Plans.{Plan, session, slot, slots, deals_in, gives, opens_to}
-use Rattle.job_session.specs.Sessions.Slot.{Input, At_gate, Output}
+use Rattle.secret_sharing.specs.Schemes.{has_pair}
+use Rattle.job_session.specs.Sessions.{Slot, gate, is_prepared}
+use Rattle.job_session.proofs.SessionSlots.{slot_count}
+use Rattle.job_session.proofs.ScannedSlots.{total_most}
+use Rattle.job_plan.specs.Plans.{Plan, scheme, session, slot, slots, deals_in, gives, opens_to, least_held}
+use Rattle.job_session.specs.Sessions.Slot.{Input, At_gate, Output, Mask, Mask_product, Masked}
 use Rattle.job_plan.specs.Numbers.{deals_before}
 use Rattle.job_plan.specs.Firsts.{count, first}
 use Rattle.job_plan.specs.Sound.{IsSound}
 use Rattle.job_plan.proofs.SlotMessages.{first_within}
 use Rattle.party_program.specs.declared.program.Instruction.{Instruction}
-use Rattle.party_program.specs.declared.program.Instruction.TheVariants.{Deal, Own, Linear, Sum, Deliver}
+use Rattle.party_program.specs.declared.program.Instruction.TheVariants.{Draw, Deal, Own, Linear, Sum, Join, Deliver}
 use Rattle.party_program.specs.Programs.{opening, closing, head, tail, posts, takes, slot_program, from, to, post, take_of}
 use Rattle.party_program.specs.ProgramPlaces.{instructions_before}
 
@@ -41,11 +44,23 @@ module _ (plan : Plan) (p s : ℕ) where
       let both = length-append (only_if (deals_in plan s p (At_gate t)) (Own k ∷ Deal k (deals_before plan p s k) ∷ [])) (only_if (not product) (Linear k ∷ [])) in
       omega arith
   opening_short k (Output o) = omega arith
+  opening_short k (Mask t side) = let short = only_short (nat_lt 0 (least_held plan p (length plan.groups))) (Draw k ∷ []) in omega arith
+  opening_short k (Mask_product t) = let short = only_short (has_pair (scheme plan) p) (Own k ∷ Deal k (deals_before plan p s k) ∷ []) in omega arith
+  opening_short k (Masked t side) = omega arith
 
   closing_short : (k : ℕ) (z : Slot) → length (closing plan p s k z) ≤ 1
   closing_short k (Input v) = omega arith
-  closing_short k (At_gate t) = only_short (is_product (gate (session plan s) t).operation) (Sum k ∷ [])
+  closing_short k (At_gate t) = gate_short (session plan s).prepared (is_product (gate (session plan s) t).operation)
+    where
+      gate_short : (prepared product : Bool) → length (only_if (not prepared && product) (Sum k ∷ []) ++ only_if (prepared && product) (Join k ∷ [])) ≤ 1
+      gate_short true true = omega arith
+      gate_short true false = omega arith
+      gate_short false true = omega arith
+      gate_short false false = omega arith
   closing_short k (Output o) = let short = only_short (opens_to plan s p (Output o)) (Deliver k ∷ []) in omega arith
+  closing_short k (Mask t side) = omega arith
+  closing_short k (Mask_product t) = omega arith
+  closing_short k (Masked t side) = omega arith
 
   slot_short : (k : ℕ) → length (slot_program plan p s k) ≤ 2 * count plan s k + 4
   slot_short k =
@@ -73,4 +88,6 @@ module _ (plan : Plan) (p s : ℕ) where
       let wires = (sound.sessions s ls).wired.wires in
       let inputs = (sound.sessions s ls).wired.input_wires in
       let outputs = (sound.sessions s ls).wired.output_wires in
+      let all = slot_count (session plan s) in
+      let prepared = total_most (length (session plan s).gates) (is_prepared (session plan s)) in
       omega arith

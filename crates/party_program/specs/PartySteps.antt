@@ -1,34 +1,34 @@
 -- What a party does in a slot of a pattern, and the instructions that it becomes in a slot.
-use Rattle.std.specs.Prelude.{ℕ, ◌+◌, ◌<◌, Bool, false, nat_eq, List, [], ◌∷◌, ◌++◌, map, filter}
+use Rattle.std.specs.Prelude.{ℕ, ◌+◌, ◌<◌, Bool, false, nat_eq, nat_lt, List, [], ◌∷◌, ◌++◌, map, filter, length}
 use Rattle.std.specs.List.{enumerate_from}
 use Rattle.list_laws.specs.Lists.{only_if}
 use Rattle.secret_sharing.specs.Schemes.{has_pair}
 use Rattle.party_set.specs.Parties.{has_party}
 use Rattle.job_plan.specs.declared.pattern.Line.{Line}
 use Rattle.job_plan.specs.declared.pattern.Pattern.{Pattern}
-use Rattle.job_plan.specs.declared.pattern.Pattern.TheVariants.{Silent, Dealt, Multiplied, Opened}
-use Rattle.job_plan.specs.Plans.{Plan, scheme}
+use Rattle.job_plan.specs.declared.pattern.Pattern.TheVariants.{Silent, Dealt, Multiplied, Opened, HandedOut, OpenedToAll, Joined}
+use Rattle.job_plan.specs.Plans.{Plan, scheme, least_held}
 use Rattle.job_plan.specs.Patterns.{lines}
 use Rattle.party_program.specs.declared.half.Half.{Half}
 use Rattle.party_program.specs.declared.half.Half.TheVariants.{Head, Tail}
 use Rattle.party_program.specs.declared.program.Instruction.{Instruction}
 use Rattle.party_program.specs.declared.program.Instruction.TheVariants as instruction
 use Rattle.party_program.specs.declared.step.Step.{Step}
-use Rattle.party_program.specs.declared.step.Step.TheVariants.{Deal, Own, Post, Take, Linear, Sum, Deliver}
+use Rattle.party_program.specs.declared.step.Step.TheVariants.{Draw, Deal, Own, Post, Take, Linear, Sum, Open, Join, Deliver}
 
 -- what p does before its posts
 abbrev pub steps_before : Plan → ℕ → Pattern → List Step
 steps_before plan p Silent = Linear ∷ []
 steps_before plan p (Dealt q) = only_if (nat_eq q p) (Deal ∷ [])
 steps_before plan p Multiplied = only_if (has_pair (scheme plan) p) (Own ∷ Deal ∷ [])
-steps_before plan p (Opened readers) = []
+steps_before plan p HandedOut = only_if (nat_lt 0 (least_held plan p (length plan.groups))) (Draw ∷ [])
+steps_before plan p _ = []
 
 -- p deals in a slot of this pattern
 abbrev pub deals_in_pattern : Plan → ℕ → Pattern → Bool
-deals_in_pattern plan p Silent = false
 deals_in_pattern plan p (Dealt q) = nat_eq q p
 deals_in_pattern plan p Multiplied = has_pair (scheme plan) p
-deals_in_pattern plan p (Opened readers) = false
+deals_in_pattern plan p _ = false
 
 -- the post of a line with its place in the pattern
 abbrev pub post_step : ℕ × Line → Step
@@ -56,10 +56,11 @@ take_steps plan p pattern = map take_step (filter (is_to p) (enumerate_from 0 (l
 
 -- what p does after its takes
 abbrev pub steps_after : ℕ → Pattern → List Step
-steps_after p Silent = []
-steps_after p (Dealt q) = []
 steps_after p Multiplied = Sum ∷ []
 steps_after p (Opened readers) = only_if (has_party readers p) (Deliver ∷ [])
+steps_after p OpenedToAll = Open ∷ []
+steps_after p Joined = Join ∷ []
+steps_after p _ = []
 
 -- what p does in the one half of a slot of this pattern, or in the other
 abbrev pub steps : Plan → ℕ → Half → Pattern → List Step
@@ -68,12 +69,15 @@ steps plan p Tail pattern = take_steps plan p pattern ++ steps_after p pattern
 
 -- the instruction of a step in slot k, whose first message has this number, where p has made so many deals before
 abbrev pub placed : ℕ → ℕ → ℕ → Step → Instruction
+placed k first deals Draw = instruction.Draw k
 placed k first deals Deal = instruction.Deal k deals
 placed k first deals Own = instruction.Own k
 placed k first deals (Post share place) = instruction.Post (first + place) share
 placed k first deals (Take share place) = instruction.Take (first + place) share
 placed k first deals Linear = instruction.Linear k
 placed k first deals Sum = instruction.Sum k
+placed k first deals Open = instruction.Open k
+placed k first deals Join = instruction.Join k
 placed k first deals Deliver = instruction.Deliver k
 
 -- a message that the step names is one of so many

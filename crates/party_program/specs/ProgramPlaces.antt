@@ -4,7 +4,8 @@ use Rattle.std.specs.Global.{Vec}
 use Rattle.indexmap.specs.IndexMap.{IndexMap, get}
 use Rattle.list_laws.specs.Lists.{total, listed}
 use Rattle.job_plan.specs.declared.pattern.Pattern.{Pattern}
-use Rattle.job_plan.specs.declared.pattern.Pattern.TheVariants.{Silent, Dealt, Multiplied, Opened}
+use Rattle.job_plan.specs.declared.pattern.Pattern.TheVariants.{Silent, Dealt, Multiplied, Opened, HandedOut, OpenedToAll, Joined}
+use Rattle.job_session.specs.Sessions.{Session, owners, readers, session_slots}
 use Rattle.job_session.specs.Batches.{IsInBatch}
 use Rattle.job_plan.specs.Plans.{Plan, session, slots}
 use Rattle.job_plan.specs.Numbers.{deals_before}
@@ -76,9 +77,16 @@ AreOpenings plan p half openings =
 pub record AreSteps (plan : Plan) (p s : ℕ) (half : Half) (table : StepTable) : Type 0 where
   pub silent : table.silent ≡ steps plan p half Silent
   pub multiplied : table.multiplied ≡ steps plan p half Multiplied
+  pub handed_out : table.handed_out ≡ steps plan p half HandedOut
+  pub opened_to_all : table.opened_to_all ≡ steps plan p half OpenedToAll
+  pub joined : table.joined ≡ steps plan p half Joined
   pub dealt : table.dealt.items ≡ listed plan.parties (λ q. steps plan p half (Dealt q))
   pub opened : (k readers : ℕ) → k < slots plan s → pattern_at plan s k ≡ Opened readers
       → HasOpening plan p half table.opened readers
+
+-- the only slots are those of input wires, gates and output wires
+abbrev pub HasNoneBeside : Session → Type 0
+HasNoneBeside x = session_slots x ≡ length (owners x) + length x.gates + length (readers x)
 
 -- how many deals p makes before each of the first k slots are listed, these are the instructions and deals of p in
 -- those, and there is room for the others

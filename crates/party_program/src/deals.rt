@@ -6,7 +6,7 @@ ghost use Rattle.job_session.specs.Sessions.{owners};
 ghost use Rattle.job_plan.specs.Plans.{scheme, session, slots};
 ghost use Rattle.party_program.specs.PartySteps.{deals_in_pattern};
 ghost use Rattle.party_program.specs.declared.half.Half.TheVariants.{Head, Tail};
-ghost use Rattle.party_program.specs.ProgramPlaces.{AreDeals, AreSteps, instructions_before};
+ghost use Rattle.party_program.specs.ProgramPlaces.{AreDeals, AreSteps, HasNoneBeside, instructions_before};
 ghost use Rattle.job_plan.specs.Numbers.{deals_before};
 ghost use Rattle.list_laws.specs.Lists.{listed};
 
@@ -48,11 +48,14 @@ pub(crate) fn list_deals(
         instructions: 0,
         deals: 0,
     };
-    push_slots(plan, p, s, heads, tails, 0, inputs, &mut list, &mut tally);
-    push_gates(plan, p, s, heads, tails, &mut list, &mut tally);
-    push_slots(
-        plan, p, s, heads, tails, outputs, slots, &mut list, &mut tally,
-    );
+    let mut done = 0;
+    // Without slots of prepared products, those of the gates stand together behind the inputs.
+    if slots == outputs + part.output_wires() as u32 {
+        push_slots(plan, p, s, heads, tails, 0, inputs, &mut list, &mut tally);
+        push_gates(plan, p, s, heads, tails, &mut list, &mut tally);
+        done = outputs;
+    }
+    push_slots(plan, p, s, heads, tails, done, slots, &mut list, &mut tally);
     Ok((list, tally.instructions))
 }
 
@@ -86,7 +89,7 @@ fn push_slots(
     }
 }
 
-// Adds those before the slots of gates, which are the most.
+// Adds those before the slots of gates, which are the most, where no others stand among them.
 fn push_gates(
     plan: &Plan,
     p: u32,
@@ -100,6 +103,7 @@ fn push_gates(
     requires session { s < length plan.now.sessions }
     requires heads { AreSteps plan.now p s Head heads.now }
     requires tails { AreSteps plan.now p s Tail tails.now }
+    requires alone { HasNoneBeside (session plan.now s) }
     requires before { AreDeals plan.now p s (length (owners (session plan.now s))) list.old tally.old }
     ensures { AreDeals plan.now p s (length (owners (session plan.now s)) + length (session plan.now s).gates)
         list.new tally.new }
@@ -123,8 +127,9 @@ fn deals_in(pattern: Pattern, p: u32, multiplies: bool) -> bool
     ensures { (plan : plans.Plan) → multiplies ≡ has_pair (scheme plan) p → result ≡ deals_in_pattern plan p pattern }
 {
     match pattern {
-        Pattern::Silent | Pattern::Opened(_) => false,
         Pattern::Dealt(dealer) => dealer == p,
         Pattern::Multiplied => multiplies,
+        Pattern::Silent | Pattern::Opened(_) => false,
+        Pattern::HandedOut | Pattern::OpenedToAll | Pattern::Joined => false,
     }
 }

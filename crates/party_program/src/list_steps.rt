@@ -42,7 +42,7 @@ fn push_before(plan: &Plan, p: u32, pattern: Pattern, list: &mut StepList) -> Re
 {
     match pattern {
         Pattern::Silent => list.push(Step::Linear),
-        Pattern::Opened(_) => Ok(()),
+        Pattern::Opened(_) | Pattern::OpenedToAll | Pattern::Joined => Ok(()),
         Pattern::Dealt(dealer) => list.push_if(dealer == p, Step::Deal),
         Pattern::Multiplied => {
             if plan.multiplies(p) {
@@ -51,6 +51,7 @@ fn push_before(plan: &Plan, p: u32, pattern: Pattern, list: &mut StepList) -> Re
             }
             Ok(())
         }
+        Pattern::HandedOut => list.push_if(plan.least_held(p, plan.shares()) > 0, Step::Draw),
     }
 }
 
@@ -95,8 +96,10 @@ fn push_after(plan: &Plan, p: u32, pattern: Pattern, list: &mut StepList) -> Res
 {
     let _ = plan.parties();
     match pattern {
-        Pattern::Silent | Pattern::Dealt(_) => Ok(()),
+        Pattern::Silent | Pattern::Dealt(_) | Pattern::HandedOut => Ok(()),
         Pattern::Multiplied => list.push(Step::Sum),
         Pattern::Opened(readers) => list.push_if(readers >> p & 1 == 1, Step::Deliver),
+        Pattern::OpenedToAll => list.push(Step::Open),
+        Pattern::Joined => list.push(Step::Join),
     }
 }

@@ -8,6 +8,8 @@ use crate::program::Instruction;
 /// lines of the pattern. It takes four bytes.
 #[derive(Clone, Copy, Debug, PartialEq, Eq)]
 pub enum Step {
+    /// Draws the party's words of a mask.
+    Draw,
     /// Deals the slot's input, or the party's own product.
     Deal,
     /// Forms the own product.
@@ -20,6 +22,10 @@ pub enum Step {
     Linear,
     /// Moves the sums of a product to its wire.
     Sum,
+    /// Opens what a wire of a prepared product has more than its mask.
+    Open,
+    /// Joins a prepared product from its masks, their product and what was opened.
+    Join,
     /// Opens an output wire.
     Deliver,
 }
@@ -33,6 +39,7 @@ impl Step {
         ensures { result ≡ placed slot first deals self }
     {
         match self {
+            Step::Draw => Instruction::Draw { slot },
             Step::Deal => Instruction::Deal { slot, deal: deals },
             Step::Own => Instruction::Own { slot },
             Step::Post { place, share } => Instruction::Post {
@@ -45,6 +52,8 @@ impl Step {
             },
             Step::Linear => Instruction::Linear { slot },
             Step::Sum => Instruction::Sum { slot },
+            Step::Open => Instruction::Open { slot },
+            Step::Join => Instruction::Join { slot },
             Step::Deliver => Instruction::Deliver { slot },
         }
     }

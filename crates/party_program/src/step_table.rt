@@ -16,11 +16,14 @@ use job_plan::{Pattern, Plan};
 use std::alloc::{AllocError, Global};
 
 /// The steps of a party in the heads of a session's slots, or in their tails, for each pattern: of a linear gate, of a
-/// product, of a value by its dealer, and of an output by its readers.
+/// product, of what a prepared product needs more, of a value by its dealer, and of an output by its readers.
 #[derive(Drop)]
 pub(crate) struct StepTable {
     silent: StepList,
     multiplied: StepList,
+    handed_out: StepList,
+    opened_to_all: StepList,
+    joined: StepList,
     dealt: Vec<StepList>,
     opened: IndexMap<u32, StepList>,
 }
@@ -46,11 +49,17 @@ impl StepTable {
     {
         let silent = list_steps(alloc, plan, p, half, Pattern::Silent)?;
         let multiplied = list_steps(alloc, plan, p, half, Pattern::Multiplied)?;
+        let handed_out = list_steps(alloc, plan, p, half, Pattern::HandedOut)?;
+        let opened_to_all = list_steps(alloc, plan, p, half, Pattern::OpenedToAll)?;
+        let joined = list_steps(alloc, plan, p, half, Pattern::Joined)?;
         let dealt = deals_of_each(alloc, plan, p, half)?;
         let opened = openings_of_each(alloc, plan, p, s, half)?;
         Ok(StepTable {
             silent,
             multiplied,
+            handed_out,
+            opened_to_all,
+            joined,
             dealt,
             opened,
         })
@@ -69,6 +78,9 @@ impl StepTable {
             Pattern::Dealt(dealer) => self.deal(dealer),
             Pattern::Multiplied => self.of_product(),
             Pattern::Opened(readers) => self.opening(readers),
+            Pattern::HandedOut => self.handed_out.as_slice(),
+            Pattern::OpenedToAll => self.opened_to_all.as_slice(),
+            Pattern::Joined => self.joined.as_slice(),
         }
     }
 
@@ -80,7 +92,8 @@ impl StepTable {
         self.multiplied.as_slice()
     }
 
-    /// How many steps the party has in a slot of a gate; of another pattern it tells nothing.
+    /// How many steps the party has in a slot of a linear gate or of a product that is dealt; of another pattern it
+    /// tells nothing.
     pub(crate) fn gate_count(&self, pattern: Pattern) -> usize
         ensures { (plan : plans.Plan) (p s : ℕ) (half : halves.Half) → AreSteps plan p s half self.now → 0 < result
             → result ≡ length (steps plan p half pattern) }
@@ -89,6 +102,7 @@ impl StepTable {
             Pattern::Silent => self.silent.as_slice().len(),
             Pattern::Multiplied => self.of_product().len(),
             Pattern::Dealt(_) | Pattern::Opened(_) => 0,
+            Pattern::HandedOut | Pattern::OpenedToAll | Pattern::Joined => 0,
         }
     }
 
@@ -146,10 +160,10 @@ fn openings_of_each(
         → pattern_at plan.now s k ≡ Opened readers → HasOpening plan.now p half map readers) }
 {
     let _ = plan.parties();
-    let part = plan.part(s);
-    let outputs = part.input_wires() + part.gates().len();
+    let slots = plan.slots(s);
+    let outputs = plan.part(s).output_wires() as u32;
     let mut openings = IndexMap::new(alloc);
-    for k in outputs as u32..plan.slots(s) {
+    for k in slots - outputs..slots {
         add_opening(alloc, plan, p, s, half, k, &mut openings)?;
     }
     Ok(openings)

@@ -1,10 +1,10 @@
 -- What holds of the slots one after another and stays when a head goes before tails of its batch holds of the program.
-use Rattle.std.proofs.Common.{◌≡◌, ℕ, zero, suc, ◌+◌, ◌-◌, ◌<◌, ◌≤◌, true, false, nat_eq, nat_le, if◌then◌else◌, List, [], ◌++◌, refl, sym, ap, ◌∙◌, subst, arith, append_assoc, append-nil}
-use Rattle.std.proofs.lemmas.Bool.{cases_Bool, cond-true, cond-false, le-leb, lt-leb, eq-eqb, ne_eqb, or_left, or_right, or_from}
+use Rattle.std.proofs.Common.{◌≡◌, ℕ, zero, suc, ◌+◌, ◌-◌, ◌<◌, ◌≤◌, if◌then◌else◌, List, [], ◌++◌, refl, sym, ap, ◌∙◌, subst, arith, append_assoc, append-nil}
+use Rattle.std.proofs.lemmas.Bool.{cases_Bool}
 use mathlib.Core.Logic.{inl, inr}
 use Rattle.list_laws.specs.Lists.{joined, only_if}
 use Rattle.job_session.specs.Sessions.{Session, session_slots}
-use Rattle.job_session.specs.Batches.{waits, batch, is_last}
+use Rattle.job_session.specs.Batches.{batch, is_last}
 use Rattle.party_program.specs.declared.program.Instruction.{Instruction}
 use Rattle.job_session.proofs.BatchOrder.{batch_within}
 use Rattle.party_program.proofs.BegunBatches.{begun, begun_is, begun_end}

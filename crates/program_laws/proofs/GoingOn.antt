@@ -5,7 +5,7 @@ use mathlib.Core.Logic.{inl, inr}
 use Rattle.job_plan.specs.Plans.{Plan}
 use Rattle.job_plan.specs.Numbers.{message}
 use Rattle.party_program.specs.declared.program.Instruction.{Instruction}
-use Rattle.party_program.specs.declared.program.Instruction.TheVariants.{Deal, Post, Take, Linear, Own, Sum, Deliver, End}
+use Rattle.party_program.specs.declared.program.Instruction.TheVariants.{Draw, Deal, Post, Take, Linear, Own, Sum, Open, Join, Deliver, End}
 use Rattle.party_program.specs.Programs.{at}
 use Rattle.program_laws.specs.Orders.{PostsFirst, IsPosted, SomeCanMove}
 
@@ -18,11 +18,14 @@ IsNoTake e = (n i : ℕ) → e ≢ Take n i
 
 take_or_not : (e : Instruction) → ((n : ℕ) × (i : ℕ) × (e ≡ Take n i)) ⊎ IsNoTake e
 take_or_not (Take n i) = inl (n, i, refl)
+take_or_not (Draw k) = inr (λ n i e. cc)
 take_or_not (Deal k d) = inr (λ n i e. cc)
 take_or_not (Post m j) = inr (λ n i e. cc)
 take_or_not (Linear k) = inr (λ n i e. cc)
 take_or_not (Own k) = inr (λ n i e. cc)
 take_or_not (Sum k) = inr (λ n i e. cc)
+take_or_not (Open k) = inr (λ n i e. cc)
+take_or_not (Join k) = inr (λ n i e. cc)
 take_or_not (Deliver k) = inr (λ n i e. cc)
 take_or_not End = inr (λ n i e. cc)
 

@@ -16,7 +16,7 @@ use Rattle.program_laws.proofs.BatchRuns.{whole, at_beginnings}
 use Rattle.program_laws.proofs.Exchanged.{becoming}
 use Rattle.program_laws.proofs.FreeSlots.{in_batch}
 use Rattle.program_laws.proofs.LocalSlots.{InOutputs, slots_met}
-use Rattle.program_laws.proofs.ProgramParts.{is_plan}
+use Rattle.program_laws.proofs.SlotRuns.{Runs}
 
 module _ (w : World) (sound : IsSound w.plan) (got : Key → ℕ) (s p : ℕ) (ls : s < length w.plan.sessions) where
   abbrev l : Given
@@ -30,8 +30,11 @@ module _ (w : World) (sound : IsSound w.plan) (got : Key → ℕ) (s p : ℕ) (l
   by_beginnings = at_beginnings (session w.plan s) (head w.plan p s) (tail w.plan p s) (Becomes (Goes w got s p) l) (becoming (Goes w got s p) l) (in_batch w sound got s p ls)
 
   module _ (lp : p < w.plan.parties) (small : SmallTape w s p) where
+    abbrev runs : Runs w s p
+    runs = record { sound = sound; session_there = ls; party_there = lp; small = small }
+
     abbrev Met : State → Type 0
-    Met = InOutputs w (is_plan w.plan sound s p ls) got s p ls lp small (length (readers (session w.plan s)))
+    Met = InOutputs w got s p runs (length (readers (session w.plan s)))
 
     pub met : Leaves (Goes w got s p) l (program w.plan p s) Met new_state
-    met = let slots = slots_met w (is_plan w.plan sound s p ls) got s p ls lp small in (by_batches.along new_state slots.0, subst Met (by_batches.same new_state) slots.1)
+    met = let slots = slots_met w got s p runs in (by_batches.along new_state slots.0, subst Met (by_batches.same new_state) slots.1)

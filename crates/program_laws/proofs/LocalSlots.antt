@@ -1,577 +1,362 @@
 -- Slot after slot, a party posts and delivers what it computes by itself.
-use Rattle.std.proofs.Common.{◌≡◌, ℕ, suc, ◌+◌, ◌-◌, ◌%◌, ◌<◌, ◌≤◌, ◌≢◌, ◌^◌, Bool, true, false, not, ◌&&◌, nat_eq, nat_lt, if◌then◌else◌, List, [], ◌∷◌, ◌++◌, map, drop, length, refl, sym, ap, ap₂, ◌∙◌, subst, arith, get_or-take, append_assoc}
-use Rattle.std.specs.Prelude.{slice_index, slice_index_or, Some}
-use Rattle.std.specs.List.{AllByRecursion, filter}
-use Rattle.std.proofs.lemmas.Bool.{cases_eq, cases_lt, cases_Bool, cond-true, cond-false, eq-eqb, ne_eqb, eqb-true, lt-ltb, le-ltb, and_parts, both_ways, not_from_true, not_from_false}
-use Rattle.std.proofs.lemmas.List.{get_or-drop}
-use Rattle.std.proofs.lemmas.Nat.{pow_pos}
-use Rattle.std.proofs.Math.Nat.{mod-eq_of_lt, mod-add-mod}
+use Rattle.std.proofs.Common.{◌≡◌, ◌≢◌, ℕ, zero, suc, ◌+◌, ◌*◌, ◌<◌, ◌≤◌, Bool, true, false, not, ◌&&◌, nat_lt, if◌then◌else◌, List, length, refl, sym, ap, ◌∙◌, subst, arith}
+use Rattle.std.specs.Prelude.{Some}
+use Rattle.std.proofs.lemmas.Bool.{cases_eq, cases_lt, cases_Bool, cond-true, cond-false, eq-eqb, ne_eqb, lt-ltb, le-ltb, both_ways}
 use mathlib.Core.Logic.{inl, inr}
-use Rattle.list_laws.specs.Lists.{total, joined, only_if}
-use Rattle.circuit_model.specs.Circuits.{is_product, set_at}
-use Rattle.circuit_model.specs.declared.gate.Gate.{Gate}
-use Rattle.secret_sharing.proofs.SummandSums.{dealt_eq}
-use Rattle.secret_sharing.specs.Schemes.{Run, dealt, own_product, own_value, has_pair, local, gate_summands, summands}
-use Rattle.job_session.specs.Sessions.{readers, owners, Session, gate, output_wire}
-use Rattle.job_plan.specs.Plans.{Plan, scheme, session, slot, slots, holds, least_holder, deals_in, gives, given_before, words_in, words_before, words, place, IsPlan, opens_to}
-use Rattle.job_plan.specs.declared.key.Key.{Key}
-use Rattle.party_set.specs.Parties.{has_party}
-use Rattle.job_plan.specs.Messages.{messages, slot_messages, deal_messages, open_messages}
-use Rattle.job_session.specs.Sessions.Slot.{Input, At_gate, Output}
-use Rattle.share_world.specs.Worlds.{World, input_of, tape_word}
-use Rattle.share_world.specs.Locals.{local_run, local_word, local_word_in, local_output}
-use Rattle.job_plan.specs.Numbers.{message, deals_before}
-use Rattle.mpc_ring.proofs.Remainders.{same_refl, same_mod, same_trans, mods_of_same}
-use Rattle.list_laws.proofs.Totals.{total_eq, total_one, total_zero}
-use Rattle.mpc_ring.proofs.Totals.{total_same}
-use Rattle.list_laws.proofs.JoinedLists.{every_joined, every_only_if, total_within}
-use Rattle.job_session.proofs.SessionSlots.{slot_input, slot_gate, slot_output}
-use Rattle.share_world.proofs.LocalWords.{holder_own}
-use Rattle.job_plan.proofs.PlanSchemes.{least_holds}
-use Rattle.party_program.specs.declared.program.Instruction.{Instruction}
-use Rattle.party_program.specs.declared.program.Instruction.TheVariants.{Deal, Linear, Own, Sum, Deliver}
-use Rattle.party_program.specs.Programs.{from, to, post, take_of, opening, closing, posts, takes, slot_program}
-use Rattle.job_plan.specs.Firsts.{numbers}
-use Rattle.party_program.specs.States.{Given, State, next, new_state, after_all, slot_of, posted, word_after, opened, dealt_in, computed, multiplied, summed, delivered, gate_in_slot, output_in_slot}
-use Rattle.party_program.specs.Proper.{IsSessionMessage, Deals, IsGate, IsOutput}
-use Rattle.party_program.specs.Along.{AllAlong}
-use Rattle.program_laws.specs.Meets.{local_given, OpensRight, IsNextInput, Goes, SmallTape}
+use Rattle.list_laws.specs.Lists.{joined}
+use Rattle.circuit_model.specs.Circuits.{is_product}
 use Rattle.circuit_model.proofs.SetAt.{set_here, set_there}
-use Rattle.party_program.proofs.InstructionLists.{Leaves, leaves_append, leaves_joined, joined_add, along_posts, after_posts}
-use Rattle.job_plan.proofs.SlotMessages.{each_number, every_filter, keys_are}
-use Rattle.program_laws.proofs.SlotTakes.{SumsOf, RowOf, Has, tally, takes_sums, takes_row}
-use Rattle.program_laws.proofs.SlotTallies.{Any, any_number, deal_any, key_tally, tally_is, key_tally-joined, key_tally-only_if, deal_tally, one_tally, total_only}
+use Rattle.secret_sharing.specs.Schemes.{Run, summands}
+use Rattle.job_session.specs.declared.side.Side.{Side}
+use Rattle.job_session.specs.declared.side.Side.TheVariants.{First, Second}
+use Rattle.job_session.specs.Sessions.{Session, Slot, owners, readers, gate, output_wire, is_prepared, mask_wire, product_wire}
+use Rattle.job_session.specs.Sessions.Slot.{Input, At_gate, Output, Mask, Mask_product, Masked}
+use Rattle.job_session.specs.SlotNumbers.{prepared_before, first_input, first_of_gate}
+use Rattle.job_session.specs.SoundSessions.{Inside, IsWired}
+use Rattle.job_session.proofs.SessionSlots.{slots_are_numbered}
+use Rattle.job_plan.specs.Plans.{Plan, session, slot, slots, slot_number, holds, giver, gives, given_before, opens_to}
+use Rattle.job_plan.specs.declared.key.Key.{Key}
+use Rattle.share_world.specs.Worlds.{World}
+use Rattle.share_world.specs.Locals.{local_mask, local_mask_product, local_excess, local_run, local_output}
+use Rattle.party_program.specs.declared.program.Instruction.{Instruction}
+use Rattle.party_program.specs.Programs.{slot_program}
+use Rattle.party_program.specs.States.{Given, State, new_state, after_all}
+use Rattle.party_program.proofs.InstructionLists.{Leaves, leaves_append}
+use Rattle.program_laws.specs.Meets.{local_given, Goes}
+use Rattle.program_laws.proofs.DealtSlots.{own_input, other_input, mask_slot}
+use Rattle.program_laws.proofs.OpenedSlots.{Showed, masked_wire, Delivered, output_slot}
+use Rattle.program_laws.proofs.ProductSlots.{Doing, Has, made_at, direct_product, product_of_masks, linear_gate, joined_gate}
+use Rattle.program_laws.proofs.SlotRuns.{Runs, Ready, ready_at, Rowed}
 
--- ---- one slot
-
-module _ (w : World) (h' : IsPlan w.plan) (got : Key → ℕ) (s p : ℕ) (ls : s < length w.plan.sessions) (lp : p < w.plan.parties) (small : SmallTape w s p) where
+module _ (w : World) (got : Key → ℕ) (s p : ℕ) (h : Runs w s p) where
   abbrev plan : Plan
   plan = w.plan
 
   abbrev x : Session
   x = session w.plan s
 
-  abbrev run : Run
-  run = local_run w got p s
+  abbrev m : ℕ
+  m = length w.plan.groups
 
   abbrev l : Given
   l = local_given w got s p
 
-  abbrev m : ℕ
-  m = length w.plan.groups
+  abbrev run : Run
+  run = local_run w got p s
 
-  abbrev good : Instruction → State → Type 0
-  good = Goes w got s p
+  abbrev f : ℕ → List Instruction
+  f = slot_program plan p s
 
-  -- from its four parts
-  four : (Q : State → Type 0) (σ : State) (k : ℕ) → Leaves good l (opening plan p s k (slot w.plan s k) ++ posts plan p s k ++ takes plan p s k ++ closing plan p s k (slot w.plan s k)) Q σ → Leaves good l (slot_program plan p s k) Q σ
-  four Q σ k = subst (λ xs. Leaves good l xs Q σ) (append_assoc (opening plan p s k (slot w.plan s k) ++ posts plan p s k) (takes plan p s k) (closing plan p s k (slot w.plan s k)))
+  wired : IsWired x
+  wired = (h.sound.sessions s h.session_there).wired
 
-  positive : 0 < 2 ^ plan.bits
-  positive = pow_pos plan.bits
+  -- ---- from the start up to a slot
 
-  -- the tape words of a deal
-  words_are : (k : ℕ) → k < slots w.plan s → deals_in plan s p (slot w.plan s k) ≡ true → (j : ℕ) → j < m - 1 → word_after l (words_before plan p s k) j ≡ slice_index (slice_index_or w.tapes p []) (place plan p s k + j)
-  words_are k lk yes' j lj =
-      let c : ℕ → ℕ = λ k. words_in plan s p (slot w.plan s k) in
-      let drawn : c k ≡ m - 1 = cond-true (deals_in plan s p (slot w.plan s k)) (m - 1) 0 yes' in
-      let within : total k c + c k ≤ total (slots w.plan s) c = total_within (slots w.plan s) k c lk in
-      let inside : words_before plan p s k + j < words plan p s = omega arith in
-      let at : place plan p s 0 + (words_before plan p s k + j) ≡ place plan p s k + j = omega arith in
-      get_or-take (words plan p s) (drop (place plan p s 0) (slice_index_or w.tapes p [])) (words_before plan p s k + j) 0 inside
-      ∙ get_or-drop (place plan p s 0) (slice_index_or w.tapes p []) (words_before plan p s k + j) 0
-      ∙ ap (slice_index (slice_index_or w.tapes p [])) at
+  -- the programs of the first k slots leave this
+  abbrev Up : ℕ → (State → Type 0) → Type 0
+  Up k Q = Leaves (Goes w got s p) l (joined k f) Q new_state
 
-  draw_more : (k : ℕ) → deals_in plan s p (slot w.plan s k) ≡ true → words_before plan p s (suc k) ≡ words_before plan p s k + (m - 1)
-  draw_more k e = ap (λ z. words_before plan p s k + z) (cond-true (deals_in plan s p (slot w.plan s k)) (m - 1) 0 e)
+  up_to : (j k : ℕ) (Q R : State → Type 0) → j ≡ k → Up j Q → ((σ : State) → Q σ → R σ) → Up k R
+  up_to j k Q R e h g = subst (λ n. Up n R) e (h.0, g (after_all l (joined j f) new_state) h.1)
 
-  draw_none : (k : ℕ) → deals_in plan s p (slot w.plan s k) ≡ false → words_before plan p s (suc k) ≡ words_before plan p s k
-  draw_none k e = ap (λ z. words_before plan p s k + z) (cond-false (deals_in plan s p (slot w.plan s k)) (m - 1) 0 e) ∙ omega arith
+  go_on : (j k : ℕ) (Q R : State → Type 0) → j ≡ k → Up j Q → ((σ : State) → Q σ → Doing w got s p h k R σ) → Up (suc k) R
+  go_on j k Q R e h g = leaves_append (Goes w got s p) l (joined k f) (f k) Q R new_state (subst (λ n. Up n Q) e h) g
 
-  give_more : (v : ℕ) → gives plan s p v ≡ true → given_before plan p s (suc v) ≡ given_before plan p s v + 1
-  give_more v e = ap (λ z. given_before plan p s v + z) (cond-true (gives plan s p v) 1 0 e)
+  -- to what more is known
+  doing : (k : ℕ) (Q R : State → Type 0) (σ : State) → Doing w got s p h k Q σ → ((τ : State) → Q τ → R τ) → Doing w got s p h k R σ
+  doing k Q R σ h g = (h.0, g (after_all l (f k) σ) h.1)
 
-  give_none : (v : ℕ) → gives plan s p v ≡ false → given_before plan p s (suc v) ≡ given_before plan p s v
-  give_none v e = ap (λ z. given_before plan p s v + z) (cond-false (gives plan s p v) 1 0 e) ∙ omega arith
+  there : (z : Slot) → Inside x z → (slot_number plan s z < slots plan s) × (slot plan s (slot_number plan s z) ≡ z)
+  there z i = (slots_are_numbered x).there z i
 
-  -- ---- input slots
+  -- ---- what a party has
 
-  abbrev key : ℕ → ℕ → ℕ → ℕ → Key
-  key k i d r = record { session = s; slot = k; share = i; sender = d; receiver = r }
+  -- of the prepared product t: its masks and their product
+  pub record Trip (t : ℕ) (σ : State) : Type 0 where
+    pub first : Has w got s p h σ (mask_wire x t First) (local_mask w got p s t First)
+    pub second : Has w got s p h σ (mask_wire x t Second) (local_mask w got p s t Second)
+    pub product : Has w got s p h σ (product_wire x t) (local_mask_product w got p s t)
 
-  pub record InInputs (v : ℕ) (σ : State) : Type 0 where
-    pub rows : (u i : ℕ) → i < m → holds plan p i ≡ true → σ.rows u i ≡ (if nat_lt u v then run.start u i else 0)
-    pub sums : (i : ℕ) → i < m → σ.sums i ≡ 0
-    pub drawn : σ.drawn ≡ words_before plan p s v
-    pub given : σ.given ≡ given_before plan p s v
+  -- the wires have these summands, the first products are prepared, and the first outputs are there
+  pub record Stands (wire : ℕ → ℕ → ℕ) (prepared count k outs : ℕ) (σ : State) : Type 0 where
+    pub wires : (v i : ℕ) → v < x.wires → i < m → holds plan p i ≡ true → σ.rows v i ≡ wire v i
+    pub trips : (t : ℕ) → t < prepared → is_prepared x t ≡ true → Trip t σ
+    pub ready : Ready w got s p h k count σ
+    pub outputs : (o : ℕ) → o < outs → opens_to w.plan s p (Output o) ≡ true → σ.outputs o ≡ Some (local_output w got p s o)
 
-  abbrev owner : ℕ → ℕ
-  owner v = slice_index (owners x) v
+  trip_stays : (t r : ℕ) (σ τ : State) → ((u i : ℕ) → u ≢ r → τ.rows u i ≡ σ.rows u i) → mask_wire x t First ≢ r → mask_wire x t Second ≢ r → product_wire x t ≢ r → Trip t σ → Trip t τ
+  trip_stays t r σ τ others a b c trip = record {
+    first = λ i li held. others (mask_wire x t First) i a ∙ trip.first i li held;
+    second = λ i li held. others (mask_wire x t Second) i b ∙ trip.second i li held;
+    product = λ i li held. others (product_wire x t) i c ∙ trip.product i li held;
+  }
 
-  abbrev FromOwner : ℕ → Key → Type 0
-  FromOwner v y = (y ≡ key v y.share (owner v) y.receiver) × (y.share < m) × (y.receiver ≢ owner v)
+  -- the row of a wire is none of them
+  trip_of_wire : (t r : ℕ) (σ τ : State) → r < x.wires → ((u i : ℕ) → u ≢ r → τ.rows u i ≡ σ.rows u i) → Trip t σ → Trip t τ
+  trip_of_wire t r σ τ lr others = trip_stays t r σ τ others (omega (arith, lr)) (omega (arith, lr)) (omega (arith, lr))
 
-  other_of : (r d : ℕ) (b : Bool) → (not (nat_eq r d) && b) ≡ true → r ≢ d
-  other_of r d b e eq = both_ways (not (nat_eq r d)) (not_from_true _ (eq-eqb r d eq)) (and_parts (not (nat_eq r d)) b e).0
+  trip_same : (t : ℕ) (σ τ : State) → τ.rows ≡ σ.rows → Trip t σ → Trip t τ
+  trip_same t σ τ e trip = record {
+    first = λ i li held. ap (λ (g : ℕ → ℕ → ℕ). g (mask_wire x t First) i) e ∙ trip.first i li held;
+    second = λ i li held. ap (λ (g : ℕ → ℕ → ℕ). g (mask_wire x t Second) i) e ∙ trip.second i li held;
+    product = λ i li held. ap (λ (g : ℕ → ℕ → ℕ). g (product_wire x t) i) e ∙ trip.product i li held;
+  }
 
-  from_owner : (v : ℕ) → AllByRecursion (FromOwner v) (slot_messages plan s v (Input v))
-  from_owner v = every_joined (FromOwner v) m _ (λ i li. every_joined (FromOwner v) plan.parties _ (λ r lr. every_only_if (FromOwner v) (not (nat_eq r (owner v)) && holds plan r i) (key v i (owner v) r ∷ []) (λ e. ((refl, li, other_of r (owner v) (holds plan r i) e), tt))))
+  -- ---- prepared products
 
-  abbrev In : ℕ → (Key → Type 0) → ℕ → Type 0
-  In k F n = (n < length (messages plan)) × F (message plan n)
+  abbrev g : ℕ
+  g = length x.gates
 
-  input_numbers : (v : ℕ) → v < length (owners x) → AllByRecursion (In v (FromOwner v)) (numbers plan s v)
-  input_numbers v lv = each_number plan s v ls (omega arith) (FromOwner v) (subst (λ z. AllByRecursion (FromOwner v) (slot_messages plan s v z)) (sym (slot_input x v lv)) (from_owner v))
+  abbrev first_of : ℕ → ℕ
+  first_of t = 3 * prepared_before x t
 
-  -- a message of a slot is proper
-  message_is : (k n i d r : ℕ) → k < slots w.plan s → n < length (messages plan) → message plan n ≡ key k i d r → (message plan n).share < m → IsSessionMessage plan s n (message plan n).share
-  message_is k n i d r lk ln is li = record { number = ln; session = ap (λ z. z.session) is; share = li; slot = subst (λ z. z.slot < slots plan z.session) (sym is) lk }
+  abbrev Preparing : ℕ → State → Type 0
+  Preparing t = Stands (λ v i. 0) t 0 (first_of t) 0
 
-  -- rows after an input slot
-  rows_next : (v : ℕ) (σ τ : State) → InInputs v σ → ((u i : ℕ) → u ≢ v → τ.rows u i ≡ σ.rows u i) → ((i : ℕ) → i < m → holds plan p i ≡ true → τ.rows v i ≡ run.start v i)
-      → (u i : ℕ) → i < m → holds plan p i ≡ true → τ.rows u i ≡ (if nat_lt u (suc v) then run.start u i else 0)
-  rows_next v σ τ h others here u i li has = elim (cases_eq u v) [
-    | inl e ↦ subst (λ z. τ.rows z i ≡ run.start z i) (sym e) (here i li has) ∙ sym (cond-true (nat_lt u (suc v)) _ 0 (lt-ltb u (suc v) (omega arith)))
-    | inr ne ↦ others u i ne ∙ h.rows u i li has ∙ elim (cases_lt u v) [
-      | inl b ↦ cond-true (nat_lt u v) _ 0 (lt-ltb u v b) ∙ sym (cond-true (nat_lt u (suc v)) (run.start u i) 0 (lt-ltb u (suc v) (omega arith)))
-      | inr past ↦ cond-false (nat_lt u v) _ 0 (le-ltb u v past) ∙ sym (cond-false (nat_lt u (suc v)) (run.start u i) 0 (le-ltb u (suc v) (omega arith)))
-    ]
+  abbrev one : Bool → ℕ
+  one b = if b then 1 else 0
+
+  prepare : (t : ℕ) → t < g → Up (first_of t) (Preparing t) → Up (first_of (suc t)) (Preparing (suc t))
+  prepare t lt up = elim (cases_Bool (is_prepared x t)) [
+    | inl is ↦
+        let k : ℕ = first_of t in
+        let more : one (is_prepared x t) ≡ 1 = cond-true (is_prepared x t) 1 0 is in
+        let r1 : ℕ = mask_wire x t First in
+        let r2 : ℕ = mask_wire x t Second in
+        let r3 : ℕ = product_wire x t in
+        let a : ℕ → ℕ = local_mask w got p s t First in
+        let b : ℕ → ℕ = local_mask w got p s t Second in
+        let c : ℕ → ℕ = local_mask_product w got p s t in
+        let at1 = there (Mask t First) (lt, is) in
+        let at2 = there (Mask t Second) (lt, is) in
+        let at3 = there (Mask_product t) (lt, is) in
+        let FirstSet : State → Type 0 = λ τ. (σ : State) × Preparing t σ × Rowed w got s p h r1 a (suc k) 0 σ τ in
+        let BothSet : State → Type 0 = λ υ. (σ : State) × (τ : State) × Preparing t σ × Rowed w got s p h r1 a (suc k) 0 σ τ × Rowed w got s p h r2 b (suc (k + 1)) 0 τ υ in
+        let up1 : Up (suc k) FirstSet = go_on k k (Preparing t) FirstSet refl up (λ σ i. doing k _ FirstSet σ (mask_slot w got s p h t First k 0 at1.1 at1.0 σ i.ready) (λ τ r. (σ, i, r))) in
+        let up2 : Up (suc (k + 1)) BothSet = go_on (suc k) (k + 1) FirstSet BothSet (omega arith) up1 (λ τ d. doing (k + 1) _ BothSet τ (mask_slot w got s p h t Second (k + 1) 0 at2.1 at2.0 τ (ready_at w got s p h (suc k) (k + 1) 0 τ (omega arith) d.2.ready)) (λ υ r. (d.0, τ, d.1, d.2, r))) in
+        let up3 : Up (suc (k + 2)) (Preparing (suc t)) = go_on (suc (k + 1)) (k + 2) BothSet (Preparing (suc t)) (omega arith) up2 (λ τ d.
+        let σ : State = d.0 in
+        let ρ : State = d.1 in
+        let i = d.2 in
+        let ra = d.3 in
+        let rb = d.4 in
+        doing (k + 2) (Rowed w got s p h r3 c (suc (k + 2)) 0 τ) (Preparing (suc t)) τ (product_of_masks w got s p h t (k + 2) 0 at3.1 at3.0 τ (ready_at w got s p h (suc (k + 1)) (k + 2) 0 τ (omega arith) rb.ready) (λ j lj held. rb.others r1 j (omega arith) ∙ ra.here j lj held) rb.here) (λ υ rc. record {
+          wires = λ v j lv lj held. rc.others v j (omega (arith, lv)) ∙ rb.others v j (omega (arith, lv)) ∙ ra.others v j (omega (arith, lv)) ∙ i.wires v j lv lj held;
+          trips = λ u lu its. elim (cases_eq u t) [
+            | inl same ↦ subst (λ z. Trip z υ) (sym same) (record {
+              first = λ j lj held. rc.others r1 j (omega arith) ∙ rb.others r1 j (omega arith) ∙ ra.here j lj held;
+              second = λ j lj held. rc.others r2 j (omega arith) ∙ rb.here j lj held;
+              product = rc.here;
+            })
+            | inr ne ↦ trip_stays u r3 τ υ rc.others (omega (arith, ne)) (omega (arith, ne)) (omega (arith, ne))
+                (trip_stays u r2 ρ τ rb.others (omega (arith, ne)) (omega (arith, ne)) (omega (arith, ne))
+                (trip_stays u r1 σ ρ ra.others (omega (arith, ne)) (omega (arith, ne)) (omega (arith, ne)) (i.trips u (omega (arith, lu, ne)) its)))
+          ];
+          ready = ready_at w got s p h (suc (k + 2)) (first_of (suc t)) 0 υ (omega (arith, more)) rc.ready;
+          outputs = λ o lo r. absurd (omega (arith, lo));
+        })) in
+        up_to (suc (k + 2)) (first_of (suc t)) (Preparing (suc t)) (Preparing (suc t)) (omega (arith, more)) up3 (λ σ i. i)
+    | inr not' ↦
+        let none : one (is_prepared x t) ≡ 0 = cond-false (is_prepared x t) 1 0 not' in
+        up_to (first_of t) (first_of (suc t)) (Preparing t) (Preparing (suc t)) (omega (arith, none)) up (λ σ i. record {
+          wires = i.wires;
+          trips = λ u lu its. elim (cases_eq u t) [
+            | inl same ↦ absurd (both_ways (is_prepared x t) not' (subst (λ z. is_prepared x z ≡ true) same its))
+            | inr ne ↦ i.trips u (omega (arith, lu, ne)) its
+          ];
+          ready = ready_at w got s p h (first_of t) (first_of (suc t)) 0 σ (omega (arith, none)) i.ready;
+          outputs = λ o lo r. absurd (omega (arith, lo));
+        })
   ]
 
-  start_input : (v i : ℕ) → v < length (owners x) → owner v ≡ p → run.start v i ≡ dealt (scheme plan) (input_of w s v) (tape_word w s (Input v) p) i
-  start_input v i lv e = cond-true (nat_lt v (length (owners x))) _ 0 (lt-ltb v (length (owners x)) lv) ∙ cond-true (nat_eq (owner v) p) _ _ (eq-eqb (owner v) p e)
+  prepared : (t : ℕ) → t ≤ g → Up (first_of t) (Preparing t)
+  prepared zero le = up_to 0 (first_of 0) (λ σ. σ ≡ new_state) (Preparing 0) (omega arith) (tt, refl) (λ σ e. subst (Preparing 0) (sym e) (record {
+    wires = λ v i lv li held. refl;
+    trips = λ t lt its. absurd (omega (arith, lt));
+    ready = record { sums = λ i li. refl; drawn = refl; given = refl };
+    outputs = λ o lo r. absurd (omega (arith, lo));
+  }))
+  prepared (suc t) le = prepare t (omega (arith, le)) (prepared t (omega (arith, le)))
 
-  start_own : (v i : ℕ) → v < length (owners x) → owner v ≡ p → run.start v i ≡ dealt (scheme plan) (slice_index l.inputs (given_before plan p s v)) (tape_word w s (Input v) p) i
-  start_own v i lv e =
-      start_input v i lv e
-      ∙ ap (λ z. dealt (scheme plan) z (tape_word w s (Input v) p) i)
-      (ap (λ z. slice_index (slice_index_or (slice_index_or w.inputs z []) s []) (given_before plan z s v)) e)
+  -- ---- inputs
 
-  start_other : (v i : ℕ) → v < length (owners x) → owner v ≢ p → run.start v i ≡ got (key v i (owner v) p)
-  start_other v i lv ne = cond-true (nat_lt v (length (owners x))) _ 0 (lt-ltb v (length (owners x)) lv) ∙ cond-false (nat_eq (owner v) p) _ _ (ne_eqb (owner v) p ne)
+  abbrev many : ℕ
+  many = length (owners x)
 
-  along_taking : (ns : List ℕ) (σ : State) → AllByRecursion (λ n. IsSessionMessage plan s n (message plan n).share) ns → AllAlong good l (map (take_of plan) ns) σ
-  along_taking [] σ h = tt
-  along_taking (n ∷ ns) σ h = ((h.0, tt), along_taking ns (next l (take_of plan n) σ) h.1)
+  abbrev started : ℕ → ℕ → ℕ → ℕ
+  started v u i = if nat_lt u v then run.start u i else 0
 
-  -- posts, then takes, from one state to another
-  exchanged : (k : ℕ) (Q : State → Type 0) (σ : State) → AllByRecursion (λ n. good (post plan n) σ) (filter (from plan p) (numbers plan s k)) → AllByRecursion (λ n. IsSessionMessage plan s n (message plan n).share) (filter (to plan p) (numbers plan s k))
-      → Q (after_all l (takes plan p s k) σ) → (xs : List Instruction) (R : State → Type 0) (ρ : State) → Leaves good l xs (λ τ. τ ≡ σ) ρ → (ys : List Instruction) → ((τ : State) → Q τ → Leaves good l ys R τ)
-      → Leaves good l (xs ++ posts plan p s k ++ takes plan p s k ++ ys) R ρ
-  exchanged k Q σ ps ts q xs R ρ opens ys close =
-      let posting : Leaves good l (xs ++ posts plan p s k) (λ τ. τ ≡ σ) ρ =
-      leaves_append good l xs (posts plan p s k) (λ τ. τ ≡ σ) (λ τ. τ ≡ σ) ρ opens (λ τ e.
-      (along_posts good l (filter (from plan p) (numbers plan s k)) τ (subst (λ z. AllByRecursion (λ n. good (post plan n) z) (filter (from plan p) (numbers plan s k))) (sym e) ps), after_posts l (filter (from plan p) (numbers plan s k)) τ ∙ e)) in
-      let taking : Leaves good l (xs ++ posts plan p s k ++ takes plan p s k) Q ρ =
-      leaves_append good l (xs ++ posts plan p s k) (takes plan p s k) (λ τ. τ ≡ σ) Q ρ posting (λ τ e.
-      (along_taking (filter (to plan p) (numbers plan s k)) τ ts, subst (λ z. Q (after_all l (takes plan p s k) z)) (sym e) q)) in
-      leaves_append good l (xs ++ posts plan p s k ++ takes plan p s k) ys Q R ρ taking close
+  abbrev input_at : ℕ → ℕ
+  input_at v = first_input x + v
 
-  input_slot : (v : ℕ) → v < length (owners x) → (σ : State) → InInputs v σ → Leaves good l (slot_program plan p s v) (InInputs (suc v)) σ
-  input_slot v lv σ h =
-      let at : slot w.plan s v ≡ Input v = slot_input x v lv in
-      let lk : v < slots w.plan s = omega arith in
-      let d : ℕ = deals_before plan p s v in
-      let n0 : ℕ = words_before plan p s v in
-      let g0 : ℕ = given_before plan p s v in
-      let ns : List ℕ = filter (to plan p) (numbers plan s v) in
-      let proper : AllByRecursion (λ n. IsSessionMessage plan s n (message plan n).share) ns = every_filter _ _ (to plan p) (numbers plan s v) (input_numbers v lv) (λ n f e. message_is v n _ _ _ lk f.0 f.1.0 f.1.1) in
-      let slot_is : (n : ℕ) → In v (FromOwner v) n → slot_of plan n ≡ Input v = λ n f. ap (λ z. slot w.plan z.session z.slot) f.1.0 ∙ at in
-      four (InInputs (suc v)) σ v (subst (λ z. Leaves good l (opening plan p s v z ++ posts plan p s v ++ takes plan p s v ++ closing plan p s v z) (InInputs (suc v)) σ) (sym at)
-      (elim (cases_eq (owner v) p) [
+  abbrev Giving : ℕ → State → Type 0
+  Giving v = Stands (started v) g (given_before plan p s v) (input_at v) 0
+
+  given_next : (v count : ℕ) (σ τ : State) → v < many → Giving v σ → count ≡ given_before plan p s (suc v) → Rowed w got s p h v (run.start v) (suc (input_at v)) count σ τ → Giving (suc v) τ
+  given_next v count σ τ lv i counted r =
+      let wide = wired.input_wires in
+      record {
+        wires = λ u j lu lj held. elim (cases_eq u v) [
+          | inl e ↦ subst (λ z. τ.rows z j ≡ run.start z j) (sym e) (r.here j lj held) ∙ sym (cond-true (nat_lt u (suc v)) _ 0 (lt-ltb u (suc v) (omega (arith, e))))
+          | inr ne ↦ r.others u j ne ∙ i.wires u j lu lj held ∙ elim (cases_lt u v) [
+            | inl less ↦ cond-true (nat_lt u v) _ 0 (lt-ltb u v less) ∙ sym (cond-true (nat_lt u (suc v)) (run.start u j) 0 (lt-ltb u (suc v) (omega (arith, less))))
+            | inr past ↦ cond-false (nat_lt u v) _ 0 (le-ltb u v past) ∙ sym (cond-false (nat_lt u (suc v)) (run.start u j) 0 (le-ltb u (suc v) (omega (arith, past, ne))))
+          ]
+        ];
+        trips = λ t lt its. trip_of_wire t v σ τ (omega (arith, lv, wide)) r.others (i.trips t lt its);
+        ready = ready_at w got s p h (suc (input_at v)) (input_at (suc v)) (given_before plan p s (suc v)) τ (omega arith) (subst (λ z. Ready w got s p h (suc (input_at v)) z τ) counted r.ready);
+        outputs = λ o lo r. absurd (omega (arith, lo));
+      }
+
+  give : (v : ℕ) → v < many → Up (input_at v) (Giving v) → Up (input_at (suc v)) (Giving (suc v))
+  give v lv up =
+      let k : ℕ = input_at v in
+      let at = there (Input v) lv in
+      up_to (suc k) (input_at (suc v)) (Giving (suc v)) (Giving (suc v)) (omega arith) (go_on k k (Giving v) (Giving (suc v)) refl up (λ σ i. elim (cases_eq (giver plan s v) p) [
         | inl e ↦
-            let σ1 : State = dealt_in plan s (word_after l σ.drawn) (slice_index l.inputs σ.given) (Input v) σ in
-            let is : next l (Deal v d) σ ≡ σ1 = ap (λ z. dealt_in plan s (word_after l σ.drawn) (slice_index l.inputs σ.given) z σ) at in
-            let deals' : deals_in plan s p (slot w.plan s v) ≡ true = ap (deals_in plan s p) at ∙ eq-eqb (owner v) p e in
-            let new : ℕ → ℕ = dealt (scheme plan) (slice_index l.inputs σ.given) (word_after l σ.drawn) in
-            let dealt' : (i : ℕ) → σ1.rows v i ≡ run.start v i = λ i. ap (λ f. f i) (set_here σ.rows v v new refl) ∙ ap₂ (λ y z. dealt (scheme plan) (slice_index l.inputs y) (word_after l z) i) h.given h.drawn
-            ∙ dealt_eq (scheme plan) (slice_index l.inputs g0) (word_after l n0) (tape_word w s (Input v) p) i (λ j lj. words_are v lk deals' j lj) ∙ sym (start_own v i lv e) in
-            let row : RowOf l v ns (σ1.rows v) σ1 (after_all l (takes plan p s v) σ1) = takes_row l v ns (σ1.rows v) σ1 (every_filter _ _ (to plan p) (numbers plan s v) (input_numbers v lv) (λ n f e'. absurd (f.1.2 (eqb-true _ _ e' ∙ sym e)))) in
-            subst (λ ys. Leaves good l (ys ++ posts plan p s v ++ takes plan p s v ++ []) (InInputs (suc v)) σ) (sym (cond-true (nat_eq (owner v) p) (Deal v d ∷ []) [] (eq-eqb (owner v) p e)))
-            (exchanged v (InInputs (suc v)) σ1
-            (every_filter _ _ (from plan p) (numbers plan s v) (input_numbers v lv) (λ n f e'. (
-              message_is v n _ _ _ lk f.0 f.1.0 f.1.1,
-              (
-                eqb-true _ _ e',
-                ap (λ z. posted x z (message plan n).share σ1) (slot_is n f) ∙ dealt' (message plan n).share ∙ start_input v (message plan n).share lv e
-                    ∙ sym (ap (local_word w got p) f.1.0 ∙ ap (local_word_in w got p (key v (message plan n).share (owner v) (message plan n).receiver)) at),
-              ),
-            )))
-            proper
-            (record {
-              rows = rows_next v σ (after_all l (takes plan p s v) σ1) h (λ u i other. row.others u i other ∙ ap (λ f. f i) (set_there σ.rows v u new other)) (λ i li held. row.kept i refl ∙ dealt' i);
-              sums = λ i li. ap (λ f. f i) row.sums ∙ h.sums i li;
-              drawn = row.drawn ∙ ap (λ z. z + (m - 1)) h.drawn ∙ sym (draw_more v deals');
-              given = row.given ∙ ap (λ z. z + 1) h.given ∙ sym (give_more v (eq-eqb (owner v) p e));
-            })
-            (Deal v d ∷ []) (InInputs (suc v)) σ
-            (((record { slot = lk; kind = subst Deals (sym at) tt }, (h.drawn, lk, deals', subst (λ z. IsNextInput plan s p z σ.given) (sym at) h.given)), tt), is)
-            [] (λ τ q. (tt, q)))
+            let counted : given_before plan p s v + 1 ≡ given_before plan p s (suc v) = (let yes' : one (gives plan s p v) ≡ 1 = cond-true (gives plan s p v) 1 0 (eq-eqb (giver plan s v) p e) in omega (arith, yes')) in
+            doing k _ (Giving (suc v)) σ (own_input w got s p h v k (given_before plan p s v) at.1 at.0 lv σ i.ready e refl) (λ τ r. given_next v (given_before plan p s v + 1) σ τ lv i counted r)
         | inr ne ↦
-            let g : ℕ → ℕ = λ i. got (key v i (owner v) p) in
-            let row : RowOf l v ns g σ (after_all l (takes plan p s v) σ) = takes_row l v ns g σ (every_filter _ _ (to plan p) (numbers plan s v) (input_numbers v lv) (λ n f e. (slot_is n f, ap got (f.1.0 ∙ ap (λ r. key v (message plan n).share (owner v) r) (eqb-true _ _ e))))) in
-            let has : (i : ℕ) → i < m → holds plan p i ≡ true → Has plan i ns = λ i li held. any_number plan p i (numbers plan s v) (subst (Any p i) (sym (keys_are plan s v ls lk)) (subst (λ z. Any p i (slot_messages plan s v z)) (sym at) (deal_any plan s v (owner v) p i lp li (λ z. ne (sym z)) held))) in
-            let no_deal : deals_in plan s p (slot w.plan s v) ≡ false = ap (deals_in plan s p) at ∙ ne_eqb (owner v) p ne in
-            subst (λ ys. Leaves good l (ys ++ posts plan p s v ++ takes plan p s v ++ []) (InInputs (suc v)) σ) (sym (cond-false (nat_eq (owner v) p) (Deal v d ∷ []) [] (ne_eqb (owner v) p ne)))
-            (exchanged v (InInputs (suc v)) σ
-            (every_filter _ _ (from plan p) (numbers plan s v) (input_numbers v lv) (λ n f e. absurd (ne (sym (ap (λ z. z.sender) f.1.0) ∙ eqb-true _ _ e))))
-            proper
-            (record {
-              rows = rows_next v σ (after_all l (takes plan p s v) σ) h (λ u i other. row.others u i other) (λ i li held. row.has i (has i li held) ∙ sym (start_other v i lv ne));
-              sums = λ i li. ap (λ f. f i) row.sums ∙ h.sums i li;
-              drawn = row.drawn ∙ h.drawn ∙ sym (draw_none v no_deal);
-              given = row.given ∙ h.given ∙ sym (give_none v (ne_eqb (owner v) p ne));
-            })
-            [] (InInputs (suc v)) σ (tt, refl) [] (λ τ q. (tt, q)))
-      ]))
+            let counted : given_before plan p s v ≡ given_before plan p s (suc v) = (let no' : one (gives plan s p v) ≡ 0 = cond-false (gives plan s p v) 1 0 (ne_eqb (giver plan s v) p ne) in omega (arith, no')) in
+            doing k _ (Giving (suc v)) σ (other_input w got s p h v k (given_before plan p s v) at.1 at.0 lv σ i.ready ne) (λ τ r. given_next v (given_before plan p s v) σ τ lv i counted r)
+      ])) (λ σ i. i)
 
-  -- ---- gate slots
+  given : (v : ℕ) → v ≤ many → Up (input_at v) (Giving v)
+  given zero le = up_to (first_of g) (input_at 0) (Preparing g) (Giving 0) (omega arith) (prepared g (omega arith)) (λ σ i. record {
+    wires = λ v j lv lj held. i.wires v j lv lj held ∙ sym (cond-false (nat_lt v 0) (run.start v j) 0 (le-ltb v 0 (omega arith)));
+    trips = i.trips;
+    ready = ready_at w got s p h (first_of g) (input_at 0) 0 σ (omega arith) i.ready;
+    outputs = λ o lo r. absurd (omega (arith, lo));
+  })
+  given (suc v) le = give v (omega (arith, le)) (given v (omega (arith, le)))
 
-  pub record InGates (t : ℕ) (σ : State) : Type 0 where
-    pub rows : (u i : ℕ) → i < m → holds plan p i ≡ true → σ.rows u i ≡ summands run t u i
-    pub sums : (i : ℕ) → i < m → σ.sums i ≡ 0
-    pub drawn : σ.drawn ≡ words_before plan p s (length (owners x) + t)
+  -- ---- gates
 
-  abbrev slot_k : ℕ → ℕ
-  slot_k t = length (owners x) + t
+  abbrev all_given : ℕ
+  all_given = given_before plan p s many
 
-  abbrev FromDealer : ℕ → Key → Type 0
-  FromDealer t y = (y ≡ key (slot_k t) y.share y.sender y.receiver) × (y.share < m) × (y.receiver ≢ y.sender) × (deals_in plan s y.sender (At_gate t) ≡ true)
+  abbrev gate_at : ℕ → ℕ
+  gate_at t = first_of_gate x t
 
-  from_dealer : (t : ℕ) → AllByRecursion (FromDealer t) (slot_messages plan s (slot_k t) (At_gate t))
-  from_dealer t = every_joined (FromDealer t) plan.parties _ (λ d ld. every_only_if (FromDealer t) (deals_in plan s d (At_gate t)) _ (λ deals'.
-      every_joined (FromDealer t) m _ (λ i li. every_joined (FromDealer t) plan.parties _ (λ r lr. every_only_if (FromDealer t) (not (nat_eq r d) && holds plan r i) (key (slot_k t) i d r ∷ []) (λ e. ((refl, li, other_of r d (holds plan r i) e, deals'), tt))))))
+  abbrev Gating : ℕ → State → Type 0
+  Gating t = Stands (summands run t) g all_given (gate_at t) 0
 
-  gate_numbers : (t : ℕ) → t < length x.gates → AllByRecursion (In (slot_k t) (FromDealer t)) (numbers plan s (slot_k t))
-  gate_numbers t lt = each_number plan s (slot_k t) ls (omega arith) (FromDealer t) (subst (λ z. AllByRecursion (FromDealer t) (slot_messages plan s (slot_k t) z)) (sym (slot_gate x t lt)) (from_dealer t))
+  -- gate t sets its output
+  gate_next : (t k : ℕ) (σ ρ τ : State) → t < g → Gating t σ → ρ.rows ≡ σ.rows → suc k ≡ gate_at (suc t) → Rowed w got s p h (gate x t).output (made_at w got s p h t) (suc k) all_given ρ τ → Gating (suc t) τ
+  gate_next t k σ ρ τ lt i same at r =
+      let o : ℕ = (gate x t).output in
+      record {
+        wires = λ v j lv lj held. elim (cases_eq v o) [
+          | inl e ↦ subst (λ z. τ.rows z j ≡ made_at w got s p h t j) (sym e) (r.here j lj held) ∙ sym (ap (λ z. z j) (set_here (summands run t) o v (made_at w got s p h t) e))
+          | inr ne ↦ r.others v j ne ∙ ap (λ (z : ℕ → ℕ → ℕ). z v j) same ∙ i.wires v j lv lj held ∙ sym (ap (λ z. z j) (set_there (summands run t) o v (made_at w got s p h t) ne))
+        ];
+        trips = λ u lu its. trip_of_wire u o ρ τ (wired.output t lt) r.others (trip_same u σ ρ same (i.trips u lu its));
+        ready = ready_at w got s p h (suc k) (gate_at (suc t)) all_given τ at r.ready;
+        outputs = λ o lo r. absurd (omega (arith, lo));
+      }
 
-  rows_set : (f g : ℕ → ℕ → ℕ) (o : ℕ) (a b : ℕ → ℕ) → ((u i : ℕ) → u ≢ o → i < m → holds plan p i ≡ true → f u i ≡ g u i) → ((i : ℕ) → i < m → holds plan p i ≡ true → a i ≡ b i)
-      → (u i : ℕ) → i < m → holds plan p i ≡ true → set_at f o a u i ≡ set_at g o b u i
-  rows_set f g o a b same new u i li held = elim (cases_eq u o) [
-    | inl e ↦ ap (λ z. z i) (set_here f o u a e) ∙ new i li held ∙ sym (ap (λ z. z i) (set_here g o u b e))
-    | inr ne ↦ ap (λ z. z i) (set_there f o u a ne) ∙ same u i ne li held ∙ sym (ap (λ z. z i) (set_there g o u b ne))
-  ]
-
-  none_taken : (ns : List ℕ) (σ : State) → AllByRecursion (λ n. ⊥) ns → after_all l (map (take_of plan) ns) σ ≡ σ
-  none_taken [] σ h = refl
-  none_taken (n ∷ ns) σ h = absurd h.0
-
-  linear_slot : (t : ℕ) → t < length x.gates → is_product (gate x t).operation ≡ false → (σ : State) → InGates t σ → Leaves good l (slot_program plan p s (slot_k t)) (InGates (suc t)) σ
-  linear_slot t lt linear σ h =
-      let k : ℕ = slot_k t in
-      let g : Gate = gate x t in
-      let at : slot w.plan s k ≡ At_gate t = slot_gate x t lt in
-      let lk : k < slots w.plan s = omega arith in
-      let no_deals : (d : ℕ) → deals_in plan s d (At_gate t) ≡ false = λ d. ap (λ z. z && has_pair (scheme plan) d) linear in
-      let none : (test : ℕ → Bool) → AllByRecursion (λ n. ⊥) (filter test (numbers plan s k)) = λ test. every_filter _ _ test (numbers plan s k) (gate_numbers t lt) (λ n f e. both_ways (deals_in plan s (message plan n).sender (At_gate t)) (no_deals (message plan n).sender) f.1.3) in
-      let any : (F : ℕ → Type 0) (test : ℕ → Bool) → AllByRecursion F (filter test (numbers plan s k)) = λ F test. every_filter _ _ test (numbers plan s k) (gate_numbers t lt) (λ n f e. absurd (both_ways (deals_in plan s (message plan n).sender (At_gate t)) (no_deals (message plan n).sender) f.1.3)) in
-      let τ : State = computed (2 ^ plan.bits) g σ in
-      let is : next l (Linear k) σ ≡ τ = ap (λ z. computed (2 ^ plan.bits) (gate_in_slot x z) σ) at in
-      let after' : InGates (suc t) τ = record {
-        rows = rows_set σ.rows (summands run t) g.output _ (gate_summands run t (summands run t g.first) (summands run t g.second)) (λ u i ne. h.rows u i)
-            (λ i li held. ap₂ (local (2 ^ plan.bits) g.operation g.constant i) (h.rows g.first i li held) (h.rows g.second i li held) ∙ sym (cond-false (is_product g.operation) _ _ linear));
-        sums = h.sums;
-        drawn = h.drawn ∙ sym (draw_none k (ap (deals_in plan s p) at ∙ no_deals p)) ∙ (let same : suc k ≡ length (owners x) + suc t = omega arith in ap (words_before plan p s) same);
-      } in
-      let lead : Leaves good l (Linear k ∷ []) (λ ρ. ρ ≡ τ) σ = (((record { slot = lk; kind = subst IsGate (sym at) tt }, tt), tt), is) in
-      four (InGates (suc t)) σ k (subst (λ z. Leaves good l (opening plan p s k z ++ posts plan p s k ++ takes plan p s k ++ closing plan p s k z) (InGates (suc t)) σ) (sym at)
-      (subst (λ ys. Leaves good l ((ys ++ only_if (not (is_product g.operation)) (Linear k ∷ [])) ++ posts plan p s k ++ takes plan p s k ++ closing plan p s k (At_gate t)) (InGates (suc t)) σ) (sym (cond-false (deals_in plan s p (At_gate t)) (Own k ∷ Deal k (deals_before plan p s k) ∷ []) [] (no_deals p)))
-      (subst (λ b. Leaves good l (([] ++ only_if (not b) (Linear k ∷ [])) ++ posts plan p s k ++ takes plan p s k ++ only_if b (Sum k ∷ [])) (InGates (suc t)) σ) (sym linear)
-      (exchanged k (λ ρ. ρ ≡ τ) τ (any _ (from plan p)) (any _ (to plan p)) (none_taken (filter (to plan p) (numbers plan s k)) τ (none (to plan p))) (Linear k ∷ []) (InGates (suc t)) σ lead []
-      (λ ρ e. (tt, subst (InGates (suc t)) (sym e) after'))))))
-
-  module _ (t : ℕ) (lt : t < length x.gates) (prod : is_product (gate x t).operation ≡ true) (σ : State) (h : InGates t σ) where
-    abbrev k : ℕ
-    k = slot_k t
-
-    abbrev g : Gate
-    g = gate x t
-
-    at : slot w.plan s k ≡ At_gate t
-    at = slot_gate x t lt
-
-    lk : k < slots w.plan s
-    lk = omega (arith, lt)
-
-    abbrev mine : ℕ → ℕ
-    mine = dealt (scheme plan) (own_value run t p) (tape_word w s (At_gate t) p)
-
-    abbrev begun : ℕ → ℕ
-    begun i = if has_pair (scheme plan) p then mine i else 0
-
-    abbrev ns : List ℕ
-    ns = filter (to plan p) (numbers plan s k)
-
-    deals_is : (d : ℕ) → deals_in plan s d (At_gate t) ≡ has_pair (scheme plan) d
-    deals_is d = ap (λ b. b && has_pair (scheme plan) d) prod
-
-    others : ℕ → ℕ → ℕ
-    others i d = if has_pair (scheme plan) d then (if nat_eq d p then 0 else got (key k i d p)) else 0
-
-    tally_of : (i : ℕ) → i < m → holds plan p i ≡ true → tally l i ns ≡ total plan.parties (others i)
-    unfolding others
-    tally_of i li held =
-        tally_is l got p i (numbers plan s k) (λ n. refl)
-        ∙ ap (key_tally got p i) (keys_are plan s k ls lk)
-        ∙ ap (λ z. key_tally got p i (slot_messages plan s k z)) at
-        ∙ key_tally-joined got p i plan.parties (λ d. only_if (deals_in plan s d (At_gate t)) (deal_messages plan s k d))
-        ∙ total_eq plan.parties _ _ (λ d ld. key_tally-only_if got p i (deals_in plan s d (At_gate t)) (deal_messages plan s k d)
-        ∙ ap₂ (λ b z. if b then z else 0) (deals_is d) (deal_tally plan got s k p i lp li held d))
-
-    sums : (i : ℕ) → i < m → holds plan p i ≡ true → (begun i + tally l i ns) % 2 ^ plan.bits ≡ run.product t (summands run t g.first) (summands run t g.second) i
-    unfolding others
-    sums i li held =
-        let y : ℕ → ℕ = summands run t g.first in
-        let z : ℕ → ℕ = summands run t g.second in
-        let all : ℕ → ℕ = λ d. if has_pair (scheme plan) d then (if nat_eq d p then dealt (scheme plan) (own_product (scheme plan) d y z) (tape_word w s (At_gate t) p) i else got (key k i d p)) else 0 in
-        let here : all p ≡ begun i = ap (λ a. if has_pair (scheme plan) p then a else 0) (cond-true (nat_eq p p) _ _ (eq-eqb p p refl)) in
-        let none : others i p ≡ 0 = ap (λ a. if has_pair (scheme plan) p then a else 0) (cond-true (nat_eq p p) 0 _ (eq-eqb p p refl)) ∙ zeros (has_pair (scheme plan) p) in
-        let one : total plan.parties (others i) + all p ≡ total plan.parties all + others i p = total_one plan.parties p (others i) all lp (λ d ld ne.
-        ap (λ a. if has_pair (scheme plan) d then a else 0) (cond-false (nat_eq d p) 0 _ (ne_eqb d p ne) ∙ sym (cond-false (nat_eq d p) _ (got (key k i d p)) (ne_eqb d p ne)))) in
-        ap (λ a. a % 2 ^ plan.bits) (let e = tally_of i li held in let same : begun i + tally l i ns ≡ total plan.parties all = omega arith in same)
-      where
-        zeros : (b : Bool) → ◌≡◌ {A = ℕ} (if b then 0 else 0) 0
-        zeros true = refl
-        zeros false = refl
-
-    -- from the state in which the posts are made
-    product_rest : (σ2 : State) → ((u i : ℕ) → u ≢ g.output → σ2.rows u i ≡ σ.rows u i) → ((i : ℕ) → i < m → σ2.sums i ≡ 0) → (has_pair (scheme plan) p ≡ true → (i : ℕ) → σ2.rows g.output i ≡ mine i) → σ2.drawn ≡ words_before plan p s (suc k)
-        → Leaves good l (opening plan p s k (At_gate t)) (λ τ. τ ≡ σ2) σ → Leaves good l (slot_program plan p s k) (InGates (suc t)) σ
-    product_rest σ2 rows none mine' drawn' opens =
-        let q : ℕ = 2 ^ plan.bits in
-        let slot_is : (n : ℕ) → In k (FromDealer t) n → slot_of plan n ≡ At_gate t = λ n f. ap (λ z. slot w.plan z.session z.slot) f.1.0 ∙ at in
-        let τ : State = after_all l (takes plan p s k) σ2 in
-        let took : SumsOf m q σ2 τ (λ i. 0 + tally l i ns) = takes_sums l m (At_gate t) ns σ2 (λ i. 0) tt (every_filter _ _ (to plan p) (numbers plan s k) (gate_numbers t lt) (λ n f e. slot_is n f)) (λ i li. none i li ∙ sym (mod-eq_of_lt positive)) in
-        let done : State = summed plan p g τ in
-        let is : next l (Sum k) τ ≡ done = ap (λ z. summed plan p (gate_in_slot x z) τ) at in
-        let own : (i : ℕ) → (if has_pair (scheme plan) p then τ.rows g.output i else 0) ≡ begun i = λ i. elim (cases_Bool (has_pair (scheme plan) p)) [
-          | inl has ↦ cond-true (has_pair (scheme plan) p) (τ.rows g.output i) 0 has ∙ ap (λ f. f g.output i) took.rows ∙ mine' has i ∙ sym (cond-true (has_pair (scheme plan) p) (mine i) 0 has)
-          | inr no' ↦ cond-false (has_pair (scheme plan) p) (τ.rows g.output i) 0 no' ∙ sym (cond-false (has_pair (scheme plan) p) (mine i) 0 no')
-        ] in
-        let joins : (a c : ℕ) → (a + c % q) % q ≡ (a + c) % q = λ a c. (let turned : a + c % q ≡ c % q + a = omega arith in ap (λ z. z % q) turned) ∙ mod-add-mod c q a ∙ (let back : c + a ≡ a + c = omega arith in ap (λ z. z % q) back) in
-        let sum : (i : ℕ) → i < m → ((if has_pair (scheme plan) p then τ.rows g.output i else 0) + τ.sums i) % q ≡ (begun i + tally l i ns) % q = λ i li.
-        ap₂ (λ a c. (a + c) % q) (own i) (took.sums i li) ∙ joins (begun i) (0 + tally l i ns) ∙ (let same : begun i + (0 + tally l i ns) ≡ begun i + tally l i ns = omega arith in ap (λ z. z % q) same) in
-        let after' : InGates (suc t) done = record {
-          rows = rows_set τ.rows (summands run t) g.output _ (gate_summands run t (summands run t g.first) (summands run t g.second))
-              (λ u i ne li held. ap (λ f. f u i) took.rows ∙ rows u i ne ∙ h.rows u i li held)
-              (λ i li held. sum i li ∙ sums i li held ∙ sym (cond-true (is_product g.operation) _ _ prod));
-          sums = λ i li. refl;
-          drawn = took.drawn ∙ drawn' ∙ (let same : suc k ≡ length (owners x) + suc t = omega arith in ap (words_before plan p s) same);
-        } in
-        four (InGates (suc t)) σ k (subst (λ z. Leaves good l (opening plan p s k z ++ posts plan p s k ++ takes plan p s k ++ closing plan p s k z) (InGates (suc t)) σ) (sym at)
-        (subst (λ ys. Leaves good l (opening plan p s k (At_gate t) ++ posts plan p s k ++ takes plan p s k ++ ys) (InGates (suc t)) σ) (sym (cond-true (is_product g.operation) (Sum k ∷ []) [] prod))
-        (exchanged k (λ ρ. ρ ≡ τ) σ2
-        (every_filter _ _ (from plan p) (numbers plan s k) (gate_numbers t lt) (λ n f e. (
-          message_is k n _ _ _ lk f.0 f.1.0 f.1.1,
-          (let sender : (message plan n).sender ≡ p = eqb-true _ _ e in (
-            sender,
-            ap (λ z. posted x z (message plan n).share σ2) (slot_is n f) ∙ mine' (sym (deals_is p) ∙ ap (λ z. deals_in plan s z (At_gate t)) (sym sender) ∙ f.1.3) (message plan n).share
-                ∙ sym (ap (local_word w got p) f.1.0 ∙ ap (local_word_in w got p (key k (message plan n).share (message plan n).sender (message plan n).receiver)) at),
-          )),
-        )))
-        (every_filter _ _ (to plan p) (numbers plan s k) (gate_numbers t lt) (λ n f e. message_is k n _ _ _ lk f.0 f.1.0 f.1.1))
-        refl (opening plan p s k (At_gate t)) (InGates (suc t)) σ opens (Sum k ∷ [])
-        (λ ρ e. subst (Leaves good l (Sum k ∷ []) (InGates (suc t))) (sym e) (((record { slot = lk; kind = subst IsGate (sym at) tt }, tt), tt), subst (InGates (suc t)) (sym is) after')))))
-
-    own_is : own_product (scheme plan) p (σ.rows g.first) (σ.rows g.second) ≡ own_value run t p
-    own_is = holder_own plan h' p _ _ _ _ (λ i li held. h.rows g.first i li held) (λ i li held. h.rows g.second i li held)
-
-    product_slot : Leaves good l (slot_program plan p s k) (InGates (suc t)) σ
-    product_slot =
-        let d : ℕ = deals_before plan p s k in
-        let linear : only_if (not (is_product g.operation)) (Linear k ∷ []) ≡ [] = cond-false (not (is_product g.operation)) (Linear k ∷ []) [] (not_from_true (is_product g.operation) prod) in
-        elim (cases_Bool (has_pair (scheme plan) p)) [
-          | inl has ↦
-              let deals' : deals_in plan s p (slot w.plan s k) ≡ true = ap (deals_in plan s p) at ∙ deals_is p ∙ has in
-              let σ1 : State = multiplied plan p g σ in
-              let is1 : next l (Own k) σ ≡ σ1 = ap (λ z. multiplied plan p (gate_in_slot x z) σ) at in
-              let σ2 : State = dealt_in plan s (word_after l σ.drawn) (slice_index l.inputs σ.given) (At_gate t) σ1 in
-              let is2 : next l (Deal k d) (next l (Own k) σ) ≡ σ2 = ap (next l (Deal k d)) is1 ∙ ap (λ z. dealt_in plan s (word_after l σ.drawn) (slice_index l.inputs σ.given) z σ1) at in
-              let new : ℕ → ℕ = dealt (scheme plan) (own_product (scheme plan) p (σ.rows g.first) (σ.rows g.second)) (word_after l σ.drawn) in
-              let same : (i : ℕ) → σ2.rows g.output i ≡ mine i = λ i. ap (λ f. f i) (set_here σ.rows g.output g.output new refl) ∙ ap₂ (λ v z. dealt (scheme plan) v (word_after l z) i) own_is h.drawn ∙ dealt_eq (scheme plan) (own_value run t p) (word_after l (words_before plan p s k)) (tape_word w s (At_gate t) p) i (λ j lj. words_are k lk deals' j lj) in
-              product_rest σ2 (λ u i ne. ap (λ f. f i) (set_there σ.rows g.output u new ne))
-              h.sums
-              (λ yes' i. same i)
-              (ap (λ z. z + (m - 1)) h.drawn ∙ sym (draw_more k deals'))
-              (subst (λ ys. Leaves good l (ys ++ only_if (not (is_product g.operation)) (Linear k ∷ [])) (λ τ. τ ≡ σ2) σ) (sym (cond-true (deals_in plan s p (At_gate t)) (Own k ∷ Deal k d ∷ []) [] (deals_is p ∙ has)))
-              (subst (λ ys. Leaves good l ((Own k ∷ Deal k d ∷ []) ++ ys) (λ τ. τ ≡ σ2) σ) (sym linear)
-              (((record { slot = lk; kind = subst IsGate (sym at) tt }, tt), ((record { slot = lk; kind = subst Deals (sym at) tt }, (ap (λ τ. τ.drawn) is1 ∙ h.drawn, lk, deals', subst (λ z. IsNextInput plan s p z (next l (Own k) σ).given) (sym at) tt)), tt)), is2)))
-          | inr no' ↦
-              product_rest σ (λ u i ne. refl)
-              h.sums
-              (λ yes' i. absurd (both_ways (has_pair (scheme plan) p) no' yes'))
-              (h.drawn ∙ sym (draw_none k (ap (deals_in plan s p) at ∙ deals_is p ∙ no')))
-              (subst (λ ys. Leaves good l (ys ++ only_if (not (is_product g.operation)) (Linear k ∷ [])) (λ τ. τ ≡ σ) σ) (sym (cond-false (deals_in plan s p (At_gate t)) (Own k ∷ Deal k d ∷ []) [] (deals_is p ∙ no')))
-              (subst (λ ys. Leaves good l ([] ++ ys) (λ τ. τ ≡ σ) σ) (sym linear) (tt, refl)))
-        ]
-
-  -- ---- output slots
-
-  abbrev out_k : ℕ → ℕ
-  out_k o = length (owners x) + length x.gates + o
-
-  abbrev last : ℕ → ℕ → ℕ
-  last = summands run (length x.gates)
-
-  pub record InOutputs (o : ℕ) (σ : State) : Type 0 where
-    pub rows : (u i : ℕ) → i < m → holds plan p i ≡ true → σ.rows u i ≡ last u i
-    pub sums : (i : ℕ) → i < m → σ.sums i ≡ 0
-    pub drawn : σ.drawn ≡ words_before plan p s (out_k o)
-    pub outputs : (u : ℕ) → u < o → opens_to w.plan s p (Output u) ≡ true → σ.outputs u ≡ Some (local_output w got p s u)
-
-  module _ (o : ℕ) (lo : o < length (readers x)) (σ : State) (h : InOutputs o σ) where
-    abbrev ko : ℕ
-    ko = out_k o
-
-    ato : slot w.plan s ko ≡ Output o
-    ato = slot_output x o
-
-    lko : ko < slots w.plan s
-    lko = omega (arith, lo)
-
-    abbrev mask : ℕ
-    mask = slice_index (readers x) o
-
-    abbrev FromHolder : Key → Type 0
-    FromHolder y = (y ≡ key ko y.share (least_holder plan y.share) y.receiver) × (y.share < m) × (has_party mask y.receiver ≡ true)
-
-    from_holder : AllByRecursion FromHolder (slot_messages plan s ko (Output o))
-    from_holder = every_joined FromHolder plan.parties _ (λ r lr. every_only_if FromHolder (has_party mask r) _ (λ reads.
-        every_joined FromHolder m _ (λ i li. every_only_if FromHolder (not (holds plan r i)) (key ko i (least_holder plan i) r ∷ []) (λ e. ((refl, li, reads), tt)))))
-
-    out_numbers : AllByRecursion (In ko FromHolder) (numbers plan s ko)
-    out_numbers = each_number plan s ko ls lko FromHolder (subst (λ z. AllByRecursion FromHolder (slot_messages plan s ko z)) (sym ato) from_holder)
-
-    abbrev nso : List ℕ
-    nso = filter (to plan p) (numbers plan s ko)
-
-    abbrev sent : ℕ → ℕ
-    sent i = got (key ko i (least_holder plan i) p)
-
-    no_words : (b : Bool) → ◌≡◌ {A = ℕ} (if b then 0 else 0) 0
-    no_words true = refl
-    no_words false = refl
-
-    open_tally : (r i : ℕ) → key_tally got p i (open_messages plan s ko r) ≡ total m (λ j. if not (holds plan r j) then (if nat_eq r p then (if nat_eq i j then got (key ko j (least_holder plan j) r) else 0) else 0) else 0)
-    open_tally r i = key_tally-joined got p i m (λ j. only_if (not (holds plan r j)) (key ko j (least_holder plan j) r ∷ []))
-        ∙ total_eq m _ _ (λ j lj. one_tally got p i (not (holds plan r j)) (key ko j (least_holder plan j) r))
-
-    -- the words of summand i that come to p, which reads
-    out_tally : has_party mask p ≡ true → (i : ℕ) → i < m → holds plan p i ≡ false → tally l i nso ≡ sent i
-    out_tally reads i li lacks =
-        let term : ℕ → ℕ → ℕ = λ r j. if not (holds plan r j) then (if nat_eq r p then (if nat_eq i j then got (key ko j (least_holder plan j) r) else 0) else 0) else 0 in
-        let others : (r : ℕ) → r ≢ p → key_tally got p i (open_messages plan s ko r) ≡ 0 = λ r ne. open_tally r i ∙ total_zero m (term r) (λ j lj. ap (λ z. if not (holds plan r j) then z else 0) (cond-false (nat_eq r p) _ 0 (ne_eqb r p ne)) ∙ no_words (not (holds plan r j))) in
-        let mine' : key_tally got p i (open_messages plan s ko p) ≡ sent i = open_tally p i
-        ∙ total_only m i (term p) li (λ j lj ne. ap (λ z. if not (holds plan p j) then z else 0) (cond-true (nat_eq p p) _ 0 (eq-eqb p p refl) ∙ cond-false (nat_eq i j) _ 0 (ne_eqb i j (λ e. ne (sym e)))) ∙ no_words (not (holds plan p j)))
-        ∙ cond-true (not (holds plan p i)) _ 0 (not_from_false _ lacks) ∙ cond-true (nat_eq p p) _ 0 (eq-eqb p p refl) ∙ cond-true (nat_eq i i) _ 0 (eq-eqb i i refl) in
-        tally_is l got p i (numbers plan s ko) (λ n. refl)
-        ∙ ap (key_tally got p i) (keys_are plan s ko ls lko)
-        ∙ ap (λ z. key_tally got p i (slot_messages plan s ko z)) ato
-        ∙ key_tally-joined got p i plan.parties (λ r. only_if (has_party mask r) (open_messages plan s ko r))
-        ∙ total_only plan.parties p _ lp (λ r lr ne. key_tally-only_if got p i (has_party mask r) (open_messages plan s ko r) ∙ ap (λ z. if has_party mask r then z else 0) (others r ne) ∙ no_words (has_party mask r))
-        ∙ key_tally-only_if got p i (has_party mask p) (open_messages plan s ko p) ∙ cond-true (has_party mask p) _ 0 reads ∙ mine'
-
-    out_posts : AllByRecursion (λ n. good (post plan n) σ) (filter (from plan p) (numbers plan s ko))
-    out_posts = every_filter _ _ (from plan p) (numbers plan s ko) out_numbers (λ n f e.
-        let i : ℕ = (message plan n).share in
-        let sender : least_holder plan i ≡ p = sym (ap (λ z. z.sender) f.1.0) ∙ eqb-true _ _ e in (
-          message_is ko n _ _ _ lko f.0 f.1.0 f.1.1,
-          (
-            eqb-true _ _ e,
-            ap (λ z. posted x z i σ) (ap (λ z. slot w.plan z.session z.slot) f.1.0 ∙ ato)
-                ∙ h.rows (output_wire x o) i f.1.1 (subst (λ z. holds plan z i ≡ true) sender (least_holds plan h' i f.1.1))
-                ∙ sym (ap (local_word w got p) f.1.0 ∙ ap (local_word_in w got p (key ko i (least_holder plan i) (message plan n).receiver)) ato),
-          ),
-        ))
-
-    out_proper : AllByRecursion (λ n. IsSessionMessage plan s n (message plan n).share) nso
-    out_proper = every_filter _ _ (to plan p) (numbers plan s ko) out_numbers (λ n f e. message_is ko n _ _ _ lko f.0 f.1.0 f.1.1)
-
-    abbrev τo : State
-    τo = after_all l (takes plan p s ko) σ
-
-    no_more : words_before plan p s (out_k o) ≡ words_before plan p s (out_k (suc o))
-    no_more = sym (draw_none ko (ap (deals_in plan s p) ato)) ∙ (let same : suc ko ≡ out_k (suc o) = omega arith in ap (words_before plan p s) same)
-
-    output_slot : Leaves good l (slot_program plan p s ko) (InOutputs (suc o)) σ
-    output_slot =
-        four (InOutputs (suc o)) σ ko (subst (λ z. Leaves good l (opening plan p s ko z ++ posts plan p s ko ++ takes plan p s ko ++ closing plan p s ko z) (InOutputs (suc o)) σ) (sym ato)
-        (elim (cases_Bool (has_party mask p)) [
-          | inl reads ↦
-              let took : SumsOf m (2 ^ plan.bits) σ τo (λ i. 0 + tally l i nso) = takes_sums l m (Output o) nso σ (λ i. 0) tt (every_filter _ _ (to plan p) (numbers plan s ko) out_numbers (λ n f e. ap (λ z. slot w.plan z.session z.slot) f.1.0 ∙ ato)) (λ i li. h.sums i li ∙ sym (mod-eq_of_lt positive)) in
-              let done : State = delivered plan p (output_wire x o) o τo in
-              let is : next l (Deliver ko) τo ≡ done = ap (λ z. delivered plan p (output_wire x (output_in_slot z)) (output_in_slot z) τo) ato in
-              let sum : opened plan p (τo.rows (output_wire x o)) τo.sums ≡ local_output w got p s o = mods_of_same (total_same (2 ^ plan.bits) m _ _ (λ i li. elim (cases_Bool (holds plan p i)) [
-                | inl held ↦ same_refl _ _ _ (cond-true (holds plan p i) _ _ held ∙ ap (λ f. f (output_wire x o) i) took.rows ∙ h.rows (output_wire x o) i li held ∙ sym (cond-true (holds plan p i) _ _ held))
-                | inr lacks ↦ same_trans (same_refl _ _ _ (cond-false (holds plan p i) _ _ lacks ∙ took.sums i li ∙ ap (λ z. z % 2 ^ plan.bits) (let e = out_tally reads i li lacks in let f : 0 + tally l i nso ≡ sent i = omega arith in f)))
-                    (same_trans (same_mod (2 ^ plan.bits) (sent i)) (same_refl _ _ _ (sym (cond-false (holds plan p i) _ _ lacks))))
-              ])) in
-              let after' : InOutputs (suc o) done = record {
-                rows = λ u i li held. ap (λ f. f u i) took.rows ∙ h.rows u i li held;
-                sums = λ i li. refl;
-                drawn = took.drawn ∙ h.drawn ∙ no_more;
-                outputs = λ u lu r. elim (cases_eq u o) [
-                  | inl e ↦ set_here τo.outputs o u _ e ∙ ap Some (sum ∙ ap (local_output w got p s) (sym e))
-                  | inr ne ↦ set_there τo.outputs o u _ ne ∙ ap (λ f. f u) took.outputs ∙ h.outputs u (omega arith) r
-                ];
-              } in
-              subst (λ ys. Leaves good l ([] ++ posts plan p s ko ++ takes plan p s ko ++ ys) (InOutputs (suc o)) σ) (sym (cond-true (has_party mask p) (Deliver ko ∷ []) [] reads))
-              (exchanged ko (λ ρ. ρ ≡ τo) σ out_posts out_proper refl [] (InOutputs (suc o)) σ (tt, refl) (Deliver ko ∷ [])
-              (λ ρ e. subst (Leaves good l (Deliver ko ∷ []) (InOutputs (suc o))) (sym e) (((record { slot = lko; kind = subst IsOutput (sym ato) tt }, subst (λ z. OpensRight w got s p (output_in_slot z) τo) (sym ato) (reads, sum)), tt), subst (InOutputs (suc o)) (sym is) after')))
-          | inr not' ↦
-              let none : τo ≡ σ = none_taken nso σ (every_filter _ _ (to plan p) (numbers plan s ko) out_numbers (λ n f e. both_ways (has_party mask p) not' (subst (λ z. has_party mask z ≡ true) (eqb-true _ _ e) f.1.2))) in
-              let after' : InOutputs (suc o) σ = record {
-                rows = h.rows;
-                sums = h.sums;
-                drawn = h.drawn ∙ no_more;
-                outputs = λ u lu r. elim (cases_eq u o) [
-                  | inl e ↦ absurd (both_ways (has_party mask p) not' (subst (λ z. opens_to w.plan s p (Output z) ≡ true) e r))
-                  | inr ne ↦ h.outputs u (omega arith) r
-                ];
-              } in
-              subst (λ ys. Leaves good l ([] ++ posts plan p s ko ++ takes plan p s ko ++ ys) (InOutputs (suc o)) σ) (sym (cond-false (has_party mask p) (Deliver ko ∷ []) [] not'))
-              (exchanged ko (InOutputs (suc o)) σ out_posts out_proper (subst (InOutputs (suc o)) (sym none) after') [] (InOutputs (suc o)) σ (tt, refl) [] (λ ρ q. (tt, q)))
-        ]))
-
-  -- ---- all slots
-
-  pub slots_met : Leaves good l (joined (slots plan s) (slot_program plan p s)) (InOutputs (length (readers x))) new_state
-  slots_met =
-      let f : ℕ → List Instruction = slot_program plan p s in
-      let begin : InInputs 0 new_state = record {
-        rows = λ u i li held. sym (cond-false (nat_lt u 0) (run.start u i) 0 (le-ltb u 0 (omega arith)));
-        sums = λ i li. refl;
-        drawn = refl;
-        given = refl;
-      } in
-      let inputs : Leaves good l (joined (length (owners x)) f) (InInputs (length (owners x))) new_state = leaves_joined good l f InInputs (length (owners x)) new_state begin (λ v τ lv h. input_slot v lv τ h) in
-      let to_gates : (τ : State) → InInputs (length (owners x)) τ → InGates 0 τ = λ τ h. record {
-        rows = λ u i li held. h.rows u i li held ∙ starts u i;
-        sums = h.sums;
-        drawn = h.drawn ∙ (let same : length (owners x) ≡ length (owners x) + 0 = omega arith in ap (words_before plan p s) same);
-      } in
-      let gates : (τ : State) → InGates 0 τ → Leaves good l (joined (length x.gates) (λ t. f (length (owners x) + t))) (InGates (length x.gates)) τ = λ τ h. leaves_joined good l (λ t. f (length (owners x) + t)) InGates (length x.gates) τ h (λ t ρ lt h. gate_slot t lt ρ h) in
-      let to_outputs : (τ : State) → InGates (length x.gates) τ → InOutputs 0 τ = λ τ h. record {
-        rows = h.rows;
-        sums = h.sums;
-        drawn = h.drawn ∙ (let same : length (owners x) + length x.gates ≡ out_k 0 = omega arith in ap (words_before plan p s) same);
-        outputs = λ u lu r. absurd (omega arith);
-      } in
-      let outputs : (τ : State) → InOutputs 0 τ → Leaves good l (joined (length (readers x)) (λ o. f (length (owners x) + length x.gates + o))) (InOutputs (length (readers x))) τ = λ τ h. leaves_joined good l (λ o. f (length (owners x) + length x.gates + o)) InOutputs (length (readers x)) τ h (λ o ρ lo h. output_slot o lo ρ h) in
-      subst (λ xs. Leaves good l xs (InOutputs (length (readers x))) new_state)
-      (sym (joined_add (length (owners x) + length x.gates) (length (readers x)) f ∙ ap (λ ys. ys ++ joined (length (readers x)) (λ o. f (length (owners x) + length x.gates + o))) (joined_add (length (owners x)) (length x.gates) f)))
-      (leaves_append good l (joined (length (owners x)) f ++ joined (length x.gates) (λ t. f (length (owners x) + t))) (joined (length (readers x)) (λ o. f (length (owners x) + length x.gates + o))) (InGates (length x.gates)) (InOutputs (length (readers x))) new_state
-      (leaves_append good l (joined (length (owners x)) f) (joined (length x.gates) (λ t. f (length (owners x) + t))) (InInputs (length (owners x))) (InGates (length x.gates)) new_state inputs (λ τ h. gates τ (to_gates τ h)))
-      (λ τ h. outputs τ (to_outputs τ h)))
+  pass_gate : (t : ℕ) → t < g → Up (gate_at t) (Gating t) → Up (gate_at (suc t)) (Gating (suc t))
+  pass_gate t lt up =
+      let k : ℕ = gate_at t in
+      let u : ℕ = (gate x t).first in
+      let v : ℕ = (gate x t).second in
+      let lu : u < x.wires = wired.first t lt in
+      let lv : v < x.wires = wired.second t lt in
+      let last = there (At_gate t) lt in
+      elim (cases_Bool (is_prepared x t)) [
+        | inl is ↦
+            let more : one (is_prepared x t) ≡ 1 = cond-true (is_prepared x t) 1 0 is in
+            let two : ◌≡◌ {A = ℕ} (if is_prepared x t then 2 else 0) 2 = cond-true (is_prepared x t) 2 0 is in
+            let at1 = there (Masked t First) (lt, is) in
+            let at2 = there (Masked t Second) (lt, is) in
+            let at3 : (k + 2 < slots plan s) × (slot plan s (k + 2) ≡ At_gate t) = subst (λ n. (k + n < slots plan s) × (slot plan s (k + n) ≡ At_gate t)) two last in
+            let d : ℕ = local_excess w got p s t First (summands run t u) in
+            let e : ℕ = local_excess w got p s t Second (summands run t v) in
+            let FirstSet : State → Type 0 = λ τ. (σ : State) × Gating t σ × Showed w got s p h First d (suc k) all_given σ τ in
+            let BothSet : State → Type 0 = λ υ. (σ : State) × (τ : State) × Gating t σ × Showed w got s p h First d (suc k) all_given σ τ × Showed w got s p h Second e (suc (k + 1)) all_given τ υ in
+            let up1 : Up (suc k) FirstSet = go_on k k (Gating t) FirstSet refl up (λ σ i.
+            doing k _ FirstSet σ (masked_wire w got s p h t First k all_given at1.1 at1.0 σ i.ready (λ j lj held. i.wires u j lu lj held) (i.trips t lt is).first) (λ τ r. (σ, i, r))) in
+            let up2 : Up (suc (k + 1)) BothSet = go_on (suc k) (k + 1) FirstSet BothSet (omega arith) up1 (λ τ c.
+            let i = c.1 in
+            let same : τ.rows ≡ c.0.rows = c.2.rows in
+            doing (k + 1) _ BothSet τ (masked_wire w got s p h t Second (k + 1) all_given at2.1 at2.0 τ (ready_at w got s p h (suc k) (k + 1) all_given τ (omega arith) c.2.ready)
+            (λ j lj held. ap (λ (z : ℕ → ℕ → ℕ). z v j) same ∙ i.wires v j lv lj held) (trip_same t c.0 τ same (i.trips t lt is)).second)
+            (λ υ r. (c.0, τ, c.1, c.2, r))) in
+            let up3 : Up (suc (k + 2)) (Gating (suc t)) = go_on (suc (k + 1)) (k + 2) BothSet (Gating (suc t)) (omega arith) up2 (λ τ c.
+            let σ : State = c.0 in
+            let i = c.2 in
+            let r1 = c.3 in
+            let r2 = c.4 in
+            let rows : τ.rows ≡ σ.rows = r2.rows ∙ r1.rows in
+            let its : Trip t τ = trip_same t σ τ rows (i.trips t lt is) in
+            doing (k + 2) _ (Gating (suc t)) τ (joined_gate w got s p h t (k + 2) all_given at3.1 at3.0 is τ (ready_at w got s p h (suc (k + 1)) (k + 2) all_given τ (omega arith) r2.ready)
+            (ap (λ (z : Side → ℕ). z First) r2.excess ∙ ap (λ (z : Side → ℕ). z First) r1.excess) (ap (λ (z : Side → ℕ). z Second) r2.excess) its.first its.second its.product)
+            (λ υ r. gate_next t (k + 2) σ τ υ lt i rows (omega (arith, more)) r)) in
+            up_to (suc (k + 2)) (gate_at (suc t)) (Gating (suc t)) (Gating (suc t)) (omega (arith, more)) up3 (λ σ i. i)
+        | inr not' ↦
+            let none : one (is_prepared x t) ≡ 0 = cond-false (is_prepared x t) 1 0 not' in
+            let nothing : ◌≡◌ {A = ℕ} (if is_prepared x t then 2 else 0) 0 = cond-false (is_prepared x t) 2 0 not' in
+            let here : k + (if is_prepared x t then 2 else 0) ≡ k = omega (arith, nothing) in
+            let at : (k < slots plan s) × (slot plan s k ≡ At_gate t) = subst (λ n. (n < slots plan s) × (slot plan s n ≡ At_gate t)) here last in
+            up_to (suc k) (gate_at (suc t)) (Gating (suc t)) (Gating (suc t)) (omega (arith, none)) (go_on k k (Gating t) (Gating (suc t)) refl up (λ σ i.
+            doing k _ (Gating (suc t)) σ (elim (cases_Bool (is_product (gate x t).operation)) [
+              | inl prod ↦ direct_product w got s p h t k all_given at.1 at.0 (direct x.prepared (is_product (gate x t).operation) prod not') σ i.ready (λ j lj held. i.wires u j lu lj held) (λ j lj held. i.wires v j lv lj held)
+              | inr linear ↦ linear_gate w got s p h t k all_given at.1 at.0 linear σ i.ready (λ j lj held. i.wires u j lu lj held) (λ j lj held. i.wires v j lv lj held)
+            ]) (λ τ r. gate_next t k σ σ τ lt i refl (omega (arith, none)) r))) (λ σ i. i)
+      ]
     where
-      starts : (u i : ℕ) → (if nat_lt u (length (owners x)) then run.start u i else 0) ≡ run.start u i
-      starts u i = elim (cases_Bool (nat_lt u (length (owners x)))) [
-        | inl yes' ↦ cond-true (nat_lt u (length (owners x))) _ 0 yes'
-        | inr no' ↦ cond-false (nat_lt u (length (owners x))) (run.start u i) 0 no' ∙ sym (cond-false (nat_lt u (length (owners x))) _ 0 no')
-      ]
+      direct : (a b : Bool) → b ≡ true → (a && b) ≡ false → (not a && b) ≡ true
+      direct true b prod none = absurd (both_ways b none prod)
+      direct false b prod none = prod
 
-      gate_slot : (t : ℕ) → t < length x.gates → (σ : State) → InGates t σ → Leaves good l (slot_program plan p s (length (owners x) + t)) (InGates (suc t)) σ
-      gate_slot t lt σ h = elim (cases_Bool (is_product (gate x t).operation)) [
-        | inl prod ↦ product_slot t lt prod σ h
-        | inr linear ↦ linear_slot t lt linear σ h
+  gated : (t : ℕ) → t ≤ g → Up (gate_at t) (Gating t)
+  gated zero le = up_to (input_at many) (gate_at 0) (Giving many) (Gating 0) (omega arith) (given many (omega arith)) (λ σ i. record {
+    wires = λ v j lv lj held. i.wires v j lv lj held ∙ all_started v j;
+    trips = i.trips;
+    ready = ready_at w got s p h (input_at many) (gate_at 0) all_given σ (omega arith) i.ready;
+    outputs = λ o lo r. absurd (omega (arith, lo));
+  })
+    where
+      all_started : (u i : ℕ) → started many u i ≡ run.start u i
+      all_started u i = elim (cases_Bool (nat_lt u many)) [
+        | inl yes' ↦ cond-true (nat_lt u many) _ 0 yes'
+        | inr no' ↦ cond-false (nat_lt u many) (run.start u i) 0 no' ∙ sym (cond-false (nat_lt u many) _ 0 no')
       ]
+  gated (suc t) le = pass_gate t (omega (arith, le)) (gated t (omega (arith, le)))
+
+  -- ---- outputs
+
+  abbrev output_at : ℕ → ℕ
+  output_at o = gate_at g + o
+
+  -- before the slot of output o
+  abbrev pub InOutputs : ℕ → State → Type 0
+  InOutputs o = Stands (summands run g) g all_given (output_at o) o
+
+  deliver : (o : ℕ) → o < length (readers x) → Up (output_at o) (InOutputs o) → Up (output_at (suc o)) (InOutputs (suc o))
+  deliver o lo up =
+      let k : ℕ = output_at o in
+      let at = there (Output o) lo in
+      let wide = wired.output_wires in
+      up_to (suc k) (output_at (suc o)) (InOutputs (suc o)) (InOutputs (suc o)) (omega arith) (go_on k k (InOutputs o) (InOutputs (suc o)) refl up (λ σ i.
+      doing k (Delivered w got s p h o (suc k) all_given σ) (InOutputs (suc o)) σ (output_slot w got s p h o k all_given at.1 at.0 σ i.ready (λ j lj held. i.wires (output_wire x o) j (omega (arith, lo, wide)) lj held)) (λ τ r. record {
+        wires = λ v j lv lj held. ap (λ (z : ℕ → ℕ → ℕ). z v j) r.rows ∙ i.wires v j lv lj held;
+        trips = λ t lt its. trip_same t σ τ r.rows (i.trips t lt its);
+        ready = ready_at w got s p h (suc k) (output_at (suc o)) all_given τ (omega arith) r.ready;
+        outputs = λ u lu reads. elim (cases_eq u o) [
+          | inl e ↦ subst (λ z. τ.outputs z ≡ Some (local_output w got p s z)) (sym e) (r.here (subst (λ z. opens_to plan s p (Output z) ≡ true) e reads))
+          | inr ne ↦ r.others u ne ∙ i.outputs u (omega (arith, lu, ne)) reads
+        ];
+      }))) (λ σ i. i)
+
+  delivered_up : (o : ℕ) → o ≤ length (readers x) → Up (output_at o) (InOutputs o)
+  delivered_up zero le = up_to (gate_at g) (output_at 0) (Gating g) (InOutputs 0) (omega arith) (gated g (omega arith)) (λ σ i. record {
+    wires = i.wires;
+    trips = i.trips;
+    ready = ready_at w got s p h (gate_at g) (output_at 0) all_given σ (omega arith) i.ready;
+    outputs = λ o lo r. absurd (omega (arith, lo));
+  })
+  delivered_up (suc o) le = deliver o (omega (arith, le)) (delivered_up o (omega (arith, le)))
+
+  pub slots_met : Leaves (Goes w got s p) (local_given w got s p) (joined (slots w.plan s) (slot_program w.plan p s)) (InOutputs (length (readers (session w.plan s)))) new_state
+  slots_met = up_to (output_at (length (readers x))) (slots plan s) (InOutputs (length (readers x))) (InOutputs (length (readers x))) (sym (slots_are_numbered x).count) (delivered_up (length (readers x)) (omega arith)) (λ σ i. i)

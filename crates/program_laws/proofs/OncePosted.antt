@@ -11,7 +11,7 @@ use Rattle.job_plan.specs.Messages.{messages}
 use Rattle.job_plan.specs.Numbers.{message}
 use Rattle.job_session.specs.Batches.{batch}
 use Rattle.party_program.specs.declared.program.Instruction.{Instruction}
-use Rattle.party_program.specs.declared.program.Instruction.TheVariants.{Deal, Post, Take, Linear, Own, Sum, Deliver, End}
+use Rattle.party_program.specs.declared.program.Instruction.TheVariants.{Post, Take, End}
 use Rattle.party_program.specs.Programs.{at, head, tail, tails, program, slot_program}
 use Rattle.program_laws.specs.Once.{StandsOnce, StandsOnceInSlot, IsOnce}
 use Rattle.program_laws.proofs.BatchRuns.{whole}
@@ -96,12 +96,7 @@ is_kind true n (Post m i) h = (i, ap (λ z. Post z i) (eqb-true m n h))
 is_kind false n (Post m i) h = absurd (false≢true h)
 is_kind true n (Take m i) h = absurd (false≢true h)
 is_kind false n (Take m i) h = (i, ap (λ z. Take z i) (eqb-true m n h))
-is_kind b n (Deal k d) h = absurd (false≢true h)
-is_kind b n (Linear k) h = absurd (false≢true h)
-is_kind b n (Own k) h = absurd (false≢true h)
-is_kind b n (Sum k) h = absurd (false≢true h)
-is_kind b n (Deliver k) h = absurd (false≢true h)
-is_kind b n End h = absurd (false≢true h)
+is_kind b n _ h = absurd (false≢true h)
 
 kind_named : (b : Bool) (n i : ℕ) → names b n (kind_of b n i) ≡ true
 kind_named true n i = eq-eqb n n refl

@@ -1,33 +1,48 @@
 -- A party opens only the outputs that it reads, and as it computes them by itself, whatever words it got.
-use Rattle.std.proofs.Common.{◌≡◌, ℕ, zero, suc, ◌<◌, ◌^◌, true, length, refl, sym, ap, ◌∙◌, subst, Some, None}
+use Rattle.std.proofs.Common.{◌≡◌, ℕ, zero, suc, ◌<◌, true, length, refl, sym, ap, ◌∙◌, subst, Some, None}
 use Rattle.std.proofs.lemmas.Bool.{cases_eq, cases_lt}
 use Rattle.std.proofs.lemmas.List.{get_or_past}
 use mathlib.Core.Logic.{inl, inr}
 use Rattle.circuit_model.proofs.SetAt.{set_here, set_there}
 use Rattle.job_session.specs.Sessions.{Slot, output_wire}
-use Rattle.job_session.specs.Sessions.Slot.{Input, At_gate, Output}
+use Rattle.job_session.specs.Sessions.Slot.{Input, At_gate, Mask, Mask_product, Masked}
 use Rattle.job_plan.specs.Plans.{Plan, session, reads, slot}
 use Rattle.job_plan.specs.Sound.{IsSound}
 use Rattle.job_plan.specs.declared.key.Key.{Key}
 use Rattle.share_world.specs.Worlds.{World}
 use Rattle.share_world.specs.Locals.{local_output}
 use Rattle.party_program.specs.declared.program.Instruction.{Instruction}
-use Rattle.party_program.specs.declared.program.Instruction.TheVariants.{Deal, Post, Take, Linear, Own, Sum, Deliver, End}
+use Rattle.party_program.specs.declared.program.Instruction.TheVariants.{Draw, Deal, Post, Take, Linear, Own, Sum, Open, Join, Deliver, End}
 use Rattle.party_program.specs.Programs.{program, at}
-use Rattle.party_program.specs.States.{Given, State, new_state, state, next, dealt_in, took_in, opened, slot_of, output_in_slot}
+use Rattle.party_program.specs.States.{Given, State, new_state, state, next, drawn_in, dealt_in, took_in, opened, opened_in, joined_in, word_after, slot_of, output_in_slot}
 use Rattle.party_program.proofs.InstructionLists.{along_at, state_is}
 use Rattle.program_laws.specs.Meets.{local_given, Goes, SmallTape}
 use Rattle.program_laws.proofs.LocalPrograms.{met}
 
-dealt_outputs : (plan : Plan) (s : ℕ) (words : ℕ → ℕ) (input : ℕ) (z : Slot) (σ : State) → (dealt_in plan s words input z σ).outputs ≡ σ.outputs
-dealt_outputs plan s words input (Input v) σ = refl
-dealt_outputs plan s words input (At_gate t) σ = refl
-dealt_outputs plan s words input (Output o) σ = refl
+-- what is neither delivered nor ends leaves the outputs as they were
+module _ (plan : Plan) (p s : ℕ) where
+  drawn_outputs : (words : ℕ → ℕ) (z : Slot) (σ : State) → (drawn_in plan p s words z σ).outputs ≡ σ.outputs
+  drawn_outputs words (Mask t side) σ = refl
+  drawn_outputs words _ σ = refl
 
-took_outputs : (q : ℕ) (z : Slot) (i x : ℕ) (σ : State) → (took_in q z i x σ).outputs ≡ σ.outputs
-took_outputs q (Input v) i x σ = refl
-took_outputs q (At_gate t) i x σ = refl
-took_outputs q (Output o) i x σ = refl
+  dealt_outputs : (words : ℕ → ℕ) (input : ℕ) (z : Slot) (σ : State) → (dealt_in plan s words input z σ).outputs ≡ σ.outputs
+  dealt_outputs words input (Input v) σ = refl
+  dealt_outputs words input (At_gate t) σ = refl
+  dealt_outputs words input (Mask_product t) σ = refl
+  dealt_outputs words input _ σ = refl
+
+  took_outputs : (z : Slot) (i x : ℕ) (σ : State) → (took_in plan s z i x σ).outputs ≡ σ.outputs
+  took_outputs (Input v) i x σ = refl
+  took_outputs (Mask t side) i x σ = refl
+  took_outputs _ i x σ = refl
+
+  opened_outputs : (z : Slot) (σ : State) → (opened_in plan p s z σ).outputs ≡ σ.outputs
+  opened_outputs (Masked t side) σ = refl
+  opened_outputs _ σ = refl
+
+  joined_outputs : (z : Slot) (σ : State) → (joined_in plan s z σ).outputs ≡ σ.outputs
+  joined_outputs (At_gate t) σ = refl
+  joined_outputs _ σ = refl
 
 module _ (w : World) (sound : IsSound w.plan) (got : Key → ℕ) (s p : ℕ) (ls : s < length w.plan.sessions) (lp : p < w.plan.parties) (small : SmallTape w s p) where
   abbrev l : Given
@@ -46,8 +61,11 @@ module _ (w : World) (sound : IsSound w.plan) (got : Key → ℕ) (s p : ℕ) (l
   Opens o v = (reads w.plan p s o ≡ true) × (v ≡ local_output w got p s o)
 
   opens_next : (q o v : ℕ) (e : Instruction) → at (program w.plan p s) q ≡ e → ((o v : ℕ) → (state l q).outputs o ≡ Some v → Opens o v) → (next l e (state l q)).outputs o ≡ Some v → Opens o v
-  opens_next q o v (Deal k d) is before f = before o v (sym (ap (λ z. z o) (dealt_outputs w.plan s _ _ (slot w.plan s k) (state l q))) ∙ f)
-  opens_next q o v (Take n i) is before f = before o v (sym (ap (λ z. z o) (took_outputs (2 ^ w.plan.bits) (slot_of w.plan n) i _ (state l q))) ∙ f)
+  opens_next q o v (Draw k) is before f = before o v (sym (ap (λ z. z o) (drawn_outputs w.plan p s (word_after l (state l q).drawn) (slot w.plan s k) (state l q))) ∙ f)
+  opens_next q o v (Deal k d) is before f = before o v (sym (ap (λ z. z o) (dealt_outputs w.plan p s _ _ (slot w.plan s k) (state l q))) ∙ f)
+  opens_next q o v (Take n i) is before f = before o v (sym (ap (λ z. z o) (took_outputs w.plan p s (slot_of w.plan n) i _ (state l q))) ∙ f)
+  opens_next q o v (Open k) is before f = before o v (sym (ap (λ z. z o) (opened_outputs w.plan p s (slot w.plan s k) (state l q))) ∙ f)
+  opens_next q o v (Join k) is before f = before o v (sym (ap (λ z. z o) (joined_outputs w.plan p s (slot w.plan s k) (state l q))) ∙ f)
   opens_next q o v (Deliver k) is before f =
       let u : ℕ = output_in_slot (slot w.plan s k) in
       let right = (goes q (Deliver k) is (λ e. cc)).1 in

@@ -6,6 +6,7 @@ use Rattle.list_laws.specs.Lists.{total}
 use Rattle.list_laws.proofs.JoinedLists.{total_within}
 use Rattle.job_plan.specs.Plans.{IsPlan, words, slot_number, place}
 use Rattle.job_plan.specs.declared.key.Key.{Key}
+use Rattle.job_plan.proofs.PlanSchemes.{plan_is}
 use Rattle.share_world.specs.Worlds.{World}
 use Rattle.share_world.specs.Laws.{IsWhole}
 use Rattle.party_program.specs.GivenData.{Suits}
@@ -25,7 +26,7 @@ part_of w whole p lp = record {
 
 module _ (w : World) (p : ℕ) (part : IsPart w p) where
   pub part_plan : IsPlan w.plan
-  part_plan = record { bits = part.sound.some_bits; groups = part.sound.some_groups; q2 = part.sound.q2 }
+  part_plan = plan_is w.plan part.sound
 
   pub part_words : (s : ℕ) → SmallTape w s p
   part_words s z i = part.small_tape (place w.plan p s (slot_number w.plan s z) + i)

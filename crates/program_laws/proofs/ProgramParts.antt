@@ -1,8 +1,8 @@
 -- The heads and tails of a program: what stands in them, and what each of their instructions names.
-use Rattle.std.proofs.Common.{◌≡◌, ◌≢◌, ℕ, zero, suc, ◌+◌, ◌-◌, ◌<◌, ◌≤◌, Bool, true, false, not, ◌&&◌, nat_eq, List, [], ◌∷◌, ◌++◌, map, length, refl, sym, ap, ◌∙◌, subst, arith, length-append}
+use Rattle.std.proofs.Common.{◌≡◌, ◌≢◌, ℕ, zero, suc, ◌+◌, ◌-◌, ◌<◌, ◌≤◌, Bool, true, false, not, ◌&&◌, nat_eq, nat_lt, List, [], ◌∷◌, ◌++◌, map, length, refl, sym, ap, ◌∙◌, subst, arith, length-append}
 use Rattle.std.specs.Prelude.{slice_index}
 use Rattle.std.specs.List.{AllByRecursion, filter}
-use Rattle.std.proofs.lemmas.Bool.{cases_lt, cond-true, and_parts, eqb-true, false≢true}
+use Rattle.std.proofs.lemmas.Bool.{cases_lt, cond-true, and_from, and_parts, eqb-true, false≢true, ltb-true}
 use Rattle.std.proofs.lemmas.List.{get_or_past, get_or-append-add}
 use Rattle.std.proofs.Math.ListN.{get_or-append}
 use mathlib.Core.Logic.{inl, inr}
@@ -10,21 +10,24 @@ use Rattle.list_laws.specs.Lists.{joined, only_if}
 use Rattle.list_laws.proofs.JoinedLists.{every_joined, every_only_if, every_append}
 use Rattle.circuit_model.specs.Circuits.{is_product}
 use Rattle.secret_sharing.specs.Schemes.{has_pair}
-use Rattle.job_session.specs.Sessions.{Session, Slot, owners, gate}
-use Rattle.job_session.specs.Sessions.Slot.{Input, At_gate, Output}
-use Rattle.job_session.proofs.SessionSlots.{slot_cases}
-use Rattle.job_plan.specs.Plans.{Plan, IsPlan, scheme, session, slot, slots, holds, least_holder, deals_in, opens_to}
+use Rattle.job_session.specs.Sessions.{Session, Slot, owners, gate, is_direct, is_prepared}
+use Rattle.job_session.specs.SoundSessions.{Inside}
+use Rattle.job_session.specs.declared.side.Side.{Side}
+use Rattle.job_session.specs.Sessions.Slot.{Input, At_gate, Output, Mask, Mask_product, Masked}
+use Rattle.job_session.proofs.SessionSlots.{slots_are_numbered}
+use Rattle.job_plan.specs.Plans.{Plan, IsPlan, scheme, session, slot, slots, holds, least_holder, deals_in, opens_to, gives, giver, words_in}
 use Rattle.job_plan.specs.declared.key.Key.{Key}
 use Rattle.job_plan.specs.Firsts.{numbers}
-use Rattle.job_plan.specs.Messages.{messages, slot_messages, deal_message, deal_messages, open_messages}
+use Rattle.job_plan.specs.Messages.{messages, slot_messages, deal_message, product_messages, open_messages}
 use Rattle.job_plan.specs.Numbers.{message, deals_before}
 use Rattle.job_plan.specs.Sound.{IsSound}
-use Rattle.job_plan.proofs.PlanSchemes.{least_within}
+use Rattle.job_plan.proofs.PlanSchemes.{least_within, plan_is}
 use Rattle.job_plan.proofs.SlotMessages.{each_number, every_filter}
 use Rattle.job_session.specs.Batches.{batch, is_last}
 use Rattle.party_program.specs.declared.program.Instruction.{Instruction}
-use Rattle.party_program.specs.declared.program.Instruction.TheVariants.{Deal, Post, Take, Linear, Own, Sum, Deliver, End}
+use Rattle.party_program.specs.declared.program.Instruction.TheVariants.{Draw, Deal, Post, Take, Linear, Own, Sum, Open, Join, Deliver, End}
 use Rattle.party_program.specs.Programs.{at, from, to, post, take_of, opening, closing, posts, takes, head, tail, tails, turn, program, slot_program}
+use Rattle.party_program.specs.Proper.{IsMask, IsMasked, IsOutput}
 use Rattle.job_session.proofs.BatchOrder.{batch_within, last_of}
 use Rattle.program_laws.proofs.ContainedInstructions.{Contains, contains_left, contains_right, contains_joined}
 
@@ -39,6 +42,12 @@ is_within es q ne = elim (cases_lt q (length es)) [ inl l ↦ l | inr past ↦ a
 pub every_map : {A : Type 0} (Q : A → Type 0) (f : ℕ → A) (ns : List ℕ) → AllByRecursion (λ n. Q (f n)) ns → AllByRecursion Q (map f ns)
 every_map Q f [] h = tt
 every_map Q f (n ∷ ns) h = (h.0, every_map Q f ns h.1)
+
+-- a product is dealt in the slot: of the gate, or of the masks of its wires
+abbrev pub Multiplied : Session → Slot → Type 0
+Multiplied x (At_gate t) = is_direct x t ≡ true
+Multiplied x (Mask_product t) = Unit {0}
+Multiplied x _ = ⊥
 
 -- ---- what stands in a program
 
@@ -85,30 +94,52 @@ module _ (plan : Plan) (s p : ℕ) where
   -- ---- the instructions of a head and of a tail
 
   module _ (Q : Instruction → Type 0) (k : ℕ) where
-    pub every_opening : ((v : ℕ) → slot plan s k ≡ Input v → deals_in plan s p (Input v) ≡ true → Q (Deal k (deals_before plan p s k)))
-        → ((t : ℕ) → slot plan s k ≡ At_gate t → deals_in plan s p (At_gate t) ≡ true → Q (Own k) × Q (Deal k (deals_before plan p s k)))
-        → ((t : ℕ) → slot plan s k ≡ At_gate t → is_product (gate (session plan s) t).operation ≡ false → Q (Linear k)) → AllByRecursion Q (opening plan p s k (slot plan s k))
-    every_opening input product linear = opens (slot plan s k) refl
+    -- Q of each instruction that an opening may have
+    pub record OfOpening : Type 0 where
+      pub draws : (t : ℕ) (side : Side) → slot plan s k ≡ Mask t side → 0 < words_in plan s p (Mask t side) → Q (Draw k)
+      pub inputs : (v : ℕ) → slot plan s k ≡ Input v → gives plan s p v ≡ true → Q (Deal k (deals_before plan p s k))
+      pub products : (z : Slot) → slot plan s k ≡ z → Multiplied (session plan s) z → has_pair (scheme plan) p ≡ true → Q (Own k) × Q (Deal k (deals_before plan p s k))
+      pub linears : (t : ℕ) → slot plan s k ≡ At_gate t → is_product (gate (session plan s) t).operation ≡ false → Q (Linear k)
+
+    -- and of each that a closing may have
+    pub record OfClosing : Type 0 where
+      pub sums : (z : Slot) → slot plan s k ≡ z → Multiplied (session plan s) z → Q (Sum k)
+      pub opens : (t : ℕ) (side : Side) → slot plan s k ≡ Masked t side → Q (Open k)
+      pub joins : (t : ℕ) → slot plan s k ≡ At_gate t → is_prepared (session plan s) t ≡ true → Q (Join k)
+      pub delivers : (o : ℕ) → slot plan s k ≡ Output o → Q (Deliver k)
+
+    pub every_opening : OfOpening → AllByRecursion Q (opening plan p s k (slot plan s k))
+    every_opening each = opens (slot plan s k) refl
       where
         is_not : (b : Bool) → not b ≡ true → b ≡ false
         is_not true e = absurd (false≢true e)
         is_not false e = refl
 
-        opens : (z : Slot) → slot plan s k ≡ z → AllByRecursion Q (opening plan p s k z)
-        opens (Input v) e = every_only_if Q (deals_in plan s p (Input v)) _ (λ b. (input v e b, tt))
-        opens (At_gate t) e = every_append Q (only_if (deals_in plan s p (At_gate t)) (Own k ∷ Deal k (deals_before plan p s k) ∷ [])) (only_if (not (is_product (gate (session plan s) t).operation)) (Linear k ∷ []))
-            (every_only_if Q (deals_in plan s p (At_gate t)) _ (λ b. let two = product t e b in (two.0, (two.1, tt))))
-            (every_only_if Q (not (is_product (gate (session plan s) t).operation)) _ (λ b. (linear t e (is_not _ b), tt)))
-        opens (Output o) e = tt
+        both : (z : Slot) → slot plan s k ≡ z → Multiplied (session plan s) z → has_pair (scheme plan) p ≡ true → AllByRecursion Q (Own k ∷ Deal k (deals_before plan p s k) ∷ [])
+        both z e m h = let two = each.products z e m h in (two.0, (two.1, tt))
 
-    pub every_closing : ((t : ℕ) → slot plan s k ≡ At_gate t → is_product (gate (session plan s) t).operation ≡ true → Q (Sum k)) → ((o : ℕ) → slot plan s k ≡ Output o → Q (Deliver k))
-        → AllByRecursion Q (closing plan p s k (slot plan s k))
-    every_closing sum deliver = closes (slot plan s k) refl
+        opens : (z : Slot) → slot plan s k ≡ z → AllByRecursion Q (opening plan p s k z)
+        opens (Input v) e = every_only_if Q (deals_in plan s p (Input v)) _ (λ b. (each.inputs v e b, tt))
+        opens (At_gate t) e = every_append Q (only_if (deals_in plan s p (At_gate t)) (Own k ∷ Deal k (deals_before plan p s k) ∷ [])) (only_if (not (is_product (gate (session plan s) t).operation)) (Linear k ∷ []))
+            (every_only_if Q (deals_in plan s p (At_gate t)) _ (λ b. let two = and_parts (is_direct (session plan s) t) (has_pair (scheme plan) p) b in both (At_gate t) e two.0 two.1))
+            (every_only_if Q (not (is_product (gate (session plan s) t).operation)) _ (λ b. (each.linears t e (is_not _ b), tt)))
+        opens (Output o) e = tt
+        opens (Mask t side) e = every_only_if Q (nat_lt 0 (words_in plan s p (Mask t side))) _ (λ b. (each.draws t side e (ltb-true 0 (words_in plan s p (Mask t side)) b), tt))
+        opens (Mask_product t) e = every_only_if Q (deals_in plan s p (Mask_product t)) _ (λ b. both (Mask_product t) e tt b)
+        opens (Masked t side) e = tt
+
+    pub every_closing : OfClosing → AllByRecursion Q (closing plan p s k (slot plan s k))
+    every_closing each = closes (slot plan s k) refl
       where
         closes : (z : Slot) → slot plan s k ≡ z → AllByRecursion Q (closing plan p s k z)
         closes (Input v) e = tt
-        closes (At_gate t) e = every_only_if Q (is_product (gate (session plan s) t).operation) _ (λ b. (sum t e b, tt))
-        closes (Output o) e = every_only_if Q (opens_to plan s p (Output o)) _ (λ b. (deliver o e, tt))
+        closes (At_gate t) e = every_append Q (only_if (is_direct (session plan s) t) (Sum k ∷ [])) (only_if (is_prepared (session plan s) t) (Join k ∷ []))
+            (every_only_if Q (is_direct (session plan s) t) _ (λ b. (each.sums (At_gate t) e b, tt)))
+            (every_only_if Q (is_prepared (session plan s) t) _ (λ b. (each.joins t e b, tt)))
+        closes (Output o) e = every_only_if Q (opens_to plan s p (Output o)) _ (λ b. (each.delivers o e, tt))
+        closes (Mask t side) e = tt
+        closes (Mask_product t) e = (each.sums (Mask_product t) e tt, tt)
+        closes (Masked t side) e = (each.opens t side e, tt)
 
     pub every_head : AllByRecursion Q (opening plan p s k (slot plan s k)) → AllByRecursion (λ n. Q (post plan n)) (filter (from plan p) (numbers plan s k)) → AllByRecursion Q (head plan p s k)
     every_head opens sent = every_append Q (opening plan p s k (slot plan s k)) (posts plan p s k) opens (every_map Q (post plan) _ sent)
@@ -122,20 +153,29 @@ module _ (plan : Plan) (s p : ℕ) where
 abbrev pub Of : Plan → ℕ → ℕ → Key → Type 0
 Of plan s k y = (y.slot ≡ k) × (y.sender < plan.parties) × (y.session ≡ s)
 
-of_slot : (plan : Plan) → IsPlan plan → (s k : ℕ) (z : Slot) → ((v : ℕ) → z ≡ Input v → slice_index (owners (session plan s)) v < plan.parties) → AllByRecursion (Of plan s k) (slot_messages plan s k z)
-of_slot plan h s k (Input v) o = every_joined (Of plan s k) (length plan.groups) (λ i. joined plan.parties (deal_message plan s k (slice_index (owners (session plan s)) v) i)) (λ i li. every_joined (Of plan s k) plan.parties (deal_message plan s k (slice_index (owners (session plan s)) v) i) (λ r lr. every_only_if (Of plan s k) (not (nat_eq r (slice_index (owners (session plan s)) v)) && holds plan r i) (record { session = s; slot = k; share = i; sender = slice_index (owners (session plan s)) v; receiver = r } ∷ []) (λ e. ((refl, o v refl, refl), tt))))
-of_slot plan h s k (At_gate t) o = every_joined (Of plan s k) plan.parties _ (λ d ld. every_only_if (Of plan s k) (deals_in plan s d (At_gate t)) (deal_messages plan s k d) (λ e. every_joined (Of plan s k) (length plan.groups) (λ i. joined plan.parties (deal_message plan s k d i)) (λ i li. every_joined (Of plan s k) plan.parties (deal_message plan s k d i) (λ r lr. every_only_if (Of plan s k) (not (nat_eq r d) && holds plan r i) (record { session = s; slot = k; share = i; sender = d; receiver = r } ∷ []) (λ e. ((refl, ld, refl), tt))))))
-of_slot plan h s k (Output o') o = every_joined (Of plan s k) plan.parties _ (λ r lr. every_only_if (Of plan s k) (opens_to plan s r (Output o')) (open_messages plan s k r) (λ e. every_joined (Of plan s k) (length plan.groups) (λ i. only_if (not (holds plan r i)) (record { session = s; slot = k; share = i; sender = least_holder plan i; receiver = r } ∷ [])) (λ i li. every_only_if (Of plan s k) (not (holds plan r i)) (record { session = s; slot = k; share = i; sender = least_holder plan i; receiver = r } ∷ [])
-    (λ e. ((refl, least_within plan h i li, refl), tt)))))
+module _ (plan : Plan) (h : IsPlan plan) (s k : ℕ) where
+  of_deals : (sender : ℕ → ℕ) → ((i : ℕ) → i < length plan.groups → sender i < plan.parties) → AllByRecursion (Of plan s k) (joined (length plan.groups) (λ i. joined plan.parties (deal_message plan s k (sender i) i)))
+  of_deals sender within = every_joined (Of plan s k) (length plan.groups) _ (λ i li. every_joined (Of plan s k) plan.parties _ (λ r lr. every_only_if (Of plan s k) (not (nat_eq r (sender i)) && holds plan r i) _ (λ e. ((refl, within i li, refl), tt))))
+
+  of_products : (z : Slot) → AllByRecursion (Of plan s k) (product_messages plan s k z)
+  of_products z = every_joined (Of plan s k) plan.parties _ (λ d ld. every_only_if (Of plan s k) (deals_in plan s d z) _ (λ e. of_deals (λ i. d) (λ i li. ld)))
+
+  of_openings : (r : ℕ) → AllByRecursion (Of plan s k) (open_messages plan s k r)
+  of_openings r = every_joined (Of plan s k) (length plan.groups) _ (λ i li. every_only_if (Of plan s k) (not (holds plan r i)) _ (λ e. ((refl, least_within plan h i li, refl), tt)))
+
+  of_slot : (z : Slot) → ((v : ℕ) → z ≡ Input v → giver plan s v < plan.parties) → AllByRecursion (Of plan s k) (slot_messages plan s k z)
+  of_slot (Input v) owned = of_deals (λ i. giver plan s v) (λ i li. owned v refl)
+  of_slot (At_gate t) owned = of_products (At_gate t)
+  of_slot (Output o) owned = every_joined (Of plan s k) plan.parties _ (λ r lr. every_only_if (Of plan s k) (opens_to plan s r (Output o)) _ (λ e. of_openings r))
+  of_slot (Mask t side) owned = of_deals (least_holder plan) (least_within plan h)
+  of_slot (Mask_product t) owned = of_products (Mask_product t)
+  of_slot (Masked t side) owned = every_joined (Of plan s k) plan.parties _ (λ r lr. of_openings r)
 
 pub each : (plan : Plan) → IsPlan plan → (s k : ℕ) → s < length plan.sessions → ((v : ℕ) → v < length (owners (session plan s)) → slice_index (owners (session plan s)) v < plan.parties) → k < slots plan s
     → AllByRecursion (λ n. (n < length (messages plan)) × Of plan s k (message plan n)) (numbers plan s k)
-each plan h s k ls owned lk = each_number plan s k ls lk (Of plan s k) (of_slot plan h s k (slot plan s k) (λ v e. input_is v k lk e))
-  where
-    input_is : (v k : ℕ) → k < slots plan s → slot plan s k ≡ Input v → slice_index (owners (session plan s)) v < plan.parties
-    input_is v = slot_cases (session plan s) (λ k z. z ≡ Input v → slice_index (owners (session plan s)) v < plan.parties)
-        (λ u lu e. let same : u ≡ v = cc in subst (λ z. slice_index (owners (session plan s)) z < plan.parties) same (owned u lu))
-        (λ t lt e. absurd (cc)) (λ o lo e. absurd (cc))
+each plan h s k ls owned lk =
+    let inside : Inside (session plan s) (slot plan s k) = (slots_are_numbered (session plan s)).inside k lk in
+    each_number plan s k ls lk (Of plan s k) (of_slot plan h s k (slot plan s k) (λ v e. owned v (subst (Inside (session plan s)) e inside)))
 
 -- ---- what instructions name, where the plan is within the limits
 
@@ -149,17 +189,42 @@ pub record Names (plan : Plan) (s n i : ℕ) : Type 0 where
 
 module _ (plan : Plan) (sound : IsSound plan) (s p : ℕ) (ls : s < length plan.sessions) where
   pub is_plan : IsPlan plan
-  is_plan = record { bits = sound.some_bits; groups = sound.some_groups; q2 = sound.q2 }
+  is_plan = plan_is plan sound
 
-  abbrev IsProduct : ℕ → Type 0
-  IsProduct k = (t : ℕ) × (slot plan s k ≡ At_gate t) × (is_product (gate (session plan s) t).operation ≡ true)
+  -- slot k is there, and of this kind
+  abbrev Is : ℕ → (Slot → Type 0) → Type 0
+  Is k P = (k < slots plan s) × P (slot plan s k)
+
+  abbrev Product : Slot → Type 0
+  Product = Multiplied (session plan s)
+
+  abbrev Dealing : Slot → Type 0
+  Dealing z = deals_in plan s p z ≡ true
+
+  -- who has a pair deals of a product
+  pub dealing : (z : Slot) → Product z → has_pair (scheme plan) p ≡ true → Dealing z
+  dealing (At_gate t) direct pair = and_from (is_direct (session plan s) t) (has_pair (scheme plan) p) direct pair
+  dealing (Mask_product t) is pair = pair
+  dealing (Input v) is pair = absurd is
+  dealing (Output o) is pair = absurd is
+  dealing (Mask t side) is pair = absurd is
+  dealing (Masked t side) is pair = absurd is
+
+  abbrev Linears : Slot → Type 0
+  Linears z = (t : ℕ) × (z ≡ At_gate t) × (is_product (gate (session plan s) t).operation ≡ false)
+
+  abbrev Joins : Slot → Type 0
+  Joins z = (t : ℕ) × (z ≡ At_gate t) × (is_prepared (session plan s) t ≡ true)
 
   abbrev pub Fits : Instruction → Type 0
-  Fits (Deal k d) = k < slots plan s
-  Fits (Own k) = (k < slots plan s) × IsProduct k
-  Fits (Linear k) = (k < slots plan s) × ((t : ℕ) × (slot plan s k ≡ At_gate t) × (is_product (gate (session plan s) t).operation ≡ false))
-  Fits (Sum k) = (k < slots plan s) × IsProduct k
-  Fits (Deliver k) = (k < slots plan s) × ((o : ℕ) × (slot plan s k ≡ Output o))
+  Fits (Draw k) = Is k IsMask
+  Fits (Deal k d) = Is k Dealing
+  Fits (Own k) = Is k Product
+  Fits (Linear k) = Is k Linears
+  Fits (Sum k) = Is k Product
+  Fits (Open k) = Is k IsMasked
+  Fits (Join k) = Is k Joins
+  Fits (Deliver k) = Is k IsOutput
   Fits (Post n i) = Names plan s n i × ((message plan n).sender ≡ p)
   Fits (Take n i) = Names plan s n i
   Fits End = ⊥
@@ -172,12 +237,23 @@ module _ (plan : Plan) (sound : IsSound plan) (s p : ℕ) (ls : s < length plan.
 
   heads_fit : (k : ℕ) → k < slots plan s → AllByRecursion Fits (head plan p s k)
   heads_fit k lk = every_head plan s p Fits k
-      (every_opening plan s p Fits k (λ v e b. lk) (λ t e b. ((lk, (t, e, (and_parts (is_product (gate (session plan s) t).operation) (has_pair (scheme plan) p) b).0)), lk)) (λ t e b. (lk, (t, e, b))))
+      (every_opening plan s p Fits k (record {
+        draws = λ t side e some. (lk, subst IsMask (sym e) tt);
+        inputs = λ v e b. (lk, subst Dealing (sym e) b);
+        products = λ z e is b. ((lk, subst Product (sym e) is), (lk, subst Dealing (sym e) (dealing z is b)));
+        linears = λ t e b. (lk, (t, e, b));
+      }))
       (every_filter _ _ (from plan p) (numbers plan s k) (in_slot k lk) (λ n f e. (named k n lk f, eqb-true _ _ e)))
 
   tails_fit : (k : ℕ) → k < slots plan s → AllByRecursion Fits (tail plan p s k)
   tails_fit k lk = every_tail plan s p Fits k
-      (every_filter _ _ (to plan p) (numbers plan s k) (in_slot k lk) (λ n f e. named k n lk f)) (every_closing plan s p Fits k (λ t e b. (lk, (t, e, b))) (λ o e. (lk, (o, e))))
+      (every_filter _ _ (to plan p) (numbers plan s k) (in_slot k lk) (λ n f e. named k n lk f))
+      (every_closing plan s p Fits k (record {
+        sums = λ z e is. (lk, subst Product (sym e) is);
+        opens = λ t side e. (lk, subst IsMasked (sym e) tt);
+        joins = λ t e b. (lk, (t, e, b));
+        delivers = λ o e. (lk, subst IsOutput (sym e) tt);
+      }))
 
   pub all_fit : AllByRecursion Fits (program plan p s)
   all_fit = all_parts plan s p Fits heads_fit tails_fit

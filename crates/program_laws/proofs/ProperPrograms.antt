@@ -1,23 +1,25 @@
 -- What a program does with what suits its plan, whatever words it gets.
-use Rattle.std.proofs.Common.{◌≡◌, ℕ, zero, suc, ◌+◌, ◌-◌, ◌<◌, ◌≤◌, ◌^◌, Bool, true, false, if◌then◌else◌, List, [], length, refl, sym, ap, ◌∙◌, subst, arith}
-use Rattle.std.proofs.lemmas.Bool.{cases_lt, cond-true}
+use Rattle.std.proofs.Common.{◌≡◌, ℕ, zero, suc, ◌+◌, ◌-◌, ◌<◌, ◌≤◌, Bool, true, false, if◌then◌else◌, List, [], length, refl, sym, ap, ◌∙◌, subst, arith}
+use Rattle.std.specs.Prelude.{slice_index}
+use Rattle.std.proofs.lemmas.Bool.{cases_lt, cond-true, false≢true}
 use Rattle.std.proofs.lemmas.List.{get_or_past}
 use Rattle.std.proofs.lemmas.Nat.{pow_pos}
 use mathlib.Core.Logic.{inl, inr}
 use Rattle.list_laws.specs.Lists.{total}
 use Rattle.list_laws.proofs.JoinedLists.{total_within}
 use Rattle.job_session.specs.Sessions.{Slot, owners}
-use Rattle.job_plan.specs.Plans.{Plan, session, slot, slots, deals_in, words, gives, words_in, words_before, input_count}
-use Rattle.job_session.specs.Sessions.Slot.{Input, At_gate, Output}
+use Rattle.job_plan.specs.Plans.{Plan, session, slot, slots, deals_in, least_held, words, gives, words_in, words_before, input_count}
+use Rattle.job_session.specs.Sessions.Slot.{Input, At_gate, Output, Mask, Mask_product, Masked}
 use Rattle.job_plan.specs.Sound.{IsSound}
 use Rattle.job_plan.specs.declared.key.Key.{Key}
-use Rattle.job_session.proofs.SessionSlots.{slot_cases}
+use Rattle.job_session.specs.SoundSessions.{Inside}
+use Rattle.job_session.proofs.SessionSlots.{slots_are_numbered}
 use Rattle.share_world.specs.Worlds.{World}
 use Rattle.party_program.specs.declared.program.Instruction.{Instruction}
-use Rattle.party_program.specs.declared.program.Instruction.TheVariants.{Deal, Post, Take, Linear, Own, Sum, Deliver, End}
+use Rattle.party_program.specs.declared.program.Instruction.TheVariants.{Draw, Deal, Post, Take, Linear, Own, Sum, Open, Join, Deliver, End}
 use Rattle.party_program.specs.Programs.{program, at}
-use Rattle.party_program.specs.States.{Given, State, new_state, state, after, dealt_in, took_in, slot_of}
-use Rattle.party_program.specs.Proper.{Proper, CanDealIn, HasInput}
+use Rattle.party_program.specs.States.{Given, State, new_state, state, after, drawn_in, dealt_in, took_in, opened_in, joined_in, word_after, slot_of}
+use Rattle.party_program.specs.Proper.{Proper, IsMask, CanDraw, CanDealIn, HasInput}
 use Rattle.party_program.specs.GivenData.{Suits}
 use Rattle.party_program.proofs.InstructionLists.{along_at, state_is}
 use Rattle.program_laws.specs.Meets.{local_given, IsNextInput, Goes, SmallTape}
@@ -28,20 +30,36 @@ use Rattle.program_laws.proofs.LocalPrograms.{met}
 abbrev HasDone : State → State → Type 0
 HasDone σ τ = (σ.drawn ≡ τ.drawn) × (σ.given ≡ τ.given)
 
+drawn_same : (plan : Plan) (p s : ℕ) (f g : ℕ → ℕ) (z : Slot) (σ τ : State) → HasDone σ τ → HasDone (drawn_in plan p s f z σ) (drawn_in plan p s g z τ)
+drawn_same plan p s f g (Mask t side) σ τ e = (ap (λ z. z + least_held plan p (length plan.groups)) e.0, e.1)
+drawn_same plan p s f g _ σ τ e = e
+
 dealt_same : (plan : Plan) (s : ℕ) (f g : ℕ → ℕ) (x y : ℕ) (z : Slot) (σ τ : State) → HasDone σ τ → HasDone (dealt_in plan s f x z σ) (dealt_in plan s g y z τ)
 dealt_same plan s f g x y (Input v) σ τ e = (ap (λ z. z + (length plan.groups - 1)) e.0, ap (λ z. z + 1) e.1)
 dealt_same plan s f g x y (At_gate t) σ τ e = (ap (λ z. z + (length plan.groups - 1)) e.0, e.1)
-dealt_same plan s f g x y (Output o) σ τ e = e
+dealt_same plan s f g x y (Mask_product t) σ τ e = (ap (λ z. z + (length plan.groups - 1)) e.0, e.1)
+dealt_same plan s f g x y _ σ τ e = e
 
-took_same : (q : ℕ) (z : Slot) (i x y : ℕ) (σ τ : State) → HasDone σ τ → HasDone (took_in q z i x σ) (took_in q z i y τ)
-took_same q (Input v) i x y σ τ e = e
-took_same q (At_gate t) i x y σ τ e = e
-took_same q (Output o) i x y σ τ e = e
+took_same : (plan : Plan) (s : ℕ) (z : Slot) (i x y : ℕ) (σ τ : State) → HasDone σ τ → HasDone (took_in plan s z i x σ) (took_in plan s z i y τ)
+took_same plan s (Input v) i x y σ τ e = e
+took_same plan s (Mask t side) i x y σ τ e = e
+took_same plan s _ i x y σ τ e = e
+
+opened_same : (plan : Plan) (p s : ℕ) (z : Slot) (σ τ : State) → HasDone σ τ → HasDone (opened_in plan p s z σ) (opened_in plan p s z τ)
+opened_same plan p s (Masked t side) σ τ e = e
+opened_same plan p s _ σ τ e = e
+
+joined_same : (plan : Plan) (s : ℕ) (z : Slot) (σ τ : State) → HasDone σ τ → HasDone (joined_in plan s z σ) (joined_in plan s z τ)
+joined_same plan s (At_gate t) σ τ e = e
+joined_same plan s _ σ τ e = e
 
 after_same : (plan : Plan) (p s : ℕ) (f g : ℕ → ℕ) (x y : ℕ) (got had : ℕ → ℕ) (e : Instruction) (σ τ : State) → HasDone σ τ → HasDone (after plan p s f x got e σ) (after plan p s g y had e τ)
+after_same plan p s f g x y got had (Draw k) σ τ h = drawn_same plan p s f g (slot plan s k) σ τ h
 after_same plan p s f g x y got had (Deal k d) σ τ h = dealt_same plan s f g x y (slot plan s k) σ τ h
+after_same plan p s f g x y got had (Take n i) σ τ h = took_same plan s (slot_of plan n) i (got n) (had n) σ τ h
+after_same plan p s f g x y got had (Open k) σ τ h = opened_same plan p s (slot plan s k) σ τ h
+after_same plan p s f g x y got had (Join k) σ τ h = joined_same plan s (slot plan s k) σ τ h
 after_same plan p s f g x y got had (Post n i) σ τ h = h
-after_same plan p s f g x y got had (Take n i) σ τ h = took_same (2 ^ plan.bits) (slot_of plan n) i (got n) (had n) σ τ h
 after_same plan p s f g x y got had (Linear k) σ τ h = h
 after_same plan p s f g x y got had (Own k) σ τ h = h
 after_same plan p s f g x y got had (Sum k) σ τ h = h
@@ -53,7 +71,12 @@ given plan p s inputs tape got = record { plan = plan; party = p; session = s; i
 
 done_same : (plan : Plan) (p s : ℕ) (xs ys ts us : List ℕ) (got had : ℕ → ℕ) (q : ℕ) → HasDone (state (given plan p s xs ts got) q) (state (given plan p s ys us had) q)
 done_same plan p s xs ys ts us got had zero = (refl, refl)
-done_same plan p s xs ys ts us got had (suc q) = after_same plan p s _ _ _ _ got had (at (program plan p s) q) _ _ (done_same plan p s xs ys ts us got had q)
+done_same plan p s xs ys ts us got had (suc q) =
+    let a : Given = given plan p s xs ts got in
+    let b : Given = given plan p s ys us had in
+    let σ : State = state a q in
+    let τ : State = state b q in
+    after_same plan p s (word_after a σ.drawn) (word_after b τ.drawn) (slice_index xs σ.given) (slice_index ys τ.given) got had (at (program plan p s) q) σ τ (done_same plan p s xs ys ts us got had q)
 
 -- ---- a world of this plan, without inputs and tapes
 
@@ -93,38 +116,69 @@ module _ (plan : Plan) (h : IsSound plan) (s p : ℕ) (ls : s < length plan.sess
 
   module _ (inputs tape : List ℕ) (got : ℕ → ℕ) (many : length inputs ≡ input_count plan p s) (long : length tape ≡ words plan p s) where
     -- the input that is dealt is there
-    has_input : (k : ℕ) → k < slots plan s → deals_in plan s p (slot plan s k) ≡ true → (done : ℕ) → IsNextInput plan s p (slot plan s k) done → HasInput (given plan p s inputs tape got) (slot plan s k) done
-    has_input = slot_cases (session plan s) (λ k z. deals_in plan s p z ≡ true → (done : ℕ) → IsNextInput plan s p z done → HasInput (given plan p s inputs tape got) z done)
-        (λ v lv yes' done next'.
+    has_input : (z : Slot) → Inside (session plan s) z → deals_in plan s p z ≡ true → (done : ℕ) → IsNextInput plan s p z done → HasInput (given plan p s inputs tape got) z done
+    has_input (Input v) lv yes' done next' =
         let c : ℕ → ℕ = λ v. if gives plan s p v then 1 else 0 in
         let one : c v ≡ 1 = cond-true (gives plan s p v) 1 0 yes' in
         let within : total v c + c v ≤ total (length (owners (session plan s))) c = total_within (length (owners (session plan s))) v c lv in
         let few : total v c ≤ v = count_below v (gives plan s p) in
         let wired = (h.sessions s ls).wired in
         let most = wired.wires in
-        let inputs = wired.input_wires in (omega arith, omega arith))
-        (λ t lt yes' done next'. tt)
-        (λ o lo yes' done next'. absurd (no_deal yes'))
+        let inputs = wired.input_wires in (omega arith, omega arith)
+    has_input (At_gate t) inside yes' done next' = tt
+    has_input (Mask_product t) inside yes' done next' = tt
+    has_input (Output o) inside yes' done next' = absurd (false≢true yes')
+    has_input (Mask t side) inside yes' done next' = absurd (false≢true yes')
+    has_input (Masked t side) inside yes' done next' = absurd (false≢true yes')
+
+    abbrev here : ℕ → State
+    here q = state (given plan p s inputs tape got) q
+
+    done : (q : ℕ) → HasDone (here q) (state (local_given bare none s p) q)
+    done q = done_same plan p s inputs (local_given bare none s p).inputs tape (local_given bare none s p).tape got (local_given bare none s p).got q
+
+    right : (q : ℕ) (e : Instruction) → at (program plan p s) q ≡ e → (e ≡ End → ⊥) → Goes bare none s p e (state (local_given bare none s p) q)
+    right q e is ne = subst (λ z. Goes bare none s p z (state (local_given bare none s p) q)) is (goes q (inside q e is ne))
+
+    -- the words of a slot are on the tape
+    words_there : (k n drawn : ℕ) → k < slots plan s → words_in plan s p (slot plan s k) ≡ n → drawn ≡ words_before plan p s k → drawn + n ≤ length tape
+    words_there k n drawn lk some before =
+        let c : ℕ → ℕ = λ k. words_in plan s p (slot plan s k) in
+        let within : total k c + c k ≤ total (slots plan s) c = total_within (slots plan s) k c lk in
+        omega arith
+
+    -- a party that draws finds its words
+    pub draw_at : (q k : ℕ) → at (program plan p s) q ≡ Draw k → CanDraw (given plan p s inputs tape got) (state (given plan p s inputs tape got) q)
+    draw_at q k e =
+        let g = right q (Draw k) e (λ f. cc) in
+        words_there k (least_held plan p (length plan.groups)) (here q).drawn g.1.1 (drawn_there (slot plan s k) g.0.kind) ((done q).0 ∙ g.1.0)
       where
-        no_deal : false ≡ true → ⊥
-        no_deal e = cc
+        drawn_there : (z : Slot) → IsMask z → words_in plan s p z ≡ least_held plan p (length plan.groups)
+        drawn_there (Mask t side) is = refl
+        drawn_there (Input v) is = absurd is
+        drawn_there (At_gate t) is = absurd is
+        drawn_there (Output o) is = absurd is
+        drawn_there (Mask_product t) is = absurd is
+        drawn_there (Masked t side) is = absurd is
 
     -- a deal finds its words and its input
     pub deal_at : (q k d : ℕ) → at (program plan p s) q ≡ Deal k d → CanDealIn (given plan p s inputs tape got) k (state (given plan p s inputs tape got) q)
     deal_at q k d e =
-        let g = subst (λ z. Goes bare none s p z (state (local_given bare none s p) q)) e (goes q (inside q (Deal k d) e (λ f. cc))) in
-        let m : ℕ = length plan.groups in
-        let σ : State = state (given plan p s inputs tape got) q in
-        let done : HasDone σ (state (local_given bare none s p) q) = done_same plan p s inputs (local_given bare none s p).inputs tape (local_given bare none s p).tape got (local_given bare none s p).got q in
-        let here : σ.drawn ≡ words_before plan p s k = done.0 ∙ g.1.0 in
+        let g = right q (Deal k d) e (λ f. cc) in
         let lk : k < slots plan s = g.1.1 in
-        let c : ℕ → ℕ = λ k. words_in plan s p (slot plan s k) in
-        let some : c k ≡ m - 1 = cond-true (deals_in plan s p (slot plan s k)) (m - 1) 0 g.1.2 in
-        let within : total k c + c k ≤ total (slots plan s) c = total_within (slots plan s) k c lk in
+        let is : deals_in plan s p (slot plan s k) ≡ true = g.1.2 in
         record {
-          words = omega arith;
-          input = has_input k lk g.1.2 σ.given (subst (IsNextInput plan s p (slot plan s k)) (sym done.1) g.1.3);
+          words = words_there k (length plan.groups - 1) (here q).drawn lk (dealt_words (slot plan s k) is) ((done q).0 ∙ g.1.0);
+          input = has_input (slot plan s k) ((slots_are_numbered (session plan s)).inside k lk) is (here q).given (subst (IsNextInput plan s p (slot plan s k)) (sym (done q).1) g.1.3);
         }
+      where
+        dealt_words : (z : Slot) → deals_in plan s p z ≡ true → words_in plan s p z ≡ length plan.groups - 1
+        dealt_words (Input v) is = cond-true (deals_in plan s p (Input v)) (length plan.groups - 1) 0 is
+        dealt_words (At_gate t) is = cond-true (deals_in plan s p (At_gate t)) (length plan.groups - 1) 0 is
+        dealt_words (Mask_product t) is = cond-true (deals_in plan s p (Mask_product t)) (length plan.groups - 1) 0 is
+        dealt_words (Output o) is = absurd (false≢true is)
+        dealt_words (Mask t side) is = absurd (false≢true is)
+        dealt_words (Masked t side) is = absurd (false≢true is)
 
 -- ---- the same of what suits the plan
 
@@ -133,3 +187,6 @@ is_proper l h q = proper_at l.plan h.sound l.session l.party h.session h.party q
 
 pub can_deal : (l : Given) → Suits l → (q k d : ℕ) → at (program l.plan l.party l.session) q ≡ Deal k d → CanDealIn l k (state l q)
 can_deal l h q k d e = deal_at l.plan h.sound l.session l.party h.session h.party l.inputs l.tape l.got h.inputs h.tape q k d e
+
+pub can_draw : (l : Given) → Suits l → (q k : ℕ) → at (program l.plan l.party l.session) q ≡ Draw k → CanDraw l (state l q)
+can_draw l h q k e = draw_at l.plan h.sound l.session l.party h.session h.party l.inputs l.tape l.got h.inputs h.tape q k e

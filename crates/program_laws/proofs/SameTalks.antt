@@ -6,10 +6,10 @@ use mathlib.Core.Logic.{inl, inr}
 use Rattle.list_laws.specs.Lists.{joined}
 use Rattle.job_plan.specs.Plans.{Plan, session, slot, slots}
 use Rattle.job_plan.specs.Firsts.{numbers}
-use Rattle.job_plan.specs.Numbers.{message}
+use Rattle.job_plan.specs.Numbers.{message, deals_before}
 use Rattle.job_session.specs.Batches.{batch}
 use Rattle.party_program.specs.declared.program.Instruction.{Instruction}
-use Rattle.party_program.specs.declared.program.Instruction.TheVariants.{Deal, Post, Take, Linear, Own, Sum, Deliver}
+use Rattle.party_program.specs.declared.program.Instruction.TheVariants.{Draw, Deal, Post, Take, Linear, Own, Sum, Open, Join, Deliver}
 use Rattle.party_program.specs.Programs.{from, to, post, take_of, passes, opening, closing, posts, takes, head, tail, tails, program, slot_program}
 use Rattle.program_laws.specs.Talks.{post_no, take_no}
 use Rattle.program_laws.proofs.BatchRuns.{IsKept, whole}
@@ -35,6 +35,12 @@ told_joined f (suc n) g = flat_map-append f (joined n g) (g n) ∙ ap (λ z. z +
 abbrev pub told : Bool → Instruction → List ℕ
 told true = post_no
 told false = take_no
+
+-- it posts and takes nothing
+abbrev pub IsOwn : Instruction → Type 0
+IsOwn (Post n i) = ⊥
+IsOwn (Take n i) = ⊥
+IsOwn _ = Unit {0}
 
 module _ (plan : Plan) (s p : ℕ) where
   -- what is told by heads alone, or by tails alone, stays
@@ -69,30 +75,52 @@ module _ (plan : Plan) (s p : ℕ) where
 
   -- ---- posts and takes
 
-  module _ {A : Type 0} (f : Instruction → List A) where
-    opening_tells : ((k d : ℕ) → f (Deal k d) ≡ []) → ((k : ℕ) → f (Own k) ≡ []) → ((k : ℕ) → f (Linear k) ≡ []) → (k : ℕ) → flat_map f (opening plan p s k (slot plan s k)) ≡ []
-    opening_tells a b c k = none_told f _ (every_opening plan s p (λ e. f e ≡ []) k (λ v e d. a k _) (λ t e d. (b k, a k _)) (λ t e d. c k))
+  -- an instruction that posts or takes no message tells nothing
+  abbrev pub Quiet : {A : Type 0} → (Instruction → List A) → Type 0
+  Quiet f = (e : Instruction) → IsOwn e → f e ≡ []
 
-    closing_tells : ((k : ℕ) → f (Sum k) ≡ []) → ((k : ℕ) → f (Deliver k) ≡ []) → (k : ℕ) → flat_map f (closing plan p s k (slot plan s k)) ≡ []
-    closing_tells a b k = none_told f _ (every_closing plan s p (λ e. f e ≡ []) k (λ t e d. a k) (λ o e. b k))
+  module _ {A : Type 0} (f : Instruction → List A) (own : Quiet f) where
+    opening_tells : (k : ℕ) → flat_map f (opening plan p s k (slot plan s k)) ≡ []
+    opening_tells k = none_told f _ (every_opening plan s p (λ e. f e ≡ []) k (record {
+      draws = λ t side e some. own (Draw k) tt;
+      inputs = λ v e b. own (Deal k (deals_before plan p s k)) tt;
+      products = λ z e is b. (own (Own k) tt, own (Deal k (deals_before plan p s k)) tt);
+      linears = λ t e b. own (Linear k) tt;
+    }))
 
-    pub quiet_head : ((k d : ℕ) → f (Deal k d) ≡ []) → ((k : ℕ) → f (Own k) ≡ []) → ((k : ℕ) → f (Linear k) ≡ []) → ((n i : ℕ) → f (Post n i) ≡ []) → (k : ℕ) → flat_map f (head plan p s k) ≡ []
-    quiet_head a b c d k = flat_map-append f (opening plan p s k (slot plan s k)) (posts plan p s k) ∙ ap₂ (λ x y. x ++ y) (opening_tells a b c k) (map_quiet f (post plan) (filter (from plan p) (numbers plan s k)) (λ n. d n (message plan n).share))
+    closing_tells : (k : ℕ) → flat_map f (closing plan p s k (slot plan s k)) ≡ []
+    closing_tells k = none_told f _ (every_closing plan s p (λ e. f e ≡ []) k (record {
+      sums = λ z e is. own (Sum k) tt;
+      opens = λ t side e. own (Open k) tt;
+      joins = λ t e b. own (Join k) tt;
+      delivers = λ o e. own (Deliver k) tt;
+    }))
 
-    pub quiet_tail : ((n i : ℕ) → f (Take n i) ≡ []) → ((k : ℕ) → f (Sum k) ≡ []) → ((k : ℕ) → f (Deliver k) ≡ []) → (k : ℕ) → flat_map f (tail plan p s k) ≡ []
-    quiet_tail a b c k = flat_map-append f (takes plan p s k) (closing plan p s k (slot plan s k)) ∙ ap₂ (λ x y. x ++ y) (map_quiet f (take_of plan) (filter (to plan p) (numbers plan s k)) (λ n. a n (message plan n).share)) (closing_tells b c k)
+    pub quiet_head : ((n i : ℕ) → f (Post n i) ≡ []) → (k : ℕ) → flat_map f (head plan p s k) ≡ []
+    quiet_head posts' k = flat_map-append f (opening plan p s k (slot plan s k)) (posts plan p s k) ∙ ap₂ (λ x y. x ++ y) (opening_tells k) (map_quiet f (post plan) (filter (from plan p) (numbers plan s k)) (λ n. posts' n (message plan n).share))
+
+    pub quiet_tail : ((n i : ℕ) → f (Take n i) ≡ []) → (k : ℕ) → flat_map f (tail plan p s k) ≡ []
+    quiet_tail takes' k = flat_map-append f (takes plan p s k) (closing plan p s k (slot plan s k)) ∙ ap₂ (λ x y. x ++ y) (map_quiet f (take_of plan) (filter (to plan p) (numbers plan s k)) (λ n. takes' n (message plan n).share)) (closing_tells k)
+
+  no_posts : Quiet post_no
+  no_posts (Post n i) h = absurd h
+  no_posts _ h = refl
+
+  no_takes : Quiet take_no
+  no_takes (Take n i) h = absurd h
+  no_takes _ h = refl
 
   head_posts : (k : ℕ) → flat_map post_no (head plan p s k) ≡ filter (from plan p) (numbers plan s k)
-  head_posts k = flat_map-append post_no (opening plan p s k (slot plan s k)) (posts plan p s k) ∙ ap₂ (λ x y. x ++ y) (opening_tells post_no (λ k d. refl) (λ k. refl) (λ k. refl) k) (map_told post_no (post plan) _ (λ n. refl))
+  head_posts k = flat_map-append post_no (opening plan p s k (slot plan s k)) (posts plan p s k) ∙ ap₂ (λ x y. x ++ y) (opening_tells post_no no_posts k) (map_told post_no (post plan) _ (λ n. refl))
 
   head_takes : (k : ℕ) → flat_map take_no (head plan p s k) ≡ []
-  head_takes = quiet_head take_no (λ k d. refl) (λ k. refl) (λ k. refl) (λ n i. refl)
+  head_takes = quiet_head take_no no_takes (λ n i. refl)
 
   tail_posts : (k : ℕ) → flat_map post_no (tail plan p s k) ≡ []
-  tail_posts = quiet_tail post_no (λ n i. refl) (λ k. refl) (λ k. refl)
+  tail_posts = quiet_tail post_no no_posts (λ n i. refl)
 
   tail_takes : (k : ℕ) → flat_map take_no (tail plan p s k) ≡ filter (to plan p) (numbers plan s k)
-  tail_takes k = flat_map-append take_no (takes plan p s k) (closing plan p s k (slot plan s k)) ∙ ap₂ (λ x y. x ++ y) (map_told take_no (take_of plan) _ (λ n. refl)) (closing_tells take_no (λ k. refl) (λ k. refl) k) ∙ append-nil _
+  tail_takes k = flat_map-append take_no (takes plan p s k) (closing plan p s k (slot plan s k)) ∙ ap₂ (λ x y. x ++ y) (map_told take_no (take_of plan) _ (λ n. refl)) (closing_tells take_no no_takes k) ∙ append-nil _
 
   pub posts_stay : flat_map post_no (program plan p s) ≡ flat_map post_no (joined (slots plan s) (slot_program plan p s))
   posts_stay = told_stays post_no (inr tail_posts)

@@ -7,24 +7,25 @@ use mathlib.Core.Logic.{inl, inr}
 use Rattle.circuit_model.specs.Circuits.{set_at}
 use Rattle.job_session.specs.Sessions.{Slot}
 use Rattle.job_plan.specs.Plans.{Plan}
-use Rattle.job_session.specs.Sessions.Slot.{Input, At_gate, Output}
+use Rattle.job_session.specs.Sessions.Slot.{Input, Mask}
 use Rattle.job_plan.specs.Numbers.{message}
 use Rattle.party_program.specs.Programs.{take_of}
-use Rattle.party_program.specs.States.{Given, State, next, after_all, took_in, slot_of}
+use Rattle.party_program.specs.States.{Given, State, next, after_all, took_in, with_summand, slot_of}
 use Rattle.circuit_model.proofs.SetAt.{set_here, set_there}
 
-abbrev pub IsOther : Slot → Type 0
-IsOther (Input v) = ⊥
-IsOther (At_gate t) = Unit {0}
-IsOther (Output o) = Unit {0}
+-- the words of such a slot are added up
+abbrev pub Adds : Slot → Type 0
+Adds (Input v) = ⊥
+Adds (Mask t side) = ⊥
+Adds _ = Unit {0}
 
 abbrev pub with_sums : State → (ℕ → ℕ) → State
 with_sums σ f = record σ { sums = f }
 
-took_other : (q : ℕ) (z : Slot) (i w : ℕ) (σ : State) → IsOther z → took_in q z i w σ ≡ with_sums σ (set_at σ.sums i ((σ.sums i + w) % q))
-took_other q (Input v) i w σ h = absurd h
-took_other q (At_gate t) i w σ h = refl
-took_other q (Output o) i w σ h = refl
+took_sum : (plan : Plan) (s : ℕ) (z : Slot) (i w : ℕ) (σ : State) → Adds z → took_in plan s z i w σ ≡ with_sums σ (set_at σ.sums i ((σ.sums i + w) % 2 ^ plan.bits))
+took_sum plan s (Input v) i w σ h = absurd h
+took_sum plan s (Mask t side) i w σ h = absurd h
+took_sum plan s _ i w σ h = refl
 
 -- what the words of these numbers add to summand i
 abbrev pub tally : Given → ℕ → List ℕ → ℕ
@@ -37,17 +38,18 @@ pub record SumsOf (m q : ℕ) (σ τ : State) (x : ℕ → ℕ) : Type 0 where
   pub drawn : τ.drawn ≡ σ.drawn
   pub given : τ.given ≡ σ.given
   pub outputs : τ.outputs ≡ σ.outputs
+  pub excess : τ.excess ≡ σ.excess
   pub sums : (i : ℕ) → i < m → τ.sums i ≡ x i % q
 
-pub takes_sums : (l : Given) (m : ℕ) (z : Slot) (ns : List ℕ) (σ : State) (x : ℕ → ℕ) → IsOther z → AllByRecursion (λ n. slot_of l.plan n ≡ z) ns → ((i : ℕ) → i < m → σ.sums i ≡ x i % 2 ^ l.plan.bits)
+pub takes_sums : (l : Given) (m : ℕ) (z : Slot) (ns : List ℕ) (σ : State) (x : ℕ → ℕ) → Adds z → AllByRecursion (λ n. slot_of l.plan n ≡ z) ns → ((i : ℕ) → i < m → σ.sums i ≡ x i % 2 ^ l.plan.bits)
     → SumsOf m (2 ^ l.plan.bits) σ (after_all l (map (take_of l.plan) ns) σ) (λ i. x i + tally l i ns)
-takes_sums l m z [] σ x o all h = record { rows = refl; drawn = refl; given = refl; outputs = refl; sums = λ i li. h i li ∙ (let same : x i ≡ x i + 0 = omega arith in ap (λ y. y % 2 ^ l.plan.bits) same) }
+takes_sums l m z [] σ x o all h = record { rows = refl; drawn = refl; given = refl; outputs = refl; excess = refl; sums = λ i li. h i li ∙ (let same : x i ≡ x i + 0 = omega arith in ap (λ y. y % 2 ^ l.plan.bits) same) }
 takes_sums l m z (n ∷ ns) σ x o all h =
     let q : ℕ = 2 ^ l.plan.bits in
     let j : ℕ = (message l.plan n).share in
     let w : ℕ = l.got n in
     let τ : State = with_sums σ (set_at σ.sums j ((σ.sums j + w) % q)) in
-    let is : next l (take_of l.plan n) σ ≡ τ = ap (λ y. took_in q y j w σ) all.0 ∙ took_other q z j w σ o in
+    let is : next l (take_of l.plan n) σ ≡ τ = ap (λ y. took_in l.plan l.session y j w σ) all.0 ∙ took_sum l.plan l.session z j w σ o in
     let y : ℕ → ℕ = λ i. x i + (if nat_eq i j then w else 0) in
     let here : (i : ℕ) → i < m → τ.sums i ≡ y i % q = λ i li. elim (cases_eq i j) [
       | inl e ↦ set_here σ.sums j i _ e ∙ ap (λ a. (a + w) % q) (ap σ.sums (sym e) ∙ h i li) ∙ mod-add-mod (x i) q w
@@ -61,6 +63,7 @@ takes_sums l m z (n ∷ ns) σ x o all h =
       drawn = rest.drawn;
       given = rest.given;
       outputs = rest.outputs;
+      excess = rest.excess;
       sums = λ i li. rest.sums i li ∙ (let same : y i + tally l i ns ≡ x i + tally l i (n ∷ ns) = omega arith in ap (λ a. a % q) same);
     })
 
@@ -79,16 +82,21 @@ pub record RowOf (l : Given) (v : ℕ) (ns : List ℕ) (g : ℕ → ℕ) (σ τ 
   pub drawn : τ.drawn ≡ σ.drawn
   pub given : τ.given ≡ σ.given
   pub outputs : τ.outputs ≡ σ.outputs
+  pub excess : τ.excess ≡ σ.excess
 
-pub takes_row : (l : Given) (v : ℕ) (ns : List ℕ) (g : ℕ → ℕ) (σ : State) → AllByRecursion (λ n. (slot_of l.plan n ≡ Input v) × (l.got n ≡ g (message l.plan n).share)) ns
+-- a word that is taken in slot z is put into row v
+abbrev pub Writes : Given → Slot → ℕ → Type 0
+Writes l z v = (i w : ℕ) (σ : State) → took_in l.plan l.session z i w σ ≡ with_summand v i w σ
+
+pub takes_row : (l : Given) (z : Slot) (v : ℕ) (ns : List ℕ) (g : ℕ → ℕ) (σ : State) → Writes l z v → AllByRecursion (λ n. (slot_of l.plan n ≡ z) × (l.got n ≡ g (message l.plan n).share)) ns
     → RowOf l v ns g σ (after_all l (map (take_of l.plan) ns) σ)
-takes_row l v [] g σ all = record { others = λ u i ne. refl; kept = λ i h. h; has = λ i h. absurd h; sums = refl; drawn = refl; given = refl; outputs = refl }
-takes_row l v (n ∷ ns) g σ all =
+takes_row l z v [] g σ writes all = record { others = λ u i ne. refl; kept = λ i h. h; has = λ i h. absurd h; sums = refl; drawn = refl; given = refl; outputs = refl; excess = refl }
+takes_row l z v (n ∷ ns) g σ writes all =
     let j : ℕ = (message l.plan n).share in
     let w : ℕ = l.got n in
-    let τ : State = took_in (2 ^ l.plan.bits) (Input v) j w σ in
-    let is : next l (take_of l.plan n) σ ≡ τ = ap (λ y. took_in (2 ^ l.plan.bits) y j w σ) all.0.0 in
-    let rest = takes_row l v ns g τ all.1 in
+    let τ : State = with_summand v j w σ in
+    let is : next l (take_of l.plan n) σ ≡ τ = ap (λ y. took_in l.plan l.session y j w σ) all.0.0 ∙ writes j w σ in
+    let rest = takes_row l z v ns g τ writes all.1 in
     let row : τ.rows v ≡ set_at (σ.rows v) j w = set_here σ.rows v v (set_at (σ.rows v) j w) refl in
     let put : (i : ℕ) → j ≡ i → τ.rows v i ≡ g i = λ i e. ap (λ f. f i) row ∙ set_here (σ.rows v) j i w (sym e) ∙ all.0.1 ∙ ap g e in
     subst (λ a. RowOf l v (n ∷ ns) g σ (after_all l (map (take_of l.plan) ns) a)) (sym is)
@@ -103,4 +111,5 @@ takes_row l v (n ∷ ns) g σ all =
       drawn = rest.drawn;
       given = rest.given;
       outputs = rest.outputs;
+      excess = rest.excess;
     })

@@ -41,11 +41,15 @@ any_joined p i (suc n) k f l h = elim (cases_eq k n) [
   | inr ne ↦ any_left p i (joined n f) (f n) (any_joined p i n k f (omega arith) h)
 ]
 
+-- where each summand is dealt by a sender of its own
+pub row_any : (plan : Plan) (s k : ℕ) (sender : ℕ → ℕ) (p i : ℕ) → p < plan.parties → i < length plan.groups → p ≢ sender i → holds plan p i ≡ true → Any p i (joined (length plan.groups) (λ j. joined plan.parties (deal_message plan s k (sender j) j)))
+row_any plan s k sender p i lp li ne has =
+    any_joined p i (length plan.groups) i (λ j. joined plan.parties (deal_message plan s k (sender j) j)) li
+    (any_joined p i plan.parties p (deal_message plan s k (sender i) i) lp
+    (subst (Any p i) (sym (cond-true (not (nat_eq p (sender i)) && holds plan p i) _ [] (and_from _ _ (not_from_false _ (ne_eqb p (sender i) ne)) has))) (inl (refl, refl))))
+
 pub deal_any : (plan : Plan) (s k o p i : ℕ) → p < plan.parties → i < length plan.groups → p ≢ o → holds plan p i ≡ true → Any p i (deal_messages plan s k o)
-deal_any plan s k o p i lp li ne has =
-    any_joined p i (length plan.groups) i (λ i. joined plan.parties (deal_message plan s k o i)) li
-    (any_joined p i plan.parties p (deal_message plan s k o i) lp
-    (subst (Any p i) (sym (cond-true (not (nat_eq p o) && holds plan p i) _ [] (and_from _ _ (not_from_false _ (ne_eqb p o ne)) has))) (inl (refl, refl))))
+deal_any plan s k o = row_any plan s k (λ j. o)
 
 pub any_number : (plan : Plan) (p i : ℕ) (ns : List ℕ) → Any p i (map (message plan) ns) → Has plan i (filter (to plan p) ns)
 any_number plan p i [] h = absurd h
@@ -96,6 +100,10 @@ pub one_tally : (got : Key → ℕ) (p i : ℕ) (b : Bool) (x : Key) → key_tal
 one_tally got p i true x = omega arith
 one_tally got p i false x = refl
 
+pub no_words : (b : Bool) → ◌≡◌ {A = ℕ} (if b then 0 else 0) 0
+no_words true = refl
+no_words false = refl
+
 module _ (plan : Plan) (got : Key → ℕ) (s k p i : ℕ) (lp : p < plan.parties) (li : i < length plan.groups) (has : holds plan p i ≡ true) where
   abbrev key : ℕ → ℕ → ℕ → Key
   key d j r = record { session = s; slot = k; share = j; sender = d; receiver = r }
@@ -109,9 +117,9 @@ module _ (plan : Plan) (got : Key → ℕ) (s k p i : ℕ) (lp : p < plan.partie
       let rows : (j : ℕ) → key_tally got p i (joined plan.parties (deal_message plan s k d j)) ≡ row j = λ j.
       key_tally-joined got p i plan.parties (deal_message plan s k d j) ∙ total_eq plan.parties _ _ (λ r lr. one_tally got p i (test d j r) (key d j r)) in
       let other : (j r : ℕ) → r ≢ p → (if test d j r then weight got p i (key d j r) else 0) ≡ 0 = λ j r ne.
-      ap (λ z. if test d j r then z else 0) (cond-false (nat_eq r p) _ 0 (ne_eqb r p ne)) ∙ nothing (test d j r) in
+      ap (λ z. if test d j r then z else 0) (cond-false (nat_eq r p) _ 0 (ne_eqb r p ne)) ∙ no_words (test d j r) in
       let column : (j : ℕ) → row j ≡ (if test d j p then weight got p i (key d j p) else 0) = λ j. total_only plan.parties p _ lp (λ r lr ne. other j r ne) in
-      let elsewhere : (j : ℕ) → j ≢ i → row j ≡ 0 = λ j ne. column j ∙ ap (λ z. if test d j p then z else 0) (cond-true (nat_eq p p) _ 0 (eq-eqb p p refl) ∙ cond-false (nat_eq i j) _ 0 (ne_eqb i j (λ e. ne (sym e)))) ∙ nothing (test d j p) in
+      let elsewhere : (j : ℕ) → j ≢ i → row j ≡ 0 = λ j ne. column j ∙ ap (λ z. if test d j p then z else 0) (cond-true (nat_eq p p) _ 0 (eq-eqb p p refl) ∙ cond-false (nat_eq i j) _ 0 (ne_eqb i j (λ e. ne (sym e)))) ∙ no_words (test d j p) in
       key_tally-joined got p i (length plan.groups) (λ j. joined plan.parties (deal_message plan s k d j))
       ∙ total_eq (length plan.groups) _ row (λ j lj. rows j)
       ∙ total_only (length plan.groups) i row li (λ j lj ne. elsewhere j ne)
@@ -121,7 +129,3 @@ module _ (plan : Plan) (got : Key → ℕ) (s k p i : ℕ) (lp : p < plan.partie
         | inl e ↦ cond-false (test d i p) _ 0 (and_left _ _ (not_from_true _ (eq-eqb p d (sym e)))) ∙ sym (cond-true (nat_eq d p) 0 _ (eq-eqb d p e))
         | inr ne ↦ cond-true (test d i p) _ 0 (and_from _ _ (not_from_false _ (ne_eqb p d (λ e. ne (sym e)))) has) ∙ sym (cond-false (nat_eq d p) 0 _ (ne_eqb d p ne))
       ]
-    where
-      nothing : (b : Bool) → ◌≡◌ {A = ℕ} (if b then 0 else 0) 0
-      nothing true = refl
-      nothing false = refl

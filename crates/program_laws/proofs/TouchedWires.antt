@@ -1,65 +1,134 @@
 -- What wires an instruction sets and reads.
-use Rattle.std.proofs.Common.{◌≡◌, ◌≢◌, ◌⊎◌, ℕ, ◌+◌, ◌*◌, ◌<◌, ◌≤◌, true, not, ◌&&◌, nat_eq, List, [], ◌∷◌, length, refl, sym, ap, ◌∙◌, subst, arith}
-use Rattle.std.specs.Prelude.{slice_index}
+use Rattle.std.proofs.Common.{◌≡◌, ◌≢◌, ◌⊎◌, ℕ, ◌+◌, ◌*◌, ◌<◌, ◌≤◌, true, false, not, ◌&&◌, nat_eq, List, [], ◌∷◌, length, refl, sym, ap, ◌∙◌, subst, arith}
 use Rattle.std.specs.List.{AllByRecursion, list_any}
-use Rattle.std.proofs.lemmas.Bool.{cond-true, and_from, eq-eqb, false≢true}
+use Rattle.std.proofs.lemmas.Bool.{and_parts, both_ways, eq-eqb, false≢true}
 use mathlib.Core.Logic.{inl, inr}
-use Rattle.list_laws.specs.Lists.{joined, only_if}
+use Rattle.list_laws.specs.Lists.{joined}
 use Rattle.list_laws.proofs.JoinedLists.{every_joined, every_only_if}
 use Rattle.circuit_model.specs.Circuits.{is_product}
-use Rattle.circuit_model.specs.Netlists.{read_by}
-use Rattle.job_session.specs.Sessions.{Session, Slot, owners, gate, output_wire}
-use Rattle.job_session.specs.Sessions.Slot.{Input, At_gate, Output}
+use Rattle.secret_sharing.specs.Schemes.{has_pair}
+use Rattle.job_session.specs.Sessions.{Session, Slot, gate, is_direct, is_prepared, operand, output_wire, mask_wire, product_wire, product_in}
+use Rattle.job_session.specs.Sessions.Slot.{Input, At_gate, Output, Mask, Mask_product, Masked}
 use Rattle.job_session.specs.KeptWires.{is_read, slot_sets, slot_reads, sets_in, reads_in}
-use Rattle.job_plan.specs.Plans.{Plan, IsPlan, session, slot, slots, holds, least_holder, deals_in, opens_to}
+use Rattle.job_session.specs.Batches.{completes, slot_completes, is_join}
+use Rattle.job_session.proofs.KeptRows.{sets_one}
+use Rattle.job_plan.specs.Plans.{Plan, IsPlan, scheme, session, slot, slots, holds, least_holder, deals_in, opens_to, giver}
 use Rattle.job_plan.specs.declared.key.Key.{Key}
-use Rattle.job_plan.specs.Messages.{slot_messages, deal_message, deal_messages, open_messages}
+use Rattle.job_plan.specs.Messages.{slot_messages, product_messages, deal_message, open_messages}
 use Rattle.job_plan.specs.Numbers.{message, no_key}
 use Rattle.job_plan.specs.Sound.{IsSound}
 use Rattle.job_plan.proofs.DistinctMessages.{every_place}
 use Rattle.job_plan.proofs.MessageSlots.{IsThere}
 use Rattle.job_plan.proofs.PlanSchemes.{least_holds}
-use Rattle.job_session.specs.Batches.{completes, slot_completes}
 use Rattle.party_program.specs.declared.program.Instruction.{Instruction}
-use Rattle.party_program.specs.declared.program.Instruction.TheVariants.{Deal, Post, Take, Linear, Own, Sum, Deliver, End}
+use Rattle.party_program.specs.declared.program.Instruction.TheVariants.{Draw, Deal, Post, Take, Linear, Own, Sum, Open, Join, Deliver, End}
 use Rattle.party_program.specs.Programs.{program, at}
-use Rattle.party_program.specs.States.{slot_of, gate_in_slot, output_in_slot}
-use Rattle.program_laws.specs.WordsRead.{gate_at, Deals, Carries, SetsSummand, ReadsSummand}
+use Rattle.party_program.specs.Proper.{IsMasked, IsOutput}
+use Rattle.party_program.specs.States.{slot_of}
+use Rattle.program_laws.specs.WordsRead.{gate_at, Deals, Takes, Carries, SetsSummand, ReadsSummand}
+use Rattle.program_laws.proofs.FreeSlots.{completes_sets, joined_completes, product_completes, direct_unprepared, no_product}
 use Rattle.program_laws.proofs.OnceInSlots.{there}
-use Rattle.program_laws.proofs.ProgramParts.{Fits, Names, fits, is_plan}
+use Rattle.program_laws.proofs.ProgramParts.{Multiplied, Fits, Names, dealing, fits, is_plan}
 use Rattle.program_laws.proofs.Ranks.{named, part_at, step_at, past}
-use Rattle.share_world.proofs.Settled.{is_one, of_one}
+use Rattle.share_world.proofs.Settled.{is_one, is_first, is_second}
 
--- no slot sets two wires
-pub one_set : (x : Session) (z : Slot) (v w : ℕ) → list_any (nat_eq v) (sets_in x z) ≡ true → list_any (nat_eq w) (sets_in x z) ≡ true → v ≡ w
-one_set x (Input u) v w a b = of_one u v a ∙ sym (of_one u w b)
-one_set x (At_gate t) v w a b = of_one (gate x t).output v a ∙ sym (of_one (gate x t).output w b)
-one_set x (Output o) v w a b = absurd (false≢true a)
+-- ---- slots in which something is dealt or taken
 
--- what is dealt in a slot is of the wire that it sets
-pub deal_sets : (x : Session) (z : Slot) (v : ℕ) → Deals x z v → list_any (nat_eq v) (sets_in x z) ≡ true
-deal_sets x (Input u) v e = is_one u v e
-deal_sets x (At_gate t) v e = is_one (gate x t).output v e
-deal_sets x (Output o) v e = absurd e
+module _ (x : Session) where
+  -- what is dealt in a slot is of the wire that it sets
+  pub deal_sets : (z : Slot) (v : ℕ) → Deals x z v → list_any (nat_eq v) (sets_in x z) ≡ true
+  deal_sets (Input u) v e = is_one u v e
+  deal_sets (At_gate t) v e = is_one (gate x t).output v e
+  deal_sets (Mask_product t) v e = is_one (product_wire x t) v e
+  deal_sets (Output o) v e = absurd e
+  deal_sets (Mask t side) v e = absurd e
+  deal_sets (Masked t side) v e = absurd e
 
--- ---- who sends a message of a slot deals there, or holds the summand
+  -- and so is what is taken there, by which the wire is complete, and of which the slot reads nothing
+  pub record TakesThere (z : Slot) (v : ℕ) : Type 0 where
+    pub complete : list_any (nat_eq v) (completes x z) ≡ true
+    pub reads : (u : ℕ) → list_any (nat_eq u) (reads_in x z) ≡ false
+    pub joins : is_join x z ≡ false
+
+  pub takes_there : (z : Slot) (v : ℕ) → Takes x z v → TakesThere z v
+  takes_there (Input u) v e = record { complete = is_one u v e; reads = λ u. refl; joins = refl }
+  takes_there (Mask t side) v e = record { complete = is_one (mask_wire x t side) v e; reads = λ u. refl; joins = refl }
+  takes_there (At_gate t) v e = absurd e
+  takes_there (Output o) v e = absurd e
+  takes_there (Mask_product t) v e = absurd e
+  takes_there (Masked t side) v e = absurd e
+
+  -- the wire of a product that is dealt is that of the deal
+  deals_output : (z : Slot) (v : ℕ) → Multiplied x z → v ≡ (product_in x z).output → Deals x z v
+  deals_output (At_gate t) v is e = e
+  deals_output (Mask_product t) v is e = e
+  deals_output (Input u) v is e = absurd is
+  deals_output (Output o) v is e = absurd is
+  deals_output (Mask t side) v is e = absurd is
+  deals_output (Masked t side) v is e = absurd is
+
+  -- no such product is joined
+  multiplied_apart : (z : Slot) → Multiplied x z → is_join x z ≡ false
+  multiplied_apart (At_gate t) direct = direct_unprepared x.prepared (is_product (gate x t).operation) direct
+  multiplied_apart (Mask_product t) is = refl
+  multiplied_apart (Input u) is = absurd is
+  multiplied_apart (Output o) is = absurd is
+  multiplied_apart (Mask t side) is = absurd is
+  multiplied_apart (Masked t side) is = absurd is
+
+  -- a slot that reads in its tail: a product that is joined, or what is opened
+  abbrev pub ReadsLate : Slot → Type 0
+  ReadsLate (At_gate t) = is_prepared x t ≡ true
+  ReadsLate (Output o) = Unit {0}
+  ReadsLate (Masked t side) = Unit {0}
+  ReadsLate _ = ⊥
+
+  late_output : (z : Slot) → IsOutput z → ReadsLate z
+  late_output (Output o) is = tt
+  late_output (Input u) is = absurd is
+  late_output (At_gate t) is = absurd is
+  late_output (Mask t side) is = absurd is
+  late_output (Mask_product t) is = absurd is
+  late_output (Masked t side) is = absurd is
+
+  late_masked : (z : Slot) → IsMasked z → ReadsLate z
+  late_masked (Masked t side) is = tt
+  late_masked (Input u) is = absurd is
+  late_masked (At_gate t) is = absurd is
+  late_masked (Output o) is = absurd is
+  late_masked (Mask t side) is = absurd is
+  late_masked (Mask_product t) is = absurd is
+
+-- ---- who sends a message of a slot deals there, draws the summand of a mask, or holds what is opened
 
 abbrev Sends : Plan → ℕ → ℕ → Slot → ℕ → Type 0
 Sends plan s p (Output o) i = holds plan p i ≡ true
+Sends plan s p (Masked t side) i = holds plan p i ≡ true
+Sends plan s p (Mask t side) i = least_holder plan i ≡ p
 Sends plan s p z i = deals_in plan s p z ≡ true
 
-sent_by : (plan : Plan) (s k d : ℕ) (P : Key → Type 0) → ((i r : ℕ) → P (record { session = s; slot = k; share = i; sender = d; receiver = r })) → AllByRecursion P (deal_messages plan s k d)
-sent_by plan s k d P h = every_joined P (length plan.groups) (λ i. joined plan.parties (deal_message plan s k d i)) (λ i li. every_joined P plan.parties (deal_message plan s k d i) (λ r lr. every_only_if P (not (nat_eq r d) && holds plan r i) (record { session = s; slot = k; share = i; sender = d; receiver = r } ∷ []) (λ e. (h i r, tt))))
+module _ (plan : Plan) (h : IsPlan plan) (s k : ℕ) where
+  sent_by : (sender : ℕ → ℕ) (P : Key → Type 0) → ((i r : ℕ) → P (record { session = s; slot = k; share = i; sender = sender i; receiver = r }))
+      → AllByRecursion P (joined (length plan.groups) (λ i. joined plan.parties (deal_message plan s k (sender i) i)))
+  sent_by sender P each = every_joined P (length plan.groups) _ (λ i li. every_joined P plan.parties _ (λ r lr. every_only_if P (not (nat_eq r (sender i)) && holds plan r i) _ (λ e. (each i r, tt))))
 
-sent : (plan : Plan) → IsPlan plan → (s k : ℕ) (z : Slot) → AllByRecursion (λ y. Sends plan s y.sender z y.share) (slot_messages plan s k z)
-sent plan h s k (Input v) = let o : ℕ = slice_index (owners (session plan s)) v in sent_by plan s k o (λ y. deals_in plan s y.sender (Input v) ≡ true) (λ i r. eq-eqb o o refl)
-sent plan h s k (At_gate t) =
-    let P : Key → Type 0 = λ y. deals_in plan s y.sender (At_gate t) ≡ true in
-    every_joined P plan.parties (λ d. only_if (deals_in plan s d (At_gate t)) (deal_messages plan s k d)) (λ d ld. every_only_if P (deals_in plan s d (At_gate t)) (deal_messages plan s k d) (λ e. sent_by plan s k d P (λ i r. e)))
-sent plan h s k (Output o) =
-    let P : Key → Type 0 = λ y. holds plan y.sender y.share ≡ true in
-    every_joined P plan.parties (λ r. only_if (opens_to plan s r (Output o)) (open_messages plan s k r)) (λ r lr. every_only_if P (opens_to plan s r (Output o)) (open_messages plan s k r) (λ e.
-    every_joined P (length plan.groups) (λ i. only_if (not (holds plan r i)) (record { session = s; slot = k; share = i; sender = least_holder plan i; receiver = r } ∷ [])) (λ i li. every_only_if P (not (holds plan r i)) (record { session = s; slot = k; share = i; sender = least_holder plan i; receiver = r } ∷ []) (λ e. (least_holds plan h i li, tt)))))
+  sent_product : (z : Slot) → AllByRecursion (λ y. deals_in plan s y.sender z ≡ true) (product_messages plan s k z)
+  sent_product z =
+      let P : Key → Type 0 = λ y. deals_in plan s y.sender z ≡ true in
+      every_joined P plan.parties _ (λ d ld. every_only_if P (deals_in plan s d z) _ (λ e. sent_by (λ i. d) P (λ i r. e)))
+
+  sent_opening : (r : ℕ) → AllByRecursion (λ y. holds plan y.sender y.share ≡ true) (open_messages plan s k r)
+  sent_opening r =
+      let P : Key → Type 0 = λ y. holds plan y.sender y.share ≡ true in
+      every_joined P (length plan.groups) _ (λ i li. every_only_if P (not (holds plan r i)) _ (λ e. (least_holds plan h i li, tt)))
+
+  sent : (z : Slot) → AllByRecursion (λ y. Sends plan s y.sender z y.share) (slot_messages plan s k z)
+  sent (Input v) = let o : ℕ = giver plan s v in sent_by (λ i. o) (λ y. deals_in plan s y.sender (Input v) ≡ true) (λ i r. eq-eqb o o refl)
+  sent (At_gate t) = sent_product (At_gate t)
+  sent (Output o) = let P : Key → Type 0 = λ y. holds plan y.sender y.share ≡ true in every_joined P plan.parties _ (λ r lr. every_only_if P (opens_to plan s r (Output o)) _ (λ e. sent_opening r))
+  sent (Mask t side) = sent_by (least_holder plan) (λ y. least_holder plan y.share ≡ y.sender) (λ i r. refl)
+  sent (Mask_product t) = sent_product (Mask_product t)
+  sent (Masked t side) = every_joined (λ y. holds plan y.sender y.share ≡ true) plan.parties _ (λ r lr. sent_opening r)
 
 module _ (plan : Plan) (sound : IsSound plan) (s p : ℕ) (ls : s < length plan.sessions) (lp : p < plan.parties) where
   abbrev x : Session
@@ -72,7 +141,7 @@ module _ (plan : Plan) (sound : IsSound plan) (s p : ℕ) (ls : s < length plan.
   fit = fits plan sound s p ls
 
   -- own products stand at products
-  pub own_at : (q k : ℕ) → at es q ≡ Own k → (t : ℕ) × (slot plan s k ≡ At_gate t) × (is_product (gate x t).operation ≡ true)
+  pub own_at : (q k : ℕ) → at es q ≡ Own k → Multiplied x (slot plan s k)
   own_at q k is = (fit q (Own k) is (λ e. cc)).1
 
   sends_own : (n i : ℕ) → Names plan s n i → (message plan n).sender ≡ p → Sends plan s p (slot_of plan n) i
@@ -90,117 +159,204 @@ module _ (plan : Plan) (sound : IsSound plan) (s p : ℕ) (ls : s < length plan.
   never : {A : Type 0} (n m : ℕ) → n < m → n ≡ m → A
   never n m l e = absurd (omega arith)
 
+  -- what is not so can't be
+  unless : {A : Type 0} (z : Slot) → is_join x z ≡ false → is_join x z ≡ true → A
+  unless z unjoined joins = absurd (both_ways (is_join x z) unjoined joins)
+
   -- ---- the wire that an instruction sets
 
-  -- its slot sets the wire; where it is of a tail, it completes it; and no instruction of a gate comes before the first
+  -- its slot sets the wire, and where it is of a tail, completes it. No instruction of a slot that reads comes before the
+  -- first that reads, and where the slot joins, it is its last
   pub record Sets (e : Instruction) (v : ℕ) : Type 0 where
     pub within : named plan e < slots plan s
     pub sets : slot_sets x (named plan e) v ≡ true
     pub late : part_at e ≡ 1 → slot_completes x (named plan e) v ≡ true
-    pub beyond : (t : ℕ) → slot plan s (named plan e) ≡ At_gate t → 1 ≤ part_at e + step_at e + past e
+    pub beyond : (u : ℕ) → slot_reads x (named plan e) u ≡ true → 1 ≤ part_at e + step_at e + past e
+    pub joins : is_join x (slot plan s (named plan e)) ≡ true → (part_at e ≡ 1) × (2 ≤ step_at e + past e)
+
+  sets_taken : (e : Instruction) (v : ℕ) → named plan e < slots plan s → Takes x (slot plan s (named plan e)) v → Sets e v
+  sets_taken e v lk h =
+      let z : Slot = slot plan s (named plan e) in
+      let it = takes_there x z v h in record {
+        within = lk;
+        sets = completes_sets x z v it.complete;
+        late = λ f. it.complete;
+        beyond = λ u reads. absurd (both_ways (list_any (nat_eq u) (reads_in x z)) (it.reads u) reads);
+        joins = unless z it.joins;
+      }
+
+  dealt_apart : (z : Slot) (v : ℕ) → Deals x z v → deals_in plan s p z ≡ true → is_join x z ≡ false
+  dealt_apart (Input u) v h e = refl
+  dealt_apart (At_gate t) v h e = multiplied_apart x (At_gate t) (and_parts (is_direct x t) (has_pair (scheme plan) p) e).0
+  dealt_apart (Mask_product t) v h e = refl
+  dealt_apart (Output o) v h e = absurd h
+  dealt_apart (Mask t side) v h e = absurd h
+  dealt_apart (Masked t side) v h e = absurd h
+
+  -- a product that is dealt is complete by its sum
+  summed_there : (k v : ℕ) → Multiplied x (slot plan s k) → v ≡ (gate_at plan s k).output → slot_completes x k v ≡ true
+  summed_there k v is e = subst (λ u. slot_completes x k u ≡ true) (sym e) (product_completes x (slot plan s k) is)
 
   pub gate_sets : (k t v : ℕ) → slot plan s k ≡ At_gate t → v ≡ (gate_at plan s k).output → slot_sets x k v ≡ true
-  gate_sets k t v here e = ap (λ z. list_any (nat_eq v) (sets_in x z)) here ∙ is_one (gate x t).output v (e ∙ ap (λ z. (gate_in_slot x z).output) here)
+  gate_sets k t v here e = ap (λ z. list_any (nat_eq v) (sets_in x z)) here ∙ is_one (gate x t).output v (e ∙ ap (λ z. (product_in x z).output) here)
 
-  pub product_completes : (k t v : ℕ) → slot plan s k ≡ At_gate t → is_product (gate x t).operation ≡ true → v ≡ (gate x t).output → slot_completes x k v ≡ true
-  product_completes k t v here product e =
-      ap (λ z. list_any (nat_eq v) (completes x z)) here ∙ ap (list_any (nat_eq v)) (cond-true (is_product (gate x t).operation) ((gate x t).output ∷ []) [] product) ∙ is_one (gate x t).output v e
+  pub joined_there : (k t v : ℕ) → slot plan s k ≡ At_gate t → is_prepared x t ≡ true → v ≡ (gate_at plan s k).output → slot_completes x k v ≡ true
+  joined_there k t v here prepared e =
+      let out : v ≡ (gate x t).output = e ∙ ap (λ z. (product_in x z).output) here in
+      ap (λ z. list_any (nat_eq v) (completes x z)) here ∙ subst (λ u. list_any (nat_eq u) (completes x (At_gate t)) ≡ true) (sym out) (joined_completes x t prepared)
 
-  sets_of : (q : ℕ) (e : Instruction) → at es q ≡ e → (v i : ℕ) → SetsSummand plan s e v i → Sets e v
-  sets_of q (Deal k d) is v i h = record { within = fit q (Deal k d) is (λ e. cc); sets = deal_sets x (slot plan s k) v h; late = never 0 1 (omega arith); beyond = λ t e. omega arith }
-  sets_of q (Take n j) is v i h =
-      let it = fit q (Take n j) is (λ e. cc) in
-      let here : slot plan s (message plan n).slot ≡ Input v = sym (own_slot n j it) ∙ h.0 in record {
-        within = it.slot;
-        sets = ap (λ z. list_any (nat_eq v) (sets_in x z)) here ∙ is_one v v refl;
-        late = λ e. ap (λ z. list_any (nat_eq v) (completes x z)) here ∙ is_one v v refl;
-        beyond = λ t e. omega arith;
+  pub sets_of : (q : ℕ) (e : Instruction) → at es q ≡ e → (v i : ℕ) → SetsSummand plan p s e v i → Sets e v
+  sets_of q (Draw k) is v i h = sets_taken (Draw k) v (fit q (Draw k) is (λ e. cc)).0 h.0
+  sets_of q (Deal k d) is v i h =
+      let it = fit q (Deal k d) is (λ e. cc) in record {
+        within = it.0;
+        sets = deal_sets x (slot plan s k) v h;
+        late = never 0 1 (omega arith);
+        beyond = λ u r. omega arith;
+        joins = unless (slot plan s k) (dealt_apart (slot plan s k) v h it.1);
       }
-  sets_of q (Linear k) is v i h = let it = fit q (Linear k) is (λ e. cc) in record { within = it.0; sets = gate_sets k it.1.0 v it.1.1 h; late = never 0 1 (omega arith); beyond = λ t e. omega arith }
+  sets_of q (Take n j) is v i h = let it = fit q (Take n j) is (λ e. cc) in sets_taken (Take n j) v it.slot (subst (λ z. Takes x z v) (own_slot n j it) h.0)
+  sets_of q (Linear k) is v i h =
+      let it = fit q (Linear k) is (λ e. cc) in
+      let t : ℕ = it.1.0 in record {
+        within = it.0;
+        sets = gate_sets k t v it.1.1 h;
+        late = never 0 1 (omega arith);
+        beyond = λ u r. omega arith;
+        joins = λ e. absurd (both_ways (is_prepared x t) (no_product x.prepared (is_product (gate x t).operation) it.1.2) (sym (ap (is_join x) it.1.1) ∙ e));
+      }
   sets_of q (Sum k) is v i h =
-      let it = fit q (Sum k) is (λ e. cc) in record {
+      let it = fit q (Sum k) is (λ e. cc) in
+      let complete : slot_completes x k v ≡ true = summed_there k v it.1 h in record {
+        within = it.0;
+        sets = completes_sets x (slot plan s k) v complete;
+        late = λ e. complete;
+        beyond = λ u r. omega arith;
+        joins = unless (slot plan s k) (multiplied_apart x (slot plan s k) it.1);
+      }
+  sets_of q (Join k) is v i h =
+      let it = fit q (Join k) is (λ e. cc) in record {
         within = it.0;
         sets = gate_sets k it.1.0 v it.1.1 h;
-        late = λ e. product_completes k it.1.0 v it.1.1 it.1.2 (h ∙ ap (λ z. (gate_in_slot x z).output) it.1.1);
-        beyond = λ t e. omega arith;
+        late = λ e. joined_there k it.1.0 v it.1.1 it.1.2 h;
+        beyond = λ u r. omega arith;
+        joins = λ e. (refl, omega arith);
       }
   sets_of q (Own k) is v i h = absurd h
   sets_of q (Post n j) is v i h = absurd h
+  sets_of q (Open k) is v i h = absurd h
   sets_of q (Deliver k) is v i h = absurd h
   sets_of q End is v i h = absurd h
 
-  pub all_sets : (q v i : ℕ) → SetsSummand plan s (at es q) v i → Sets (at es q) v
+  pub all_sets : (q v i : ℕ) → SetsSummand plan p s (at es q) v i → Sets (at es q) v
   all_sets q v i h = sets_of q (at es q) refl v i h
 
-  pub sets_at : (q v i : ℕ) → SetsSummand plan s (at es q) v i → (named plan (at es q) < slots plan s) × (slot_sets x (named plan (at es q)) v ≡ true)
+  pub sets_at : (q v i : ℕ) → SetsSummand plan p s (at es q) v i → (named plan (at es q) < slots plan s) × (slot_sets x (named plan (at es q)) v ≡ true)
   sets_at q v i h = let it = all_sets q v i h in (it.within, it.sets)
 
   -- no instruction sets two wires
-  pub one_wire : (q v w i j : ℕ) → SetsSummand plan s (at es q) v i → SetsSummand plan s (at es q) w j → v ≡ w
-  one_wire q v w i j a b = one_set x (slot plan s (named plan (at es q))) v w (sets_at q v i a).1 (sets_at q w j b).1
+  pub one_wire : (q v w i j : ℕ) → SetsSummand plan p s (at es q) v i → SetsSummand plan p s (at es q) w j → v ≡ w
+  one_wire q v w i j a b = sets_one x (named plan (at es q)) v w (sets_at q v i a).1 (sets_at q w j b).1
 
   -- ---- the wire that an instruction reads
 
-  -- its slot reads the wire, of which p holds the summand: a gate at its first step, or an output
+  -- its slot reads the wire, of which p holds the summand. In a head it is the first instruction of its slot, where that
+  -- sets a wire; in a tail the slot is one that reads there, as each does that joins
   pub record ReadsThere (e : Instruction) (v i : ℕ) : Type 0 where
     pub reads : slot_reads x (named plan e) v ≡ true
     pub held : holds plan p i ≡ true
-    pub first : (part_at e ≡ 0 → (t : ℕ) → slot plan s (named plan e) ≡ At_gate t → step_at e ≡ 0)
-    pub tail : part_at e ≡ 1 → (o : ℕ) × (slot plan s (named plan e) ≡ Output o)
+    pub first : part_at e ≡ 0 → (u : ℕ) → slot_sets x (named plan e) u ≡ true → step_at e ≡ 0
+    pub tail : part_at e ≡ 1 → ReadsLate x (slot plan s (named plan e))
+    pub joins : is_join x (slot plan s (named plan e)) ≡ true → part_at e ≡ 1
 
-  -- or it comes after what p deals of the wire in that slot: a post of that, or the sum of a product that is read
+  -- p sets the summand in the head of the slot: it draws it, or deals the wire
+  abbrev pub OwnIn : Slot → ℕ → ℕ → Type 0
+  OwnIn (Mask t side) v i = (v ≡ mask_wire x t side) × (least_holder plan i ≡ p)
+  OwnIn z v i = (deals_in plan s p z ≡ true) × Deals x z v
+
+  pub own_sets : (z : Slot) (v i : ℕ) → OwnIn z v i → list_any (nat_eq v) (sets_in x z) ≡ true
+  own_sets (Mask t side) v i h = is_one (mask_wire x t side) v h.0
+  own_sets (Input u) v i h = deal_sets x (Input u) v h.1
+  own_sets (At_gate t) v i h = deal_sets x (At_gate t) v h.1
+  own_sets (Output o) v i h = absurd h.1
+  own_sets (Mask_product t) v i h = deal_sets x (Mask_product t) v h.1
+  own_sets (Masked t side) v i h = absurd h.1
+
+  -- it comes after what p sets of the wire in the head of that slot: a post of that, or the sum of a product that is read
   pub record ReadsOwn (e : Instruction) (v i : ℕ) : Type 0 where
-    pub dealt : deals_in plan s p (slot plan s (named plan e)) ≡ true
-    pub wire : Deals x (slot plan s (named plan e)) v
+    pub own : OwnIn (slot plan s (named plan e)) v i
     pub after : 2 ≤ 2 * part_at e + step_at e
     pub sum : part_at e ≡ 1 → (is_read x v ≡ true) × (slot_completes x (named plan e) v ≡ true) × (holds plan p i ≡ true)
 
   abbrev pub Reading : Instruction → ℕ → ℕ → Type 0
   Reading e v i = (named plan e < slots plan s) × (ReadsThere e v i ⊎ ReadsOwn e v i)
 
-  posts_own : (n j v i : ℕ) (z : Slot) → slot plan s (message plan n).slot ≡ z → Deals x z v → deals_in plan s p z ≡ true → ReadsOwn (Post n j) v i
-  posts_own n j v i z e wire dealt = record { dealt = ap (deals_in plan s p) e ∙ dealt; wire = subst (λ y. Deals x y v) (sym e) wire; after = omega arith; sum = never 0 1 (omega arith) }
+  posts_own : (n j v i : ℕ) (z : Slot) → slot plan s (message plan n).slot ≡ z → OwnIn z v i → ReadsOwn (Post n j) v i
+  posts_own n j v i z e own = record { own = subst (λ y. OwnIn y v i) (sym e) own; after = omega arith; sum = never 0 1 (omega arith) }
+
+  -- a post of what is opened
+  posts_open : (n j v i : ℕ) (z : Slot) → slot plan s (message plan n).slot ≡ z → sets_in x z ≡ [] → is_join x z ≡ false → list_any (nat_eq v) (reads_in x z) ≡ true → holds plan p i ≡ true → ReadsThere (Post n j) v i
+  posts_open n j v i z e none unjoined reads held = record {
+    reads = ap (λ y. list_any (nat_eq v) (reads_in x y)) e ∙ reads;
+    held = held;
+    first = λ f u sets. absurd (false≢true (sym (ap (λ y. list_any (nat_eq u) (sets_in x y)) e ∙ ap (list_any (nat_eq u)) none) ∙ sets));
+    tail = never 0 1 (omega arith);
+    joins = λ joins. unless z unjoined (sym (ap (is_join x) e) ∙ joins);
+  }
 
   post_reads : (n j v i : ℕ) (z : Slot) → slot plan s (message plan n).slot ≡ z → Carries x z v → i ≡ j → Sends plan s p z j → ReadsThere (Post n j) v i ⊎ ReadsOwn (Post n j) v i
-  post_reads n j v i (Input u) e c same by = inr (posts_own n j v i (Input u) e c by)
-  post_reads n j v i (At_gate t) e c same by = inr (posts_own n j v i (At_gate t) e c by)
-  post_reads n j v i (Output o) e c same by = inl (record {
-    reads = ap (λ z. list_any (nat_eq v) (reads_in x z)) e ∙ is_one (output_wire x o) v c;
-    held = subst (λ z. holds plan p z ≡ true) (sym same) by;
-    first = λ f t g. absurd (let one : Output o ≡ At_gate t = sym e ∙ g in cc);
-    tail = never 0 1 (omega arith);
-  })
+  post_reads n j v i (Input u) e c same by = inr (posts_own n j v i (Input u) e (by, c))
+  post_reads n j v i (At_gate t) e c same by = inr (posts_own n j v i (At_gate t) e (by, c))
+  post_reads n j v i (Mask_product t) e c same by = inr (posts_own n j v i (Mask_product t) e (by, c))
+  post_reads n j v i (Mask t side) e c same by = inr (posts_own n j v i (Mask t side) e (c, ap (least_holder plan) same ∙ by))
+  post_reads n j v i (Output o) e c same by = inl (posts_open n j v i (Output o) e refl refl (is_one (output_wire x o) v c) (ap (holds plan p) same ∙ by))
+  post_reads n j v i (Masked t side) e c same by =
+      let a : ℕ = operand (gate x t) side in
+      let b : ℕ = mask_wire x t side in
+      let reads : list_any (nat_eq v) (a ∷ b ∷ []) ≡ true = elim c [
+        | inl one ↦ subst (λ u. list_any (nat_eq u) (a ∷ b ∷ []) ≡ true) (sym one) (is_first a b)
+        | inr two ↦ subst (λ u. list_any (nat_eq u) (a ∷ b ∷ []) ≡ true) (sym two) (is_second a b)
+      ] in
+      inl (posts_open n j v i (Masked t side) e refl refl reads (ap (holds plan p) same ∙ by))
 
-  gate_reads : (k t v : ℕ) → slot plan s k ≡ At_gate t → list_any (nat_eq v) (read_by (gate_at plan s k)) ≡ true → slot_reads x k v ≡ true
-  gate_reads k t v here e = ap (λ z. list_any (nat_eq v) (reads_in x z)) here ∙ sym (ap (λ z. list_any (nat_eq v) (read_by (gate_in_slot x z))) here) ∙ e
+  -- the first of a slot that computes in its head
+  reads_first : (e : Instruction) (v i : ℕ) → part_at e ≡ 0 → step_at e ≡ 0 → is_join x (slot plan s (named plan e)) ≡ false → slot_reads x (named plan e) v ≡ true → holds plan p i ≡ true → ReadsThere e v i
+  reads_first e v i head none unjoined reads held = record { reads = reads; held = held; first = λ f u sets. none; tail = λ f. never 0 1 (omega arith) (sym head ∙ f); joins = unless (slot plan s (named plan e)) unjoined }
+
+  -- what reads in its tail
+  reads_last : (e : Instruction) (v i : ℕ) → part_at e ≡ 1 → ReadsLate x (slot plan s (named plan e)) → slot_reads x (named plan e) v ≡ true → holds plan p i ≡ true → ReadsThere e v i
+  reads_last e v i tail late reads held = record { reads = reads; held = held; first = λ f. never 0 1 (omega arith) (sym f ∙ tail); tail = λ f. late; joins = λ f. tail }
 
   reads_of : (q : ℕ) (e : Instruction) → at es q ≡ e → (v i : ℕ) → ReadsSummand plan p s e v i → Reading e v i
   reads_of q (Post n j) is v i h = let it = fit q (Post n j) is (λ e. cc) in (it.0.slot, post_reads n j v i (slot_of plan n) (sym (own_slot n j it.0)) h.0 h.1 (sends_own n j it.0 it.1))
-  reads_of q (Linear k) is v i h = let it = fit q (Linear k) is (λ e. cc) in (it.0, inl (record { reads = gate_reads k it.1.0 v it.1.1 h.0; held = h.1; first = λ f t g. refl; tail = never 0 1 (omega arith) }))
-  reads_of q (Own k) is v i h = let it = fit q (Own k) is (λ e. cc) in (it.0, inl (record { reads = gate_reads k it.1.0 v it.1.1 h.0; held = h.1; first = λ f t g. refl; tail = never 0 1 (omega arith) }))
-  reads_of q (Deliver k) is v i h =
-      let it = fit q (Deliver k) is (λ e. cc) in
-      let o : ℕ = it.1.0 in (
-        it.0,
-        inl (record {
-          reads = ap (λ z. list_any (nat_eq v) (reads_in x z)) it.1.1 ∙ is_one (output_wire x o) v (h.0 ∙ ap (λ z. output_wire x (output_in_slot z)) it.1.1);
-          held = h.1;
-          first = λ f. never 0 1 (omega arith) (sym f);
-          tail = λ f. (o, it.1.1);
-        }),
-      )
+  reads_of q (Linear k) is v i h =
+      let it = fit q (Linear k) is (λ e. cc) in
+      let t : ℕ = it.1.0 in
+      let unjoined : is_join x (slot plan s k) ≡ false = ap (is_join x) it.1.1 ∙ no_product x.prepared (is_product (gate x t).operation) it.1.2 in
+      (it.0, inl (reads_first (Linear k) v i refl refl unjoined h.0 h.1))
+  reads_of q (Own k) is v i h = let it = fit q (Own k) is (λ e. cc) in (it.0, inl (reads_first (Own k) v i refl refl (multiplied_apart x (slot plan s k) it.1) h.0 h.1))
   reads_of q (Sum k) is v i h =
       let it = fit q (Sum k) is (λ e. cc) in
-      let t : ℕ = it.1.0 in
-      let out : v ≡ (gate x t).output = h.0 ∙ ap (λ z. (gate_in_slot x z).output) it.1.1 in (
+      let z : Slot = slot plan s k in (
         it.0,
         inr (record {
-          dealt = ap (deals_in plan s p) it.1.1 ∙ and_from _ _ it.1.2 h.1;
-          wire = subst (λ y. Deals x y v) (sym it.1.1) out;
+          own = own_product z it.1 (dealing plan sound s p ls z it.1 h.1) (deals_output x z v it.1 h.0);
           after = omega arith;
-          sum = λ f. (h.2, product_completes k t v it.1.1 it.1.2 out, h.3);
+          sum = λ f. (h.2, summed_there k v it.1 h.0, h.3);
         }),
       )
+    where
+      own_product : (z : Slot) → Multiplied x z → deals_in plan s p z ≡ true → Deals x z v → OwnIn z v i
+      own_product (At_gate t) is e d = (e, d)
+      own_product (Mask_product t) is e d = (e, d)
+      own_product (Input u) is e d = absurd is
+      own_product (Output o) is e d = absurd is
+      own_product (Mask t side) is e d = absurd is
+      own_product (Masked t side) is e d = absurd is
+  reads_of q (Open k) is v i h = let it = fit q (Open k) is (λ e. cc) in (it.0, inl (reads_last (Open k) v i refl (late_masked x (slot plan s k) it.1) h.0 h.1))
+  reads_of q (Join k) is v i h = let it = fit q (Join k) is (λ e. cc) in (it.0, inl (reads_last (Join k) v i refl (subst (ReadsLate x) (sym it.1.1) it.1.2) h.0 h.1))
+  reads_of q (Deliver k) is v i h = let it = fit q (Deliver k) is (λ e. cc) in (it.0, inl (reads_last (Deliver k) v i refl (late_output x (slot plan s k) it.1) h.0 h.1))
+  reads_of q (Draw k) is v i h = absurd h
   reads_of q (Deal k d) is v i h = absurd h
   reads_of q (Take n j) is v i h = absurd h
   reads_of q End is v i h = absurd h

@@ -1,60 +1,74 @@
 -- The words of a desk's wires that are still to be read.
-use Rattle.std.specs.Prelude.{◌≡◌, ◌≢◌, ℕ, ◌+◌, ◌<◌, ◌≤◌, nat_eq, true, List, length, slice_index}
+use Rattle.std.specs.Prelude.{◌≡◌, ◌≢◌, ℕ, ◌+◌, ◌<◌, ◌≤◌, ◌⊎◌, nat_eq, true, List, length, slice_index}
 use Rattle.std.specs.List.{list_any}
 use Rattle.circuit_model.specs.declared.gate.Gate.{Gate}
-use Rattle.circuit_model.specs.Netlists.{read_by}
 use Rattle.secret_sharing.specs.Schemes.{has_pair}
-use Rattle.job_session.specs.Sessions.{Session, Slot, gate, output_wire}
-use Rattle.job_session.specs.Sessions.Slot.{Input, At_gate, Output}
-use Rattle.job_session.specs.KeptWires.{is_read}
-use Rattle.job_plan.specs.Plans.{Plan, holds, scheme, session, slot}
+use Rattle.job_session.specs.Sessions.{Session, Slot, gate, operand, output_wire, mask_wire, product_wire, product_in}
+use Rattle.job_session.specs.Sessions.Slot.{Input, At_gate, Output, Mask, Mask_product, Masked}
+use Rattle.job_session.specs.KeptWires.{is_read, reads_in}
+use Rattle.job_plan.specs.Plans.{Plan, holds, least_holder, scheme, session, slot}
 use Rattle.party_program.specs.declared.program.Instruction.{Instruction}
-use Rattle.party_program.specs.declared.program.Instruction.TheVariants.{Deal, Post, Take, Linear, Own, Sum, Deliver}
+use Rattle.party_program.specs.declared.program.Instruction.TheVariants.{Draw, Deal, Post, Take, Linear, Own, Sum, Open, Join, Deliver}
 use Rattle.party_program.specs.Programs.{program, at}
-use Rattle.party_program.specs.States.{gate_in_slot, output_in_slot, slot_of}
+use Rattle.party_program.specs.States.{slot_of}
 
--- the gate of slot k
+-- the gate of slot k, or the product of masks that is dealt there
 abbrev pub gate_at : Plan → ℕ → ℕ → Gate
-gate_at plan s k = gate_in_slot (session plan s) (slot plan s k)
+gate_at plan s k = product_in (session plan s) (slot plan s k)
 
 -- the wire whose summands are dealt in a slot
 abbrev pub Deals : Session → Slot → ℕ → Type 0
 Deals s (Input u) v = v ≡ u
 Deals s (At_gate t) v = v ≡ (gate s t).output
-Deals s (Output o) v = ⊥
+Deals s (Mask_product t) v = v ≡ product_wire s t
+Deals s _ v = ⊥
 
--- the wire whose summands the messages of a slot carry
+-- the wire into whose summands the words of a slot are taken
+abbrev pub Takes : Session → Slot → ℕ → Type 0
+Takes s (Input u) v = v ≡ u
+Takes s (Mask t side) v = v ≡ mask_wire s t side
+Takes s _ v = ⊥
+
+-- slot k reads wire v
+abbrev pub Reads : Plan → ℕ → ℕ → ℕ → Type 0
+Reads plan s k v = list_any (nat_eq v) (reads_in (session plan s) (slot plan s k)) ≡ true
+
+-- a wire whose summands are in the words of a slot's messages
 abbrev pub Carries : Session → Slot → ℕ → Type 0
 Carries s (Input u) v = v ≡ u
 Carries s (At_gate t) v = v ≡ (gate s t).output
 Carries s (Output o) v = v ≡ output_wire s o
+Carries s (Mask t side) v = v ≡ mask_wire s t side
+Carries s (Mask_product t) v = v ≡ product_wire s t
+Carries s (Masked t side) v = (v ≡ operand (gate s t) side) ⊎ (v ≡ mask_wire s t side)
 
--- the instruction sets summand i of wire v, or what the party has of it before it takes the rest
-abbrev pub SetsSummand : Plan → ℕ → Instruction → ℕ → ℕ → Type 0
-SetsSummand plan s (Deal k d) v i = Deals (session plan s) (slot plan s k) v
-SetsSummand plan s (Take n j) v i = (slot_of plan n ≡ Input v) × (i ≡ j)
-SetsSummand plan s (Linear k) v i = v ≡ (gate_at plan s k).output
-SetsSummand plan s (Sum k) v i = v ≡ (gate_at plan s k).output
-SetsSummand plan s _ v i = ⊥
+-- the instruction of party p sets summand i of wire v, or what the party has of it before it takes the rest
+abbrev pub SetsSummand : Plan → ℕ → ℕ → Instruction → ℕ → ℕ → Type 0
+SetsSummand plan p s (Draw k) v i = Takes (session plan s) (slot plan s k) v × (least_holder plan i ≡ p)
+SetsSummand plan p s (Deal k d) v i = Deals (session plan s) (slot plan s k) v
+SetsSummand plan p s (Take n j) v i = Takes (session plan s) (slot_of plan n) v × (i ≡ j)
+SetsSummand plan p s (Linear k) v i = v ≡ (gate_at plan s k).output
+SetsSummand plan p s (Sum k) v i = v ≡ (gate_at plan s k).output
+SetsSummand plan p s (Join k) v i = v ≡ (gate_at plan s k).output
+SetsSummand plan p s _ v i = ⊥
 
 -- the instruction of party p reads summand i of wire v: it posts it, or computes with those that p holds. The sum of a
 -- product reads what p dealt, if p did and any slot reads the product.
 abbrev pub ReadsSummand : Plan → ℕ → ℕ → Instruction → ℕ → ℕ → Type 0
 ReadsSummand plan p s (Post n j) v i = Carries (session plan s) (slot_of plan n) v × (i ≡ j)
-ReadsSummand plan p s (Linear k) v i =
-    (list_any (nat_eq v) (read_by (gate_at plan s k)) ≡ true) × (holds plan p i ≡ true)
-ReadsSummand plan p s (Own k) v i =
-    (list_any (nat_eq v) (read_by (gate_at plan s k)) ≡ true) × (holds plan p i ≡ true)
+ReadsSummand plan p s (Linear k) v i = Reads plan s k v × (holds plan p i ≡ true)
+ReadsSummand plan p s (Own k) v i = Reads plan s k v × (holds plan p i ≡ true)
 ReadsSummand plan p s (Sum k) v i =
     (v ≡ (gate_at plan s k).output) × (has_pair (scheme plan) p ≡ true) × (is_read (session plan s) v ≡ true)
     × (holds plan p i ≡ true)
-ReadsSummand plan p s (Deliver k) v i =
-    (v ≡ output_wire (session plan s) (output_in_slot (slot plan s k))) × (holds plan p i ≡ true)
+ReadsSummand plan p s (Open k) v i = Reads plan s k v × (holds plan p i ≡ true)
+ReadsSummand plan p s (Join k) v i = Reads plan s k v × (holds plan p i ≡ true)
+ReadsSummand plan p s (Deliver k) v i = Reads plan s k v × (holds plan p i ≡ true)
 ReadsSummand plan p s _ v i = ⊥
 
 -- an instruction before position q sets summand i of wire v
 abbrev pub IsSet : Plan → ℕ → ℕ → ℕ → ℕ → ℕ → Type 0
-IsSet plan p s q v i = (r : ℕ) × (r < q) × SetsSummand plan s (at (program plan p s) r) v i
+IsSet plan p s q v i = (r : ℕ) × (r < q) × SetsSummand plan p s (at (program plan p s) r) v i
 
 -- an instruction from position q on reads it
 abbrev pub IsToRead : Plan → ℕ → ℕ → ℕ → ℕ → ℕ → Type 0
@@ -68,6 +82,6 @@ ReadsWhatIsSet plan p s =
 -- while an instruction sets a wire, each other wire that is set and still to be read has another row
 abbrev pub KeepsRowsApart : Plan → ℕ → ℕ → List ℕ → Type 0
 KeepsRowsApart plan p s rows =
-    (q v w i j : ℕ) → SetsSummand plan s (at (program plan p s) q) w j → IsSet plan p s q v i
+    (q v w i j : ℕ) → SetsSummand plan p s (at (program plan p s) q) w j → IsSet plan p s q v i
     → IsToRead plan p s (q + 1) v i
     → v ≢ w → slice_index rows v ≢ slice_index rows w

@@ -1,1 +1,2 @@
 pub mod PairSums
+pub mod JoinedWords

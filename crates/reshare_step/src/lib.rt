@@ -1,6 +1,6 @@
 //! Gates on summands. A linear one each party computes of its summands alone. At a product each party multiplies the
 //! pairs of summands that are its duty, deals the sum of those products anew, and adds up what was dealt to it
-//! (Maurer 2006).
+//! (Maurer 2006). A prepared product it joins of what was dealt and opened before (Beaver 1991).
 #![tactic(auto)]
 
 ghost use Rattle.std.specs.Prelude.{◌≡◌, ℕ, ◌+◌, ◌%◌, ◌^◌, ◌<◌, All, length, slice_index};
@@ -8,8 +8,10 @@ ghost use Rattle.circuit_model.specs.Circuits.{set_at};
 ghost use Rattle.secret_sharing.specs.Schemes.{own_product};
 ghost use Rattle.product_duty.specs.Duties.{scheme_of};
 
+mod joined;
 mod local;
 
+pub use joined::joined_summand;
 pub use local::local_summand;
 use mpc_ring::Ring;
 use product_duty::Duty;

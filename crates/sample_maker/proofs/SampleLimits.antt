@@ -9,10 +9,10 @@ use Rattle.circuit_model.specs.Circuits.{is_product}
 use Rattle.secret_sharing.specs.Schemes.{has_pair}
 use Rattle.job_session.specs.Counts.{owned, products}
 use Rattle.job_session.specs.Sessions.{owners}
-use Rattle.job_plan.specs.Plans.{Plan, scheme, session}
+use Rattle.job_plan.specs.Plans.{Plan, scheme, session, least_held}
 use Rattle.job_plan.specs.Messages.{messages}
 use Rattle.job_plan.specs.Numbers.{deals}
-use Rattle.job_plan.specs.Tallies.{party_messages, tape_length}
+use Rattle.job_plan.specs.Tallies.{party_messages, masks_messages, tape_length}
 use Rattle.job_plan.specs.Limits.{IsPlanRefusal}
 use Rattle.job_plan.proofs.TallyLaws.{deals_is, messages_by_party, tape_length_is}
 use Rattle.plan_faults.specs.declared.plan_fault.PlanFault.TheVariants.{TooManyMessages, TooManyWords}
@@ -42,14 +42,18 @@ by_deals : (n : ℕ) → total 3 (party_messages (sample_plan n))
     ≡ 0 + (4 * (0 + deals (sample_plan n) 0 0) + 1) + (4 * (0 + deals (sample_plan n) 1 0) + 1) + (4 * (0 + deals (sample_plan n) 2 0) + 1)
 by_deals n = refl
 
+-- no product is prepared
+no_masks : (n : ℕ) → masks_messages (sample_plan n) ≡ 0
+no_masks n = refl
+
 -- four for each of four inputs, three openings, and twelve at each product
 pub length-messages : (n : ℕ) → length (messages (sample_plan n)) ≤ 19 + 12 * n
 length-messages n =
-    let is : length (messages (sample_plan n)) ≡ total 3 (party_messages (sample_plan n)) = messages_by_party (sample_plan n) (owners_are_parties n) in
+    let is : length (messages (sample_plan n)) ≡ total 3 (party_messages (sample_plan n)) + masks_messages (sample_plan n) = messages_by_party (sample_plan n) (owners_are_parties n) in
     let first : deals (sample_plan n) 0 0 ≤ 2 + n = few_deals n 0 in
     let second : deals (sample_plan n) 1 0 ≤ 2 + n = few_deals n 1 in
     let third : deals (sample_plan n) 2 0 ≤ 0 + n = few_deals n 2 in
-    omega (arith, is ∙ by_deals n, first, second, third)
+    omega (arith, is, by_deals n, no_masks n, first, second, third)
 
 -- so the plan isn't refused for its messages
 pub few_messages : (n count : ℕ) (plan : Plan) → n ≤ 65536 → plan ≡ sample_plan n → IsPlanRefusal plan (TooManyMessages count) → ⊥
@@ -63,8 +67,11 @@ few_words n party count plan l e h =
     let refused : IsPlanRefusal (sample_plan n) (TooManyWords party count) = subst (λ plan. IsPlanRefusal plan (TooManyWords party count)) e h in
     at party refused.1.there refused.1.is refused.1.over
   where
+    with_masks : (p : ℕ) → tape_length (sample_plan n) p ≡ 2 * (0 + deals (sample_plan n) p 0) + least_held (sample_plan n) p 3 * 0
+    with_masks p = tape_length_is (sample_plan n) p
+
     length_is : (p : ℕ) → tape_length (sample_plan n) p ≡ 2 * (0 + deals (sample_plan n) p 0)
-    length_is p = tape_length_is (sample_plan n) p
+    length_is p = omega (arith, with_masks p)
 
     drawn : (p : ℕ) → owned (sample_session n) p ≤ 2 → count ≡ tape_length (sample_plan n) p → 1048576 < count → ⊥
     drawn p few is over = omega (arith, l, few, is ∙ length_is p, over, few_deals n p)

@@ -1,6 +1,6 @@
 -- The sample jobs, one for each number n of gates: parties a, b and c, of which any two are qualified, words of 32
 -- bits, and one session.
-use Rattle.std.specs.Prelude.{ℕ, ◌+◌, ◌*◌, ◌%◌, ◌==◌, if◌then◌else◌, List, [], ◌∷◌, replicate, codes}
+use Rattle.std.specs.Prelude.{ℕ, ◌+◌, ◌*◌, ◌%◌, false, ◌==◌, if◌then◌else◌, List, [], ◌∷◌, replicate, codes}
 use Rattle.list_laws.specs.Lists.{listed}
 use Rattle.circuit_model.specs.declared.gate.Gate.{Gate}
 use Rattle.circuit_model.specs.declared.gate.Operation.{Operation}
@@ -46,6 +46,7 @@ sample_session n = record {
   wires = 4 + n;
   inputs = record { width = 2; owner = 0 } ∷ record { width = 2; owner = 1 } ∷ [];
   outputs = record { width = 1; readers = record { parties = 3; mask = 7 } } ∷ [];
+  prepared = false;
 }
 
 -- the plan, in the ring of 32 bits

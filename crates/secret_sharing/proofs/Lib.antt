@@ -1,2 +1,3 @@
 pub mod SummandSums
 pub mod Agreement
+pub mod PreparedSums

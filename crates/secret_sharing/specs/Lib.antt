@@ -1,1 +1,2 @@
 pub mod Schemes
+pub mod Prepared

@@ -1,4 +1,6 @@
 pub mod WireSums
+pub mod SlotOrder
+pub mod GoingMessages
 pub mod LocalWords
 pub mod SentWords
 pub mod SmallWords

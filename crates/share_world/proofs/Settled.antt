@@ -2,16 +2,22 @@
 use Rattle.std.proofs.Common.{◌≡◌, ◌≢◌, ℕ, zero, suc, ◌+◌, ◌-◌, ◌<◌, ◌≤◌, true, false, ◌||◌, nat_eq, [], ◌∷◌, length, refl, sym, ap, ◌∙◌, subst, arith, inl, inr}
 use Rattle.std.specs.Prelude.{take}
 use Rattle.std.specs.List.{list_any}
-use Rattle.std.proofs.lemmas.Bool.{cases_Bool, both_ways, eqb-true, eq-eqb}
+use Rattle.std.proofs.lemmas.Bool.{cases_Bool, cond-false, both_ways, eqb-true, eq-eqb}
 use Rattle.circuit_model.specs.declared.gate.Operation.{Operation}
 use Rattle.circuit_model.specs.declared.gate.Operation.TheVariants.{Add, Sub, Neg, Mul, Xor, And, Inv, Eq, Eqw}
 use Rattle.circuit_model.specs.Circuits.{is_product}
 use Rattle.circuit_model.specs.Netlists.{arity, inputs_read, read_by}
-use Rattle.job_session.specs.Sessions.{Session, owners, gate, session_slots}
-use Rattle.job_session.specs.KeptWires.{IsInOrder, slot_sets, sets_in, reads_in}
+use Rattle.job_session.specs.declared.side.Side.{Side}
+use Rattle.job_session.specs.declared.side.Side.TheVariants.{First, Second}
+use Rattle.job_session.specs.Sessions.{Session, Slot, owners, gate, is_prepared, operand, mask_wire, session_slots}
+use Rattle.job_session.specs.Sessions.Slot.{Input, At_gate, Output, Mask, Mask_product, Masked}
+use Rattle.job_session.specs.SoundSessions.{Inside, IsWired}
+use Rattle.job_session.specs.SlotNumbers.{first_of_gate, session_slot_number}
+use Rattle.job_session.specs.KeptWires.{slot_sets, sets_in, reads_in}
 use Rattle.list_laws.proofs.Tests.{or_true}
-use Rattle.job_session.proofs.SessionSlots.{slot_input, slot_gate, slot_cases}
+use Rattle.job_session.proofs.SessionSlots.{slot_there, slot_kinds, number_within}
 use Rattle.share_world.specs.Solutions.{SetBefore, GatesInOrder, reads_first, reads_second}
+use Rattle.share_world.proofs.SlotOrder.{input_first, masked_first, gate_first, earlier_gate}
 
 -- ---- whether a wire is one of these
 
@@ -33,7 +39,7 @@ is_second a b = ap (λ z. nat_eq b a || z) (is_one b b refl) ∙ or_true (nat_eq
 -- ---- what an operation reads
 
 -- the wires that an operation reads are among those that it takes
-first_read : (op : Operation) (a b : ℕ) → reads_first op ≡ true → list_any (nat_eq a) (inputs_read op (take (arity op) (a ∷ b ∷ []))) ≡ true
+pub first_read : (op : Operation) (a b : ℕ) → reads_first op ≡ true → list_any (nat_eq a) (inputs_read op (take (arity op) (a ∷ b ∷ []))) ≡ true
 first_read Add a b r = is_first a b
 first_read Sub a b r = is_first a b
 first_read Mul a b r = is_first a b
@@ -44,7 +50,7 @@ first_read Inv a b r = is_one a a refl
 first_read Eqw a b r = is_one a a refl
 first_read Eq a b r = absurd (both_ways false refl r)
 
-second_read : (op : Operation) (a b : ℕ) → reads_second op ≡ true → list_any (nat_eq b) (inputs_read op (take (arity op) (a ∷ b ∷ []))) ≡ true
+pub second_read : (op : Operation) (a b : ℕ) → reads_second op ≡ true → list_any (nat_eq b) (inputs_read op (take (arity op) (a ∷ b ∷ []))) ≡ true
 second_read Add a b r = is_second a b
 second_read Sub a b r = is_second a b
 second_read Mul a b r = is_second a b
@@ -55,38 +61,66 @@ second_read Inv a b r = absurd (both_ways false refl r)
 second_read Eqw a b r = absurd (both_ways false refl r)
 second_read Eq a b r = absurd (both_ways false refl r)
 
--- a wire that an earlier slot sets is set before the gate
-set_before : (x : Session) (t w : ℕ) → (j : ℕ) → j < session_slots x → slot_sets x j w ≡ true → j < length (owners x) + t → SetBefore x t w
-set_before x t w = slot_cases x (λ j z. list_any (nat_eq w) (sets_in x z) ≡ true → j < length (owners x) + t → SetBefore x t w)
-    (λ v lv h l. inl (subst (λ z. z < length (owners x)) (sym (of_one v w h)) lv))
-    (λ u lu h l. inr (u, omega arith, sym (of_one (gate x u).output w h)))
-    (λ o lo h l. absurd (both_ways false refl h))
+-- ---- gates in order
 
--- and such a wire was set by an earlier slot
-setter : (x : Session) (t w : ℕ) → t ≤ length x.gates → SetBefore x t w → (j : ℕ) × (j < length (owners x) + t) × (slot_sets x j w ≡ true)
-setter x t w le (inl l) = (w, omega arith, ap (λ z. list_any (nat_eq w) (sets_in x z)) (slot_input x w l) ∙ is_one w w refl)
-setter x t w le (inr u) =
-    let less : u.0 < t = u.1 in
-    (length (owners x) + u.0, omega arith, ap (λ z. list_any (nat_eq w) (sets_in x z)) (slot_gate x u.0 (omega arith)) ∙ is_one (gate x u.0).output w (sym u.2))
+module _ (x : Session) (wired : IsWired x) where
+  -- a wire of the circuit is none of those behind them
+  not_behind : (w u : ℕ) → w < x.wires → x.wires ≤ u → list_any (nat_eq w) (u ∷ []) ≡ true → ⊥
+  not_behind w u l past h = (let e = of_one u w h in omega (arith, l, past, e))
 
-module _ (x : Session) (order : IsInOrder x) where
-  read_set : (t w : ℕ) → t < length x.gates → list_any (nat_eq w) (read_by (gate x t)) ≡ true → SetBefore x t w
-  read_set t w l h =
-      let k : ℕ = length (owners x) + t in
-      let before = order.before k w (omega arith) (ap (λ z. list_any (nat_eq w) (reads_in x z)) (slot_gate x t l) ∙ h) in
+  -- one that an earlier slot sets is set before the gate
+  set_before : (t w j : ℕ) → w < x.wires → j < session_slots x → slot_sets x j w ≡ true → j < session_slot_number x (At_gate t) → SetBefore x t w
+  set_before t w j lw lj = slot_kinds x (λ k z. list_any (nat_eq w) (sets_in x z) ≡ true → k < session_slot_number x (At_gate t) → SetBefore x t w) each j lj
+    where
+      each : (z : Slot) → Inside x z → list_any (nat_eq w) (sets_in x z) ≡ true → session_slot_number x z < session_slot_number x (At_gate t) → SetBefore x t w
+      each (Input v) lv h l = inl (subst (λ z. z < length (owners x)) (sym (of_one v w h)) lv)
+      each (At_gate u) lu h l = inr (u, earlier_gate x t u l, sym (of_one (gate x u).output w h))
+      each (Output o) lo h l = absurd (both_ways false refl h)
+      each (Mask u First) i h l = absurd (not_behind w _ lw (omega arith) h)
+      each (Mask u Second) i h l = absurd (not_behind w _ lw (omega arith) h)
+      each (Mask_product u) i h l = absurd (not_behind w _ lw (omega arith) h)
+      each (Masked u side) i h l = absurd (both_ways false refl h)
+
+  -- a slot sets it that stands before those of the gate
+  pub setter : (t w : ℕ) → t ≤ length x.gates → SetBefore x t w → (j : ℕ) × (j < first_of_gate x t) × (slot_sets x j w ≡ true)
+  setter t w le (inl l) = (session_slot_number x (Input w), input_first x w t l, ap (λ z. list_any (nat_eq w) (sets_in x z)) (slot_there x (Input w) l) ∙ is_one w w refl)
+  setter t w le (inr u) =
+      let less : u.0 < t = u.1 in
+      (session_slot_number x (At_gate u.0), gate_first x u.0 t less, ap (λ z. list_any (nat_eq w) (sets_in x z)) (slot_there x (At_gate u.0) (omega (arith, less, le))) ∙ is_one (gate x u.0).output w (sym u.2))
+
+  -- a wire that a slot of the gate reads is set before the gate
+  read_set : (t w : ℕ) (z : Slot) → w < x.wires → Inside x z → session_slot_number x z ≤ session_slot_number x (At_gate t) → list_any (nat_eq w) (reads_in x z) ≡ true → SetBefore x t w
+  read_set t w z lw inside le h =
+      let k = session_slot_number x z in
+      let within : k < session_slots x = number_within x z inside in
+      let before = wired.order.before k w within (ap (λ y. list_any (nat_eq w) (reads_in x y)) (slot_there x z inside) ∙ h) in
       let less : before.0 < k = before.1 in
-      set_before x t w before.0 (omega arith) before.2 less
+      set_before t w before.0 lw (omega (arith, less, within)) before.2 (omega (arith, less, le))
+
+  -- of a prepared product what is opened reads its wires
+  operand_set : (t : ℕ) (side : Side) → t < length x.gates → operand (gate x t) side < x.wires → list_any (nat_eq (operand (gate x t) side)) (read_by (gate x t)) ≡ true → SetBefore x t (operand (gate x t) side)
+  operand_set t side l lw h = elim (cases_Bool (is_prepared x t)) [
+    | inl yes' ↦
+        let before = masked_first x t side yes' in
+        read_set t w (Masked t side) lw (l, yes') (omega (arith, before)) (is_first w (mask_wire x t side))
+    | inr no' ↦ read_set t w (At_gate t) lw l (omega arith) (ap (list_any (nat_eq w)) (cond-false (is_prepared x t) _ _ no') ∙ h)
+  ]
+    where
+      w : ℕ
+      w = operand (gate x t) side
 
   -- each gate reads set wires, and sets one that isn't set
   pub in_order : GatesInOrder x
   in_order = record {
-    first = λ t l r. read_set t (gate x t).first l (first_read (gate x t).operation (gate x t).first (gate x t).second r);
-    second = λ t l r. read_set t (gate x t).second l (second_read (gate x t).operation (gate x t).first (gate x t).second r);
+    first = λ t l r. operand_set t First l (wired.first t l) (first_read (gate x t).operation (gate x t).first (gate x t).second r);
+    second = λ t l r. operand_set t Second l (wired.second t l) (second_read (gate x t).operation (gate x t).first (gate x t).second r);
     output = λ t l set.
         let w : ℕ = (gate x t).output in
-        let k : ℕ = length (owners x) + t in
-        let by = setter x t w (omega arith) set in
-        both_ways (slot_sets x k w) (order.once by.0 k w by.1 (omega arith) by.2) (ap (λ z. list_any (nat_eq w) (sets_in x z)) (slot_gate x t l) ∙ is_one w w refl);
+        let k : ℕ = session_slot_number x (At_gate t) in
+        let by = setter t w (omega arith) set in
+        let less : by.0 < first_of_gate x t = by.1 in
+        both_ways (slot_sets x k w) (wired.order.once by.0 k w (omega (arith, less)) (number_within x (At_gate t) l) by.2)
+        (ap (λ z. list_any (nat_eq w) (sets_in x z)) (slot_there x (At_gate t) l) ∙ is_one w w refl);
   }
 
 -- a product reads both its wires

@@ -5,20 +5,23 @@ use Rattle.std.proofs.lemmas.Bool.{cond_both}
 use Rattle.std.proofs.lemmas.Nat.{pow_pos}
 use Rattle.std.proofs.Math.Nat.{mod-lt}
 use Rattle.secret_sharing.specs.Schemes.{summands}
+use Rattle.secret_sharing.specs.Prepared.{prepared_summand}
 use Rattle.secret_sharing.proofs.SummandSums.{dealt_small, summands_below}
 use Rattle.job_plan.specs.declared.key.Key.{Key}
+use Rattle.job_session.specs.declared.side.Side.TheVariants.{First, Second}
 use Rattle.job_session.specs.Sessions.{Slot, owners}
-use Rattle.job_plan.specs.Plans.{scheme, session, slot, slot_number, place, IsPlan}
-use Rattle.job_session.specs.Sessions.Slot.{Input, At_gate, Output}
-use Rattle.share_world.specs.Worlds.{World, run_of, input_of, tape_word, first_summands, dealt_value, deal_of, word_in, word}
+use Rattle.job_session.specs.Sessions.Slot.{Input, At_gate, Output, Mask, Mask_product, Masked}
+use Rattle.job_plan.proofs.PlanSchemes.{plan_is}
+use Rattle.job_plan.specs.Plans.{scheme, session, least_holder, slot, slot_number, place, IsPlan}
+use Rattle.share_world.specs.Worlds.{World, run_of, input_of, tape_word, first_summands, mask, mask_product, dealt_product, dealt_value, deal_of, word_in, word}
 use Rattle.share_world.specs.Laws.{IsWorld, IsWhole}
 
 module _ (w : World) (whole : IsWhole w) where
-  positive : 0 < 2 ^ w.plan.bits
+  pub positive : 0 < 2 ^ w.plan.bits
   positive = pow_pos w.plan.bits
 
   pub is_plan : IsPlan w.plan
-  is_plan = record { bits = whole.sound.some_bits; groups = whole.sound.some_groups; q2 = whole.sound.q2 }
+  is_plan = plan_is w.plan whole.sound
 
   pub is_world : IsWorld w
   is_world = record { plan = is_plan; inputs = whole.inputs.below }
@@ -36,12 +39,16 @@ module _ (w : World) (whole : IsWhole w) where
       (λ e. positive)
 
   pub small_run : (s t v i : ℕ) → summands (run_of w s) t v i < 2 ^ w.plan.bits
-  small_run s = summands_below (run_of w s) positive (small_start s) (λ t x y i. mod-lt _ positive)
+  small_run s = summands_below (run_of w s) positive (small_start s) (λ t x y i.
+      cond_both (session w.plan s).prepared (prepared_summand (scheme w.plan) (mask w s t First) (mask w s t Second) (mask_product w s t) x y) (dealt_product w s (At_gate t) x y) (λ (f : ℕ → ℕ). f i < 2 ^ w.plan.bits) (λ e. mod-lt _ positive) (λ e. mod-lt _ positive))
 
   small_in : (k : Key) (z : Slot) → word_in w k z < 2 ^ w.plan.bits
   small_in k (Input v) = small_deal k.session k.sender (Input v) k.share
   small_in k (At_gate t) = small_deal k.session k.sender (At_gate t) k.share
   small_in k (Output o) = small_run k.session _ _ k.share
+  small_in k (Mask t side) = small_words k.session (least_holder w.plan k.share) (Mask t side) _
+  small_in k (Mask_product t) = small_deal k.session k.sender (Mask_product t) k.share
+  small_in k (Masked t side) = mod-lt _ positive
 
   pub small_word : (k : Key) → word w k < 2 ^ w.plan.bits
   small_word k = small_in k (slot w.plan k.session k.slot)

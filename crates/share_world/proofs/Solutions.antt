@@ -1,21 +1,23 @@
 -- The equations have one solution.
-use Rattle.std.proofs.Common.{◌≡◌, ℕ, zero, suc, ◌+◌, ◌*◌, ◌%◌, ◌<◌, ◌≤◌, ◌≢◌, ◌⊎◌, true, false, nat_eq, nat_lt, if◌then◌else◌, length, refl, sym, ap, ap₂, ◌∙◌, subst, arith}
-use Rattle.std.specs.Prelude.{slice_index}
-use Rattle.std.proofs.lemmas.Bool.{cases_eq, cases_lt, cases_Bool, cond-true, cond-false, eq-eqb, eqb-true, ne_eqb, lt-ltb, le-ltb, and_parts, both_ways}
+use Rattle.std.proofs.Common.{◌≡◌, ℕ, zero, suc, ◌+◌, ◌%◌, ◌<◌, ◌≤◌, ◌≢◌, ◌⊎◌, true, false, not, nat_eq, nat_lt, if◌then◌else◌, length, refl, sym, ap, ap₂, ◌∙◌, subst, arith}
+use Rattle.std.proofs.lemmas.Bool.{cases_eq, cases_lt, cases_Bool, cond-true, cond-false, eq-eqb, eqb-true, ne_eqb, lt-ltb, le-ltb, and_parts, and_from, not-true, not_from_false, both_ways}
 use mathlib.Core.Logic.{inl, inr}
 use Rattle.circuit_model.specs.declared.gate.Operation.{Operation}
 use Rattle.circuit_model.specs.Circuits.{is_product}
 use Rattle.circuit_model.specs.declared.gate.Operation.TheVariants.{Add, Sub, Neg, Mul, Xor, And, Inv, Eq, Eqw}
 use Rattle.secret_sharing.specs.Schemes.{dealt, local, own_product, own_value, has_pair, gate_summands, summands}
-use Rattle.job_session.specs.Sessions.{owners, Session, Slot, gate}
+use Rattle.secret_sharing.specs.Prepared.{masked, sum_of, prepared_summand}
+use Rattle.job_session.specs.declared.side.Side.TheVariants.{First, Second}
+use Rattle.job_session.specs.Sessions.{owners, Session, Slot, gate, is_direct, is_prepared}
 use Rattle.job_session.specs.SoundSessions.{Inside}
 use Rattle.job_plan.specs.Plans.{scheme, session, deals_in}
-use Rattle.job_session.specs.Sessions.Slot.{Input, At_gate, Output}
-use Rattle.share_world.specs.Worlds.{World, run_of, tape_word, deal_of}
-use Rattle.share_world.specs.Solutions.{reads_first, reads_second, SetBefore, GatesInOrder, SummandsSolve, OnlySolution, IsSolution}
-use Rattle.mpc_ring.proofs.Remainders.{same_refl}
+use Rattle.job_session.specs.Sessions.Slot.{Input, At_gate, Output, Mask, Mask_product, Masked}
+use Rattle.share_world.specs.Worlds.{World, run_of, tape_word, mask, mask_product, product_of, deal_of}
+use Rattle.share_world.specs.Solutions.{reads_first, reads_second, SetBefore, GatesInOrder, dealt_sum, SummandsSolve, OnlySolution, IsSolution}
+use Rattle.list_laws.specs.Lists.{total}
+use Rattle.mpc_ring.specs.Differences.{difference}
 use Rattle.list_laws.proofs.Totals.{total_eq}
-use Rattle.secret_sharing.proofs.Agreement.{own_same}
+use Rattle.share_world.proofs.LocalWords.{own_alike, joined_same}
 use Rattle.share_world.proofs.Settled.{product_reads, settled}
 
 set_later : (s : Session) (t v : ℕ) → SetBefore s t v → SetBefore s (suc t) v
@@ -47,7 +49,7 @@ decide_set s (suc t) v = elim (decide_set s t v) [
 ]
 
 -- a linear operation reads what it is said to read
-local_reads : (q : ℕ) (op : Operation) (c i a b a' b' : ℕ) → is_product op ≡ false → (reads_first op ≡ true → a ≡ a') → (reads_second op ≡ true → b ≡ b') → local q op c i a b ≡ local q op c i a' b'
+pub local_reads : (q : ℕ) (op : Operation) (c i a b a' b' : ℕ) → is_product op ≡ false → (reads_first op ≡ true → a ≡ a') → (reads_second op ≡ true → b ≡ b') → local q op c i a b ≡ local q op c i a' b'
 local_reads q Add c i a b a' b' p f s = ap₂ (λ x y. local q Add c i x y) (f refl) (s refl)
 local_reads q Sub c i a b a' b' p f s = ap₂ (λ x y. local q Sub c i x y) (f refl) (s refl)
 local_reads q Xor c i a b a' b' p f s = ap₂ (λ x y. local q Xor c i x y) (f refl) (s refl)
@@ -60,36 +62,6 @@ local_reads q Eq c (suc i) a b a' b' p f s = refl
 local_reads q Mul c i a b a' b' p f s = absurd (both_ways true p refl)
 local_reads q And c i a b a' b' p f s = absurd (both_ways true p refl)
 
--- the wires that are set before gate t have their summands
-solved : (w : World) (s : ℕ) → GatesInOrder (session w.plan s) → (sh : ℕ → ℕ → ℕ) (dl : ℕ → Slot → ℕ → ℕ) → SummandsSolve w s sh dl → (t : ℕ) → t ≤ length (session w.plan s).gates
-    → (v i : ℕ) → SetBefore (session w.plan s) t v → i < length w.plan.groups → sh v i ≡ summands (run_of w s) t v i
-solved w s c sh dl h zero le v i (inl l) li = h.inputs v i l ∙ h.input_deals v i l ∙ sym (cond-true (nat_lt v (length (owners (session w.plan s)))) _ 0 (lt-ltb v (length (owners (session w.plan s))) l))
-solved w s c sh dl h zero le v i (inr u) li = absurd (omega (arith, u.1))
-solved w s c sh dl h (suc t) le v i set li =
-    let sess = session w.plan s in
-    let g = gate sess t in
-    let r = run_of w s in
-    let ih : (v i : ℕ) → SetBefore sess t v → i < length w.plan.groups → sh v i ≡ summands r t v i = solved w s c sh dl h t (omega arith) in
-    let here : sh g.output i ≡ gate_summands r t (summands r t g.first) (summands r t g.second) i = elim (cases_Bool (is_product g.operation)) [
-      | inl yes' ↦
-          let reads = product_reads g.operation yes' in
-          let own : (p : ℕ) → own_product (scheme w.plan) p (sh g.first) (sh g.second) ≡ own_product (scheme w.plan) p (summands r t g.first) (summands r t g.second) = λ p.
-          own_same (scheme w.plan) p _ _ _ _ (λ i j li lj e. same_refl _ _ _ (ap₂ (λ a b. a * b) (ih g.first i (c.first t (omega arith) reads.0) li) (ih g.second j (c.second t (omega arith) reads.1) lj))) in
-          h.products t i (omega arith) yes'
-          ∙ ap (λ z. z % (scheme w.plan).modulus) (total_eq w.plan.parties _ _ (λ p lp. ap (λ z. if has_pair (scheme w.plan) p then z else 0)
-          (h.product_deals t p i (omega arith) yes' ∙ ap (λ z. dealt (scheme w.plan) z (tape_word w s (At_gate t) p) i) (own p))))
-          ∙ sym (cond-true (is_product g.operation) _ _ yes')
-      | inr no' ↦ h.linear t i (omega arith) no'
-          ∙ local_reads (scheme w.plan).modulus g.operation g.constant i _ _ _ _ no' (λ e. ih g.first i (c.first t (omega arith) e) li) (λ e. ih g.second i (c.second t (omega arith) e) li)
-          ∙ sym (cond-false (is_product g.operation) _ _ no')
-    ] in
-    elim (set_now sess t v set) [
-      | inl e ↦ subst (λ z. sh z i ≡ summands r (suc t) z i) e (here ∙ sym (ap (λ f. f i) (cond-true (nat_eq g.output g.output) _ (summands r t g.output) (eq-eqb g.output g.output refl))))
-      | inr b ↦
-          let apart : v ≢ g.output = λ e. c.output t (omega arith) (subst (SetBefore sess t) e b) in
-          ih v i b li ∙ sym (ap (λ f. f i) (cond-false (nat_eq v g.output) _ (summands r t v) (ne_eqb v g.output apart)))
-    ]
-
 -- a wire that isn't set has 0
 unset_zero : (w : World) (s t v i : ℕ) → (SetBefore (session w.plan s) t v → ⊥) → summands (run_of w s) t v i ≡ 0
 unset_zero w s zero v i no' = cond-false (nat_lt v (length (owners (session w.plan s)))) _ 0 (le-ltb v (length (owners (session w.plan s))) (elim (cases_lt v (length (owners (session w.plan s)))) [ inl l ↦ absurd (no' (inl l)) | inr past ↦ past ]))
@@ -98,30 +70,99 @@ unset_zero w s (suc t) v i no' =
     ap (λ f. f i) (cond-false (nat_eq v g.output) _ (summands (run_of w s) t v) (ne_eqb v g.output (λ e. no' (inr (t, omega arith, sym e)))))
     ∙ unset_zero w s t v i (λ b. no' (set_later (session w.plan s) t v b))
 
-wires_are : (w : World) (s : ℕ) → GatesInOrder (session w.plan s) → (sh : ℕ → ℕ → ℕ) (dl : ℕ → Slot → ℕ → ℕ) → SummandsSolve w s sh dl
-    → (v i : ℕ) → i < length w.plan.groups → sh v i ≡ summands (run_of w s) (length (session w.plan s).gates) v i
-wires_are w s c sh dl h v i li = elim (decide_set (session w.plan s) (length (session w.plan s).gates) v) [
-  | inl yes' ↦ solved w s c sh dl h (length (session w.plan s).gates) (omega arith) v i yes' li
-  | inr no' ↦ h.unset v i no' ∙ sym (unset_zero w s (length (session w.plan s).gates) v i no')
-]
+module _ (w : World) (s : ℕ) (c : GatesInOrder (session w.plan s)) (sh : ℕ → ℕ → ℕ) (dl : ℕ → Slot → ℕ → ℕ) (h : SummandsSolve w s sh dl) where
+  abbrev x : Session
+  x = session w.plan s
 
--- what a party deals at a product is of the summands of wires that are set
-gate_deal : (w : World) (s : ℕ) → GatesInOrder (session w.plan s) → (sh : ℕ → ℕ → ℕ) (dl : ℕ → Slot → ℕ → ℕ) → SummandsSolve w s sh dl
-    → (t p i : ℕ) → t < length (session w.plan s).gates → is_product (gate (session w.plan s) t).operation ≡ true
-    → dl p (At_gate t) i ≡ deal_of w s p (At_gate t) i
-gate_deal w s c sh dl h t p i lt product =
-    let g = gate (session w.plan s) t in
-    let reads = product_reads g.operation product in
-    let before : (v i : ℕ) → SetBefore (session w.plan s) t v → i < length w.plan.groups → sh v i ≡ summands (run_of w s) t v i = solved w s c sh dl h t (omega arith) in
-    h.product_deals t p i lt product
-    ∙ ap (λ z. dealt (scheme w.plan) z (tape_word w s (At_gate t) p) i)
-    (own_same (scheme w.plan) p _ _ _ _ (λ i j li lj e. same_refl _ _ _ (ap₂ (λ a b. a * b) (before g.first i (c.first t lt reads.0) li) (before g.second j (c.second t lt reads.1) lj))))
+  -- the wires that are set before gate t have their summands
+  abbrev Known : ℕ → Type 0
+  Known t = (v i : ℕ) → SetBefore x t v → i < length w.plan.groups → sh v i ≡ summands (run_of w s) t v i
 
-deals_are : (w : World) (s : ℕ) → GatesInOrder (session w.plan s) → (sh : ℕ → ℕ → ℕ) (dl : ℕ → Slot → ℕ → ℕ) → SummandsSolve w s sh dl
-    → (p : ℕ) (z : Slot) (i : ℕ) → Inside (session w.plan s) z → deals_in w.plan s p z ≡ true → dl p z i ≡ deal_of w s p z i
-deals_are w s c sh dl h p (Input v) i lv owns = subst (λ z. dl z (Input v) i ≡ deal_of w s z (Input v) i) (eqb-true _ _ owns) (h.input_deals v i lv)
-deals_are w s c sh dl h p (At_gate t) i lt deals = gate_deal w s c sh dl h t p i lt (and_parts (is_product (gate (session w.plan s) t).operation) _ deals).0
-deals_are w s c sh dl h p (Output o) i lo none = absurd (both_ways false refl none)
+  -- the wires that a product reads
+  first_known : (t : ℕ) → t < length x.gates → is_product (gate x t).operation ≡ true → Known t → (i : ℕ) → i < length w.plan.groups → sh (gate x t).first i ≡ summands (run_of w s) t (gate x t).first i
+  first_known t l product known i li = known (gate x t).first i (c.first t l (product_reads (gate x t).operation product).0) li
+
+  second_known : (t : ℕ) → t < length x.gates → is_product (gate x t).operation ≡ true → Known t → (i : ℕ) → i < length w.plan.groups → sh (gate x t).second i ≡ summands (run_of w s) t (gate x t).second i
+  second_known t l product known i li = known (gate x t).second i (c.second t l (product_reads (gate x t).operation product).1) li
+
+  -- what is dealt of a product
+  gate_deal : (t p i : ℕ) → t < length x.gates → is_direct x t ≡ true → Known t → dl p (At_gate t) i ≡ deal_of w s p (At_gate t) i
+  gate_deal t p i l direct known =
+      let product = (and_parts (not x.prepared) _ direct).1 in
+      h.product_deals t p i l direct ∙ ap (λ z. dealt (scheme w.plan) z (tape_word w s (At_gate t) p) i) (own_alike w.plan p _ _ _ _ (first_known t l product known) (second_known t l product known))
+
+  deals_alike : (z : Slot) (f : ℕ → ℕ) (i : ℕ) → ((p : ℕ) → dl p z i ≡ dealt (scheme w.plan) (f p) (tape_word w s z p) i)
+      → dealt_sum w.plan dl z i ≡ total w.plan.parties (λ p. if has_pair (scheme w.plan) p then dealt (scheme w.plan) (f p) (tape_word w s z p) i else 0) % (scheme w.plan).modulus
+  deals_alike z f i e = ap (λ n. n % (scheme w.plan).modulus) (total_eq w.plan.parties _ _ (λ p lp. ap (λ n. if has_pair (scheme w.plan) p then n else 0) (e p)))
+
+  abbrev ProductIs : ℕ → ℕ → Type 0
+  ProductIs t i = sh (gate x t).output i ≡ product_of w s t (summands (run_of w s) t (gate x t).first) (summands (run_of w s) t (gate x t).second) i
+
+  prepared_is : (t i : ℕ) → t < length x.gates → x.prepared ≡ true → is_product (gate x t).operation ≡ true → Known t → ProductIs t i
+  prepared_is t i l yes' product known =
+      let r = run_of w s in
+      let a = mask w s t First in
+      let b = mask w s t Second in
+      let q = (scheme w.plan).modulus in
+      let prepared : is_prepared x t ≡ true = and_from x.prepared _ yes' product in
+      h.prepared t i l prepared
+      ∙ joined_same q i
+      (excess_alike (sh (gate x t).first) (summands r t (gate x t).first) a (first_known t l product known))
+      (excess_alike (sh (gate x t).second) (summands r t (gate x t).second) b (second_known t l product known))
+      refl refl (deals_alike (Mask_product t) (λ p. own_product (scheme w.plan) p a b) i (λ p. h.mask_deals t p i l prepared))
+      ∙ sym (ap (λ (f : ℕ → ℕ). f i) (cond-true x.prepared _ _ yes'))
+    where
+      excess_alike : (a a' b : ℕ → ℕ) → ((i : ℕ) → i < length w.plan.groups → a i ≡ a' i) → sum_of (scheme w.plan) (masked (scheme w.plan) a b) ≡ sum_of (scheme w.plan) (masked (scheme w.plan) a' b)
+      excess_alike a a' b e = ap (λ n. n % (scheme w.plan).modulus) (total_eq (length w.plan.groups) _ _ (λ i li. ap (λ n. difference (scheme w.plan).modulus n (b i)) (e i li)))
+
+  direct_is : (t i : ℕ) → t < length x.gates → x.prepared ≡ false → is_product (gate x t).operation ≡ true → Known t → ProductIs t i
+  direct_is t i l no' product known =
+      let direct : is_direct x t ≡ true = and_from _ _ (not_from_false x.prepared no') product in
+      h.products t i l direct
+      ∙ deals_alike (At_gate t) (own_value (run_of w s) t) i (λ p. gate_deal t p i l direct known)
+      ∙ sym (ap (λ (f : ℕ → ℕ). f i) (cond-false x.prepared _ _ no'))
+
+  gate_is : (t i : ℕ) → t < length x.gates → Known t → i < length w.plan.groups
+      → sh (gate x t).output i ≡ gate_summands (run_of w s) t (summands (run_of w s) t (gate x t).first) (summands (run_of w s) t (gate x t).second) i
+  gate_is t i l known li =
+      let g = gate x t in
+      elim (cases_Bool (is_product g.operation)) [
+        | inl product ↦ elim (cases_Bool x.prepared) [
+          | inl yes' ↦ prepared_is t i l yes' product known ∙ sym (cond-true (is_product g.operation) _ _ product)
+          | inr no' ↦ direct_is t i l no' product known ∙ sym (cond-true (is_product g.operation) _ _ product)
+        ]
+        | inr linear ↦ h.linear t i l linear
+            ∙ local_reads (scheme w.plan).modulus g.operation g.constant i _ _ _ _ linear (λ e. known g.first i (c.first t l e) li) (λ e. known g.second i (c.second t l e) li)
+            ∙ sym (cond-false (is_product g.operation) _ _ linear)
+      ]
+
+  solved : (t : ℕ) → t ≤ length x.gates → Known t
+  solved zero le v i (inl l) li = h.inputs v i l ∙ h.input_deals v i l ∙ sym (cond-true (nat_lt v (length (owners x))) _ 0 (lt-ltb v (length (owners x)) l))
+  solved zero le v i (inr u) li = absurd (omega (arith, u.1))
+  solved (suc t) le v i set li =
+      let g = gate x t in
+      let r = run_of w s in
+      let known : Known t = solved t (omega arith) in
+      elim (set_now x t v set) [
+        | inl e ↦ subst (λ z. sh z i ≡ summands r (suc t) z i) e (gate_is t i (omega arith) known li ∙ sym (ap (λ f. f i) (cond-true (nat_eq g.output g.output) _ (summands r t g.output) (eq-eqb g.output g.output refl))))
+        | inr b ↦
+            let apart : v ≢ g.output = λ e. c.output t (omega arith) (subst (SetBefore x t) e b) in
+            known v i b li ∙ sym (ap (λ f. f i) (cond-false (nat_eq v g.output) _ (summands r t v) (ne_eqb v g.output apart)))
+      ]
+
+  wires_are : (v i : ℕ) → i < length w.plan.groups → sh v i ≡ summands (run_of w s) (length x.gates) v i
+  wires_are v i li = elim (decide_set x (length x.gates) v) [
+    | inl yes' ↦ solved (length x.gates) (omega arith) v i yes' li
+    | inr no' ↦ h.unset v i no' ∙ sym (unset_zero w s (length x.gates) v i no')
+  ]
+
+  deals_are : (p : ℕ) (z : Slot) (i : ℕ) → Inside x z → deals_in w.plan s p z ≡ true → dl p z i ≡ deal_of w s p z i
+  deals_are p (Input v) i lv owns = subst (λ z. dl z (Input v) i ≡ deal_of w s z (Input v) i) (eqb-true _ _ owns) (h.input_deals v i lv)
+  deals_are p (At_gate t) i lt deals = gate_deal t p i lt (and_parts (is_direct x t) _ deals).0 (solved t (omega arith))
+  deals_are p (Mask_product t) i inside deals = h.mask_deals t p i inside.0 inside.1
+  deals_are p (Output o) i lo none = absurd (both_ways false refl none)
+  deals_are p (Mask t side) i inside none = absurd (both_ways false refl none)
+  deals_are p (Masked t side) i inside none = absurd (both_ways false refl none)
 
 pub only_solution : (w : World) (s : ℕ) → OnlySolution w s
 only_solution w s c sh dl h = record {
@@ -139,7 +180,9 @@ at_end w s c t v le b =
 pub is_solution : (w : World) (s : ℕ) → IsSolution w s
 is_solution w s c = record {
   input_deals = λ v i l. refl;
-  product_deals = λ t p i l e. ap (λ z. dealt (scheme w.plan) z (tape_word w s (At_gate t) p) i) (own_at_end t p l e);
+  product_deals = λ t p i l e. ap (λ z. dealt (scheme w.plan) z (tape_word w s (At_gate t) p) i)
+      (let ends = ends_as t l (and_parts (not (session w.plan s).prepared) _ e).1 in ap₂ (own_product (scheme w.plan) p) ends.0 ends.1);
+  mask_deals = λ t p i l e. refl;
   inputs = λ v i l. ap (λ f. f i) (at_end w s c 0 v (omega arith) (inl l)) ∙ cond-true (nat_lt v (length (owners (session w.plan s)))) _ 0 (lt-ltb v (length (owners (session w.plan s))) l);
   linear = λ t i l e.
       let g = gate (session w.plan s) t in
@@ -147,7 +190,15 @@ is_solution w s c = record {
       ∙ local_reads (scheme w.plan).modulus g.operation g.constant i _ _ _ _ e
       (λ r. sym (ap (λ f. f i) (at_end w s c t g.first (omega arith) (c.first t l r)))) (λ r. sym (ap (λ f. f i) (at_end w s c t g.second (omega arith) (c.second t l r))));
   products = λ t i l e.
-      output t i l ∙ cond-true (is_product (gate (session w.plan s) t).operation) _ _ e;
+      let both = and_parts (not (session w.plan s).prepared) _ e in
+      output t i l ∙ cond-true (is_product (gate (session w.plan s) t).operation) _ _ both.1
+      ∙ ap (λ (f : ℕ → ℕ). f i) (cond-false (session w.plan s).prepared _ _ (not-true (session w.plan s).prepared both.0));
+  prepared = λ t i l e.
+      let both = and_parts (session w.plan s).prepared _ e in
+      let ends = ends_as t l both.1 in
+      output t i l ∙ cond-true (is_product (gate (session w.plan s) t).operation) _ _ both.1
+      ∙ ap (λ (f : ℕ → ℕ). f i) (cond-true (session w.plan s).prepared _ _ both.0)
+      ∙ ap₂ (λ a b. prepared_summand (scheme w.plan) (mask w s t First) (mask w s t Second) (mask_product w s t) a b i) ends.0 ends.1;
   unset = λ v i no'. unset_zero w s (length (session w.plan s).gates) v i no';
 }
   where
@@ -158,10 +209,11 @@ is_solution w s c = record {
         ap (λ f. f i) (at_end w s c (suc t) g.output (omega arith) (inr (t, omega arith, refl)))
         ∙ ap (λ f. f i) (cond-true (nat_eq g.output g.output) _ (summands (run_of w s) t g.output) (eq-eqb g.output g.output refl))
 
-    -- the own product is of summands that stay to the end
-    own_at_end : (t p : ℕ) → t < length (session w.plan s).gates → is_product (gate (session w.plan s) t).operation ≡ true
-        → own_value (run_of w s) t p ≡ own_product (scheme w.plan) p (summands (run_of w s) (length (session w.plan s).gates) (gate (session w.plan s) t).first) (summands (run_of w s) (length (session w.plan s).gates) (gate (session w.plan s) t).second)
-    own_at_end t p l e =
+    -- the wires that a product reads stay to the end
+    ends_as : (t : ℕ) → t < length (session w.plan s).gates → is_product (gate (session w.plan s) t).operation ≡ true
+        → (summands (run_of w s) t (gate (session w.plan s) t).first ≡ summands (run_of w s) (length (session w.plan s).gates) (gate (session w.plan s) t).first)
+        × (summands (run_of w s) t (gate (session w.plan s) t).second ≡ summands (run_of w s) (length (session w.plan s).gates) (gate (session w.plan s) t).second)
+    ends_as t l e =
         let g = gate (session w.plan s) t in
         let reads = product_reads g.operation e in
-        ap₂ (own_product (scheme w.plan) p) (sym (at_end w s c t g.first (omega arith) (c.first t l reads.0))) (sym (at_end w s c t g.second (omega arith) (c.second t l reads.1)))
+        (sym (at_end w s c t g.first (omega arith) (c.first t l reads.0)), sym (at_end w s c t g.second (omega arith) (c.second t l reads.1)))

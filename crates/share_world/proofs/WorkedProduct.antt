@@ -6,10 +6,11 @@ use Rattle.std.proofs.lemmas.Bool.{cases_Bool, cases_eq, eq-eqb, eqb-true, ne_eq
 use Rattle.list_laws.specs.Lists.{total}
 use Rattle.list_laws.proofs.JoinedLists.{every_at}
 use Rattle.party_set.specs.Parties.{IsQ2, covers}
-use Rattle.job_session.specs.KeptWires.{slot_sets, slot_reads}
-use Rattle.job_session.specs.Sessions.{owners, gate}
+use Rattle.job_session.specs.KeptWires.{IsInOrder, slot_sets, slot_reads}
+use Rattle.job_session.specs.Sessions.{owners, gate, slot_list}
 use Rattle.job_plan.specs.Plans.{session, structure, words, gives}
 use Rattle.job_session.specs.SoundSessions.{IsSoundSession}
+use Rattle.job_plan.specs.Messages.{messages}
 use Rattle.job_plan.specs.Sound.{IsSound}
 use Rattle.job_plan.specs.InputWords.{AreInputs, given}
 use Rattle.job_plan.specs.Tallies.{tape_length}
@@ -21,6 +22,7 @@ pub plain_is : MultiplyPlain
 plain_is = refl
 
 pub words_are : MultiplyWords
+unfolding slot_list
 words_are = refl
 
 -- ---- the world is whole
@@ -43,6 +45,42 @@ no_cover = record { no_cover = λ i j li lj. each i j li lj }
     each (suc (suc zero)) (suc (suc (suc j))) li lj = absurd (omega arith)
     each (suc (suc (suc i))) j li lj = absurd (omega arith)
 
+-- ---- each wire is set once, and read only after that
+
+other : (a b w : ℕ) → a ≢ b → list_any (nat_eq w) (a ∷ []) ≡ true → list_any (nat_eq w) (b ∷ []) ≡ false
+other a b w ne e = elim (cases_Bool (nat_eq w a)) [
+  | inl is ↦ ap (λ c. c || false) (ne_eqb w b (λ same. ne (sym (eqb-true w a is) ∙ same)))
+  | inr differs ↦ absurd (both_ways (nat_eq w a || false) (ap (λ c. c || false) differs) e)
+]
+
+once : (j k w : ℕ) → j < k → k < 4 → slot_sets multiply_session j w ≡ true → slot_sets multiply_session k w ≡ false
+unfolding slot_list
+once j zero w jk lk e = absurd (omega arith)
+once zero (suc zero) w jk lk e = other 0 1 w (λ z. cc) e
+once (suc j) (suc zero) w jk lk e = absurd (omega arith)
+once zero (suc (suc zero)) w jk lk e = other 0 2 w (λ z. cc) e
+once (suc zero) (suc (suc zero)) w jk lk e = other 1 2 w (λ z. cc) e
+once (suc (suc j)) (suc (suc zero)) w jk lk e = absurd (omega arith)
+once j (suc (suc (suc zero))) w jk lk e = refl
+once j (suc (suc (suc (suc k)))) w jk lk e = absurd (omega arith)
+
+before : (k w : ℕ) → k < 4 → slot_reads multiply_session k w ≡ true → (j : ℕ) × (j < k) × (slot_sets multiply_session j w ≡ true)
+unfolding slot_list
+before zero w lk e = absurd (false≢true e)
+before (suc zero) w lk e = absurd (false≢true e)
+before (suc (suc zero)) zero lk e = (0, omega arith, refl)
+before (suc (suc zero)) (suc zero) lk e = (1, omega arith, refl)
+before (suc (suc zero)) (suc (suc w)) lk e = absurd (both_ways (slot_reads multiply_session 2 (suc (suc w))) (ap₂ (λ a b. a || (b || false)) (ne_eqb (suc (suc w)) 0 (omega arith)) (ne_eqb (suc (suc w)) 1 (omega arith))) e)
+before (suc (suc (suc zero))) w lk e = elim (cases_eq w 2) [
+  | inl is ↦ (2, omega arith, ap (λ c. c || false) (eq-eqb w 2 is))
+  | inr ne ↦ absurd (both_ways (slot_reads multiply_session 3 w) (ap (λ c. c || false) (ne_eqb w 2 ne)) e)
+]
+before (suc (suc (suc (suc k)))) w lk e = absurd (omega arith)
+
+in_order : IsInOrder multiply_session
+unfolding slot_list
+in_order = record { once = once; before = before }
+
 sound_session : IsSoundSession 3 multiply_session
 sound_session = record {
   wired = record {
@@ -53,40 +91,12 @@ sound_session = record {
     first = first;
     second = second;
     output = output;
-    order = record { once = once; before = before };
+    order = in_order;
   };
   owned = owned;
   read = read;
 }
   where
-    other : (a b w : ℕ) → a ≢ b → list_any (nat_eq w) (a ∷ []) ≡ true → list_any (nat_eq w) (b ∷ []) ≡ false
-    other a b w ne e = elim (cases_Bool (nat_eq w a)) [
-      | inl is ↦ ap (λ c. c || false) (ne_eqb w b (λ same. ne (sym (eqb-true w a is) ∙ same)))
-      | inr differs ↦ absurd (both_ways (nat_eq w a || false) (ap (λ c. c || false) differs) e)
-    ]
-
-    once : (j k w : ℕ) → j < k → k < 4 → slot_sets multiply_session j w ≡ true → slot_sets multiply_session k w ≡ false
-    once j zero w jk lk e = absurd (omega arith)
-    once zero (suc zero) w jk lk e = other 0 1 w (λ z. cc) e
-    once (suc j) (suc zero) w jk lk e = absurd (omega arith)
-    once zero (suc (suc zero)) w jk lk e = other 0 2 w (λ z. cc) e
-    once (suc zero) (suc (suc zero)) w jk lk e = other 1 2 w (λ z. cc) e
-    once (suc (suc j)) (suc (suc zero)) w jk lk e = absurd (omega arith)
-    once j (suc (suc (suc zero))) w jk lk e = refl
-    once j (suc (suc (suc (suc k)))) w jk lk e = absurd (omega arith)
-
-    before : (k w : ℕ) → k < 4 → slot_reads multiply_session k w ≡ true → (j : ℕ) × (j < k) × (slot_sets multiply_session j w ≡ true)
-    before zero w lk e = absurd (false≢true e)
-    before (suc zero) w lk e = absurd (false≢true e)
-    before (suc (suc zero)) zero lk e = (0, omega arith, refl)
-    before (suc (suc zero)) (suc zero) lk e = (1, omega arith, refl)
-    before (suc (suc zero)) (suc (suc w)) lk e = absurd (both_ways (slot_reads multiply_session 2 (suc (suc w))) (ap₂ (λ a b. a || (b || false)) (ne_eqb (suc (suc w)) 0 (omega arith)) (ne_eqb (suc (suc w)) 1 (omega arith))) e)
-    before (suc (suc (suc zero))) w lk e = elim (cases_eq w 2) [
-      | inl is ↦ (2, omega arith, ap (λ c. c || false) (eq-eqb w 2 is))
-      | inr ne ↦ absurd (both_ways (slot_reads multiply_session 3 w) (ap (λ c. c || false) (ne_eqb w 2 ne)) e)
-    ]
-    before (suc (suc (suc (suc k)))) w lk e = absurd (omega arith)
-
     owned : (v : ℕ) → v < 2 → slice_index (0 ∷ 1 ∷ []) v < 3
     owned zero l = omega arith
     owned (suc zero) l = omega arith
@@ -108,6 +118,17 @@ sound_session = record {
     output zero l = omega arith
     output (suc t) l = absurd (omega arith)
 
+few_messages : length (messages (multiply_plan 8)) ≤ 1048576
+unfolding slot_list
+few_messages = omega arith
+
+few_words : (p : ℕ) → p < 3 → total 1 (words (multiply_plan 8) p) ≤ 1048576
+unfolding slot_list
+few_words zero l = omega arith
+few_words (suc zero) l = omega arith
+few_words (suc (suc zero)) l = omega arith
+few_words (suc (suc (suc p))) l = absurd (omega arith)
+
 sound : IsSound (multiply_plan 8)
 sound = record {
   some_bits = omega arith;
@@ -118,17 +139,11 @@ sound = record {
   groups = omega arith;
   q2 = no_cover;
   few_sessions = omega arith;
-  few_messages = omega arith;
+  few_messages = few_messages;
   few_words = few_words;
   sessions = sessions;
 }
   where
-    few_words : (p : ℕ) → p < 3 → total 1 (words (multiply_plan 8) p) ≤ 1048576
-    few_words zero l = omega arith
-    few_words (suc zero) l = omega arith
-    few_words (suc (suc zero)) l = omega arith
-    few_words (suc (suc (suc p))) l = absurd (omega arith)
-
     sessions : (s : ℕ) → s < 1 → IsSoundSession 3 (session (multiply_plan 8) s)
     sessions zero l = sound_session
     sessions (suc s) l = absurd (omega arith)
@@ -160,15 +175,16 @@ are_inputs = record { parties = refl; sessions = sessions; counts = counts; belo
     below (suc (suc zero)) s k = small_lists ([] ∷ []) (tt, tt) s k
     below (suc (suc (suc p))) s k = omega arith
 
-are_tapes : AreTapes (multiply_plan 8) multiply_world.tapes
-are_tapes = record { parties = refl; lengths = lengths; below = small_lists multiply_world.tapes small }
-  where
-    lengths : (p : ℕ) → p < 3 → length (slice_index_or multiply_world.tapes p []) ≡ tape_length (multiply_plan 8) p
-    lengths zero l = refl
-    lengths (suc zero) l = refl
-    lengths (suc (suc zero)) l = refl
-    lengths (suc (suc (suc p))) l = absurd (omega arith)
+tape_lengths : (p : ℕ) → p < 3 → length (slice_index_or multiply_world.tapes p []) ≡ tape_length (multiply_plan 8) p
+unfolding slot_list
+tape_lengths zero l = refl
+tape_lengths (suc zero) l = refl
+tape_lengths (suc (suc zero)) l = refl
+tape_lengths (suc (suc (suc p))) l = absurd (omega arith)
 
+are_tapes : AreTapes (multiply_plan 8) multiply_world.tapes
+are_tapes = record { parties = refl; lengths = tape_lengths; below = small_lists multiply_world.tapes small }
+  where
     small : AllByRecursion (AllByRecursion (λ x. x < 256)) multiply_world.tapes
     small = ((omega arith, (omega arith, (omega arith, (omega arith, tt)))), ((omega arith, (omega arith, (omega arith, (omega arith, tt)))), ((omega arith, (omega arith, tt)), tt)))
 

@@ -2,7 +2,7 @@
 use Rattle.std.specs.Prelude.{◌≡◌, ℕ, ◌%◌, ◌^◌, ◌<◌, true, List, [], length, slice_index, slice_index_or}
 use Rattle.list_laws.specs.Lists.{total}
 use Rattle.secret_sharing.specs.Schemes.{summands}
-use Rattle.job_session.specs.Sessions.{output_wire}
+use Rattle.job_session.specs.Sessions.{output_wire, readers}
 use Rattle.job_plan.specs.Plans.{Plan, IsPlan, holds, session}
 use Rattle.job_plan.specs.Sound.{IsSound}
 use Rattle.job_plan.specs.Messages.{messages}
@@ -55,4 +55,6 @@ SentAreWords w =
 
 -- the outputs that it opens are the plain values
 abbrev pub OpenedArePlain : World → Type 0
-OpenedArePlain w = (p s o : ℕ) → local_output w (word w) p s o ≡ plain w s (output_wire (session w.plan s) o)
+OpenedArePlain w =
+    (p s o : ℕ) → o < length (readers (session w.plan s))
+    → local_output w (word w) p s o ≡ plain w s (output_wire (session w.plan s) o)

@@ -2,18 +2,60 @@
 use Rattle.std.specs.List.{AllByRecursion}
 use Rattle.std.specs.Prelude.{◌≡◌, ℕ, ◌<◌, ◌≤◌, ◌%◌, ◌^◌, nat_eq, nat_lt, if◌then◌else◌, length}
 use Rattle.list_laws.specs.Lists.{total}
-use Rattle.secret_sharing.specs.Schemes.{Run, dealt, product_summand, own_value, summands}
+use Rattle.secret_sharing.specs.Schemes.{Run, dealt, own_product, product_summand, own_value, summands}
+use Rattle.secret_sharing.specs.Prepared.{masked, joined_summand}
 use Rattle.job_plan.specs.declared.key.Key.{Key}
-use Rattle.job_session.specs.Sessions.{owners, gate, Slot}
-use Rattle.job_plan.specs.Plans.{Plan, holds, least_holder, scheme, session, slot, gives, slot_number, giver}
+use Rattle.job_session.specs.Sessions.{owners, gate, operand, Slot}
+use Rattle.job_session.specs.declared.side.Side.{Side}
+use Rattle.job_session.specs.declared.side.Side.TheVariants.{First, Second}
+use Rattle.job_session.specs.SlotNumbers.{first_of_gate}
+use Rattle.job_plan.specs.Plans.{Plan, holds, least_holder, scheme, session, slot, slot_number, giver}
 use Rattle.job_plan.specs.Messages.{messages}
-use Rattle.job_session.specs.Sessions.Slot.{Input, At_gate, Output}
-use Rattle.share_world.specs.Worlds.{World, input_of, tape_word, word}
+use Rattle.job_session.specs.Sessions.Slot.{Input, At_gate, Output, Mask, Mask_product, Masked}
+use Rattle.share_world.specs.Worlds.{World, input_of, tape_word, mask, word}
 use Rattle.job_session.specs.Sessions.{output_wire}
 
 -- the message of summand i that p sends q in a slot
 abbrev pub key_at : Plan → ℕ → Slot → ℕ → ℕ → ℕ → Key
 key_at plan s kind i p q = record { session = s; slot = slot_number plan s kind; share = i; sender = p; receiver = q }
+
+-- summand i of what q deals in a slot, as p has it: where p is q, it deals v
+abbrev pub local_deal : World → (Key → ℕ) → ℕ → ℕ → Slot → ℕ → ℕ → ℕ → ℕ
+local_deal w got p s kind q v i =
+    if nat_eq q p then dealt (scheme w.plan) v (tape_word w s kind p) i else got (key_at w.plan s kind i q p)
+
+-- summand i of a mask: a word of its own where p is the least holder, and else what it got
+abbrev pub local_mask : World → (Key → ℕ) → ℕ → ℕ → ℕ → Side → ℕ → ℕ
+local_mask w got p s t side i =
+    let q = least_holder w.plan i in
+    if nat_eq q p then mask w s t side i else got (key_at w.plan s (Mask t side) i q p)
+
+-- the sum of the summands that p holds, and of those of a slot's opening that it got
+abbrev pub local_opened : World → (Key → ℕ) → ℕ → ℕ → Slot → (ℕ → ℕ) → ℕ
+local_opened w got p s kind held =
+    total (length w.plan.groups) (λ i.
+    if holds w.plan p i then held i else got (key_at w.plan s kind i (least_holder w.plan i) p))
+    % 2 ^ w.plan.bits
+
+-- what p opens of a wire with these summands: what it has more than its mask
+abbrev pub local_excess : World → (Key → ℕ) → ℕ → ℕ → ℕ → Side → (ℕ → ℕ) → ℕ
+local_excess w got p s t side x =
+    local_opened w got p s (Masked t side) (masked (scheme w.plan) x (local_mask w got p s t side))
+
+-- summand i of the product of both masks
+abbrev pub local_mask_product : World → (Key → ℕ) → ℕ → ℕ → ℕ → ℕ → ℕ
+local_mask_product w got p s t =
+    product_summand (scheme w.plan) (local_deal w got p s (Mask_product t))
+    (local_mask w got p s t First) (local_mask w got p s t Second)
+
+-- summand i of what gate t makes of x and y, where it is a product
+abbrev pub local_product : World → (Key → ℕ) → ℕ → ℕ → ℕ → (ℕ → ℕ) → (ℕ → ℕ) → ℕ → ℕ
+local_product w got p s t x y =
+    if (session w.plan s).prepared
+    then joined_summand (scheme w.plan).modulus
+    (local_excess w got p s t First x) (local_excess w got p s t Second y)
+    (local_mask w got p s t First) (local_mask w got p s t Second) (local_mask_product w got p s t)
+    else product_summand (scheme w.plan) (local_deal w got p s (At_gate t)) x y
 
 -- the gates of session s as party p runs them: of w it reads its own inputs and tape alone
 abbrev pub local_run : World → (Key → ℕ) → ℕ → ℕ → Run
@@ -21,26 +63,30 @@ local_run w got p s = record {
   scheme = scheme w.plan;
   gates = gate (session w.plan s);
   start = λ v i.
-      if nat_lt v (length (owners (session w.plan s))) then
-      (if gives w.plan s p v then dealt (scheme w.plan) (input_of w s v) (tape_word w s (Input v) p) i
-      else got (key_at w.plan s (Input v) i (giver w.plan s v) p))
+      if nat_lt v (length (owners (session w.plan s)))
+      then local_deal w got p s (Input v) (giver w.plan s v) (input_of w s v) i
       else 0;
-  product = λ t. product_summand (scheme w.plan) (λ q v i.
-      if nat_eq q p then dealt (scheme w.plan) v (tape_word w s (At_gate t) p) i
-      else got (key_at w.plan s (At_gate t) i q p));
+  product = local_product w got p s;
 }
 
--- what p deals in a slot: its input, or its own product
+-- what p deals in a slot: its input, or its own product, of the gate's wires or of their masks
 abbrev pub local_value : World → (Key → ℕ) → ℕ → ℕ → Slot → ℕ
 local_value w got p s (Input v) = input_of w s v
 local_value w got p s (At_gate t) = own_value (local_run w got p s) t p
-local_value w got p s (Output o) = 0
+local_value w got p s (Mask_product t) =
+    own_product (scheme w.plan) p (local_mask w got p s t First) (local_mask w got p s t Second)
+local_value w got p s _ = 0
 
 -- the word of a message as its sender p has it
 abbrev pub local_word_in : World → (Key → ℕ) → ℕ → Key → Slot → ℕ
 local_word_in w got p key (Output o) =
     summands (local_run w got p key.session) (length (session w.plan key.session).gates)
     (output_wire (session w.plan key.session) o) key.share
+local_word_in w got p key (Mask t side) = local_mask w got p key.session t side key.share
+local_word_in w got p key (Masked t side) =
+    masked (scheme w.plan)
+    (summands (local_run w got p key.session) t (operand (gate (session w.plan key.session) t) side))
+    (local_mask w got p key.session t side) key.share
 local_word_in w got p key kind =
     dealt (scheme w.plan) (local_value w got p key.session kind) (tape_word w key.session kind p) key.share
 
@@ -48,14 +94,11 @@ local_word_in w got p key kind =
 abbrev pub local_word : World → (Key → ℕ) → ℕ → Key → ℕ
 local_word w got p key = local_word_in w got p key (slot w.plan key.session key.slot)
 
--- output wire o of session s as p opens it: the sum of the summands that it holds and got
+-- output wire o of session s as p opens it
 abbrev pub local_output : World → (Key → ℕ) → ℕ → ℕ → ℕ → ℕ
 local_output w got p s o =
     let x = session w.plan s in
-    total (length w.plan.groups) (λ i.
-    if holds w.plan p i then summands (local_run w got p s) (length x.gates) (output_wire x o) i
-    else got (key_at w.plan s (Output o) i (least_holder w.plan i) p))
-    % 2 ^ w.plan.bits
+    local_opened w got p s (Output o) (summands (local_run w got p s) (length x.gates) (output_wire x o))
 
 -- if each party got what the senders send, all words are those of the equations
 abbrev pub LocalsJoin : World → Type 0
@@ -64,10 +107,10 @@ LocalsJoin w =
     (messages w.plan)
     → AllByRecursion (λ key. got key.receiver key ≡ word w key) (messages w.plan)
 
--- the first n gates read what was got in the slots before
+-- the first n gates read what was got in the slots before those of gate n
 abbrev pub ReadsBefore : World → Type 0
 ReadsBefore w =
     (p s n : ℕ) (got later : Key → ℕ) → n ≤ length (session w.plan s).gates
-    → ((key : Key) → key.session ≡ s → key.slot < slot_number w.plan s (At_gate n) → got key ≡ later key)
+    → ((key : Key) → key.session ≡ s → key.slot < first_of_gate (session w.plan s) n → got key ≡ later key)
     → (v i : ℕ) → i < length w.plan.groups
     → summands (local_run w got p s) n v i ≡ summands (local_run w later p s) n v i

@@ -5,11 +5,13 @@ use Rattle.circuit_model.specs.declared.gate.Operation.{Operation}
 use Rattle.circuit_model.specs.Circuits.{is_product}
 use Rattle.circuit_model.specs.declared.gate.Operation.TheVariants.{Neg, Inv, Eq, Eqw}
 use Rattle.secret_sharing.specs.Schemes.{dealt, local, own_product, has_pair, summands}
-use Rattle.job_session.specs.Sessions.{owners, Session, Slot, gate}
-use Rattle.job_session.specs.Sessions.Slot.{Input, At_gate}
+use Rattle.secret_sharing.specs.Prepared.{prepared_summand}
+use Rattle.job_session.specs.Sessions.{owners, Session, Slot, gate, is_direct, is_prepared}
+use Rattle.job_session.specs.Sessions.Slot.{Input, At_gate, Mask_product}
+use Rattle.job_session.specs.declared.side.Side.TheVariants.{First, Second}
 use Rattle.job_session.specs.SoundSessions.{Inside}
-use Rattle.job_plan.specs.Plans.{scheme, session, deals_in, giver}
-use Rattle.share_world.specs.Worlds.{World, run_of, input_of, tape_word, deal_of}
+use Rattle.job_plan.specs.Plans.{Plan, scheme, session, deals_in, giver}
+use Rattle.share_world.specs.Worlds.{World, run_of, input_of, tape_word, mask, deal_of}
 
 -- the operation reads the first wire of its gate
 abbrev pub reads_first : Operation → Bool
@@ -34,16 +36,24 @@ pub record GatesInOrder (s : Session) : Type 0 where
   pub second : (t : ℕ) → t < length s.gates → reads_second (gate s t).operation ≡ true → SetBefore s t (gate s t).second
   pub output : (t : ℕ) → t < length s.gates → SetBefore s t (gate s t).output → ⊥
 
+-- summand i of what all parties deal in a slot of products
+abbrev pub dealt_sum : Plan → (ℕ → Slot → ℕ → ℕ) → Slot → ℕ → ℕ
+dealt_sum plan deal kind i =
+    total plan.parties (λ p. if has_pair (scheme plan) p then deal p kind i else 0) % (scheme plan).modulus
+
 -- summands of the wires, and of the deals by party and slot, as the protocol has them
 pub record SummandsSolve (w : World) (s : ℕ) (summand : ℕ → ℕ → ℕ) (deal : ℕ → Slot → ℕ → ℕ) : Type 0 where
   pub input_deals : (v i : ℕ) → v < length (owners (session w.plan s))
       → deal (giver w.plan s v) (Input v) i
       ≡ dealt (scheme w.plan) (input_of w s v) (tape_word w s (Input v) (giver w.plan s v)) i
-  pub product_deals : (t p i : ℕ) → t < length (session w.plan s).gates
-      → is_product (gate (session w.plan s) t).operation ≡ true
+  pub product_deals : (t p i : ℕ) → t < length (session w.plan s).gates → is_direct (session w.plan s) t ≡ true
       → deal p (At_gate t) i
       ≡ dealt (scheme w.plan) (own_product (scheme w.plan) p (summand (gate (session w.plan s) t).first)
       (summand (gate (session w.plan s) t).second)) (tape_word w s (At_gate t) p) i
+  pub mask_deals : (t p i : ℕ) → t < length (session w.plan s).gates → is_prepared (session w.plan s) t ≡ true
+      → deal p (Mask_product t) i
+      ≡ dealt (scheme w.plan) (own_product (scheme w.plan) p (mask w s t First) (mask w s t Second))
+      (tape_word w s (Mask_product t) p) i
   pub inputs : (v i : ℕ) → v < length (owners (session w.plan s))
       → summand v i ≡ deal (giver w.plan s v) (Input v) i
   pub linear : (t i : ℕ) → t < length (session w.plan s).gates
@@ -51,11 +61,13 @@ pub record SummandsSolve (w : World) (s : ℕ) (summand : ℕ → ℕ → ℕ) (
       → summand (gate (session w.plan s) t).output i
       ≡ local (scheme w.plan).modulus (gate (session w.plan s) t).operation (gate (session w.plan s) t).constant i
       (summand (gate (session w.plan s) t).first i) (summand (gate (session w.plan s) t).second i)
-  pub products : (t i : ℕ) → t < length (session w.plan s).gates
-      → is_product (gate (session w.plan s) t).operation ≡ true
+  pub products : (t i : ℕ) → t < length (session w.plan s).gates → is_direct (session w.plan s) t ≡ true
+      → summand (gate (session w.plan s) t).output i ≡ dealt_sum w.plan deal (At_gate t) i
+  pub prepared : (t i : ℕ) → t < length (session w.plan s).gates → is_prepared (session w.plan s) t ≡ true
       → summand (gate (session w.plan s) t).output i
-      ≡ total w.plan.parties (λ p. if has_pair (scheme w.plan) p then deal p (At_gate t) i
-      else 0) % (scheme w.plan).modulus
+      ≡ prepared_summand (scheme w.plan) (mask w s t First) (mask w s t Second)
+      (dealt_sum w.plan deal (Mask_product t)) (summand (gate (session w.plan s) t).first)
+      (summand (gate (session w.plan s) t).second) i
   pub unset : (v i : ℕ) → (SetBefore (session w.plan s) (length (session w.plan s).gates) v → ⊥) → summand v i ≡ 0
 
 -- these summands of the wires and of the deals are the world's

@@ -1,11 +1,11 @@
 -- The tables of a session make the change of its tapes.
-use Rattle.std.proofs.Common.{◌≡◌, ℕ, ◌+◌, ◌-◌, ◌%◌, ◌^◌, ◌<◌, ◌≤◌, true, nat_eq, nat_lt, if◌then◌else◌, All, List, [], length, refl, sym, ap, ap₂, ◌∙◌, subst, arith, inl, inr, pow_pos}
+use Rattle.std.proofs.Common.{◌≡◌, ℕ, ◌+◌, ◌-◌, ◌%◌, ◌^◌, ◌<◌, true, nat_eq, nat_lt, All, List, [], length, sym, ap, ap₂, ◌∙◌, subst, arith, inl, inr, pow_pos}
 use Rattle.std.specs.Prelude.{slice_index, slice_index_or}
 use Rattle.std.specs.Global.{Vec}
 use Rattle.std.proofs.lemmas.List.{length-map, get_or_default}
 use Rattle.std.proofs.Math.Nat.{mod-eq_of_lt, mod-lt}
 use Rattle.std.proofs.Math.ListN.{get_or-eq_default}
-use Rattle.std.proofs.lemmas.Bool.{cases_Bool, cases_lt, cond-true, cond-false, cond_both, lt-ltb, and_parts}
+use Rattle.std.proofs.lemmas.Bool.{cases_Bool, cases_lt, cond-true, cond-false, lt-ltb, and_parts}
 use Rattle.list_laws.specs.Lists.{total, joined, listed}
 use Rattle.list_laws.proofs.Totals.{total_eq}
 use Rattle.list_laws.proofs.JoinedLists.{length-joined, length-listed, listed_at, listed_eq, joined_eq}
@@ -14,24 +14,29 @@ use Rattle.circuit_model.specs.Circuits.{is_product}
 use Rattle.circuit_model.proofs.SetAt.{set_there}
 use Rattle.secret_sharing.specs.Schemes.{summands}
 use Rattle.party_set.specs.Parties.{has_party}
-use Rattle.job_session.specs.Sessions.{Session, owners, gate}
+use Rattle.job_session.specs.declared.side.Side.{Side}
+use Rattle.job_session.specs.declared.side.Side.TheVariants.{First, Second}
+use Rattle.job_session.specs.Sessions.{Session, Slot, owners, gate, operand, is_direct, is_prepared, mask_wire}
+use Rattle.job_session.specs.Sessions.Slot.{Input, At_gate, Output, Mask, Mask_product, Masked}
+use Rattle.job_session.specs.SoundSessions.{Inside}
+use Rattle.job_session.proofs.SessionSlots.{slots_are_numbered}
 use Rattle.job_plan.specs.Plans.{Plan, session, slot, slots, words, words_in, place, deals_in}
-use Rattle.job_session.specs.Sessions.Slot.{At_gate}
 use Rattle.job_plan.specs.InputWords.{AreInputs, session_words}
 use Rattle.job_plan.proofs.Slots.{at_its_number}
-use Rattle.job_session.proofs.SessionSlots.{slot_cases}
 use Rattle.share_world.specs.Laws.{IsWorld, IsWhole}
 use Rattle.share_world.specs.Solutions.{GatesInOrder}
-use Rattle.share_world.specs.Worlds.{World, input_of, tape_word, run_of, value_before, plain, dealt_value}
-use Rattle.share_world.proofs.SmallWords.{is_world, is_plan, small_run, small_words}
+use Rattle.share_world.specs.Worlds.{World, input_of, tape_word, run_of, value_before, plain, mask}
+use Rattle.share_world.proofs.SmallWords.{small_words}
 use Rattle.share_world.proofs.WireSums.{world_sums}
-use Rattle.wire_tables.specs.WireTables.{value_list, summand_row, summand_rows}
-use Rattle.wire_tables.proofs.RowSteps.{own_alike}
 use Rattle.share_world.proofs.Settled.{in_order, settled, product_settled}
-use Rattle.wire_tables.proofs.MessageSenders.{own_at_end, read_settled}
-use Rattle.tape_map.specs.TapeMaps.{hidden, with_inputs, delta, raised, moved_summands, moved_value, moved_words, piece_map, tape_of}
-use Rattle.tape_map.specs.Changes.{moved_rows, IsChange, Fits, deals_by, grown_words, grown_piece}
+use Rattle.wire_tables.specs.WireTables.{summand_rows}
+use Rattle.wire_tables.specs.Steps.{IsRow}
+use Rattle.share_world.proofs.LocalWords.{own_alike}
+use Rattle.wire_tables.proofs.TableRows.{rows_named, wire_last, mask_last, wire_whole, mask_whole}
+use Rattle.tape_map.specs.TapeMaps.{hidden, hidden_word, growth, with_inputs, delta, raised, moved_summands, moved_mask, moved_words, piece_map, tape_of}
+use Rattle.tape_map.specs.Changes.{growths, grown_row, grown_rows, grown_mask, grown_masks, masks_of, IsTable, IsChange, AreGrowths, AreNamedRows, Fits, growth_in, growth_by, grown_words, grown_piece}
 use Rattle.tape_map.specs.declared.change.Change.{Change}
+use Rattle.tape_map.proofs.RaisedDeals.{raised_eq}
 
 -- ---- numbers of lists
 
@@ -40,18 +45,6 @@ listed_below n q f some h v = elim (cases_lt v n) [
   | inl l ↦ subst (λ z. z < q) (sym (listed_at n f v 0 l)) (h v)
   | inr past ↦ subst (λ z. z < q) (sym (get_or-eq_default (listed n f) 0 (omega (arith, length-listed n f)))) some
 ]
-
-rows_below : (n m q : ℕ) (f : ℕ → ℕ → ℕ) → 0 < q → ((v i : ℕ) → f v i < q) → (v i : ℕ) → slice_index (slice_index_or (listed n (λ v. listed m (f v))) v []) i < q
-rows_below n m q f some h v i = elim (cases_lt v n) [
-  | inl l ↦ subst (λ xs. slice_index xs i < q) (sym (listed_at n (λ v. listed m (f v)) v [] l)) (listed_below m q (f v) some (h v) i)
-  | inr past ↦ subst (λ xs. slice_index xs i < q) (sym (get_or-eq_default (listed n (λ v. listed m (f v))) [] (omega (arith, length-listed n (λ v. listed m (f v)))))) some
-]
-
-row_at : (n m : ℕ) (f : ℕ → ℕ → ℕ) (v : ℕ) → v < n → slice_index_or (listed n (λ v. listed m (f v))) v [] ≡ listed m (f v)
-row_at n m f v l = listed_at n (λ v. listed m (f v)) v [] l
-
-raised_below : (q g d : ℕ) (x : ℕ → ℕ) → 0 < q → ((i : ℕ) → x i < q) → (i : ℕ) → raised q g d x i < q
-raised_below q g d x some h i = cond_both (nat_eq i g) _ _ (λ z. z < q) (λ e. mod-lt (x i + d) some) (λ e. h i)
 
 -- a number that grows by 0 stays
 raised_by_none : (q g : ℕ) (x : ℕ → ℕ) (i : ℕ) → x i < q → raised q g 0 x i ≡ x i
@@ -62,17 +55,104 @@ raised_by_none q g x i l =
       | inr e ↦ cond-false (nat_eq i g) _ _ e
     ]
 
+-- ---- the tables of a change
+
+-- a row of a wire
+pub moved_at : (plan : Plan) (s g : ℕ) (more : List ℕ) (rows : List (List ℕ)) (v : ℕ) → v < (session plan s).wires
+    → slice_index_or (grown_rows plan s g more rows) v [] ≡ grown_row plan g (slice_index more v) (slice_index_or rows v [])
+moved_at plan s g more rows v l = listed_at (session plan s).wires _ v [] l
+
+-- and of a mask
+pub moved_mask_at : (plan : Plan) (s g : ℕ) (more : List ℕ) (rows : List (List ℕ)) (side : Side) (t : ℕ) → t < length (session plan s).gates
+    → is_prepared (session plan s) t ≡ true
+    → slice_index_or (grown_masks plan s g more rows side) t []
+    ≡ grown_row plan g (slice_index more (operand (gate (session plan s) t) side)) (slice_index_or rows (mask_wire (session plan s) t side) [])
+moved_mask_at plan s g more rows side t l e =
+    let x = session plan s in
+    let both = and_parts x.prepared (is_product (gate x t).operation) e in
+    ap (λ xs. slice_index_or xs t []) (cond-true x.prepared (listed (length x.gates) (grown_mask plan s g more rows side)) [] both.0)
+    ∙ listed_at (length x.gates) (grown_mask plan s g more rows side) t [] l
+    ∙ cond-true (is_product (gate x t).operation) _ [] both.1
+
+-- by its own tables
+own_tables : (plan : Plan) (s g : ℕ) (more : List ℕ) (rows : List (List ℕ)) (c : Change) → IsTable plan s g more rows c
+    → IsTable plan c.session c.hidden c.growths.items c.rows c
+own_tables plan s g more rows c h =
+    subst (λ z. IsTable plan z c.hidden c.growths.items c.rows c) (sym h.at)
+    (subst (λ z. IsTable plan s z c.growths.items c.rows c) (sym h.hidden_summand)
+    (subst (λ z. IsTable plan s g z c.rows c) (sym h.growths)
+    (subst (λ z. IsTable plan s g more z c) (sym h.rows) h)))
+
+-- ---- their sizes
+
+module _ (plan : Plan) (c : Change) (fits : Fits plan c) where
+  abbrev of_plan : Session
+  of_plan = session plan c.session
+
+  pub moved_count : length c.moved.items ≡ of_plan.wires
+  moved_count =
+      sym (length-map c.moved.items (λ (row : Vec ℕ). row.items))
+      ∙ ap length fits.tables.moved ∙ length-listed of_plan.wires _
+
+  pub moved_wide : (v : ℕ) → v < of_plan.wires → length (slice_index_or (session_words c.moved.items) v []) ≡ length plan.groups
+  moved_wide v l =
+      ap (λ rows. length (slice_index_or rows v [])) fits.tables.moved
+      ∙ ap length (moved_at plan c.session c.hidden c.growths.items c.rows v l) ∙ length-listed (length plan.groups) _
+
+  masks_count : (side : Side) → of_plan.prepared ≡ true → length (masks_of c side) ≡ length of_plan.gates
+  masks_count side e =
+      ap length (fits.tables.masks side ∙ cond-true of_plan.prepared _ [] e) ∙ length-listed (length of_plan.gates) _
+
+  pub first_count : of_plan.prepared ≡ true → length c.first_masks.items ≡ length of_plan.gates
+  first_count e = sym (length-map c.first_masks.items (λ (row : Vec ℕ). row.items)) ∙ masks_count First e
+
+  pub second_count : of_plan.prepared ≡ true → length c.second_masks.items ≡ length of_plan.gates
+  second_count e = sym (length-map c.second_masks.items (λ (row : Vec ℕ). row.items)) ∙ masks_count Second e
+
+  pub mask_wide : (t : ℕ) (side : Side) → t < length of_plan.gates → is_prepared of_plan t ≡ true
+      → length (slice_index_or (masks_of c side) t []) ≡ length plan.groups
+  mask_wide t side l e =
+      ap (λ rows. length (slice_index_or rows t [])) (fits.tables.masks side)
+      ∙ ap length (moved_mask_at plan c.session c.hidden c.growths.items c.rows side t l e) ∙ length-listed (length plan.groups) _
+
+-- the words that are pushed are those of the definition
+pub pushed_like : (tape : List ℕ) (n n' q q' g g' d d' a a' : ℕ) → n ≡ n' → q ≡ q' → g ≡ g' → d ≡ d' → a ≡ a'
+    → listed n (raised q g d (λ i. slice_index tape (a + i))) ≡ listed n' (raised q' g' d' (λ i. slice_index tape (a' + i)))
+pushed_like tape n n' q q' g g' d d' a a' en eq eg ed ea =
+    ap₂ (λ n q. listed n (raised q g d (λ i. slice_index tape (a + i)))) en eq
+    ∙ ap₂ (λ g d. listed n' (raised q' g d (λ i. slice_index tape (a + i)))) eg ed
+    ∙ ap (λ a. listed n' (raised q' g' d' (λ i. slice_index tape (a + i)))) ea
+
 -- ---- the tables of a world
 
 pub small_plain : (w : World) → IsWorld w → (s v : ℕ) → plain w s v < 2 ^ w.plan.bits
 small_plain w h s v = subst (λ z. z < 2 ^ w.plan.bits) (world_sums w h s v) (mod-lt _ (pow_pos w.plan.bits))
 
-module _ (w : World) (other : List (List (List ℕ))) (group s : ℕ) (whole : IsWhole w) (others : AreInputs w.plan other) (ls : s < length w.plan.sessions) where
+pub growths_fit : (w : World) (other : List (List (List ℕ))) (s : ℕ) → AreGrowths w.plan s (growths w other s)
+growths_fit w other s =
+    let q = 2 ^ w.plan.bits in
+    record {
+      wires = length-listed (session w.plan s).wires _;
+      below = listed_below (session w.plan s).wires q _ (pow_pos w.plan.bits) (λ v. mod-lt _ (pow_pos w.plan.bits));
+    }
+
+pub rows_fit : (w : World) (s : ℕ) → IsWhole w → AreNamedRows w.plan s (summand_rows w s)
+rows_fit w s whole = record {
+  names = rows_named w s;
+  wires = λ v l. subst (IsRow w.plan) (sym (wire_last w s v l)) (wire_whole w whole s v);
+  masks = λ t side l e. subst (IsRow w.plan) (sym (mask_last w s t side l e)) (mask_whole w whole s t side);
+}
+
+module _ (w : World) (other : List (List (List ℕ))) (group : ℕ) (whole : IsWhole w) (others : AreInputs w.plan other) (c : Change)
+    (ls : c.session < length w.plan.sessions) (h : IsChange w other group c.session c) where
   abbrev q : ℕ
   q = 2 ^ w.plan.bits
 
   abbrev m : ℕ
   m = length w.plan.groups
+
+  abbrev s : ℕ
+  s = c.session
 
   abbrev x : Session
   x = session w.plan s
@@ -80,170 +160,183 @@ module _ (w : World) (other : List (List (List ℕ))) (group s : ℕ) (whole : I
   abbrev after : World
   after = with_inputs w other
 
+  abbrev count : ℕ
+  count = length x.gates
+
+  abbrev g : ℕ
+  g = hidden w.plan group
+
   ordered : GatesInOrder x
-  ordered = in_order x (whole.sound.sessions s ls).wired.order
+  ordered = in_order x (whole.sound.sessions s ls).wired
 
-  after_is : IsWorld after
-  after_is = record { plan = is_plan w whole; inputs = others.below }
+  pub fits : Fits w.plan c
+  fits = record {
+    there = ls;
+    growths = subst (AreGrowths w.plan s) (sym h.growths) (growths_fit w other s);
+    rows = subst (AreNamedRows w.plan s) (sym h.rows) (rows_fit w s whole);
+    tables = own_tables w.plan s g (growths w other s) (summand_rows w s) c h;
+  }
 
-  moved_below : (v i : ℕ) → moved_summands w other group s (length x.gates) v i < q
-  moved_below v i = raised_below q (hidden w.plan group) (delta w other s (length x.gates) v) (summands (run_of w s) (length x.gates) v) (pow_pos w.plan.bits) (small_run w whole s (length x.gates) v) i
+  -- ---- what is dealt
 
-  module _ (c : Change) (h : IsChange w other group s c) where
-    -- a table of the change is there, and is small
-    pub change_fits : Fits w.plan c
-    change_fits =
-        let some : 0 < q = pow_pos w.plan.bits in
-        let wires : (session w.plan c.session).wires ≡ x.wires = ap (λ k. (session w.plan k).wires) h.at in record {
-          there = subst (λ k. k < length w.plan.sessions) (sym h.at) ls;
-          first = ap length h.first ∙ length-listed x.wires (plain w s) ∙ sym wires;
-          second = ap length h.second ∙ length-listed x.wires (plain after s) ∙ sym wires;
-          rows = ap length h.rows ∙ length-listed x.wires (summand_row w s) ∙ sym wires;
-          moved = sym (length-map c.moved.items (λ (row : Vec ℕ). row.items)) ∙ ap length h.moved ∙ length-listed x.wires (λ v. listed m (moved_summands w other group s (length x.gates) v)) ∙ sym wires;
-          small_first = λ v. subst (λ xs. slice_index xs v < q) (sym h.first) (listed_below x.wires q (plain w s) some (small_plain w (is_world w whole) s) v);
-          small_second = λ v. subst (λ xs. slice_index xs v < q) (sym h.second) (listed_below x.wires q (plain after s) some (small_plain after after_is s) v);
-          wide_rows = λ v l. ap (λ t. length (slice_index_or t v [])) h.rows ∙ ap length (row_at x.wires m (summands (run_of w s) (length x.gates)) v (subst (λ n. v < n) wires l)) ∙ length-listed m (summands (run_of w s) (length x.gates) v);
-          wide_moved = λ v l. ap (λ t. length (slice_index_or t v [])) h.moved ∙ ap length (row_at x.wires m (moved_summands w other group s (length x.gates)) v (subst (λ n. v < n) wires l)) ∙ length-listed m (moved_summands w other group s (length x.gates) v);
-          small_rows = λ v i. subst (λ t. slice_index (slice_index_or t v []) i < q) (sym h.rows) (rows_below x.wires m q (summands (run_of w s) (length x.gates)) some (small_run w whole s (length x.gates)) v i);
-          small_moved = λ v i. subst (λ t. slice_index (slice_index_or t v []) i < q) (sym h.moved) (rows_below x.wires m q (moved_summands w other group s (length x.gates)) some moved_below v i);
-        }
+  -- an input wire has at the end what is given on it
+  input_at_end : (u : World) (v : ℕ) → GatesInOrder (session u.plan s) → v < length (owners (session u.plan s)) → plain u s v ≡ input_of u s v
+  input_at_end u v o l =
+      settled (session u.plan s) o (value_before u s) (λ t v ne. set_there (value_before u s t) (gate (session u.plan s) t).output v _ ne) 0 v (omega arith) (inl l)
+      ∙ cond-true (nat_lt v (length (owners (session u.plan s)))) (input_of u s v) 0 (lt-ltb v (length (owners (session u.plan s))) l)
 
-    -- ---- what is dealt
+  growth_at : (v : ℕ) → v < x.wires → slice_index c.growths.items v ≡ delta w other s count v
+  growth_at v l = ap (λ xs. slice_index xs v) h.growths ∙ listed_at x.wires (delta w other s count) v 0 l
 
-    -- an input wire has at the end what is given on it
-    input_at_end : (u : World) (v : ℕ) → GatesInOrder (session u.plan s) → v < length (owners (session u.plan s)) → plain u s v ≡ input_of u s v
-    input_at_end u v o l =
-        settled (session u.plan s) o (value_before u s) (λ t v ne. set_there (value_before u s t) (gate (session u.plan s) t).output v _ ne) 0 v (omega arith) (inl l)
-        ∙ cond-true (nat_lt v (length (owners (session u.plan s)))) (input_of u s v) 0 (lt-ltb v (length (owners (session u.plan s))) l)
+  -- a wire that a product reads grows from then on as it did before
+  abbrev Ends : ℕ → Side → Type 0
+  Ends t side =
+      (value_before w s count (operand (gate x t) side) ≡ value_before w s t (operand (gate x t) side))
+      × (value_before after s count (operand (gate x t) side) ≡ value_before after s t (operand (gate x t) side))
+      × (summands (run_of w s) count (operand (gate x t) side) ≡ summands (run_of w s) t (operand (gate x t) side))
 
-    input_wires : length (owners x) ≤ x.wires
-    input_wires = (whole.sound.sessions s ls).wired.input_wires
+  ends : (t : ℕ) (side : Side) → t < count → is_product (gate x t).operation ≡ true → Ends t side
+  ends t side l product =
+      let first = product_settled x ordered (value_before w s) (λ t v ne. set_there (value_before w s t) (gate x t).output v _ ne) t l product in
+      let second = product_settled x ordered (value_before after s) (λ t v ne. set_there (value_before after s t) (gate x t).output v _ ne) t l product in
+      let rows = product_settled x ordered (summands (run_of w s)) (λ t v ne. set_there (summands (run_of w s) t) (gate x t).output v _ ne) t l product in
+      of_side side first second rows
+    where
+      of_side : (side : Side)
+          → (value_before w s count (gate x t).first ≡ value_before w s t (gate x t).first) × (value_before w s count (gate x t).second ≡ value_before w s t (gate x t).second)
+          → (value_before after s count (gate x t).first ≡ value_before after s t (gate x t).first) × (value_before after s count (gate x t).second ≡ value_before after s t (gate x t).second)
+          → (summands (run_of w s) count (gate x t).first ≡ summands (run_of w s) t (gate x t).first) × (summands (run_of w s) count (gate x t).second ≡ summands (run_of w s) t (gate x t).second)
+          → Ends t side
+      of_side First a b c = (a.0, b.0, c.0)
+      of_side Second a b c = (a.1, b.1, c.1)
 
-    input_before : (v : ℕ) → v < length (owners x) → slice_index c.first.items v ≡ input_of w s v
-    input_before v l = ap (λ xs. slice_index xs v) h.first ∙ listed_at x.wires (plain w s) v 0 (omega (arith, input_wires)) ∙ input_at_end w v ordered l
+  operand_within : (t : ℕ) (side : Side) → t < count → operand (gate x t) side < x.wires
+  operand_within t First l = (whole.sound.sessions s ls).wired.first t l
+  operand_within t Second l = (whole.sound.sessions s ls).wired.second t l
 
-    input_after : (v : ℕ) → v < length (owners x) → slice_index c.second.items v ≡ input_of after s v
-    input_after v l = ap (λ xs. slice_index xs v) h.second ∙ listed_at x.wires (plain after s) v 0 (omega (arith, input_wires)) ∙ input_at_end after v ordered l
+  growth_before : (t : ℕ) (side : Side) → t < count → is_product (gate x t).operation ≡ true
+      → slice_index c.growths.items (operand (gate x t) side) ≡ delta w other s t (operand (gate x t) side)
+  growth_before t side l product =
+      let e = ends t side l product in
+      growth_at (operand (gate x t) side) (operand_within t side l) ∙ ap₂ (difference q) e.1 e.0
 
-    -- a row of the table of summands, and of that of moved summands
-    row_before : (v i : ℕ) → v < x.wires → i < m → slice_index (slice_index_or c.rows v []) i ≡ summands (run_of w s) (length x.gates) v i
-    row_before v i lv li =
-        ap (λ t. slice_index (slice_index_or t v []) i) h.rows ∙ ap (λ xs. slice_index xs i) (row_at x.wires m (summands (run_of w s) (length x.gates)) v lv)
-        ∙ listed_at m (summands (run_of w s) (length x.gates) v) i 0 li
+  -- a row of a wire that a product reads, and of its mask
+  row_before : (t i : ℕ) (side : Side) → t < count → is_product (gate x t).operation ≡ true → i < m
+      → slice_index (slice_index_or c.rows (operand (gate x t) side) []) i ≡ summands (run_of w s) t (operand (gate x t) side) i
+  row_before t i side l product li =
+      let v = operand (gate x t) side in
+      ap (λ rows. slice_index (slice_index_or rows v []) i) h.rows
+      ∙ ap (λ xs. slice_index xs i) (wire_last w s v (operand_within t side l))
+      ∙ listed_at m (summands (run_of w s) count v) i 0 li
+      ∙ ap (λ (f : ℕ → ℕ). f i) (ends t side l product).2
 
-    row_after : (v i : ℕ) → v < x.wires → i < m → slice_index (slice_index_or (session_words c.moved.items) v []) i ≡ moved_summands w other group s (length x.gates) v i
-    row_after v i lv li =
-        ap (λ t. slice_index (slice_index_or t v []) i) h.moved ∙ ap (λ xs. slice_index xs i) (row_at x.wires m (moved_summands w other group s (length x.gates)) v lv)
-        ∙ listed_at m (moved_summands w other group s (length x.gates) v) i 0 li
+  mask_before : (t i : ℕ) (side : Side) → t < count → is_prepared x t ≡ true → i < m
+      → slice_index (slice_index_or c.rows (mask_wire x t side) []) i ≡ mask w s t side i
+  mask_before t i side l e li =
+      ap (λ rows. slice_index (slice_index_or rows (mask_wire x t side) []) i) h.rows
+      ∙ ap (λ xs. slice_index xs i) (mask_last w s t side l e)
+      ∙ listed_at m (mask w s t side) i 0 li
 
-    -- moved summands of a wire that is set are the same later
-    moved_same : (t v i : ℕ) → value_before w s (length x.gates) v ≡ value_before w s t v → value_before after s (length x.gates) v ≡ value_before after s t v
-        → summands (run_of w s) (length x.gates) v ≡ summands (run_of w s) t v → moved_summands w other group s (length x.gates) v i ≡ moved_summands w other group s t v i
-    moved_same t v i first second sums =
-        ap₂ (λ d (f : ℕ → ℕ). raised q (hidden w.plan group) d f i) (ap₂ (difference q) second first) sums
+  -- and as they are moved
+  row_after : (t i : ℕ) (side : Side) → t < count → is_product (gate x t).operation ≡ true → i < m
+      → slice_index (slice_index_or (session_words c.moved.items) (operand (gate x t) side) []) i ≡ moved_summands w other group s t (operand (gate x t) side) i
+  row_after t i side l product li =
+      let v = operand (gate x t) side in
+      ap (λ rows. slice_index (slice_index_or rows v []) i) fits.tables.moved
+      ∙ ap (λ xs. slice_index xs i) (moved_at w.plan s c.hidden c.growths.items c.rows v (operand_within t side l))
+      ∙ listed_at m _ i 0 li
+      ∙ ap (λ k. raised q k (slice_index c.growths.items v) (slice_index (slice_index_or c.rows v [])) i) h.hidden_summand
+      ∙ raised_eq q g (slice_index c.growths.items v) (delta w other s t v) (slice_index (slice_index_or c.rows v [])) (summands (run_of w s) t v) i
+      (growth_before t side l product) (row_before t i side l product li)
 
-    own_before : (t p : ℕ) → t < length x.gates → is_product (gate x t).operation ≡ true → deals_by w.plan s p c.first.items c.rows (At_gate t) ≡ dealt_value w s p (At_gate t)
-    own_before t p l product =
-        own_at_end w s ordered t p _ _ l product
-        (λ i li. row_before (gate x t).first i ((whole.sound.sessions s ls).wired.first t l) li)
-        (λ i li. row_before (gate x t).second i ((whole.sound.sessions s ls).wired.second t l) li)
+  mask_after : (t i : ℕ) (side : Side) → t < count → is_prepared x t ≡ true → i < m
+      → slice_index (slice_index_or (masks_of c side) t []) i ≡ moved_mask w other group s t side i
+  mask_after t i side l e li =
+      let product = (and_parts x.prepared (is_product (gate x t).operation) e).1 in
+      let v = operand (gate x t) side in
+      ap (λ rows. slice_index (slice_index_or rows t []) i) (fits.tables.masks side)
+      ∙ ap (λ xs. slice_index xs i) (moved_mask_at w.plan s c.hidden c.growths.items c.rows side t l e)
+      ∙ listed_at m _ i 0 li
+      ∙ ap (λ k. raised q k (slice_index c.growths.items v) (slice_index (slice_index_or c.rows (mask_wire x t side) [])) i) h.hidden_summand
+      ∙ raised_eq q g (slice_index c.growths.items v) (delta w other s t v) (slice_index (slice_index_or c.rows (mask_wire x t side) [])) (mask w s t side) i
+      (growth_before t side l product) (mask_before t i side l e li)
 
-    own_after : (t p : ℕ) → t < length x.gates → is_product (gate x t).operation ≡ true → deals_by w.plan s p c.second.items (session_words c.moved.items) (At_gate t) ≡ moved_value w other group s p (At_gate t)
-    own_after t p l product =
-        let values = product_settled x ordered (value_before w s) (λ t v ne. set_there (value_before w s t) (gate x t).output v _ ne) t l product in
-        let others_values = product_settled x ordered (value_before after s) (λ t v ne. set_there (value_before after s t) (gate x t).output v _ ne) t l product in
-        let sums = read_settled w s ordered t l product in
-        own_alike w p _ _ (moved_summands w other group s t (gate x t).first) (moved_summands w other group s t (gate x t).second)
-        (λ i li. row_after (gate x t).first i ((whole.sound.sessions s ls).wired.first t l) li ∙ moved_same t (gate x t).first i values.0 others_values.0 sums.0)
-        (λ i li. row_after (gate x t).second i ((whole.sound.sessions s ls).wired.second t l) li ∙ moved_same t (gate x t).second i values.1 others_values.1 sums.1)
+  -- the hidden word of a slot in which p draws words grows as it is to
+  growth_is : (p : ℕ) (z : Slot) → Inside x z → 0 < words_in w.plan s p z → growth_in w.plan c p z ≡ growth w other group s p z
+  growth_is p (Input v) inside some =
+      let within : v < x.wires = omega (arith, inside, (whole.sound.sessions s ls).wired.input_wires) in
+      growth_at v within ∙ ap₂ (difference q) (input_at_end after v ordered inside) (input_at_end w v ordered inside)
+  growth_is p (Mask t side) inside some = growth_before t side inside.0 (and_parts x.prepared (is_product (gate x t).operation) inside.1).1
+  growth_is p (At_gate t) inside some =
+      let product = direct_product p t some in
+      ap₂ (difference q)
+      (own_alike w.plan p _ _ _ _ (λ i li. row_after t i First inside product li) (λ i li. row_after t i Second inside product li))
+      (own_alike w.plan p _ _ _ _ (λ i li. row_before t i First inside product li) (λ i li. row_before t i Second inside product li))
+    where
+      direct_product : (p t : ℕ) → 0 < words_in w.plan s p (At_gate t) → is_product (gate x t).operation ≡ true
+      direct_product p t some = elim (cases_Bool (deals_in w.plan s p (At_gate t))) [
+        | inl deals ↦ (and_parts _ (is_product (gate x t).operation) (and_parts (is_direct x t) _ deals).0).1
+        | inr none ↦ absurd (let no_words = cond-false (deals_in w.plan s p (At_gate t)) (m - 1) 0 none in omega (arith, some, no_words))
+      ]
+  growth_is p (Mask_product t) inside some =
+      ap₂ (difference q)
+      (own_alike w.plan p _ _ _ _ (λ i li. mask_after t i First inside.0 inside.1 li) (λ i li. mask_after t i Second inside.0 inside.1 li))
+      (own_alike w.plan p _ _ _ _ (λ i li. mask_before t i First inside.0 inside.1 li) (λ i li. mask_before t i Second inside.0 inside.1 li))
+  growth_is p (Output o) inside some = absurd (omega (arith, some))
+  growth_is p (Masked t side) inside some = absurd (omega (arith, some))
 
-    -- what a party deals in a slot, before and after
-    dealt_before : (p k : ℕ) → k < slots w.plan s → deals_in w.plan s p (slot w.plan s k) ≡ true → deals_by w.plan s p c.first.items c.rows (slot w.plan s k) ≡ dealt_value w s p (slot w.plan s k)
-    dealt_before p = slot_cases x (λ k z. deals_in w.plan s p z ≡ true → deals_by w.plan s p c.first.items c.rows z ≡ dealt_value w s p z)
-        (λ v lv e. input_before v lv)
-        (λ t lt e. own_before t p lt (and_parts (is_product (gate x t).operation) _ e).0)
-        (λ o lo e. refl)
+  -- ---- words
 
-    dealt_after : (p k : ℕ) → k < slots w.plan s → deals_in w.plan s p (slot w.plan s k) ≡ true
-        → deals_by w.plan s p c.second.items (session_words c.moved.items) (slot w.plan s k) ≡ moved_value w other group s p (slot w.plan s k)
-    dealt_after p = slot_cases x (λ k z. deals_in w.plan s p z ≡ true → deals_by w.plan s p c.second.items (session_words c.moved.items) z ≡ moved_value w other group s p z)
-        (λ v lv e. input_after v lv)
-        (λ t lt e. own_after t p lt (and_parts (is_product (gate x t).operation) _ e).0)
-        (λ o lo e. refl)
+  word_grown : (p k i : ℕ) → k < slots w.plan s → i < words_in w.plan s p (slot w.plan s k)
+      → raised q (hidden_word w.plan group p (slot w.plan s k)) (growth_by w.plan group c p (slot w.plan s k)) (tape_word w s (slot w.plan s k) p) i
+      ≡ moved_words w other group s (slot w.plan s k) p i
+  word_grown p k i lk li =
+      let z = slot w.plan s k in
+      let n = hidden_word w.plan group p z in
+      let old = tape_word w s z p in
+      elim (cases_Bool (has_party group p)) [
+        | inl member ↦
+            ap (λ d. raised q n d old i) (cond-true (has_party group p) 0 _ member)
+            ∙ raised_by_none q n old i (small_words w whole s p z i)
+            ∙ sym (ap (λ (f : ℕ → ℕ). f i) (cond-true (has_party group p) old _ member))
+        | inr outside ↦
+            ap (λ d. raised q n d old i) (cond-false (has_party group p) 0 _ outside
+            ∙ growth_is p z ((slots_are_numbered x).inside k lk) (omega (arith, li)))
+            ∙ sym (ap (λ (f : ℕ → ℕ). f i) (cond-false (has_party group p) old _ outside))
+      ]
 
-    -- ---- words
+  slot_grown : (p k : ℕ) → k < slots w.plan s
+      → grown_words w.plan group c (tape_of w p) p k ≡ listed (words_in w.plan s p (slot w.plan s k)) (moved_words w other group s (slot w.plan s k) p)
+  slot_grown p k lk =
+      let z = slot w.plan s k in
+      listed_eq (words_in w.plan s p z) _ (moved_words w other group s z p) (λ i li.
+      ap (λ n. raised q (hidden_word w.plan group p z) (growth_by w.plan group c p z) (λ i. slice_index (tape_of w p) (place w.plan p s n + i)) i)
+      (sym (at_its_number w.plan s k lk)) ∙ word_grown p k i lk li)
 
-    moved_word : (p k i : ℕ) → k < slots w.plan s → deals_in w.plan s p (slot w.plan s k) ≡ true
-        → raised q (hidden w.plan group)
-        (if has_party group p then 0
-        else difference q (deals_by w.plan s p c.second.items (session_words c.moved.items) (slot w.plan s k)) (deals_by w.plan s p c.first.items c.rows (slot w.plan s k)))
-        (tape_word w s (slot w.plan s k) p) i ≡ moved_words w other group s (slot w.plan s k) p i
-    moved_word p k i lk e = elim (cases_Bool (has_party group p)) [
-      | inl member ↦
-          ap (λ d. raised q (hidden w.plan group) d (tape_word w s (slot w.plan s k) p) i) (cond-true (has_party group p) 0 _ member)
-          ∙ raised_by_none q (hidden w.plan group) (tape_word w s (slot w.plan s k) p) i (small_words w whole s p (slot w.plan s k) i)
-          ∙ sym (ap (λ (f : ℕ → ℕ). f i) (cond-true (has_party group p) (tape_word w s (slot w.plan s k) p) _ member))
-      | inr outside ↦
-          ap (λ d. raised q (hidden w.plan group) d (tape_word w s (slot w.plan s k) p) i) (cond-false (has_party group p) 0 _ outside ∙ ap₂ (difference q) (dealt_after p k lk e) (dealt_before p k lk e))
-          ∙ sym (ap (λ (f : ℕ → ℕ). f i) (cond-false (has_party group p) (tape_word w s (slot w.plan s k) p) _ outside))
-    ]
+  pub own_piece : (p : ℕ) → grown_piece w.plan group c (tape_of w p) p ≡ piece_map w other group p s
+  own_piece p = joined_eq (slots w.plan s) _ _ (λ k lk. slot_grown p k lk)
 
-    -- the words of a slot of session n, where the summand g is hidden
-    abbrev slot_words : ℕ → ℕ → ℕ → ℕ → List ℕ
-    slot_words p n g k =
-        let kind = slot w.plan n k in
-        listed (words_in w.plan n p kind) (raised q g
-        (if has_party group p then 0
-        else difference q (deals_by w.plan n p c.second.items (session_words c.moved.items) kind) (deals_by w.plan n p c.first.items c.rows kind))
-        (λ i. slice_index (tape_of w p) (place w.plan p n k + i)))
+-- ---- so of session s
 
-    slot_grown : (p k : ℕ) → k < slots w.plan s → slot_words p s (hidden w.plan group) k ≡ listed (words_in w.plan s p (slot w.plan s k)) (moved_words w other group s (slot w.plan s k) p)
-    slot_grown p k lk = elim (cases_Bool (deals_in w.plan s p (slot w.plan s k))) [
-      | inl e ↦ listed_eq (words_in w.plan s p (slot w.plan s k)) _ (moved_words w other group s (slot w.plan s k) p) (λ i li.
-          ap (λ n. raised q (hidden w.plan group)
-          (if has_party group p then 0
-          else difference q (deals_by w.plan s p c.second.items (session_words c.moved.items) (slot w.plan s k)) (deals_by w.plan s p c.first.items c.rows (slot w.plan s k)))
-          (λ i. slice_index (tape_of w p) (place w.plan p s n + i)) i) (sym (at_its_number w.plan s k lk)) ∙ moved_word p k i lk e)
-      | inr e ↦
-          let none : words_in w.plan s p (slot w.plan s k) ≡ 0 = cond-false (deals_in w.plan s p (slot w.plan s k)) (length w.plan.groups - 1) 0 e in
-          listed_eq (words_in w.plan s p (slot w.plan s k)) _ (moved_words w other group s (slot w.plan s k) p) (λ i li. absurd (omega arith))
-    ]
+module _ (w : World) (other : List (List (List ℕ))) (group s : ℕ) (whole : IsWhole w) (others : AreInputs w.plan other) (ls : s < length w.plan.sessions)
+    (c : Change) (h : IsChange w other group s c) where
+  there : c.session < length w.plan.sessions
+  there = subst (λ k. k < length w.plan.sessions) (sym h.at) ls
 
-    -- the piece of a session
-    pub piece_grown : (p : ℕ) → grown_piece w.plan group c (tape_of w p) p ≡ piece_map w other group p s
-    piece_grown p =
-        ap₂ (λ n g. joined (slots w.plan n) (slot_words p n g)) h.at h.hidden_summand
-        ∙ joined_eq (slots w.plan s) _ _ (λ k lk. slot_grown p k lk)
+  of_session : IsChange w other group c.session c
+  of_session = subst (λ k. IsChange w other group k c) (sym h.at) h
+
+  pub change_fits : Fits w.plan c
+  change_fits = fits w other group whole others c there of_session
+
+  -- the piece of a session
+  pub piece_grown : (p : ℕ) → grown_piece w.plan group c (tape_of w p) p ≡ piece_map w other group p s
+  piece_grown p = own_piece w other group whole others c there of_session p ∙ ap (piece_map w other group p) h.at
 
 -- ---- lists of small words, and of rows
 
 pub small_all : (q : ℕ) (xs : List ℕ) → ((i : ℕ) → slice_index xs i < q) → All (λ word. word < q) xs
 small_all q xs h k d l = subst (λ z. z < q) (sym (get_or_default xs k d 0 l)) (h k)
-
-pub all_of : {A : Type 0} (P : A → Type 0) (n : ℕ) (f : ℕ → A) → ((i : ℕ) → i < n → P (f i)) → All P (listed n f)
-all_of P n f h k d l = let less : k < n = omega (arith, length-listed n f) in subst P (sym (listed_at n f k d less)) (h k less)
-
--- the rows that grow by what the values differ are the moved ones
-pub moved_is : (w : World) (other : List (List (List ℕ))) (group s share : ℕ) (first second : List ℕ) (rows : List (List ℕ)) → share ≡ hidden w.plan group
-    → first ≡ value_list w s → second ≡ value_list (with_inputs w other) s → rows ≡ summand_rows w s
-    → listed (length rows) (λ v. listed (length w.plan.groups) (raised (2 ^ w.plan.bits) share (difference (2 ^ w.plan.bits) (slice_index second v) (slice_index first v)) (slice_index (slice_index_or rows v []))))
-    ≡ moved_rows w other group s
-moved_is w other group s share first second rows eg ef es er =
-    let x : Session = session w.plan s in
-    let q : ℕ = 2 ^ w.plan.bits in
-    let m : ℕ = length w.plan.groups in
-    let count : ℕ = length x.gates in
-    let long : length rows ≡ x.wires = ap length er ∙ length-listed x.wires (summand_row w s) in
-    let row : ℕ → List ℕ = λ v. listed m (raised q share (difference q (slice_index second v) (slice_index first v)) (slice_index (slice_index_or rows v []))) in
-    ap (λ n. listed n row) long
-    ∙ listed_eq x.wires row _ (λ v lv.
-    let d : difference q (slice_index second v) (slice_index first v) ≡ delta w other s count v =
-    ap₂ (difference q) (ap (λ xs. slice_index xs v) es ∙ listed_at x.wires (plain (with_inputs w other) s) v 0 lv) (ap (λ xs. slice_index xs v) ef ∙ listed_at x.wires (plain w s) v 0 lv) in
-    ap₂ (λ g e. listed m (raised q g e (slice_index (slice_index_or rows v [])))) eg d
-    ∙ listed_eq m _ (moved_summands w other group s count v) (λ i li.
-    let at : slice_index (slice_index_or rows v []) i ≡ summands (run_of w s) count v i =
-    ap (λ t. slice_index (slice_index_or t v []) i) er ∙ ap (λ xs. slice_index xs i) (row_at x.wires m (summands (run_of w s) count) v lv) ∙ listed_at m (summands (run_of w s) count v) i 0 li in
-    ap (λ z. if nat_eq i (hidden w.plan group) then (z + delta w other s count v) % q else z) at))
 
 -- ---- lengths
 

@@ -8,19 +8,20 @@ use Rattle.std.proofs.lemmas.List.Sums.{passes_at_first, fails_before_first}
 use mathlib.Core.Logic.{inl, inr}
 use Rattle.list_laws.proofs.Totals.{total_eq}
 use Rattle.list_laws.proofs.JoinedLists.{length-joined, length-listed, listed_at, laid_at, laid_every, every_at}
-use Rattle.mpc_ring.specs.Differences.{difference}
 use Rattle.party_set.specs.Parties.{has_party, within}
 use Rattle.party_set.proofs.EveryNumber.{every_at as below_at, every_not, implies_at, implies_not}
 use Rattle.maximal_groups.specs.Families.{LiesWithin}
 use Rattle.job_plan.specs.InputWords.{AreInputs}
 use Rattle.job_plan.specs.Tallies.{tape_length}
-use Rattle.job_session.specs.Sessions.{owners}
-use Rattle.job_plan.specs.Plans.{Plan, structure, holds, session, slot, slots, words_in, words, place}
+use Rattle.job_session.specs.Sessions.{Slot, owners}
+use Rattle.job_session.specs.SoundSessions.{Inside}
+use Rattle.job_session.proofs.SessionSlots.{slots_are_numbered}
+use Rattle.job_plan.specs.Plans.{Plan, structure, holds, session, slot, slots, slot_number, words_in, words, place, giver}
 use Rattle.job_plan.proofs.Slots.{at_its_number}
-use Rattle.share_world.specs.Worlds.{World, input_of, tape_word, dealt_value}
+use Rattle.share_world.specs.Worlds.{World, input_of, tape_word}
 use Rattle.share_world.specs.Laws.{IsWhole, AreTapes}
 use Rattle.share_world.proofs.SmallWords.{small_words}
-use Rattle.tape_map.specs.TapeMaps.{hidden, with_inputs, with_tapes, tape_of, raised, moved_words, moved_value, tape_map, changed_tapes, second_world}
+use Rattle.tape_map.specs.TapeMaps.{hidden, hidden_word, growth, with_inputs, with_tapes, tape_of, raised, moved_words, tape_map, changed_tapes, second_world}
 use Rattle.tape_map.specs.Laws.{IsFirstLacked, CanHide, CanGoBack, WordsMove, InputsChange, SecondIsWhole, AgreesBack}
 use Rattle.tape_map.proofs.RaisedDeals.{raised_small}
 
@@ -31,7 +32,7 @@ pub record CanMove (w : World) (other : List (List (List ℕ))) (group : ℕ) : 
   pub others : AreInputs w.plan other
   pub tolerated : LiesWithin (structure w.plan) group
   pub inputs : (s v : ℕ) → v < length (owners (session w.plan s))
-      → has_party group (slice_index (owners (session w.plan s)) v) ≡ true
+      → has_party group (giver w.plan s v) ≡ true
       → input_of (with_inputs w other) s v ≡ input_of w s v
 
 pub can_move : (w : World) (other : List (List (List ℕ))) (group : ℕ) → CanHide w other group → CanMove w other group
@@ -82,6 +83,15 @@ words_move w other group s k p i ls lk lp li =
     ∙ ap (λ z. slice_index z (place w.plan p s k + i)) (listed_at w.plan.parties (tape_map w other group) p [] lp)
     ∙ laid_at (length w.plan.sessions) (slots w.plan) (len w.plan p) (λ s k i. moved_words w other group s (slot w.plan s k) p i) s k i ls lk li
 
+-- the same of a slot by its kind
+pub word_moves : (w : World) (other : List (List (List ℕ))) (group s : ℕ) (z : Slot) (p i : ℕ) → s < length w.plan.sessions
+    → Inside (session w.plan s) z → p < w.plan.parties → i < words_in w.plan s p z
+    → tape_word (second_world w other group) s z p i ≡ moved_words w other group s z p i
+word_moves w other group s z p i ls inside lp =
+    let there = (slots_are_numbered (session w.plan s)).there z inside in
+    subst (λ z. i < words_in w.plan s p z → tape_word (second_world w other group) s z p i ≡ moved_words w other group s z p i) there.1
+    (words_move w other group s (slot_number w.plan s z) p i ls there.0 lp)
+
 length-tape : (w : World) (other : List (List (List ℕ))) (group p : ℕ) → length (tape_map w other group p) ≡ tape_length w.plan p
 length-tape w other group p =
     length-joined (length w.plan.sessions) _
@@ -92,15 +102,16 @@ length-tape w other group p =
 moved_small : (w : World) (other : List (List (List ℕ))) (group s k p i : ℕ) → IsWhole w → moved_words w other group s (slot w.plan s k) p i < 2 ^ w.plan.bits
 moved_small w other group s k p i whole =
     let q = 2 ^ w.plan.bits in
-    let old = tape_word w s (slot w.plan s k) p in
     let z = slot w.plan s k in
-    let d = difference q (moved_value w other group s p z) (dealt_value w s p z) in
-    let new = raised q (hidden w.plan group) d old in
-    let small : old i < q = small_words w whole s p (slot w.plan s k) i in
+    let old = tape_word w s z p in
+    let place = hidden_word w.plan group p z in
+    let d = growth w other group s p z in
+    let new = raised q place d old in
+    let small : old i < q = small_words w whole s p z i in
     elim (cases_Bool (has_party group p)) [
       | inl yes' ↦ subst (λ (f : ℕ → ℕ). f i < q) (sym (cond-true (has_party group p) old new yes')) small
       | inr no' ↦ subst (λ (f : ℕ → ℕ). f i < q) (sym (cond-false (has_party group p) old new no'))
-          (raised_small q (hidden w.plan group) d old i (pow_pos w.plan.bits) small)
+          (raised_small q place d old i (pow_pos w.plan.bits) small)
     ]
 
 -- the changed tapes are tapes of the plan

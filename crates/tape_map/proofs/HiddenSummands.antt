@@ -1,31 +1,35 @@
--- In the second world all summands but the hidden one stay.
-use Rattle.std.proofs.Common.{◌≡◌, ℕ, ◌+◌, ◌-◌, ◌^◌, ◌<◌, ◌≢◌, ◌⊎◌, true, false, nat_lt, List, length, refl, sym, ap₂, ◌∙◌, subst, arith}
-use Rattle.std.specs.Prelude.{slice_index}
-use Rattle.std.proofs.lemmas.Bool.{cases_eq, cases_Bool, cond-true, cond-false, and_from, both_ways, eq-eqb, ltb-true}
+-- In the second world all summands but the hidden one stay, and so does what is opened of the wires of prepared products.
+use Rattle.std.proofs.Common.{◌≡◌, ℕ, ◌+◌, ◌-◌, ◌*◌, ◌%◌, ◌^◌, ◌<◌, ◌≢◌, ◌⊎◌, true, false, not, nat_eq, nat_lt, if◌then◌else◌, List, length, refl, sym, ap, ap₂, ◌∙◌, subst, arith}
+use Rattle.std.proofs.lemmas.Bool.{cases_eq, cases_Bool, cond-true, cond-false, and_from, both_ways, eq-eqb, ne_eqb, ltb-true}
 use Rattle.std.proofs.lemmas.Nat.{pow_pos}
 use mathlib.Core.Logic.{inl, inr}
 use Rattle.list_laws.specs.Lists.{total}
-use Rattle.list_laws.proofs.Totals.{total_one}
+use Rattle.list_laws.proofs.Totals.{total_eq, total_one}
 use Rattle.mpc_ring.specs.Differences.{difference}
-use Rattle.mpc_ring.proofs.Remainders.{Same, same_refl, same_add, same_sym, same_trans, same_mul, same_cancel}
+use Rattle.mpc_ring.proofs.Remainders.{Same, same_refl, same_add, same_sym, same_trans, same_mul, same_mod, same_cancel}
 use Rattle.circuit_model.specs.Circuits.{is_product}
 use Rattle.secret_sharing.specs.Schemes.{IsScheme, AddUp, dealt, own_value, has_pair, summands}
+use Rattle.secret_sharing.specs.Prepared.{sum_of, joined_summand}
 use Rattle.secret_sharing.proofs.SummandSums.{sum_is_plain, adds_same, dealt_eq}
 use Rattle.secret_sharing.proofs.Agreement.{own_same, runs_agree, product_agrees}
 use Rattle.party_set.specs.Parties.{has_party}
-use Rattle.job_session.specs.Sessions.{Slot, owners, gate}
-use Rattle.job_plan.specs.Plans.{scheme, session, slot, slots, deals_in, words_in}
-use Rattle.job_session.specs.Sessions.Slot.{Input, At_gate}
-use Rattle.job_plan.proofs.PlanSchemes.{scheme_is}
-use Rattle.job_session.proofs.SessionSlots.{slot_input, slot_gate, slot_cases, product_within}
-use Rattle.share_world.specs.Worlds.{World, run_of, first_summands, first_values, value_before, tape_word, dealt_value, deal_of}
+use Rattle.job_session.specs.declared.side.Side.{Side}
+use Rattle.job_session.specs.declared.side.Side.TheVariants.{First, Second}
+use Rattle.job_session.specs.Sessions.{Slot, owners, gate, operand, is_direct}
+use Rattle.job_session.specs.Sessions.Slot.{Input, At_gate, Output, Mask, Mask_product, Masked}
+use Rattle.job_session.specs.SoundSessions.{Inside}
+use Rattle.job_session.proofs.SessionSlots.{slots_are_numbered, product_within}
+use Rattle.job_plan.specs.Plans.{Plan, scheme, session, slot, holds, least_holder, least_held, giver, deals_in, words_in}
+use Rattle.job_plan.proofs.PlanSchemes.{scheme_is, least_holds, least_within}
+use Rattle.job_plan.proofs.TapePlaces.{masks_have_words}
+use Rattle.share_world.specs.Worlds.{World, run_of, first_summands, first_values, value_before, tape_word, mask, mask_product, dealt_value, deal_of, masked_summand}
 use Rattle.share_world.specs.Laws.{IsWorld}
 use Rattle.share_world.proofs.WireSums.{run_of_is, starts_add_up}
 use Rattle.share_world.proofs.SmallWords.{is_plan, is_world, small_run}
-use Rattle.tape_map.specs.TapeMaps.{hidden, with_inputs, with_tapes, delta, raised, moved_summands, moved_value, moved_words, second_world}
-use Rattle.tape_map.specs.Laws.{SummandsMove, ValuesMove}
-use Rattle.tape_map.proofs.RaisedDeals.{SameBut, small_same, raised_small, raised_deal, member_own, raised_same}
-use Rattle.tape_map.proofs.ChangedTapes.{CanMove, hidden_within, not_held, words_move, second_whole}
+use Rattle.tape_map.specs.TapeMaps.{hidden, hidden_word, growth, with_inputs, with_tapes, delta, raised, moved_summands, moved_mask, moved_value, moved_words, second_world}
+use Rattle.tape_map.specs.Laws.{SummandsMove, ValuesMove, MasksMove, ExcessStays}
+use Rattle.tape_map.proofs.RaisedDeals.{SameBut, small_same, raised_here, raised_other, raised_small, raised_deal, member_own, hidden_differs, grown_alike, raised_same}
+use Rattle.tape_map.proofs.ChangedTapes.{CanMove, hidden_within, not_held, word_moves, second_whole}
 
 -- ---- the sums, before any gate
 
@@ -64,6 +68,56 @@ own_moved w other tapes group s t p h h2 lg others =
     λ v. moved_same w other tapes group s t v h h2 lg (others v) in
     own_same (scheme w.plan) p _ _ _ _ (λ i j li lj e. same_sym (same_mul (same g.first i li) (same g.second j lj)))
 
+-- ---- the hidden word
+
+-- in a slot in which p deals it draws a word for each summand but the last, and that of the hidden summand grows as what
+-- it deals
+record IsDeal (w : World) (other : List (List (List ℕ))) (group s p : ℕ) (z : Slot) : Type 0 where
+  words : words_in w.plan s p z ≡ length w.plan.groups - 1
+  hidden_place : hidden_word w.plan group p z ≡ hidden w.plan group
+  grows : growth w other group s p z ≡ difference (2 ^ w.plan.bits) (moved_value w other group s p z) (dealt_value w s p z)
+
+deal_is : (w : World) (other : List (List (List ℕ))) (group s p : ℕ) (z : Slot) → deals_in w.plan s p z ≡ true → IsDeal w other group s p z
+deal_is w other group s p (Input v) e =
+    record { words = cond-true (deals_in w.plan s p (Input v)) (length w.plan.groups - 1) 0 e; hidden_place = refl; grows = refl }
+deal_is w other group s p (At_gate t) e =
+    record { words = cond-true (deals_in w.plan s p (At_gate t)) (length w.plan.groups - 1) 0 e; hidden_place = refl; grows = refl }
+deal_is w other group s p (Mask_product t) e =
+    record { words = cond-true (deals_in w.plan s p (Mask_product t)) (length w.plan.groups - 1) 0 e; hidden_place = refl; grows = refl }
+deal_is w other group s p (Output o) e = absurd (both_ways false refl e)
+deal_is w other group s p (Mask t side) e = absurd (both_ways false refl e)
+deal_is w other group s p (Masked t side) e = absurd (both_ways false refl e)
+
+-- in a mask the hidden word is that of the hidden summand
+hidden_of_mask : (plan : Plan) (group t i : ℕ) (side : Side) → i ≡ hidden plan group
+    → hidden_word plan group (least_holder plan i) (Mask t side) ≡ least_held plan (least_holder plan i) i
+hidden_of_mask plan group t i side e =
+    let p = least_holder plan i in
+    let g = hidden plan group in
+    ap (least_held plan p) (cond-true (nat_eq (least_holder plan g) p) g (length plan.groups) (eq-eqb (least_holder plan g) p (ap (least_holder plan) (sym e))) ∙ sym e)
+
+-- and no other's
+other_of_mask : (plan : Plan) (group s t i : ℕ) (side : Side) → i < length plan.groups → i ≢ hidden plan group
+    → least_held plan (least_holder plan i) i ≢ hidden_word plan group (least_holder plan i) (Mask t side)
+other_of_mask plan group s t i side li ne same =
+    let p = least_holder plan i in
+    let g = hidden plan group in
+    elim (cases_eq (least_holder plan g) p) [
+      | inl e ↦ (masks_have_words plan).apart i g (sym e) ne (same
+          ∙ ap (least_held plan p) (cond-true (nat_eq (least_holder plan g) p) g (length plan.groups) (eq-eqb (least_holder plan g) p e))
+          ∙ ap (λ r. least_held plan r g) (sym e))
+      | inr apart ↦
+          let past = same ∙ ap (least_held plan p) (cond-false (nat_eq (least_holder plan g) p) g (length plan.groups) (ne_eqb (least_holder plan g) p apart)) in
+          omega (arith, past, (masks_have_words plan).within s t i side li)
+    ]
+
+-- ---- a joined product
+
+joined_alike : (q d e : ℕ) (a b c a' b' c' : ℕ → ℕ) (i : ℕ) → a' i ≡ a i → b' i ≡ b i → c' i ≡ c i
+    → joined_summand q d e a' b' c' i ≡ joined_summand q d e a b c i
+joined_alike q d e a b c a' b' c' i first second product =
+    ap₂ (λ x y. (x + y + (if nat_eq i 0 then d * e else 0)) % q) (ap₂ (λ x y. x + d * y) product second) (ap (λ y. e * y) first)
+
 module _ (w : World) (other : List (List (List ℕ))) (group : ℕ) (h : CanMove w other group) where
   abbrev second : World
   second = second_world w other group
@@ -73,6 +127,12 @@ module _ (w : World) (other : List (List (List ℕ))) (group : ℕ) (h : CanMove
 
   abbrev m : ℕ
   m = length w.plan.groups
+
+  abbrev q : ℕ
+  q = 2 ^ w.plan.bits
+
+  positive : 0 < 2 ^ w.plan.bits
+  positive = pow_pos w.plan.bits
 
   sch_is : IsScheme (scheme w.plan)
   sch_is = scheme_is w.plan (is_plan w h.whole)
@@ -86,14 +146,53 @@ module _ (w : World) (other : List (List (List ℕ))) (group : ℕ) (h : CanMove
   second_is : IsWorld (second_world w other group)
   second_is = is_world (second_world w other group) (second_whole w other group h.whole h.others)
 
-  -- ---- a deal
+  -- no member is the least holder of the hidden summand
+  stranger : has_party group (least_holder w.plan g) ≡ false
+  stranger =
+      let p = least_holder w.plan g in
+      elim (cases_Bool (has_party group p)) [
+        | inl yes' ↦ absurd (both_ways (holds w.plan p g)
+            (not_held w.plan group p lg (least_within w.plan (is_plan w h.whole) g lg) yes') (least_holds w.plan (is_plan w h.whole) g lg))
+        | inr no' ↦ no'
+      ]
 
-  -- a dealer's words of the second world
-  dealers_words : (s k p i : ℕ) → s < length w.plan.sessions → k < slots w.plan s → p < w.plan.parties
-      → deals_in w.plan s p (slot w.plan s k) ≡ true → i < m - 1 → tape_word second s (slot w.plan s k) p i ≡ moved_words w other group s (slot w.plan s k) p i
-  dealers_words s k p i ls lk lp deals li =
-      let many : words_in w.plan s p (slot w.plan s k) ≡ m - 1 = cond-true (deals_in w.plan s p (slot w.plan s k)) (m - 1) 0 deals in
-      words_move w other group s k p i ls lk lp (omega (arith, many, li))
+  -- ---- masks
+
+  -- a word of a mask that isn't the hidden summand's stays, and the hidden one's grows
+  mask_word : (s t i : ℕ) (side : Side) → i < m
+      → moved_words w other group s (Mask t side) (least_holder w.plan i) (least_held w.plan (least_holder w.plan i) i)
+      ≡ moved_mask w other group s t side i
+  mask_word s t i side li =
+      let p = least_holder w.plan i in
+      let k = least_held w.plan p i in
+      let old = tape_word w s (Mask t side) p in
+      let d = growth w other group s p (Mask t side) in
+      let more = raised q (hidden_word w.plan group p (Mask t side)) d old in
+      elim (cases_eq i g) [
+        | inl e ↦ ap (λ f. f k) (cond-false (has_party group p) old more (subst (λ j. has_party group (least_holder w.plan j) ≡ false) (sym e) stranger))
+            ∙ raised_here q (hidden_word w.plan group p (Mask t side)) d old k (sym (hidden_of_mask w.plan group t i side e))
+            ∙ sym (raised_here q g d (mask w s t side) i e)
+        | inr ne ↦ elim (cases_Bool (has_party group p)) [
+          | inl yes' ↦ ap (λ f. f k) (cond-true (has_party group p) old more yes')
+          | inr no' ↦ ap (λ f. f k) (cond-false (has_party group p) old more no')
+              ∙ raised_other q (hidden_word w.plan group p (Mask t side)) d old k (other_of_mask w.plan group s t i side li ne)
+        ]
+            ∙ sym (raised_other q g d (mask w s t side) i ne)
+      ]
+
+  pub mask_moves : (s t i : ℕ) (side : Side) → s < length w.plan.sessions → Inside (session w.plan s) (Mask t side) → i < m
+      → mask second s t side i ≡ moved_mask w other group s t side i
+  mask_moves s t i side ls inside li =
+      let p = least_holder w.plan i in
+      word_moves w other group s (Mask t side) p (least_held w.plan p i) ls inside (least_within w.plan (is_plan w h.whole) i li)
+      ((masks_have_words w.plan).within s t i side li)
+      ∙ mask_word s t i side li
+
+  pub mask_stays : (s t i : ℕ) (side : Side) → s < length w.plan.sessions → Inside (session w.plan s) (Mask t side) → i < m → i ≢ g
+      → mask second s t side i ≡ mask w s t side i
+  mask_stays s t i side ls inside li ne = mask_moves s t i side ls inside li ∙ raised_other q g _ (mask w s t side) i ne
+
+  -- ---- a deal
 
   -- what a member deals stays, and what any other party deals is the moved value
   abbrev DealsRight : ℕ → ℕ → Slot → Type 0
@@ -105,39 +204,29 @@ module _ (w : World) (other : List (List (List ℕ))) (group : ℕ) (h : CanMove
   abbrev pub Stays : ℕ → ℕ → Type 0
   Stays p i = (i ≢ hidden w.plan group) ⊎ (has_party group p ≡ true)
 
-  deal_in_slot : (s k p i : ℕ) → s < length w.plan.sessions → k < slots w.plan s → p < w.plan.parties → i < m → Stays p i
-      → deals_in w.plan s p (slot w.plan s k) ≡ true → DealsRight s p (slot w.plan s k)
-      → deal_of second s p (slot w.plan s k) i ≡ deal_of w s p (slot w.plan s k) i
-  deal_in_slot s k p i ls lk lp li which deals right =
+  deal_alike : (s p i : ℕ) (z : Slot) → s < length w.plan.sessions → Inside (session w.plan s) z → p < w.plan.parties → i < m → Stays p i
+      → deals_in w.plan s p z ≡ true → DealsRight s p z → deal_of second s p z i ≡ deal_of w s p z i
+  deal_alike s p i z ls inside lp li which deals right =
       let sch = scheme w.plan in
-      let q = 2 ^ w.plan.bits in
-      let z = slot w.plan s k in
-      let words = tape_word w s (slot w.plan s k) p in
+      let words = tape_word w s z p in
       let new = moved_value w other group s p z in
       let old = dealt_value w s p z in
-      let changed = raised q g (difference q new old) words in
-      dealt_eq sch (dealt_value second s p z) _ _ i (λ j lj. dealers_words s k p j ls lk lp deals lj)
+      let deal = deal_is w other group s p z deals in
+      let changed = raised q (hidden_word w.plan group p z) (growth w other group s p z) words in
+      dealt_eq sch (dealt_value second s p z) _ _ i (λ j lj. word_moves w other group s z p j ls inside lp (omega (arith, deal.words, lj)))
       ∙ elim (cases_Bool (has_party group p)) [
         | inl yes' ↦ ap₂ (λ v f. dealt sch v f i) (right.0 yes') (cond-true (has_party group p) words changed yes')
         | inr no' ↦ ap₂ (λ v f. dealt sch v f i) (right.1 no') (cond-false (has_party group p) words changed no')
+            ∙ ap₂ (λ k d. dealt sch new (raised q k d words) i) deal.hidden_place deal.grows
             ∙ raised_deal sch sch_is g old new words i lg li
             (elim which [ inl ne ↦ ne | inr yes' ↦ λ e. both_ways (has_party group p) no' yes' ])
       ]
 
-  -- the same of a slot whose kind is known
-  deal_alike : (s k p i : ℕ) (z : Slot) → slot w.plan s k ≡ z → s < length w.plan.sessions → k < slots w.plan s → p < w.plan.parties → i < m
-      → Stays p i → deals_in w.plan s p z ≡ true → DealsRight s p z → deal_of second s p z i ≡ deal_of w s p z i
-  deal_alike s k p i z at ls lk lp li which =
-      subst (λ z. deals_in w.plan s p z ≡ true → DealsRight s p z → deal_of second s p z i ≡ deal_of w s p z i) at
-      (deal_in_slot s k p i ls lk lp li which)
-
   pub input_alike : (s v i : ℕ) → s < length w.plan.sessions → v < length (owners (session w.plan s)) → i < m
-      → Stays (slice_index (owners (session w.plan s)) v) i
-      → deal_of second s (slice_index (owners (session w.plan s)) v) (Input v) i
-      ≡ deal_of w s (slice_index (owners (session w.plan s)) v) (Input v) i
+      → Stays (giver w.plan s v) i → deal_of second s (giver w.plan s v) (Input v) i ≡ deal_of w s (giver w.plan s v) (Input v) i
   input_alike s v i ls lv li which =
-      let p = slice_index (owners (session w.plan s)) v in
-      deal_alike s v p i (Input v) (slot_input (session w.plan s) v lv) ls (omega (arith, lv)) ((h.whole.sound.sessions s ls).owned v lv) li which
+      let p = giver w.plan s v in
+      deal_alike s p i (Input v) ls lv ((h.whole.sound.sessions s ls).owned v lv) li which
       (eq-eqb p p refl) ((λ member. h.inputs s v lv member), (λ stranger. refl))
 
   starts_alike : (s v i : ℕ) → s < length w.plan.sessions → i < m → i ≢ g → first_summands second s v i ≡ first_summands w s v i
@@ -155,59 +244,147 @@ module _ (w : World) (other : List (List (List ℕ))) (group : ℕ) (h : CanMove
   abbrev Others : ℕ → ℕ → Type 0
   Others s t = (v i : ℕ) → i < m → i ≢ g → summands (run_of second s) t v i ≡ summands (run_of w s) t v i
 
-  gate_alike_from : (s t p i : ℕ) → Others s t → s < length w.plan.sessions → p < w.plan.parties
-      → is_product (gate (session w.plan s) t).operation ≡ true → has_pair (scheme w.plan) p ≡ true → i < m → Stays p i
-      → deal_of second s p (At_gate t) i
-      ≡ deal_of w s p (At_gate t) i
-  gate_alike_from s t p i others ls lp product pair li which =
-      let x = session w.plan s in
-      let lt : t < length x.gates = product_within x t product in
-      deal_alike s (length (owners x) + t) p i (At_gate t) (slot_gate x t lt) ls (omega (arith, lt)) lp li which
-      (and_from (is_product (gate x t).operation) (has_pair (scheme w.plan) p) product pair) (
-        (λ member. member_own (scheme w.plan) sch_is g p _ _ _ _ (not_held w.plan group p lg lp member) (others (gate x t).first) (others (gate x t).second)),
+  gate_alike_from : (s t p i : ℕ) → Others s t → s < length w.plan.sessions → t < length (session w.plan s).gates → p < w.plan.parties
+      → deals_in w.plan s p (At_gate t) ≡ true → i < m → Stays p i → deal_of second s p (At_gate t) i ≡ deal_of w s p (At_gate t) i
+  gate_alike_from s t p i others ls lt lp deals li which =
+      let x = gate (session w.plan s) t in
+      deal_alike s p i (At_gate t) ls lt lp li which deals (
+        (λ member. member_own (scheme w.plan) sch_is g p _ _ _ _ (not_held w.plan group p lg lp member) (others x.first) (others x.second)),
         (λ stranger. own_moved w other second.tapes group s t p first_is second_is lg others),
       )
 
-  -- what party p deals of a value at gate t
-  abbrev deals : World → ℕ → ℕ → ℕ → ℕ → ℕ → ℕ
-  deals u s t p v = dealt (scheme w.plan) v (tape_word u s (At_gate t) p)
+  -- the product of both masks
+  masks_product : (s t p : ℕ) → s < length w.plan.sessions → Inside (session w.plan s) (Mask_product t)
+      → dealt_value second s p (Mask_product t) ≡ moved_value w other group s p (Mask_product t)
+  masks_product s t p ls inside =
+      own_same (scheme w.plan) p _ _ _ _
+      (λ i j li lj e. same_refl q _ _ (ap₂ (λ a b. a * b) (mask_moves s t i First ls inside li) (mask_moves s t j Second ls inside lj)))
+
+  pub masks_alike : (s t p i : ℕ) → s < length w.plan.sessions → Inside (session w.plan s) (Mask_product t) → p < w.plan.parties
+      → deals_in w.plan s p (Mask_product t) ≡ true → i < m → Stays p i → deal_of second s p (Mask_product t) i ≡ deal_of w s p (Mask_product t) i
+  masks_alike s t p i ls inside lp deals li which =
+      deal_alike s p i (Mask_product t) ls inside lp li which deals (
+        (λ member. member_own (scheme w.plan) sch_is g p _ _ _ _ (not_held w.plan group p lg lp member)
+            (λ i li ne. mask_stays s t i First ls inside li ne) (λ i li ne. mask_stays s t i Second ls inside li ne)),
+        (λ stranger. masks_product s t p ls inside),
+      )
+
+  -- ---- products
+
+  -- what party p deals of a value in a slot
+  abbrev deals : World → ℕ → Slot → ℕ → ℕ → ℕ → ℕ
+  deals u s z p v = dealt (scheme w.plan) v (tape_word u s z p)
+
+  mask_product_stays : (s t i : ℕ) → s < length w.plan.sessions → Inside (session w.plan s) (Mask_product t) → i < m → i ≢ g
+      → mask_product second s t i ≡ mask_product w s t i
+  mask_product_stays s t i ls inside li ne =
+      product_agrees (scheme w.plan) (deals w s (Mask_product t)) (deals second s (Mask_product t)) _ _ _ _ i
+      (λ p lp pair. masks_alike s t p i ls inside lp pair li (inl ne))
+
+  -- what is opened of a wire: it grows as its mask does
+  excess_alike : (s t i : ℕ) (side : Side) → Others s t → s < length w.plan.sessions → Inside (session w.plan s) (Masked t side) → i < m
+      → masked_summand second s t side i ≡ masked_summand w s t side i
+  excess_alike s t i side others ls inside li =
+      let v = operand (gate (session w.plan s) t) side in
+      let wire = summands (run_of w s) t v in
+      let wire' = summands (run_of second s) t v in
+      let a = mask w s t side in
+      let a' = mask second s t side in
+      let d = delta w other s t v in
+      elim (cases_eq i g) [
+        | inl e ↦
+            let grown : Same q (a' g) (a g + d) =
+            same_trans (same_refl q _ _ (mask_moves s t g side ls inside lg ∙ raised_here q g d a g refl)) (same_mod q (a g + d)) in
+            subst (λ j. difference q (wire' j) (a' j) ≡ difference q (wire j) (a j)) (sym e)
+            (grown_alike q d (wire g) (a g) (wire' g) (a' g) positive
+            (hidden_differs q m g (value_before w s t v) (value_before (with_inputs w other) s t v) wire wire' positive lg (others v)
+            (sums_same w first_is s t v) (sums_same second second_is s t v)) grown)
+        | inr ne ↦ ap₂ (difference q) (others v i li ne) (mask_stays s t i side ls inside li ne)
+      ]
+
+  -- what its summands add up to
+  excess_sum : (s t : ℕ) (side : Side) → Others s t → s < length w.plan.sessions → Inside (session w.plan s) (Masked t side)
+      → sum_of (scheme w.plan) (masked_summand second s t side) ≡ sum_of (scheme w.plan) (masked_summand w s t side)
+  excess_sum s t side others ls inside =
+      ap (λ z. z % q) (total_eq m (masked_summand second s t side) (masked_summand w s t side) (λ i li. excess_alike s t i side others ls inside li))
+
+  -- the summands that gate t makes of its wires, as it is where these are prepared
+  abbrev join_of : World → ℕ → ℕ → ℕ → ℕ → ℕ → ℕ
+  join_of u s t d e = joined_summand q d e (mask u s t First) (mask u s t Second) (mask_product u s t)
+
+  prepared_alike : (s t i : ℕ) → Others s t → s < length w.plan.sessions → Inside (session w.plan s) (Mask_product t) → i < m → i ≢ g
+      → join_of second s t (sum_of (scheme w.plan) (masked_summand second s t First)) (sum_of (scheme w.plan) (masked_summand second s t Second)) i
+      ≡ join_of w s t (sum_of (scheme w.plan) (masked_summand w s t First)) (sum_of (scheme w.plan) (masked_summand w s t Second)) i
+  prepared_alike s t i others ls inside li ne =
+      let sum : Side → ℕ = λ side. sum_of (scheme w.plan) (masked_summand w s t side) in
+      ap₂ (λ d e. join_of second s t d e i) (excess_sum s t First others ls inside) (excess_sum s t Second others ls inside)
+      ∙ joined_alike q (sum First) (sum Second) (mask w s t First) (mask w s t Second) (mask_product w s t)
+      (mask second s t First) (mask second s t Second) (mask_product second s t) i
+      (mask_stays s t i First ls inside li ne) (mask_stays s t i Second ls inside li ne) (mask_product_stays s t i ls inside li ne)
+
+  product_alike : (s t i : ℕ) → Others s t → s < length w.plan.sessions → is_product (gate (session w.plan s) t).operation ≡ true
+      → i < m → i ≢ g
+      → (run_of second s).product t (summands (run_of second s) t (gate (session w.plan s) t).first)
+      (summands (run_of second s) t (gate (session w.plan s) t).second) i
+      ≡ (run_of w s).product t (summands (run_of w s) t (gate (session w.plan s) t).first)
+      (summands (run_of w s) t (gate (session w.plan s) t).second) i
+  product_alike s t i others ls product li ne =
+      let x = session w.plan s in
+      let lt : t < length x.gates = product_within x t product in
+      elim (cases_Bool x.prepared) [
+        | inl yes' ↦ ap (λ (f : ℕ → ℕ). f i) (cond-true x.prepared _ _ yes')
+            ∙ prepared_alike s t i others ls (lt, and_from x.prepared (is_product (gate x t).operation) yes' product) li ne
+            ∙ sym (ap (λ (f : ℕ → ℕ). f i) (cond-true x.prepared _ _ yes'))
+        | inr no' ↦ ap (λ (f : ℕ → ℕ). f i) (cond-false x.prepared _ _ no')
+            ∙ product_agrees (scheme w.plan) (deals w s (At_gate t)) (deals second s (At_gate t)) _ _ _ _ i
+            (λ p lp pair. gate_alike_from s t p i others ls lt lp
+            (and_from (is_direct x t) (has_pair (scheme w.plan) p)
+            (and_from (not x.prepared) (is_product (gate x t).operation) (ap not no') product) pair) li (inl ne))
+            ∙ sym (ap (λ (f : ℕ → ℕ). f i) (cond-false x.prepared _ _ no'))
+      ]
 
   pub others_stay : (s t v i : ℕ) → s < length w.plan.sessions → i < m → i ≢ g → summands (run_of second s) t v i ≡ summands (run_of w s) t v i
   others_stay s t v i ls li ne =
       runs_agree (run_of w s) (first_summands second s) (run_of second s).product (λ i. i ≢ g)
       (λ v i li ne. starts_alike s v i ls li ne)
-      (λ t others product i li ne.
-      product_agrees (scheme w.plan) (deals w s t) (deals second s t) _ _ _ _ i
-      (λ p lp pair. gate_alike_from s t p i others ls lp product pair li (inl ne)))
+      (λ t others product i li ne. product_alike s t i others ls product li ne)
       t v i li ne
 
-  pub gate_alike : (s t p i : ℕ) → s < length w.plan.sessions → p < w.plan.parties
-      → is_product (gate (session w.plan s) t).operation ≡ true → has_pair (scheme w.plan) p ≡ true → i < m → Stays p i
-      → deal_of second s p (At_gate t) i
-      ≡ deal_of w s p (At_gate t) i
+  pub gate_alike : (s t p i : ℕ) → s < length w.plan.sessions → t < length (session w.plan s).gates → p < w.plan.parties
+      → deals_in w.plan s p (At_gate t) ≡ true → i < m → Stays p i → deal_of second s p (At_gate t) i ≡ deal_of w s p (At_gate t) i
   gate_alike s t p i ls = gate_alike_from s t p i (λ v i li ne. others_stay s t v i ls li ne) ls
+
+  pub masks_move : MasksMove w other group
+  masks_move s t i side ls lt e li = mask_moves s t i side ls (lt, e) li
+
+  pub excess_stays : ExcessStays w other group
+  excess_stays s t i side ls lt e li = excess_alike s t i side (λ v i li ne. others_stay s t v i ls li ne) ls (lt, e) li
 
   -- ---- all summands, and what is dealt
 
   pub summands_move : SummandsMove w other group
   summands_move s t v i ls li =
-      let q = 2 ^ w.plan.bits in
       small_same q (small_run second (second_whole w other group h.whole h.others) s t v i)
-      (raised_small q g (delta w other s t v) (summands (run_of w s) t v) i (pow_pos w.plan.bits) (small_run w h.whole s t v i))
+      (raised_small q g (delta w other s t v) (summands (run_of w s) t v) i positive (small_run w h.whole s t v i))
       (same_sym (moved_same w other second.tapes group s t v first_is second_is lg (λ i li ne. others_stay s t v i ls li ne) i li))
 
+  pub value_moves : (s p : ℕ) (z : Slot) → s < length w.plan.sessions → Inside (session w.plan s) z
+      → dealt_value second s p z ≡ moved_value w other group s p z
+  value_moves s p (Input v) ls inside = refl
+  value_moves s p (At_gate t) ls inside =
+      own_moved w other second.tapes group s t p first_is second_is lg (λ v i li ne. others_stay s t v i ls li ne)
+  value_moves s p (Output o) ls inside = refl
+  value_moves s p (Mask t side) ls inside = refl
+  value_moves s p (Mask_product t) ls inside = masks_product s t p ls inside
+  value_moves s p (Masked t side) ls inside = refl
+
   pub values_move : ValuesMove w other group
-  values_move s k p ls lk =
-      slot_cases (session w.plan s) (λ k z. dealt_value second s p z ≡ moved_value w other group s p z)
-      (λ v lv. refl)
-      (λ t lt. own_moved w other second.tapes group s t p first_is second_is lg (λ v i li ne. others_stay s t v i ls li ne))
-      (λ o lo. refl) k lk
+  values_move s k p ls lk = value_moves s p (slot w.plan s k) ls ((slots_are_numbered (session w.plan s)).inside k lk)
 
   -- a wire that has one value in both worlds has the same summands, the hidden one too
   pub opens_alike : (s t v i : ℕ) → s < length w.plan.sessions → value_before (with_inputs w other) s t v ≡ value_before w s t v → i < m
       → summands (run_of second s) t v i ≡ summands (run_of w s) t v i
   opens_alike s t v i ls e li =
-      let q = 2 ^ w.plan.bits in
       let x = summands (run_of w s) t v in
       let y = summands (run_of second s) t v in
       let one : total m y + x g ≡ total m x + y g = total_one m g y x lg (λ i li ne. others_stay s t v i ls li ne) in

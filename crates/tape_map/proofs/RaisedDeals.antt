@@ -113,7 +113,7 @@ member_own s h g p x y x' y' lacks sx sy =
 -- ---- one wire
 
 -- where all other summands agree, the hidden one differs as the values do
-hidden_differs : (q m g v v' : ℕ) (x x' : ℕ → ℕ) → 0 < q → g < m → ((i : ℕ) → i < m → i ≢ g → x' i ≡ x i)
+pub hidden_differs : (q m g v v' : ℕ) (x x' : ℕ → ℕ) → 0 < q → g < m → ((i : ℕ) → i < m → i ≢ g → x' i ≡ x i)
     → Same q (total m x) v → Same q (total m x') v' → Same q (x' g) (x g + difference q v' v)
 hidden_differs q m g v v' x x' positive lg others sv sv' =
     let one : total m x' + x g ≡ total m x + x' g = total_one m g x' x lg others in
@@ -124,6 +124,15 @@ hidden_differs q m g v v' x x' positive lg others sv sv' =
     (same_trans (same_add sv' (same_refl q (x g) _ refl))
     (same_trans (same_add (same_sym (same_difference q v' v positive)) (same_refl q (x g) _ refl))
     (same_refl q _ (x g + d + v) (omega arith))))))
+
+-- what one number has more than another stays where both grow by d
+pub grown_alike : (q d a b a' b' : ℕ) → 0 < q → Same q a' (a + d) → Same q b' (b + d) → difference q a' b' ≡ difference q a b
+grown_alike q d a b a' b' positive sa sb =
+    let left : Same q (difference q a' b' + (b + d)) (a + d) =
+    same_trans (same_add (same_refl q (difference q a' b') _ refl) (same_sym sb)) (same_trans (same_difference q a' b' positive) sa) in
+    let right : Same q (difference q a b + (b + d)) (a + d) =
+    same_trans (same_refl q _ (difference q a b + b + d) (omega arith)) (same_add (same_difference q a b positive) (same_refl q d _ refl)) in
+    small_same q (mod-lt (a' + (q - b' % q)) positive) (mod-lt (a + (q - b % q)) positive) (same_cancel (b + d) (same_trans left (same_sym right)))
 
 -- so the summands that are raised by that difference are those of the other wire
 pub raised_same : (q m g v v' : ℕ) (x x' : ℕ → ℕ) → 0 < q → g < m → ((i : ℕ) → i < m → i ≢ g → x' i ≡ x i)

@@ -1,29 +1,30 @@
 -- A group sees the same in both worlds.
-use Rattle.std.proofs.Common.{◌≡◌, ℕ, ◌+◌, ◌<◌, ◌≢◌, ◌⊎◌, true, not, ◌&&◌, nat_eq, List, length, refl, sym, ap, ◌∙◌, subst}
-use Rattle.std.specs.Prelude.{slice_index, map, filter}
+use Rattle.std.proofs.Common.{◌≡◌, ℕ, ◌<◌, ◌≢◌, ◌⊎◌, true, ◌||◌, List, length, refl, sym, ap, ◌∙◌, subst}
+use Rattle.std.specs.Prelude.{map, filter}
 use Rattle.std.specs.List.{AllByRecursion}
-use Rattle.std.proofs.lemmas.Bool.{and_parts, or_cases, both_ways}
+use Rattle.std.proofs.lemmas.Bool.{or_cases, both_ways}
 use mathlib.Core.Logic.{inl, inr}
-use Rattle.list_laws.proofs.JoinedLists.{every_joined, every_only_if, every_weaker, map_filter_eq}
-use Rattle.circuit_model.specs.Circuits.{is_product}
-use Rattle.secret_sharing.specs.Schemes.{has_pair}
+use Rattle.list_laws.proofs.JoinedLists.{every_joined, every_weaker, map_filter_eq}
 use Rattle.party_set.specs.Parties.{has_party}
+use Rattle.job_session.specs.declared.side.Side.{Side}
+use Rattle.job_session.specs.Sessions.{Slot, readers, output_wire}
+use Rattle.job_session.specs.Sessions.Slot.{Input, At_gate, Output, Mask, Mask_product, Masked}
+use Rattle.job_session.specs.SoundSessions.{Inside}
+use Rattle.job_session.proofs.SessionSlots.{slots_are_numbered, slot_kinds}
 use Rattle.job_plan.specs.declared.key.Key.{Key}
-use Rattle.job_plan.specs.Messages.{messages, slot_messages, deal_messages}
+use Rattle.job_plan.specs.Messages.{messages, slot_messages}
 use Rattle.job_plan.specs.Numbers.{no_key}
-use Rattle.job_session.specs.Sessions.{Slot, owners, readers, output_wire, gate}
-use Rattle.job_plan.specs.Plans.{scheme, session, holds, least_holder, slot, slots, deals_in, reads}
-use Rattle.job_session.specs.Sessions.Slot.{Input, At_gate, Output}
+use Rattle.job_plan.specs.Plans.{session, holds, least_holder, slot, slots, slot_number, reads}
 use Rattle.job_plan.proofs.DistinctMessages.{every_place}
 use Rattle.job_plan.proofs.PlanSchemes.{least_holds, least_within}
-use Rattle.job_session.proofs.SessionSlots.{slot_input, slot_gate, slot_output, slot_cases}
-use Rattle.share_world.specs.Worlds.{World, word, word_in, touches, view}
-use Rattle.share_world.proofs.SentWords.{key_of}
+use Rattle.share_world.specs.Locals.{key_at}
+use Rattle.share_world.specs.Worlds.{World, word, word_in, deal_of, touches, view}
+use Rattle.share_world.proofs.GoingMessages.{Deals, Goes, every_going}
 use Rattle.share_world.proofs.SmallWords.{is_plan}
 use Rattle.tape_map.specs.TapeMaps.{hidden, second_world}
 use Rattle.tape_map.specs.Laws.{CanHide, SameView, SameWords, SameOutputs}
 use Rattle.tape_map.proofs.ChangedTapes.{CanMove, can_move, hidden_within, not_held}
-use Rattle.tape_map.proofs.HiddenSummands.{Stays, input_alike, gate_alike, others_stay, opens_alike}
+use Rattle.tape_map.proofs.HiddenSummands.{Stays, input_alike, gate_alike, mask_stays, masks_alike, excess_stays, others_stay, opens_alike}
 
 -- a member reads output o as the receiver of the message
 abbrev pub ReadBy : World → ℕ → Key → ℕ → Type 0
@@ -37,11 +38,17 @@ Opens w group seen =
     → key.share < length w.plan.groups → (key.share ≢ hidden w.plan group) ⊎ ReadBy w group key o
     → seen key (Output o) ≡ word_in w key (Output o)
 
--- the deals of the second world, with outputs that are seen so, are all that the group sees of w
+-- all else is seen as it is in the world u
+pub record SeenOf (u : World) (seen : Key → Slot → ℕ) : Type 0 where
+  pub inputs : (key : Key) (v : ℕ) → seen key (Input v) ≡ word_in u key (Input v)
+  pub gates : (key : Key) (t : ℕ) → seen key (At_gate t) ≡ word_in u key (At_gate t)
+  pub masks : (key : Key) (t : ℕ) (side : Side) → seen key (Mask t side) ≡ word_in u key (Mask t side)
+  pub products : (key : Key) (t : ℕ) → seen key (Mask_product t) ≡ word_in u key (Mask_product t)
+  pub masked : (key : Key) (t : ℕ) (side : Side) → seen key (Masked t side) ≡ word_in u key (Masked t side)
+
+-- what is seen of the second world, with outputs that are seen so, is all that the group sees of w
 module _ (w : World) (other : List (List (List ℕ))) (group : ℕ) (h : CanMove w other group) (seen : Key → Slot → ℕ)
-    (inputs : (key : Key) (v : ℕ) → seen key (Input v) ≡ word_in (second_world w other group) key (Input v))
-    (gates : (key : Key) (t : ℕ) → seen key (At_gate t) ≡ word_in (second_world w other group) key (At_gate t))
-    (outputs : Opens w group seen) where
+    (others : SeenOf (second_world w other group) seen) (outputs : Opens w group seen) where
   abbrev seen_word : Key → ℕ
   seen_word key = seen key (slot w.plan key.session key.slot)
 
@@ -54,64 +61,59 @@ module _ (w : World) (other : List (List (List ℕ))) (group : ℕ) (h : CanMove
       both_ways (holds w.plan q (hidden w.plan group)) (not_held w.plan group q (hidden_within w.plan group h.tolerated) lq member)
       (subst (λ z. holds w.plan q z ≡ true) e has)
 
-  deal_alike : (s k p : ℕ)
-      → ((i q : ℕ) → i < length w.plan.groups → Stays w other group h p i → seen_word (key_of s k i p q) ≡ word w (key_of s k i p q))
-      → AllByRecursion Alike (deal_messages w.plan s k p)
-  deal_alike s k p same =
-      every_joined Alike (length w.plan.groups) _ (λ i li. every_joined Alike w.plan.parties _ (λ q lq.
-      every_only_if Alike (not (nat_eq q p) && holds w.plan q i) _ (λ e. (
-        (λ touches. same i q li (elim (or_cases (has_party group p) (has_party group q) touches) [
-          | inl sender ↦ inr sender
-          | inr receiver ↦ inl (not_hidden q i lq receiver (and_parts (not (nat_eq q p)) (holds w.plan q i) e).1)
-        ])),
-        tt,
-      ))))
-
-  input_messages : (s v : ℕ) → s < length w.plan.sessions → v < length (owners (session w.plan s))
-      → AllByRecursion Alike (slot_messages w.plan s v (Input v))
-  input_messages s v ls lv =
-      let p = slice_index (owners (session w.plan s)) v in
-      let at : slot w.plan s v ≡ Input v = slot_input (session w.plan s) v lv in
-      deal_alike s v p (λ i q li which.
-      let key = key_of s v i p q in
-      ap (seen key) at ∙ inputs key v ∙ input_alike w other group h s v i ls lv li which ∙ sym (ap (word_in w key) at))
-
-  gate_messages : (s t : ℕ) → s < length w.plan.sessions → t < length (session w.plan s).gates
-      → AllByRecursion Alike (slot_messages w.plan s (length (owners (session w.plan s)) + t) (At_gate t))
-  gate_messages s t ls lt =
-      let k = length (owners (session w.plan s)) + t in
-      let at : slot w.plan s k ≡ At_gate t = slot_gate (session w.plan s) t lt in
-      every_joined Alike w.plan.parties _ (λ p lp. every_only_if Alike (deals_in w.plan s p (At_gate t)) _ (λ e.
-      let both = and_parts (is_product (gate (session w.plan s) t).operation) (has_pair (scheme w.plan) p) e in
-      deal_alike s k p (λ i q li which.
-      let key = key_of s k i p q in
-      ap (seen key) at ∙ gates key t ∙ gate_alike w other group h s t p i ls lp both.0 both.1 li which ∙ sym (ap (word_in w key) at))))
-
-  output_messages : (s o : ℕ) → s < length w.plan.sessions → o < length (readers (session w.plan s))
-      → AllByRecursion Alike (slot_messages w.plan s (length (owners (session w.plan s)) + length (session w.plan s).gates + o) (Output o))
-  output_messages s o ls lo =
-      let x = session w.plan s in
-      let k = length (owners x) + length x.gates + o in
-      let at : slot w.plan s k ≡ Output o = slot_output x o in
-      every_joined Alike w.plan.parties _ (λ r lr. every_only_if Alike (reads w.plan r s o) _ (λ read.
-      every_joined Alike (length w.plan.groups) _ (λ i li. every_only_if Alike (not (holds w.plan r i)) _ (λ lacks.
+  holder_not_hidden : (i q : ℕ) → i < length w.plan.groups → least_holder w.plan i ≡ q → has_party group q ≡ true → i ≢ hidden w.plan group
+  holder_not_hidden i q li holder member =
       let p = least_holder w.plan i in
-      let key = key_of s k i p r in (
-        (λ touches.
-            ap (seen key) at
-            ∙ outputs key o ls lo li (elim (or_cases (has_party group p) (has_party group r) touches) [
-              | inl sender ↦ inl (not_hidden p i (least_within w.plan (is_plan w h.whole) i li) sender (least_holds w.plan (is_plan w h.whole) i li))
-              | inr reader ↦ inr (lr, reader, read)
-            ])
-            ∙ sym (ap (word_in w key) at)),
-        tt,
-      )))))
+      not_hidden p i (least_within w.plan (is_plan w h.whole) i li) (subst (λ r. has_party group r ≡ true) (sym holder) member)
+      (least_holds w.plan (is_plan w h.whole) i li)
+
+  -- ---- summand i, which goes from q to p in a slot, one of whom is a member
+
+  abbrev Seen : ℕ → ℕ → Type 0
+  Seen q p = has_party group q || has_party group p ≡ true
+
+  -- where it is dealt, it isn't the hidden one, or a member deals it
+  stays : (i q p : ℕ) → p < w.plan.parties → Deals w.plan i q p → Seen q p → Stays w other group h q i
+  stays i q p lp goes member = elim (or_cases (has_party group q) (has_party group p) member) [
+    | inl sends ↦ inr sends
+    | inr gets ↦ inl (not_hidden p i lp gets goes.1)
+  ]
+
+  going_alike : (s : ℕ) → s < length w.plan.sessions → (z : Slot) → Inside (session w.plan s) z → (i q p : ℕ) → i < length w.plan.groups → p < w.plan.parties
+      → Goes w.plan s z i q p → Seen q p → seen (key_at w.plan s z i q p) z ≡ word_in w (key_at w.plan s z i q p) z
+  going_alike s ls (Input v) inside i q p li lp goes member =
+      others.inputs _ v
+      ∙ subst (λ r. Stays w other group h r i → deal_of (second_world w other group) s r (Input v) i ≡ deal_of w s r (Input v) i) goes.0
+      (input_alike w other group h s v i ls inside li) (stays i q p lp goes.1 member)
+  going_alike s ls (At_gate t) inside i q p li lp goes member =
+      others.gates _ t ∙ gate_alike w other group h s t q i ls inside goes.0 goes.1 li (stays i q p lp goes.2 member)
+  going_alike s ls (Mask_product t) inside i q p li lp goes member =
+      others.products _ t ∙ masks_alike w other group h s t q i ls inside goes.0 goes.1 li (stays i q p lp goes.2 member)
+  going_alike s ls (Mask t side) inside i q p li lp goes member =
+      others.masks _ t side ∙ mask_stays w other group h s t i side ls inside li (elim (stays i q p lp goes.1 member) [
+        | inl ne ↦ ne
+        | inr sends ↦ holder_not_hidden i q li goes.0 sends
+      ])
+  going_alike s ls (Masked t side) inside i q p li lp goes member =
+      others.masked _ t side ∙ excess_stays w other group h s t i side ls inside.0 inside.1 li
+  going_alike s ls (Output o) inside i q p li lp goes member =
+      outputs _ o ls inside li (elim (or_cases (has_party group q) (has_party group p) member) [
+        | inl sends ↦ inl (holder_not_hidden i q li goes.1.0 sends)
+        | inr reader ↦ inr (lp, reader, goes.0)
+      ])
+
+  slot_alike : (s : ℕ) → s < length w.plan.sessions → (z : Slot) → Inside (session w.plan s) z
+      → AllByRecursion Alike (slot_messages w.plan s (slot_number w.plan s z) z)
+  slot_alike s ls z inside =
+      let at = ((slots_are_numbered (session w.plan s)).there z inside).1 in
+      every_going Alike w.plan s (slot_number w.plan s z) z (λ i q p li lp goes member.
+      let key = key_at w.plan s z i q p in
+      ap (seen key) at ∙ going_alike s ls z inside i q p li lp goes member ∙ sym (ap (word_in w key) at))
 
   pub all_alike : AllByRecursion Alike (messages w.plan)
   all_alike =
       every_joined Alike (length w.plan.sessions) _ (λ s ls. every_joined Alike (slots w.plan s) _ (λ k lk.
-      slot_cases (session w.plan s) (λ k z. AllByRecursion Alike (slot_messages w.plan s k z))
-      (λ v lv. input_messages s v ls lv) (λ t lt. gate_messages s t ls lt) (λ o lo. output_messages s o ls lo) k lk))
+      slot_kinds (session w.plan s) (λ k z. AllByRecursion Alike (slot_messages w.plan s k z)) (slot_alike s ls) k lk))
 
   pub views_alike : map (λ key. (key, seen_word key)) (filter (touches group) (messages w.plan)) ≡ view w group
   views_alike =
@@ -134,11 +136,21 @@ module _ (w : World) (other : List (List (List ℕ))) (group : ℕ) (h : CanHide
             (h.agree.outputs key.session o key.receiver lo read.0 read.1 read.2) li
       ]
 
+  -- in the second world all is seen as it is there
+  as_it_is : SeenOf (second_world w other group) (word_in (second_world w other group))
+  as_it_is = record {
+    inputs = λ key v. refl;
+    gates = λ key t. refl;
+    masks = λ key t side. refl;
+    products = λ key t. refl;
+    masked = λ key t side. refl;
+  }
+
   pub same_view : SameView w other group
-  same_view = views_alike w other group moves (word_in second) (λ key v. refl) (λ key t. refl) opens
+  same_view = views_alike w other group moves (word_in second) as_it_is opens
 
   pub same_words : SameWords w other group
-  same_words n ln = every_place _ (messages w.plan) n no_key (all_alike w other group moves (word_in second) (λ key v. refl) (λ key t. refl) opens) ln
+  same_words n ln = every_place _ (messages w.plan) n no_key (all_alike w other group moves (word_in second) as_it_is opens) ln
 
   pub same_outputs : SameOutputs w other group
   same_outputs = h.agree.outputs

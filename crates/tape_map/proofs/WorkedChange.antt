@@ -8,7 +8,7 @@ use Rattle.job_plan.specs.InputWords.{AreInputs, given}
 use Rattle.job_plan.specs.declared.key.Key.{Key}
 use Rattle.job_plan.specs.Multiply.{multiply_plan}
 use Rattle.job_plan.specs.Numbers.{no_key}
-use Rattle.job_session.specs.Sessions.{owners, readers, output_wire}
+use Rattle.job_session.specs.Sessions.{owners, readers, output_wire, slot_list}
 use Rattle.job_plan.specs.Plans.{session, gives, reads}
 use Rattle.share_world.specs.Multiply.{multiply_world}
 use Rattle.share_world.specs.Worlds.{input_of, plain}
@@ -20,12 +20,14 @@ pub hidden_from_nobody : HiddenFromNobody
 hidden_from_nobody = refl
 
 pub hidden_from_a : HiddenFromA
+unfolding slot_list
 hidden_from_a = refl
 
 pub second_plain : SecondPlain
 second_plain = refl
 
 pub hidden_from_c : HiddenFromC
+unfolding slot_list
 hidden_from_c = refl
 
 -- ---- the premises hold
@@ -113,6 +115,7 @@ can_hide_from_c = record {
 
 -- they have all three summands of what b deals: c the first two, a the last two
 pub seen_by_both : SeenByBoth
+unfolding slot_list
 seen_by_both tapes e =
     let words : ℕ → ℕ = slice_index (slice_index_or tapes 1 []) in
     let seen : ℕ → List (Key × ℕ) → ℕ = λ n v. (slice_index_or v n (no_key, 0)).1 in

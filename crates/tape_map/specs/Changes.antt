@@ -1,75 +1,124 @@
 -- The tables of a session by which its tapes are changed.
-use Rattle.std.specs.Prelude.{◌≡◌, ℕ, ◌+◌, ◌^◌, ◌<◌, if◌then◌else◌, List, [], length}
+use Rattle.std.specs.Prelude.{◌≡◌, ℕ, ◌+◌, ◌^◌, ◌<◌, true, if◌then◌else◌, List, [], length}
 use Rattle.std.specs.Prelude.{slice_index, slice_index_or}
-use Rattle.list_laws.specs.Lists.{joined, listed}
+use Rattle.list_laws.specs.Lists.{joined, listed, only_if}
 use Rattle.mpc_ring.specs.Differences.{difference}
+use Rattle.circuit_model.specs.Circuits.{is_product}
 use Rattle.secret_sharing.specs.Schemes.{own_product}
 use Rattle.party_set.specs.Parties.{has_party}
-use Rattle.job_session.specs.Sessions.{Slot, gate}
+use Rattle.job_session.specs.declared.side.Side.{Side}
+use Rattle.job_session.specs.declared.side.Side.TheVariants.{First, Second}
+use Rattle.job_session.specs.Sessions.{Slot, gate, operand, is_prepared, mask_wire, row_names}
+use Rattle.job_session.specs.Sessions.Slot.{Input, At_gate, Mask, Mask_product}
 use Rattle.job_plan.specs.Plans.{Plan, scheme, session, slot, slots, words_in, place}
-use Rattle.job_session.specs.Sessions.Slot.{Input, At_gate, Output}
 use Rattle.job_plan.specs.InputWords.{session_words}
 use Rattle.share_world.specs.Worlds.{World}
-use Rattle.wire_tables.specs.WireTables.{value_list, summand_rows}
-use Rattle.tape_map.specs.TapeMaps.{hidden, with_inputs, raised, moved_summands}
+use Rattle.wire_tables.specs.WireTables.{summand_rows}
+use Rattle.wire_tables.specs.Steps.{IsRow}
+use Rattle.tape_map.specs.TapeMaps.{hidden, hidden_word, delta, raised}
 use Rattle.tape_map.specs.declared.change.Change.{Change}
 
--- the moved summands of each wire, after all gates
-abbrev pub moved_rows : World → List (List (List ℕ)) → ℕ → ℕ → List (List ℕ)
-moved_rows w other group s =
-    listed (session w.plan s).wires (λ v. listed (length w.plan.groups)
-    (moved_summands w other group s (length (session w.plan s).gates) v))
+-- ---- what a change has
+
+-- by how much each wire of session s grows, after all gates
+abbrev pub growths : World → List (List (List ℕ)) → ℕ → List ℕ
+growths w other s = listed (session w.plan s).wires (delta w other s (length (session w.plan s).gates))
+
+-- a row, where summand g grows by d
+abbrev pub grown_row : Plan → ℕ → ℕ → List ℕ → List ℕ
+grown_row plan g d row = listed (length plan.groups) (raised (2 ^ plan.bits) g d (slice_index row))
+
+-- the row of each wire, where summand g grows as the wire does
+abbrev pub grown_rows : Plan → ℕ → ℕ → List ℕ → List (List ℕ) → List (List ℕ)
+grown_rows plan s g more rows =
+    listed (session plan s).wires (λ v. grown_row plan g (slice_index more v) (slice_index_or rows v []))
+
+-- the row of the mask of the wire that gate t reads on this side, where summand g grows as the wire does; none where it
+-- is no product
+abbrev pub grown_mask : Plan → ℕ → ℕ → List ℕ → List (List ℕ) → Side → ℕ → List ℕ
+grown_mask plan s g more rows side t =
+    let x = session plan s in
+    only_if (is_product (gate x t).operation)
+    (grown_row plan g (slice_index more (operand (gate x t) side)) (slice_index_or rows (mask_wire x t side) []))
+
+-- so of all gates, where products are prepared
+abbrev pub grown_masks : Plan → ℕ → ℕ → List ℕ → List (List ℕ) → Side → List (List ℕ)
+grown_masks plan s g more rows side =
+    only_if (session plan s).prepared (listed (length (session plan s).gates) (grown_mask plan s g more rows side))
+
+-- the rows of masks on this side
+abbrev pub masks_of : Change → Side → List (List ℕ)
+masks_of c First = session_words c.first_masks.items
+masks_of c Second = session_words c.second_masks.items
+
+-- the change of session s at this summand, by how much its wires grow and by the rows of their summands and masks
+pub record IsTable (plan : Plan) (s g : ℕ) (more : List ℕ) (table : List (List ℕ)) (c : Change) : Type 0 where
+  pub at : c.session ≡ s
+  pub hidden_summand : c.hidden ≡ g
+  pub growths : c.growths.items ≡ more
+  pub rows : c.rows ≡ table
+  pub moved : session_words c.moved.items ≡ grown_rows plan s g more table
+  pub masks : (side : Side) → masks_of c side ≡ grown_masks plan s g more table side
 
 -- the tables are those of session s of a world and of other inputs
-pub record IsChange (w : World) (other : List (List (List ℕ))) (group s : ℕ) (c : Change)
-    : Type 0 where
-  pub at : c.session ≡ s
-  pub hidden_summand : c.hidden ≡ hidden w.plan group
-  pub first : c.first.items ≡ value_list w s
-  pub second : c.second.items ≡ value_list (with_inputs w other) s
-  pub rows : c.rows ≡ summand_rows w s
-  pub moved : session_words c.moved.items ≡ moved_rows w other group s
+abbrev pub IsChange : World → List (List (List ℕ)) → ℕ → ℕ → Change → Type 0
+IsChange w other group s c = IsTable w.plan s (hidden w.plan group) (growths w other s) (summand_rows w s) c
 
--- each table has a row for each wire
+-- ---- tables of the right size
+
+-- a number of the ring for each wire
+pub record AreGrowths (plan : Plan) (s : ℕ) (more : List ℕ) : Type 0 where
+  pub wires : length more ≡ (session plan s).wires
+  pub below : (v : ℕ) → slice_index more v < 2 ^ plan.bits
+
+-- a row for each name, whole where it is of a wire, or of the mask of a wire that a prepared product reads
+pub record AreNamedRows (plan : Plan) (s : ℕ) (rows : List (List ℕ)) : Type 0 where
+  pub names : length rows ≡ row_names (session plan s)
+  pub wires : (v : ℕ) → v < (session plan s).wires → IsRow plan (slice_index_or rows v [])
+  pub masks : (t : ℕ) (side : Side) → t < length (session plan s).gates → is_prepared (session plan s) t ≡ true
+      → IsRow plan (slice_index_or rows (mask_wire (session plan s) t side) [])
+
+-- the tables are of a session of the plan
 pub record Fits (plan : Plan) (c : Change) : Type 0 where
   pub there : c.session < length plan.sessions
-  pub first : length c.first.items ≡ (session plan c.session).wires
-  pub second : length c.second.items ≡ (session plan c.session).wires
-  pub rows : length c.rows ≡ (session plan c.session).wires
-  pub moved : length c.moved.items ≡ (session plan c.session).wires
-  pub small_first : (v : ℕ) → slice_index c.first.items v < 2 ^ plan.bits
-  pub small_second : (v : ℕ) → slice_index c.second.items v < 2 ^ plan.bits
-  pub wide_rows : (v : ℕ) → v < (session plan c.session).wires
-      → length (slice_index_or c.rows v []) ≡ length plan.groups
-  pub wide_moved : (v : ℕ) → v < (session plan c.session).wires
-      → length (slice_index_or (session_words c.moved.items) v []) ≡ length plan.groups
-  pub small_rows : (v i : ℕ) → slice_index (slice_index_or c.rows v []) i < 2 ^ plan.bits
-  pub small_moved : (v i : ℕ)
-      → slice_index (slice_index_or (session_words c.moved.items) v []) i < 2 ^ plan.bits
+  pub growths : AreGrowths plan c.session c.growths.items
+  pub rows : AreNamedRows plan c.session c.rows
+  pub tables : IsTable plan c.session c.hidden c.growths.items c.rows c
 
--- what party p deals in a slot, by the rows of a table and the values of the input wires
-abbrev pub deals_by : Plan → ℕ → ℕ → List ℕ → List (List ℕ) → Slot → ℕ
-deals_by plan s p values rows (Input v) = slice_index values v
-deals_by plan s p values rows (At_gate t) =
-    let wires = gate (session plan s) t in
-    own_product (scheme plan) p (slice_index (slice_index_or rows wires.first []))
-    (slice_index (slice_index_or rows wires.second []))
-deals_by plan s p values rows (Output o) = 0
+-- ---- what is dealt
 
--- by how much what party p deals in a slot grows: not at all where it is a member
-abbrev pub growth : Plan → ℕ → Change → ℕ → Slot → ℕ
-growth plan group c p kind =
-    if has_party group p then 0
-    else difference (2 ^ plan.bits)
-    (deals_by plan c.session p c.second.items (session_words c.moved.items) kind)
-    (deals_by plan c.session p c.first.items c.rows kind)
+-- by how much party p's part of a product grows, from that of the rows x and y to that of x' and y'
+abbrev pub product_growth : Plan → ℕ → List ℕ → List ℕ → List ℕ → List ℕ → ℕ
+product_growth plan p x y x' y' =
+    difference (2 ^ plan.bits) (own_product (scheme plan) p (slice_index x') (slice_index y'))
+    (own_product (scheme plan) p (slice_index x) (slice_index y))
+
+-- by how much the hidden word grows of those that p draws in a slot, where p is no member
+abbrev pub growth_in : Plan → Change → ℕ → Slot → ℕ
+growth_in plan c p (Input v) = slice_index c.growths.items v
+growth_in plan c p (Mask t side) = slice_index c.growths.items (operand (gate (session plan c.session) t) side)
+growth_in plan c p (At_gate t) =
+    let wires = gate (session plan c.session) t in
+    product_growth plan p (slice_index_or c.rows wires.first []) (slice_index_or c.rows wires.second [])
+    (slice_index_or (session_words c.moved.items) wires.first [])
+    (slice_index_or (session_words c.moved.items) wires.second [])
+growth_in plan c p (Mask_product t) =
+    let x = session plan c.session in
+    product_growth plan p
+    (slice_index_or c.rows (mask_wire x t First) []) (slice_index_or c.rows (mask_wire x t Second) [])
+    (slice_index_or (masks_of c First) t []) (slice_index_or (masks_of c Second) t [])
+growth_in plan c p _ = 0
+
+-- a member's words stay
+abbrev pub growth_by : Plan → ℕ → Change → ℕ → Slot → ℕ
+growth_by plan group c p kind = if has_party group p then 0 else growth_in plan c p kind
 
 -- the words that party p draws in slot k, of which the hidden one grows
 abbrev pub grown_words : Plan → ℕ → Change → List ℕ → ℕ → ℕ → List ℕ
 grown_words plan group c tape p k =
     let kind = slot plan c.session k in
     listed (words_in plan c.session p kind)
-    (raised (2 ^ plan.bits) c.hidden (growth plan group c p kind)
+    (raised (2 ^ plan.bits) (hidden_word plan group p kind) (growth_by plan group c p kind)
     (λ i. slice_index tape (place plan p c.session k + i)))
 
 -- and all words that it draws in the session

@@ -9,11 +9,12 @@ use Rattle.maximal_groups.specs.Families.{LiesWithin}
 use Rattle.job_plan.specs.InputWords.{AreInputs}
 use Rattle.job_plan.specs.Messages.{messages}
 use Rattle.job_plan.specs.Numbers.{message}
-use Rattle.job_session.specs.Sessions.{owners, readers, gate, output_wire}
+use Rattle.job_session.specs.Sessions.{owners, readers, gate, is_prepared, output_wire}
+use Rattle.job_session.specs.declared.side.Side.{Side}
 use Rattle.job_plan.specs.Plans.{Plan, structure, holds, session, reads, slot, slots, words_in, giver}
-use Rattle.share_world.specs.Worlds.{World, input_of, tape_word, dealt_value, run_of, plain, word, touches, view}
+use Rattle.share_world.specs.Worlds.{World, input_of, tape_word, mask, masked_summand, dealt_value, run_of, plain, word, touches, view}
 use Rattle.share_world.specs.Laws.{IsWhole, AreTapes}
-use Rattle.tape_map.specs.TapeMaps.{hidden, with_inputs, with_tapes, tape_of, delta, moved_summands, moved_value, moved_words, tape_map, changed_tapes, second_world}
+use Rattle.tape_map.specs.TapeMaps.{hidden_word, with_inputs, with_tapes, tape_of, delta, moved_summands, moved_mask, moved_value, moved_words, tape_map, changed_tapes, second_world}
 
 -- with the other inputs a group's members give what they gave, and read what they read
 pub record Agree (w : World) (other : List (List (List ℕ))) (group : ℕ) : Type 0 where
@@ -96,13 +97,14 @@ abbrev pub WordsMove : World → List (List (List ℕ)) → ℕ → Type 0
 WordsMove w other group =
     (s k p i : ℕ) → s < length w.plan.sessions → k < slots w.plan s → p < w.plan.parties
     → i < words_in w.plan s p (slot w.plan s k)
-    → tape_word (second_world w other group) s (slot w.plan s k) p i ≡ moved_words w other group s (slot w.plan s k) p i
+    → tape_word (second_world w other group) s (slot w.plan s k) p i
+    ≡ moved_words w other group s (slot w.plan s k) p i
 
 -- a word of the second world's tapes that isn't the hidden summand's is the first world's
 abbrev pub OthersStay : World → List (List (List ℕ)) → ℕ → Type 0
 OthersStay w other group =
     (s k p i : ℕ) → s < length w.plan.sessions → k < slots w.plan s → p < w.plan.parties
-    → i < words_in w.plan s p (slot w.plan s k) → i ≢ hidden w.plan group
+    → i < words_in w.plan s p (slot w.plan s k) → i ≢ hidden_word w.plan group p (slot w.plan s k)
     → tape_word (second_world w other group) s (slot w.plan s k) p i ≡ tape_word w s (slot w.plan s k) p i
 
 -- the summands of the second world's wires are the moved ones
@@ -110,6 +112,20 @@ abbrev pub SummandsMove : World → List (List (List ℕ)) → ℕ → Type 0
 SummandsMove w other group =
     (s t v i : ℕ) → s < length w.plan.sessions → i < length w.plan.groups
     → summands (run_of (second_world w other group) s) t v i ≡ moved_summands w other group s t v i
+
+-- the masks of the second world are the moved ones
+abbrev pub MasksMove : World → List (List (List ℕ)) → ℕ → Type 0
+MasksMove w other group =
+    (s t i : ℕ) (side : Side) → s < length w.plan.sessions → t < length (session w.plan s).gates
+    → is_prepared (session w.plan s) t ≡ true → i < length w.plan.groups
+    → mask (second_world w other group) s t side i ≡ moved_mask w other group s t side i
+
+-- what a wire of a prepared product has more than its mask stays
+abbrev pub ExcessStays : World → List (List (List ℕ)) → ℕ → Type 0
+ExcessStays w other group =
+    (s t i : ℕ) (side : Side) → s < length w.plan.sessions → t < length (session w.plan s).gates
+    → is_prepared (session w.plan s) t ≡ true → i < length w.plan.groups
+    → masked_summand (second_world w other group) s t side i ≡ masked_summand w s t side i
 
 -- each party deals there what it is to deal
 abbrev pub ValuesMove : World → List (List (List ℕ)) → ℕ → Type 0

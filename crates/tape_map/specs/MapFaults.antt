@@ -1,6 +1,5 @@
 -- Why other inputs can't be hidden from a group.
 use Rattle.std.specs.Prelude.{ℕ, ◌<◌, Bool, ◌&&◌, not, nat_eq, Option, List, ◌∷◌, ◌++◌, length}
-use Rattle.std.specs.Prelude.{slice_index}
 use Rattle.std.specs.List.{list_any}
 use Rattle.list_laws.specs.Lists.{joined, listed}
 use Rattle.list_laws.specs.Checks.{◌answers◌, first_fault}

@@ -6,10 +6,12 @@ use Rattle.list_laws.specs.Lists.{joined, listed}
 use Rattle.mpc_ring.specs.Differences.{difference}
 use Rattle.secret_sharing.specs.Schemes.{own_product, summands}
 use Rattle.party_set.specs.Parties.{has_party, within}
-use Rattle.job_session.specs.Sessions.{Slot, gate}
-use Rattle.job_plan.specs.Plans.{Plan, scheme, session, slot, slots, words_in}
-use Rattle.job_session.specs.Sessions.Slot.{Input, At_gate, Output}
-use Rattle.share_world.specs.Worlds.{World, input_of, tape_word, value_before, dealt_value, run_of}
+use Rattle.job_session.specs.Sessions.{Slot, gate, operand}
+use Rattle.job_session.specs.Sessions.Slot.{Input, At_gate, Mask, Mask_product}
+use Rattle.job_session.specs.declared.side.Side.{Side}
+use Rattle.job_session.specs.declared.side.Side.TheVariants.{First, Second}
+use Rattle.job_plan.specs.Plans.{Plan, scheme, session, slot, slots, words_in, least_holder, least_held}
+use Rattle.share_world.specs.Worlds.{World, input_of, tape_word, value_before, mask, dealt_value, run_of}
 
 -- ---- the worlds of one plan
 
@@ -45,25 +47,45 @@ abbrev pub moved_summands : World → List (List (List ℕ)) → ℕ → ℕ →
 moved_summands w other group s t v =
     raised (2 ^ w.plan.bits) (hidden w.plan group) (delta w other s t v) (summands (run_of w s) t v)
 
--- what party p is to deal in a slot: its other input, or its own product of the moved summands
+-- the mask of the wire that gate t reads on this side, where the hidden summand grows as the wire's value does
+abbrev pub moved_mask : World → List (List (List ℕ)) → ℕ → ℕ → ℕ → Side → ℕ → ℕ
+moved_mask w other group s t side =
+    raised (2 ^ w.plan.bits) (hidden w.plan group) (delta w other s t (operand (gate (session w.plan s) t) side))
+    (mask w s t side)
+
+-- what party p is to deal in a slot: its other input, or its own product of the moved summands, or of the moved masks
 abbrev pub moved_value : World → List (List (List ℕ)) → ℕ → ℕ → ℕ → Slot → ℕ
 moved_value w other group s p (Input v) = input_of (with_inputs w other) s v
 moved_value w other group s p (At_gate t) =
     let moved = moved_summands w other group s t in
     let wires = gate (session w.plan s) t in
     own_product (scheme w.plan) p (moved wires.first) (moved wires.second)
-moved_value w other group s p (Output o) = 0
+moved_value w other group s p (Mask_product t) =
+    own_product (scheme w.plan) p (moved_mask w other group s t First) (moved_mask w other group s t Second)
+moved_value w other group s p _ = 0
 
 -- ---- the change
 
--- the words that party p draws in a slot of session s: a member's stay, and of any other party's
--- the hidden one grows as the value that it deals there
+-- which of the words that p draws in a slot is the hidden summand's: that of its number in a deal, and in a mask the
+-- one that p draws for it, if p is its least holder, and else none
+abbrev pub hidden_word : Plan → ℕ → ℕ → Slot → ℕ
+hidden_word plan group p (Mask t side) =
+    let g = hidden plan group in
+    least_held plan p (if nat_eq (least_holder plan g) p then g else length plan.groups)
+hidden_word plan group p _ = hidden plan group
+
+-- by how much that word grows: in a mask as the masked wire's value does, in a deal as the value that p deals
+abbrev pub growth : World → List (List (List ℕ)) → ℕ → ℕ → ℕ → Slot → ℕ
+growth w other group s p (Mask t side) = delta w other s t (operand (gate (session w.plan s) t) side)
+growth w other group s p kind =
+    difference (2 ^ w.plan.bits) (moved_value w other group s p kind) (dealt_value w s p kind)
+
+-- the words that party p draws in a slot of session s: a member's stay, and of any other party's the hidden one grows
 abbrev pub moved_words : World → List (List (List ℕ)) → ℕ → ℕ → Slot → ℕ → ℕ → ℕ
 moved_words w other group s kind p =
-    let q = 2 ^ w.plan.bits in
     if has_party group p then tape_word w s kind p
-    else raised q (hidden w.plan group)
-    (difference q (moved_value w other group s p kind) (dealt_value w s p kind)) (tape_word w s kind p)
+    else raised (2 ^ w.plan.bits) (hidden_word w.plan group p kind) (growth w other group s p kind)
+    (tape_word w s kind p)
 
 -- party p's piece of tape for session s, changed, slot by slot
 abbrev pub piece_map : World → List (List (List ℕ)) → ℕ → ℕ → ℕ → List ℕ

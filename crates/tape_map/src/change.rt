@@ -1,41 +1,48 @@
 //! How the tapes of one session change.
 ghost use Rattle.std.specs.Prelude.{◌≡◌, ℕ, ◌+◌, ◌^◌, ◌<◌, ◌≤◌, ◌++◌, ◌%◌, if◌then◌else◌, List};
-ghost use Rattle.std.specs.Prelude.{[], All, IfOk, OnOk, length, slice_index, slice_index_or};
+ghost use Rattle.std.specs.Prelude.{All, IfOk, OnOk, true, length, slice_index};
 ghost use Rattle.list_laws.specs.Lists.{listed};
-ghost use Rattle.mpc_ring.specs.Differences.{difference};
-ghost use Rattle.job_plan.specs.InputWords.{session_words};
+ghost use Rattle.job_session.specs.Sessions.{operand};
+ghost use Rattle.job_plan.specs.InputWords.{AreInputs, session_words};
 ghost use Rattle.job_plan.specs.Plans.{session};
+ghost use Rattle.share_world.specs.Laws.{IsWhole};
 ghost use Rattle.tape_map.specs.TapeMaps.{raised};
+ghost use Rattle.tape_map.specs.Changes.{AreGrowths, AreNamedRows, growths, product_growth, grown_rows, grown_mask, grown_masks};
 
+use circuit_model::Gate;
 use job_plan::{Inputs, Plan, SlotKind};
+use job_session::Side;
 use mpc_ring::Ring;
 use party_set::Group;
 use reshare_step::own_products;
 use std::alloc::{AllocError, Global};
-use wire_tables::{SummandTable, deals_in, value_list};
+use wire_tables::{SummandTable, value_list, words_in};
 
-/// The tables of a session: the values of its wires with the inputs and with the others, their
-/// summands, and the summands of which the hidden one grows as the value does.
+/// The tables of a session: by how much its wires grow with the other inputs, their summands, those of
+/// the masks of prepared products too, and both as they are when the hidden one grows as the wire does.
 #[derive(Drop)]
 pub struct Change {
     pub session: u32,
     pub hidden: u32,
-    pub first: Vec<u64>,
-    pub second: Vec<u64>,
+    pub growths: Vec<u64>,
     pub rows: SummandTable,
     pub moved: Vec<Vec<u64>>,
+    pub first_masks: Vec<Vec<u64>>,
+    pub second_masks: Vec<Vec<u64>>,
 }
 
 impl Change {
-    ghost use Rattle.std.specs.Prelude.{◌≡◌, ℕ, ◌^◌, ◌<◌, ◌≤◌, ◌++◌, IfOk, OnOk, All, length};
+    ghost use Rattle.std.specs.Prelude.{◌≡◌, ℕ, ◌+◌, ◌^◌, ◌<◌, ◌≤◌, ◌++◌, IfOk, OnOk, All, true, length};
     ghost use Rattle.party_set.specs.Parties.{has_party};
+    ghost use Rattle.job_session.specs.Sessions.{is_prepared};
+    ghost use Rattle.job_session.specs.Sessions.Slot.{At_gate, Mask_product};
+    ghost use Rattle.job_session.specs.SoundSessions.{Inside, slot_of_kind};
     ghost use Rattle.job_plan.specs.InputWords.{AreInputs};
     ghost use Rattle.job_plan.specs.Plans.{session, place, words};
-    ghost use Rattle.job_session.specs.SoundSessions.{Inside, slot_of_kind};
     ghost use Rattle.share_world.specs.Laws.{IsWhole};
     ghost use Rattle.wire_tables.specs.WireTables.{world_given};
-    ghost use Rattle.tape_map.specs.TapeMaps.{hidden};
-    ghost use Rattle.tape_map.specs.Changes.{IsChange, Fits, growth, grown_piece};
+    ghost use Rattle.tape_map.specs.TapeMaps.{hidden, hidden_word};
+    ghost use Rattle.tape_map.specs.Changes.{IsChange, Fits, growth_in, growth_by, grown_piece};
 
     /// The tables of session `s`, where the other inputs are to be hidden at this summand.
     pub fn make(
@@ -54,17 +61,19 @@ impl Change {
         ensures { (group : ℕ) → share ≡ hidden plan.now group
             → IfOk result (IsChange (world_given plan.now inputs.now tapes.now) other.now group s) }
     {
-        let first = value_list(alloc, plan, inputs, s)?;
-        let second = value_list(alloc, plan, other, s)?;
+        let growths = wire_growths(alloc, plan, inputs, other, s)?;
         let rows = SummandTable::make(alloc, plan, inputs, tapes, s)?;
-        let moved = moved_rows(alloc, plan, s, share, &first, &second, &rows)?;
+        let moved = moved_rows(alloc, plan, s, share, &growths, &rows)?;
+        let first_masks = moved_masks(alloc, plan, s, share, &growths, &rows, Side::First)?;
+        let second_masks = moved_masks(alloc, plan, s, share, &growths, &rows, Side::Second)?;
         Ok(Change {
             session: s,
             hidden: share,
-            first,
-            second,
+            growths,
             rows,
             moved,
+            first_masks,
+            second_masks,
         })
     }
 
@@ -78,6 +87,8 @@ impl Change {
         changed: &mut Vec<u64>,
     ) -> Result<(), AllocError>
         requires fits { Fits plan.now self.now }
+        requires hidden { self.now.hidden ≡ hidden plan.now group.mask }
+        requires share { self.now.hidden < length plan.now.groups }
         requires group { group.parties ≡ plan.now.parties }
         requires party { p < plan.now.parties }
         requires tape { place plan.now p self.now.session 0 + words plan.now p self.now.session
@@ -88,80 +99,226 @@ impl Change {
             ≡ changed.old.items ++ grown_piece plan.now group.mask self.now tape.now p) }
     {
         let ring = plan.ring();
-        let count = plan.shares() - 1;
         let part = plan.part(self.session);
         for k in 0..plan.slots(self.session) {
             let kind = part.slot_kind(k);
-            if deals_in(plan, self.session, p, kind) {
+            let count = words_in(plan, self.session, p, kind);
+            if count > 0 {
+                let place = self.hidden_word(plan, p, kind);
                 let growth = self.growth(plan, group, p, kind);
-                push_deal(ring, tape, count, self.hidden, growth, changed)?;
+                push_words(ring, tape, count, place, growth, changed)?;
             }
         }
         Ok(())
     }
 
-    // By how much what party `p` deals in a slot grows: not at all where it is a member.
+    // Which of the words that party `p` draws in a slot is the hidden summand's.
+    fn hidden_word(&self, plan: &Plan, p: u32, kind: SlotKind) -> u32
+        requires share { self.now.hidden < length plan.now.groups }
+        requires party { p < plan.now.parties }
+        ensures { (group : ℕ) → self.now.hidden ≡ hidden plan.now group
+            → result ≡ hidden_word plan.now group p (slot_of_kind kind) }
+    {
+        match kind {
+            SlotKind::Mask(_, _) => {
+                if plan.layout().least_holder(self.hidden) == p {
+                    plan.least_held(p, self.hidden)
+                } else {
+                    plan.least_held(p, plan.shares())
+                }
+            }
+            _ => self.hidden,
+        }
+    }
+
+    // By how much that word grows: not at all where `p` is a member.
     fn growth(&self, plan: &Plan, group: Group, p: u32, kind: SlotKind) -> u64
         requires fits { Fits plan.now self.now }
         requires group { group.parties ≡ plan.now.parties }
         requires party { p < plan.now.parties }
         requires inside { Inside (session plan.now self.now.session) (slot_of_kind kind) }
-        ensures is { result ≡ growth plan.now group.mask self.now p (slot_of_kind kind) }
+        ensures is { result ≡ growth_by plan.now group.mask self.now p (slot_of_kind kind) }
         ensures below { result < 2 ^ plan.now.bits }
     {
         let ring = plan.ring();
         if group.has(p) {
             return ring.zero();
         }
+        let part = plan.part(self.session);
         match kind {
-            SlotKind::Input(v) => ring.sub(self.second[v as usize], self.first[v as usize]),
-            SlotKind::Gate(t) => {
-                let gate = plan.part(self.session).gate(t);
-                let (x, y) = (self.rows.row(gate.first), self.rows.row(gate.second));
-                let before = own_products(ring, plan.duty(), p, x, y);
-                let x = &self.moved[gate.first as usize];
-                let y = &self.moved[gate.second as usize];
-                let after = own_products(ring, plan.duty(), p, x, y);
-                ring.sub(after, before)
-            }
-            SlotKind::Output(_) => ring.zero(),
+            SlotKind::Input(v) => self.growths[v as usize],
+            SlotKind::Mask(t, side) => self.growths[operand(part.gate(t), side) as usize],
+            SlotKind::Gate(t) => self.gate_growth(plan, p, t),
+            SlotKind::MaskProduct(t) => self.masks_growth(plan, p, t),
+            SlotKind::Output(_) | SlotKind::Masked(_, _) => ring.zero(),
         }
+    }
+
+    // By how much party `p`'s part of the product of gate `t` grows.
+    fn gate_growth(&self, plan: &Plan, p: u32, t: u32) -> u64
+        requires fits { Fits plan.now self.now }
+        requires party { p < plan.now.parties }
+        requires gate { t < length (session plan.now self.now.session).gates }
+        ensures is { result ≡ growth_in plan.now self.now p (At_gate t) }
+        ensures below { result < 2 ^ plan.now.bits }
+    {
+        let _ = plan.parties();
+        let gate = plan.part(self.session).gate(t);
+        let (x, y) = (self.rows.row(gate.first), self.rows.row(gate.second));
+        let moved_x = &self.moved[gate.first as usize];
+        let moved_y = &self.moved[gate.second as usize];
+        product_growth(plan, p, x, y, moved_x, moved_y)
+    }
+
+    // By how much its part of the product of the masks of that gate's wires grows.
+    fn masks_growth(&self, plan: &Plan, p: u32, t: u32) -> u64
+        requires fits { Fits plan.now self.now }
+        requires party { p < plan.now.parties }
+        requires gate { t < length (session plan.now self.now.session).gates }
+        requires prepared { is_prepared (session plan.now self.now.session) t ≡ true }
+        ensures is { result ≡ growth_in plan.now self.now p (Mask_product t) }
+        ensures below { result < 2 ^ plan.now.bits }
+    {
+        let part = plan.part(self.session);
+        let a = self.rows.row(part.mask_wire(t, Side::First));
+        let b = self.rows.row(part.mask_wire(t, Side::Second));
+        let moved_a = &self.first_masks[t as usize];
+        let moved_b = &self.second_masks[t as usize];
+        product_growth(plan, p, a, b, moved_a, moved_b)
     }
 }
 
-// The summands of each wire, where the hidden one grows as the value does.
+// By how much party `p`'s part of a product grows, from that of the rows `x` and `y` to that of two others.
+fn product_growth(
+    plan: &Plan,
+    p: u32,
+    x: &[u64],
+    y: &[u64],
+    moved_x: &[u64],
+    moved_y: &[u64],
+) -> u64
+    requires party { p < plan.now.parties }
+    requires first { length x.now ≡ length plan.now.groups }
+    requires second { length y.now ≡ length plan.now.groups }
+    requires moved_first { length moved_x.now ≡ length plan.now.groups }
+    requires moved_second { length moved_y.now ≡ length plan.now.groups }
+    ensures is { result ≡ product_growth plan.now p x.now y.now moved_x.now moved_y.now }
+    ensures below { result < 2 ^ plan.now.bits }
+{
+    let ring = plan.ring();
+    let before = own_products(ring, plan.duty(), p, x, y);
+    let after = own_products(ring, plan.duty(), p, moved_x, moved_y);
+    ring.sub(after, before)
+}
+
+// By how much each wire of session `s` grows with the other inputs.
+fn wire_growths(
+    alloc: Global,
+    plan: &Plan,
+    inputs: &Inputs,
+    other: &Inputs,
+    s: u32,
+) -> Result<Vec<u64>, AllocError>
+    requires whole { (tapes : List (List ℕ))
+        × IsWhole (record { plan = plan.now; inputs = inputs.now; tapes = tapes }) }
+    requires other { AreInputs plan.now other.now }
+    requires session { s < length plan.now.sessions }
+    ensures is { (tapes : List (List ℕ)) → IfOk result (λ more. more.items
+        ≡ growths (record { plan = plan.now; inputs = inputs.now; tapes = tapes }) other.now s) }
+    ensures fit { IfOk result (λ more. AreGrowths plan.now s more.items) }
+{
+    let ring = plan.ring();
+    let first = value_list(alloc, plan, inputs, s)?;
+    let second = value_list(alloc, plan, other, s)?;
+    let mut growths = Vec::new(alloc);
+    for v in 0..first.len() {
+        growths.push(ring.sub(second[v], first[v]))?;
+    }
+    Ok(growths)
+}
+
+// The row of each wire, where the summand to be hidden grows as the wire does.
 fn moved_rows(
     alloc: Global,
     plan: &Plan,
     s: u32,
     share: u32,
-    first: &[u64],
-    second: &[u64],
+    growths: &[u64],
     rows: &SummandTable,
 ) -> Result<Vec<Vec<u64>>, AllocError>
     requires session { s < length plan.now.sessions }
     requires share { share < length plan.now.groups }
-    requires wires { length rows.now ≡ (session plan.now s).wires }
-    requires first { length first.now ≡ length rows.now }
-    requires second { length second.now ≡ length rows.now }
-    requires small_first { All (λ word. word < 2 ^ plan.now.bits) first.now }
-    requires small_second { All (λ word. word < 2 ^ plan.now.bits) second.now }
-    requires wide { All (λ (row : List ℕ). length row ≡ length plan.now.groups) rows.now }
-    requires small_rows { All (λ (row : List ℕ).
-        All (λ word. word < 2 ^ plan.now.bits) row) rows.now }
+    requires growths { AreGrowths plan.now s growths.now }
+    requires rows { AreNamedRows plan.now s rows.now }
     ensures { IfOk result (λ moved. session_words moved.items
-        ≡ listed (length rows.now) (λ v. listed (length plan.now.groups)
-        (raised (2 ^ plan.now.bits) share
-        (difference (2 ^ plan.now.bits) (slice_index second.now v) (slice_index first.now v))
-        (slice_index (slice_index_or rows.now v []))))) }
+        ≡ grown_rows plan.now s share growths.now rows.now) }
 {
     let ring = plan.ring();
     let mut moved = Vec::new(alloc);
     for v in 0..plan.part(s).wires() {
-        let growth = ring.sub(second[v as usize], first[v as usize]);
+        let growth = growths[v as usize];
         moved.push(raised_row(alloc, ring, share, growth, rows.row(v))?)?;
     }
     Ok(moved)
+}
+
+// The row of the mask of each wire that a prepared product reads on this side, by gates, where that summand grows as
+// the wire does.
+fn moved_masks(
+    alloc: Global,
+    plan: &Plan,
+    s: u32,
+    share: u32,
+    growths: &[u64],
+    rows: &SummandTable,
+    side: Side,
+) -> Result<Vec<Vec<u64>>, AllocError>
+    requires session { s < length plan.now.sessions }
+    requires share { share < length plan.now.groups }
+    requires growths { AreGrowths plan.now s growths.now }
+    requires rows { AreNamedRows plan.now s rows.now }
+    ensures { IfOk result (λ masks. session_words masks.items
+        ≡ grown_masks plan.now s share growths.now rows.now side) }
+{
+    let _ = plan.parties();
+    let part = plan.part(s);
+    let mut masks = Vec::new(alloc);
+    if part.is_prepared() {
+        for t in 0..part.gates().len() as u32 {
+            masks.push(moved_mask(alloc, plan, s, share, growths, rows, side, t)?)?;
+        }
+    }
+    Ok(masks)
+}
+
+// That of gate `t`, where it is a product, and else no words.
+fn moved_mask(
+    alloc: Global,
+    plan: &Plan,
+    s: u32,
+    share: u32,
+    growths: &[u64],
+    rows: &SummandTable,
+    side: Side,
+    t: u32,
+) -> Result<Vec<u64>, AllocError>
+    requires session { s < length plan.now.sessions }
+    requires share { share < length plan.now.groups }
+    requires growths { AreGrowths plan.now s growths.now }
+    requires rows { AreNamedRows plan.now s rows.now }
+    requires gate { t < length (session plan.now s).gates }
+    requires prepared { (session plan.now s).prepared ≡ true }
+    ensures { IfOk result (λ mask. mask.items ≡ grown_mask plan.now s share growths.now rows.now side t) }
+{
+    let ring = plan.ring();
+    let part = plan.part(s);
+    let gate = part.gate(t);
+    if !gate.operation.is_product() {
+        return Ok(Vec::new(alloc));
+    }
+    let growth = growths[operand(gate, side) as usize];
+    let mask = rows.row(part.mask_wire(t, side));
+    raised_row(alloc, ring, share, growth, mask)
 }
 
 // A copy of a row, of which one summand grows.
@@ -184,12 +341,12 @@ fn raised_row(
     Ok(raised)
 }
 
-// Adds the next words of a tape to its change. The word of the hidden summand grows.
-fn push_deal(
+// Adds the next words of a tape to its change. The one at a place among them grows.
+fn push_words(
     ring: Ring,
     tape: &[u64],
     count: u32,
-    share: u32,
+    place: u32,
     growth: u64,
     changed: &mut Vec<u64>,
 ) -> Result<(), AllocError>
@@ -197,12 +354,12 @@ fn push_deal(
     requires growth { growth < 2 ^ ring }
     requires words { All (λ word. word < 2 ^ ring) tape.now }
     ensures { OnOk result (changed.new.items ≡ changed.old.items ++ listed count
-        (raised (2 ^ ring) share growth
+        (raised (2 ^ ring) place growth
         (λ i. slice_index tape.now (length changed.old.items + i)))) }
 {
     for i in 0..count {
         let word = tape[changed.len()];
-        changed.push(grown(ring, word, growth, i == share))?;
+        changed.push(grown(ring, word, growth, i == place))?;
     }
     Ok(())
 }
@@ -216,5 +373,15 @@ fn grown(ring: Ring, word: u64, growth: u64, is_hidden: bool) -> u64
         ring.add(word, growth)
     } else {
         word
+    }
+}
+
+// The wire that a gate reads on this side.
+fn operand(gate: Gate, side: Side) -> u32
+    ensures { result ≡ operand gate side }
+{
+    match side {
+        Side::First => gate.first,
+        Side::Second => gate.second,
     }
 }

@@ -11,7 +11,7 @@ ghost use Rattle.tape_map.specs.TapeMaps.{hidden};
 ghost use Rattle.tape_map.specs.Laws.{CanHide, SameView, SameWords, SameOutputs};
 ghost use Rattle.tape_map.specs.Laws.{CanGoBack, GoesBack, OneToOne, Onto};
 ghost use Rattle.tape_map.specs.Laws.{IsFirstLacked, MembersStay, OthersStay, WordsMove};
-ghost use Rattle.tape_map.specs.Laws.{SummandsMove, ValuesMove, InputsChange, SecondIsWhole};
+ghost use Rattle.tape_map.specs.Laws.{SummandsMove, ValuesMove, MasksMove, ExcessStays, InputsChange, SecondIsWhole};
 ghost use Rattle.tape_map.specs.Laws.{AgreesBack, DeltaIsPlain};
 ghost use Rattle.tape_map.specs.Multiply.{CanHideFromA, HiddenFromA, SecondPlain, CanHideFromC};
 ghost use Rattle.tape_map.specs.Multiply.{HiddenFromNobody, HiddenFromC, SeenByBoth};
@@ -72,7 +72,8 @@ pub fn hidden_is_first()
 {}
 
 /// The tape words, summands and deals of the second world are the moved ones: the hidden summand of
-/// each wire grows as the wire's value does, and all other summands stay.
+/// each wire grows as the wire's value does, and all other summands stay. The masks of a prepared
+/// product grow with its wires, so that what is opened of these stays.
 pub fn hidden_summands_move()
     ensures words { (w : World) (other : List (List (List ℕ))) (group : ℕ)
         → WordsMove w other group }
@@ -80,6 +81,10 @@ pub fn hidden_summands_move()
         → CanHide w other group → SummandsMove w other group }
     ensures values { (w : World) (other : List (List (List ℕ))) (group : ℕ)
         → CanHide w other group → ValuesMove w other group }
+    ensures masks { (w : World) (other : List (List (List ℕ))) (group : ℕ)
+        → CanHide w other group → MasksMove w other group }
+    ensures excess { (w : World) (other : List (List (List ℕ))) (group : ℕ)
+        → CanHide w other group → ExcessStays w other group }
 {}
 
 /// A whole world stays whole with other inputs of its plan, and so is its second world.

@@ -104,6 +104,8 @@ fn push_pieces(
     changed: &mut [Vec<u64>],
 ) -> Result<(), AllocError>
     requires fits { Fits plan.now change.now }
+    requires hidden { change.now.hidden ≡ hidden plan.now group.mask }
+    requires share { change.now.hidden < length plan.now.groups }
     requires group { group.parties ≡ plan.now.parties }
     requires tapes { AreTapes plan.now (session_words tapes.now) }
     requires parties { length changed.old ≡ plan.now.parties }

@@ -1,24 +1,21 @@
 -- The messages of a slot, line by line of its pattern, and what a group sees of them.
 use Rattle.std.proofs.Common.{◌≡◌, ℕ, ◌+◌, ◌<◌, ◌≤◌, true, Bool, false, cond, inl, inr, ◌⊎◌, List, [], ◌∷◌, ◌++◌, map, take, drop, length, refl, sym, ap, ◌∙◌, subst, arith}
 use Rattle.std.specs.Prelude.{slice_index, slice_index_or}
-use Rattle.std.proofs.lemmas.Bool.{eq-eqb}
 use Rattle.std.proofs.lemmas.List.{map-append, take_more, take_all, take-append-drop}
 use Rattle.list_laws.specs.Lists.{joined, only_if}
 use Rattle.list_laws.proofs.JoinedLists.{length-listed, listed_at, joined_more}
-use Rattle.job_session.specs.Sessions.{Slot, owners}
-use Rattle.job_session.specs.Sessions.Slot.{Input, At_gate, Output}
 use Rattle.job_plan.specs.declared.key.Key.{Key}
 use Rattle.job_plan.specs.declared.pattern.Line.{Line}
-use Rattle.job_plan.specs.Plans.{Plan, session, slot, slots}
+use Rattle.job_plan.specs.Plans.{slot, slots}
 use Rattle.job_plan.specs.Messages.{slot_messages}
 use Rattle.job_plan.specs.Firsts.{first}
 use Rattle.job_plan.specs.Patterns.{named, lines, pattern_at}
 use Rattle.job_plan.proofs.RankSearch.{no_line}
 use Rattle.program_laws.specs.Once.{IsBetweenParties}
 use Rattle.share_world.specs.Laws.{IsWhole}
-use Rattle.share_world.specs.Worlds.{World, touches, word, word_in}
-use Rattle.wire_tables.specs.SlotRows.{may_send, sent, AreSlotRows}
-use Rattle.wire_tables.proofs.MessageSenders.{Sends, Stands, stands_so}
+use Rattle.share_world.specs.Worlds.{World, touches, word}
+use Rattle.wire_tables.specs.SlotRows.{sent, AreSlotRows}
+use Rattle.wire_tables.proofs.MessageSenders.{Stands, stands_so, to_anyone}
 use Rattle.view_check.specs.declared.fault.CheckFault.{CheckFault}
 use Rattle.view_check.specs.declared.fault.CheckFault.TheVariants.{Memory}
 use Rattle.view_text.specs.Seen.{seen_of, IsMessage}
@@ -27,17 +24,6 @@ use Rattle.view_check.specs.Views.{Place, Passes, Stops}
 use Rattle.view_check.proofs.Walks.{joined_front, passes_then, passes_same, stops_then, stops_more, stops_same}
 
 -- ---- a message
-
-may_of : (plan : Plan) (s p : ℕ) (z : Slot) → Sends plan s z p → may_send plan s p z ≡ true
-may_of plan s p (Input v) h = eq-eqb (slice_index (owners (session plan s)) v) p (sym h)
-may_of plan s p (At_gate t) h = h.1
-may_of plan s p (Output o) h = refl
-
--- the word of a message is the same for each receiver
-to_anyone : (w : World) (key : Key) (z : Slot) → word_in w (record key { receiver = 0 }) z ≡ word_in w key z
-to_anyone w key (Input v) = refl
-to_anyone w key (At_gate t) = refl
-to_anyone w key (Output o) = refl
 
 -- a message goes from one party to another, and the sender's row has its word
 pub record HasRow (w : World) (rows : List (List ℕ)) (key : Key) : Type 0 where
@@ -59,14 +45,14 @@ module _ (w : World) (whole : IsWhole w) (s k : ℕ) (ls : s < length w.plan.ses
     is_message = line_is w.plan s k xs whole.sound ls lk are i l (first w.plan s k + i) (named s k line) refl refl
 
     stands : Stands w.plan (named s k line)
-    stands = stands_so w.plan (first w.plan s k + i) is_message.there (sym is_message.is)
+    stands = stands_so w whole (first w.plan s k + i) is_message.there (sym is_message.is)
 
     parties : IsBetweenParties w.plan (named s k line)
     parties = is_message.between
 
     pub line_row : (rows : List (List ℕ)) → AreSlotRows w s k rows → HasRow w rows (named s k line)
     line_row rows h =
-        let row_is = h.are line.sender parties.sender (may_of w.plan s line.sender (slot w.plan s k) stands.sends) in record {
+        let row_is = h.are line.sender parties.sender stands.sends in record {
           sender = parties.sender;
           receiver = parties.receiver;
           row = omega (arith, h.parties, parties.sender);

@@ -5,12 +5,13 @@ use Rattle.std.proofs.lemmas.List.{map-append, length-map}
 use Rattle.std.proofs.lemmas.List.Elements.{filter-append}
 use Rattle.job_plan.specs.declared.key.Key.{Key}
 use Rattle.job_plan.specs.declared.pattern.Line.{Line}
-use Rattle.job_plan.specs.Plans.{Plan, IsPlan, slot, slots}
+use Rattle.job_plan.specs.Plans.{Plan, slot, slots}
 use Rattle.job_plan.specs.Sound.{IsSound}
 use Rattle.job_plan.specs.Messages.{slot_messages, messages}
 use Rattle.job_plan.specs.Numbers.{message, no_key}
 use Rattle.job_plan.specs.Firsts.{first, count}
 use Rattle.job_plan.specs.Patterns.{named, lines, pattern_at}
+use Rattle.job_plan.proofs.PlanSchemes.{plan_is}
 use Rattle.job_plan.proofs.RankSearch.{no_line, named_at}
 use Rattle.job_plan.proofs.SlotMessages.{message_at, number_within}
 use Rattle.job_plan.proofs.SlotPatterns.{slots_follow_patterns}
@@ -44,11 +45,10 @@ module _ (plan : Plan) (s k : ℕ) (xs : List Line) (sound : IsSound plan) (ls :
         let within : n < length (messages plan) = omega (arith, there, place) in
         let is : message plan n ≡ key =
         ap (message plan) place ∙ message_at plan s k ls lk i here ∙ ap (λ keys. slice_index_or keys i no_key) (slot_named plan s k xs are) ∙ named_at s k xs i l ∙ sym told in
-        let valid : IsPlan plan = record { bits = sound.some_bits; groups = sound.some_groups; q2 = sound.q2 } in
         record {
           there = within;
           is = is;
-          between = subst (IsBetweenParties plan) is (between plan n valid (λ s v ls. (sound.sessions s ls).owned v) within);
+          between = subst (IsBetweenParties plan) is (between plan n (plan_is plan sound) (λ s v ls. (sound.sessions s ls).owned v) within);
         }
 
     -- its number is one of few

@@ -1,17 +1,23 @@
 -- The summands that are dealt of a value, as a list, and sums of them.
-use Rattle.std.proofs.Common.{◌≡◌, ℕ, suc, ◌+◌, ◌-◌, ◌%◌, ◌<◌, ◌≤◌, Bool, false, if◌then◌else◌, All, List, [], ◌∷◌, ◌++◌, length, take, drop, replicate, sym, ap, ◌∙◌, subst, arith, inl, inr, length-append, length-drop}
-use Rattle.std.specs.Prelude.{slice_index}
+use Rattle.std.proofs.Common.{◌≡◌, ℕ, suc, ◌+◌, ◌-◌, ◌%◌, ◌^◌, ◌<◌, ◌≤◌, Bool, false, if◌then◌else◌, All, List, [], ◌∷◌, ◌++◌, length, take, drop, replicate, sym, ap, ap₂, ◌∙◌, subst, arith, inl, inr, length-append, length-drop}
+use Rattle.std.specs.Prelude.{slice_index, slice_index_or}
+use Rattle.std.specs.Global.{Vec}
 use Rattle.std.proofs.Math.Nat.{mod-eq_of_lt, mod-lt}
 use Rattle.std.proofs.Math.ListN.{get_or-append}
 use Rattle.std.proofs.lemmas.Bool.{cases_lt, cond-false}
-use Rattle.std.proofs.lemmas.List.{get_or-append-add, get_or-drop, get_or-take, get_or-replicate, length-take-le, length-replicate}
+use Rattle.std.proofs.lemmas.List.{get_or-append-add, get_or-drop, get_or-take, get_or-replicate, length-map, length-take-le, length-replicate}
 use Rattle.list_laws.specs.Lists.{total, listed}
 use Rattle.list_laws.proofs.Totals.{total_eq, total_more}
 use Rattle.list_laws.proofs.JoinedLists.{length-listed, listed_at}
 use Rattle.mpc_ring.specs.Differences.{difference}
 use Rattle.secret_sharing.specs.Schemes.{Scheme, dealt}
+use Rattle.secret_sharing.specs.Prepared.{masked, sum_of}
 use Rattle.secret_sharing.proofs.SummandSums.{dealt_word, dealt_last}
-use Rattle.wire_tables.proofs.ListedRows.{listed_of}
+use Rattle.job_plan.specs.InputWords.{session_words}
+use Rattle.job_plan.specs.Plans.{Plan, scheme, least_holder, least_held}
+use Rattle.job_plan.proofs.TapePlaces.{held_within}
+use Rattle.wire_tables.specs.Places.{HasMaskWords, mask_at}
+use Rattle.wire_tables.proofs.ListedRows.{listed_of, row_read}
 
 -- zeros by their places
 pub zeros_listed : (m : ℕ) (f : ℕ → ℕ) → ((i : ℕ) → f i ≡ 0) → replicate m 0 ≡ listed m f
@@ -58,3 +64,24 @@ total_passed n has f e =
     let none : (if has n then f n else 0) ≡ 0 = cond-false (has n) (f n) 0 e in
     let more = total_more n (λ p. if has p then f p else 0) in
     omega arith
+
+-- ---- a mask's words
+
+-- a least holder has its next word of a mask
+pub mask_word : (plan : Plan) (tapes : List (Vec ℕ)) (places : List ℕ) (i p held : ℕ) (tape : Vec ℕ) → HasMaskWords plan (session_words tapes) places → i < length plan.groups
+    → p ≡ least_holder plan i → held ≡ least_held plan p i → tape ≡ slice_index_or tapes p tape
+    → (slice_index places p + held < length tape.items) × (slice_index tape.items (slice_index places p + held) ≡ mask_at plan (session_words tapes) places i)
+mask_word plan tapes places i p held tape h li holder held_is is =
+    let m = length plan.groups in
+    let there : p < length (session_words tapes) = subst (λ q. q < length (session_words tapes)) (sym holder) (h.holders i li) in
+    let tape_is : tape.items ≡ slice_index_or (session_words tapes) p [] = row_read tapes p tape (omega (arith, there, length-map tapes (λ (t : Vec ℕ). t.items))) is in
+    let fewer : least_held plan p i < least_held plan p m = subst (λ q. least_held plan q i < least_held plan q m) (sym holder) (held_within plan i m li) in (
+      omega (arith, h.enough p there, held_is, fewer, ap length tape_is),
+      ap₂ (λ xs n. slice_index xs (slice_index places p + n)) tape_is held_is
+          ∙ ap (λ q. slice_index (slice_index_or (session_words tapes) q []) (slice_index places q + least_held plan q i)) holder,
+    )
+
+-- what a wire has more than its mask, as it is opened
+pub excess_is : (plan : Plan) (bits n d : ℕ) (x a : ℕ → ℕ) → bits ≡ plan.bits → n ≡ length plan.groups → d ≡ total n (λ i. difference (2 ^ bits) (x i) (a i)) % 2 ^ bits
+    → d ≡ sum_of (scheme plan) (masked (scheme plan) x a)
+excess_is plan bits n d x a eb en is = is ∙ ap₂ (λ b n. total n (λ i. difference (2 ^ b) (x i) (a i)) % 2 ^ b) eb en

@@ -2,7 +2,9 @@ pub mod ListedRows
 pub mod DealtRows
 pub mod ValueSteps
 pub mod NextPlaces
+pub mod TableRows
 pub mod RowSteps
+pub mod SlotWords
+pub mod MadeRows
 pub mod MessageSenders
-pub mod TableWords
 pub mod SentRows

@@ -1,129 +1,160 @@
--- The rows of a table, gate by gate.
-use Rattle.std.proofs.Common.{◌≡◌, ◌≢◌, ℕ, suc, ◌+◌, ◌*◌, ◌^◌, ◌<◌, All, List, [], length, set, sym, ap, ap₂, ◌∙◌, subst, arith, inl, inr, get_or-set_other, get_or-set_same, length-set}
-use Rattle.std.specs.Prelude.{slice_index, slice_index_or}
+-- The rows of a table, slot by slot.
+use Rattle.std.proofs.Common.{◌≡◌, ◌≢◌, ℕ, zero, suc, ◌+◌, ◌*◌, ◌<◌, ◌≤◌, Bool, true, false, ◌||◌, nat_eq, nat_lt, if◌then◌else◌, List, [], ◌∷◌, length, set, replicate, sym, ap, ◌∙◌, arith, inl, inr, get_or-set_other, get_or-set_same, length-set}
+use Rattle.std.specs.Prelude.{slice_index_or}
 use Rattle.std.specs.Global.{Vec}
-use Rattle.std.proofs.lemmas.Bool.{cases_Bool, cases_eq, cond-true, cond-false}
-use Rattle.std.proofs.lemmas.List.{map-set, length-map, get_or_default}
-use Rattle.list_laws.specs.Lists.{listed}
-use Rattle.list_laws.proofs.JoinedLists.{length-listed, listed_at}
-use Rattle.mpc_ring.proofs.Remainders.{same_refl}
-use Rattle.circuit_model.specs.declared.gate.Gate.{Gate}
-use Rattle.circuit_model.specs.Circuits.{is_product}
-use Rattle.circuit_model.proofs.SetAt.{set_here, set_there}
-use Rattle.secret_sharing.specs.Schemes.{dealt, local, own_product, gate_summands, summands}
-use Rattle.secret_sharing.proofs.Agreement.{own_same, product_agrees}
-use Rattle.job_session.specs.Sessions.{owners, gate, Slot}
-use Rattle.job_session.specs.Sessions.Slot.{At_gate}
-use Rattle.job_plan.specs.Plans.{scheme, session, slot_number}
+use Rattle.std.specs.List.{list_any}
+use Rattle.std.proofs.lemmas.Bool.{cases_Bool, cases_eq, cond-true, cond-false, both_ways, lt-ltb, le-ltb, ltb-true, ltb-false, ne_eqb}
+use Rattle.std.proofs.lemmas.List.{map-set, length-map, ext_get_or}
+use Rattle.list_laws.specs.Lists.{some_below}
+use Rattle.list_laws.proofs.Tests.{or_false}
+use Rattle.job_session.specs.declared.side.Side.TheVariants.{First, Second}
+use Rattle.job_session.specs.Sessions.{Session, Slot, is_prepared, mask_wire, product_wire, row_names}
+use Rattle.job_session.specs.Sessions.Slot.{Mask, Mask_product}
+use Rattle.job_session.specs.SoundSessions.{Inside, IsWired}
+use Rattle.job_session.specs.SlotNumbers.{session_slot_number}
+use Rattle.job_session.specs.KeptWires.{sets_in, reads_in, slot_sets}
+use Rattle.job_session.proofs.KeptRows.{some_at}
+use Rattle.job_session.proofs.SessionSlots.{slot_there, slot_count, number_within}
+use Rattle.job_plan.specs.Plans.{session, slot, slots}
 use Rattle.job_plan.specs.InputWords.{session_words}
-use Rattle.share_world.specs.Worlds.{World, run_of, tape_word, first_summands}
 use Rattle.share_world.specs.Laws.{IsWhole}
-use Rattle.share_world.proofs.SmallWords.{small_run}
-use Rattle.wire_tables.specs.Places.{ArePlaces, dealt_at}
-use Rattle.wire_tables.specs.WireTables.{gate_summand, summand_row, summand_rows}
-use Rattle.wire_tables.proofs.ListedRows.{listed_of}
-use Rattle.wire_tables.specs.Steps.{AreRows}
+use Rattle.share_world.specs.Solutions.{SetBefore}
+use Rattle.share_world.specs.Worlds.{World}
+use Rattle.share_world.proofs.Settled.{in_order, is_one, setter}
+use Rattle.share_world.proofs.Solutions.{is_solution}
+use Rattle.wire_tables.specs.WireTables.{summand_rows}
+use Rattle.wire_tables.specs.Steps.{AreRows, SetsRow, last_row, row_before}
+use Rattle.wire_tables.proofs.DealtRows.{zeros_listed}
+use Rattle.wire_tables.proofs.TableRows.{split_name, rows_named, wire_last, none_last}
 
--- a party's own product is of the summands that there are
-pub own_alike : (w : World) (p : ℕ) (x y x' y' : ℕ → ℕ) → ((i : ℕ) → i < length w.plan.groups → x i ≡ x' i) → ((i : ℕ) → i < length w.plan.groups → y i ≡ y' i)
-    → own_product (scheme w.plan) p x y ≡ own_product (scheme w.plan) p x' y'
-own_alike w p x y x' y' hx hy = own_same (scheme w.plan) p x y x' y' (λ i j li lj e. same_refl _ _ _ (ap₂ (λ a b. a * b) (hx i li) (hy j lj)))
+-- no other name is set
+not_other : (name v : ℕ) → v ≢ name → list_any (nat_eq v) (name ∷ []) ≡ false
+not_other name v ne = or_false (nat_eq v name) ∙ ne_eqb v name ne
+
+not_so : (b : Bool) → (b ≡ true → ⊥) → b ≡ false
+not_so b h = elim (cases_Bool b) [
+  | inl yes' ↦ absurd (h yes')
+  | inr no' ↦ no'
+]
 
 module _ (w : World) (s : ℕ) where
-  -- what is dealt at the places of slot k is dealt with the words of slot k
-  pub dealt_here : (z : Slot) (places : List ℕ) → ArePlaces w.plan s (slot_number w.plan s z) places → (p v i : ℕ) → p < w.plan.parties
-      → dealt_at (scheme w.plan) w.tapes places p v i ≡ dealt (scheme w.plan) v (tape_word w s z p) i
-  dealt_here z places h p v i lp = ap (λ n. dealt (scheme w.plan) v (λ j. slice_index (slice_index_or w.tapes p []) (n + j)) i) (h.are p lp)
+  abbrev x : Session
+  x = session w.plan s
 
-  -- the summands that gate t makes of the rows of its wires
-  pub gate_here : (t : ℕ) (places : List ℕ) (x y : ℕ → ℕ) → ArePlaces w.plan s (length (owners (session w.plan s)) + t) places
-      → ((i : ℕ) → i < length w.plan.groups → x i ≡ summands (run_of w s) t (gate (session w.plan s) t).first i)
-      → ((i : ℕ) → i < length w.plan.groups → y i ≡ summands (run_of w s) t (gate (session w.plan s) t).second i)
-      → (i : ℕ) → i < length w.plan.groups
-      → gate_summand (scheme w.plan) (dealt_at (scheme w.plan) w.tapes places) (gate (session w.plan s) t) x y i
-      ≡ gate_summands (run_of w s) t (summands (run_of w s) t (gate (session w.plan s) t).first) (summands (run_of w s) t (gate (session w.plan s) t).second) i
-  gate_here t places x y h hx hy i li =
-      let r = run_of w s in
-      let g = gate (session w.plan s) t in
-      let sch = scheme w.plan in
-      elim (cases_Bool (is_product g.operation)) [
-        | inl yes' ↦
-            cond-true (is_product g.operation) _ _ yes'
-            ∙ product_agrees sch (λ p v. dealt sch v (tape_word w s (At_gate t) p)) (dealt_at sch w.tapes places) (summands r t g.first) (summands r t g.second) x y i
-            (λ p lp pair. dealt_here (At_gate t) places h p (own_product sch p x y) i lp
-            ∙ ap (λ z. dealt sch z (tape_word w s (At_gate t) p) i) (own_alike w p x y (summands r t g.first) (summands r t g.second) hx hy))
-            ∙ sym (cond-true (is_product g.operation) _ _ yes')
-        | inr no' ↦
-            cond-false (is_product g.operation) _ _ no'
-            ∙ ap₂ (λ a b. local sch.modulus g.operation g.constant i a b) (hx i li) (hy i li)
-            ∙ sym (cond-false (is_product g.operation) _ _ no')
-      ]
+  -- a slot before slot k sets the row of this name
+  abbrev is_set : ℕ → ℕ → Bool
+  is_set k name = some_below k (λ j. slot_sets x j name)
 
-  -- the rows with one gate more
-  module _ (t : ℕ) (rows : List (Vec ℕ)) (row : Vec ℕ) where
-    abbrev at : Gate
-    at = gate (session w.plan s) t
+  -- what stands in a row till then
+  abbrev unset : ℕ → List ℕ
+  unset name = if nat_lt name x.wires then replicate (length w.plan.groups) 0 else []
 
-    abbrev new : ℕ → ℕ
-    new = gate_summands (run_of w s) t (summands (run_of w s) t at.first) (summands (run_of w s) t at.second)
+  -- ---- one slot more
 
-    words_set : session_words (set rows at.output row) ≡ set (session_words rows) at.output row.items
-    words_set = map-set (λ (x : Vec ℕ). x.items) rows at.output row
+  -- a name that slot k sets not has the row that it had
+  same_before : (k name : ℕ) → slot_sets x k name ≡ false → row_before w s k name ≡ row_before w s (k + 1) name
+  same_before k name e =
+      let one : k + 1 ≡ suc k = omega arith in
+      let same : is_set (k + 1) name ≡ is_set k name = ap (λ n. is_set n name) one ∙ ap (λ b. is_set k name || b) e ∙ or_false (is_set k name) in
+      ap (λ b. if b then last_row w s name else unset name) (sym same)
 
-    here : (v : ℕ) → v ≡ at.output → at.output < length rows → slice_index_or (session_words (set rows at.output row)) v [] ≡ row.items
-    here v e l =
-        let within : at.output < length (session_words rows) = omega (arith, length-map rows (λ (x : Vec ℕ). x.items)) in
-        ap (λ xs. slice_index_or xs v []) words_set ∙ ap (λ k. slice_index_or (set (session_words rows) at.output row.items) k []) e
-        ∙ get_or-set_same (session_words rows) at.output row.items [] within
+  -- one that it sets is whole after it
+  whole_after : (k name : ℕ) → slot_sets x k name ≡ true → last_row w s name ≡ row_before w s (k + 1) name
+  whole_after k name e = sym (cond-true (is_set (k + 1) name) (last_row w s name) (unset name) (some_at (k + 1) (λ j. slot_sets x j name) k (omega arith) e))
 
-    there : (v : ℕ) → v ≢ at.output → slice_index_or (session_words (set rows at.output row)) v [] ≡ slice_index_or (session_words rows) v []
-    there v ne = ap (λ xs. slice_index_or xs v []) words_set ∙ get_or-set_other (session_words rows) at.output v row.items [] ne
+  -- a slot that sets no row leaves all as they are
+  pub rows_kept : (k : ℕ) (rows : List (Vec ℕ)) → AreRows w s k rows → sets_in x (slot w.plan s k) ≡ [] → AreRows w s (k + 1) rows
+  rows_kept k rows h none = record {
+    names = h.names;
+    are = λ name l. h.are name l ∙ same_before k name (ap (list_any (nat_eq name)) none);
+  }
 
-    pub rows_next : AreRows w s t rows → at.output < (session w.plan s).wires → length row.items ≡ length w.plan.groups
-        → ((i : ℕ) → i < length w.plan.groups → slice_index row.items i ≡ new i) → AreRows w s (suc t) (set rows at.output row)
-    rows_next h lo long is = record {
-      wires = length-set rows at.output row ∙ h.wires;
-      shares = λ v lv. elim (cases_eq v at.output) [
-        | inl e ↦ ap length (here v e (omega (arith, h.wires))) ∙ long
-        | inr ne ↦ ap length (there v ne) ∙ h.shares v lv
-      ];
-      are = λ v i lv li. elim (cases_eq v at.output) [
-        | inl e ↦ ap (λ xs. slice_index xs i) (here v e (omega (arith, h.wires))) ∙ is i li ∙ sym (ap (λ (f : ℕ → ℕ). f i) (set_here (summands (run_of w s) t) at.output v new e))
-        | inr ne ↦ ap (λ xs. slice_index xs i) (there v ne) ∙ h.are v i lv li ∙ sym (ap (λ (f : ℕ → ℕ). f i) (set_there (summands (run_of w s) t) at.output v new ne))
+  -- one that sets a row makes it whole
+  module _ (k name : ℕ) (rows : List (Vec ℕ)) (row : Vec ℕ) (h : AreRows w s k rows) (made : SetsRow w s k name row.items) where
+    words_set : session_words (set rows name row) ≡ set (session_words rows) name row.items
+    words_set = map-set (λ (r : Vec ℕ). r.items) rows name row
+
+    here : (v : ℕ) → v ≡ name → slice_index_or (session_words (set rows name row)) v [] ≡ row.items
+    here v e =
+        let within : name < length (session_words rows) = omega (arith, length-map rows (λ (r : Vec ℕ). r.items), h.names, made.named) in
+        ap (λ rs. slice_index_or rs v []) words_set ∙ ap (λ n. slice_index_or (set (session_words rows) name row.items) n []) e
+        ∙ get_or-set_same (session_words rows) name row.items [] within
+
+    there : (v : ℕ) → v ≢ name → slice_index_or (session_words (set rows name row)) v [] ≡ slice_index_or (session_words rows) v []
+    there v ne = ap (λ rs. slice_index_or rs v []) words_set ∙ get_or-set_other (session_words rows) name v row.items [] ne
+
+    pub rows_set : AreRows w s (k + 1) (set rows name row)
+    rows_set = record {
+      names = length-set rows name row ∙ h.names;
+      are = λ v l. elim (cases_eq v name) [
+        | inl e ↦ here v e ∙ made.are ∙ ap (last_row w s) (sym e) ∙ whole_after k v (ap (list_any (nat_eq v)) made.sets ∙ is_one name v e)
+        | inr ne ↦ there v ne ∙ h.are v l ∙ same_before k v (ap (list_any (nat_eq v)) made.sets ∙ not_other name v ne)
       ];
     }
 
--- ---- rows of a table
+  -- ---- a row that is read
 
--- a row that was read has the summands of its wire, which are small
-pub record IsRow (w : World) (s t v : ℕ) (xs : List ℕ) : Type 0 where
-  pub long : length xs ≡ length w.plan.groups
-  pub small : All (λ word. word < 2 ^ w.plan.bits) xs
-  pub are : (i : ℕ) → i < length w.plan.groups → slice_index xs i ≡ summands (run_of w s) t v i
+  -- a row that a slot reads no later than slot k is whole
+  pub read_whole : (k v : ℕ) (z : Slot) (rows : List (Vec ℕ)) → IsWired x → AreRows w s k rows → v < row_names x
+      → Inside x z → session_slot_number x z ≤ k → list_any (nat_eq v) (reads_in x z) ≡ true → slice_index_or (session_words rows) v [] ≡ last_row w s v
+  read_whole k v z rows wired h lv inside le reads =
+      let n = session_slot_number x z in
+      let before = wired.order.before n v (number_within x z inside) (ap (λ y. list_any (nat_eq v) (reads_in x y)) (slot_there x z inside) ∙ reads) in
+      h.are v lv ∙ cond-true (is_set k v) (last_row w s v) (unset v) (some_at k (λ j. slot_sets x j v) before.0 (omega (arith, before.1, le)) before.2)
 
-pub is_row : (w : World) → IsWhole w → (s t v : ℕ) (rows : List (Vec ℕ)) (xs : List ℕ) → AreRows w s t rows → v < (session w.plan s).wires → xs ≡ slice_index_or (session_words rows) v [] → IsRow w s t v xs
-is_row w whole s t v rows xs h lv e =
-    let long : length xs ≡ length w.plan.groups = ap length e ∙ h.shares v lv in
-    let are : (i : ℕ) → i < length w.plan.groups → slice_index xs i ≡ summands (run_of w s) t v i = λ i li. ap (λ ys. slice_index ys i) e ∙ h.are v i lv li in record {
-      long = long;
-      small = λ k d l. subst (λ z. z < 2 ^ w.plan.bits) (sym (get_or_default xs k d 0 l ∙ are k (omega arith))) (small_run w whole s t v k);
-      are = are;
-    }
+  -- ---- before the first slot, and after the last
 
-module _ (w : World) (s : ℕ) (rows : List (Vec ℕ)) where
-  -- the rows before the first gate
-  pub rows_first : session_words rows ≡ listed (session w.plan s).wires (λ v. listed (length w.plan.groups) (first_summands w s v)) → AreRows w s 0 rows
-  rows_first e =
-      let f : ℕ → List ℕ = λ v. listed (length w.plan.groups) (first_summands w s v) in record {
-        wires = sym (length-map rows (λ (x : Vec ℕ). x.items)) ∙ ap length e ∙ length-listed (session w.plan s).wires f;
-        shares = λ v lv. ap (λ t. length (slice_index_or t v [])) e ∙ ap length (listed_at (session w.plan s).wires f v [] lv) ∙ length-listed (length w.plan.groups) (first_summands w s v);
-        are = λ v i lv li. ap (λ t. slice_index (slice_index_or t v []) i) e ∙ ap (λ xs. slice_index xs i) (listed_at (session w.plan s).wires f v [] lv) ∙ listed_at (length w.plan.groups) (first_summands w s v) i 0 li;
-      }
+  pub rows_first : (rows : List (Vec ℕ)) → length rows ≡ row_names x
+      → ((v : ℕ) → v < x.wires → slice_index_or (session_words rows) v [] ≡ replicate (length w.plan.groups) 0)
+      → ((v : ℕ) → x.wires ≤ v → v < row_names x → slice_index_or (session_words rows) v [] ≡ []) → AreRows w s 0 rows
+  rows_first rows names of_wires of_masks = record {
+    names = names;
+    are = λ v l. elim (cases_Bool (nat_lt v x.wires)) [
+      | inl e ↦ of_wires v (ltb-true v x.wires e) ∙ sym (cond-true (nat_lt v x.wires) _ [] e)
+      | inr e ↦ of_masks v (ltb-false v x.wires e) l ∙ sym (cond-false (nat_lt v x.wires) _ [] e)
+    ];
+  }
 
-  -- and those after the last
-  pub rows_last : (t : ℕ) → t ≡ length (session w.plan s).gates → AreRows w s t rows → session_words rows ≡ summand_rows w s
-  rows_last t e h =
-      let count = length (session w.plan s).gates in
-      let last : AreRows w s count rows = subst (λ n. AreRows w s n rows) e h in
-      listed_of [] (session w.plan s).wires (summand_row w s) (session_words rows) (length-map rows (λ (x : Vec ℕ). x.items) ∙ last.wires)
-      (λ v lv. listed_of 0 (length w.plan.groups) (summands (run_of w s) count v) (slice_index_or (session_words rows) v []) (last.shares v lv) (λ i li. last.are v i lv li))
+  module _ (whole : IsWhole w) (ls : s < length w.plan.sessions) where
+    wired : IsWired x
+    wired = (whole.sound.sessions s ls).wired
+
+    -- a slot sets the row of a mask, and of a product of masks
+    set_in : (name : ℕ) (z : Slot) → Inside x z → list_any (nat_eq name) (sets_in x z) ≡ true → is_set (slots w.plan s) name ≡ true
+    set_in name z inside e =
+        some_at (slots w.plan s) (λ j. slot_sets x j name) (session_slot_number x z) (number_within x z inside)
+        (ap (λ y. list_any (nat_eq name) (sets_in x y)) (slot_there x z inside) ∙ e)
+
+    masks_set : (t r : ℕ) → t < length x.gates → is_prepared x t ≡ true → r < 3 → is_set (slots w.plan s) (x.wires + (3 * t + r)) ≡ true
+    masks_set t zero l e lr = set_in _ (Mask t First) (l, e) (is_one (mask_wire x t First) _ (omega arith))
+    masks_set t (suc zero) l e lr = set_in _ (Mask t Second) (l, e) (is_one (mask_wire x t Second) _ (omega arith))
+    masks_set t (suc (suc zero)) l e lr = set_in _ (Mask_product t) (l, e) (is_one (product_wire x t) _ (omega arith))
+    masks_set t (suc (suc (suc r))) l e lr = absurd (omega (arith, lr))
+
+    -- what no slot sets ends as it began
+    never_set : (name : ℕ) → name < row_names x → is_set (slots w.plan s) name ≡ false → unset name ≡ last_row w s name
+    never_set name l none = elim (split_name w s name l) [
+      | inl lw ↦
+          let unset_wire : SetBefore x (length x.gates) name → ⊥ = λ set.
+          let by = setter x wired (length x.gates) name (omega arith) set in
+          both_ways (is_set (slots w.plan s) name) none (some_at (slots w.plan s) (λ j. slot_sets x j name) by.0 (omega (arith, by.1, slot_count x)) by.2) in
+          cond-true (nat_lt name x.wires) _ [] (lt-ltb name x.wires lw)
+          ∙ zeros_listed (length w.plan.groups) _ (λ i. (is_solution w s (in_order x wired)).unset name i unset_wire)
+          ∙ sym (wire_last w s name lw)
+      | inr at ↦
+          let not_prepared : is_prepared x at.at ≡ false = not_so (is_prepared x at.at) (λ e.
+          both_ways (is_set (slots w.plan s) name) none (ap (is_set (slots w.plan s)) at.is ∙ masks_set at.at at.place at.there e at.within)) in
+          cond-false (nat_lt name x.wires) _ [] (le-ltb name x.wires (omega (arith, at.is)))
+          ∙ sym (ap (last_row w s) at.is ∙ none_last w s at.prepared at.at at.place at.there not_prepared at.within)
+    ]
+
+    -- after all slots the rows are the table's
+    pub rows_last : (k : ℕ) (rows : List (Vec ℕ)) → k ≡ slots w.plan s → AreRows w s k rows → session_words rows ≡ summand_rows w s
+    rows_last k rows all h =
+        let long : length (session_words rows) ≡ row_names x = length-map rows (λ (r : Vec ℕ). r.items) ∙ h.names in
+        ext_get_or [] (session_words rows) (summand_rows w s) (long ∙ sym (rows_named w s)) (λ name l.
+        let ln : name < row_names x = omega (arith, l, long) in
+        h.are name ln ∙ ap (λ n. row_before w s n name) all ∙ elim (cases_Bool (is_set (slots w.plan s) name)) [
+          | inl yes' ↦ cond-true (is_set (slots w.plan s) name) (last_row w s name) (unset name) yes'
+          | inr no' ↦ cond-false (is_set (slots w.plan s) name) (last_row w s name) (unset name) no' ∙ never_set name ln no'
+        ])

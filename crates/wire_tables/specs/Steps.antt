@@ -1,15 +1,42 @@
--- The rows of a table on the way through the gates.
-use Rattle.std.specs.Prelude.{◌≡◌, ℕ, ◌<◌, List, [], length, slice_index, slice_index_or}
+-- The rows of a table on the way through the slots.
+use Rattle.std.specs.Prelude.{◌≡◌, ℕ, ◌<◌, ◌^◌, nat_lt, if◌then◌else◌, All, List, [], ◌∷◌, length, replicate, slice_index_or, Option, Some, None}
 use Rattle.std.specs.Global.{Vec}
-use Rattle.secret_sharing.specs.Schemes.{summands}
-use Rattle.job_plan.specs.Plans.{session}
+use Rattle.list_laws.specs.Lists.{some_below}
+use Rattle.job_session.specs.Sessions.{row_names}
+use Rattle.job_session.specs.KeptWires.{sets_in, slot_sets}
+use Rattle.job_plan.specs.Plans.{Plan, session, slot}
 use Rattle.job_plan.specs.InputWords.{session_words}
-use Rattle.share_world.specs.Worlds.{World, run_of}
+use Rattle.share_world.specs.Worlds.{World}
+use Rattle.wire_tables.specs.WireTables.{summand_rows}
 
--- each wire of session s has a row of its summands before gate t
-pub record AreRows (w : World) (s t : ℕ) (rows : List (Vec ℕ)) : Type 0 where
-  pub wires : length rows ≡ (session w.plan s).wires
-  pub shares : (v : ℕ) → v < (session w.plan s).wires
-      → length (slice_index_or (session_words rows) v []) ≡ length w.plan.groups
-  pub are : (v i : ℕ) → v < (session w.plan s).wires → i < length w.plan.groups
-      → slice_index (slice_index_or (session_words rows) v []) i ≡ summands (run_of w s) t v i
+-- a word of the ring for each summand
+pub record IsRow (plan : Plan) (row : List ℕ) : Type 0 where
+  pub long : length row ≡ length plan.groups
+  pub small : All (λ word. word < 2 ^ plan.bits) row
+
+-- the row of this name, after all slots
+abbrev pub last_row : World → ℕ → ℕ → List ℕ
+last_row w s name = slice_index_or (summand_rows w s) name []
+
+-- and before slot k: whole once an earlier slot sets it, and till then zeros of a wire, and no words of a mask
+abbrev pub row_before : World → ℕ → ℕ → ℕ → List ℕ
+row_before w s k name =
+    if some_below k (λ j. slot_sets (session w.plan s) j name) then last_row w s name
+    else if nat_lt name (session w.plan s).wires then replicate (length w.plan.groups) 0 else []
+
+-- each name has its row before slot k of session s
+pub record AreRows (w : World) (s k : ℕ) (rows : List (Vec ℕ)) : Type 0 where
+  pub names : length rows ≡ row_names (session w.plan s)
+  pub are : (name : ℕ) → name < row_names (session w.plan s)
+      → slice_index_or (session_words rows) name [] ≡ row_before w s k name
+
+-- slot k sets the row of this name to these words
+pub record SetsRow (w : World) (s k name : ℕ) (words : List ℕ) : Type 0 where
+  pub sets : sets_in (session w.plan s) (slot w.plan s k) ≡ name ∷ []
+  pub named : name < row_names (session w.plan s)
+  pub are : words ≡ last_row w s name
+
+-- so where there is a name, and without one it sets none
+abbrev pub Sets : World → ℕ → ℕ → Option ℕ → List ℕ → Type 0
+Sets w s k None words = sets_in (session w.plan s) (slot w.plan s k) ≡ []
+Sets w s k (Some name) words = SetsRow w s k name words

@@ -1,14 +1,14 @@
 -- Tables of a session's wires: what is given on them, their values, and their summands.
-use Rattle.std.specs.Prelude.{ℕ, if◌then◌else◌, List, length}
+use Rattle.std.specs.Prelude.{ℕ, if◌then◌else◌, List, [], ◌∷◌, ◌++◌, length}
 use Rattle.std.specs.Global.{Vec}
-use Rattle.list_laws.specs.Lists.{listed}
-use Rattle.circuit_model.specs.declared.gate.Gate.{Gate}
-use Rattle.circuit_model.specs.Circuits.{is_product}
-use Rattle.secret_sharing.specs.Schemes.{Scheme, local, product_summand, summands}
-use Rattle.job_session.specs.Sessions.{owners}
+use Rattle.list_laws.specs.Lists.{joined, listed}
+use Rattle.secret_sharing.specs.Schemes.{summands}
+use Rattle.job_session.specs.Sessions.{owners, is_prepared}
+use Rattle.job_session.specs.declared.side.Side.{Side}
+use Rattle.job_session.specs.declared.side.Side.TheVariants.{First, Second}
 use Rattle.job_plan.specs.Plans.{Plan, session}
 use Rattle.job_plan.specs.InputWords.{session_words}
-use Rattle.share_world.specs.Worlds.{World, input_of, plain, run_of}
+use Rattle.share_world.specs.Worlds.{World, input_of, mask, mask_product, plain, run_of}
 
 -- the world of a plan, the inputs of all parties, and a tape for each party
 abbrev pub world_given : Plan → List (List (List ℕ)) → List (Vec ℕ) → World
@@ -28,12 +28,23 @@ abbrev pub summand_row : World → ℕ → ℕ → List ℕ
 summand_row w s v =
     listed (length w.plan.groups) (summands (run_of w s) (length (session w.plan s).gates) v)
 
--- the summands of each wire
-abbrev pub summand_rows : World → ℕ → List (List ℕ)
-summand_rows w s = listed (session w.plan s).wires (summand_row w s)
+-- the summands of the mask of the wire that gate t reads on this side
+abbrev pub mask_row : World → ℕ → ℕ → Side → List ℕ
+mask_row w s t side = listed (length w.plan.groups) (mask w s t side)
 
--- summand i of what a gate makes of two wires, where party p deals the value v as deal p v
-abbrev pub gate_summand : Scheme → (ℕ → ℕ → ℕ → ℕ) → Gate → (ℕ → ℕ) → (ℕ → ℕ) → ℕ → ℕ
-gate_summand scheme deal gate x y i =
-    if is_product gate.operation then product_summand scheme deal x y i
-    else local scheme.modulus gate.operation gate.constant i (x i) (y i)
+-- the summands of the product of both masks
+abbrev pub product_row : World → ℕ → ℕ → List ℕ
+product_row w s t = listed (length w.plan.groups) (mask_product w s t)
+
+-- the three rows of gate t behind those of the wires, which are whole where its product is prepared
+abbrev pub prepared_rows : World → ℕ → ℕ → List (List ℕ)
+prepared_rows w s t =
+    if is_prepared (session w.plan s) t
+    then mask_row w s t First ∷ mask_row w s t Second ∷ product_row w s t ∷ []
+    else [] ∷ [] ∷ [] ∷ []
+
+-- the summands of each wire, and behind them those of the masks: a row for each name of one
+abbrev pub summand_rows : World → ℕ → List (List ℕ)
+summand_rows w s =
+    listed (session w.plan s).wires (summand_row w s)
+    ++ (if (session w.plan s).prepared then joined (length (session w.plan s).gates) (prepared_rows w s) else [])

@@ -10,7 +10,7 @@ mod summands;
 mod values;
 mod word;
 
-pub use deals::deals_in;
+pub use deals::{deals_in, words_in};
 pub use places::{first_places, pass_slot};
 pub use sent_rows::slot_rows;
 pub use summands::SummandTable;

@@ -1,9 +1,9 @@
-//! Where the parties' next deals begin on their tapes.
+//! Where the words that the parties draw next begin on their tapes.
 ghost use Rattle.std.specs.Prelude.{◌≡◌, ◌+◌, ◌<◌, ◌≤◌, IfOk, length};
 ghost use Rattle.job_plan.specs.Plans.{slots};
 ghost use Rattle.wire_tables.specs.Places.{ArePlaces};
 
-use crate::deals::deals_in;
+use crate::deals::words_in;
 use job_plan::Plan;
 use std::alloc::{AllocError, Global};
 
@@ -37,7 +37,7 @@ pub(crate) fn places_before(
     Ok(places)
 }
 
-/// Goes behind what the parties deal in slot `k` of session `s`.
+/// Goes behind what the parties draw in slot `k` of session `s`.
 pub fn pass_slot(plan: &Plan, s: u32, k: u32, places: &mut [u32])
     requires session { s < length plan.now.sessions }
     requires slot { k < slots plan.now s }
@@ -47,8 +47,6 @@ pub fn pass_slot(plan: &Plan, s: u32, k: u32, places: &mut [u32])
     let parties = plan.parties();
     let kind = plan.part(s).slot_kind(k);
     for p in 0..parties {
-        if deals_in(plan, s, p, kind) {
-            places[p as usize] += plan.shares() - 1;
-        }
+        places[p as usize] += words_in(plan, s, p, kind);
     }
 }

@@ -1,18 +1,19 @@
-//! The summands of one wire: as they are dealt, and as a gate makes them of other wires.
+//! The summands of one wire: as they are dealt or drawn, and as a gate makes them of other wires.
 ghost use Rattle.std.specs.Prelude.{◌≡◌, ℕ, ◌+◌, ◌%◌, ◌^◌, ◌<◌, ◌≤◌, All, IfOk, OnOk, true, length};
 ghost use Rattle.std.specs.Prelude.{slice_index, take, drop, replicate};
-ghost use Rattle.list_laws.specs.Lists.{listed};
-ghost use Rattle.circuit_model.specs.Circuits.{is_product};
+ghost use Rattle.list_laws.specs.Lists.{listed, total};
 ghost use Rattle.secret_sharing.specs.Schemes.{has_pair, local, product_summand};
 ghost use Rattle.job_plan.specs.Plans.{scheme};
 ghost use Rattle.job_plan.specs.InputWords.{session_words};
-ghost use Rattle.wire_tables.specs.Places.{HasDealWords, dealt_at};
-ghost use Rattle.wire_tables.specs.WireTables.{gate_summand};
+ghost use Rattle.secret_sharing.specs.Prepared.{prepared_summand};
+ghost use Rattle.mpc_ring.specs.Differences.{difference};
+ghost use Rattle.wire_tables.specs.Places.{HasDealWords, HasMaskWords, dealt_at, mask_at};
+ghost use Rattle.wire_tables.specs.Steps.{IsRow};
 
 use circuit_model::Gate;
 use job_plan::Plan;
 use mpc_ring::Ring;
-use reshare_step::{local_summand, own_products};
+use reshare_step::{joined_summand, local_summand, own_products};
 use std::alloc::{AllocError, Global};
 
 /// The summands of a wire that is not set.
@@ -30,9 +31,9 @@ fn words_at(tape: &[u64], at: usize, count: usize) -> &[u64]
     &tape[at..at + count]
 }
 
-// Sets `row` to the summands of what party `p` deals of `value`, with the words at its place: the
-// words, and last what is missing to the value (Ito, Saito, Nishizeki 1987; Maurer 2006).
-fn deal_into(
+/// Sets `row` to the summands of what party `p` deals of `value`, with the words at its place: the words, and last
+/// what is missing to the value (Ito, Saito, Nishizeki 1987; Maurer 2006).
+pub(crate) fn deal_into(
     plan: &Plan,
     tapes: &[Vec<u64>],
     places: &[u32],
@@ -54,23 +55,89 @@ fn deal_into(
     Ok(())
 }
 
-/// The summands of what party `p` deals of `value`, with the words at its place.
-pub(crate) fn dealt_row(
-    alloc: Global,
+/// Sets `row` to the summands of a mask, each of which is a word of its least holder.
+pub(crate) fn mask_into(
     plan: &Plan,
     tapes: &[Vec<u64>],
     places: &[u32],
-    p: u32,
-    value: u64,
+    row: &mut Vec<u64>,
+) -> Result<(), AllocError>
+    requires { HasMaskWords plan.now (session_words tapes.now) places.now }
+    ensures { OnOk result (row.new.items ≡ listed (length plan.now.groups)
+        (mask_at plan.now (session_words tapes.now) places.now)) }
+{
+    row.clear();
+    for i in 0..plan.shares() {
+        let p = plan.layout().least_holder(i);
+        let at = places[p as usize] as usize + plan.least_held(p, i) as usize;
+        row.push(tapes[p as usize][at])?;
+    }
+    Ok(())
+}
+
+/// What a wire has more than its mask, summand by summand.
+pub(crate) fn masked_row(
+    alloc: Global,
+    ring: Ring,
+    x: &[u64],
+    mask: &[u64],
 ) -> Result<Vec<u64>, AllocError>
-    requires value { value < 2 ^ plan.now.bits }
-    requires words { HasDealWords plan.now (session_words tapes.now) places.now p }
-    ensures { IfOk result (λ row. row.items ≡ listed (length plan.now.groups)
-        (dealt_at (scheme plan.now) (session_words tapes.now) places.now p value)) }
+    requires long { length x.now ≡ length mask.now }
+    requires words { All (λ word. word < 2 ^ ring) x.now }
+    requires more_words { All (λ word. word < 2 ^ ring) mask.now }
+    ensures { IfOk result (λ row. row.items ≡ listed (length x.now) (λ i.
+        difference (2 ^ ring) (slice_index x.now i) (slice_index mask.now i))) }
 {
     let mut row = Vec::new(alloc);
-    deal_into(plan, tapes, places, p, value, &mut row)?;
+    for i in 0..x.len() {
+        row.push(ring.sub(x[i], mask[i]))?;
+    }
     Ok(row)
+}
+
+// What a wire has more than its mask, as it is opened.
+fn excess(ring: Ring, x: &[u64], mask: &[u64]) -> u64
+    requires long { length x.now ≡ length mask.now }
+    requires words { All (λ word. word < 2 ^ ring) x.now }
+    requires more_words { All (λ word. word < 2 ^ ring) mask.now }
+    ensures is { result ≡ total (length x.now) (λ i.
+        difference (2 ^ ring) (slice_index x.now i) (slice_index mask.now i)) % 2 ^ ring }
+    ensures below { result < 2 ^ ring }
+{
+    let mut sum = ring.zero();
+    for i in 0..x.len() {
+        sum = ring.add(sum, ring.sub(x[i], mask[i]));
+    }
+    sum
+}
+
+/// Sets `row` to the summands of the prepared product of two wires, from those of their masks and of the masks' product.
+pub(crate) fn joined_into(
+    plan: &Plan,
+    x: &[u64],
+    y: &[u64],
+    first: &[u64],
+    second: &[u64],
+    product: &[u64],
+    row: &mut Vec<u64>,
+) -> Result<(), AllocError>
+    requires first_wire { IsRow plan.now x.now }
+    requires second_wire { IsRow plan.now y.now }
+    requires first_mask { IsRow plan.now first.now }
+    requires second_mask { IsRow plan.now second.now }
+    requires mask_product { IsRow plan.now product.now }
+    ensures { OnOk result (row.new.items ≡ listed (length plan.now.groups)
+        (prepared_summand (scheme plan.now) (slice_index first.now) (slice_index second.now)
+        (slice_index product.now) (slice_index x.now) (slice_index y.now))) }
+{
+    let ring = plan.ring();
+    let d = excess(ring, x, first);
+    let e = excess(ring, y, second);
+    row.clear();
+    for i in 0..x.len() {
+        row.push(joined_summand(ring, i == 0, d, e, first[i], second[i], product[i]))?;
+    }
+    Ok(())
 }
 
 // Adds one row to another, summand by summand.
@@ -88,9 +155,9 @@ fn add_row(ring: Ring, row: &[u64], sums: &mut [u64])
     }
 }
 
-// Sets `sums` to the summands of the product of two wires: each party deals its own product, and
-// what is dealt is added up. `dealt` holds what the last of them dealt.
-fn product_into(
+/// Sets `sums` to the summands of the product of two wires: each party deals its own product, and what is dealt is
+/// added up. `dealt` holds what the last of them dealt.
+pub(crate) fn product_into(
     plan: &Plan,
     tapes: &[Vec<u64>],
     places: &[u32],
@@ -121,8 +188,8 @@ fn product_into(
     Ok(())
 }
 
-// Sets `row` to the summands that a linear gate makes of those of its wires.
-fn linear_into(
+/// Sets `row` to the summands that a linear gate makes of those of its wires.
+pub(crate) fn linear_into(
     ring: Ring,
     gate: Gate,
     x: &[u64],
@@ -142,35 +209,4 @@ fn linear_into(
         row.push(local_summand(ring, gate.operation, gate.constant, i == 0, a, b))?;
     }
     Ok(())
-}
-
-/// Sets `row` to the summands that a gate makes of those of its wires. `dealt` is room for what one
-/// party deals.
-pub(crate) fn gate_into(
-    plan: &Plan,
-    tapes: &[Vec<u64>],
-    places: &[u32],
-    gate: Gate,
-    x: &[u64],
-    y: &[u64],
-    dealt: &mut Vec<u64>,
-    row: &mut Vec<u64>,
-) -> Result<(), AllocError>
-    requires first { length x.now ≡ length plan.now.groups }
-    requires second { length y.now ≡ length plan.now.groups }
-    requires words { All (λ word. word < 2 ^ plan.now.bits) x.now }
-    requires more_words { All (λ word. word < 2 ^ plan.now.bits) y.now }
-    requires tapes { is_product gate.operation ≡ true → (p : ℕ) → p < plan.now.parties
-        → has_pair (scheme plan.now) p ≡ true
-        → HasDealWords plan.now (session_words tapes.now) places.now p }
-    ensures { OnOk result (row.new.items ≡ listed (length plan.now.groups)
-        (gate_summand (scheme plan.now)
-        (dealt_at (scheme plan.now) (session_words tapes.now) places.now) gate
-        (slice_index x.now) (slice_index y.now))) }
-{
-    if gate.operation.is_product() {
-        product_into(plan, tapes, places, x, y, dealt, row)
-    } else {
-        linear_into(plan.ring(), gate, x, y, row)
-    }
 }

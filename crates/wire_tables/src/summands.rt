@@ -1,21 +1,25 @@
-//! The summands of all wires of a session.
+//! The summands of all wires of a session, and of the masks of its prepared products.
 ghost use Rattle.std.specs.Prelude.{◌≡◌, ◌<◌, IfOk, OnOk, length};
-ghost use Rattle.job_session.specs.Sessions.{owners};
-ghost use Rattle.job_plan.specs.Plans.{session};
+ghost use Rattle.job_session.specs.Sessions.{gate};
+ghost use Rattle.job_session.specs.Sessions.Slot.{At_gate};
+ghost use Rattle.job_plan.specs.Plans.{session, slot, slots};
 ghost use Rattle.share_world.specs.Laws.{IsWhole};
+ghost use Rattle.share_world.specs.Worlds.{World};
 ghost use Rattle.wire_tables.specs.Places.{ArePlaces};
-ghost use Rattle.wire_tables.specs.WireTables.{world_given};
-ghost use Rattle.wire_tables.specs.Steps.{AreRows};
+ghost use Rattle.wire_tables.specs.WireTables.{input_list, world_given};
+ghost use Rattle.wire_tables.specs.Steps.{AreRows, Sets, SetsRow};
 
 use crate::places::{first_places, pass_slot};
-use crate::rows::{dealt_row, gate_into, zeros};
+use crate::rows::{deal_into, joined_into, linear_into, mask_into, product_into, zeros};
 use crate::values::input_list;
-use job_plan::{Inputs, Plan};
+use job_plan::{Inputs, Plan, SlotKind};
+use job_session::Side;
 use std::alloc::{AllocError, Global};
 use std::marker::Model;
 use std::mem::swap;
 
-/// The summands of all wires of a session, after all its gates. Contracts see a row for each wire.
+/// The summands of all wires of a session, after all its slots, and of the masks of its prepared products. Contracts
+/// see a row for each name of one.
 #[derive(Drop)]
 pub struct SummandTable {
     rows: Vec<Vec<u64>>,
@@ -35,8 +39,8 @@ impl SummandTable {
     ghost use Rattle.share_world.specs.Laws.{IsWhole};
     ghost use Rattle.wire_tables.specs.WireTables.{world_given, summand_rows};
 
-    /// The summands of the wires of session `s`, as the sharing equations have them. `tapes` has
-    /// for each party the words that it draws, all sessions in order.
+    /// The summands of the wires and masks of session `s`, as the sharing equations have them. `tapes` has for each
+    /// party the words that it draws, all sessions in order.
     pub fn make(
         alloc: Global,
         plan: &Plan,
@@ -49,68 +53,137 @@ impl SummandTable {
         ensures { IfOk result (λ table.
             table ≡ summand_rows (world_given plan.now inputs.now tapes.now) s) }
     {
-        let part = plan.part(s);
-        let first_gate = part.input_wires() as u32;
+        let given = input_list(alloc, plan, inputs, s)?;
         let mut places = first_places(alloc, plan, s)?;
-        let mut rows = input_rows(alloc, plan, inputs, tapes, s, &mut places)?;
+        let mut rows = unset_rows(alloc, plan, s)?;
         let mut dealt = Vec::new(alloc);
         let mut row = Vec::new(alloc);
-        for t in 0..part.gates().len() as u32 {
-            let gate = part.gate(t);
-            let x = &rows[gate.first as usize];
-            let y = &rows[gate.second as usize];
-            gate_into(plan, tapes, &places, gate, x, y, &mut dealt, &mut row)?;
-            swap(&mut rows[gate.output as usize], &mut row);
-            pass_slot(plan, s, first_gate + t, &mut places);
+        for k in 0..plan.slots(s) {
+            let name = slot_row(
+                plan, inputs, &given, tapes, &places, &rows, s, k, &mut dealt, &mut row,
+            )?;
+            if let Some(name) = name {
+                swap(&mut rows[name as usize], &mut row);
+            }
+            pass_slot(plan, s, k, &mut places);
         }
         Ok(SummandTable { rows })
     }
 
-    /// The summands of wire `v`.
-    pub fn row(&self, v: u32) -> &[u64]
-        requires { v < length self.now }
-        ensures { result.now ≡ slice_index_or self.now v [] }
+    /// The summands of the wire or the mask whose row has this name.
+    pub fn row(&self, name: u32) -> &[u64]
+        requires { name < length self.now }
+        ensures { result.now ≡ slice_index_or self.now name [] }
     {
-        &self.rows[v as usize]
+        &self.rows[name as usize]
     }
 }
 
-// The summands of all wires before the first gate: each input is dealt, and all other wires have
-// zeros.
-fn input_rows(
-    alloc: Global,
-    plan: &Plan,
-    inputs: &Inputs,
-    tapes: &[Vec<u64>],
-    s: u32,
-    places: &mut [u32],
-) -> Result<Vec<Vec<u64>>, AllocError>
-    requires whole { IsWhole (world_given plan.now inputs.now tapes.now) }
-    requires session { s < length plan.now.sessions }
-    requires places { ArePlaces plan.now s 0 places.old }
-    ensures rows { IfOk result (λ rows.
-        AreRows (world_given plan.now inputs.now tapes.now) s 0 rows.items) }
-    ensures places { OnOk result
-        (ArePlaces plan.now s (length (owners (session plan.now s))) places.new) }
+// The rows before the first slot: zeros of each wire, and no words of the masks.
+fn unset_rows(alloc: Global, plan: &Plan, s: u32) -> Result<Vec<Vec<u64>>, AllocError>
+    requires { s < length plan.now.sessions }
+    ensures { (w : World) → w.plan ≡ plan.now → IfOk result (λ rows. AreRows w s 0 rows.items) }
 {
     let part = plan.part(s);
     let shares = plan.shares() as usize;
-    let given = input_list(alloc, plan, inputs, s)?;
     let mut rows = Vec::new(alloc);
-    for v in 0..part.input_wires() as u32 {
-        let row = dealt_row(
-            alloc,
-            plan,
-            tapes,
-            places,
-            part.wire_owner(v),
-            given[v as usize],
-        )?;
-        rows.push(row)?;
-        pass_slot(plan, s, v, places);
-    }
-    for _wire in part.input_wires() as u32..part.wires() {
+    for _wire in 0..part.wires() {
         rows.push(zeros(alloc, shares)?)?;
     }
+    for _mask in part.wires()..part.row_names() {
+        rows.push(Vec::new(alloc))?;
+    }
     Ok(rows)
+}
+
+// Sets `row` to the summands of what slot `k` sets, and gives the name of its row, where it sets one.
+fn slot_row(
+    plan: &Plan,
+    inputs: &Inputs,
+    given: &[u64],
+    tapes: &[Vec<u64>],
+    places: &[u32],
+    rows: &[Vec<u64>],
+    s: u32,
+    k: u32,
+    dealt: &mut Vec<u64>,
+    row: &mut Vec<u64>,
+) -> Result<Option<u32>, AllocError>
+    requires whole { IsWhole (world_given plan.now inputs.now tapes.now) }
+    requires session { s < length plan.now.sessions }
+    requires slot { k < slots plan.now s }
+    requires given { given.now ≡ input_list (world_given plan.now inputs.now tapes.now) s }
+    requires places { ArePlaces plan.now s k places.now }
+    requires rows { AreRows (world_given plan.now inputs.now tapes.now) s k rows.now }
+    ensures { IfOk result (λ name.
+        Sets (world_given plan.now inputs.now tapes.now) s k name row.new.items) }
+{
+    let part = plan.part(s);
+    match part.slot_kind(k) {
+        SlotKind::Input(v) => {
+            deal_into(
+                plan,
+                tapes,
+                places,
+                part.wire_owner(v),
+                given[v as usize],
+                row,
+            )?;
+            Ok(Some(v))
+        }
+        SlotKind::Mask(t, side) => {
+            mask_into(plan, tapes, places, row)?;
+            Ok(Some(part.mask_wire(t, side)))
+        }
+        SlotKind::MaskProduct(t) => {
+            let first = &rows[part.mask_wire(t, Side::First) as usize];
+            let second = &rows[part.mask_wire(t, Side::Second) as usize];
+            product_into(plan, tapes, places, first, second, dealt, row)?;
+            Ok(Some(part.product_wire(t)))
+        }
+        SlotKind::Gate(t) => {
+            gate_row(plan, inputs, tapes, places, rows, s, k, t, dealt, row)?;
+            Ok(Some(part.gate(t).output))
+        }
+        SlotKind::Masked(_, _) | SlotKind::Output(_) => Ok(None),
+    }
+}
+
+// Sets `row` to the summands of what gate `t` makes, whose slot is `k`.
+fn gate_row(
+    plan: &Plan,
+    inputs: &Inputs,
+    tapes: &[Vec<u64>],
+    places: &[u32],
+    rows: &[Vec<u64>],
+    s: u32,
+    k: u32,
+    t: u32,
+    dealt: &mut Vec<u64>,
+    row: &mut Vec<u64>,
+) -> Result<(), AllocError>
+    requires whole { IsWhole (world_given plan.now inputs.now tapes.now) }
+    requires session { s < length plan.now.sessions }
+    requires slot { k < slots plan.now s }
+    requires gate { slot plan.now s k ≡ At_gate t }
+    requires places { ArePlaces plan.now s k places.now }
+    requires rows { AreRows (world_given plan.now inputs.now tapes.now) s k rows.now }
+    ensures { OnOk result (SetsRow (world_given plan.now inputs.now tapes.now) s k
+        (gate (session plan.now s) t).output row.new.items) }
+{
+    let _ = inputs;
+    let part = plan.part(s);
+    let gate = part.gate(t);
+    let x = &rows[gate.first as usize];
+    let y = &rows[gate.second as usize];
+    if !gate.operation.is_product() {
+        return linear_into(plan.ring(), gate, x, y, row);
+    }
+    if !part.is_prepared() {
+        return product_into(plan, tapes, places, x, y, dealt, row);
+    }
+    let first = &rows[part.mask_wire(t, Side::First) as usize];
+    let second = &rows[part.mask_wire(t, Side::Second) as usize];
+    let product = &rows[part.product_wire(t) as usize];
+    joined_into(plan, x, y, first, second, product, row)
 }

@@ -7,14 +7,13 @@ ghost use Rattle.share_world.specs.Worlds.{word};
 ghost use Rattle.wire_tables.specs.WireTables.{world_given};
 
 use crate::places::places_before;
-use crate::rows::dealt_row;
+use crate::sent_rows::sent_row;
 use crate::summands::SummandTable;
-use job_plan::{Inputs, Plan, SlotKind};
-use reshare_step::own_products;
+use job_plan::{Inputs, Plan};
 use std::alloc::{AllocError, Global};
 
-/// The word of message `number`: a summand of what its sender deals, or of the wire that is opened.
-/// `tapes` has for each party the words that it draws, all sessions in order.
+/// The word of message `number`: a summand of what its sender deals, of a mask, or of what is opened. `tapes` has for
+/// each party the words that it draws, all sessions in order.
 pub fn word_of(
     alloc: Global,
     plan: &Plan,
@@ -28,22 +27,11 @@ pub fn word_of(
         ≡ word (world_given plan.now inputs.now tapes.now) (message plan.now number)) }
 {
     let key = plan.message(number);
-    let part = plan.part(key.session);
-    let table = SummandTable::make(alloc, plan, inputs, tapes, key.session)?;
-    let share = key.share as usize;
-    match part.slot_kind(key.slot) {
-        SlotKind::Input(v) => Ok(table.row(v)[share]),
-        SlotKind::Gate(t) => {
-            let gate = part.gate(t);
-            let (x, y) = (table.row(gate.first), table.row(gate.second));
-            let own = own_products(plan.ring(), plan.duty(), key.sender, x, y);
-            let places = places_before(alloc, plan, key.session, key.slot)?;
-            let row = dealt_row(alloc, plan, tapes, &places, key.sender, own)?;
-            Ok(row[share])
-        }
-        SlotKind::Output(o) => {
-            let wire = part.wires() - part.output_wires() as u32 + o;
-            Ok(table.row(wire)[share])
-        }
-    }
+    let (s, k) = (key.session, key.slot);
+    let table = SummandTable::make(alloc, plan, inputs, tapes, s)?;
+    let places = places_before(alloc, plan, s, k)?;
+    let row = sent_row(
+        alloc, plan, inputs, tapes, &table, &places, s, k, key.sender,
+    )?;
+    Ok(row[key.share as usize])
 }

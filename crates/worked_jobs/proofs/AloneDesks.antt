@@ -3,7 +3,7 @@ use Rattle.std.proofs.Common.{◌≡◌, ℕ, sym, subst}
 use Rattle.job_plan.specs.Plans.{Plan}
 use Rattle.message_board.specs.declared.cells.Cells.{Ghosts as Meaning}
 use Rattle.party_program.specs.declared.program.Instruction.{Instruction}
-use Rattle.party_program.specs.declared.program.Instruction.TheVariants.{Deal, Post, Take, Linear, Own, Sum, Deliver, End}
+use Rattle.party_program.specs.declared.program.Instruction.TheVariants.{Draw, Deal, Post, Take, Linear, Own, Sum, Open, Join, Deliver, End}
 use Rattle.party_program.specs.States.{Given}
 use Rattle.party_desk.specs.declared.desk.Desk.{Desk}
 use Rattle.party_desk.specs.declared.desk.Stepped.{Stepped}
@@ -24,12 +24,15 @@ no_cells = record {
 
 module _ {C : Type 0} (plan : Plan) (given : Given) (its : given.plan ≡ plan) (d : Desk) (c : C) (is_desk : IsDesk given d) where
   allowed : (q : ℕ) (e : Instruction) → Allows no_cells c given q e
+  allowed q (Draw k) = tt
   allowed q (Deal k j) = tt
   allowed q (Post n i) = tt
   allowed q (Take n i) = tt
   allowed q (Linear k) = tt
   allowed q (Own k) = tt
   allowed q (Sum k) = tt
+  allowed q (Open k) = tt
+  allowed q (Join k) = tt
   allowed q (Deliver k) = tt
   allowed q End = tt
 
@@ -44,22 +47,28 @@ module _ {C : Type 0} (plan : Plan) (given : Given) (its : given.plan ≡ plan) 
     stays e = (given, its, subst (λ (z : Desk). IsDesk given z) (sym e) is_desk)
 
     does : (e : Instruction) → Does no_cells given d c d' c' e → Still
+    does (Draw k) h = (given, its, h.1)
     does (Deal k j) h = (given, its, h.1)
     does (Post n i) h = (given, its, h.1)
     does (Take n i) h = (with_word given n h.0, its, h.3)
     does (Linear k) h = (given, its, h.1)
     does (Own k) h = (given, its, h.1)
     does (Sum k) h = (given, its, h.1)
+    does (Open k) h = (given, its, h.1)
+    does (Join k) h = (given, its, h.1)
     does (Deliver k) h = (given, its, h.1)
     does End h = absurd h
 
     waits : (m : ℕ) (e : Instruction) → Waits no_cells d c d' c' m e → Still
     waits m (Take n i) h = stays h.1
+    waits m (Draw k) h = absurd h
     waits m (Deal k j) h = absurd h
     waits m (Post n i) h = absurd h
     waits m (Linear k) h = absurd h
     waits m (Own k) h = absurd h
     waits m (Sum k) h = absurd h
+    waits m (Open k) h = absurd h
+    waits m (Join k) h = absurd h
     waits m (Deliver k) h = absurd h
     waits m End h = absurd h
 

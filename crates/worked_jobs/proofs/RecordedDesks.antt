@@ -10,7 +10,7 @@ use Rattle.share_world.specs.Worlds.{World, word}
 use Rattle.share_world.specs.Laws.{IsWhole}
 use Rattle.message_board.specs.declared.cells.Cells.{Ghosts as Meaning}
 use Rattle.party_program.specs.declared.program.Instruction.{Instruction}
-use Rattle.party_program.specs.declared.program.Instruction.TheVariants.{Deal, Post, Take, Linear, Own, Sum, Deliver, End}
+use Rattle.party_program.specs.declared.program.Instruction.TheVariants.{Draw, Deal, Post, Take, Linear, Own, Sum, Open, Join, Deliver, End}
 use Rattle.party_program.specs.Programs.{program}
 use Rattle.party_program.specs.States.{Given}
 use Rattle.party_desk.specs.declared.desk.Desk.{Desk}
@@ -69,23 +69,29 @@ module _ (lawful : WorldsAreLawful) (plan : Plan) (w : World) (s p : ℕ) (d : D
   module _ (served : NextsAreServed) (e : Desk) (f : List ℕ) where
     -- the words stay
     same_words : (i : Instruction) → DoesIn recorder w p c f i → f ≡ c
+    same_words (Draw k) does = does
     same_words (Deal k j) does = does
     same_words (Post n j) does = does.put
     same_words (Take n j) does = does.took.0
     same_words (Linear k) does = does
     same_words (Own k) does = does
     same_words (Sum k) does = does
+    same_words (Open k) does = does
+    same_words (Join k) does = does
     same_words (Deliver k) does = does
     same_words End does = absurd does
 
     -- a message that comes to the party has its word
     waits_at : (m : ℕ) (i : Instruction) → NextIs (given_in w s p) d.position i → Waits recorder d c e f m i → ⊥
     waits_at m (Take n j) next waits = let found = slice_get-get_or c n 0 (omega (arith, long, next.0)) in let none = waits.2.1 in cc
+    waits_at m (Draw k) next waits = waits
     waits_at m (Deal k j) next waits = waits
     waits_at m (Post k j) next waits = waits
     waits_at m (Linear k) next waits = waits
     waits_at m (Own k) next waits = waits
     waits_at m (Sum k) next waits = waits
+    waits_at m (Open k) next waits = waits
+    waits_at m (Join k) next waits = waits
     waits_at m (Deliver k) next waits = waits
     waits_at m End next waits = waits
 

@@ -6,5 +6,5 @@ use Rattle.job_plan.proofs.counts.word_count.Given as goal
 abbrev pub invariant-loop-s : goal.invariant-loop-s
 invariant-loop-s l = record {
   is : l.count ≡ total l.s (words l.outline l.p);
-  few : l.count ≤ 12386304 * l.s;
+  few : l.count ≤ 20774912 * l.s;
 }

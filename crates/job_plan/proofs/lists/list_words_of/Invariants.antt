@@ -6,6 +6,6 @@ use Rattle.job_plan.proofs.lists.list_words_of.Given as goal
 abbrev pub invariant-loop-s : goal.invariant-loop-s
 invariant-loop-s l = record {
   is : l.count ≡ total l.s (words l.outline l.p);
-  few : l.count ≤ 12386304 * l.s;
+  few : l.count ≤ 20774912 * l.s;
   starts : l.starts.items ≡ listed l.s (λ s. total s (words l.outline l.p));
 }

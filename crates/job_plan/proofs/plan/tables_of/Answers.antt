@@ -25,5 +25,4 @@ returns-clause-laid c = record {
   lines = c.in_ok-patterns.ensures;
   begin = c.in_ok-starts.ensures;
   drawn = c.in_ok-words.ensures;
-  dealt = c.in_ok-deals.ensures;
 }

@@ -1,18 +1,17 @@
-use Rattle.std.proofs.Common.{◌≡◌, ℕ, ◌+◌, ◌-◌, ◌<◌, ◌^◌, length, slice_get, refl, sym, ap, ap₂, ◌∙◌, subst, arith}
+use Rattle.std.proofs.Common.{◌≡◌, ℕ, ◌+◌, ◌-◌, ◌<◌, length, slice_get, refl, sym, ◌∙◌, subst, arith}
 use Rattle.std.proofs.lemmas.Option.{slice_get_within}
-use Rattle.job_session.specs.SoundSessions.{slot_of_kind}
-use Rattle.job_plan.specs.Plans.{Plan, slot}
+use Rattle.job_session.specs.KeptWires.{sets_in}
+use Rattle.job_plan.specs.Plans.{Plan, session}
 use Rattle.message_board.specs.declared.steps.View.{View}
 use Rattle.message_board.specs.Pairs.{Knows}
 use Rattle.party_program.specs.declared.program.Instruction.TheVariants.{Take}
 use Rattle.party_program.specs.States.{slot_of, took_in}
 use Rattle.party_desk.specs.declared.desk.Desk.{Desk}
 use Rattle.party_desk.specs.Desks.{instruction_at}
-use Rattle.party_desk.specs.Memories.{state_of, row_of, Alike, IsMemoryOf}
-use Rattle.party_desk.specs.Rows.{slot_on_rows}
+use Rattle.party_desk.specs.Memories.{state_of, row_of, on_rows, Alike, IsMemoryOf}
 use Rattle.party_desk.specs.Walks.{IsDeskOfPlan, Walks, taken_on, with_parts}
-use Rattle.party_desk.proofs.GateWalks.{goes_names, goes_proper, walks_on}
-use Rattle.party_desk.proofs.GatePosts.{half_few, look_walks, none_at_sum, tail_listed, take_found, take_walks, taken_more, takes_next, takes_start, took_given}
+use Rattle.party_desk.proofs.GateWalks.{goes_proper, walks_on}
+use Rattle.party_desk.proofs.GatePosts.{half_few, look_walks, none_at_sum, product_taken, product_within, tail_listed, take_found, take_walks, taken_more, takes_next, takes_start, took_given}
 use Rattle.party_desk.proofs.walks.take_words.Goals as goal
 
 pub overflow_cast-last : goal.overflow_cast-last
@@ -63,8 +62,8 @@ take-requires-clause-inside g c =
     let is : instruction_at given e ≡ Take n i = takes_next plan given first now may.goes c.requires.product c.loop-next.next c.loop-next.invariant.0 (omega (arith, count, c.loop-next-test.true)) refl (Take n i) (sym c.in-Take.is ∙ c.product_step-step.ensures) in
     slice_get_within (g.W.Promise.list c.args.board.now.about.world) n (given.got n) (may.promises.takes e.position n i is)
 
-pub take-requires-in-loop-next-clause-share : goal.take-requires-in-loop-next-clause-share
-take-requires-in-loop-next-clause-share g c =
+pub add-requires-clause-share : goal.add-requires-clause-share
+add-requires-clause-share g c =
     let plan = c.args.plan.now in
     let given = c.requires.may.0 in
     let may = c.requires.may.2 in
@@ -87,7 +86,7 @@ loop-next-preserved g c = (
       let plan = c.args.plan.now in
       let first : Desk = with_parts some c.args.program.now c.args.place.now c.args.session c.args.memory.now in
       let d : Desk = record first { memory = c.loop-next.memory } in
-      let m = c.take-in-loop-next.new.self in
+      let m = c.add.new.self in
       let n = c.in-Take.number in
       let i = c.in-Take.share in
       let w = c.in-Some.word in
@@ -101,17 +100,16 @@ loop-next-preserved g c = (
       let is : instruction_at given e ≡ Take n i = takes_next plan given first d may.goes c.requires.product c.loop-next.next c.loop-next.invariant.0 (omega (arith, left)) refl (Take n i) (sym c.in-Take.is ∙ c.product_step-step.ensures) in
       let more : c.args.place.now.done + moves + 1 < c.args.place.now.count = omega (arith, left, c.loop-next.invariant.0) in
       let word = took_given w (given.got n) (slice_get (g.W.Promise.list c.args.board.now.about.world) n) c.in-Some.ensures.promised (may.promises.takes e.position n i is) in
-      let fits : IsMemoryOf given.plan d.session m = subst (λ (z : Plan). IsMemoryOf z d.session m) (sym may.goes.same) c.take-in-loop-next.ensures.fits in
-      let here : slot_of_kind c.product_in-kind.result ≡ slot_of plan n = c.product_in-kind.ensures.is ∙ ap₂ (slot plan) (sym (goes_proper plan given e goes (Take n i) (sym is)).session) (c.slot.ensures ∙ sym (goes_names plan given e goes (Take n i) (sym is))) in
-      let of_slot : Alike (length plan.groups) (state_of (length plan.groups) m) (took_in (2 ^ plan.bits) (slot_on_rows (row_of d.memory) (slot_of plan n)) i w (state_of (length plan.groups) d.memory)) =
-      subst (λ z. Alike (length plan.groups) (state_of (length plan.groups) m) (took_in (2 ^ plan.bits) (slot_on_rows (row_of d.memory) z) i w (state_of (length plan.groups) d.memory))) here c.take-in-loop-next.ensures.state in
-      let state : Alike (length given.plan.groups) (state_of (length given.plan.groups) m) (took_in (2 ^ given.plan.bits) (slot_on_rows (row_of d.memory) (slot_of given.plan n)) i w (state_of (length given.plan.groups) d.memory)) =
-      subst (λ (z : Plan). Alike (length z.groups) (state_of (length z.groups) m) (took_in (2 ^ z.bits) (slot_on_rows (row_of d.memory) (slot_of z n)) i w (state_of (length z.groups) d.memory))) (sym may.goes.same) of_slot in
+      let fits : IsMemoryOf given.plan d.session m = subst (λ (z : Plan). IsMemoryOf z d.session m) (sym may.goes.same) c.add.ensures.fits in
+      let within = product_within plan given first may.goes c.requires.product in
+      let of_slot = product_taken plan given e goes within c.requires.product.1 n i w is m c.add.ensures.state in
+      let state : Alike (length given.plan.groups) (state_of (length given.plan.groups) m) (on_rows (row_of d.memory) (sets_in (session given.plan d.session) (slot_of given.plan n)) (took_in given.plan d.session (slot_of given.plan n) i w) (state_of (length given.plan.groups) d.memory)) =
+      subst (λ (z : Plan). Alike (length z.groups) (state_of (length z.groups) m) (on_rows (row_of d.memory) (sets_in (session z d.session) (slot_of z n)) (took_in z d.session (slot_of z n) i w) (state_of (length z.groups) d.memory))) (sym may.goes.same) of_slot in
       let next : moves + 1 ≡ c.loop-next.next + 1 - c.args.place.now.done = omega (arith, c.loop-next.invariant.0) in
       subst (λ k. Walks given c.args.seat.now first c.take.new.seat (taken_on (record d { memory = m }) k)) next
       (walks_on given c.args.seat.now c.loop-next.seat c.take.new.seat first e f so_far
       (take_walks given c.loop-next.seat c.take.new.seat e f so_far.desk n i w is word c.in-Some.ensures.view
-      (taken_more given d moves more n i w m so_far.desk fits c.take-in-loop-next.ensures.kept state)))),
+      (taken_more given d moves more n i w m so_far.desk fits c.add.ensures.kept state)))),
   (λ none. absurd (omega (arith, none, c.loop-next.invariant.0))),
 )
 

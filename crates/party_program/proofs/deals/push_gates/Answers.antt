@@ -1,11 +1,14 @@
-use Rattle.std.proofs.Common.{◌≡◌, ℕ, ◌+◌, ◌<◌, Bool, true, false, ◌&&◌, if◌then◌else◌, List, length, sym, ap, ◌∙◌, subst, arith}
+use Rattle.std.proofs.Common.{◌≡◌, ℕ, ◌+◌, ◌<◌, Bool, true, false, not, ◌&&◌, if◌then◌else◌, List, length, refl, sym, ap, ◌∙◌, subst, arith}
 use Rattle.std.specs.Prelude.{slice_index_or}
 use Rattle.std.proofs.lemmas.List.{length-append}
+use Rattle.list_laws.proofs.JoinedLists.{total_within}
 use Rattle.circuit_model.specs.Circuits.{is_product}
 use Rattle.circuit_model.specs.declared.gate.Gate.{Gate}
 use Rattle.secret_sharing.specs.Schemes.{has_pair}
-use Rattle.job_session.specs.Sessions.{Session, owners, gate, no_gate}
-use Rattle.job_session.proofs.SessionSlots.{slot_gate}
+use Rattle.job_session.specs.Sessions.{Session, owners, gate, no_gate, is_prepared, session_slot}
+use Rattle.job_session.specs.Sessions.Slot.{At_gate}
+use Rattle.job_session.specs.SlotNumbers.{session_slot_number}
+use Rattle.job_session.proofs.SessionSlots.{slot_count, slot_there}
 use Rattle.job_plan.specs.declared.pattern.Pattern.TheVariants.{Silent, Multiplied}
 use Rattle.job_plan.specs.Plans.{Plan, scheme, session, slot, slots, deals_in}
 use Rattle.job_plan.specs.Patterns.{pattern}
@@ -16,15 +19,48 @@ use Rattle.party_program.specs.declared.step_table.StepTable.{StepTable}
 use Rattle.job_plan.specs.Sound.{IsSound}
 use Rattle.party_program.specs.Programs.{head, tail, half_program, slot_program}
 use Rattle.party_program.specs.PartySteps.{steps}
-use Rattle.party_program.specs.ProgramPlaces.{AreDeals, AreSteps}
+use Rattle.party_program.specs.ProgramPlaces.{AreDeals, AreSteps, HasNoneBeside}
+use Rattle.party_program.proofs.FollowedPatterns.{gate_pattern}
 use Rattle.party_program.proofs.ProgramPlaces.{length-half}
 use Rattle.party_program.proofs.FewSteps.{product_few}
 use Rattle.party_program.proofs.GrownDeals.{as_number, room_left, instructions_fit, one_more}
 use Rattle.party_program.proofs.deals.push_gates.Goals as goal
 use Rattle.party_program.proofs.deals.push_gates.Goals.{then-is_product, else-is_product}
 
+-- where no slots stand beside those of inputs, gates and outputs, no product is prepared, and gate t stands behind the inputs
+module _ (x : Session) (t : ℕ) (lt : t < length x.gates) (alone : HasNoneBeside x) where
+  no_product : (b : Bool) → ◌≡◌ {A = ℕ} (if b then 1 else 0) 0 → b ≡ false
+  no_product true e = absurd (omega (arith, e))
+  no_product false e = refl
+
+  none_prepared : is_prepared x t ≡ false
+  none_prepared =
+      let all = slot_count x in
+      let within = total_within (length x.gates) t (λ u. if is_prepared x u then 1 else 0) lt in
+      no_product (is_prepared x t) (omega (arith, all, within, alone))
+
+  gate_here : session_slot x (length (owners x) + t) ≡ At_gate t
+  gate_here =
+      let all = slot_count x in
+      let within = total_within (length x.gates) t (λ u. if is_prepared x u then 1 else 0) lt in
+      let none : ◌≡◌ {A = ℕ} (if is_prepared x t then 2 else 0) 0 = ap (λ b. if b then 2 else 0) none_prepared in
+      let number : length (owners x) + t ≡ session_slot_number x (At_gate t) = omega (arith, all, within, alone, none) in
+      ap (session_slot x) number ∙ slot_there x (At_gate t) lt
+
+-- a gate of no prepared product is dealt, where it is a product
+direct_pattern : (prepared product : Bool) → (prepared && product) ≡ false → gate_pattern prepared product ≡ (if product then Multiplied else Silent)
+direct_pattern true true e = absurd cc
+direct_pattern true false e = refl
+direct_pattern false true e = refl
+direct_pattern false false e = refl
+
+direct_product : (prepared product : Bool) → (prepared && product) ≡ false → (not prepared && product) ≡ product
+direct_product true true e = absurd cc
+direct_product true false e = refl
+direct_product false product e = refl
+
 -- gate t of session s, found among the gates of its part
-module _ (plan : Plan) (p s t : ℕ) (ls : s < length plan.sessions) (part : Session) (same : part ≡ session plan s) (gates : List Gate) (of : gates ≡ part.gates) (less : t < length gates) where
+module _ (plan : Plan) (p s t : ℕ) (ls : s < length plan.sessions) (alone : HasNoneBeside (session plan s)) (part : Session) (same : part ≡ session plan s) (gates : List Gate) (of : gates ≡ part.gates) (less : t < length gates) where
   abbrev k : ℕ
   k = length (owners (session plan s)) + t
 
@@ -32,7 +68,10 @@ module _ (plan : Plan) (p s t : ℕ) (ls : s < length plan.sessions) (part : Ses
   lt = subst (λ (xs : List Gate). t < length xs) (of ∙ ap (λ (x : Session). x.gates) same) less
 
   lk : k < slots plan s
-  lk = let less = lt in omega (arith, less)
+  lk = let less = lt in omega (arith, less, alone)
+
+  abbrev prepared : Bool
+  prepared = (session plan s).prepared
 
   -- whether it was found to be a product
   module _ (told product : Bool) (is_told : told ≡ is_product (slice_index_or gates t no_gate).operation) (told_is : told ≡ product) where
@@ -43,7 +82,8 @@ module _ (plan : Plan) (p s t : ℕ) (ls : s < length plan.sessions) (part : Ses
     half_count : (half : Half) → length (half_program plan p s half k) ≡ length (steps plan p half (if product then Multiplied else Silent))
     half_count half =
         length-half plan p s half k ls lk
-        ∙ ap (λ z. length (steps plan p half (pattern plan s z))) (slot_gate (session plan s) t lt)
+        ∙ ap (λ z. length (steps plan p half (pattern plan s z))) (gate_here (session plan s) t lt alone)
+        ∙ ap (λ pattern. length (steps plan p half pattern)) (direct_pattern prepared (is_product (gate (session plan s) t).operation) (none_prepared (session plan s) t lt alone))
         ∙ ap (λ b. length (steps plan p half (if b then Multiplied else Silent))) product_is
 
     count : length (slot_program plan p s k) ≡ length (steps plan p Head (if product then Multiplied else Silent)) + length (steps plan p Tail (if product then Multiplied else Silent))
@@ -51,11 +91,13 @@ module _ (plan : Plan) (p s t : ℕ) (ls : s < length plan.sessions) (part : Ses
 
     -- and a deal where it is a product and the party has a pair to multiply
     dealt : deals_in plan s p (slot plan s k) ≡ (product && has_pair (scheme plan) p)
-    dealt = ap (deals_in plan s p) (slot_gate (session plan s) t lt) ∙ ap (λ b. b && has_pair (scheme plan) p) product_is
+    dealt =
+        ap (deals_in plan s p) (gate_here (session plan s) t lt alone)
+        ∙ ap (λ b. b && has_pair (scheme plan) p) (direct_product prepared (is_product (gate (session plan s) t).operation) (none_prepared (session plan s) t lt alone) ∙ product_is)
 
 pub push_reserved-requires : goal.push_reserved-requires
 push_reserved-requires c =
-    let there = lk c.args.plan.now c.args.p c.args.s c.loop-gate.gate-index c.requires.session _ c.part.ensures _ c.gates-gate-items.ensures c.loop-gate-test.true in
+    let there = lk c.args.plan.now c.args.p c.args.s c.loop-gate.gate-index c.requires.session c.requires.alone _ c.part.ensures _ c.gates-gate-items.ensures c.loop-gate-test.true in
     room_left c.args.plan.now c.args.p c.args.s _ c.loop-gate.list c.loop-gate.tally c.loop-gate.invariant (omega (arith, there))
 
 -- a product has few steps
@@ -76,20 +118,20 @@ overflow_cast-steps c = let all = few c.args.plan.now c.args.p c.args.s c.args.h
 -- a product has as many instructions as were added
 module _ (c : goal.Then-is_product) where
   there : length (owners (session c.args.plan.now c.args.s)) + c.loop-gate.gate-index < slots c.args.plan.now c.args.s
-  there = lk c.args.plan.now c.args.p c.args.s c.loop-gate.gate-index c.requires.session _ c.part.ensures _ c.gates-gate-items.ensures c.loop-gate-test.true
+  there = lk c.args.plan.now c.args.p c.args.s c.loop-gate.gate-index c.requires.session c.requires.alone _ c.part.ensures _ c.gates-gate-items.ensures c.loop-gate-test.true
 
   many : length c.of_product.result.now + length c.of_product-2.result.now ≡ length (slot_program c.args.plan.now c.args.p c.args.s (length (owners (session c.args.plan.now c.args.s)) + c.loop-gate.gate-index))
   many =
       both_of c.args.plan.now c.args.p c.args.s c.args.heads.now c.args.tails.now c.requires.heads c.requires.tails c.parties.ensures.sound c.of_product.result.now c.of_product-2.result.now c.of_product.ensures c.of_product-2.ensures
-      ∙ sym (count c.args.plan.now c.args.p c.args.s c.loop-gate.gate-index c.requires.session _ c.part.ensures _ c.gates-gate-items.ensures c.loop-gate-test.true _ true c.is_product.ensures c.if-is_product.true)
+      ∙ sym (count c.args.plan.now c.args.p c.args.s c.loop-gate.gate-index c.requires.session c.requires.alone _ c.part.ensures _ c.gates-gate-items.ensures c.loop-gate-test.true _ true c.is_product.ensures c.if-is_product.true)
 
 pub overflow_add-tally : goal.overflow_add-tally
 overflow_add-tally c = let all = instructions_fit c.args.plan.now c.args.p c.args.s _ c.loop-gate.list c.loop-gate.tally c.loop-gate.invariant _ c.parties.ensures.sound c.requires.session (there c) (many c) in omega (arith, all)
 
 pub overflow_add-tally-else-is_product : goal.overflow_add-tally-else-is_product
 overflow_add-tally-else-is_product c =
-    let there = lk c.args.plan.now c.args.p c.args.s c.loop-gate.gate-index c.requires.session _ c.part.ensures _ c.gates-gate-items.ensures c.loop-gate-test.true in
-    let one = count c.args.plan.now c.args.p c.args.s c.loop-gate.gate-index c.requires.session _ c.part.ensures _ c.gates-gate-items.ensures c.loop-gate-test.true _ false c.is_product.ensures c.if-is_product.false in
+    let there = lk c.args.plan.now c.args.p c.args.s c.loop-gate.gate-index c.requires.session c.requires.alone _ c.part.ensures _ c.gates-gate-items.ensures c.loop-gate-test.true in
+    let one = count c.args.plan.now c.args.p c.args.s c.loop-gate.gate-index c.requires.session c.requires.alone _ c.part.ensures _ c.gates-gate-items.ensures c.loop-gate-test.true _ false c.is_product.ensures c.if-is_product.false in
     let all = instructions_fit c.args.plan.now c.args.p c.args.s _ c.loop-gate.list c.loop-gate.tally c.loop-gate.invariant 1 c.parties.ensures.sound c.requires.session there (sym one) in
     omega (arith, all)
 
@@ -105,15 +147,15 @@ loop-gate-preserved c =
     (elim c.if-is_product.branch [
       | then-is_product w ↦
           let deals = c.from-deals.ensures ∙ as_number c.multiplies.result ∙ ap (λ b. if b then 1 else 0)
-          (c.multiplies.ensures ∙ sym (dealt plan p s c.loop-gate.gate-index c.requires.session _ c.part.ensures _ c.gates-gate-items.ensures c.loop-gate-test.true _ true c.is_product.ensures w.if-is_product.true)) in
+          (c.multiplies.ensures ∙ sym (dealt plan p s c.loop-gate.gate-index c.requires.session c.requires.alone _ c.part.ensures _ c.gates-gate-items.ensures c.loop-gate-test.true _ true c.is_product.ensures w.if-is_product.true)) in
           let count = both_of plan p s c.args.heads.now c.args.tails.now c.requires.heads c.requires.tails c.parties.ensures.sound c.of_product.result.now c.of_product-2.result.now c.of_product.ensures c.of_product-2.ensures
-          ∙ sym (count plan p s c.loop-gate.gate-index c.requires.session _ c.part.ensures _ c.gates-gate-items.ensures c.loop-gate-test.true _ true c.is_product.ensures w.if-is_product.true) in
+          ∙ sym (count plan p s c.loop-gate.gate-index c.requires.session c.requires.alone _ c.part.ensures _ c.gates-gate-items.ensures c.loop-gate-test.true _ true c.is_product.ensures w.if-is_product.true) in
           subst (AreDeals plan p s (k + 1) c.push_reserved.new.self) (sym w.tally-is)
           (grown (length c.of_product.result.now + length c.of_product-2.result.now) c.from-deals.result c.push_reserved.ensures.items c.push_reserved.ensures.capacity count deals)
       | else-is_product w ↦
           let none : 0 ≡ (if deals_in plan s p (slot plan s k) then 1 else 0) = ap (λ b. if b then 1 else 0)
-          (sym (dealt plan p s c.loop-gate.gate-index c.requires.session _ c.part.ensures _ c.gates-gate-items.ensures c.loop-gate-test.true _ false c.is_product.ensures w.if-is_product.false)) in
-          let count = sym (count plan p s c.loop-gate.gate-index c.requires.session _ c.part.ensures _ c.gates-gate-items.ensures c.loop-gate-test.true _ false c.is_product.ensures w.if-is_product.false) in
+          (sym (dealt plan p s c.loop-gate.gate-index c.requires.session c.requires.alone _ c.part.ensures _ c.gates-gate-items.ensures c.loop-gate-test.true _ false c.is_product.ensures w.if-is_product.false)) in
+          let count = sym (count plan p s c.loop-gate.gate-index c.requires.session c.requires.alone _ c.part.ensures _ c.gates-gate-items.ensures c.loop-gate-test.true _ false c.is_product.ensures w.if-is_product.false) in
           let still : c.loop-gate.tally.deals + 0 ≡ c.loop-gate.tally.deals = omega arith in
           subst (AreDeals plan p s (k + 1) c.push_reserved.new.self) (ap (λ n. record { instructions = c.loop-gate.tally.instructions + 1; deals = n }) still ∙ sym w.tally-is)
           (grown 1 0 c.push_reserved.ensures.items c.push_reserved.ensures.capacity count none)

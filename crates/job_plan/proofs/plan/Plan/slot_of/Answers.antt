@@ -7,6 +7,7 @@ use Rattle.job_session.specs.SoundSessions.{IsSoundSession}
 use Rattle.job_plan.specs.Firsts.{session_starts, starts_of}
 use Rattle.job_plan.proofs.SlotStarts.{start_at, starts_long, starts_rise}
 use Rattle.job_plan.proofs.GrownLists.{row_is}
+use Rattle.job_plan.proofs.Slots.{few_slots}
 use Rattle.job_plan.proofs.plan.Plan.slot_of.Goals as goal
 
 pub index-requires : goal.index-requires
@@ -27,7 +28,7 @@ part_of-requires c =
     let sound = subst (λ p. IsSoundSession p.parties (session p s)) c.self.view_is (c.self.invariant.sound.sessions s (omega (arith, c.requires.session, ap (λ p. length p.sessions) c.self.view_is))) in
     record {
       some = omega arith;
-      few = omega arith;
+      few = omega (arith, few_slots (session plan s) sound.wired);
       rising = subst IsNonDecreasing (sym row) (starts_rise plan s);
       begin = omega (arith, ap (λ xs. slice_index xs 0) row, start_at plan s 0 (omega arith), c.requires.begin);
       end = omega (arith, ap (λ xs. slice_index xs (length c.index.result.now - 1)) row, ap (slice_index (session_starts plan s)) last, start_at plan s count (omega arith), c.requires.end);

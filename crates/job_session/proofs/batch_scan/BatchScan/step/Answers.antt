@@ -1,7 +1,10 @@
-use Rattle.std.proofs.Common.{◌∙◌, arith}
+use Rattle.std.proofs.Common.{◌-◌, ◌&&◌, ◌∙◌, sym, ap, arith}
+use Rattle.job_session.specs.Batches.{sets_early}
+use Rattle.job_session.specs.Sessions.{session_slot}
 use Rattle.job_session.specs.Wirings.{session_in}
+use Rattle.job_session.proofs.RowNames.{few_slots}
 use Rattle.job_session.proofs.BatchOrder.{batch_within}
-use Rattle.job_session.proofs.ScannedBatches.{completes_within, few_slots}
+use Rattle.job_session.proofs.ScannedBatches.{completes_within, no_join, none_join}
 use Rattle.job_session.proofs.batch_scan.BatchScan.step.Goals as goal
 
 pub complete-requires-clause-within : goal.complete-requires-clause-within
@@ -14,5 +17,11 @@ complete-requires-clause-few c =
     let s = session_in c.args.wiring.now in
     omega (arith, c.in_ok-begin.ensures.first, batch_within s c.args.k, c.requires.slot, few_slots s c.requires.wiring.wired)
 
+pub begin-requires-clause-before_join : goal.begin-requires-clause-before_join
+begin-requires-clause-before_join c =
+    let s = session_in c.args.wiring.now in
+    sym (ap (λ b. b && sets_early s (session_slot s c.args.k)) (c.requires.scan.joins ∙ none_join s c.requires.direct (c.args.k - 1) c.args.k))
+
 pub returns : goal.returns
-returns c = c.complete.ensures (session_in c.args.wiring.now) c.args.k c.requires.completes c.in_ok-begin.ensures
+returns c = c.complete.ensures (session_in c.args.wiring.now) c.args.k c.requires.completes
+    (sym (no_join (session_in c.args.wiring.now) c.requires.direct (session_slot (session_in c.args.wiring.now) c.args.k))) c.in_ok-begin.ensures

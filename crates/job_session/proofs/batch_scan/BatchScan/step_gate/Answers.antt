@@ -1,7 +1,9 @@
 use Rattle.std.proofs.Common.{◌∙◌, sym, arith}
+use Rattle.job_session.specs.Sessions.{session_slot}
 use Rattle.job_session.specs.Wirings.{session_in}
+use Rattle.job_session.proofs.RowNames.{few_slots}
 use Rattle.job_session.proofs.BatchOrder.{batch_within}
-use Rattle.job_session.proofs.ScannedBatches.{completes_within, few_slots}
+use Rattle.job_session.proofs.ScannedBatches.{completes_within, no_join}
 use Rattle.job_session.proofs.batch_scan.BatchScan.step_gate.Goals as goal
 
 pub complete-requires-clause-within : goal.complete-requires-clause-within
@@ -17,4 +19,4 @@ complete-requires-clause-few c =
 pub returns : goal.returns
 returns c =
     c.complete.ensures (session_in c.args.wiring.now) c.args.k
-    (record { is = λ w. c.requires.gate.completes w ∙ sym (c.completed.ensures w) }) c.in_ok-begin_gate.ensures
+    (record { is = λ w. c.requires.gate.completes w ∙ sym (c.completed.ensures w) }) (sym (no_join (session_in c.args.wiring.now) c.requires.direct (session_slot (session_in c.args.wiring.now) c.args.k))) c.in_ok-begin_gate.ensures

@@ -15,7 +15,7 @@ pub returns : goal.returns
 returns c inputs r small many =
     record {
       position = refl;
-      desk = λ got. begins _ _ (record { sound = c.parties.ensures.sound; party = c.requires.party; session = c.requires.session; inputs = many; tape = c.requires.long }) refl refl r.program (c.len-instructions.ensures _ _ _ r.program) (first_place c.args.plan.now c.args.party c.args.session _ c.start-place.result r.program c.start-place.ensures) r.table refl refl refl c.left-piece.ensures r.inputs refl r.rows refl r.sums refl r.outputs small c.requires.words;
+      desk = λ got. begins _ _ (record { sound = c.parties.ensures.sound; party = c.requires.party; session = c.requires.session; inputs = many; tape = c.requires.long }) refl refl r.program (c.len-instructions.ensures _ _ _ r.program) (first_place c.args.plan.now c.args.party c.args.session _ c.start-place.result r.program c.start-place.ensures) r.table refl refl refl c.left-piece.ensures r.inputs refl r.rows refl r.sums refl refl r.outputs small c.requires.words;
     }
 
 -- no party draws more words than a piece counts

@@ -1,6 +1,30 @@
-use Rattle.std.proofs.Common.{arith}
-use Rattle.party_desk.proofs.OwnProducts.{own_and_deal, own_can_deal, own_few, own_no_post}
+use Rattle.std.proofs.Common.{◌≡◌, true, sym, subst, arith}
+use Rattle.circuit_model.specs.declared.gate.Gate.{Gate}
+use Rattle.secret_sharing.specs.Schemes.{has_pair}
+use Rattle.job_plan.specs.Plans.{Plan, scheme}
+use Rattle.party_program.specs.declared.half.Half.TheVariants.{Head}
+use Rattle.party_program.specs.ProgramPlaces.{InProduct}
+use Rattle.party_program.specs.States.{Given}
+use Rattle.program_laws.specs.WordsRead.{gate_at}
+use Rattle.party_desk.specs.declared.desk.Desk.{Desk}
+use Rattle.party_desk.specs.Memories.{GateWithin}
+use Rattle.party_desk.specs.Walks.{IsDeskOfPlan}
+use Rattle.party_desk.proofs.GateWalks.{goes_stand}
+use Rattle.party_desk.proofs.NamedRows.{slot_within_rows}
+use Rattle.party_desk.proofs.OwnProducts.{own_and_deal, own_can_deal, own_few, own_no_post, own_slot}
 use Rattle.party_desk.proofs.desk.Desk.deal_own.Goals as goal
+
+-- the product's wires have rows
+rows_of : (plan : Plan) (l : Given) (d : Desk) (goes : IsDeskOfPlan plan l d) → InProduct Head d.place → d.place.done ≡ 0 → has_pair (scheme plan) d.party ≡ true → (g : Gate) → g ≡ gate_at plan d.session d.place.slot → GateWithin plan d.session g
+rows_of plan l d goes product first has g is =
+    let there = goes_stand plan l d goes in
+    subst (GateWithin plan d.session) (sym is) (slot_within_rows plan there.sound d.session there.session d.place.slot (own_slot plan l d goes product first has))
+
+pub multiply-requires-clause-gate : goal.multiply-requires-clause-gate
+multiply-requires-clause-gate c = rows_of c.args.plan.now c.requires.goes.0 c.args.self.now c.requires.goes.1 c.requires.product c.requires.first c.requires.has c.args.gate c.requires.gate
+
+pub deal_product-requires-clause-wire : goal.deal_product-requires-clause-wire
+deal_product-requires-clause-wire c = (rows_of c.args.plan.now c.requires.goes.0 c.args.self.now c.requires.goes.1 c.requires.product c.requires.first c.requires.has c.args.gate c.requires.gate).output
 
 pub deal_product-requires-clause-words : goal.deal_product-requires-clause-words
 deal_product-requires-clause-words c =

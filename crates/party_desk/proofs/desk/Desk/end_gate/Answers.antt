@@ -1,16 +1,22 @@
-use Rattle.std.proofs.Common.{◌^◌, length, sym, subst}
+use Rattle.std.proofs.Common.{[], ◌∷◌, ◌^◌, length, sym, subst}
+use Rattle.job_plan.specs.Plans.{slot}
+use Rattle.party_program.specs.declared.program.Instruction.TheVariants.{Linear}
 use Rattle.party_program.specs.States.{computed}
-use Rattle.party_desk.specs.Memories.{state_of, row_of, Alike}
-use Rattle.party_desk.specs.Rows.{gate_on_rows}
+use Rattle.circuit_model.specs.declared.gate.Gate.{Gate}
+use Rattle.party_desk.specs.Memories.{state_of, row_of, on_rows, Alike}
 use Rattle.party_desk.proofs.GateWalks.{goes_stand, goes_proper}
-use Rattle.party_desk.proofs.GatePlaces.{linear_after}
+use Rattle.party_desk.proofs.GatePlaces.{gate_multiplies, linear_after}
 use Rattle.party_desk.proofs.desk.Desk.end_gate.Goals as goal
 
 pub gate-gate-requires-clause-stands : goal.gate-gate-requires-clause-stands
 gate-gate-requires-clause-stands c = goes_stand c.args.plan.now c.requires.goes.0 c.args.self.now c.requires.goes.1
 
 pub gate-gate-requires-clause-gate : goal.gate-gate-requires-clause-gate
-gate-gate-requires-clause-gate c = goes_proper c.args.plan.now c.requires.goes.0 c.args.self.now c.requires.goes.1 _ (sym (c.requires.linear c.requires.goes.0 c.requires.goes.1))
+gate-gate-requires-clause-gate c =
+    let plan = c.args.plan.now in
+    let d = c.args.self.now in
+    let named = goes_proper plan c.requires.goes.0 d c.requires.goes.1 (Linear c.args.slot) (sym (c.requires.linear c.requires.goes.0 c.requires.goes.1)) in
+    record { kind = gate_multiplies (slot plan d.session c.args.slot) named.kind; slot = named.slot }
 
 pub returns-clause-before : goal.returns-clause-before
 returns-clause-before c given goes =
@@ -18,4 +24,4 @@ returns-clause-before c given goes =
     let d = c.args.self.now in
     let m = length plan.groups in
     linear_after plan given d goes c.args.slot (c.requires.linear given goes) c.linear.new.self c.linear.ensures.fits c.linear.ensures.kept
-    (subst (λ g. Alike m (state_of m c.linear.new.self) (computed (2 ^ plan.bits) (gate_on_rows (row_of d.memory) g) (state_of m d.memory))) c.gate-gate.ensures.is c.linear.ensures.state)
+    (subst (λ (g : Gate). Alike m (state_of m c.linear.new.self) (on_rows (row_of d.memory) (g.output ∷ []) (computed (2 ^ plan.bits) g) (state_of m d.memory))) c.gate-gate.ensures.is c.linear.ensures.state)

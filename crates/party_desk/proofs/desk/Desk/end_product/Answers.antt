@@ -1,7 +1,7 @@
-use Rattle.std.proofs.Common.{sym, subst, length}
+use Rattle.std.proofs.Common.{[], ◌∷◌, sym, subst, length}
 use Rattle.party_program.specs.States.{summed}
-use Rattle.party_desk.specs.Memories.{state_of, row_of, Alike}
-use Rattle.party_desk.specs.Rows.{gate_on_rows}
+use Rattle.circuit_model.specs.declared.gate.Gate.{Gate}
+use Rattle.party_desk.specs.Memories.{state_of, row_of, on_rows, Alike}
 use Rattle.party_desk.proofs.GateWalks.{goes_stand, goes_proper}
 use Rattle.party_desk.proofs.GatePlaces.{sum_after}
 use Rattle.party_desk.proofs.desk.Desk.end_product.Goals as goal
@@ -18,4 +18,4 @@ returns-clause-before c given goes =
     let d = c.args.self.now in
     let m = length plan.groups in
     sum_after plan given d goes c.args.slot (c.requires.sum given goes) c.requires.product c.requires.last c.sum.new.self c.sum.ensures.fits c.sum.ensures.kept
-    (subst (λ g. Alike m (state_of m c.sum.new.self) (summed plan d.party (gate_on_rows (row_of d.memory) g) (state_of m d.memory))) c.gate-gate.ensures.is c.sum.ensures.state)
+    (subst (λ (g : Gate). Alike m (state_of m c.sum.new.self) (on_rows (row_of d.memory) (g.output ∷ []) (summed plan d.party g) (state_of m d.memory))) c.gate-gate.ensures.is c.sum.ensures.state)

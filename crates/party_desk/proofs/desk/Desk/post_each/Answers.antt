@@ -1,6 +1,8 @@
 use Rattle.std.proofs.Common.{◌≡◌, ℕ, ◌+◌, ◌-◌, ◌<◌, length, Some, sym, ap, ◌∙◌, subst, arith}
+use Rattle.job_session.specs.Sessions.{row_names}
+use Rattle.job_plan.specs.Plans.{session}
 use Rattle.party_desk.specs.Walks.{IsSending, Sends}
-use Rattle.party_desk.proofs.GatePosts.{head_few, head_listed, head_two, is_post, none_sent, post_is, post_next, post_sent, post_share, post_start, post_word, posted_on, sent_few}
+use Rattle.party_desk.proofs.GatePosts.{head_few, head_listed, head_two, is_post, none_sent, post_is, post_next, post_sent, post_share, post_start, post_word, posted_on, sent_few, sent_within}
 use Rattle.party_desk.proofs.desk.Desk.post_each.Goals as goal
 
 -- the head has as many steps as the list
@@ -26,6 +28,12 @@ loop-at-init g c =
         none_sent given c.args.seat.now c.args.self.now.position (c.args.self.now.position + (2 - 2)) (omega arith) (λ x n i from to is. absurd (omega (arith, from, to))),
       )),
     )
+
+pub summands-summands-requires-clause-wire : goal.summands-summands-requires-clause-wire
+summands-summands-requires-clause-wire g c =
+    let plan = c.args.plan.now in
+    let d = c.args.self.now in
+    subst (λ w. w < row_names (session plan d.session)) (sym c.requires.wire) (sent_within plan c.requires.sends.0 2 d c.requires.sends.1).output
 
 -- past the deal comes a post
 pub unreachable-requires : goal.unreachable-requires

@@ -5,7 +5,7 @@ use Rattle.job_plan.specs.declared.pattern.Pattern.TheVariants.{Silent, Multipli
 use Rattle.job_plan.specs.Plans.{Plan, scheme}
 use Rattle.party_program.specs.declared.half.Half.TheVariants.{Head, Tail}
 use Rattle.party_program.specs.States.{Given}
-use Rattle.party_program.specs.Proper.{IsGate, IsSlot}
+use Rattle.party_program.specs.Proper.{IsSlot, Multiplies}
 use Rattle.party_program.specs.ProgramPlaces.{InProduct}
 use Rattle.program_laws.specs.WordsRead.{gate_at}
 use Rattle.party_desk.specs.declared.desk.Desk.{Desk}
@@ -41,7 +41,7 @@ gate-gate-requires-clause-gate g c =
     let plan = c.args.plan.now in
     let d = c.args.self.now in
     let at_first = is_at_first d c.is_first.result c.requires.head c.requires.product c.is_first.ensures c.if-not-is_first.false in
-    subst (λ k. IsSlot plan d.session k IsGate) (sym c.slot.ensures)
+    subst (λ k. IsSlot plan d.session k Multiplies) (sym c.slot.ensures)
     (own_slot plan c.requires.may.0 d c.requires.may.1.goes at_first.0 at_first.1 (sym c.multiplies.ensures ∙ c.if-not-multiplies.false))
 
 pub deal_own-requires-clause-product : goal.deal_own-requires-clause-product
@@ -75,7 +75,7 @@ returns-clause-does g c z given may =
     let first = ap (λ (z : Desk). z.position) c.deal_own.ensures.rest in
     let second = sent.1.forth in
     record {
-      gate = subst (λ k. IsSlot given.plan given.session k IsGate) slot (sent_gate plan given dealt.place.count posted sent.0);
+      gate = subst (λ k. IsSlot given.plan given.session k Multiplies) slot (sent_gate plan given dealt.place.count posted sent.0);
       before = subst (λ k. IsBefore plan given Head (k + 1) posted) slot (sent_all plan given dealt.place.count posted sent.0 count);
       on = omega (arith, first, second);
       sends = sent_on given s s t d.position dealt.position posted.position (none_sent given s d.position dealt.position (omega (arith, first)) (c.deal_own.ensures.no_post given may.goes)) sent.1;

@@ -1,9 +1,10 @@
-use Rattle.std.proofs.Common.{◌≡◌, sym, ap, ◌∙◌}
+use Rattle.std.proofs.Common.{◌≡◌, sym, ap, ◌∙◌, arith}
 use Rattle.party_program.specs.declared.program.Instruction.TheVariants.{Sum}
 use Rattle.party_desk.specs.Desks.{instruction_at}
-use Rattle.party_desk.proofs.GateWalks.{goes_proper}
+use Rattle.party_desk.proofs.GateWalks.{goes_proper, goes_stand}
 use Rattle.party_desk.proofs.GatePlaces.{among_next, first_computes}
-use Rattle.party_desk.proofs.GatePosts.{product_sum}
+use Rattle.party_desk.proofs.GatePosts.{product_sum, product_within}
+use Rattle.party_desk.proofs.NamedRows.{slot_few}
 use Rattle.party_desk.proofs.desk.Desk.sum_next.Goals as goal
 
 pub end_product-requires-clause-sum : goal.end_product-requires-clause-sum
@@ -25,3 +26,12 @@ returns-clause-computes c given goes =
     let is : instruction_at given d ≡ Sum c.slot-slot.result = product_sum c.args.plan.now given d goes c.requires.product c.requires.last ∙ ap Sum (sym c.slot-slot.ensures) in
     first_computes given d c.end_product.new.self c.enter_tail.new.self (Sum c.slot-slot.result) is (λ m j z. cc)
     (ap (λ z. z.position) c.end_product.ensures.rest) (c.enter_tail.ensures given (c.end_product.ensures.before given goes))
+
+pub overflow_add-slot : goal.overflow_add-slot
+overflow_add-slot c =
+    let plan = c.args.plan.now in
+    let d = c.args.self.now in
+    let there = goes_stand plan c.requires.goes.0 d c.requires.goes.1 in
+    let within = product_within plan c.requires.goes.0 d c.requires.goes.1 c.requires.product in
+    let few = slot_few plan there.sound d.session there.session d.place.slot within in
+    omega (arith, few, c.slot-slot.ensures)

@@ -1,53 +1,44 @@
-use Rattle.std.proofs.Common.{◌≡◌, ◌+◌, true, false, sym, ◌∙◌, subst}
+use Rattle.std.proofs.Common.{◌+◌, sym, subst, arith}
 use Rattle.party_program.specs.declared.half.Half.TheVariants.{Head}
-use Rattle.party_desk.specs.Walks.{DoesHead, IsBefore, NothingToCompute}
-use Rattle.party_desk.proofs.ComputedGates.{none_of_gates}
-use Rattle.party_desk.proofs.GatePosts.{head_stays, head_went, silent_head}
+use Rattle.party_program.specs.Proper.{IsSlot, Multiplies}
+use Rattle.party_desk.specs.Walks.{IsAmongGates, IsBefore, NothingToCompute}
+use Rattle.party_desk.proofs.GatePlaces.{among_next}
+use Rattle.party_desk.proofs.GatePosts.{head_stays, head_went}
+use Rattle.party_desk.proofs.NamedRows.{slot_few}
 use Rattle.party_desk.proofs.desk.Desk.walk_head.Goals as goal
-use Rattle.party_desk.proofs.desk.Desk.walk_head.Goals.{in-Multiplied, in-Silent, in_default}
+
+pub overflow_add-slot : goal.overflow_add-slot
+overflow_add-slot g c =
+    let given = c.requires.may.0 in
+    let may = c.requires.may.1 in
+    let does = c.do_head-done.ensures.does c.if-done.true given may in
+    let few = slot_few given.plan may.goes.desk.suits.sound given.session may.goes.desk.suits.session c.args.self.now.place.slot does.gate.slot in
+    omega (arith, few, c.slot-slot.ensures)
+
+pub compute_gates-requires-clause-among : goal.compute_gates-requires-clause-among
+compute_gates-requires-clause-among g c =
+    let plan = c.args.plan.now in
+    let given = c.requires.may.0 in
+    let may = c.requires.may.1 in
+    let k = c.args.self.now.place.slot in
+    let e = c.do_head-done.new.self in
+    let does = c.do_head-done.ensures.does c.if-done.true given may in
+    let named : IsSlot plan e.session k Multiplies =
+    subst (λ z. IsSlot z e.session k Multiplies) may.goes.same (subst (λ z. IsSlot given.plan z k Multiplies) (sym does.before.unplaced.session) does.gate) in
+    subst (λ z. IsAmongGates c.part-part.result.now (z + 1)) (sym c.slot-slot.ensures) (among_next plan e.session k c.part-part.result.now c.part-part.ensures named)
 
 pub returns-then-done-clause-went : goal.returns-then-done-clause-went
 returns-then-done-clause-went g c given may =
     let plan = c.args.plan.now in
     let d = c.args.self.now in
-    let s = c.args.seat.now in
-    let t = c.match-pattern.seat in
-    let e = c.match-pattern.self in
-    let does : DoesHead plan given s d t e = elim c.match-pattern.branch [
-      | in-Multiplied w ↦
-          subst (λ z. DoesHead plan given s d z e) (sym w.seat-is)
-          (subst (λ z. DoesHead plan given s d w.send_product-done.new.seat z) (sym w.self-is)
-          (w.send_product-done.ensures.does (sym w.done-is ∙ c.if-done.true) given may))
-      | in-Silent w ↦
-          subst (λ z. DoesHead plan given s d z e) (sym w.seat-is)
-          (subst (λ z. DoesHead plan given s d s z) (sym w.self-is)
-          (silent_head plan given s s d w.linear_gate-done.new.self (w.linear_gate-done.ensures.does (sym w.done-is ∙ c.if-done.true) given may.goes)))
-      | in_default w ↦ absurd (let clash : false ≡ true = sym w.done-is ∙ c.if-done.true in cc)
-    ] in
-    head_went plan given s t d e c.compute_gates.new.self c.match-pattern.done c.if-done.true does
+    let e = c.do_head-done.new.self in
+    let does = c.do_head-done.ensures.does c.if-done.true given may in
+    head_went plan given c.args.seat.now c.do_head-done.new.seat d e c.compute_gates.new.self c.do_head-done.result c.if-done.true does
     (c.compute_gates.ensures given (subst (λ k. IsBefore plan given Head (k + 1) e) (sym c.slot-slot.ensures) does.before))
 
 pub returns-else-done-clause-went : goal.returns-else-done-clause-went
 returns-else-done-clause-went g c given may =
-    let plan = c.args.plan.now in
-    let d = c.args.self.now in
-    let s = c.args.seat.now in
-    let t = c.match-pattern.seat in
-    let e = c.match-pattern.self in
-    let desk = may.goes.desk in
-    let goes = c.match-pattern.done in
-    elim c.match-pattern.branch [
-      | in-Multiplied w ↦
-          let no = sym w.done-is ∙ c.if-done.false in
-          let same = w.send_product-done.ensures.still no in
-          head_stays plan given s t d e goes c.if-done.false (w.self-is ∙ same.0, w.seat-is ∙ same.1) desk c.requires.head
-          (subst (NothingToCompute given) same.0 (w.send_product-done.ensures.through no given may))
-      | in-Silent w ↦
-          let no = sym w.done-is ∙ c.if-done.false in
-          let same = w.linear_gate-done.ensures.still no in
-          head_stays plan given s t d e goes c.if-done.false (w.self-is ∙ same, w.seat-is) desk c.requires.head
-          (subst (NothingToCompute given) same (w.linear_gate-done.ensures.through no given may.goes))
-      | in_default w ↦
-          head_stays plan given s t d e goes c.if-done.false (w.self-is, w.seat-is) desk c.requires.head
-          (none_of_gates given d desk (λ silent. w.in_default.not-Silent (c.pattern.ensures ∙ silent)) (λ product. w.in_default.not-Multiplied (c.pattern.ensures ∙ product)))
-    ]
+    let no = c.if-done.false in
+    let same = c.do_head-done.ensures.still no in
+    head_stays c.args.plan.now given c.args.seat.now c.do_head-done.new.seat c.args.self.now c.do_head-done.new.self c.do_head-done.result no same may.goes.desk c.requires.head
+    (subst (NothingToCompute given) same.0 (c.do_head-done.ensures.through no given may))

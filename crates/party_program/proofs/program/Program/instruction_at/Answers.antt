@@ -10,7 +10,7 @@ use Rattle.party_program.specs.declared.half.Half.TheVariants.{Head, Tail}
 use Rattle.party_program.specs.declared.place.Place.{Place}
 use Rattle.party_program.specs.declared.program.Program.{Program}
 use Rattle.party_program.specs.declared.step.Step.{Step}
-use Rattle.party_program.specs.declared.step.Step.TheVariants.{Deal, Linear}
+use Rattle.party_program.specs.declared.step.Step.TheVariants.{Draw, Linear}
 use Rattle.party_program.specs.Programs.{program, at}
 use Rattle.party_program.specs.PartySteps.{steps, placed, IsPlaced}
 use Rattle.party_program.specs.ProgramPlaces.{IsPlace, IsProgram}
@@ -27,7 +27,7 @@ module _ (plan : Plan) (own : Program) (place : Place) (is : IsProgram plan own.
   same = here.pattern there
 
 -- the steps of a linear gate: one, in its head
-silent_step : (plan : Plan) (p : ℕ) (half : Half) (i : ℕ) → i < length (steps plan p half Silent) → slice_index_or (steps plan p half Silent) i Deal ≡ Linear
+silent_step : (plan : Plan) (p : ℕ) (half : Half) (i : ℕ) → i < length (steps plan p half Silent) → slice_index_or (steps plan p half Silent) i Draw ≡ Linear
 silent_step plan p Head zero l = refl
 silent_step plan p Head (suc i) l = absurd (omega (arith, l))
 silent_step plan p Tail i l = absurd (omega (arith, l))
@@ -73,14 +73,14 @@ module _ (plan : Plan) (own : Program) (place : Place) (is : IsProgram plan own.
   pub step_within : place.done < length found
   step_within = found_within plan own is place.half place.slot l place.pattern (same plan own place is q here left) found of place.done (subst (λ n. place.done < n) here.count left)
 
-  pub step_fits : IsPlaced (2 ^ 32 - place.first) (slice_index_or found place.done Deal)
+  pub step_fits : IsPlaced (2 ^ 32 - place.first) (slice_index_or found place.done Draw)
   step_fits =
-      subst (λ n. IsPlaced (2 ^ 32 - n) (slice_index_or found place.done Deal)) (sym here.first)
+      subst (λ n. IsPlaced (2 ^ 32 - n) (slice_index_or found place.done Draw)) (sym here.first)
       (fits plan own is place.half place.slot l place.pattern (same plan own place is q here left) found of place.done (subst (λ n. place.done < n) here.count left))
 
-  pub step_is : placed place.slot place.first (deals_before plan own.party own.session place.slot) (slice_index_or found place.done Deal) ≡ at (program plan own.party own.session) q
+  pub step_is : placed place.slot place.first (deals_before plan own.party own.session place.slot) (slice_index_or found place.done Draw) ≡ at (program plan own.party own.session) q
   step_is =
-      ap (λ n. placed place.slot n (deals_before plan own.party own.session place.slot) (slice_index_or found place.done Deal)) here.first
+      ap (λ n. placed place.slot n (deals_before plan own.party own.session place.slot) (slice_index_or found place.done Draw)) here.first
       ∙ instruction plan own is place.half place.slot l place.pattern (same plan own place is q here left) found of place.done (subst (λ n. place.done < n) here.count left)
       ∙ sym (instruction_is plan own.party own.session place q here left)
 

@@ -6,7 +6,7 @@ use Rattle.job_plan.specs.Patterns.{pattern_at}
 use Rattle.job_plan.specs.Plans.{Plan, slots}
 use Rattle.party_program.specs.declared.place.Place.{Place}
 use Rattle.party_program.specs.declared.program.Program.{Program}
-use Rattle.party_program.specs.declared.step.Step.TheVariants.{Deal}
+use Rattle.party_program.specs.declared.step.Step.TheVariants.{Draw}
 use Rattle.party_program.specs.PartySteps.{placed, IsPlaced}
 use Rattle.party_program.specs.ProgramPlaces.{count_in, IsPlace}
 use Rattle.party_program.proofs.GateSlots.{counts_within}
@@ -47,7 +47,7 @@ placed-requires-clause-fits c =
     let place = c.args.place.now in
     let q = c.requires.place.0 in
     let here = c.requires.place.1 in
-    subst (λ n. IsPlaced (2 ^ 32 - n) (slice_index_or c.args.of_product.now c.args.at Deal)) (sym here.first)
+    subst (λ n. IsPlaced (2 ^ 32 - n) (slice_index_or c.args.of_product.now c.args.at Draw)) (sym here.first)
     (fits plan own c.requires.is place.half place.slot (there plan own place q c.args.at here c.requires.left c.requires.product) Multiplied (same plan own place q c.args.at here c.requires.left c.requires.product)
     c.args.of_product.now c.requires.steps c.args.at (some plan own place q c.args.at here c.requires.left c.requires.product))
 
@@ -59,6 +59,6 @@ returns c =
     let q = c.requires.place.0 in
     let here = c.requires.place.1 in
     c.placed.ensures
-    ∙ ap (λ n. placed place.slot n (deals_before plan own.party own.session place.slot) (slice_index_or c.args.of_product.now c.args.at Deal)) here.first
+    ∙ ap (λ n. placed place.slot n (deals_before plan own.party own.session place.slot) (slice_index_or c.args.of_product.now c.args.at Draw)) here.first
     ∙ instruction plan own c.requires.is place.half place.slot (there plan own place q c.args.at here c.requires.left c.requires.product) Multiplied
     (same plan own place q c.args.at here c.requires.left c.requires.product) c.args.of_product.now c.requires.steps c.args.at (some plan own place q c.args.at here c.requires.left c.requires.product)

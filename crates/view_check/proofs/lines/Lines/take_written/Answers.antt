@@ -1,4 +1,4 @@
-use Rattle.std.proofs.Common.{◌≡◌, sym, ap, ◌∙◌, ◌∷◌, refl, arith}
+use Rattle.std.proofs.Common.{sym, ap, ◌∙◌, refl, arith}
 use Rattle.view_check.specs.Lines.{lines_of}
 use Rattle.view_check.specs.Laws.{IsTold}
 use Rattle.view_check.proofs.LineBytes.{line_before}

@@ -1,4 +1,4 @@
-use Rattle.std.proofs.Common.{◌≡◌, ◌+◌, [], ◌∷◌, refl, subst}
+use Rattle.std.proofs.Common.{◌+◌, [], ◌∷◌, refl, subst}
 use Rattle.view_check.specs.Views.{Place, Passes}
 use Rattle.view_check.proofs.WrittenTexts.{first_passes}
 use Rattle.view_check.proofs.view_lines.ViewLines.check_message.Goals as goal

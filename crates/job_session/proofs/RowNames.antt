@@ -1,0 +1,33 @@
+-- How many names of rows and how many slots there are.
+use Rattle.std.proofs.Common.{◌≡◌, ℕ, ◌+◌, ◌*◌, ◌<◌, ◌≤◌, true, false, length, arith}
+use Rattle.std.proofs.lemmas.Bool.{cond-true, cond_both, cond-false, and_parts}
+use Rattle.circuit_model.specs.Circuits.{is_product}
+use Rattle.job_session.specs.declared.side.Side.{Side}
+use Rattle.job_session.specs.declared.side.Side.TheVariants.{First, Second}
+use Rattle.job_session.specs.Sessions.{Session, gate, is_prepared, mask_wire, product_wire, row_names, session_slots}
+use Rattle.job_session.specs.SoundSessions.{IsWired}
+use Rattle.job_session.proofs.SessionSlots.{few_before, slot_count}
+
+-- the wires of the circuit come before those of its prepared products
+pub wires_named : (s : Session) → s.wires ≤ row_names s
+wires_named s = cond_both s.prepared (s.wires + 3 * length s.gates) s.wires (λ n. s.wires ≤ n) (λ e. omega arith) (λ e. omega arith)
+
+pub few_names : (s : Session) → row_names s ≤ s.wires + 3 * length s.gates
+few_names s = cond_both s.prepared (s.wires + 3 * length s.gates) s.wires (λ n. n ≤ s.wires + 3 * length s.gates) (λ e. omega arith) (λ e. omega arith)
+
+pub names_of : (s : Session) (t : ℕ) → is_prepared s t ≡ true → row_names s ≡ s.wires + 3 * length s.gates
+names_of s t e = cond-true s.prepared (s.wires + 3 * length s.gates) s.wires (and_parts s.prepared (is_product (gate s t).operation) e).0
+
+pub mask_within : (s : Session) (t : ℕ) (side : Side) → t < length s.gates → is_prepared s t ≡ true → mask_wire s t side < row_names s
+mask_within s t First l e = (let all = names_of s t e in omega (arith, all, l))
+mask_within s t Second l e = (let all = names_of s t e in omega (arith, all, l))
+
+pub product_named : (s : Session) (t : ℕ) → t < length s.gates → is_prepared s t ≡ true → product_wire s t < row_names s
+product_named s t l e = (let all = names_of s t e in omega (arith, all, l))
+
+-- without prepared products those of the circuit alone
+pub direct_names : (s : Session) → s.prepared ≡ false → row_names s ≡ s.wires
+direct_names s e = cond-false s.prepared (s.wires + 3 * length s.gates) s.wires e
+
+pub few_slots : (s : Session) → IsWired s → session_slots s < 4294967295
+few_slots s wired = omega (arith, slot_count s, few_before s (length s.gates), wired.wires, wired.gates, wired.input_wires, wired.output_wires)

@@ -1,0 +1,10 @@
+use Rattle.std.proofs.Common.{length, ap, arith}
+use Rattle.job_session.specs.Wirings.{session_in}
+use Rattle.job_session.proofs.SessionSlots.{slot_count}
+use Rattle.job_session.proofs.wiring.Wiring.first_output.Goals as goal
+
+pub overflow_sub-result : goal.overflow_sub-result
+overflow_sub-result c = omega (arith, slot_count (session_in c.args.self.now), c.slots.ensures, c.len.ensures, ap length c.requires.read)
+
+pub returns : goal.returns
+returns c = omega (arith, slot_count (session_in c.args.self.now), c.slots.ensures, c.len.ensures, ap length c.requires.read)

@@ -1,0 +1,87 @@
+//! What each slot of a session with prepared products is of.
+ghost use Rattle.std.specs.Prelude.{◌≡◌, ℕ, ◌<◌, ◌++◌, [], ◌∷◌, IfOk, OnOk, map, length, true};
+ghost use Rattle.list_laws.specs.Lists.{listed};
+ghost use Rattle.job_session.specs.Sessions.{Slot, gate_slots, owners, prepared_slots, readers, slot_list};
+ghost use Rattle.job_session.specs.Sessions.Slot.{Input, Output};
+ghost use Rattle.job_session.specs.SoundSessions.{slot_of_kind};
+ghost use Rattle.job_session.specs.Wirings.{IsWiring, session_in, prepared_in};
+
+use crate::side::Side;
+use crate::slot_kind::SlotKind;
+use crate::wiring::Wiring;
+use std::alloc::{AllocError, Global};
+
+/// What each slot is of, once products are prepared.
+pub(crate) fn list_kinds(alloc: Global, wiring: &Wiring) -> Result<Vec<SlotKind>, AllocError>
+    requires { IsWiring wiring.now }
+    ensures { IfOk result (λ kinds. map slot_of_kind kinds.items ≡ slot_list (prepared_in wiring.now)) }
+{
+    let mut kinds = Vec::new(alloc);
+    push_masks(wiring, &mut kinds)?;
+    push_inputs(wiring, &mut kinds)?;
+    push_gates(wiring, &mut kinds)?;
+    push_outputs(wiring, &mut kinds)?;
+    Ok(kinds)
+}
+
+// The masks of the products, and their products.
+fn push_masks(wiring: &Wiring, kinds: &mut Vec<SlotKind>) -> Result<(), AllocError>
+    requires { IsWiring wiring.now }
+    ensures { OnOk result (map slot_of_kind kinds.new.items
+        ≡ map slot_of_kind kinds.old.items ++ prepared_slots (prepared_in wiring.now)) }
+{
+    for t in 0..wiring.gates.len() as u32 {
+        if wiring.gates[t as usize].operation.is_product() {
+            kinds.extend_from_slice(&[
+                SlotKind::Mask(t, Side::First),
+                SlotKind::Mask(t, Side::Second),
+                SlotKind::MaskProduct(t),
+            ])?;
+        }
+    }
+    Ok(())
+}
+
+// The input wires.
+fn push_inputs(wiring: &Wiring, kinds: &mut Vec<SlotKind>) -> Result<(), AllocError>
+    requires { IsWiring wiring.now }
+    ensures { OnOk result (map slot_of_kind kinds.new.items ≡ map slot_of_kind kinds.old.items
+        ++ listed (length (owners (session_in wiring.now))) (λ v. Input v)) }
+{
+    for v in 0..wiring.owners.len() as u32 {
+        kinds.push(SlotKind::Input(v))?;
+    }
+    Ok(())
+}
+
+// The gates, before each product what is opened of its wires.
+fn push_gates(wiring: &Wiring, kinds: &mut Vec<SlotKind>) -> Result<(), AllocError>
+    requires { IsWiring wiring.now }
+    ensures { OnOk result (map slot_of_kind kinds.new.items
+        ≡ map slot_of_kind kinds.old.items ++ gate_slots (prepared_in wiring.now)) }
+{
+    for t in 0..wiring.gates.len() as u32 {
+        if wiring.gates[t as usize].operation.is_product() {
+            kinds.extend_from_slice(&[
+                SlotKind::Masked(t, Side::First),
+                SlotKind::Masked(t, Side::Second),
+                SlotKind::Gate(t),
+            ])?;
+        } else {
+            kinds.push(SlotKind::Gate(t))?;
+        }
+    }
+    Ok(())
+}
+
+// The output wires.
+fn push_outputs(wiring: &Wiring, kinds: &mut Vec<SlotKind>) -> Result<(), AllocError>
+    requires { IsWiring wiring.now }
+    ensures { OnOk result (map slot_of_kind kinds.new.items ≡ map slot_of_kind kinds.old.items
+        ++ listed (length (readers (session_in wiring.now))) (λ o. Output o)) }
+{
+    for o in 0..wiring.readers.len() as u32 {
+        kinds.push(SlotKind::Output(o))?;
+    }
+    Ok(())
+}

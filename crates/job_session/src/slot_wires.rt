@@ -1,0 +1,183 @@
+//! The wires of a slot of each kind.
+
+use crate::side::Side;
+use crate::slot_kind::SlotKind;
+use crate::touched::{Reads, Touched, completed, read_wires, touched_of};
+use crate::wiring::Wiring;
+
+impl Wiring {
+    ghost use Rattle.std.specs.Prelude.{◌≡◌, ℕ, ◌<◌, nat_eq, length, ◌||◌};
+    ghost use Rattle.std.specs.List.{list_any};
+    ghost use Rattle.job_session.specs.Sessions.{gate, is_prepared, mask_wire, operand, product_wire, row_names, session_slot, session_slots};
+    ghost use Rattle.job_session.specs.Sessions.Slot.{At_gate};
+    ghost use Rattle.job_session.specs.SoundSessions.{slot_of_kind, Inside};
+    ghost use Rattle.job_session.specs.KeptWires.{sets_in};
+    ghost use Rattle.job_session.specs.Batches.{completes, is_join, reads_early, sets_early};
+    ghost use Rattle.job_session.specs.Wirings.{AreReads, IsTouched, IsWiring, is_named, session_in};
+
+    /// Whether gate `t` is a product that is prepared.
+    pub(crate) fn is_prepared(&self, t: u32) -> bool
+        requires { t < length self.now.gates.items }
+        ensures { result ≡ is_prepared (session_in self.now) t }
+    {
+        self.prepared && self.gates[t as usize].operation.is_product()
+    }
+
+    /// How many names of rows there are.
+    pub(crate) fn row_names(&self) -> u32
+        requires { IsWiring self.now }
+        ensures { result ≡ row_names (session_in self.now) }
+    {
+        if self.prepared {
+            self.wires + 3 * self.gates.len() as u32
+        } else {
+            self.wires
+        }
+    }
+
+    /// The row's name of the mask of the wire that gate `t` reads on this side.
+    pub(crate) fn mask_wire(&self, t: u32, side: Side) -> u32
+        requires wiring { IsWiring self.now }
+        requires within { t < length self.now.gates.items }
+        ensures { result ≡ mask_wire (session_in self.now) t side }
+    {
+        let masks = self.wires + 3 * t;
+        match side {
+            Side::First => masks,
+            Side::Second => masks + 1,
+        }
+    }
+
+    /// The row's name of the product of both masks of gate `t`.
+    pub(crate) fn product_wire(&self, t: u32) -> u32
+        requires wiring { IsWiring self.now }
+        requires within { t < length self.now.gates.items }
+        ensures { result ≡ product_wire (session_in self.now) t }
+    {
+        self.wires + 3 * t + 2
+    }
+
+    // The wire that gate `t` reads on this side.
+    fn operand(&self, t: u32, side: Side) -> u32
+        requires { t < length self.now.gates.items }
+        ensures { result ≡ operand (gate (session_in self.now) t) side }
+    {
+        let gate = self.gates[t as usize];
+        match side {
+            Side::First => gate.first,
+            Side::Second => gate.second,
+        }
+    }
+
+    /// The wires that a slot reads before it takes anything.
+    pub(crate) fn early_reads(&self, kind: SlotKind) -> (Option<u32>, Option<u32>)
+        requires wiring { IsWiring self.now }
+        requires inside { Inside (session_in self.now) (slot_of_kind kind) }
+        ensures { (w : ℕ) → list_any (nat_eq w) (reads_early (session_in self.now) (slot_of_kind kind))
+            ≡ (is_named result.0 w || is_named result.1 w) }
+    {
+        match kind {
+            SlotKind::Input(_) | SlotKind::Mask(..) => (None, None),
+            SlotKind::Gate(t) => self.early_gate_reads(t),
+            SlotKind::Output(o) => (Some(self.output_wire(o)), None),
+            SlotKind::MaskProduct(t) => {
+                let first = self.mask_wire(t, Side::First);
+                (Some(first), Some(self.mask_wire(t, Side::Second)))
+            }
+            SlotKind::Masked(t, side) => {
+                let wire = self.operand(t, side);
+                (Some(wire), Some(self.mask_wire(t, side)))
+            }
+        }
+    }
+
+    // The same in the slot of gate `t`.
+    fn early_gate_reads(&self, t: u32) -> (Option<u32>, Option<u32>)
+        requires wiring { IsWiring self.now }
+        requires within { t < length self.now.gates.items }
+        ensures { (w : ℕ) → list_any (nat_eq w) (reads_early (session_in self.now) (At_gate t))
+            ≡ (is_named result.0 w || is_named result.1 w) }
+    {
+        if self.is_prepared(t) {
+            (None, None)
+        } else {
+            read_wires(self.gates[t as usize])
+        }
+    }
+
+    /// The wires that a slot reads.
+    pub(crate) fn reads(&self, kind: SlotKind) -> Reads
+        requires wiring { IsWiring self.now }
+        requires inside { Inside (session_in self.now) (slot_of_kind kind) }
+        ensures { AreReads (session_in self.now) (slot_of_kind kind) result.0 result.1 result.2 }
+    {
+        if let SlotKind::Gate(t) = kind {
+            if self.is_prepared(t) {
+                let first = self.mask_wire(t, Side::First);
+                let second = self.mask_wire(t, Side::Second);
+                return (Some(first), Some(second), Some(self.product_wire(t)));
+            }
+        }
+        let (first, second) = self.early_reads(kind);
+        (first, second, None)
+    }
+
+    /// The wire that a slot sets.
+    pub(crate) fn sets(&self, kind: SlotKind) -> Option<u32>
+        requires wiring { IsWiring self.now }
+        requires inside { Inside (session_in self.now) (slot_of_kind kind) }
+        ensures { (w : ℕ) → list_any (nat_eq w) (sets_in (session_in self.now) (slot_of_kind kind))
+            ≡ is_named result w }
+    {
+        match kind {
+            SlotKind::Input(v) => Some(v),
+            SlotKind::Gate(t) => Some(self.gates[t as usize].output),
+            SlotKind::Mask(t, side) => Some(self.mask_wire(t, side)),
+            SlotKind::MaskProduct(t) => Some(self.product_wire(t)),
+            SlotKind::Output(_) | SlotKind::Masked(..) => None,
+        }
+    }
+
+    /// The wire that a slot completes once what others post of it was taken.
+    pub(crate) fn completes(&self, kind: SlotKind) -> Option<u32>
+        requires wiring { IsWiring self.now }
+        requires inside { Inside (session_in self.now) (slot_of_kind kind) }
+        ensures { (w : ℕ) → list_any (nat_eq w) (completes (session_in self.now) (slot_of_kind kind))
+            ≡ is_named result w }
+    {
+        match kind {
+            SlotKind::Gate(t) => completed(self.gates[t as usize]),
+            other => self.sets(other),
+        }
+    }
+
+    /// Whether a slot joins words only when what others post was taken.
+    pub(crate) fn is_join(&self, kind: SlotKind) -> bool
+        requires { Inside (session_in self.now) (slot_of_kind kind) }
+        ensures { result ≡ is_join (session_in self.now) (slot_of_kind kind) }
+    {
+        match kind {
+            SlotKind::Gate(t) => self.is_prepared(t),
+            _ => false,
+        }
+    }
+
+    /// Whether a slot may set a wire before it takes anything.
+    pub(crate) fn sets_early(&self, kind: SlotKind) -> bool
+        requires wiring { IsWiring self.now }
+        requires inside { Inside (session_in self.now) (slot_of_kind kind) }
+        ensures { result ≡ sets_early (session_in self.now) (slot_of_kind kind) }
+    {
+        !self.is_join(kind) && self.sets(kind).is_some()
+    }
+
+    /// The wires of slot `k`.
+    pub(crate) fn touched(&self, k: u32) -> Touched
+        requires wiring { IsWiring self.now }
+        requires within { k < session_slots (session_in self.now) }
+        ensures { IsTouched (session_in self.now) k result }
+    {
+        let kind = self.slot_kind(k);
+        touched_of(self.sets(kind), self.reads(kind))
+    }
+}

@@ -1,0 +1,28 @@
+use Rattle.std.proofs.Common.{◌≡◌, ℕ, ◌+◌, ◌*◌, ◌%◌, ◌<◌, ◌^◌, nat_eq, if◌then◌else◌, ◌∙◌, arith}
+use Rattle.std.proofs.lemmas.List.Elements.{All-set}
+use Rattle.secret_sharing.specs.Prepared.{joined_summand}
+use Rattle.party_desk.specs.Rows.{row}
+use Rattle.party_desk.proofs.RowWrites.{fill_step, fill_unread}
+use Rattle.party_desk.proofs.rows.join_row.Goals as goal
+
+-- a summand hangs on those of the masks and their product
+same_summand : (q d e i a b c x y z : ℕ) → a ≡ x → b ≡ y → c ≡ z → (c + d * b + e * a + (if nat_eq i 0 then d * e else 0)) % q ≡ (z + d * y + e * x + (if nat_eq i 0 then d * e else 0)) % q
+same_summand q d e i a b c x y z p q' r j = (r j + d * q' j + e * p j + (if nat_eq i 0 then d * e else 0)) % q
+
+pub loop-i-preserved : goal.loop-i-preserved
+loop-i-preserved c =
+    let m = c.args.shares in
+    let i = c.loop-i.i in
+    let g = c.args.masks in
+    let f = row m c.args.table.now in
+    let q : ℕ = 2 ^ c.args.ring in
+    let d : ℕ = c.args.excess.0 in
+    let e : ℕ = c.args.excess.1 in
+    let new : ℕ → ℕ = joined_summand q d e (f g.first) (f g.second) (f g.output) in
+    let h = c.loop-i.invariant.rows in record {
+      small = All-set (λ y. y < q) c.loop-i.table (c.args.v * m + i) c.joined.result c.joined.ensures.below c.loop-i.invariant.small;
+      rows = fill_step m c.loop-i.table f c.args.v new i _ h (omega arith) (omega arith)
+          (c.joined.ensures.is
+          ∙ same_summand q d e i _ _ _ (f g.first i) (f g.second i) (f g.output i)
+          (h g.first i (omega arith) ∙ fill_unread f c.args.v new i g.first) (h g.second i (omega arith) ∙ fill_unread f c.args.v new i g.second) (h g.output i (omega arith) ∙ fill_unread f c.args.v new i g.output));
+    }

@@ -1,0 +1,265 @@
+-- The row that a slot sets, as it is made of the rows before it.
+use Rattle.std.proofs.Common.{◌≡◌, ℕ, ◌%◌, ◌^◌, ◌<◌, true, false, not, ◌||◌, nat_eq, if◌then◌else◌, List, [], ◌∷◌, length, replicate, refl, sym, ap, ap₂, ◌∙◌, subst, arith}
+use Rattle.std.specs.Prelude.{slice_index, slice_index_or}
+use Rattle.std.specs.Global.{Vec}
+use Rattle.std.specs.List.{list_any}
+use Rattle.std.proofs.lemmas.Bool.{cases_Bool, cond-true, cond-false, cond_both, and_from, not_from_false, eq-eqb, lt-ltb}
+use Rattle.std.proofs.lemmas.List.{get_or-replicate, length-replicate}
+use mathlib.Core.Logic.{inl, inr}
+use Rattle.list_laws.specs.Lists.{listed, some_below}
+use Rattle.list_laws.proofs.Tests.{or_true}
+use Rattle.list_laws.proofs.Totals.{total_eq}
+use Rattle.list_laws.proofs.JoinedLists.{listed_at, listed_eq}
+use Rattle.mpc_ring.specs.Differences.{difference}
+use Rattle.circuit_model.specs.declared.gate.Gate.{Gate}
+use Rattle.circuit_model.specs.Circuits.{is_product}
+use Rattle.circuit_model.specs.Netlists.{read_by}
+use Rattle.secret_sharing.specs.Schemes.{has_pair, local, product_summand, summands}
+use Rattle.secret_sharing.specs.Prepared.{masked, sum_of, prepared_summand}
+use Rattle.job_session.specs.declared.side.Side.{Side}
+use Rattle.job_session.specs.declared.side.Side.TheVariants.{First, Second}
+use Rattle.job_session.specs.Sessions.{Session, owners, gate, is_prepared, is_direct, operand, mask_wire, product_wire, row_names}
+use Rattle.job_session.specs.Sessions.Slot.{Input, At_gate, Mask, Mask_product, Masked}
+use Rattle.job_session.specs.SoundSessions.{IsWired}
+use Rattle.job_session.specs.SlotNumbers.{session_slot_number}
+use Rattle.job_session.specs.KeptWires.{reads_in, sets_in, slot_sets}
+use Rattle.job_session.proofs.RowNames.{wires_named, mask_within, product_named}
+use Rattle.job_plan.specs.Plans.{scheme, session, slot, slots, giver}
+use Rattle.job_plan.specs.InputWords.{session_words}
+use Rattle.share_world.specs.Laws.{IsWhole}
+use Rattle.share_world.specs.Solutions.{SummandsSolve, reads_first, reads_second}
+use Rattle.share_world.specs.Worlds.{World, run_of, input_of, mask, deal_of}
+use Rattle.share_world.proofs.LocalWords.{joined_same}
+use Rattle.share_world.proofs.Settled.{in_order, is_first, is_second, first_read, second_read, product_reads}
+use Rattle.share_world.proofs.SlotOrder.{masked_first}
+use Rattle.share_world.proofs.SmallWords.{positive}
+use Rattle.share_world.proofs.Solutions.{is_solution, local_reads}
+use Rattle.wire_tables.specs.Places.{ArePlaces, dealt_at, mask_at}
+use Rattle.wire_tables.specs.Steps.{AreRows, IsRow, SetsRow, last_row, row_before}
+use Rattle.wire_tables.specs.WireTables.{summand_row, mask_row, product_row}
+use Rattle.wire_tables.proofs.ListedRows.{row_read}
+use Rattle.wire_tables.proofs.RowSteps.{read_whole}
+use Rattle.wire_tables.proofs.SlotWords.{number_here, inside_here, dealt_here, product_here, drawn_here}
+use Rattle.wire_tables.proofs.TableRows.{wire_last, mask_last, product_last, wire_whole, row_whole}
+
+-- one of three names
+among : (a b c : ℕ) → (list_any (nat_eq a) (a ∷ b ∷ c ∷ []) ≡ true) × (list_any (nat_eq b) (a ∷ b ∷ c ∷ []) ≡ true) × (list_any (nat_eq c) (a ∷ b ∷ c ∷ []) ≡ true)
+among a b c = (
+  ap (λ y. y || list_any (nat_eq a) (b ∷ c ∷ [])) (eq-eqb a a refl),
+  ap (λ y. nat_eq b a || y) (is_first b c) ∙ or_true (nat_eq b a),
+  ap (λ y. nat_eq c a || y) (is_second b c) ∙ or_true (nat_eq c a),
+)
+
+module _ (w : World) (whole : IsWhole w) (s k : ℕ) (ls : s < length w.plan.sessions) (lk : k < slots w.plan s) where
+  abbrev x : Session
+  x = session w.plan s
+
+  abbrev m : ℕ
+  m = length w.plan.groups
+
+  abbrev ends : ℕ → ℕ → ℕ
+  ends = summands (run_of w s) (length x.gates)
+
+  pub wired : IsWired x
+  wired = (whole.sound.sessions s ls).wired
+
+  solved : SummandsSolve w s ends (λ p kind. deal_of w s p kind)
+  solved = is_solution w s (in_order x wired)
+
+  -- the row of a wire
+  of_wire : (v : ℕ) (row : List ℕ) (f : ℕ → ℕ) → v < x.wires → row ≡ listed m f → ((i : ℕ) → i < m → f i ≡ ends v i) → row ≡ last_row w s v
+  of_wire v row f lv is each = is ∙ listed_eq m f (ends v) each ∙ sym (wire_last w s v lv)
+
+  -- ---- inputs and masks
+
+  module _ (places : List ℕ) (h : ArePlaces w.plan s k places) where
+    pub input_made : (v p value : ℕ) (row : List ℕ) → slot w.plan s k ≡ Input v → p ≡ giver w.plan s v → value ≡ input_of w s v
+        → row ≡ listed m (dealt_at (scheme w.plan) w.tapes places p value) → SetsRow w s k v row
+    input_made v p value row z gives given is =
+        let lv : v < length (owners x) = inside_here w s k lk (Input v) z in
+        let lw : v < x.wires = omega (arith, lv, wired.input_wires) in
+        let party : giver w.plan s v < w.plan.parties = (whole.sound.sessions s ls).owned v lv in record {
+          sets = ap (sets_in x) z;
+          named = omega (arith, lw, wires_named x);
+          are = of_wire v row (dealt_at (scheme w.plan) w.tapes places p value) lw is (λ i li.
+              ap₂ (λ q u. dealt_at (scheme w.plan) w.tapes places q u i) gives given
+              ∙ dealt_here w s k lk (Input v) z places h (giver w.plan s v) (input_of w s v) i party
+              ∙ sym (solved.inputs v i lv ∙ solved.input_deals v i lv));
+        }
+
+    pub mask_made : (t : ℕ) (side : Side) (row : List ℕ) → slot w.plan s k ≡ Mask t side → row ≡ listed m (mask_at w.plan w.tapes places) → SetsRow w s k (mask_wire x t side) row
+    mask_made t side row z is =
+        let inside = inside_here w s k lk (Mask t side) z in record {
+          sets = ap (sets_in x) z;
+          named = mask_within x t side inside.0 inside.1;
+          are = is ∙ listed_eq m _ _ (λ i li. drawn_here w whole s k lk t side z places h i li) ∙ sym (mask_last w s t side inside.0 inside.1);
+        }
+
+    pub product_made : (t : ℕ) (a b row : List ℕ) → slot w.plan s k ≡ Mask_product t → a ≡ mask_row w s t First → b ≡ mask_row w s t Second
+        → row ≡ listed m (product_summand (scheme w.plan) (dealt_at (scheme w.plan) w.tapes places) (slice_index a) (slice_index b)) → SetsRow w s k (product_wire x t) row
+    product_made t a b row z ha hb is =
+        let inside = inside_here w s k lk (Mask_product t) z in record {
+          sets = ap (sets_in x) z;
+          named = product_named x t inside.0 inside.1;
+          are = is
+              ∙ listed_eq m _ _ (λ i li. product_here w s k lk (Mask_product t) z places h (slice_index a) (slice_index b) (mask w s t First) (mask w s t Second)
+              (λ j lj. ap (λ xs. slice_index xs j) ha ∙ listed_at m (mask w s t First) j 0 lj)
+              (λ j lj. ap (λ xs. slice_index xs j) hb ∙ listed_at m (mask w s t Second) j 0 lj) i)
+              ∙ sym (product_last w s t inside.0 inside.1);
+        }
+
+  -- ---- rows that are read
+
+  module _ (rows : List (Vec ℕ)) (h : AreRows w s k rows) where
+    abbrev row_at : ℕ → List ℕ
+    row_at v = slice_index_or (session_words rows) v []
+
+    -- a row that was read of the vectors
+    pub named : (name n : ℕ) → name ≡ n → n < row_names x → name < length rows
+    named name n e l = omega (arith, e, l, h.names)
+
+    pub found : (name n : ℕ) (row : Vec ℕ) (a : List ℕ) → name ≡ n → n < row_names x → row ≡ slice_index_or rows name row → a ≡ row.items → a ≡ row_at n
+    found name n row a e l is items = items ∙ row_read rows name row (named name n e l) is ∙ ap row_at e
+
+    -- the masks of a prepared product, at the slot of their product
+    pub masks_read : (t : ℕ) (side : Side) → slot w.plan s k ≡ Mask_product t → row_at (mask_wire x t side) ≡ mask_row w s t side
+    masks_read t side z =
+        let inside = inside_here w s k lk (Mask_product t) z in
+        read_whole w s k (mask_wire x t side) (Mask_product t) rows wired h (mask_within x t side inside.0 inside.1) inside (omega (arith, number_here w s k lk (Mask_product t) z)) (one_of side)
+        ∙ mask_last w s t side inside.0 inside.1
+      where
+        one_of : (side : Side) → list_any (nat_eq (mask_wire x t side)) (reads_in x (Mask_product t)) ≡ true
+        one_of First = is_first (mask_wire x t First) (mask_wire x t Second)
+        one_of Second = is_second (mask_wire x t First) (mask_wire x t Second)
+
+    -- each wire's row is whole, or zeros
+    pub wire_row : (v : ℕ) → v < x.wires → IsRow w.plan (row_at v)
+    wire_row v lv =
+        let at : row_at v ≡ row_before w s k v = h.are v (omega (arith, lv, wires_named x)) in
+        let zeros : IsRow w.plan (replicate m 0) = record {
+          long = length-replicate {A = ℕ} m 0;
+          small = λ j d l. subst (λ n. n < 2 ^ w.plan.bits) (sym (get_or-replicate m j 0 d (omega (arith, l, length-replicate {A = ℕ} m 0)))) (positive w whole);
+        } in
+        subst (IsRow w.plan) (sym at)
+        (cond_both (some_below k (λ j. slot_sets x j v)) (last_row w s v) _ (IsRow w.plan)
+        (λ e. subst (IsRow w.plan) (sym (wire_last w s v lv)) (wire_whole w whole s v))
+        (λ e. subst (IsRow w.plan) (sym (cond-true _ (replicate m 0) [] (lt-ltb v x.wires lv))) zeros))
+
+    module _ (t : ℕ) (z : slot w.plan s k ≡ At_gate t) where
+      pub there : t < length x.gates
+      there = inside_here w s k lk (At_gate t) z
+
+      number_is : session_slot_number x (At_gate t) ≡ k
+      number_is = number_here w s k lk (At_gate t) z
+
+      -- a wire that the gate reads
+      wire_read : (side : Side) → operand (gate x t) side < x.wires → list_any (nat_eq (operand (gate x t) side)) (read_by (gate x t)) ≡ true → row_at (operand (gate x t) side) ≡ summand_row w s (operand (gate x t) side)
+      wire_read side lv reads =
+          let v = operand (gate x t) side in
+          let named : v < row_names x = omega (arith, lv, wires_named x) in
+          elim (cases_Bool (is_prepared x t)) [
+            | inl yes' ↦
+                read_whole w s k v (Masked t side) rows wired h named (there, yes') (omega (arith, masked_first x t side yes', number_is)) (is_first v (mask_wire x t side))
+            | inr no' ↦
+                read_whole w s k v (At_gate t) rows wired h named there (omega (arith, number_is)) (ap (list_any (nat_eq v)) (cond-false (is_prepared x t) _ _ no') ∙ reads)
+          ] ∙ wire_last w s v lv
+
+      pub first_wire : reads_first (gate x t).operation ≡ true → row_at (gate x t).first ≡ summand_row w s (gate x t).first
+      first_wire r = wire_read First (wired.first t there) (first_read (gate x t).operation (gate x t).first (gate x t).second r)
+
+      pub second_wire : reads_second (gate x t).operation ≡ true → row_at (gate x t).second ≡ summand_row w s (gate x t).second
+      second_wire r = wire_read Second (wired.second t there) (second_read (gate x t).operation (gate x t).first (gate x t).second r)
+
+      -- the rows that a prepared product joins
+      joined_read : (v : ℕ) → is_prepared x t ≡ true → v < row_names x → list_any (nat_eq v) (mask_wire x t First ∷ mask_wire x t Second ∷ product_wire x t ∷ []) ≡ true → row_at v ≡ last_row w s v
+      joined_read v yes' named one =
+          read_whole w s k v (At_gate t) rows wired h named there (omega (arith, number_is)) (ap (list_any (nat_eq v)) (cond-true (is_prepared x t) _ _ yes') ∙ one)
+
+      pub first_mask : is_prepared x t ≡ true → row_at (mask_wire x t First) ≡ mask_row w s t First
+      first_mask e = joined_read (mask_wire x t First) e (mask_within x t First there e) (among (mask_wire x t First) (mask_wire x t Second) (product_wire x t)).0 ∙ mask_last w s t First there e
+
+      pub second_mask : is_prepared x t ≡ true → row_at (mask_wire x t Second) ≡ mask_row w s t Second
+      second_mask e = joined_read (mask_wire x t Second) e (mask_within x t Second there e) (among (mask_wire x t First) (mask_wire x t Second) (product_wire x t)).1 ∙ mask_last w s t Second there e
+
+      pub their_product : is_prepared x t ≡ true → row_at (product_wire x t) ≡ product_row w s t
+      their_product e = joined_read (product_wire x t) e (product_named x t there e) (among (mask_wire x t First) (mask_wire x t Second) (product_wire x t)).2 ∙ product_last w s t there e
+
+      -- the gate as it was read
+      module _ (g : Gate) (same : g ≡ gate x t) where
+        first_named : (gate x t).first < row_names x
+        first_named = omega (arith, wired.first t there, wires_named x)
+
+        second_named : (gate x t).second < row_names x
+        second_named = omega (arith, wired.second t there, wires_named x)
+
+        pub first_there : g.first < length rows
+        first_there = named g.first (gate x t).first (ap (λ (g : Gate). g.first) same) first_named
+
+        pub second_there : g.second < length rows
+        second_there = named g.second (gate x t).second (ap (λ (g : Gate). g.second) same) second_named
+
+        pub first_found : (row : Vec ℕ) (a : List ℕ) → row ≡ slice_index_or rows g.first row → a ≡ row.items → a ≡ row_at (gate x t).first
+        first_found row a = found g.first (gate x t).first row a (ap (λ (g : Gate). g.first) same) first_named
+
+        pub second_found : (row : Vec ℕ) (a : List ℕ) → row ≡ slice_index_or rows g.second row → a ≡ row.items → a ≡ row_at (gate x t).second
+        second_found row a = found g.second (gate x t).second row a (ap (λ (g : Gate). g.second) same) second_named
+
+      pub first_row : (a : List ℕ) → a ≡ row_at (gate x t).first → IsRow w.plan a
+      first_row a e = row_whole w.plan a _ e (wire_row (gate x t).first (wired.first t there))
+
+      pub second_row : (a : List ℕ) → a ≡ row_at (gate x t).second → IsRow w.plan a
+      second_row a e = row_whole w.plan a _ e (wire_row (gate x t).second (wired.second t there))
+
+      -- ---- gates
+
+      made : (row : List ℕ) (f : ℕ → ℕ) → row ≡ listed m f → ((i : ℕ) → i < m → f i ≡ ends (gate x t).output i) → SetsRow w s k (gate x t).output row
+      made row f is each = record {
+        sets = ap (sets_in x) z;
+        named = omega (arith, wired.output t there, wires_named x);
+        are = of_wire (gate x t).output row f (wired.output t there) is each;
+      }
+
+      -- of a row that was read a summand is that at the end
+      ends_of : (v : ℕ) (a : List ℕ) (i : ℕ) → i < m → a ≡ row_at v → row_at v ≡ summand_row w s v → slice_index a i ≡ ends v i
+      ends_of v a i li is last = ap (λ xs. slice_index xs i) (is ∙ last) ∙ listed_at m (ends v) i 0 li
+
+      module _ (a b row : List ℕ) (ha : a ≡ row_at (gate x t).first) (hb : b ≡ row_at (gate x t).second) where
+        pub linear_made : is_product (gate x t).operation ≡ false
+            → row ≡ listed m (λ i. local (2 ^ w.plan.bits) (gate x t).operation (gate x t).constant i (slice_index a i) (slice_index b i)) → SetsRow w s k (gate x t).output row
+        linear_made linear is = made row _ is (λ i li.
+            local_reads (2 ^ w.plan.bits) (gate x t).operation (gate x t).constant i _ _ _ _ linear
+            (λ r. ends_of (gate x t).first a i li ha (first_wire r)) (λ r. ends_of (gate x t).second b i li hb (second_wire r))
+            ∙ sym (solved.linear t i there linear))
+
+        module _ (product : is_product (gate x t).operation ≡ true) where
+          first_ends : (i : ℕ) → i < m → slice_index a i ≡ ends (gate x t).first i
+          first_ends i li = ends_of (gate x t).first a i li ha (first_wire (product_reads (gate x t).operation product).0)
+
+          second_ends : (i : ℕ) → i < m → slice_index b i ≡ ends (gate x t).second i
+          second_ends i li = ends_of (gate x t).second b i li hb (second_wire (product_reads (gate x t).operation product).1)
+
+          pub direct_made : x.prepared ≡ false → (places : List ℕ) → ArePlaces w.plan s k places
+              → row ≡ listed m (product_summand (scheme w.plan) (dealt_at (scheme w.plan) w.tapes places) (slice_index a) (slice_index b)) → SetsRow w s k (gate x t).output row
+          direct_made no' places hp is =
+              let direct : is_direct x t ≡ true = and_from (not x.prepared) _ (not_from_false x.prepared no') product in
+              made row _ is (λ i li.
+              product_here w s k lk (At_gate t) z places hp (slice_index a) (slice_index b) (ends (gate x t).first) (ends (gate x t).second) first_ends second_ends i
+              ∙ ap (λ n. n % 2 ^ w.plan.bits) (total_eq w.plan.parties _ _ (λ p lp. ap (λ u. if has_pair (scheme w.plan) p then u else 0) (sym (solved.product_deals t p i there direct))))
+              ∙ sym (solved.products t i there direct))
+
+          pub joined_made : x.prepared ≡ true → (first second both : List ℕ) → first ≡ mask_row w s t First → second ≡ mask_row w s t Second → both ≡ product_row w s t
+              → row ≡ listed m (prepared_summand (scheme w.plan) (slice_index first) (slice_index second) (slice_index both) (slice_index a) (slice_index b)) → SetsRow w s k (gate x t).output row
+          joined_made yes' first second both hf hs hc is =
+              let prepared : is_prepared x t ≡ true = and_from x.prepared _ yes' product in
+              made row _ is (λ i li.
+              joined_same (2 ^ w.plan.bits) i
+              (excess_alike (slice_index a) (ends (gate x t).first) (slice_index first) (mask w s t First) first_ends (λ j lj. mask_at_place First first j lj hf))
+              (excess_alike (slice_index b) (ends (gate x t).second) (slice_index second) (mask w s t Second) second_ends (λ j lj. mask_at_place Second second j lj hs))
+              (mask_at_place First first i li hf) (mask_at_place Second second i li hs) (ap (λ xs. slice_index xs i) hc ∙ listed_at m _ i 0 li)
+              ∙ sym (solved.prepared t i there prepared))
+            where
+              mask_at_place : (side : Side) (xs : List ℕ) (j : ℕ) → j < m → xs ≡ mask_row w s t side → slice_index xs j ≡ mask w s t side j
+              mask_at_place side xs j lj e = ap (λ ys. slice_index ys j) e ∙ listed_at m (mask w s t side) j 0 lj
+
+              excess_alike : (f f' g g' : ℕ → ℕ) → ((j : ℕ) → j < m → f j ≡ f' j) → ((j : ℕ) → j < m → g j ≡ g' j) → sum_of (scheme w.plan) (masked (scheme w.plan) f g) ≡ sum_of (scheme w.plan) (masked (scheme w.plan) f' g')
+              excess_alike f f' g g' hf hg = ap (λ n. n % 2 ^ w.plan.bits) (total_eq m _ _ (λ j lj. ap₂ (difference (2 ^ w.plan.bits)) (hf j lj) (hg j lj)))
