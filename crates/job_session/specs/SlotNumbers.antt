@@ -2,7 +2,7 @@
 use Rattle.std.specs.Prelude.{◌≡◌, ℕ, ◌+◌, ◌*◌, ◌<◌, if◌then◌else◌, length}
 use Rattle.list_laws.specs.Lists.{total}
 use Rattle.job_session.specs.Sessions.{Session, Slot, owners, readers, is_prepared, session_slot, session_slots}
-use Rattle.job_session.specs.Sessions.Slot.{Input, At_gate, Output, Mask, Mask_product, Masked}
+use Rattle.job_session.specs.Sessions.Slot.{Input, At_gate, Output, Mask, Mask_product, Masked, Kept}
 use Rattle.job_session.specs.SoundSessions.{Inside}
 use Rattle.job_session.specs.declared.side.Side.TheVariants.{First, Second}
 
@@ -18,7 +18,7 @@ first_input s = 3 * prepared_before s (length s.gates)
 abbrev pub first_of_gate : Session → ℕ → ℕ
 first_of_gate s t = first_input s + length (owners s) + t + 2 * prepared_before s t
 
--- the number of a slot
+-- the number of a slot; one for a later session stands behind the outputs
 abbrev pub session_slot_number : Session → Slot → ℕ
 session_slot_number s (Mask t First) = 3 * prepared_before s t
 session_slot_number s (Mask t Second) = 3 * prepared_before s t + 1
@@ -28,6 +28,7 @@ session_slot_number s (Masked t First) = first_of_gate s t
 session_slot_number s (Masked t Second) = first_of_gate s t + 1
 session_slot_number s (At_gate t) = first_of_gate s t + (if is_prepared s t then 2 else 0)
 session_slot_number s (Output o) = first_of_gate s (length s.gates) + o
+session_slot_number s (Kept r v) = first_of_gate s (length s.gates) + length (readers s)
 
 -- each slot stands at its number, and each number below the count of slots is one slot's
 pub record SlotsAreNumbered (s : Session) : Type 0 where

@@ -77,7 +77,7 @@ impl Wiring {
             ≡ (is_named result.0 w || is_named result.1 w) }
     {
         match kind {
-            SlotKind::Input(_) | SlotKind::Mask(..) => (None, None),
+            SlotKind::Input(_) | SlotKind::Mask(..) | SlotKind::Kept(..) => (None, None),
             SlotKind::Gate(t) => self.early_gate_reads(t),
             SlotKind::Output(o) => (Some(self.output_wire(o)), None),
             SlotKind::MaskProduct(t) => {
@@ -134,7 +134,7 @@ impl Wiring {
             SlotKind::Gate(t) => Some(self.gates[t as usize].output),
             SlotKind::Mask(t, side) => Some(self.mask_wire(t, side)),
             SlotKind::MaskProduct(t) => Some(self.product_wire(t)),
-            SlotKind::Output(_) | SlotKind::Masked(..) => None,
+            SlotKind::Output(_) | SlotKind::Masked(..) | SlotKind::Kept(..) => None,
         }
     }
 
