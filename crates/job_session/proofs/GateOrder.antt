@@ -12,7 +12,7 @@ use Rattle.circuit_model.specs.Netlists.{inputs_read, arity, read_by}
 use Rattle.job_session.specs.declared.side.Side.{Side}
 use Rattle.job_session.specs.declared.side.Side.TheVariants.{First, Second}
 use Rattle.job_session.specs.Sessions.{Session, Slot, owners, readers, gate, no_gate, is_prepared, operand, mask_wire, product_wire, output_wire, session_slot, session_slots}
-use Rattle.job_session.specs.Sessions.Slot.{Input, At_gate, Output, Mask, Mask_product, Masked}
+use Rattle.job_session.specs.Sessions.Slot.{Input, At_gate, Output, Mask, Mask_product, Masked, Kept}
 use Rattle.job_session.specs.SlotNumbers.{prepared_before, first_of_gate, session_slot_number}
 use Rattle.job_session.specs.KeptWires.{sets_in, reads_in, slot_sets, slot_reads, IsInOrder}
 use Rattle.job_session.specs.SoundSessions.{Inside}
@@ -97,6 +97,7 @@ module _ (s : Session) (h : GatesInOrder s) (inputs_below : length (owners s) �
   which (Mask t Second) w i e = inr (record { gate_of = t; place = 1; few = omega arith; wire = one_wire (mask_wire s t Second) w e; is = refl })
   which (Mask_product t) w i e = inr (record { gate_of = t; place = 2; few = omega arith; wire = one_wire (product_wire s t) w e; is = refl })
   which (Masked t side) w i e = absurd (false≢true e)
+  which (Kept r v) w i e = absurd i
 
   same_gate : (t u w : ℕ) → t < count → u < count → w ≡ (gate s t).output → w ≡ (gate s u).output → t ≡ u
   same_gate t u w lt lu a b = elim (cases_lt t u) [
@@ -170,6 +171,7 @@ module _ (s : Session) (h : GatesInOrder s) (inputs_below : length (owners s) �
   read_before : (z : Slot) (w : ℕ) → Inside s z → list_any (nat_eq w) (reads_in s z) ≡ true → SetsBefore (session_slot_number s z) w
   read_before (Input v) w i e = absurd (false≢true e)
   read_before (Mask t side) w i e = absurd (false≢true e)
+  read_before (Kept r v) w i e = absurd i
   read_before (Mask_product t) w i e = elim (or_cases (nat_eq w (mask_wire s t First)) (nat_eq w (mask_wire s t Second) || false) e) [
     | inl first ↦ mask_before t First w _ i.0 i.1 (omega arith) (eqb-true w (mask_wire s t First) first)
     | inr second ↦ mask_before t Second w _ i.0 i.1 (omega arith) (one_wire (mask_wire s t Second) w second)

@@ -9,7 +9,7 @@ use Rattle.circuit_model.specs.declared.gate.Gate.{Gate}
 use Rattle.job_session.specs.declared.touched.Touched.{Touched}
 use Rattle.job_session.specs.declared.wiring.Wiring.{Wiring}
 use Rattle.job_session.specs.Sessions.{Session, Slot, gate, no_gate, has_product, is_gate, output_wire, owners, readers, session_slot, session_slots}
-use Rattle.job_session.specs.Sessions.Slot.{Input, At_gate, Output, Mask, Mask_product, Masked}
+use Rattle.job_session.specs.Sessions.Slot.{Input, At_gate, Output, Mask, Mask_product, Masked, Kept}
 use Rattle.job_session.specs.KeptWires.{reads_in, sets_in, slot_reads}
 use Rattle.job_session.specs.declared.slot_kind.SlotKind.{SlotKind}
 use Rattle.job_session.specs.SoundSessions.{IsWired, slot_of_kind}
@@ -122,3 +122,4 @@ gate_has (Output o) e = absurd (false≢true e)
 gate_has (Mask t side) e = absurd (false≢true e)
 gate_has (Mask_product t) e = absurd (false≢true e)
 gate_has (Masked t side) e = absurd (false≢true e)
+gate_has (Kept r v) e = absurd (false≢true e)
