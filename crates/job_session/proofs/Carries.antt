@@ -42,3 +42,9 @@ fit earlier (w ∷ ws) (p ∷ ps) among none (suc k) d l =
 pub carries_fit : (earlier : List Session) (s : Session) (ws : List ℕ) (ps : List Owner) → s.inputs ≡ input_values ws ps → AreEarlier (length earlier) ps → carries_fault earlier ws ps ≡ None → CarriesFit earlier s
 carries_fit earlier s ws ps is among none =
     subst (λ values. All (λ (value : InputValue). (r c : ℕ) → value.owner ≡ Carried r c → IsCarriedFrom earlier r c value.width) values) (sym is) (fit earlier ws ps among none)
+
+-- ---- wires that are carried
+
+-- where each value fits, a wire of it is one of the output wires
+values_fit : List Session → List InputValue → Type 0
+values_fit earlier values = All (λ (value : InputValue). (r c : ℕ) → value.owner ≡ Carried r c → IsCarriedFrom earlier r c value.width) values
