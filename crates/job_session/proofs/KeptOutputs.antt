@@ -160,15 +160,15 @@ module _ (s : Session) where
 
   complete_before : (j o : ℕ) → o < length (readers s) → batch s (session_slots s - 1) ≤ j → slot_completes s j (output_wire s o) ≡ false
   complete_before j o l from = false_from_ne_true (slot_completes s j (output_wire s o)) (λ e.
-    let m : ℕ = outputs + o in
-    let within = output_within o l in
-    let less = sets_early j (output_wire s o) (completes_sets (session_slot s j) (output_wire s o) e) in
-    let up = rising s m (session_slots s - 1) (omega (arith, within)) in
-    let none : waits_for s m j ≡ false = no_wait s m j (omega (arith, up, from)) (omega (arith, less)) in
-    let waiting : waits_for s m j ≡ true =
-    or_left (list_any (slot_completes s j) (reads_early s (session_slot s m))) _
-    (ap (λ z. list_any (slot_completes s j) (reads_early s z)) (output_there o l) ∙ or_left (slot_completes s j (output_wire s o)) false e) in
-    both_ways (waits_for s m j) none waiting)
+      let m : ℕ = outputs + o in
+      let within = output_within o l in
+      let less = sets_early j (output_wire s o) (completes_sets (session_slot s j) (output_wire s o) e) in
+      let up = rising s m (session_slots s - 1) (omega (arith, within)) in
+      let none : waits_for s m j ≡ false = no_wait s m j (omega (arith, up, from)) (omega (arith, less)) in
+      let waiting : waits_for s m j ≡ true =
+      or_left (list_any (slot_completes s j) (reads_early s (session_slot s m))) _
+      (ap (λ z. list_any (slot_completes s j) (reads_early s z)) (output_there o l) ∙ or_left (slot_completes s j (output_wire s o)) false e) in
+      both_ways (waits_for s m j) none waiting)
 
 pub outputs_are_kept : (s : Session) → OutputsAreKept s
 outputs_are_kept s = record { apart = kept_apart s; live = few_kept s; complete = complete_before s }
