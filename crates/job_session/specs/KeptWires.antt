@@ -19,8 +19,8 @@ sets_in s (Mask_product t) = product_wire s t ∷ []
 sets_in s (Masked t side) = []
 sets_in s (Kept r v) = []
 
--- the wires that a slot reads; a prepared product joins its masks and their product. What is kept for a later session is
--- read there: the output wire that its source carries
+-- the wires that a slot reads; a prepared product joins its masks and their product. Of a kept slot only a plan can tell: it
+-- reads the wire that the source in the later session carries, `carried_wire`
 abbrev pub reads_in : Session → Slot → List ℕ
 reads_in s (Input v) = []
 reads_in s (At_gate t) =

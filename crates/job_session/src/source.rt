@@ -1,5 +1,4 @@
 //! Where an input wire comes from.
-ghost use Rattle.std.specs.Prelude.{◌≡◌};
 
 /// Where an input wire comes from: a party gives it, or it carries this wire of an output value of an earlier session.
 #[derive(Clone, Copy, Debug, PartialEq, Eq)]
