@@ -15,7 +15,7 @@ completes s (Output o) = []
 completes s (Mask t side) = mask_wire s t side ∷ []
 completes s (Mask_product t) = product_wire s t ∷ []
 completes s (Masked t side) = []
-completes s (Kept r v) = []
+completes s (Kept j) = []
 
 -- slot k completes wire w
 abbrev pub slot_completes : Session → ℕ → ℕ → Bool

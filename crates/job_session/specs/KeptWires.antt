@@ -5,7 +5,7 @@ use Rattle.std.specs.List.{list_any}
 use Rattle.list_laws.specs.Lists.{total, some_below}
 use Rattle.circuit_model.specs.Netlists.{read_by}
 use Rattle.job_session.specs.declared.row_table.RowTable.{RowTable}
-use Rattle.job_session.specs.Sessions.{Session, Slot, gate, is_prepared, operand, mask_wire, product_wire, row_names, output_wire, session_slot, session_slots}
+use Rattle.job_session.specs.Sessions.{Session, Slot, gate, is_prepared, operand, mask_wire, product_wire, row_names, kept_wire, output_wire, session_slot, session_slots}
 use Rattle.job_session.specs.declared.side.Side.TheVariants.{First, Second}
 use Rattle.job_session.specs.Sessions.Slot.{Input, At_gate, Output, Mask, Mask_product, Masked, Kept}
 
@@ -17,10 +17,9 @@ sets_in s (Output o) = []
 sets_in s (Mask t side) = mask_wire s t side ∷ []
 sets_in s (Mask_product t) = product_wire s t ∷ []
 sets_in s (Masked t side) = []
-sets_in s (Kept r v) = []
+sets_in s (Kept j) = []
 
--- the wires that a slot reads; a prepared product joins its masks and their product. Of a kept slot only a plan can tell: it
--- reads the wire that the source in the later session carries, `carried_wire`
+-- the wires that a slot reads; a prepared product joins its masks and their product
 abbrev pub reads_in : Session → Slot → List ℕ
 reads_in s (Input v) = []
 reads_in s (At_gate t) =
@@ -29,7 +28,7 @@ reads_in s (Output o) = output_wire s o ∷ []
 reads_in s (Mask t side) = []
 reads_in s (Mask_product t) = mask_wire s t First ∷ mask_wire s t Second ∷ []
 reads_in s (Masked t side) = operand (gate s t) side ∷ mask_wire s t side ∷ []
-reads_in s (Kept r v) = []
+reads_in s (Kept j) = kept_wire s j ∷ []
 
 -- slot k sets wire w
 abbrev pub slot_sets : Session → ℕ → ℕ → Bool

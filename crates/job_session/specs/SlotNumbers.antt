@@ -18,7 +18,7 @@ first_input s = 3 * prepared_before s (length s.gates)
 abbrev pub first_of_gate : Session → ℕ → ℕ
 first_of_gate s t = first_input s + length (owners s) + t + 2 * prepared_before s t
 
--- the number of a slot; one for a later session stands behind the outputs
+-- the number of a slot
 abbrev pub session_slot_number : Session → Slot → ℕ
 session_slot_number s (Mask t First) = 3 * prepared_before s t
 session_slot_number s (Mask t Second) = 3 * prepared_before s t + 1
@@ -28,7 +28,7 @@ session_slot_number s (Masked t First) = first_of_gate s t
 session_slot_number s (Masked t Second) = first_of_gate s t + 1
 session_slot_number s (At_gate t) = first_of_gate s t + (if is_prepared s t then 2 else 0)
 session_slot_number s (Output o) = first_of_gate s (length s.gates) + o
-session_slot_number s (Kept r v) = first_of_gate s (length s.gates) + length (readers s)
+session_slot_number s (Kept j) = first_of_gate s (length s.gates) + length (readers s) + j
 
 -- each slot stands at its number, and each number below the count of slots is one slot's
 pub record SlotsAreNumbered (s : Session) : Type 0 where
@@ -36,4 +36,4 @@ pub record SlotsAreNumbered (s : Session) : Type 0 where
   pub number : (k : ℕ) → k < session_slots s → session_slot_number s (session_slot s k) ≡ k
   pub there : (kind : Slot) → Inside s kind
       → (session_slot_number s kind < session_slots s) × (session_slot s (session_slot_number s kind) ≡ kind)
-  pub count : session_slots s ≡ first_of_gate s (length s.gates) + length (readers s)
+  pub count : session_slots s ≡ first_of_gate s (length s.gates) + length (readers s) + length s.kept

@@ -77,9 +77,10 @@ impl Wiring {
             ≡ (is_named result.0 w || is_named result.1 w) }
     {
         match kind {
-            SlotKind::Input(_) | SlotKind::Mask(..) | SlotKind::Kept(..) => (None, None),
+            SlotKind::Input(_) | SlotKind::Mask(..) => (None, None),
             SlotKind::Gate(t) => self.early_gate_reads(t),
             SlotKind::Output(o) => (Some(self.output_wire(o)), None),
+            SlotKind::Kept(j) => (Some(self.kept_wire(j)), None),
             SlotKind::MaskProduct(t) => {
                 let first = self.mask_wire(t, Side::First);
                 (Some(first), Some(self.mask_wire(t, Side::Second)))
