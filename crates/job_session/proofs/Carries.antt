@@ -1,23 +1,27 @@
--- Input values that are carried, and their wires.
-use Rattle.std.proofs.Common.{◌≡◌, ℕ, zero, suc, ◌+◌, ◌-◌, ◌<◌, List, [], ◌∷◌, ◌++◌, inl, inr, length, replicate, take, refl, sym, ap, ◌∙◌, subst, arith, length-append}
+-- Input values that are carried, their wires, and what is kept for them.
+use Rattle.std.proofs.Common.{◌≡◌, ℕ, zero, suc, ◌+◌, ◌-◌, ◌<◌, ◌≤◌, List, [], ◌∷◌, ◌++◌, inl, inr, length, replicate, take, refl, sym, ap, ◌∙◌, subst, arith, length-append}
 use Rattle.std.specs.Prelude.{Bool, true, false, All, ◌==◌, if◌then◌else◌, slice_get, slice_index_or, Option, Some, None, IsSomeAnd}
 use Rattle.std.specs.Option.{option_or}
-use Rattle.std.proofs.lemmas.Bool.{cases_Bool, cases_lt, cond-false, eqb-true}
+use Rattle.std.proofs.lemmas.Bool.{cases_Bool, cases_lt, cond-false, eq-eqb, eqb-true, false≢true}
 use Rattle.std.proofs.Math.ListN.{get_or-append}
 use Rattle.std.proofs.Math.Seq.{get_or-append_right}
-use Rattle.std.proofs.lemmas.List.{length-replicate}
-use Rattle.list_laws.specs.Lists.{listed}
-use Rattle.list_laws.proofs.JoinedLists.{length-listed, listed_at}
+use Rattle.std.proofs.lemmas.List.{get_or_past, length-replicate}
+use Rattle.list_laws.specs.Lists.{joined, listed, only_if, total}
+use Rattle.list_laws.proofs.Totals.{total_eq}
+use Rattle.list_laws.proofs.JoinedLists.{joined_place, length-joined, length-listed, listed_at, locate, total_within}
 use Rattle.plan_faults.specs.declared.part_fault.PartFault.{PartFault}
 use Rattle.plan_faults.specs.declared.part_fault.PartFault.TheVariants.{CarryWidth}
+use Rattle.job_session.specs.declared.values.KeptWire.{KeptWire}
 use Rattle.job_session.specs.declared.values.Owner.{Owner}
 use Rattle.job_session.specs.declared.values.Owner.TheVariants.{Party, Carried}
 use Rattle.job_session.specs.declared.values.InputValue.{InputValue}
 use Rattle.job_session.specs.declared.values.OutputValue.{OutputValue}
 use Rattle.job_session.specs.declared.source.Source.{Source}
 use Rattle.job_session.specs.declared.source.Source.TheVariants.{Given, Carried as CarriedWire}
-use Rattle.job_session.specs.Sessions.{Session, carried_output, no_session, owners_of, readers, readers_of, source_from}
+use Rattle.job_session.specs.Sessions.{Session, carried_output, carries, is_carried, no_kept, owners, owners_of, readers, readers_of, session_at, source, source_from}
 use Rattle.job_session.specs.Parts.{input_values, AreEarlier, IsCarriedFrom, CarriesFit, CarriesOutputs, carry_fault, owner_fault, carries_fault}
+use Rattle.job_session.specs.Carries.{IsKeptAt, KeptHavePlaces, carried_before, carrier, kept_for, kept_from, kept_place}
+use Rattle.job_session.proofs.ScannedSlots.{total_most}
 
 -- neither of two faults is there
 neither : (a b : Option PartFault) → option_or a b ≡ None → (a ≡ None) × (b ≡ None)
@@ -38,7 +42,7 @@ fit earlier [] ps among none k d l = absurd (omega (arith, l))
 fit earlier (w ∷ ws) [] among none k d l = absurd (omega (arith, l))
 fit earlier (w ∷ ws) (p ∷ ps) among none zero d l = λ r c is. (
     let here = (neither (owner_fault earlier w p) (carries_fault earlier ws ps) none).0 in
-    let outputs = (slice_index_or earlier r no_session).outputs in
+    let outputs = (session_at earlier r).outputs in
     record {
       session = among 0 p (omega arith) r c is;
       value = has_width w c (length outputs) (slice_get outputs c) (ap (owner_fault earlier w) (sym is) ∙ here);
@@ -89,6 +93,124 @@ carried_outputs earlier s fits = record {
   session = λ v r c i e. (carried_from earlier s.inputs v r c i fits e).2.session;
   output = λ v r c i e.
       let of = carried_from earlier s.inputs v r c i fits e in
-      let x = slice_index_or earlier r no_session in
+      let x = session_at earlier r in
       subst (λ (from : Source). carried_output x from < length (readers x)) (sym e) (value_within x.outputs c i of.0 of.2.value of.1);
+}
+
+-- ---- what is kept for later sessions
+
+abbrev one_if : Bool → ℕ
+one_if b = if b then 1 else 0
+
+-- a list of one, if there is one
+one_long : {A : Type 0} (b : Bool) (x : A) → length (only_if b (x ∷ [])) ≡ one_if b
+one_long true x = refl
+one_long false x = refl
+
+only_one : {A : Type 0} (b : Bool) (x d : A) (k : ℕ) → k < length (only_if b (x ∷ [])) → (b ≡ true) × (slice_index_or (only_if b (x ∷ [])) k d ≡ x)
+only_one true x d zero l = (refl, refl)
+only_one true x d (suc k) l = absurd (omega (arith, l))
+only_one false x d k l = absurd (omega (arith, l))
+
+carried_there : (r c i : ℕ) → carries r (CarriedWire r c i) ≡ true
+carried_there r c i = eq-eqb r r refl
+
+carried_by : (r : ℕ) (from : Source) → carries r from ≡ true → carrier from ≡ r
+carried_by r (Given p) e = absurd (false≢true e)
+carried_by r (CarriedWire a c i) e = eqb-true a r e
+
+total_le : (n : ℕ) (f g : ℕ → ℕ) → ((i : ℕ) → i < n → f i ≤ g i) → total n f ≤ total n g
+total_le zero f g h = omega arith
+total_le (suc n) f g h = omega (arith, h n (omega arith), total_le n f g (λ i l. h i (omega (arith, l))))
+
+module _ (sessions : List Session) (r : ℕ) where
+  abbrev at : ℕ → Session
+  at s = session_at sessions s
+
+  abbrev bit : ℕ → ℕ → ℕ
+  bit s v = one_if (carries r (source (at s) v))
+
+  abbrev kept_in : ℕ → List KeptWire
+  kept_in s = joined (length (owners (at s))) (kept_for sessions r s)
+
+  -- where the place of what input wire v of session s carries would be
+  abbrev place_for : ℕ → ℕ → ℕ
+  place_for s v = total s (λ u. carried_before r (at u) (length (owners (at u)))) + carried_before r (at s) v
+
+  kept_before : (s v : ℕ) → total v (λ u. length (kept_for sessions r s u)) ≡ carried_before r (at s) v
+  kept_before s v = total_eq v _ _ (λ u l. one_long (carries r (source (at s) u)) _)
+
+  kept_long : (s : ℕ) → length (kept_in s) ≡ carried_before r (at s) (length (owners (at s)))
+  kept_long s = length-joined (length (owners (at s))) (kept_for sessions r s) ∙ kept_before s (length (owners (at s)))
+
+  kept_before_session : (s : ℕ) → total s (λ u. length (kept_in u)) ≡ total s (λ u. carried_before r (at u) (length (owners (at u))))
+  kept_before_session s = total_eq s _ _ (λ u l. kept_long u)
+
+  place_within : (s v : ℕ) → s < length sessions → v < length (owners (at s)) → carries r (source (at s) v) ≡ true → place_for s v < length (kept_from r sessions)
+  place_within s v ls lv e =
+      let one : bit s v ≡ 1 = ap one_if e in
+      let inner = total_within (length (owners (at s))) v (bit s) lv in
+      let outer = total_within (length sessions) s (λ u. length (kept_in u)) ls in
+      omega (arith, one, inner, outer, kept_long s, kept_before_session s, length-joined (length sessions) kept_in)
+
+  place_names : (s v : ℕ) → s < length sessions → v < length (owners (at s)) → carries r (source (at s) v) ≡ true
+      → slice_index_or (kept_from r sessions) (place_for s v) no_kept ≡ record { session = s; wire = v; output = carried_output (at r) (source (at s) v) }
+  place_names s v ls lv e =
+      let kept : KeptWire = record { session = s; wire = v; output = carried_output (at r) (source (at s) v) } in
+      let one : bit s v ≡ 1 = ap one_if e in
+      let long : length (kept_for sessions r s v) ≡ 1 = one_long (carries r (source (at s) v)) kept ∙ one in
+      let inner = total_within (length (owners (at s))) v (bit s) lv in
+      let before : ℕ = total v (λ u. length (kept_for sessions r s u)) in
+      let here : place_for s v ≡ total s (λ u. length (kept_in u)) + (before + 0) = omega (arith, kept_before s v, kept_before_session s) in
+      ap (λ n. slice_index_or (kept_from r sessions) n no_kept) here
+      ∙ joined_place no_kept (length sessions) s kept_in (before + 0) ls (omega (arith, kept_before s v, kept_long s, inner, one))
+      ∙ joined_place no_kept (length (owners (at s))) v (kept_for sessions r s) 0 lv (omega (arith, long))
+      ∙ (only_one (carries r (source (at s) v)) kept no_kept 0 (omega (arith, long))).1
+
+  place_is : (s v : ℕ) → carries r (source (at s) v) ≡ true → kept_place sessions s v ≡ place_for s v
+  place_is s v e = ap (λ q. total s (λ u. carried_before q (at u) (length (owners (at u)))) + carried_before q (at s) v) (carried_by r (source (at s) v) e)
+
+  wire_there : (s v c i : ℕ) → source (at s) v ≡ CarriedWire r c i → v < length (owners (at s))
+  wire_there s v c i e = elim (cases_lt v (length (owners (at s)))) [
+    | inl l ↦ l
+    | inr past ↦ absurd (false≢true (sym (ap is_carried (get_or_past (owners (at s)) v (Given 0) past)) ∙ ap is_carried e))
+  ]
+
+  each_kept : (j : ℕ) → j < length (kept_from r sessions) → IsKeptAt sessions r j (slice_index_or (kept_from r sessions) j no_kept)
+  each_kept j l =
+      let of = locate (length sessions) kept_in j l in
+      let s = of.part in
+      let by = locate (length (owners (at s))) (kept_for sessions r s) of.place of.within in
+      let v = by.part in
+      let kept : KeptWire = record { session = s; wire = v; output = carried_output (at r) (source (at s) v) } in
+      let carried = (only_one (carries r (source (at s) v)) kept no_kept by.place by.within).0 in
+      let few : length (kept_for sessions r s v) ≡ 1 = one_long (carries r (source (at s) v)) kept ∙ ap one_if carried in
+      let same : place_for s v ≡ j = omega (arith, of.is, by.is, by.within, few, kept_before s v, kept_before_session s) in
+      let is : slice_index_or (kept_from r sessions) j no_kept ≡ kept = ap (λ n. slice_index_or (kept_from r sessions) n no_kept) (sym same) ∙ place_names s v of.there by.there carried in
+      subst (IsKeptAt sessions r j) (sym is) record {
+        session = of.there;
+        wire = by.there;
+        carried = carried;
+        output = refl;
+        place = place_is s v carried ∙ same;
+      }
+
+  kept_few : length (kept_from r sessions) ≤ total (length sessions) (λ s. length (owners (at s)))
+  kept_few =
+      let each = total_le (length sessions) (λ s. length (kept_in s)) (λ s. length (owners (at s))) (λ s l. omega (arith, kept_long s, total_most (length (owners (at s))) (λ v. carries r (source (at s) v)))) in
+      omega (arith, each, length-joined (length sessions) kept_in)
+
+pub kept_have_places : (sessions : List Session) → KeptHavePlaces sessions
+kept_have_places sessions = record {
+  there = λ s v r c i l e.
+      let carried : carries r (source (session_at sessions s) v) ≡ true = ap (carries r) e ∙ carried_there r c i in
+      let there = wire_there sessions r s v c i e in
+      let is = place_is sessions r s v carried in
+      (
+        omega (arith, is, place_within sessions r s v l there carried),
+        ap (λ n. slice_index_or (kept_from r sessions) n no_kept) is ∙ place_names sessions r s v l there carried
+        ∙ ap (λ (from : Source). record { session = s; wire = v; output = carried_output (session_at sessions r) from }) e,
+      );
+  each = λ r j l. each_kept sessions r j l;
+  few = λ r. kept_few sessions r;
 }

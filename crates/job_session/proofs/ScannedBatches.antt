@@ -46,7 +46,7 @@ completes_within s k w wired l = slot_kinds s (λ k z. list_any (nat_eq w) (comp
     each (Mask t side) i e = omega (arith, one_wire (mask_wire s t side) w e, mask_within s t side i.0 i.1)
     each (Mask_product t) i e = omega (arith, one_wire (product_wire s t) w e, product_named s t i.0 i.1)
     each (Masked t side) i e = absurd (false≢true e)
-    each (Kept r v) i e = absurd i
+    each (Kept j) i e = absurd (false≢true e)
 
 -- ---- a direct session has no slot of a prepared product
 
