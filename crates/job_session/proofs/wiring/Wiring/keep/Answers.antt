@@ -1,7 +1,6 @@
-use Rattle.std.proofs.Common.{◌≡◌, ◌+◌, ◌++◌, length, true, sym, ap, ◌∙◌, subst, arith}
+use Rattle.std.proofs.Common.{◌≡◌, ℕ, ◌+◌, ◌-◌, ◌++◌, length, true, sym, ap, ◌∙◌, subst, arith}
 use Rattle.std.specs.Prelude.{map, take}
 use Rattle.std.proofs.lemmas.Bool.{both_ways}
-use Rattle.std.proofs.lemmas.Grind.{common_steps}
 use Rattle.list_laws.specs.Lists.{listed}
 use Rattle.job_session.specs.declared.wiring.Wiring.{Wiring}
 use Rattle.job_session.specs.Sessions.Slot.{Kept}
@@ -29,7 +28,16 @@ returns-clause-tables c =
             products = before.products;
             wired = wired;
             kinds = λ e.
-                let n = c.args.self.kinds.items in ?;
+                let old = c.args.self in
+                let n = w.len.result - w.len-then-wiring.result in
+                let all = kinds_count old before e in
+                let long : n + length old.kept.items ≡ length old.kinds.items = omega (arith, w.len.ensures, w.len-then-wiring.ensures, all, slot_count (session_in old)) in
+                let count : w.len-then-wiring-2.result ≡ length c.args.kept.items = omega (arith, w.len-then-wiring-2.ensures) in
+                let cut : w.truncate.new.self.items ≡ take n old.kinds.items = w.truncate.ensures.items in
+                w.in_ok-push_kept.ensures
+                ∙ ap (λ xs. map slot_of_kind xs ++ listed w.len-then-wiring-2.result (λ j. Kept j)) cut
+                ∙ ap (λ (m : ℕ). map slot_of_kind (take n old.kinds.items) ++ listed m (λ j. Kept j)) count
+                ∙ kept_relisted old c.args.kept.items n before e long;
           })
       | else-wiring w ↦
           subst (λ (v : Wiring). IsWiring (record v { kept = c.args.kept })) (sym w.wiring-is) (record {
