@@ -5,13 +5,16 @@ use Rattle.list_laws.specs.Lists.{total}
 use Rattle.secret_sharing.specs.Schemes.{Run, dealt, own_product, product_summand, own_value, summands}
 use Rattle.secret_sharing.specs.Prepared.{masked, joined_summand}
 use Rattle.job_plan.specs.declared.key.Key.{Key}
-use Rattle.job_session.specs.Sessions.{owners, gate, operand, Slot}
+use Rattle.job_session.specs.declared.source.Source.{Source}
+use Rattle.job_session.specs.declared.source.Source.TheVariants.{Given, Carried}
+use Rattle.job_session.specs.Sessions.{owners, source, gate, operand, kept_wire, Slot}
+use Rattle.job_session.specs.Carries.{kept_place}
 use Rattle.job_session.specs.declared.side.Side.{Side}
 use Rattle.job_session.specs.declared.side.Side.TheVariants.{First, Second}
 use Rattle.job_session.specs.SlotNumbers.{first_of_gate}
-use Rattle.job_plan.specs.Plans.{Plan, holds, least_holder, scheme, session, slot, slot_number, giver}
+use Rattle.job_plan.specs.Plans.{Plan, holds, least_holder, scheme, session, slot, slot_number}
 use Rattle.job_plan.specs.Messages.{messages}
-use Rattle.job_session.specs.Sessions.Slot.{Input, At_gate, Output, Mask, Mask_product, Masked}
+use Rattle.job_session.specs.Sessions.Slot.{Input, At_gate, Output, Mask, Mask_product, Masked, Kept}
 use Rattle.share_world.specs.Worlds.{World, input_of, tape_word, mask, word}
 use Rattle.job_session.specs.Sessions.{output_wire}
 
@@ -57,15 +60,24 @@ local_product w got p s t x y =
     (local_mask w got p s t First) (local_mask w got p s t Second) (local_mask_product w got p s t)
     else product_summand (scheme w.plan) (local_deal w got p s (At_gate t)) x y
 
+-- summand i of input wire v, with this source: its giver's deal, or what p kept for it of a wire of session r
+abbrev pub local_source : World → (Key → ℕ) → ℕ → ℕ → ℕ → Source → ℕ → ℕ
+local_source w got p s v (Given q) i = local_deal w got p s (Input v) q (input_of w s v) i
+local_source w got p s v (Carried r c at) i = got (key_at w.plan r (Kept (kept_place w.plan.sessions s v)) i p p)
+
+-- summand i of the input wires, and 0 for any other wire
+abbrev pub local_start : World → (Key → ℕ) → ℕ → ℕ → ℕ → ℕ → ℕ
+local_start w got p s v i =
+    if nat_lt v (length (owners (session w.plan s)))
+    then local_source w got p s v (source (session w.plan s) v) i
+    else 0
+
 -- the gates of session s as party p runs them: of w it reads its own inputs and tape alone
 abbrev pub local_run : World → (Key → ℕ) → ℕ → ℕ → Run
 local_run w got p s = record {
   scheme = scheme w.plan;
   gates = gate (session w.plan s);
-  start = λ v i.
-      if nat_lt v (length (owners (session w.plan s)))
-      then local_deal w got p s (Input v) (giver w.plan s v) (input_of w s v) i
-      else 0;
+  start = local_start w got p s;
   product = local_product w got p s;
 }
 
@@ -87,6 +99,9 @@ local_word_in w got p key (Masked t side) =
     masked (scheme w.plan)
     (summands (local_run w got p key.session) t (operand (gate (session w.plan key.session) t) side))
     (local_mask w got p key.session t side) key.share
+local_word_in w got p key (Kept j) =
+    summands (local_run w got p key.session) (length (session w.plan key.session).gates)
+    (kept_wire (session w.plan key.session) j) key.share
 local_word_in w got p key kind =
     dealt (scheme w.plan) (local_value w got p key.session kind) (tape_word w key.session kind p) key.share
 
@@ -107,10 +122,11 @@ LocalsJoin w =
     (messages w.plan)
     → AllByRecursion (λ key. got key.receiver key ≡ word w key) (messages w.plan)
 
--- the first n gates read what was got in the slots before those of gate n
+-- the first n gates read what was got in the sessions before, and in the slots before those of gate n
 abbrev pub ReadsBefore : World → Type 0
 ReadsBefore w =
     (p s n : ℕ) (got later : Key → ℕ) → n ≤ length (session w.plan s).gates
+    → ((key : Key) → key.session < s → got key ≡ later key)
     → ((key : Key) → key.session ≡ s → key.slot < first_of_gate (session w.plan s) n → got key ≡ later key)
     → (v i : ℕ) → i < length w.plan.groups
     → summands (local_run w got p s) n v i ≡ summands (local_run w later p s) n v i
