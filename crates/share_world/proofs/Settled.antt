@@ -10,7 +10,7 @@ use Rattle.circuit_model.specs.Netlists.{arity, inputs_read, read_by}
 use Rattle.job_session.specs.declared.side.Side.{Side}
 use Rattle.job_session.specs.declared.side.Side.TheVariants.{First, Second}
 use Rattle.job_session.specs.Sessions.{Session, Slot, owners, gate, is_prepared, operand, mask_wire, session_slots}
-use Rattle.job_session.specs.Sessions.Slot.{Input, At_gate, Output, Mask, Mask_product, Masked}
+use Rattle.job_session.specs.Sessions.Slot.{Input, At_gate, Output, Mask, Mask_product, Masked, Kept}
 use Rattle.job_session.specs.SoundSessions.{Inside, IsWired}
 use Rattle.job_session.specs.SlotNumbers.{first_of_gate, session_slot_number}
 use Rattle.job_session.specs.KeptWires.{slot_sets, sets_in, reads_in}
@@ -80,6 +80,7 @@ module _ (x : Session) (wired : IsWired x) where
       each (Mask u Second) i h l = absurd (not_behind w _ lw (omega arith) h)
       each (Mask_product u) i h l = absurd (not_behind w _ lw (omega arith) h)
       each (Masked u side) i h l = absurd (both_ways false refl h)
+      each (Kept j) lj h l = absurd (both_ways false refl h)
 
   -- a slot sets it that stands before those of the gate
   pub setter : (t w : ℕ) → t ≤ length x.gates → SetBefore x t w → (j : ℕ) × (j < first_of_gate x t) × (slot_sets x j w ≡ true)
