@@ -5,7 +5,7 @@ use Rattle.std.proofs.lemmas.Bool.{cases_eq, cases_lt, cond-true, cond-false, eq
 use Rattle.std.proofs.lemmas.List.{get_or_past}
 use Rattle.job_session.specs.declared.source.Source.TheVariants.{Given, Carried}
 use Rattle.job_session.specs.declared.values.KeptWire.{KeptWire}
-use Rattle.job_session.specs.Sessions.{Session, source, no_session, no_kept, kept_wire, output_wire}
+use Rattle.job_session.specs.Sessions.{Session, owners, source, no_session, no_kept, kept_wire, output_wire}
 use Rattle.job_session.specs.Carries.{kept_from, kept_place}
 use Rattle.job_session.proofs.Carries.{kept_have_places}
 use Rattle.job_plan.specs.Plans.{Plan, session, KeepsCarried}
@@ -34,6 +34,13 @@ pub carrier_there : (plan : Plan) (s v r c i : ℕ) → source (session plan s) 
 carrier_there plan s v r c i from = elim (cases_lt s (length plan.sessions)) [
   | inl l ↦ l
   | inr past ↦ absurd (let none : source (session plan s) v ≡ Given 0 = ap (λ (x : Session). source x v) (get_or_past plan.sessions s no_session past) ∙ get_or_past [] v (Given 0) (omega arith) in cc)
+]
+
+-- and only their input wires are carried
+pub carried_within : (x : Session) (v r c i : ℕ) → source x v ≡ Carried r c i → v < length (owners x)
+carried_within x v r c i from = elim (cases_lt v (length (owners x))) [
+  | inl l ↦ l
+  | inr past ↦ absurd (let none : source x v ≡ Given 0 = get_or_past (owners x) v (Given 0) past in cc)
 ]
 
 -- a wire that is carried from session r is kept there, at its place

@@ -13,10 +13,10 @@ use Rattle.job_plan.specs.Plans.{session, slots, slot_number, holds, IsPlan}
 use Rattle.job_plan.specs.declared.key.Key.{Key}
 use Rattle.job_plan.specs.Messages.{messages, slot_messages}
 use Rattle.share_world.specs.Worlds.{World, word}
-use Rattle.share_world.specs.Locals.{key_at, local_word, LocalsJoin}
+use Rattle.share_world.specs.Locals.{key_at, kept_key, local_word, LocalsJoin}
 use Rattle.share_world.proofs.CarriedWires.{kept_there}
 use Rattle.share_world.proofs.GoingMessages.{Goes, at_going}
-use Rattle.share_world.proofs.LocalWords.{GotRight, kept_key}
+use Rattle.share_world.proofs.LocalWords.{GotRight}
 use Rattle.share_world.proofs.SentWords.{every_message, word_right}
 
 abbrev Sent : World → (ℕ → Key → ℕ) → Key → Type 0
@@ -42,7 +42,7 @@ module _ (w : World) (h : IsPlan w.plan) (got : ℕ → Key → ℕ) (sent : All
 
   module _ (s : ℕ) (ls : s < length w.plan.sessions) (before : (r : ℕ) → r < s → Right r) where
     kept_right : (p v r c at i : ℕ) → p < w.plan.parties → source (session w.plan s) v ≡ Carried r c at → i < length w.plan.groups → holds w.plan p i ≡ true
-        → got p (kept_key w.plan s v r i p) ≡ word w (kept_key w.plan s v r i p)
+        → got p (kept_key w.plan r s v i p) ≡ word w (kept_key w.plan r s v i p)
     kept_right p v r c at i lp from li has =
         let z = Kept (kept_place w.plan.sessions s v) in
         let less = h.earlier s v r c at from in

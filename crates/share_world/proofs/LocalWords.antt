@@ -23,7 +23,7 @@ use Rattle.job_plan.specs.declared.key.Key.{Key}
 use Rattle.job_plan.specs.Plans.{Plan, scheme, session, holds, least_holder, slot_number, IsPlan, CarriesEarlier}
 use Rattle.job_plan.proofs.PlanSchemes.{duty_is}
 use Rattle.share_world.specs.Worlds.{World, run_of, end_summands, summands_before, source_summands, carried_wire, word, word_in, input_of, tape_word, mask, mask_product, product_of}
-use Rattle.share_world.specs.Locals.{key_at, local_deal, local_source, local_mask, local_opened, local_excess, local_mask_product, local_product, local_run, ReadsBefore}
+use Rattle.share_world.specs.Locals.{key_at, kept_key, local_deal, local_source, local_mask, local_opened, local_excess, local_mask_product, local_product, local_run, ReadsBefore}
 use Rattle.share_world.specs.Laws.{HeldAreDealt}
 use Rattle.share_world.proofs.CarriedWires.{ended_summands, kept_there}
 use Rattle.share_world.proofs.SlotOrder.{mask_first, mask_product_first, input_first, masked_behind, masked_first, gate_first}
@@ -44,16 +44,12 @@ pub joined_same : (q i : ℕ) {d d' e e' a a' b b' c c' : ℕ} → d ≡ d' → 
 joined_same q i ed ee ea eb ec =
     ap₂ (λ y z. (y + z) % q) (ap₂ (λ y z. y + z) (ap₂ (λ y z. y + z) ec (ap₂ (λ y z. y * z) ed eb)) (ap₂ (λ y z. y * z) ee ea)) (ap₂ (λ y z. if nat_eq i 0 then y * z else 0) ed ee)
 
--- the message by which p keeps summand i of the wire that wire v of session s carries from session r
-abbrev pub kept_key : Plan → ℕ → ℕ → ℕ → ℕ → ℕ → Key
-kept_key plan s v r i p = key_at plan r (Kept (kept_place plan.sessions s v)) i p p
-
 -- all that p gets in session s before slot k, and all that it kept for this session, is as the equations have it
 pub record GotRight (w : World) (got : Key → ℕ) (p s k : ℕ) : Type 0 where
   pub slots : (z : Slot) (i q : ℕ) → Inside (session w.plan s) z → slot_number w.plan s z < k → i < length w.plan.groups → Goes w.plan s z i q p
       → got (key_at w.plan s z i q p) ≡ word w (key_at w.plan s z i q p)
   pub kept : (v r c at i : ℕ) → source (session w.plan s) v ≡ Carried r c at → i < length w.plan.groups → holds w.plan p i ≡ true
-      → got (kept_key w.plan s v r i p) ≡ word w (kept_key w.plan s v r i p)
+      → got (kept_key w.plan r s v i p) ≡ word w (kept_key w.plan r s v i p)
 
 -- the word of a message of a slot
 pub word_at : (w : World) (s : ℕ) (z : Slot) (i q p : ℕ) → Inside (session w.plan s) z → word w (key_at w.plan s z i q p) ≡ word_in w (key_at w.plan s z i q p) z
@@ -221,7 +217,7 @@ module _ (w : World) (carries : CarriesEarlier w.plan) (p s n : ℕ) (got later 
 
   source_same : (v i : ℕ) (from : Source) → source y v ≡ from → v < length (owners y) → local_source w got p s v from i ≡ local_source w later p s v from i
   source_same v i (Given q) from lv = deal_same (Input v) q _ _ i refl (input_first y v n lv)
-  source_same v i (Carried r c at) from lv = past (kept_key w.plan s v r i p) (carries s v r c at from)
+  source_same v i (Carried r c at) from lv = past (kept_key w.plan r s v i p) (carries s v r c at from)
 
   start_same : (v i : ℕ) → (local_run w got p s).start v i ≡ (local_run w later p s).start v i
   start_same v i =

@@ -14,12 +14,12 @@ use Rattle.job_session.specs.Sessions.{owners, source, given_by, Session, Slot, 
 use Rattle.job_session.specs.SoundSessions.{Inside}
 use Rattle.job_plan.specs.Plans.{scheme, session, deals_in, CarriesEarlier}
 use Rattle.job_session.specs.Sessions.Slot.{Input, At_gate, Output, Mask, Mask_product, Masked, Kept}
-use Rattle.share_world.specs.Worlds.{World, run_of, source_summands, summands_before, end_summands, carried_wire, tape_word, mask, mask_product, product_of, deal_of}
-use Rattle.share_world.specs.Solutions.{reads_first, reads_second, SetBefore, GatesInOrder, IsOrdered, dealt_sum, SummandsSolve, AllSolve, AreSummands, OnlySolution, IsSolution}
+use Rattle.share_world.specs.Worlds.{World, run_of, source_summands, summands_before, end_summands, source_value, values_before, value_before, carried_wire, tape_word, mask, mask_product, product_of, deal_of}
+use Rattle.share_world.specs.Solutions.{reads_first, reads_second, SetBefore, GatesInOrder, IsOrdered, dealt_sum, SummandsSolve, AllSolve, AreSummands, OnlySolution, IsSolution, CarriedArePlain}
 use Rattle.list_laws.specs.Lists.{total}
 use Rattle.mpc_ring.specs.Differences.{difference}
 use Rattle.list_laws.proofs.Totals.{total_eq}
-use Rattle.share_world.proofs.CarriedWires.{ended_summands}
+use Rattle.share_world.proofs.CarriedWires.{carrier_there, carried_within, ended_summands, ended_values}
 use Rattle.share_world.proofs.LocalWords.{own_alike, joined_same}
 use Rattle.share_world.proofs.Settled.{product_reads, settled}
 
@@ -153,7 +153,7 @@ module _ (w : World) (s : ℕ) (c : GatesInOrder (session w.plan s)) (carries : 
   source_is v i (Given p) lv from li = h.given v p i lv from ∙ h.input_deals v p i lv from
   source_is v i (Carried r k at) lv from li =
       let less = carries s v r k at from in
-      h.carried v r k at i lv from ∙ before r (carried_wire w.plan r k at) i less li
+      h.carried v r k at i from ∙ before r (carried_wire w.plan r k at) i less li
       ∙ ap (λ (f : ℕ → ℕ → ℕ). f (carried_wire w.plan r k at) i) (sym (ended_summands w s r less))
 
   solved : (t : ℕ) → t ≤ length x.gates → Known t
@@ -215,8 +215,8 @@ solution w s c carries = record {
       (let ends = ends_as t l (and_parts (not (session w.plan s).prepared) _ e).1 in ap₂ (own_product (scheme w.plan) p) ends.0 ends.1);
   mask_deals = λ t p i l e. refl;
   given = λ v p i l from. start v i (Given p) l from;
-  carried = λ v r k at i l from.
-      start v i (Carried r k at) l from
+  carried = λ v r k at i from.
+      start v i (Carried r k at) (carried_within (session w.plan s) v r k at from) from
       ∙ ap (λ (f : ℕ → ℕ → ℕ). f (carried_wire w.plan r k at) i) (ended_summands w s r (carries s v r k at from));
   linear = λ t i l e.
       let g = gate (session w.plan s) t in
@@ -260,3 +260,15 @@ solution w s c carries = record {
 
 pub is_solution : (w : World) → IsSolution w
 is_solution w order s ls = solution w s (order.gates s ls) order.carried
+
+-- ---- values of carried wires
+
+pub carried_are_plain : (w : World) → CarriedArePlain w
+carried_are_plain w order s v r k at from =
+    let x : Session = session w.plan s in
+    let many = length (owners x) in
+    let within : v < many = carried_within x v r k at from in
+    settled x (order.gates s (carrier_there w.plan s v r k at from)) (value_before w s) (λ t u apart. cond-false (nat_eq u (gate x t).output) _ (value_before w s t u) (ne_eqb u (gate x t).output apart)) 0 v (omega arith) (inl within)
+    ∙ cond-true (nat_lt v many) _ 0 (lt-ltb v many within)
+    ∙ ap (λ (z : Source). source_value w (values_before w s) s v z) from
+    ∙ ap (λ (f : ℕ → ℕ). f (carried_wire w.plan r k at)) (ended_values w s r (order.carried s v r k at from))

@@ -34,7 +34,7 @@ words_are = refl
 
 -- ---- the world is whole
 
-no_cover : IsQ2 (structure (multiply_plan 8))
+pub no_cover : IsQ2 (structure (multiply_plan 8))
 no_cover = record { no_cover = λ i j li lj. each i j li lj }
   where
     each : (i j : ℕ) → i < 3 → j < 3 → covers 3 (slice_index (1 ∷ 2 ∷ 4 ∷ []) i) (slice_index (1 ∷ 2 ∷ 4 ∷ []) j) ≡ false
@@ -183,7 +183,7 @@ sound = record {
     kept zero = refl
     kept (suc s) = refl
 
-small_lists : (xss : List (List ℕ)) → AllByRecursion (AllByRecursion (λ x. x < 256)) xss → (p k : ℕ) → slice_index (slice_index_or xss p []) k < 256
+pub small_lists : (xss : List (List ℕ)) → AllByRecursion (AllByRecursion (λ x. x < 256)) xss → (p k : ℕ) → slice_index (slice_index_or xss p []) k < 256
 small_lists [] h p k = omega arith
 small_lists (xs ∷ xss) h zero k = every_at (λ x. x < 256) xs k (omega arith) h.0
 small_lists (xs ∷ xss) h (suc p) k = small_lists xss h.1 p k

@@ -7,6 +7,7 @@ use Rattle.job_plan.specs.Plans.{Plan, plan_of}
 use Rattle.job_plan.specs.Multiply.{three_parties}
 use Rattle.job_plan.specs.Messages.{messages}
 use Rattle.share_world.specs.Worlds.{World, word, plain}
+use Rattle.share_world.specs.Laws.{IsWhole}
 
 -- the product of an input of a and one of b, which is kept for the next session
 abbrev pub kept_session : Session
@@ -53,3 +54,7 @@ CarriedWords =
 -- the product of both sessions is 105
 abbrev pub CarriedPlain : Type 0
 CarriedPlain = plain carried_world 1 2 ≡ 105
+
+-- the world is whole
+abbrev pub CarriedWhole : Type 0
+CarriedWhole = IsWhole carried_world

@@ -7,7 +7,7 @@ use Rattle.secret_sharing.specs.Prepared.{masked, joined_summand}
 use Rattle.job_plan.specs.declared.key.Key.{Key}
 use Rattle.job_session.specs.declared.source.Source.{Source}
 use Rattle.job_session.specs.declared.source.Source.TheVariants.{Given, Carried}
-use Rattle.job_session.specs.Sessions.{owners, source, gate, operand, kept_wire, Slot}
+use Rattle.job_session.specs.Sessions.{owners, source, gate, operand, output_wire, kept_wire, Slot}
 use Rattle.job_session.specs.Carries.{kept_place}
 use Rattle.job_session.specs.declared.side.Side.{Side}
 use Rattle.job_session.specs.declared.side.Side.TheVariants.{First, Second}
@@ -16,11 +16,14 @@ use Rattle.job_plan.specs.Plans.{Plan, holds, least_holder, scheme, session, slo
 use Rattle.job_plan.specs.Messages.{messages}
 use Rattle.job_session.specs.Sessions.Slot.{Input, At_gate, Output, Mask, Mask_product, Masked, Kept}
 use Rattle.share_world.specs.Worlds.{World, input_of, tape_word, mask, word}
-use Rattle.job_session.specs.Sessions.{output_wire}
 
 -- the message of summand i that p sends q in a slot
 abbrev pub key_at : Plan → ℕ → Slot → ℕ → ℕ → ℕ → Key
 key_at plan s kind i p q = record { session = s; slot = slot_number plan s kind; share = i; sender = p; receiver = q }
+
+-- the message by which p keeps, in session r, summand i of the wire that input wire v of session s carries
+abbrev pub kept_key : Plan → ℕ → ℕ → ℕ → ℕ → ℕ → Key
+kept_key plan r s v i p = key_at plan r (Kept (kept_place plan.sessions s v)) i p p
 
 -- summand i of what q deals in a slot, as p has it: where p is q, it deals v
 abbrev pub local_deal : World → (Key → ℕ) → ℕ → ℕ → Slot → ℕ → ℕ → ℕ → ℕ
@@ -60,10 +63,10 @@ local_product w got p s t x y =
     (local_mask w got p s t First) (local_mask w got p s t Second) (local_mask_product w got p s t)
     else product_summand (scheme w.plan) (local_deal w got p s (At_gate t)) x y
 
--- summand i of input wire v, with this source: its giver's deal, or what p kept for it of a wire of session r
+-- summand i of input wire v, with this source: its giver's deal, or what p kept of the wire that it carries
 abbrev pub local_source : World → (Key → ℕ) → ℕ → ℕ → ℕ → Source → ℕ → ℕ
 local_source w got p s v (Given q) i = local_deal w got p s (Input v) q (input_of w s v) i
-local_source w got p s v (Carried r c at) i = got (key_at w.plan r (Kept (kept_place w.plan.sessions s v)) i p p)
+local_source w got p s v (Carried r c at) i = got (kept_key w.plan r s v i p)
 
 -- summand i of the input wires, and 0 for any other wire
 abbrev pub local_start : World → (Key → ℕ) → ℕ → ℕ → ℕ → ℕ → ℕ

@@ -6,7 +6,7 @@ use Rattle.job_session.specs.declared.values.Owner.{Owner}
 use Rattle.job_session.specs.declared.values.KeptWire.{KeptWire}
 use Rattle.job_session.specs.Parts.{session_of}
 use Rattle.job_session.specs.Sessions.{Session}
-use Rattle.job_plan.specs.Plans.{session, CarriesEarlier}
+use Rattle.job_plan.specs.Plans.{session}
 use Rattle.share_world.specs.Worlds.{World, first_values, plain}
 use Rattle.share_world.specs.Solutions.{GatesInOrder}
 

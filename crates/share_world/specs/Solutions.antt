@@ -12,7 +12,7 @@ use Rattle.job_session.specs.Sessions.Slot.{Input, At_gate, Mask_product}
 use Rattle.job_session.specs.declared.side.Side.TheVariants.{First, Second}
 use Rattle.job_session.specs.SoundSessions.{Inside}
 use Rattle.job_plan.specs.Plans.{Plan, scheme, session, deals_in, CarriesEarlier}
-use Rattle.share_world.specs.Worlds.{World, input_of, tape_word, mask, carried_wire, end_summands, deal_of}
+use Rattle.share_world.specs.Worlds.{World, input_of, tape_word, mask, carried_wire, end_summands, plain, deal_of}
 
 -- the operation reads the first wire of its gate
 abbrev pub reads_first : Operation → Bool
@@ -62,8 +62,7 @@ pub record SummandsSolve (w : World) (s : ℕ) (summand : ℕ → ℕ → ℕ �
       (tape_word w s (Mask_product t) p) i
   pub given : (v p i : ℕ) → v < length (owners (session w.plan s)) → source (session w.plan s) v ≡ Given p
       → summand s v i ≡ deal s p (Input v) i
-  pub carried : (v r c at i : ℕ) → v < length (owners (session w.plan s))
-      → source (session w.plan s) v ≡ Carried r c at
+  pub carried : (v r c at i : ℕ) → source (session w.plan s) v ≡ Carried r c at
       → summand s v i ≡ summand r (carried_wire w.plan r c at) i
   pub linear : (t i : ℕ) → t < length (session w.plan s).gates
       → is_product (gate (session w.plan s) t).operation ≡ false
@@ -98,3 +97,9 @@ OnlySolution w =
 -- and they are a solution
 abbrev pub IsSolution : World → Type 0
 IsSolution w = IsOrdered w.plan → AllSolve w (end_summands w) (deal_of w)
+
+-- a carried wire has the value of the wire that it carries
+abbrev pub CarriedArePlain : World → Type 0
+CarriedArePlain w =
+    IsOrdered w.plan → (s v r c at : ℕ) → source (session w.plan s) v ≡ Carried r c at
+    → plain w s v ≡ plain w r (carried_wire w.plan r c at)

@@ -6,10 +6,10 @@ ghost use Rattle.job_plan.specs.Plans.{IsPlan, CarriesEarlier};
 ghost use Rattle.share_world.specs.Worlds.{World};
 ghost use Rattle.share_world.specs.Laws.{IsWorld, SumIsPlain, HeldAreDealt, SentAreWords, OpenedArePlain};
 ghost use Rattle.share_world.specs.Locals.{LocalsJoin, ReadsBefore};
-ghost use Rattle.share_world.specs.Solutions.{IsSolution, OnlySolution};
+ghost use Rattle.share_world.specs.Solutions.{IsSolution, OnlySolution, CarriedArePlain};
 ghost use Rattle.share_world.specs.Made.{MadeIsCircuit, MadeHasValues};
 ghost use Rattle.share_world.specs.Multiply.{MultiplyPlain, MultiplyWhole, MultiplyWords};
-ghost use Rattle.share_world.specs.CarriedProduct.{CarriedPlain, CarriedWords};
+ghost use Rattle.share_world.specs.CarriedProduct.{CarriedPlain, CarriedWhole, CarriedWords};
 
 /// The summands of every wire add up to its plain value.
 pub fn sum_is_plain()
@@ -17,10 +17,12 @@ pub fn sum_is_plain()
 {}
 
 /// Over valid circuits, which may carry wires from one session to a later one, the summands of the wires and of the deals
-/// solve the sharing equations (Maurer 2006) of all sessions at once, and no others do.
+/// solve the sharing equations (Maurer 2006) of all sessions at once, and no others do. A carried wire has the value of the
+/// wire that it carries.
 pub fn equations_have_one_solution()
     ensures solves { (w : World) → IsSolution w }
     ensures alone { (w : World) → OnlySolution w }
+    ensures carried { (w : World) → CarriedArePlain w }
 {}
 
 /// What a party computes by itself from the words of the equations is what the equations say: the summands that it
@@ -55,8 +57,10 @@ pub fn multiply_job()
     ensures words { MultiplyWords }
 {}
 
-/// The worked job of two products, the first of which is carried, has these words and this output, by computation.
+/// The worked job of two products, the first of which is carried, is whole, and has these words and this output, by
+/// computation.
 pub fn carried_job()
+    ensures whole { CarriedWhole }
     ensures plain { CarriedPlain }
     ensures words { CarriedWords }
 {}
