@@ -3,7 +3,8 @@
 
 Ring circuits of 4,096 to 65,536 gates, a quarter of them products, a circuit of bits with as many gates of each kind as a
 circuit of AES-128 has, one of products alone that eight sessions compute, another for five parties, and the job that 'mpc sample 65536'
-makes. With 'limits', in their place, jobs as large as the program takes: the most products, the deepest circuit (each gate squares what the one before it set) and the widest (all wires are
+makes. Of the largest ring circuit and of the one of bits there is a job with prepared products, too, and one of eight sessions of which every other one prepares its
+products. With 'limits', in their place, jobs as large as the program takes: the most products, the deepest circuit (each gate squares what the one before it set) and the widest (all wires are
 inputs or outputs). Each folder gets the job, its circuit, three party files with seeds, and 'expected', the text that 'mpc run' must
 write, computed from the plain circuit. The same call always makes the same files.
 
@@ -11,6 +12,7 @@ A list of the folders, with a line 'NAME GATES PRODUCTS MESSAGES' for each, goes
 """
 
 import hashlib
+import itertools
 import math
 import os
 import sys
@@ -52,10 +54,13 @@ class Sharing:
         self.formula = f'{qualified} of ({", ".join(self.parties)})'
         summands = math.comb(count, qualified - 1)
         held = math.comb(count - 1, qualified - 1)
+        self.tolerated = list(itertools.combinations(self.parties, qualified - 1))
         # Each summand goes to its holders but the dealer. A product is dealt by each party.
         self.deal_messages = summands * (count - qualified + 1) - held
         self.product_messages = count * self.deal_messages
         self.output_messages = count * (summands - held)
+        # A prepared product has two masks, of which each summand goes to its holders but one, their product, and two wires opened to all.
+        self.prepared_messages = self.product_messages + 2 * summands * (count - qualified) + 2 * self.output_messages
 
 
 THREE = Sharing(3, 2)
@@ -98,10 +103,10 @@ def negate_an_input(operation, wire, numbers):
     return [wire - MOST_GATES]
 
 
-def write(folder, name, layout, bits, widths, outputs, operations, numbers, sessions=1, choose=operands, known=None, seeds=None, sharing=THREE):
+def write(folder, name, layout, bits, widths, outputs, operations, numbers, sessions=1, choose=operands, known=None, seeds=None, sharing=THREE, prepared=()):
     """Writes one job: the inputs are given by a, b, .. in turn, the last wires are the output values of these widths, which all read.
-    All sessions have the same circuit, and inputs of their own. The words of the input wires and the parties' seeds are 'known' and
-    'seeds', where they are there."""
+    All sessions have the same circuit, and inputs of their own; those of these numbers prepare their products. The words of the input wires and the parties'
+    seeds are 'known' and 'seeds', where they are there."""
     path = os.path.join(folder, name)
     os.makedirs(path)
     parties = sharing.parties
@@ -131,8 +136,9 @@ def write(folder, name, layout, bits, widths, outputs, operations, numbers, sess
             value = ' '.join(map(str, words[first:first + width]))
             expected += ''.join(f'out {session} {output} {party} {value}\n' for party in parties)
 
-    products = sessions * sum(operation in ('MUL', 'AND') for operation in operations)
-    messages = sessions * (sum(widths) * sharing.deal_messages + sum(outputs) * sharing.output_messages) + products * sharing.product_messages
+    products = sum(operation in ('MUL', 'AND') for operation in operations)
+    messages = sessions * (sum(widths) * sharing.deal_messages + sum(outputs) * sharing.output_messages)
+    messages += products * (len(prepared) * sharing.prepared_messages + (sessions - len(prepared)) * sharing.product_messages)
     if messages > MOST_MESSAGES or len(gates) > MOST_GATES or wires > MOST_WIRES:
         sys.exit(f'make_jobs.py: {name} is past the limits of the program')
 
@@ -144,11 +150,15 @@ def write(folder, name, layout, bits, widths, outputs, operations, numbers, sess
         sys.exit(f'make_jobs.py: the circuit of {name} is longer than the program takes')
     texts = lambda items: '[' + ', '.join(f'"{item}"' for item in items) + ']'
     readers = '[' + ', '.join([texts(parties)] * len(outputs)) + ']'
-    session = (f'[[session]]\ncircuit = "circuit.txt"\nlayout = "{layout}"\nowners = {texts(owners)}\n'
-               f'readers = {readers}\n')
+    session_text = (f'[[session]]\ncircuit = "circuit.txt"\nlayout = "{layout}"\nowners = {texts(owners)}\n'
+                    f'readers = {readers}\n')
+    sharing_text = f'formula = "{sharing.formula}"'
+    if prepared:
+        sharing_text = f'tolerated = [{", ".join(map(texts, sharing.tolerated))}]'
     files = {
         'circuit.txt': circuit,
-        'job.toml': f'version = 1\nring_bits = {bits}\nparties = {texts(parties)}\nformula = "{sharing.formula}"\n' + sessions * session,
+        'job.toml': f'version = {2 if prepared else 1}\nring_bits = {bits}\nparties = {texts(parties)}\n{sharing_text}\n'
+                    + ''.join(session_text + ('products = "prepared"\n' if session in prepared else '') for session in range(sessions)),
         'expected': expected,
     }
     for party in parties:
@@ -157,7 +167,7 @@ def write(folder, name, layout, bits, widths, outputs, operations, numbers, sess
     for file, text in files.items():
         with open(os.path.join(path, file), 'w', newline='\n') as out:
             out.write(text)
-    print(name, sessions * len(gates), products, messages)
+    print(name, sessions * len(gates), sessions * products, messages)
 
 
 def write_sample(folder, gates):
@@ -185,8 +195,11 @@ def write_bench(folder):
         j = numbers.below(i + 1)
         operations[i], operations[j] = operations[j], operations[i]
     write(folder, 'bits_aes', 'bristol', 1, BIT_INPUTS, [BIT_OUTPUTS], operations, numbers)
+    write(folder, 'prepared_bits', 'bristol', 1, BIT_INPUTS, [BIT_OUTPUTS], operations, Numbers(129), prepared=[0])
+    write(folder, 'prepared_65536', 'ring', 32, [1] * INPUT_WIRES, [1], [['MUL', 'ADD', 'SUB', 'NEG'][i % 4] for i in range(65536)], Numbers(65536), prepared=[0])
     operations = ['MUL'] * SESSION_PRODUCTS
     write(folder, 'eight_sessions', 'ring', 32, [1] * INPUT_WIRES, [1], operations, Numbers(8), sessions=8)
+    write(folder, 'every_other_session', 'ring', 64, [1] * INPUT_WIRES, [1], operations, Numbers(9), sessions=8, prepared=range(1, 8, 2))
     operations = ['MUL'] * FIVE_PARTIES_PRODUCTS
     write(folder, 'five_parties', 'ring', 32, [1] * INPUT_WIRES, [1], operations, Numbers(5), sessions=8, sharing=FIVE)
 

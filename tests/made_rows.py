@@ -61,6 +61,13 @@ def products(header, operands, wires):
     return Whole('mul.txt', (header + ''.join(f'2 1 {operands} {wire} MUL\n' for wire in wires)).encode())
 
 
+def of_one_party(sessions):
+    """A job of one party with so many sessions of 65,536 prepared products each, whose masks take two words a product and no message."""
+    session = '[[session]]\ncircuit = "mul.txt"\nlayout = "ring"\nproducts = "prepared"\nowners = ["a", "a"]\nreaders = [[]]\n'
+    return [products('65536 65538\n2 1 1\n1 1\n', '0 1', range(2, 65538)),
+            Whole('job.toml', ('version = 2\nring_bits = 8\nparties = ["a"]\ntolerated = [[]]\n' + sessions * session).encode())]
+
+
 LONG_JOBS = [
     Row('a_job_past_the_limit', RUN, [Whole('job.toml', 16_777_217 * b' ')], status=3,
         err='refused files 1 TooLong file=job.toml limit=16777216\n'),
@@ -70,6 +77,11 @@ LONG_JOBS = [
     Row('seven_parties_and_1024_products', RUN,
         [products('1024 2624\n1 1600\n1 1\n', '0 0', range(1600, 2624)), Whole('job.toml', SEVEN_PARTIES)],
         status=3, err='refused plan 1 TooManyMessages count=1052160\n'),
+    Row('as_many_tape_words_as_may_be', CHECK, of_one_party(8),
+        out='parties 1\ngroups 1\ngroup 0 0\nduty a 1\n'
+            + ''.join(f'session {session} gates 65536 products 65536 messages 0\n' for session in range(8))
+            + 'words a 1048576\nmessages 0\n'),
+    Row('too_many_tape_words', CHECK, of_one_party(9), status=3, err='refused plan 2 TooManyWords party=a count=1179648\n'),
 ]
 
 

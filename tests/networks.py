@@ -20,6 +20,7 @@ import tempfile
 from accepted_runs import ACCEPTED
 from expressions import EXPR, EXPRESSIONS, SQUARE_OF_A_SUM
 from in_the_clear import fields, out_in_the_clear
+from prepared_runs import PREPARED_RUNS
 from product import Edit, Whole, product_with
 from random_expressions import random_job, with_circuits
 from tolerated_runs import TOLERATED
@@ -103,7 +104,7 @@ def expect_faults(ended, begins):
 
 
 def accepted_jobs(program):
-    for row in [*ACCEPTED, *WIDE_RINGS, *TOLERATED, *EXPRESSIONS]:
+    for row in [*ACCEPTED, *WIDE_RINGS, *TOLERATED, *PREPARED_RUNS, *EXPRESSIONS]:
         if row.out.startswith('out ') and '--view' not in row.words and len(row.out) <= MOST_WRITTEN:
             expect_written(row.files(), run(program, row.files()))
 

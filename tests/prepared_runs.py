@@ -1,7 +1,7 @@
 """Jobs whose products are prepared. The words of messages are computed apart from the program, by the rules of docs/PROTOCOL.md."""
 
 from pairs import FROM_C, OTHER_FACTORS
-from product import CHECK, Edit, RUN, Row, SESSION, TAPE_A, TAPE_B
+from product import CHECK, Edit, RUN, Row, SEED, SESSION, TAPE_A, TAPE_B, Whole
 
 # The product of 5 and 7, prepared, in a job of version 2.
 PREPARED = [
@@ -24,6 +24,15 @@ DIRECT_AND_PREPARED = [
     Edit('party_c.toml', '[""]', '["", ""]'),
     Edit('party_c.toml', '5 6', '5 6 31 32'),
 ]
+
+
+def in_a_ring(bits, first, second):
+    """Both sessions in a ring of so many bits, with these factors of each and seeds in place of tapes."""
+    return [*DIRECT_AND_PREPARED, Edit('job.toml', 'ring_bits = 8', f'ring_bits = {bits}'),
+            Whole('party_a.toml', f'version = 1\ninputs = ["{first[0]}", "{second[0]}"]\n{SEED}\n'),
+            Whole('party_b.toml', f'version = 1\ninputs = ["{first[1]}", "{second[1]}"]\n{SEED}\n'),
+            Whole('party_c.toml', f'version = 1\ninputs = ["", ""]\n{SEED}\n')]
+
 
 # The counts of the job's groups.
 GROUPS = ('parties 3\n'
@@ -78,6 +87,10 @@ PREPARED_RUNS = [
             '0 6 2 a c 187\n'
             '0 8 2 a c 39\n'),
     Row('direct_and_prepared', RUN, DIRECT_AND_PREPARED, out='out 0 0 c 35\nout 1 0 c 6\n'),
+    Row('direct_and_prepared_bits', RUN, in_a_ring(1, (1, 1), (1, 0)), out='out 0 0 c 1\nout 1 0 c 0\n'),
+    Row('direct_and_prepared_of_32_bits', RUN, in_a_ring(32, (65536, 65537), (4294967295, 4294967295)), out='out 0 0 c 65536\nout 1 0 c 1\n'),
+    Row('direct_and_prepared_of_64_bits', RUN, in_a_ring(64, (4294967296, 4294967297), (18446744073709551615, 2)),
+        out='out 0 0 c 4294967296\nout 1 0 c 18446744073709551614\n'),
     Row('check_of_direct_and_prepared', CHECK, DIRECT_AND_PREPARED,
         out=GROUPS
             + 'session 0 gates 1 products 1 messages 21\n'

@@ -63,7 +63,7 @@ GROUPS = {
 }
 
 # Those of which each run that writes outputs is computed in the clear.
-IN_THE_CLEAR = ['accepted', 'wide rings', 'tolerated', 'expressions']
+IN_THE_CLEAR = ['accepted', 'wide rings', 'tolerated', 'prepared', 'expressions']
 
 
 def call(program, row):

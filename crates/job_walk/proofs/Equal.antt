@@ -1,5 +1,5 @@
 -- The same steps over equal names, bytes and lists.
-use Rattle.std.proofs.Common.{◌≡◌, ℕ, ◌<◌, ◌≤◌, ◌+◌, zero, suc, All, List, [], ◌∷◌, length, drop, map, get_or, Result, refl, ap, ap₂, ◌∙◌, subst, arith}
+use Rattle.std.proofs.Common.{◌≡◌, ℕ, Bool, ◌<◌, ◌≤◌, ◌+◌, zero, suc, All, List, [], ◌∷◌, length, drop, map, get_or, Result, refl, ap, ap₂, ◌∙◌, subst, arith}
 use Rattle.std.proofs.lemmas.List.Elements.{All-head, All-tail}
 use Rattle.outer_io.specs.Files.{FilesReading}
 use Rattle.party_set.specs.Parties.{Members}
@@ -31,12 +31,12 @@ groups_same parties (g ∷ gs) all =
     ap₂ (λ x xs. x ∷ xs) first (groups_same parties gs (All-tail (λ (g : Members). g.parties ≡ parties) g gs all))
 
 -- the session of a circuit whose groups of readers are told by masks
-pub part_same : (line : PartFault → List ℕ) (circuit : Netlist) (owners owners' : List ℕ) (parties : ℕ) (groups groups' : List Members) (result : Result Session Stop)
+pub part_same : (line : PartFault → List ℕ) (circuit : Netlist) (prepared : Bool) (owners owners' : List ℕ) (parties : ℕ) (groups groups' : List Members) (result : Result Session Stop)
     → owners ≡ owners' → groups ≡ groups' → All (λ (g : Members). g.parties ≡ parties) groups'
-    → WalksAs (λ part. part) (Ends (part_of line circuit owners groups)) result → WalksAs (λ part. part) (Ends (part_of line circuit owners' (groups_in parties (map (λ (g : Members). g.mask) groups')))) result
-part_same line circuit owners owners' parties groups groups' result same e all w =
-    subst (λ os. WalksAs (λ part. part) (Ends (part_of line circuit os (groups_in parties (map (λ (g : Members). g.mask) groups')))) result) same
-    (subst (λ gs. WalksAs (λ part. part) (Ends (part_of line circuit owners gs)) result) (e ∙ groups_same parties groups' all) w)
+    → WalksAs (λ part. part) (Ends (part_of line circuit prepared owners groups)) result → WalksAs (λ part. part) (Ends (part_of line circuit prepared owners' (groups_in parties (map (λ (g : Members). g.mask) groups')))) result
+part_same line circuit prepared owners owners' parties groups groups' result same e all w =
+    subst (λ os. WalksAs (λ part. part) (Ends (part_of line circuit prepared os (groups_in parties (map (λ (g : Members). g.mask) groups')))) result) same
+    (subst (λ gs. WalksAs (λ part. part) (Ends (part_of line circuit prepared owners gs)) result) (e ∙ groups_same parties groups' all) w)
 
 -- what is left of a list before and after one more
 next_left : {A B : Type 0} (f : A → B) (xs : List A) (i : ℕ) (d : A) → i < length xs → drop i (map f xs) ≡ f (get_or xs i d) ∷ drop (suc i) (map f xs)

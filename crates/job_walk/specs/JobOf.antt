@@ -111,10 +111,12 @@ StructureOf job = Then (GroupsOf job.names job.adversary) (Q2Of job)
 abbrev pub groups_in : ℕ → List ℕ → List Members
 groups_in parties masks = map (λ mask. record { parties = parties; mask = mask }) masks
 
--- the session of a circuit, where the counts of owners and readers are the circuit's
-abbrev pub part_of : (PartFault → List ℕ) → Netlist → List ℕ → List Members → Verdict Session
-part_of line circuit owners readers =
-    unless (part_fault circuit owners readers) line (session_of circuit owners readers)
+-- the session of a circuit, with prepared products or direct ones, where the counts of owners and readers are the
+-- circuit's
+abbrev pub part_of : (PartFault → List ℕ) → Netlist → Bool → List ℕ → List Members → Verdict Session
+part_of line circuit prepared owners readers =
+    unless (part_fault circuit owners readers) line
+    (record (session_of circuit owners readers) { prepared = prepared })
 
 -- the circuit of a program of expressions, or the program's first fault
 unfoldable pub ExpressionsOf : (ExprFault → List ℕ) → ℕ → List ℕ → Verdict Netlist → Type 0
@@ -133,7 +135,7 @@ unfoldable pub SessionAt : Contents → List ℕ → JobForm → ℕ → Session
 SessionAt files dir job s form =
     Then (Ends (file_at files dir form.circuit)) (λ bytes.
     Then (CircuitOf form.layout form.circuit s job.bits bytes) (λ circuit.
-    Ends (part_of (session_line s) circuit form.owners
+    Ends (part_of (session_line s) circuit form.prepared form.owners
     (groups_in (length job.names) form.readers))))
 
 -- these sessions, after those that were read

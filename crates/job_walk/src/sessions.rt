@@ -154,14 +154,15 @@ fn part_of(
 ) -> Result<SessionPart, Stop>
     requires { IsSession (length job.now.names) session.now }
     ensures walks { WalksAs (λ part. part)
-        (Ends (part_of (session_line s) circuit session.now.owners.items session.now.readers.items))
-        result }
+        (Ends (part_of (session_line s) circuit session.now.prepared session.now.owners.items
+        session.now.readers.items)) result }
     ensures sound { IfOk result (IsSoundSession (length job.now.names)) }
 {
     let _ = job;
     let owners = owners_of(session)?;
     let readers = readers_of(session)?;
     match SessionPart::make(alloc, circuit, owners, readers) {
+        Ok(part) if session.prepared => Ok(part.prepared(alloc)?),
         Ok(part) => Ok(part),
         Err(PartFault::Memory) => Err(Stop::Memory),
         Err(fault) => Err(refusal(session_line(alloc, s, fault))),

@@ -31,7 +31,7 @@ use Rattle.job_session.specs.Sessions.{Session, no_session}
 use Rattle.job_session.specs.declared.values.OutputValue.{OutputValue}
 use Rattle.job_session.specs.Parts.{session_of, part_fault, output_values}
 use Rattle.job_session.specs.SoundSessions.{IsSoundSession}
-use Rattle.job_session.proofs.CircuitSessions.{sound_session, counts_agree}
+use Rattle.job_session.proofs.CircuitSessions.{sound_session, sound_prepared, counts_agree}
 use Rattle.job_plan.specs.Plans.{Plan, plan_of, words}
 use Rattle.job_plan.specs.Sound.{IsSound}
 use Rattle.job_plan.specs.Limits.{IsPlanWithin}
@@ -233,16 +233,17 @@ outputs_within n [] masks h = tt
 outputs_within n (w ∷ ws) [] h = tt
 outputs_within n (w ∷ ws) (mask ∷ masks) h = (h.0, outputs_within n ws masks h.1)
 
-part_sound : (n : ℕ) (adversary : AdversaryForm) (line : PartFault → List ℕ) (c : Netlist) (form : SessionForm) (s : Session) → IsCircuit c → IsSessionForm n adversary form → accepted s ≡ part_of line c form.owners (groups_in n form.readers) → IsSoundSession n s
+part_sound : (n : ℕ) (adversary : AdversaryForm) (line : PartFault → List ℕ) (c : Netlist) (form : SessionForm) (s : Session) → IsCircuit c → IsSessionForm n adversary form → accepted s ≡ part_of line c form.prepared form.owners (groups_in n form.readers) → IsSoundSession n s
 part_sound n adversary line c form s valid named e =
     let groups : List Members = groups_in n form.readers in
-    let made = was_none (part_fault c form.owners groups) line s (session_of c form.owners groups) e in
+    let made = was_none (part_fault c form.owners groups) line s (record (session_of c form.owners groups) { prepared = form.prepared }) e in
     let counts = counts_agree (length c.inputs) (length form.owners) (length c.outputs) (length groups) made.0 in
     subst (IsSoundSession n) (sym made.1)
+    (sound_prepared n (session_of c form.owners groups) form.prepared refl
     (sound_session c form.owners groups n valid counts.0 counts.1
     (record { owned = All-from_recursion (λ owner. owner < n) form.owners named.owners; read = All-map (λ (group : Members). group.parties ≡ n) (λ mask. record { parties = n; mask = mask }) form.readers (λ k d l. refl) })
     (All-from_recursion (λ (value : OutputValue). value.readers.mask < 2 ^ value.readers.parties) (output_values c.outputs groups)
-    (outputs_within n c.outputs form.readers named.readers)))
+    (outputs_within n c.outputs form.readers named.readers))))
 
 circuit_is_valid : (layout : SessionLayout) (file : List ℕ) (s bits : ℕ) (bytes : List ℕ) (c : Netlist) → 0 < bits → bits ≤ 64 → CircuitOf layout file s bits bytes (accepted c) → IsCircuit c
 unfolding CircuitOf ExpressionsOf

@@ -57,10 +57,10 @@ many_values (suc m) (g ∷ gs) e = ap suc (many_values m gs (omega (arith, e)))
 
 -- ---- the session of a circuit
 
-module _ (w : World) (s : ℕ) (c : Netlist) (given : List ℕ) (read : List Members) (m : ℕ) (is : session w.plan s ≡ session_of c given read) (bits : w.plan.bits ≡ c.bits)
+module _ (w : World) (s : ℕ) (c : Netlist) (given : List ℕ) (read : List Members) (m : ℕ) (prepared : Bool) (is : session w.plan s ≡ record (session_of c given read) { prepared = prepared }) (bits : w.plan.bits ≡ c.bits)
     (owned : length given ≡ length c.inputs) (many : length read ≡ m) (ones : c.outputs ≡ replicate m 1) where
   abbrev made : Session
-  made = session_of c given read
+  made = record (session_of c given read) { prepared = prepared }
 
   abbrev before : ℕ → ℕ → ℕ
   before n u = if nat_lt u n then input_of w s u else 0
@@ -155,7 +155,7 @@ record IsOfProgram (files : Contents) (dir : List ℕ) (job : JobForm) (form : S
   of : IsProgramOf files dir job.bits form program
   owned : length form.owners ≡ length (circuit job.bits program).inputs
   read : length (groups_in (length job.names) form.readers) ≡ length (circuit job.bits program).outputs
-  made : x ≡ session_of (circuit job.bits program) form.owners (groups_in (length job.names) form.readers)
+  made : x ≡ record (session_of (circuit job.bits program) form.owners (groups_in (length job.names) form.readers)) { prepared = form.prepared }
 
 of_program : (files : Contents) (dir : List ℕ) (job : JobForm) (s : ℕ) (form : SessionForm) (x : Session) (layout : SessionLayout) → form.layout ≡ layout → layout ≡ Expressions
     → SessionAt files dir job s form (accepted x) → IsOfProgram files dir job form x
@@ -163,14 +163,14 @@ unfolding SessionAt CircuitOf ExpressionsOf Then file_at
 of_program files dir job s form x layout is expressions (bytes, there, (c, told, e)) =
     let read : IsCircuitOf job.bits bytes c = subst (λ (l : SessionLayout). CircuitOf l form.circuit s job.bits bytes (accepted c)) (is ∙ expressions) told in
     let groups : List Members = groups_in (length job.names) form.readers in
-    let found = was_none (part_fault c form.owners groups) _ x (session_of c form.owners groups) e in
+    let found = was_none (part_fault c form.owners groups) _ x (record (session_of c form.owners groups) { prepared = form.prepared }) e in
     let counts = counts_agree (length c.inputs) (length form.owners) (length c.outputs) (length groups) found.0 in
     record {
       program = read.program;
       of = record { text = bytes; file = bytes_there (files (file_names.path_of dir form.circuit)) form.circuit bytes (sym there); is = read.is };
       owned = counts.0 ∙ ap (λ (c : Netlist). length c.inputs) read.made;
       read = counts.1 ∙ ap (λ (c : Netlist). length c.outputs) read.made;
-      made = found.1 ∙ ap (λ (c : Netlist). session_of c form.owners groups) read.made;
+      made = found.1 ∙ ap (λ (c : Netlist). record (session_of c form.owners groups) { prepared = form.prepared }) read.made;
     }
 
 -- ---- the job
@@ -191,7 +191,7 @@ session_writes files dir job form w s x some few bits at o =
     let groups : List Members = groups_in (length job.names) form.readers in (
       p,
       o.of,
-      writes w s (circuit job.bits p) form.owners groups outputs (at ∙ o.made) (bits ∙ sym (of_bits job.bits p)) o.owned
+      writes w s (circuit job.bits p) form.owners groups outputs form.prepared (at ∙ o.made) (bits ∙ sym (of_bits job.bits p)) o.owned
           (o.read ∙ ap length (output_count job.bits p) ∙ length-replicate {A = ℕ} outputs 1) (output_count job.bits p)
           (program_value (2 ^ job.bits) p (input_of w s)) (program_has_its_value job.bits o.of.text p some few (input_of w s) o.of.is),
     )

@@ -1,9 +1,21 @@
-use Rattle.std.proofs.Common.{◌<◌, length, sym, ap, ◌∙◌, subst, arith}
+use Rattle.std.proofs.Common.{◌≡◌, ℕ, ◌+◌, ◌*◌, ◌<◌, ◌≤◌, All, List, length, sym, ap, ◌∙◌, subst, arith}
+use Rattle.std.specs.Prelude.{slice_index}
 use Rattle.std.specs.Arc.{arc_value}
+use Rattle.std.proofs.lemmas.Nat.{mul-le}
 use Rattle.circuit_model.specs.declared.gate.Gate.{Gate}
-use Rattle.job_session.specs.Sessions.{gate, Session}
+use Rattle.job_session.specs.declared.row_table.RowTable.{RowTable}
+use Rattle.job_session.specs.declared.side.Side.TheVariants.{First, Second}
+use Rattle.job_session.specs.Sessions.{gate, mask_wire, product_wire, row_names, Session}
+use Rattle.job_session.proofs.RowNames.{mask_within, product_named}
+use Rattle.job_plan.specs.Plans.{session}
 use Rattle.party_desk.proofs.NamedRows.{gate_named}
 use Rattle.party_desk.proofs.memory.Memory.join.Goals as goal
+
+-- the row of a wire lies in the table of summands
+row_fits : (rows : List ℕ) (live m w r n : ℕ) (table : List ℕ) → All (λ row. row < live + 1) rows → w < length rows → r ≡ slice_index rows w → n ≡ m → length table ≡ (live + 1) * m → (r + 1) * n ≤ length table
+row_fits rows live m w r n table below lw is same long =
+    let row : slice_index rows w < live + 1 = below w 0 lw in
+    omega (arith, mul-le (r + 1) n (live + 1) m (omega (arith, row, is)) (omega (arith, same)), long)
 
 pub row-row-requires : goal.row-row-requires
 row-row-requires c =
@@ -11,3 +23,18 @@ row-row-requires c =
     let is = c.gate.ensures ∙ ap (λ (z : Session). gate z c.args.t) c.part-part.ensures in
     let named = gate_named plan c.parties.ensures.sound c.args.s c.requires.session c.args.t c.requires.gate in
     subst (λ (g : Gate). g.output < length (arc_value c.args.self.now.table).rows.items) (sym is) (omega (arith, named, c.requires.fits.table.0.wires))
+
+pub join_row-requires-clause-masks : goal.join_row-requires-clause-masks
+join_row-requires-clause-masks c =
+    let x : Session = session c.args.plan.now c.args.s in
+    let fits = c.requires.fits in
+    let long = ap length c.as_mut_slice-rows.ensures.value ∙ fits.rows in
+    let same = c.shares-shares.ensures.is in
+    let a : c.mask_wire.result ≡ mask_wire x c.args.t First = c.mask_wire.ensures ∙ ap (λ (z : Session). mask_wire z c.args.t First) c.part-part.ensures in
+    let b : c.mask_wire-2.result ≡ mask_wire x c.args.t Second = c.mask_wire-2.ensures ∙ ap (λ (z : Session). mask_wire z c.args.t Second) c.part-part.ensures in
+    let d : c.product_wire.result ≡ product_wire x c.args.t = c.product_wire.ensures ∙ ap (λ (z : Session). product_wire z c.args.t) c.part-part.ensures in
+    let row_is : (w : ℕ) → slice_index c.rows.result.now w ≡ slice_index (arc_value c.args.self.now.table).rows.items w = λ w. ap (λ xs. slice_index xs w) c.rows.ensures ∙ ap (λ (z : RowTable). slice_index z.rows.items w) c.deref.ensures in (
+      row_fits _ _ _ c.mask_wire.result _ _ _ fits.table.0.below (omega (arith, a, mask_within x c.args.t First c.requires.gate c.requires.prepared, fits.table.0.wires)) (ap (λ (g : Gate). g.first) c.on_rows-placed.ensures ∙ row_is _) same long,
+      row_fits _ _ _ c.mask_wire-2.result _ _ _ fits.table.0.below (omega (arith, b, mask_within x c.args.t Second c.requires.gate c.requires.prepared, fits.table.0.wires)) (ap (λ (g : Gate). g.second) c.on_rows-placed.ensures ∙ row_is _) same long,
+      row_fits _ _ _ c.product_wire.result _ _ _ fits.table.0.below (omega (arith, d, product_named x c.args.t c.requires.gate c.requires.prepared, fits.table.0.wires)) (ap (λ (g : Gate). g.output) c.on_rows-placed.ensures ∙ row_is _) same long,
+    )
