@@ -205,11 +205,10 @@ kept_have_places sessions = record {
   there = λ s v r c i l e.
       let carried : carries r (source (session_at sessions s) v) ≡ true = ap (carries r) e ∙ carried_there r c i in
       let there = wire_there sessions r s v c i e in
-      let is = place_is sessions r s v carried in
-      (
+      let is = place_is sessions r s v carried in (
         omega (arith, is, place_within sessions r s v l there carried),
         ap (λ n. slice_index_or (kept_from r sessions) n no_kept) is ∙ place_names sessions r s v l there carried
-        ∙ ap (λ (from : Source). record { session = s; wire = v; output = carried_output (session_at sessions r) from }) e,
+            ∙ ap (λ (from : Source). record { session = s; wire = v; output = carried_output (session_at sessions r) from }) e,
       );
   each = λ r j l. each_kept sessions r j l;
   few = λ r. kept_few sessions r;
