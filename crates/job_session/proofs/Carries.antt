@@ -8,7 +8,7 @@ use Rattle.std.proofs.Math.Seq.{get_or-append_right}
 use Rattle.std.proofs.lemmas.List.{get_or_past, length-replicate}
 use Rattle.list_laws.specs.Lists.{joined, listed, only_if, total}
 use Rattle.list_laws.proofs.Totals.{total_eq}
-use Rattle.list_laws.proofs.JoinedLists.{joined_place, length-joined, length-listed, listed_at, locate, total_within}
+use Rattle.list_laws.proofs.JoinedLists.{joined_eq, joined_place, length-joined, length-listed, listed_at, locate, total_within}
 use Rattle.plan_faults.specs.declared.part_fault.PartFault.{PartFault}
 use Rattle.plan_faults.specs.declared.part_fault.PartFault.TheVariants.{CarryWidth}
 use Rattle.job_session.specs.declared.values.KeptWire.{KeptWire}
@@ -213,3 +213,27 @@ kept_have_places sessions = record {
   each = λ r j l. each_kept sessions r j l;
   few = λ r. kept_few sessions r;
 }
+
+-- ---- what is kept depends on the values of the sessions alone
+
+carried_same : (x y : Session) (from : Source) → x.outputs ≡ y.outputs → carried_output x from ≡ carried_output y from
+carried_same x y (Given p) same = refl
+carried_same x y (CarriedWire r c i) same = ap (λ outputs. length (readers_of (take c outputs)) + i) same
+
+pub kept_from_same : (r : ℕ) (a b : List Session) → length a ≡ length b → ((s : ℕ) → (session_at a s).inputs ≡ (session_at b s).inputs) → ((s : ℕ) → (session_at a s).outputs ≡ (session_at b s).outputs)
+    → kept_from r a ≡ kept_from r b
+kept_from_same r a b long inputs outputs =
+    ap (λ n. joined n (λ s. kept_of (session_at a s).inputs (session_at a r) s)) long
+    ∙ joined_eq (length b) _ _ (λ s l. ap (λ values. kept_of values (session_at a r) s) (inputs s) ∙ joined_eq (length (owners (session_at b s))) _ _ (λ v l. one s v))
+  where
+    kept_of : List InputValue → Session → ℕ → List KeptWire
+    kept_of values x s =
+        joined (length (owners_of values)) (λ v. (
+        let from = slice_index_or (owners_of values) v (Given 0) in
+        only_if (carries r from) (record { session = s; wire = v; output = carried_output x from } ∷ [])
+        ))
+
+    one : (s v : ℕ) → (let from = source (session_at b s) v in only_if (carries r from) (record { session = s; wire = v; output = carried_output (session_at a r) from } ∷ [])) ≡ kept_for b r s v
+    one s v =
+        let from = source (session_at b s) v in
+        ap (λ (o : ℕ). only_if (carries r from) (record { session = s; wire = v; output = o } ∷ [])) (carried_same (session_at a r) (session_at b r) from (outputs r))
