@@ -1,14 +1,14 @@
 -- Input values that are carried, their wires, and what is kept for them.
-use Rattle.std.proofs.Common.{◌≡◌, ℕ, zero, suc, ◌+◌, ◌-◌, ◌<◌, ◌≤◌, List, [], ◌∷◌, ◌++◌, inl, inr, length, replicate, take, refl, sym, ap, ◌∙◌, subst, arith, length-append}
+use Rattle.std.proofs.Common.{◌≡◌, ℕ, zero, suc, ◌+◌, ◌-◌, ◌*◌, ◌<◌, ◌≤◌, List, [], ◌∷◌, ◌++◌, inl, inr, length, replicate, take, refl, sym, ap, ◌∙◌, subst, arith, length-append}
 use Rattle.std.specs.Prelude.{Bool, true, false, All, ◌==◌, if◌then◌else◌, slice_get, slice_index_or, Option, Some, None, IsSomeAnd}
 use Rattle.std.specs.Option.{option_or}
 use Rattle.std.proofs.lemmas.Bool.{cases_Bool, cases_lt, cond-false, eq-eqb, eqb-true, false≢true}
 use Rattle.std.proofs.Math.ListN.{get_or-append}
 use Rattle.std.proofs.Math.Seq.{get_or-append_right}
-use Rattle.std.proofs.lemmas.List.{get_or_past, length-replicate}
+use Rattle.std.proofs.lemmas.List.{get_or_default, get_or-take, get_or_past, length-replicate, length-take-le}
 use Rattle.list_laws.specs.Lists.{joined, listed, only_if, total}
 use Rattle.list_laws.proofs.Totals.{total_eq}
-use Rattle.list_laws.proofs.JoinedLists.{joined_place, length-joined, length-listed, listed_at, locate, total_within}
+use Rattle.list_laws.proofs.JoinedLists.{joined_eq, joined_place, length-joined, length-listed, listed_at, locate, total_within}
 use Rattle.plan_faults.specs.declared.part_fault.PartFault.{PartFault}
 use Rattle.plan_faults.specs.declared.part_fault.PartFault.TheVariants.{CarryWidth}
 use Rattle.job_session.specs.declared.values.KeptWire.{KeptWire}
@@ -18,9 +18,10 @@ use Rattle.job_session.specs.declared.values.InputValue.{InputValue}
 use Rattle.job_session.specs.declared.values.OutputValue.{OutputValue}
 use Rattle.job_session.specs.declared.source.Source.{Source}
 use Rattle.job_session.specs.declared.source.Source.TheVariants.{Given, Carried as CarriedWire}
-use Rattle.job_session.specs.Sessions.{Session, carried_output, carries, is_carried, no_kept, owners, owners_of, readers, readers_of, session_at, source, source_from}
+use Rattle.job_session.specs.Sessions.{Session, carried_output, carries, is_carried, no_kept, no_session, owners, owners_of, readers, readers_of, session_at, source, source_from}
 use Rattle.job_session.specs.Parts.{input_values, AreEarlier, IsCarriedFrom, CarriesFit, CarriesOutputs, carry_fault, owner_fault, carries_fault}
 use Rattle.job_session.specs.Carries.{IsKeptAt, KeptHavePlaces, carried_before, carrier, kept_for, kept_from, kept_place}
+use Rattle.job_session.specs.SoundSessions.{AreKept, IsWired}
 use Rattle.job_session.proofs.ScannedSlots.{total_most}
 
 -- neither of two faults is there
@@ -205,12 +206,68 @@ kept_have_places sessions = record {
   there = λ s v r c i l e.
       let carried : carries r (source (session_at sessions s) v) ≡ true = ap (carries r) e ∙ carried_there r c i in
       let there = wire_there sessions r s v c i e in
-      let is = place_is sessions r s v carried in
-      (
+      let is = place_is sessions r s v carried in (
         omega (arith, is, place_within sessions r s v l there carried),
         ap (λ n. slice_index_or (kept_from r sessions) n no_kept) is ∙ place_names sessions r s v l there carried
-        ∙ ap (λ (from : Source). record { session = s; wire = v; output = carried_output (session_at sessions r) from }) e,
+            ∙ ap (λ (from : Source). record { session = s; wire = v; output = carried_output (session_at sessions r) from }) e,
       );
   each = λ r j l. each_kept sessions r j l;
   few = λ r. kept_few sessions r;
+}
+
+-- ---- what is kept depends on the values of the sessions alone
+
+carried_same : (x y : Session) (from : Source) → x.outputs ≡ y.outputs → carried_output x from ≡ carried_output y from
+carried_same x y (Given p) same = refl
+carried_same x y (CarriedWire r c i) same = ap (λ outputs. length (readers_of (take c outputs)) + i) same
+
+pub kept_from_same : (r : ℕ) (a b : List Session) → length a ≡ length b → ((s : ℕ) → (session_at a s).inputs ≡ (session_at b s).inputs) → ((s : ℕ) → (session_at a s).outputs ≡ (session_at b s).outputs)
+    → kept_from r a ≡ kept_from r b
+kept_from_same r a b long inputs outputs =
+    ap (λ n. joined n (λ s. kept_of (session_at a s).inputs (session_at a r) s)) long
+    ∙ joined_eq (length b) _ _ (λ s l. ap (λ values. kept_of values (session_at a r) s) (inputs s) ∙ joined_eq (length (owners (session_at b s))) _ _ (λ v l. one s v))
+  where
+    kept_of : List InputValue → Session → ℕ → List KeptWire
+    kept_of values x s =
+        joined (length (owners_of values)) (λ v. (
+        let from = slice_index_or (owners_of values) v (Given 0) in
+        only_if (carries r from) (record { session = s; wire = v; output = carried_output x from } ∷ [])
+        ))
+
+    one : (s v : ℕ) → (let from = source (session_at b s) v in only_if (carries r from) (record { session = s; wire = v; output = carried_output (session_at a r) from } ∷ [])) ≡ kept_for b r s v
+    one s v =
+        let from = source (session_at b s) v in
+        ap (λ (o : ℕ). only_if (carries r from) (record { session = s; wire = v; output = o } ∷ [])) (carried_same (session_at a r) (session_at b r) from (outputs r))
+
+-- ---- what is kept can be
+
+carried_parts : (r : ℕ) (from : Source) → carries r from ≡ true → (c : ℕ) × (i : ℕ) × (from ≡ CarriedWire r c i)
+carried_parts r (Given p) e = absurd (false≢true e)
+carried_parts r (CarriedWire a c i) e = (c, i, ap (λ (n : ℕ). CarriedWire n c i) (eqb-true a r e))
+
+kept_outputs : (sessions : List Session) (r : ℕ) → ((s : ℕ) → s < length sessions → CarriesOutputs (take s sessions) (session_at sessions s))
+    → All (λ (wire : KeptWire). wire.output < length (readers (session_at sessions r))) (kept_from r sessions)
+kept_outputs sessions r outputs = λ j d l.
+    let kept = slice_index_or (kept_from r sessions) j no_kept in
+    let at = each_kept sessions r j l in
+    let s = kept.session in
+    let from = source (session_at sessions s) kept.wire in
+    let of = carried_parts r from at.carried in
+    let fits = outputs s at.session in
+    let early : r < s = omega (arith, fits.session kept.wire r of.0 of.1 of.2, length-take-le s sessions (omega (arith, at.session))) in
+    let same : session_at (take s sessions) r ≡ session_at sessions r = get_or-take s sessions r no_session early in
+    let below = subst (λ (x : Session). carried_output x from < length (readers x)) same (fits.output kept.wire r of.0 of.1 of.2) in
+    subst (λ (wire : KeptWire). wire.output < length (readers (session_at sessions r))) (get_or_default (kept_from r sessions) j no_kept d l) (omega (arith, below, at.output))
+
+few_wires : (n : ℕ) (f : ℕ → ℕ) → ((s : ℕ) → s < n → f s ≤ 131072) → total n f ≤ n * 131072
+few_wires zero f h = omega arith
+few_wires (suc n) f h = omega (arith, few_wires n f (λ s l. h s (omega (arith, l))), h n (omega arith))
+
+pub can_keep : (sessions : List Session) (r : ℕ) → length sessions ≤ 16 → ((s : ℕ) → s < length sessions → IsWired (session_at sessions s))
+    → ((s : ℕ) → s < length sessions → CarriesOutputs (take s sessions) (session_at sessions s)) → AreKept (session_at sessions r) (kept_from r sessions)
+can_keep sessions r few wired outputs = record {
+  outputs = kept_outputs sessions r outputs;
+  few =
+      let all = few_wires (length sessions) (λ s. length (owners (session_at sessions s))) (λ s l. (let v = wired s l in omega (arith, v.input_wires, v.wires))) in
+      omega (arith, kept_few sessions r, all, few);
 }

@@ -67,8 +67,8 @@ kept_relisted w kept n v e long =
     let behind = listed (length s.kept) (λ j. Kept j) in
     let same : n ≡ length others = omega (arith, long, kinds_count w v e, ap length (kept_last s), length-append others behind, length-listed (length s.kept) (λ j. Kept j)) in
     ap (λ xs. xs ++ listed (length kept) (λ j. Kept j)) (
-      sym (take-map slot_of_kind n w.kinds.items) ∙ ap (take n) (v.kinds e ∙ kept_last s) ∙ ap (λ k. take k (others ++ behind)) same
-      ∙ take-append-le (length others) others behind (omega arith) ∙ take_all (length others) others (omega arith)
+    sym (take-map slot_of_kind n w.kinds.items) ∙ ap (take n) (v.kinds e ∙ kept_last s) ∙ ap (λ k. take k (others ++ behind)) same
+    ∙ take-append-le (length others) others behind (omega arith) ∙ take_all (length others) others (omega arith)
     )
     ∙ sym (again s kept)
   where

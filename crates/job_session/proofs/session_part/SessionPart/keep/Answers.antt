@@ -1,4 +1,4 @@
-use Rattle.std.proofs.Common.{◌≡◌, sym, ◌∙◌, ap, subst}
+use Rattle.std.proofs.Common.{sym, subst}
 use Rattle.job_session.specs.Sessions.{Session}
 use Rattle.job_session.specs.SoundSessions.{AreKept, IsSoundSession}
 use Rattle.job_session.specs.Wirings.{session_in}

@@ -1,7 +1,7 @@
-use Rattle.std.proofs.Common.{◌≡◌, true, sym, ◌∙◌, ap, subst}
+use Rattle.std.proofs.Common.{true, sym, subst}
 use Rattle.job_session.specs.Sessions.{Session}
 use Rattle.job_session.specs.SoundSessions.{IsSoundSession}
-use Rattle.job_session.specs.Wirings.{session_in, prepared_in}
+use Rattle.job_session.specs.Wirings.{session_in}
 use Rattle.job_session.proofs.CircuitSessions.{sound_as, sound_with}
 use Rattle.job_session.proofs.session_part.SessionPart.prepared.Goals as goal
 

@@ -1,4 +1,4 @@
-use Rattle.std.proofs.Common.{length, ap, arith}
+use Rattle.std.proofs.Common.{length, arith}
 use Rattle.job_session.specs.Wirings.{session_in}
 use Rattle.job_session.proofs.SessionSlots.{few_before}
 use Rattle.job_session.proofs.WiringSlots.{owners_count}

@@ -1,4 +1,3 @@
-use Rattle.std.proofs.Common.{ap}
 use Rattle.std.specs.Prelude.{length}
 use Rattle.job_session.specs.Wirings.{session_in}
 use Rattle.job_session.proofs.WiringSlots.{gate_is_touched, owners_count}

@@ -1,4 +1,4 @@
-use Rattle.std.proofs.Common.{length, refl, ap, arith}
+use Rattle.std.proofs.Common.{refl, arith}
 use Rattle.job_session.specs.Wirings.{session_in}
 use Rattle.job_session.proofs.WiringSlots.{input_is_touched, owners_count}
 use Rattle.job_session.proofs.wiring.Wiring.input_touched.Goals as goal

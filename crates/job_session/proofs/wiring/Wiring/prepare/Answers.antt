@@ -5,7 +5,7 @@ use Rattle.job_session.proofs.wiring.Wiring.prepare.Goals as goal
 
 pub returns-clause-tables : goal.returns-clause-tables
 returns-clause-tables c =
-    let before = c.requires.wiring in
+    let before = c.requires in
     record {
       owned = before.owned;
       sources = before.sources;

@@ -1,4 +1,4 @@
-use Rattle.std.proofs.Common.{◌≡◌, ◌+◌, ◌-◌, ◌<◌, length, sym, ap, ◌∙◌, subst, arith}
+use Rattle.std.proofs.Common.{◌≡◌, ◌+◌, ◌-◌, length, sym, ap, ◌∙◌, subst, arith}
 use Rattle.job_session.specs.Sessions.{owners, session_slot}
 use Rattle.job_session.specs.SoundSessions.{Inside}
 use Rattle.job_session.specs.Wirings.{session_in}
