@@ -1,9 +1,7 @@
 //! Rows of the table of faults that speak of a session.
-ghost use Rattle.std.specs.Prelude.{◌≡◌, ◌≤◌, ◌||◌, map, Some, None, [], length};
-ghost use Rattle.std.specs.List.{list_any};
+ghost use Rattle.std.specs.Prelude.{◌≡◌, ◌≤◌, map, length};
 ghost use Rattle.std.specs.Option.{option_map, unwrap_or};
 ghost use Rattle.toml.specs.Data.{as_table};
-ghost use Rattle.std.specs.Str.{bytes_eq};
 ghost use Rattle.toml.specs.View.{view, table_view};
 ghost use Rattle.toml_fields.specs.Fields.{text_of, texts_of, fields_of};
 ghost use Rattle.job_file.specs.Answers.{TellsFault, TellsOrMemory};

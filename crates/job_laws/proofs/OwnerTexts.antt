@@ -1,26 +1,26 @@
 -- The texts of owners: each is read back as its owner.
-use Rattle.std.proofs.Common.{◌≡◌, inl, inr, ℕ, ◌+◌, ◌^◌, ◌<◌, ◌≤◌, ◌==◌, nat_lt, Bool, true, false, cond, not, ◌&&◌, List, [], ◌∷◌, ◌++◌, length, map, drop, Option, None, Some, refl, sym, ap, ap₂, ◌∙◌, append_assoc, arith}
+use Rattle.std.proofs.Common.{◌≡◌, inl, inr, ℕ, ◌+◌, ◌^◌, ◌<◌, ◌≤◌, ◌==◌, nat_lt, Bool, true, false, cond, not, List, [], ◌∷◌, ◌++◌, length, map, drop, None, Some, refl, sym, ap, ap₂, ◌∙◌, append_assoc, arith}
 use Rattle.std.specs.Prelude.{decimal, slice_index}
 use Rattle.std.specs.Char.{is_ascii_digit, is_ascii_alphabetic}
 use Rattle.std.specs.List.{list_all, AllByRecursion, position_or_len, before_first, after_first}
 use Rattle.std.specs.Option.{is_none, unwrap_or, option_map, option_or, option_zip}
 use Rattle.std.specs.Str.Parse.{digits_value}
 use Rattle.std.proofs.lemmas.Bool.{and_parts, and_from, and_right, lt-ltb}
-use Rattle.std.proofs.lemmas.Bool.Decides.{eqb_tells, nat_tests}
+use Rattle.std.proofs.lemmas.Bool.Decides.{eqb_tells}
 use Rattle.std.proofs.lemmas.Fmt.{digits_decimal, digits_value-decimal}
 use Rattle.std.proofs.lemmas.List.{take_at, drop_at, length-append}
 use Rattle.list_laws.specs.Checks.{◌answers◌}
 use Rattle.text_tokens.specs.Numbers.{is_decimal}
 use Rattle.text_tokens.proofs.Values.{digits, all_digits}
 use Rattle.text_tokens.proofs.Decimals.{decimal_is}
-use Rattle.party_set.specs.Names.{is_name, is_name_byte, name_at, party_named, AreNames}
+use Rattle.party_set.specs.Names.{is_name, name_at, party_named, AreNames}
 use Rattle.job_file.specs.declared.fault.JobFault.{JobFault}
 use Rattle.job_file.specs.declared.fault.JobFault.TheVariants.{BadCarry, BadOwner}
 use Rattle.job_file.specs.declared.owner.JobOwner.{JobOwner}
 use Rattle.job_file.specs.declared.owner.JobOwner.TheVariants.{Party, Carried}
 use Rattle.job_file.specs.Owners.{is_carry, is_point, number_below, carry_in, owner_in, IsOwner}
 use Rattle.job_file.specs.Forms.{AdversaryForm, by_formula, by_list, owner_of}
-use Rattle.job_file.specs.Faults.{owner_fault, owners_fault}
+use Rattle.job_file.specs.Faults.{owners_fault}
 use Rattle.job_laws.specs.Documents.{owner_text, HasOwner}
 use Rattle.job_laws.proofs.MemberNames.{named}
 

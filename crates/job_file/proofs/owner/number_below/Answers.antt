@@ -1,4 +1,4 @@
-use Rattle.std.proofs.Common.{◌≡◌, ◌∙◌, ap, sym, cond, Some, None, arith}
+use Rattle.std.proofs.Common.{◌∙◌, ap, sym, cond, Some, None, arith}
 use Rattle.std.proofs.lemmas.Bool.{lt-ltb, le-ltb}
 use Rattle.job_file.proofs.Owners.{number_told}
 use Rattle.job_file.proofs.owner.number_below.Goals as goal

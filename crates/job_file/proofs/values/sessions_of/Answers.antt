@@ -7,7 +7,7 @@ use Rattle.toml.specs.View.{view, table_view, members_view}
 use Rattle.toml_fields.specs.Fields.{fields_of}
 use Rattle.toml_fields.proofs.Lists.{map_twice}
 use Rattle.job_file.specs.declared.job.JobSession.{JobSession}
-use Rattle.job_file.specs.Forms.{session_form, session_forms}
+use Rattle.job_file.specs.Forms.{session_form}
 use Rattle.job_file.specs.Jobs.{session_view, IsSession, AreSessions}
 use Rattle.job_file.proofs.Readers.{session_of}
 use Rattle.job_file.proofs.Sessions.{forms_more, forms_end, sessions_more}
