@@ -19,7 +19,7 @@ use Rattle.job_session.specs.Sessions.{Session, carried_output, carries, first_o
 use Rattle.job_session.specs.Counts.{owned, outputs_read, prepared_products, products}
 use Rattle.job_session.specs.Parts.{CarriesFit, IsCarriedFrom}
 use Rattle.job_session.specs.Carries.{kept_for, kept_from}
-use Rattle.job_session.specs.SoundSessions.{AreKept, IsSoundSession}
+use Rattle.job_session.specs.SoundSessions.{AreKept, IsWired}
 use Rattle.job_session.proofs.Carries.{carried_outputs, kept_have_places}
 use Rattle.job_plan.specs.Plans.{Plan, least_held, scheme, session, words}
 use Rattle.job_plan.specs.Keeping.{AllFit, carried_count, keeping, keeping_plan}
@@ -65,7 +65,7 @@ module _ (sessions : List Session) where
     not_carried r s v le = elim (cases_Bool (carries r (source (session_at sessions s) v))) [
       | inl e ↦
           let of = carried_is r (source (session_at sessions s) v) e in
-          absurd (omega (arith, le, carries_earlier s v r of.0 of.1 of.2.1))
+          absurd (omega (arith, le, carries_earlier s v r of.0 of.1 of.2))
       | inr e ↦ e
     ]
 
@@ -73,20 +73,20 @@ module _ (sessions : List Session) where
     pub none_before : (r n : ℕ) → n ≤ r + 1 → joined n (λ s. joined (length (owners (session_at sessions s))) (kept_for sessions r s)) ≡ []
     none_before r n le =
         joined_eq n _ (λ s. []) (λ s l.
-        joined_eq (length (owners (session_at sessions s))) _ (λ v. []) (λ v lv. ap (λ b. only_if b (_ ∷ [])) (not_carried r s v (omega (arith, l, le))))
+        joined_eq (length (owners (session_at sessions s))) _ (λ v. []) (λ v lv. ap (λ b. only_if b (record { session = s; wire = v; output = carried_output (session_at sessions r) (source (session_at sessions s) v) } ∷ [])) (not_carried r s v (omega (arith, l, le))))
         ∙ none_joined (length (owners (session_at sessions s))) (λ v. []) (λ v. refl))
         ∙ none_joined n (λ s. []) (λ s. refl)
 
     -- what is kept can be kept
-    pub are_kept : (parties r : ℕ) → length sessions ≤ 16 → All (IsSoundSession parties) sessions → AreKept (session_at sessions r) (kept_from r sessions)
-    are_kept parties r few sound = record {
+    pub are_kept : (r : ℕ) → length sessions ≤ 16 → All IsWired sessions → AreKept (session_at sessions r) (kept_from r sessions)
+    are_kept r few wired = record {
       outputs = All-from_get_or (λ (wire : KeptWire). wire.output < length (readers (session_at sessions r))) (kept_from r sessions) no_kept (λ j l.
           let at = (kept_have_places sessions).each r j l in
           let kept = slice_index_or (kept_from r sessions) j no_kept in
           let of = carried_is r (source (session_at sessions kept.session) kept.wire) at.carried in
           omega (arith, carries_outputs kept.session kept.wire r of.0 of.1 of.2, at.output));
       few =
-          let each = total_few (length sessions) 131072 (λ s. length (owners (session_at sessions s))) (λ s l. omega (arith, (sound s no_session l).wired.wires, (sound s no_session l).wired.input_wires)) in
+          let each = total_few (length sessions) 131072 (λ s. length (owners (session_at sessions s))) (λ s l. omega (arith, (wired s no_session l).wires, (wired s no_session l).input_wires)) in
           omega (arith, (kept_have_places sessions).few r, each, few);
     }
 

@@ -247,6 +247,7 @@ fn kept_message_count(outline: &Outline) -> u64
     ensures is { result ≡ keeping_messages (keeping_plan outline.now) }
     ensures few { result < 2 ^ 32 }
 {
+    let _ = outline.parties();
     u64::from(kept_size(outline)) * all_carried(outline)
 }
 

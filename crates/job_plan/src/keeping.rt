@@ -5,7 +5,7 @@ ghost use Rattle.list_laws.specs.Lists.{joined, listed};
 ghost use Rattle.job_session.specs.declared.values.KeptWire.{KeptWire};
 ghost use Rattle.job_session.specs.Sessions.{owners, session_at};
 ghost use Rattle.job_session.specs.Carries.{kept_for, kept_from};
-ghost use Rattle.job_session.specs.SoundSessions.{IsSoundSession};
+ghost use Rattle.job_session.specs.SoundSessions.{IsSoundSession, IsWired};
 ghost use Rattle.job_plan.specs.Keeping.{AllFit, first_outputs, keeping};
 
 use job_session::{KeptWire, SessionPart, Source};
@@ -17,7 +17,7 @@ pub(crate) fn keep_carried(
     parts: Vec<SessionPart>,
 ) -> Result<Vec<SessionPart>, AllocError>
     requires few { length parts.items ≤ 16 }
-    requires sound { (parties : ℕ) × All (IsSoundSession parties) parts.items }
+    requires wired { All IsWired parts.items }
     requires fit { AllFit parts.items }
     ensures made { IfOk result (λ made. made.items ≡ keeping parts.items) }
     ensures sound { (parties : ℕ) → All (IsSoundSession parties) parts.items
@@ -34,6 +34,7 @@ pub(crate) fn keep_carried(
 // What the sessions carry from each of them.
 fn carried_wires(alloc: Global, parts: &[SessionPart]) -> Result<Vec<Vec<KeptWire>>, AllocError>
     requires few { length parts.now ≤ 16 }
+    requires wired { All IsWired parts.now }
     requires fit { AllFit parts.now }
     ensures { IfOk result (λ kept. map (λ (wires : Vec KeptWire). wires.items) kept.items
         ≡ listed (length parts.now) (λ r. kept_from r parts.now)) }
@@ -48,6 +49,7 @@ fn carried_wires(alloc: Global, parts: &[SessionPart]) -> Result<Vec<Vec<KeptWir
 // What the sessions carry from session r, which those behind it may.
 fn carried_from(alloc: Global, parts: &[SessionPart], r: u32) -> Result<Vec<KeptWire>, AllocError>
     requires few { length parts.now ≤ 16 }
+    requires wired { All IsWired parts.now }
     requires fit { AllFit parts.now }
     requires session { r < length parts.now }
     ensures { IfOk result (λ kept. kept.items ≡ kept_from r parts.now) }
@@ -68,6 +70,7 @@ fn push_carried(
     s: u32,
     kept: &mut Vec<KeptWire>,
 ) -> Result<(), AllocError>
+    requires wired { All IsWired parts.now }
     requires fit { AllFit parts.now }
     requires firsts { firsts.now ≡ first_outputs (session_at parts.now r) }
     requires session { s < length parts.now }
@@ -95,6 +98,7 @@ fn push_carried(
 
 // The first output wire of each output value, counted from the first of all.
 fn first_outputs(alloc: Global, part: &SessionPart) -> Result<Vec<u32>, AllocError>
+    requires { IsWired part.now }
     ensures { IfOk result (λ firsts. firsts.items ≡ first_outputs part.now) }
 {
     let mut firsts = Vec::with_capacity(alloc, part.outputs().len())?;
