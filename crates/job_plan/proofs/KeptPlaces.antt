@@ -16,7 +16,7 @@ use Rattle.job_plan.specs.Plans.{Plan, IsPlan, keeping_slot, session, slot, slot
 -- input wire v of session s carries a wire of session r, which keeps it there
 pub record IsKeptIn (plan : Plan) (s v r c i : ℕ) : Type 0 where
   pub earlier : r < s
-  pub session : s < length plan.sessions
+  pub session_there : s < length plan.sessions
   pub wire : v < length (owners (session plan s))
   pub place : kept_place plan.sessions s v < length (session plan r).kept
   pub kept : slice_index_or (session plan r).kept (kept_place plan.sessions s v) no_kept
@@ -39,7 +39,7 @@ kept_in plan is s v r c i e =
     let numbered = (slots_are_numbered (session plan r)).there (Kept (kept_place plan.sessions s v)) place in
     record {
       earlier = is.earlier s v r c i e;
-      session = there;
+      session_there = there;
       wire = wire;
       place = place;
       kept = ap (λ kept. slice_index_or kept (kept_place plan.sessions s v) no_kept) (is.kept r) ∙ at.1;
