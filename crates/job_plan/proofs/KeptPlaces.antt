@@ -1,13 +1,12 @@
 -- The slot in which a carried wire is kept.
-use Rattle.std.proofs.Common.{◌≡◌, ℕ, ◌+◌, ◌<◌, ◌≤◌, List, length, sym, ap, ◌∙◌, subst, arith}
+use Rattle.std.proofs.Common.{◌≡◌, ℕ, ◌<◌, length, sym, ap, ◌∙◌, arith}
 use Rattle.std.specs.Prelude.{slice_index_or}
 use Rattle.std.proofs.lemmas.Bool.{cases_lt, false≢true}
 use Rattle.std.proofs.lemmas.List.{get_or_past}
 use mathlib.Core.Logic.{inl, inr}
 use Rattle.job_session.specs.declared.source.Source.TheVariants.{Given, Carried}
-use Rattle.job_session.specs.declared.values.KeptWire.{KeptWire}
-use Rattle.job_session.specs.Sessions.{Session, carried_output, is_carried, no_kept, no_session, owners, source}
-use Rattle.job_session.specs.Sessions.Slot.{Input, Kept}
+use Rattle.job_session.specs.Sessions.{carried_output, is_carried, no_kept, no_session, owners, source}
+use Rattle.job_session.specs.Sessions.Slot.{Kept}
 use Rattle.job_session.specs.Carries.{kept_place}
 use Rattle.job_session.proofs.Carries.{kept_have_places}
 use Rattle.job_session.proofs.SessionSlots.{slots_are_numbered}

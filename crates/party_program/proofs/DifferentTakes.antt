@@ -1,6 +1,5 @@
 -- A program takes no message twice: those that are taken in different slots stand in different ones, too.
 use Rattle.std.proofs.Common.{◌≡◌, ◌≢◌, ℕ, zero, suc, ◌+◌, ◌-◌, ◌<◌, ◌≤◌, Bool, true, false, not, nat_lt, if◌then◌else◌, List, [], ◌∷◌, ◌++◌, map, length, refl, sym, ap, ap₂, ◌∙◌, subst, arith, append-nil, append_assoc}
-use Rattle.std.specs.Prelude.{slice_index_or}
 use Rattle.std.specs.List.{AllByRecursion, filter, range_with_len}
 use Rattle.std.proofs.lemmas.Bool.{cases_Bool, cases_lt, cond-true, cond-false}
 use Rattle.std.proofs.lemmas.List.{get_or_past}
@@ -12,21 +11,21 @@ use Rattle.circuit_model.specs.Circuits.{is_product}
 use Rattle.job_session.specs.declared.source.Source.{Source}
 use Rattle.job_session.specs.declared.source.Source.TheVariants.{Given, Carried}
 use Rattle.job_session.specs.declared.values.KeptWire.{KeptWire}
-use Rattle.job_session.specs.Sessions.{Session, Slot, gate, is_direct, is_prepared, no_kept, no_session, session_slots, slot_list, source}
+use Rattle.job_session.specs.Sessions.{Session, Slot, gate, is_direct, is_prepared, no_session, session_slots, slot_list, source}
 use Rattle.job_session.specs.Sessions.Slot.{Input, At_gate, Output, Mask, Mask_product, Masked, Kept}
 use Rattle.job_session.specs.Batches.{batch, is_last}
 use Rattle.job_session.proofs.BatchOrder.{batch_within}
 use Rattle.job_plan.specs.declared.key.Key.{Key}
 use Rattle.job_plan.specs.Plans.{IsPlan, Plan, deals_in, keeping_slot, session, slot, slot_number, slots, words_in}
-use Rattle.job_plan.specs.Numbers.{deals_before, message}
+use Rattle.job_plan.specs.Numbers.{deals_before}
 use Rattle.job_plan.specs.Firsts.{count, first, numbers}
 use Rattle.job_plan.proofs.DistinctMessages.{Distinct, distinct_joined, every_slot}
 use Rattle.job_plan.proofs.KeptPlaces.{kept_in}
 use Rattle.job_plan.proofs.SlotMessages.{each_number, every_filter}
 use Rattle.job_plan.proofs.Slots.{at_its_number}
 use Rattle.party_program.specs.declared.program.Instruction.{Instruction}
-use Rattle.party_program.specs.declared.program.Instruction.TheVariants.{Draw, Deal, Post, Take, Linear, Own, Sum, Open, Join, Deliver, End}
-use Rattle.party_program.specs.Programs.{program, at, to, post, take_of, opening, closing, posts, head, tail, tails, turn, taken, taken_as, taken_in, input_taken}
+use Rattle.party_program.specs.declared.program.Instruction.TheVariants.{Draw, Deal, Take, Linear, Own, Sum, Join, Deliver}
+use Rattle.party_program.specs.Programs.{program, at, from, to, post, take_of, opening, closing, posts, head, tail, tails, turn, taken, taken_as, taken_in, input_taken}
 use Rattle.party_program.specs.States.{taking_slot}
 use Rattle.party_program.proofs.BegunBatches.{begun, begun_is, begun_within}
 
@@ -97,7 +96,7 @@ module _ (plan : Plan) (p s : ℕ) where
   own k = filter (to plan p) (taken plan s k)
 
   of_head : (k : ℕ) → taken_of (head plan p s k) ≡ []
-  of_head k = none_both (opening plan p s k (slot plan s k)) (posts plan p s k) (of_opening k (slot plan s k)) (of_posts plan _)
+  of_head k = none_both (opening plan p s k (slot plan s k)) (posts plan p s k) (of_opening k (slot plan s k)) (of_posts plan (filter (from plan p) (numbers plan s k)))
 
   of_tail : (k : ℕ) → taken_of (tail plan p s k) ≡ own k
   of_tail k =

@@ -13,7 +13,6 @@ use Rattle.job_session.proofs.BatchOrder.{batch_within}
 use Rattle.party_program.proofs.BegunBatches.{begun, begun_is, begun_end}
 use Rattle.job_plan.specs.Plans.{IsPlan, Plan, session, slots}
 use Rattle.job_plan.specs.Numbers.{deals_before}
-use Rattle.job_plan.specs.Firsts.{first}
 use Rattle.job_plan.specs.Patterns.{pattern_at}
 use Rattle.job_plan.specs.Sound.{IsSound}
 use Rattle.party_program.specs.declared.half.Half.{Half}
