@@ -20,7 +20,7 @@ use Rattle.job_session.specs.Counts.{owned, outputs_read, prepared_products, pro
 use Rattle.job_session.specs.Parts.{CarriesFit, IsCarriedFrom}
 use Rattle.job_session.specs.Carries.{kept_for, kept_from}
 use Rattle.job_session.specs.SoundSessions.{AreKept, IsWired}
-use Rattle.job_session.proofs.Carries.{carried_outputs, kept_have_places}
+use Rattle.job_session.proofs.Carries.{can_keep, carried_outputs, kept_from_same}
 use Rattle.job_plan.specs.Plans.{Plan, least_held, scheme, session, words}
 use Rattle.job_plan.specs.Keeping.{AllFit, carried_count, keeping, keeping_plan}
 use Rattle.job_plan.specs.Messages.{deal_messages, kept_messages, mask_messages, messages, open_messages}
@@ -38,10 +38,6 @@ none_there sessions s v past = ap (λ x. source x v) (get_or_past sessions s no_
 carried_is : (r : ℕ) (from : Source) → carries r from ≡ true → (c : ℕ) × (i : ℕ) × (from ≡ Carried r c i)
 carried_is r (Given p) e = absurd (false≢true e)
 carried_is r (Carried a c i) e = (c, i, ap (λ q. Carried q c i) (eqb-true a r e))
-
-total_few : (n c : ℕ) (f : ℕ → ℕ) → ((i : ℕ) → i < n → f i ≤ c) → total n f ≤ n * c
-total_few zero c f h = omega arith
-total_few (suc n) c f h = omega (arith, h n (omega arith), total_few n c f (λ i l. h i (omega (arith, l))))
 
 module _ (sessions : List Session) where
   -- what is carried comes from an earlier session, of which it is an output
@@ -79,16 +75,7 @@ module _ (sessions : List Session) where
 
     -- what is kept can be kept
     pub are_kept : (r : ℕ) → length sessions ≤ 16 → All IsWired sessions → AreKept (session_at sessions r) (kept_from r sessions)
-    are_kept r few wired = record {
-      outputs = All-from_get_or (λ (wire : KeptWire). wire.output < length (readers (session_at sessions r))) (kept_from r sessions) no_kept (λ j l.
-          let at = (kept_have_places sessions).each r j l in
-          let kept = slice_index_or (kept_from r sessions) j no_kept in
-          let of = carried_is r (source (session_at sessions kept.session) kept.wire) at.carried in
-          omega (arith, carries_outputs kept.session kept.wire r of.0 of.1 of.2, at.output));
-      few =
-          let each = total_few (length sessions) 131072 (λ s. length (owners (session_at sessions s))) (λ s l. omega (arith, (wired s no_session l).wires, (wired s no_session l).input_wires)) in
-          omega (arith, (kept_have_places sessions).few r, each, few);
-    }
+    are_kept r few wired = can_keep sessions r few (λ s l. wired s no_session l) (λ s l. carried_outputs (take s sessions) (session_at sessions s) (fit s l))
 
   -- ---- the sessions that keep so
 
@@ -119,30 +106,16 @@ module _ (sessions : List Session) where
   pub owners_same : (s : ℕ) → length (owners (session_at (keeping sessions) s)) ≡ length (owners (session_at sessions s))
   owners_same s = ap (λ (values : List InputValue). length (owners_of values)) (inputs_same s)
 
-  output_same : (r : ℕ) (from : Source) → carried_output (session_at (keeping sessions) r) from ≡ carried_output (session_at sessions r) from
-  output_same r (Given p) = refl
-  output_same r (Carried a c i) = ap (λ (values : List OutputValue). length (readers_of (take c values)) + i) (outputs_same r)
-
-  kept_for_same : (r s v : ℕ) → kept_for (keeping sessions) r s v ≡ kept_for sessions r s v
-  kept_for_same r s v =
-      let keep : (Source → ℕ) → Source → List KeptWire = λ output from. only_if (carries r from) (record { session = s; wire = v; output = output from } ∷ []) in
-      ap (keep (carried_output (session_at (keeping sessions) r))) (source_same s v)
-      ∙ ap (λ o. only_if (carries r (source (session_at sessions s) v)) (record { session = s; wire = v; output = o } ∷ [])) (output_same r (source (session_at sessions s) v))
-
-  kept_from_same : (r : ℕ) → kept_from r (keeping sessions) ≡ kept_from r sessions
-  kept_from_same r =
-      ap (λ n. joined n (λ s. joined (length (owners (session_at (keeping sessions) s))) (kept_for (keeping sessions) r s))) length_keeping
-      ∙ joined_eq (length sessions) _ _ (λ s l.
-      ap (λ n. joined n (kept_for (keeping sessions) r s)) (owners_same s)
-      ∙ joined_eq (length (owners (session_at sessions s))) _ _ (λ v lv. kept_for_same r s v))
+  kept_same : (r : ℕ) → kept_from r (keeping sessions) ≡ kept_from r sessions
+  kept_same r = kept_from_same r (keeping sessions) sessions length_keeping inputs_same outputs_same
 
   module _ (fit : AllFit sessions) where
     pub keeps_carried : (s : ℕ) → (session_at (keeping sessions) s).kept ≡ kept_from s (keeping sessions)
     keeps_carried s = elim (cases_lt s (length sessions)) [
-      | inl l ↦ ap (λ (x : Session). x.kept) (keeping_at s l) ∙ sym (kept_from_same s)
+      | inl l ↦ ap (λ (x : Session). x.kept) (keeping_at s l) ∙ sym (kept_same s)
       | inr past ↦
           ap (λ (x : Session). x.kept) (get_or_past (keeping sessions) s no_session (omega (arith, length_keeping, past)))
-          ∙ sym (kept_from_same s ∙ none_before fit s (length sessions) (omega (arith, past)))
+          ∙ sym (kept_same s ∙ none_before fit s (length sessions) (omega (arith, past)))
     ]
 
     pub keeping_fits : AllFit (keeping sessions)

@@ -5,6 +5,7 @@ pub mod DistinctMessages
 pub mod SlotMessages
 pub mod TallyLaws
 pub mod KeptSessions
+pub mod KeptPlaces
 pub mod SlotPatterns
 pub mod SlotStarts
 pub mod GrownLists

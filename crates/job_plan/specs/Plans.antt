@@ -6,7 +6,7 @@ use Rattle.party_set.specs.Parties.{Structure, IsQ2, has_party}
 use Rattle.job_session.specs.declared.source.Source.TheVariants.{Carried}
 use Rattle.job_session.specs.Sessions.{Session, Slot, given_by, is_direct, no_session, owners, readers, session_slot, session_slots, source}
 use Rattle.job_session.specs.Sessions.Slot.{Input, At_gate, Output, Mask, Mask_product, Masked, Kept}
-use Rattle.job_session.specs.Carries.{kept_from}
+use Rattle.job_session.specs.Carries.{kept_from, kept_place}
 use Rattle.job_session.specs.SlotNumbers.{session_slot_number}
 use Rattle.share_layout.specs.Layouts as layout
 use Rattle.product_duty.specs.Duties as duties
@@ -86,6 +86,10 @@ slots plan s = session_slots (session plan s)
 -- the number of a slot of session s
 abbrev pub slot_number : Plan → ℕ → Slot → ℕ
 slot_number plan s z = session_slot_number (session plan s) z
+
+-- the slot in which session r keeps the wire that input wire v of session s carries from it
+abbrev pub keeping_slot : Plan → ℕ → ℕ → ℕ → ℕ
+keeping_slot plan s v r = slot_number plan r (Kept (kept_place plan.sessions s v))
 
 -- ---- what is done in a slot of session s
 
