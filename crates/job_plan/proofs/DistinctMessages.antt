@@ -17,7 +17,7 @@ use Rattle.list_laws.proofs.JoinedLists.{every_append, every_joined, every_only_
 
 -- ---- lists whose elements differ
 
-abbrev Distinct : {A : Type 0} → List A → Type 0
+abbrev pub Distinct : {A : Type 0} → List A → Type 0
 Distinct [] = Unit {0}
 Distinct (x ∷ xs) = AllByRecursion (λ y. x ≢ y) xs × Distinct xs
 
@@ -27,7 +27,7 @@ distinct_append tag n (x ∷ xs) ys a b d e =
     (every_append (λ y. x ≢ y) xs ys d.0 (every_weaker (λ y. tag y ≡ n) (λ y. x ≢ y) ys (λ y h same. omega (arith, a.0, h, ap tag same)) b), distinct_append tag n xs ys a.1 b d.1 e)
 
 -- parts with a tag of their own
-distinct_joined : {A : Type 0} (tag : A → ℕ) (n : ℕ) (f : ℕ → List A) → ((k : ℕ) → k < n → Distinct (f k)) → ((k : ℕ) → k < n → AllByRecursion (λ x. tag x ≡ k) (f k)) → Distinct (joined n f)
+pub distinct_joined : {A : Type 0} (tag : A → ℕ) (n : ℕ) (f : ℕ → List A) → ((k : ℕ) → k < n → Distinct (f k)) → ((k : ℕ) → k < n → AllByRecursion (λ x. tag x ≡ k) (f k)) → Distinct (joined n f)
 distinct_joined tag zero f d t = tt
 distinct_joined tag (suc n) f d t =
     distinct_append tag n (joined n f) (f n)

@@ -1,13 +1,12 @@
 -- The slot in which a carried wire is kept.
-use Rattle.std.proofs.Common.{◌≡◌, ℕ, ◌+◌, ◌<◌, ◌≤◌, List, length, sym, ap, ◌∙◌, subst, arith}
+use Rattle.std.proofs.Common.{◌≡◌, ℕ, ◌<◌, length, sym, ap, ◌∙◌, arith}
 use Rattle.std.specs.Prelude.{slice_index_or}
 use Rattle.std.proofs.lemmas.Bool.{cases_lt, false≢true}
 use Rattle.std.proofs.lemmas.List.{get_or_past}
 use mathlib.Core.Logic.{inl, inr}
 use Rattle.job_session.specs.declared.source.Source.TheVariants.{Given, Carried}
-use Rattle.job_session.specs.declared.values.KeptWire.{KeptWire}
-use Rattle.job_session.specs.Sessions.{Session, carried_output, is_carried, no_kept, no_session, owners, source}
-use Rattle.job_session.specs.Sessions.Slot.{Input, Kept}
+use Rattle.job_session.specs.Sessions.{carried_output, is_carried, no_kept, no_session, owners, source}
+use Rattle.job_session.specs.Sessions.Slot.{Kept}
 use Rattle.job_session.specs.Carries.{kept_place}
 use Rattle.job_session.proofs.Carries.{kept_have_places}
 use Rattle.job_session.proofs.SessionSlots.{slots_are_numbered}
@@ -16,7 +15,7 @@ use Rattle.job_plan.specs.Plans.{Plan, IsPlan, keeping_slot, session, slot, slot
 -- input wire v of session s carries a wire of session r, which keeps it there
 pub record IsKeptIn (plan : Plan) (s v r c i : ℕ) : Type 0 where
   pub earlier : r < s
-  pub session : s < length plan.sessions
+  pub session_there : s < length plan.sessions
   pub wire : v < length (owners (session plan s))
   pub place : kept_place plan.sessions s v < length (session plan r).kept
   pub kept : slice_index_or (session plan r).kept (kept_place plan.sessions s v) no_kept
@@ -39,7 +38,7 @@ kept_in plan is s v r c i e =
     let numbered = (slots_are_numbered (session plan r)).there (Kept (kept_place plan.sessions s v)) place in
     record {
       earlier = is.earlier s v r c i e;
-      session = there;
+      session_there = there;
       wire = wire;
       place = place;
       kept = ap (λ kept. slice_index_or kept (kept_place plan.sessions s v) no_kept) (is.kept r) ∙ at.1;

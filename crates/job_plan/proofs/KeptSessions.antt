@@ -2,7 +2,6 @@
 use Rattle.std.proofs.Common.{◌≡◌, ℕ, zero, suc, ◌+◌, ◌-◌, ◌*◌, ◌<◌, ◌≤◌, true, false, if◌then◌else◌, List, [], ◌∷◌, length, replicate, take, nat_eq, refl, sym, ap, ap₂, ◌∙◌, subst, arith}
 use Rattle.std.specs.Prelude.{All, IsSomeAnd, slice_get, slice_index_or}
 use Rattle.std.proofs.lemmas.Bool.{cases_Bool, cases_lt, cond-true, eq-eqb, eqb-true, false≢true}
-use Rattle.std.proofs.lemmas.List.Elements.{All-from_get_or}
 use Rattle.std.proofs.lemmas.List.{get_or_past, get_or-take, length-append, length-replicate, length-take-le}
 use mathlib.Core.Logic.{inl, inr}
 use Rattle.list_laws.specs.Lists.{total, joined, only_if}
@@ -15,9 +14,9 @@ use Rattle.job_session.specs.declared.values.Owner.TheVariants.{Carried as Carri
 use Rattle.job_session.specs.declared.values.InputValue.{InputValue}
 use Rattle.job_session.specs.declared.values.OutputValue.{OutputValue}
 use Rattle.job_session.specs.declared.values.KeptWire.{KeptWire}
-use Rattle.job_session.specs.Sessions.{Session, carried_output, carries, first_output, is_carried, no_kept, no_session, owners, owners_of, readers, readers_of, session_at, source}
+use Rattle.job_session.specs.Sessions.{Session, carried_output, carries, first_output, is_carried, no_session, owners, owners_of, readers, readers_of, session_at, source}
 use Rattle.job_session.specs.Counts.{owned, outputs_read, prepared_products, products}
-use Rattle.job_session.specs.Parts.{CarriesFit, IsCarriedFrom}
+use Rattle.job_session.specs.Parts.{IsCarriedFrom}
 use Rattle.job_session.specs.Carries.{kept_for, kept_from}
 use Rattle.job_session.specs.SoundSessions.{AreKept, IsWired}
 use Rattle.job_session.proofs.Carries.{can_keep, carried_outputs, kept_from_same}

@@ -1,4 +1,4 @@
-use Rattle.std.proofs.Common.{◌≡◌, ◌*◌, ap₂, sym, ◌∙◌}
+use Rattle.std.proofs.Common.{◌*◌, ap₂, sym, ◌∙◌}
 use Rattle.job_plan.proofs.KeptSessions.{keeping_messages_are}
 use Rattle.job_plan.proofs.counts.kept_message_count.Goals as goal
 
