@@ -92,6 +92,10 @@ module _ (w : World) (got : Key → ℕ) (s p : ℕ) (h : Runs w s p) where
   pub ready_at : (k j count : ℕ) (σ : State) → k ≡ j → Ready k count σ → Ready j count σ
   ready_at k j count σ e r = subst (λ z. Ready z count σ) e r
 
+  -- a slot in which p draws nothing leaves it so
+  pub idle : (k count : ℕ) (z : Slot) (σ : State) → slot w.plan s k ≡ z → words_in w.plan s p z ≡ 0 → Ready k count σ → Ready (suc k) count σ
+  idle k count z σ at none r = record { sums = r.sums; drawn = r.drawn ∙ sym (more_words k z at ∙ omega (arith, none)); given = r.given }
+
   -- only this row is another one, and has these summands of those that p holds
   pub record Rowed (row : ℕ) (value : ℕ → ℕ) (k count : ℕ) (σ τ : State) : Type 0 where
     pub others : (u i : ℕ) → u ≢ row → τ.rows u i ≡ σ.rows u i

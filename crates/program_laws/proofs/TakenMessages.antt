@@ -21,6 +21,7 @@ use Rattle.job_plan.specs.Firsts.{count, numbers}
 use Rattle.job_plan.specs.Messages.{messages, slot_messages, input_messages}
 use Rattle.job_plan.specs.Numbers.{message}
 use Rattle.job_plan.proofs.KeptPlaces.{kept_in}
+use Rattle.job_plan.proofs.Slots.{at_its_number}
 use Rattle.party_program.specs.Programs.{taken, taken_in, input_taken, taken_as, taking_session}
 use Rattle.party_program.specs.States.{slot_of, taking_slot}
 use Rattle.party_program.specs.Proper.{IsTakenMessage}
@@ -71,7 +72,7 @@ module _ (plan : Plan) (h : IsPlan plan) (t j : ℕ) (lt : t < length plan.sessi
   input_from v (Carried r c i) is e =
       let it = kept_in plan h t v r c i e in
       let k : ℕ = keeping_slot plan t v r in
-      let number : slot_number plan t (Input v) ≡ j = ap (slot_number plan t) (sym is) ∙ (slots_are_numbered (session plan t)).number j lj in
+      let number : slot_number plan t (Input v) ≡ j = ap (slot_number plan t) (sym is) ∙ at_its_number plan t j lj in
       inr (record {
         at = r;
         place = k;
@@ -120,7 +121,7 @@ module _ (plan : Plan) (h : IsPlan plan) (s k : ℕ) (ls : s < length plan.sessi
   carried_taken r v j (Carried q c i) e carried place is =
       let same : q ≡ s = eqb-true q s carried in
       ap (λ a. numbers plan a (keeping_slot plan r v a)) same
-      ∙ ap (numbers plan s) (ap (λ n. slot_number plan s (Kept n)) place ∙ ap (slot_number plan s) (sym is) ∙ (slots_are_numbered (session plan s)).number k lk)
+      ∙ ap (numbers plan s) (ap (λ n. slot_number plan s (Kept n)) place ∙ ap (slot_number plan s) (sym is) ∙ at_its_number plan s k lk)
 
   -- a kept wire is carried
   kept_at : (j : ℕ) → Inside (session plan s) (Kept j) → IsKeptAt plan.sessions s j (slice_index_or (session plan s).kept j no_kept)
@@ -217,7 +218,7 @@ taken_in_session plan s k (Kept j) = refl
 
 pub taken_message : (plan : Plan) (s k n : ℕ) → k < slots plan s → IsTakenIn plan s k n → IsTakenMessage plan s n (message plan n).share
 taken_message plan s k n lk it =
-    let number : slot_number plan s (taking_slot plan n) ≡ k = ap (slot_number plan s) it.same ∙ (slots_are_numbered (session plan s)).number k lk in
+    let number : slot_number plan s (taking_slot plan n) ≡ k = ap (slot_number plan s) it.same ∙ at_its_number plan s k lk in
     record {
       number = it.number;
       session = taken_in_session plan (message plan n).session (message plan n).slot (slot_of plan n) ∙ ap (λ (at : ℕ × ℕ). at.0) it.to;
