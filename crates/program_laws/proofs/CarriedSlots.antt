@@ -1,6 +1,5 @@
 -- What a party does in a slot of a carried input, or of a kept wire: it takes what it kept, and posts what it keeps.
-use Rattle.std.proofs.Common.{◌≡◌, ℕ, suc, ◌+◌, ◌<◌, Bool, true, false, if◌then◌else◌, List, [], ◌∷◌, map, length, refl, sym, ap, ◌∙◌, subst, arith}
-use Rattle.std.specs.Prelude.{slice_index_or}
+use Rattle.std.proofs.Common.{◌≡◌, ℕ, suc, ◌<◌, true, List, [], map, length, refl, sym, ap, ◌∙◌, subst, arith}
 use Rattle.std.specs.List.{AllByRecursion, filter, range_with_len}
 use Rattle.std.proofs.lemmas.Bool.{cond-true, eqb-true}
 use mathlib.Core.Logic.{inl}
@@ -10,20 +9,18 @@ use Rattle.secret_sharing.specs.Schemes.{Run, summands}
 use Rattle.job_session.specs.declared.source.Source.TheVariants.{Carried}
 use Rattle.job_session.specs.Sessions.{Session, Slot, given_by, kept_wire, owners, source}
 use Rattle.job_session.specs.Sessions.Slot.{Input, Kept}
-use Rattle.job_plan.specs.Plans.{Plan, IsPlan, deals_in, holds, keeping_slot, session, slot, slots}
+use Rattle.job_plan.specs.Plans.{Plan, IsPlan, holds, keeping_slot, session, slot, slots}
 use Rattle.job_plan.specs.declared.key.Key.{Key}
 use Rattle.job_plan.specs.Firsts.{first, numbers}
-use Rattle.job_plan.specs.Messages.{messages, slot_messages, input_messages, kept_message, kept_messages}
+use Rattle.job_plan.specs.Messages.{slot_messages, input_messages, kept_message, kept_messages}
 use Rattle.job_plan.specs.Numbers.{message}
 use Rattle.job_plan.proofs.KeptPlaces.{IsKeptIn, kept_in}
 use Rattle.job_plan.proofs.SlotMessages.{each_number, every_filter, keys_are}
 use Rattle.share_world.specs.Worlds.{World}
-use Rattle.share_world.specs.Locals.{kept_key, local_run, local_word_in}
-use Rattle.party_program.specs.declared.program.Instruction.{Instruction}
+use Rattle.share_world.specs.Locals.{kept_key, local_run}
 use Rattle.party_program.specs.Programs.{from, to, post, take_of, input_taken, taken, taken_in, takes}
 use Rattle.party_program.specs.States.{Given, State, after_all, posted, taking_slot}
-use Rattle.party_program.proofs.InstructionLists.{Leaves}
-use Rattle.program_laws.specs.Meets.{local_given, RightAt, Goes}
+use Rattle.program_laws.specs.Meets.{local_given, RightAt}
 use Rattle.program_laws.proofs.DealtSlots.{start_is, undealt}
 use Rattle.program_laws.proofs.ProductSlots.{Doing, Has as HasWire}
 use Rattle.program_laws.proofs.SentMessages.{givers}

@@ -43,10 +43,17 @@ module _ (plan : Plan) (es : ℕ → ℕ → List Instruction) (position : ℕ �
 
   -- a take whose message was posted can be done
   done : (p n i : ℕ) → p < plan.parties → position s p < length (es s p) → next p ≡ Take n i → IsPosted plan es position n → Moves
-  done p n i lp left is posted = (p, lp, (left, λ m j e.
-      let same : Take n i ≡ Take m j = sym is ∙ e in
-      let one : n ≡ m = cc in
-      subst (IsPosted plan es position) one posted))
+  done p n i lp left is posted = (
+    p,
+    lp,
+    (
+      left,
+      λ m j e.
+          let same : Take n i ≡ Take m j = sym is ∙ e in
+          let one : n ≡ m = cc in
+          subst (IsPosted plan es position) one posted,
+    ),
+  )
 
   -- so is one that is taken behind its session
   kept : (n : ℕ) → ComesTo plan s n → (message plan n).session < s → IsPosted plan es position n

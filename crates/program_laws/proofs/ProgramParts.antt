@@ -1,6 +1,5 @@
 -- The heads and tails of a program: what stands in them, and what each of their instructions names.
-use Rattle.std.proofs.Common.{◌≡◌, ◌≢◌, ℕ, zero, suc, ◌+◌, ◌-◌, ◌<◌, ◌≤◌, Bool, true, false, not, ◌&&◌, nat_eq, nat_lt, List, [], ◌∷◌, ◌++◌, map, length, refl, sym, ap, ◌∙◌, subst, arith, length-append}
-use Rattle.std.specs.Prelude.{slice_index}
+use Rattle.std.proofs.Common.{◌≡◌, ◌≢◌, ℕ, zero, suc, ◌+◌, ◌-◌, ◌<◌, ◌≤◌, Bool, true, false, not, nat_lt, List, [], ◌∷◌, ◌++◌, map, length, refl, sym, ap, ◌∙◌, subst, arith, length-append}
 use Rattle.std.specs.List.{AllByRecursion, filter}
 use Rattle.std.proofs.lemmas.Bool.{cases_lt, cond-true, and_from, and_parts, eqb-true, false≢true, ltb-true}
 use Rattle.std.proofs.lemmas.List.{get_or_past, get_or-append-add}
@@ -10,19 +9,16 @@ use Rattle.list_laws.specs.Lists.{joined, only_if}
 use Rattle.list_laws.proofs.JoinedLists.{every_joined, every_only_if, every_append}
 use Rattle.circuit_model.specs.Circuits.{is_product}
 use Rattle.secret_sharing.specs.Schemes.{has_pair}
-use Rattle.job_session.specs.Sessions.{Session, Slot, owners, gate, is_direct, is_prepared}
-use Rattle.job_session.specs.SoundSessions.{Inside}
+use Rattle.job_session.specs.Sessions.{Session, Slot, gate, is_direct, is_prepared}
 use Rattle.job_session.specs.declared.side.Side.{Side}
 use Rattle.job_session.specs.Sessions.Slot.{Input, At_gate, Output, Mask, Mask_product, Masked, Kept}
-use Rattle.job_session.proofs.SessionSlots.{slots_are_numbered}
 use Rattle.job_plan.specs.Plans.{Plan, IsPlan, scheme, session, slot, slots, deals_in, opens_to, gives, words_in}
-use Rattle.job_plan.specs.declared.key.Key.{Key}
 use Rattle.job_plan.specs.Firsts.{numbers}
-use Rattle.job_plan.specs.Messages.{messages, slot_messages, deal_message, product_messages, open_messages}
+use Rattle.job_plan.specs.Messages.{messages}
 use Rattle.job_plan.specs.Numbers.{message, deals_before}
 use Rattle.job_plan.specs.Sound.{IsSound}
-use Rattle.job_plan.proofs.PlanSchemes.{least_within, plan_is}
-use Rattle.job_plan.proofs.SlotMessages.{each_number, every_filter}
+use Rattle.job_plan.proofs.PlanSchemes.{plan_is}
+use Rattle.job_plan.proofs.SlotMessages.{every_filter}
 use Rattle.job_session.specs.Batches.{batch, is_last}
 use Rattle.party_program.specs.declared.program.Instruction.{Instruction}
 use Rattle.party_program.specs.declared.program.Instruction.TheVariants.{Draw, Deal, Post, Take, Linear, Own, Sum, Open, Join, Deliver, End}

@@ -1,5 +1,5 @@
 -- Where the messages stand that are taken in a slot, and where those of a slot are taken.
-use Rattle.std.proofs.Common.{◌≡◌, ◌⊎◌, ℕ, zero, suc, ◌+◌, ◌<◌, ◌≤◌, true, List, [], ◌++◌, length, refl, sym, ap, ap₂, ◌∙◌, subst, arith}
+use Rattle.std.proofs.Common.{◌≡◌, ◌⊎◌, ℕ, ◌<◌, true, List, [], length, refl, sym, ap, ap₂, ◌∙◌, subst, arith}
 use Rattle.std.specs.Prelude.{slice_index_or}
 use Rattle.std.specs.List.{AllByRecursion}
 use Rattle.std.proofs.lemmas.Bool.{cases_lt, false≢true, eqb-true}
@@ -9,14 +9,13 @@ use Rattle.list_laws.proofs.JoinedLists.{every_weaker}
 use Rattle.job_session.specs.declared.source.Source.{Source}
 use Rattle.job_session.specs.declared.source.Source.TheVariants.{Given, Carried}
 use Rattle.job_session.specs.declared.values.KeptWire.{KeptWire}
-use Rattle.job_session.specs.Sessions.{Session, Slot, carries, no_kept, no_session, session_slots, source}
+use Rattle.job_session.specs.Sessions.{Slot, carries, no_kept, no_session, session_slots, source}
 use Rattle.job_session.specs.Sessions.Slot.{Input, At_gate, Output, Mask, Mask_product, Masked, Kept}
 use Rattle.job_session.specs.Carries.{IsKeptAt, kept_place}
 use Rattle.job_session.specs.SoundSessions.{Inside}
 use Rattle.job_session.proofs.Carries.{kept_have_places}
 use Rattle.job_session.proofs.SessionSlots.{slots_are_numbered}
 use Rattle.job_plan.specs.Plans.{Plan, IsPlan, keeping_slot, session, slot, slot_number, slots}
-use Rattle.job_plan.specs.declared.key.Key.{Key}
 use Rattle.job_plan.specs.Firsts.{count, numbers}
 use Rattle.job_plan.specs.Messages.{messages, slot_messages, input_messages}
 use Rattle.job_plan.specs.Numbers.{message}
@@ -26,7 +25,7 @@ use Rattle.party_program.specs.Programs.{taken, taken_in, input_taken, taken_as,
 use Rattle.party_program.specs.States.{slot_of, taking_slot}
 use Rattle.party_program.specs.Proper.{IsTakenMessage}
 use Rattle.program_laws.specs.Once.{taken_of, taken_at, GiversAreParties, IsSameOrLater}
-use Rattle.program_laws.proofs.SentMessages.{Owned, Of, each}
+use Rattle.program_laws.proofs.SentMessages.{each}
 
 -- only sessions of the plan have slots
 pub session_there : (plan : Plan) (t j : ℕ) → j < slots plan t → t < length plan.sessions

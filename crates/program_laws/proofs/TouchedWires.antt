@@ -1,10 +1,8 @@
 -- What wires an instruction sets and reads.
-use Rattle.std.proofs.Common.{◌≡◌, ◌≢◌, ◌⊎◌, ℕ, ◌+◌, ◌*◌, ◌<◌, ◌≤◌, true, false, not, ◌&&◌, nat_eq, List, [], ◌∷◌, length, refl, sym, ap, ◌∙◌, subst, arith}
-use Rattle.std.specs.List.{AllByRecursion, list_any}
+use Rattle.std.proofs.Common.{◌≡◌, ◌≢◌, ◌⊎◌, ℕ, ◌+◌, ◌*◌, ◌<◌, ◌≤◌, true, false, nat_eq, List, [], ◌∷◌, length, refl, sym, ap, ◌∙◌, subst, arith}
+use Rattle.std.specs.List.{list_any}
 use Rattle.std.proofs.lemmas.Bool.{and_parts, both_ways, eq-eqb, false≢true}
 use mathlib.Core.Logic.{inl, inr}
-use Rattle.list_laws.specs.Lists.{joined}
-use Rattle.list_laws.proofs.JoinedLists.{every_joined, every_only_if}
 use Rattle.circuit_model.specs.Circuits.{is_product}
 use Rattle.secret_sharing.specs.Schemes.{has_pair}
 use Rattle.job_session.specs.Sessions.{Session, Slot, given_by, gate, is_direct, is_prepared, kept_wire, operand, output_wire, mask_wire, product_wire, product_in}
@@ -14,11 +12,8 @@ use Rattle.job_session.specs.Batches.{completes, slot_completes, is_join}
 use Rattle.job_session.proofs.KeptRows.{sets_one}
 use Rattle.job_plan.specs.Plans.{Plan, IsPlan, scheme, session, slot, slots, holds, least_holder, deals_in}
 use Rattle.job_plan.specs.declared.key.Key.{Key}
-use Rattle.job_plan.specs.Messages.{slot_messages, product_messages, deal_message, open_messages}
-use Rattle.job_plan.specs.Numbers.{message, no_key}
+use Rattle.job_plan.specs.Numbers.{message}
 use Rattle.job_plan.specs.Sound.{IsSound}
-use Rattle.job_plan.proofs.DistinctMessages.{every_place}
-use Rattle.job_plan.proofs.MessageSlots.{IsThere}
 use Rattle.job_plan.proofs.PlanSchemes.{least_holds}
 use Rattle.party_program.specs.declared.program.Instruction.{Instruction}
 use Rattle.party_program.specs.declared.program.Instruction.TheVariants.{Draw, Deal, Post, Take, Linear, Own, Sum, Open, Join, Deliver, End}
