@@ -27,6 +27,10 @@ use Rattle.share_world.proofs.WireSums.{world_sums}
 abbrev pub IsBefore : ℕ → ℕ → ℕ → ℕ → Type 0
 IsBefore t n s k = (s < t) ⊎ ((s ≡ t) × (k < n))
 
+-- it stands there or before
+abbrev pub IsUpTo : ℕ → ℕ → ℕ → ℕ → Type 0
+IsUpTo t n s k = (s < t) ⊎ ((s ≡ t) × (k ≤ n))
+
 module _ (w : World) (whole : IsWhole w) (p : ℕ) (lp : p < w.plan.parties) (got : Key → ℕ) (t n : ℕ)
     (right : AllByRecursion (λ key. key.receiver ≡ p → IsBefore t n key.session key.slot → got key ≡ word w key) (messages w.plan)) where
   abbrev plan : Plan
@@ -50,7 +54,7 @@ module _ (w : World) (whole : IsWhole w) (p : ℕ) (lp : p < w.plan.parties) (go
       refl before
 
   -- before slot k of a session that has come so far
-  got_right : (s k : ℕ) → s < length plan.sessions → (s < t) ⊎ ((s ≡ t) × (k ≤ n)) → GotRight w got p s k
+  got_right : (s k : ℕ) → s < length plan.sessions → IsUpTo t n s k → GotRight w got p s k
   got_right s k ls so_far = record {
     slots = λ z i q inside less li goes. got_at s i q z ls inside li goes (elim so_far [ inl earlier ↦ inl earlier | inr here ↦ inr (here.0, omega (arith, less, here.1)) ]);
     kept = λ v r c at i from li held.
@@ -60,15 +64,15 @@ module _ (w : World) (whole : IsWhole w) (p : ℕ) (lp : p < w.plan.parties) (go
   }
 
   abbrev Own : Key → Type 0
-  Own key = key.sender ≡ p → (key.session < t) ⊎ ((key.session ≡ t) × (key.slot ≤ n)) → local_word w got p key ≡ word w key
+  Own key = key.sender ≡ p → IsUpTo t n key.session key.slot → local_word w got p key ≡ word w key
 
-  pub own_words : AllByRecursion (λ key. key.sender ≡ p → (key.session < t) ⊎ ((key.session ≡ t) × (key.slot ≤ n)) → local_word w got p key ≡ word w key) (messages w.plan)
+  pub own_words : AllByRecursion (λ key. key.sender ≡ p → IsUpTo t n key.session key.slot → local_word w got p key ≡ word w key) (messages w.plan)
   own_words = every_message Own plan (λ s z i q r ls inside li lr goes sender so_far.
       subst (λ a. Goes plan s z i a r → local_word w got p (key_at plan s z i a r) ≡ word w (key_at plan s z i a r)) (sym sender)
       (λ goes. word_right w valid got p s z i r inside li goes (λ lp. got_right s (slot_number plan s z) ls so_far)) goes)
 
   -- of a session before that slot it opens the plain values
-  pub opens_plain : (s o : ℕ) → s < length w.plan.sessions → o < length (readers (session w.plan s)) → reads w.plan p s o ≡ true → (s < t) ⊎ ((s ≡ t) × (slots w.plan s ≤ n)) → local_output w got p s o ≡ plain w s (output_wire (session w.plan s) o)
+  pub opens_plain : (s o : ℕ) → s < length w.plan.sessions → o < length (readers (session w.plan s)) → reads w.plan p s o ≡ true → IsUpTo t n s (slots w.plan s) → local_output w got p s o ≡ plain w s (output_wire (session w.plan s) o)
   opens_plain s o ls lo read so_far =
       let x : Session = session plan s in
       let v : ℕ = output_wire x o in

@@ -1,5 +1,5 @@
 -- Where the messages stand that are taken in a slot, and where those of a slot are taken.
-use Rattle.std.proofs.Common.{◌≡◌, ◌⊎◌, ℕ, ◌<◌, true, List, [], length, refl, sym, ap, ap₂, ◌∙◌, subst, arith}
+use Rattle.std.proofs.Common.{◌≡◌, ◌⊎◌, ℕ, ◌<◌, ◌≤◌, true, List, [], length, refl, sym, ap, ap₂, ◌∙◌, subst, arith}
 use Rattle.std.specs.Prelude.{slice_index_or}
 use Rattle.std.specs.List.{AllByRecursion}
 use Rattle.std.proofs.lemmas.Bool.{cases_lt, false≢true, eqb-true}
@@ -28,12 +28,13 @@ use Rattle.program_laws.specs.Once.{taken_of, taken_at, GiversAreParties, IsSame
 use Rattle.program_laws.proofs.SentMessages.{each}
 
 -- only sessions of the plan have slots
+pub none_past : (plan : Plan) (t : ℕ) → length plan.sessions ≤ t → slots plan t ≡ 0
+none_past plan t past = ap session_slots (get_or_past plan.sessions t no_session past) ∙ (slots_are_numbered no_session).count
+
 pub session_there : (plan : Plan) (t j : ℕ) → j < slots plan t → t < length plan.sessions
 session_there plan t j lj = elim (cases_lt t (length plan.sessions)) [
   | inl l ↦ l
-  | inr past ↦ absurd (
-      let none : slots plan t ≡ 0 = ap session_slots (get_or_past plan.sessions t no_session past) ∙ (slots_are_numbered no_session).count in
-      omega (arith, none, lj))
+  | inr past ↦ absurd (omega (arith, none_past plan t past, lj))
 ]
 
 -- ---- what is taken in a slot
