@@ -1,7 +1,8 @@
 //! The plan of a sample.
-ghost use Rattle.std.specs.Prelude.{◌≡◌, ◌<◌, ◌≤◌, IfOk};
+ghost use Rattle.std.specs.Prelude.{◌≡◌, ◌<◌, ◌≤◌, [], IfOk};
 ghost use Rattle.party_set.specs.Parties.{IsQ2};
 ghost use Rattle.job_plan.specs.Multiply.{three_parties};
+ghost use Rattle.job_session.specs.Parts.{CarriesFit};
 ghost use Rattle.job_session.specs.SoundSessions.{IsSoundSession};
 ghost use Rattle.sample_maker.specs.Samples.{sample_plan, sample_session};
 
@@ -51,6 +52,7 @@ fn sample_part(alloc: Global, count: u32) -> Result<SessionPart, AllocError>
     requires { (0 < count) × (count ≤ 65536) }
     ensures is { IfOk result (λ part. part ≡ sample_session count) }
     ensures sound { IfOk result (IsSoundSession 3) }
+    ensures fit { IfOk result (CarriesFit []) }
 {
     let owners = vec![in alloc; Owner::Party(0), Owner::Party(1)]?;
     let readers = vec![in alloc; group(7)]?;
