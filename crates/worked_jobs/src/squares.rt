@@ -2,12 +2,13 @@
 //! two rows, from the start to the end.
 ghost use Rattle.std.specs.Prelude.{◌≡◌, [], ◌∷◌, IfOk, length};
 ghost use Rattle.party_set.specs.Parties.{IsQ2};
+ghost use Rattle.job_session.specs.Parts.{CarriesFit};
 ghost use Rattle.job_session.specs.SoundSessions.{IsSoundSession};
 ghost use Rattle.party_program.specs.States.{Given};
 ghost use Rattle.party_desk.specs.Desks.{IsDesk};
 
 use circuit_model::{Builder, Circuit, CircuitFault, Operation};
-use job_plan::{Plan, SessionPart};
+use job_plan::{Owner, Plan, SessionPart};
 use message_board::{Cells, Posted};
 use mpc_ring::Ring;
 use party_desk::{Desk, Stepped};
@@ -55,12 +56,13 @@ fn squarings(alloc: Global, ring: Ring) -> Result<Circuit, CircuitFault> {
 
 // The party gives the first wire, and reads the last.
 fn session(alloc: Global, ring: Ring) -> Result<SessionPart, Fail>
-    ensures { IfOk result (IsSoundSession 1) }
+    ensures sound { IfOk result (IsSoundSession 1) }
+    ensures fit { IfOk result (CarriesFit []) }
 {
     let circuit = squarings(alloc, ring)?;
-    let owners = vec![in alloc; 0]?;
+    let owners = vec![in alloc; Owner::Party(0)]?;
     let readers = vec![in alloc; Group::empty(1).with(0)]?;
-    match SessionPart::make(alloc, circuit, owners, readers) {
+    match SessionPart::make(alloc, circuit, owners, readers, &[]) {
         Ok(part) => Ok(part),
         Err(_) => Err(Fail::from("no session")),
     }
