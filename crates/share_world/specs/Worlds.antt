@@ -57,13 +57,13 @@ product_of w s t x y =
     then prepared_summand (scheme w.plan) (mask w s t First) (mask w s t Second) (mask_product w s t) x y
     else dealt_product w s (At_gate t) x y
 
--- ---- a session, where the wires of those before it end with these summands, or these values
+-- ---- one session, from what the wires of earlier sessions ended with
 
 -- the wire of session r that is wire i of its output value c
 abbrev pub carried_wire : Plan → ℕ → ℕ → ℕ → ℕ
 carried_wire plan r c i = output_wire (session plan r) (carried_output (session plan r) (Carried r c i))
 
--- the summands of an input wire with this source: as its giver deals them, or those of the wire that it carries
+-- the summands of an input wire with this source: its giver's deal, or what the wire that it carries ended with
 abbrev pub source_summands : World → (ℕ → ℕ → ℕ → ℕ) → ℕ → ℕ → Source → ℕ → ℕ
 source_summands w before s v (Given p) = dealt (scheme w.plan) (input_of w s v) (tape_word w s (Input v) p)
 source_summands w before s v (Carried r c i) = before r (carried_wire w.plan r c i)
@@ -75,7 +75,7 @@ first_summands w before s v i =
     then source_summands w before s v (source (session w.plan s) v) i
     else 0
 
--- the gates of session s
+-- the gates of session s, where the wires of earlier sessions ended with these summands
 abbrev pub run_after : World → (ℕ → ℕ → ℕ → ℕ) → ℕ → Run
 run_after w before s = record {
   scheme = scheme w.plan;
@@ -84,7 +84,7 @@ run_after w before s = record {
   product = product_of w s;
 }
 
--- the value of an input wire with this source: its input, or that of the wire that it carries
+-- the value of an input wire with this source: its input, or what the wire that it carries ended with
 abbrev pub source_value : World → (ℕ → ℕ → ℕ) → ℕ → ℕ → Source → ℕ
 source_value w before s v (Given p) = input_of w s v
 source_value w before s v (Carried r c i) = before r (carried_wire w.plan r c i)
@@ -151,8 +151,8 @@ abbrev pub masked_summand : World → ℕ → ℕ → Side → ℕ → ℕ
 masked_summand w s t side =
     masked (scheme w.plan) (summands (run_of w s) t (operand (gate (session w.plan s) t) side)) (mask w s t side)
 
--- a summand of the sender's deal, of a mask, of what is opened (a wire, or what one has more than its mask), or of a kept
--- wire
+-- a summand of the sender's deal, of a mask, of a kept wire, or of what is opened: a wire, or what one has more than its
+-- mask
 abbrev pub word_in : World → Key → Slot → ℕ
 word_in w key (Output o) = end_summands w key.session (output_wire (session w.plan key.session) o) key.share
 word_in w key (Mask t side) = mask w key.session t side key.share
