@@ -1,9 +1,9 @@
 -- Sessions that keep what later ones carry: they are as before but for that, and it is what a plan asks for.
-use Rattle.std.proofs.Common.{◌≡◌, ℕ, zero, suc, ◌+◌, ◌-◌, ◌*◌, ◌<◌, ◌≤◌, true, false, if◌then◌else◌, List, [], ◌∷◌, length, take, refl, sym, ap, ap₂, ◌∙◌, subst, arith}
+use Rattle.std.proofs.Common.{◌≡◌, ℕ, zero, suc, ◌+◌, ◌-◌, ◌*◌, ◌<◌, ◌≤◌, true, false, if◌then◌else◌, List, [], ◌∷◌, length, replicate, take, nat_eq, refl, sym, ap, ap₂, ◌∙◌, subst, arith}
 use Rattle.std.specs.Prelude.{All, IsSomeAnd, slice_get, slice_index_or}
-use Rattle.std.proofs.lemmas.Bool.{cases_Bool, cases_lt, eqb-true, false≢true}
+use Rattle.std.proofs.lemmas.Bool.{cases_Bool, cases_lt, cond-true, eq-eqb, eqb-true, false≢true}
 use Rattle.std.proofs.lemmas.List.Elements.{All-from_get_or}
-use Rattle.std.proofs.lemmas.List.{get_or_past, get_or-take, length-take-le}
+use Rattle.std.proofs.lemmas.List.{get_or_past, get_or-take, length-append, length-replicate, length-take-le}
 use mathlib.Core.Logic.{inl, inr}
 use Rattle.list_laws.specs.Lists.{total, joined, only_if}
 use Rattle.list_laws.proofs.Totals.{total_eq, total_pick, total_swap, total_zero}
@@ -179,6 +179,67 @@ module _ (sessions : List Session) where
         ∙ total_eq n _ _ (λ s ls.
         total_swap n (wires s) (λ r v. one (carries r (from s v)))
         ∙ total_eq (wires s) _ _ (λ v lv. carriers s v (from s v) refl ls))
+
+-- a session that is there, whatever stands for one that isn't
+pub there : (sessions : List Session) (s : ℕ) (x : Session) → s < length sessions → x ≡ slice_index_or sessions s x → x ≡ session_at sessions s
+there [] s x l e = absurd (omega (arith, l))
+there (y ∷ ys) zero x l e = e
+there (y ∷ ys) (suc s) x l e = there ys s x (omega (arith, l)) e
+
+-- ---- what is kept for one wire
+
+pub kept_here : (sessions : List Session) (r s v q c i n : ℕ) → source (session_at sessions s) v ≡ Carried q c i → q ≡ r → n ≡ first_output (session_at sessions r) c
+    → record { session = s; wire = v; output = n + i } ∷ [] ≡ kept_for sessions r s v
+kept_here sessions r s v q c i n e same is =
+    let x = session_at sessions r in
+    let keep : Source → List KeptWire = λ from. only_if (carries r from) (record { session = s; wire = v; output = carried_output x from } ∷ []) in
+    ap (λ m. record { session = s; wire = v; output = m + i } ∷ []) is
+    ∙ sym (ap keep e ∙ cond-true (nat_eq q r) (record { session = s; wire = v; output = first_output x c + i } ∷ []) [] (eq-eqb q r same))
+
+pub kept_not : (sessions : List Session) (r s v : ℕ) → carries r (source (session_at sessions s) v) ≡ false → [] ≡ kept_for sessions r s v
+kept_not sessions r s v e = sym (ap (λ b. only_if b (record { session = s; wire = v; output = carried_output (session_at sessions r) (source (session_at sessions s) v) } ∷ [])) e)
+
+-- the wires of the first values, of one more, and of all
+pub first_more : (values : List OutputValue) (c : ℕ) (d : OutputValue) → c < length values
+    → length (readers_of (take (suc c) values)) ≡ length (readers_of (take c values)) + (slice_index_or values c d).width
+first_more [] c d l = absurd (omega (arith, l))
+first_more (value ∷ values) zero d l = omega (arith, length-append (replicate value.width value.readers.mask) [], length-replicate {A = ℕ} value.width value.readers.mask)
+first_more (value ∷ values) (suc c) d l =
+    let here = replicate value.width value.readers.mask in
+    omega (arith, first_more values c d (omega (arith, l)), length-append here (readers_of (take (suc c) values)), length-append here (readers_of (take c values)))
+
+pub first_most : (values : List OutputValue) (c : ℕ) → length (readers_of (take c values)) ≤ length (readers_of values)
+first_most [] zero = omega arith
+first_most [] (suc c) = omega arith
+first_most (value ∷ values) zero = omega arith
+first_most (value ∷ values) (suc c) =
+    let here = replicate value.width value.readers.mask in
+    omega (arith, first_most values c, length-append here (readers_of (take c values)), length-append here (readers_of values))
+
+first_past : (values : List OutputValue) (c : ℕ) → length values ≤ c → length (readers_of (take c values)) ≡ length (readers_of values)
+first_past [] zero l = refl
+first_past [] (suc c) l = refl
+first_past (value ∷ values) zero l = absurd (omega (arith, l))
+first_past (value ∷ values) (suc c) l =
+    let here = replicate value.width value.readers.mask in
+    omega (arith, first_past values c (omega (arith, l)), length-append here (readers_of (take c values)), length-append here (readers_of values))
+
+-- the wires of an output value that is carried
+pub record IsValueOf (x : Session) (c i : ℕ) : Type 0 where
+  pub value : c < length x.outputs
+  pub wire : first_output x c + i < length (readers x)
+
+pub value_of : (sessions : List Session) → AllFit sessions → (s v r c i : ℕ) → source (session_at sessions s) v ≡ Carried r c i → IsValueOf (session_at sessions r) c i
+value_of sessions fit s v r c i e =
+    let x = session_at sessions r in
+    let within : first_output x c + i < length (readers x) = subst (λ (from : Source). carried_output x from < length (readers x)) e (carries_outputs sessions fit s v r c i e) in
+    record {
+      value = elim (cases_lt c (length x.outputs)) [
+        | inl l ↦ l
+        | inr past ↦ absurd (omega (arith, within, first_past x.outputs c past))
+      ];
+      wire = within;
+    }
 
 -- ---- the plan of them
 

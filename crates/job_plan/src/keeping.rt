@@ -79,18 +79,18 @@ fn push_carried(
 {
     let part = &parts[s as usize];
     for wire in 0..part.input_wires() as u32 {
-        if let Source::Carried {
-            session,
-            value,
-            wire: place,
-        } = part.source(wire)
-            && session == r
-        {
-            kept.push(KeptWire {
+        match part.source(wire) {
+            Source::Carried {
+                session,
+                value,
+                wire: place,
+            } if session == r => kept.push(KeptWire {
                 session: s,
                 wire,
                 output: firsts[value as usize] + place,
-            })?;
+            })?,
+            Source::Carried { .. } => {}
+            Source::Given(_party) => {}
         }
     }
     Ok(())
