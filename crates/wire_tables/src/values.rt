@@ -40,18 +40,19 @@ pub fn input_list(
     Ok(list)
 }
 
-// The next input of a party in session `s`, of which it has given so many.
-fn next_input(inputs: &Inputs, s: u32, party: u32, given: &mut [usize]) -> u64
+// The next input of a party in session `s`, and one more that it has given.
+fn next_input(inputs: &Inputs, s: u32, party: u32, counts: &mut [usize]) -> u64
     requires party { party < length inputs.now }
     requires session { s < length (slice_index_or inputs.now party []) }
-    requires count { party < length given.old }
-    requires enough { slice_index given.old party < length (given inputs.now party s) }
-    ensures word { result ≡ slice_index (given inputs.now party s) (slice_index given.old party) }
-    ensures given { given.new ≡ set given.old party (slice_index given.old party + 1) }
+    requires count { party < length counts.old }
+    requires enough { slice_index counts.old party < length (given inputs.now party s) }
+    ensures word { result ≡ slice_index (given inputs.now party s) (slice_index counts.old party) }
+    ensures count { counts.new ≡ set counts.old party (slice_index counts.old party + 1) }
 {
-    let at = given[party as usize];
-    given[party as usize] = at + 1;
-    inputs.of(party, s)[at]
+    let at = counts[party as usize];
+    let word = inputs.of(party, s)[at];
+    counts[party as usize] = at + 1;
+    word
 }
 
 /// The value of each wire of each session, session by session; 0 for a wire that is never set.
@@ -60,6 +61,7 @@ pub fn value_lists(alloc: Global, plan: &Plan, inputs: &Inputs) -> Result<Vec<Ve
     ensures { (tapes : List (List ℕ)) → IfOk result (λ lists. session_words lists.items
         ≡ value_lists (record { plan = plan.now; inputs = inputs.now; tapes = tapes })) }
 {
+    let _ = plan.parties();
     let mut lists = Vec::with_capacity(alloc, plan.sessions() as usize)?;
     for s in 0..plan.sessions() {
         lists.push(input_list(alloc, plan, inputs, s)?)?;
@@ -72,19 +74,19 @@ pub fn value_lists(alloc: Global, plan: &Plan, inputs: &Inputs) -> Result<Vec<Ve
 }
 
 // Makes the values of all wires of session `s` of those of its input wires.
-fn run_gates(plan: &Plan, s: u32, values: &mut Vec<u64>) -> Result<(), AllocError>
+fn run_gates(plan: &Plan, s: u32, list: &mut Vec<u64>) -> Result<(), AllocError>
     requires session { s < length plan.now.sessions }
-    requires inputs { length values.old.items ≡ length (owners (session plan.now s)) }
-    requires words { All (λ word. word < 2 ^ plan.now.bits) values.old.items }
-    ensures { OnOk result (values.new.items ≡ listed (session plan.now s).wires
-        (values (2 ^ plan.now.bits) (gate (session plan.now s)) (slice_index values.old.items)
+    requires inputs { length list.old.items ≡ length (owners (session plan.now s)) }
+    requires words { All (λ word. word < 2 ^ plan.now.bits) list.old.items }
+    ensures { OnOk result (list.new.items ≡ listed (session plan.now s).wires
+        (values (2 ^ plan.now.bits) (gate (session plan.now s)) (slice_index list.old.items)
         (length (session plan.now s).gates))) }
 {
     let part = plan.part(s);
     let ring = plan.ring();
-    pad(part.wires() as usize, values)?;
+    pad(part.wires() as usize, list)?;
     for t in 0..part.gates().len() as u32 {
-        set_wire(ring, part.gate(t), values);
+        set_wire(ring, part.gate(t), list);
     }
     Ok(())
 }
