@@ -111,6 +111,12 @@ taken_by n part k m i l is =
     let a = act_there n k l in
     taken_there n.world n.me part a.session a.session_there a.position m i (sym a.same ∙ is)
 
+-- the message of a post
+pub posted_by : (n : Node) → IsPart n.world n.me → (k m i : ℕ) → k < length (acts n) → at (acts n) k ≡ Post m i → (m < length (messages n.world.plan)) × ((message n.world.plan m).sender ≡ n.me)
+posted_by n part k m i l is =
+    let a = act_there n k l in
+    posted_there n.world n.me part a.session a.session_there a.position m i (sym a.same ∙ is)
+
 -- ---- messages that stay with the party
 
 -- sessions stand in their order
