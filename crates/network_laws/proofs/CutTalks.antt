@@ -1,8 +1,8 @@
 -- Whatever runs broke off, what a party says and got is the world's.
-use Rattle.std.proofs.Common.{◌≡◌, ◌≢◌, ℕ, zero, suc, ◌+◌, ◌*◌, ◌<◌, ◌≤◌, ◌^◌, nat_eq, if◌then◌else◌, List, [], ◌++◌, take, drop, length, refl, sym, ap, ◌∙◌, subst, arith, append_assoc, length-append, ⊎_elim}
+use Rattle.std.proofs.Common.{◌≡◌, ◌≢◌, ℕ, zero, suc, ◌+◌, ◌*◌, ◌<◌, ◌≤◌, ◌^◌, List, [], ◌++◌, take, drop, length, refl, sym, ap, ◌∙◌, subst, arith, append_assoc, length-append, ⊎_elim}
 use Rattle.std.specs.Prelude.{slice_index_or, Some}
 use Rattle.std.specs.List.{AllByRecursion}
-use Rattle.std.proofs.lemmas.Bool.{cases_eq, cases_lt, cond-true, cond-false, eq-eqb, ne_eqb}
+use Rattle.std.proofs.lemmas.Bool.{cases_eq, cases_lt}
 use Rattle.std.proofs.lemmas.List.{take-append-drop, length-take-le}
 use Rattle.std.proofs.Math.ListN.{get_or-append}
 use mathlib.Core.Logic.{inl as left', inr as right'}
@@ -32,10 +32,10 @@ use Rattle.node_talk.specs.declared.fault.NodeFault.TheVariants.{NoThread}
 use Rattle.node_talk.specs.Talks.{Node, acts, Stays, messages_between, frames, stream, talk, said, posts_to, post_to, place_of, IsRun}
 use Rattle.node_talk.specs.PeerLinks.{out_to}
 use Rattle.node_talk.specs.Runs.{BrokeOff}
-use Rattle.node_talk.proofs.PassedLists.{every_from_places, take_place}
+use Rattle.node_talk.proofs.PassedLists.{take_place}
 use Rattle.node_talk.proofs.MessageOrder.{posts_are_all, gather_prefix}
 use Rattle.node_talk.proofs.Frames.{stream_length, strip, small_64}
-use Rattle.node_talk.proofs.ExpectedPlaces.{placed, Expected, expected_there, between_parties}
+use Rattle.node_talk.proofs.ExpectedPlaces.{placed, expected_there, between_parties}
 use Rattle.node_talk.proofs.ActPlaces.{act_there, before_session, at_act, within_acts, posted_there, posted_before_take, taken_there}
 use Rattle.node_talk.proofs.RightRuns.{got_world, is_of_world, kept_as_sent}
 use Rattle.node_talk.proofs.KeptViews.{own_view}

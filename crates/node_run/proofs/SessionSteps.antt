@@ -55,6 +55,8 @@ stopped_at n k start c g = record {
   own = g.own;
   within = g.within;
   taken = g.taken;
+  posted = g.posted;
+  own_words = g.own_words;
   sent = λ got ag q peer. whole_prefix _ _ _ (g.sent got ag q peer);
 }
 
@@ -62,7 +64,7 @@ stopped_at n k start c g = record {
 pub record AreNodeCells (cells : Meaning Mail) : Type 0 where
   pub may_post : (c : Mail) (m w : ℕ) → MayPost c m w → cells.may_post c m w
   pub may_take : (c : Mail) (m : ℕ) → MayTake c m → cells.may_take c m
-  pub put : (c : Mail) (m w : ℕ) (p : Posted) (d : Mail) → cells.put c m w p d → (p ≡ Done) × SentTo (message c.plan m).receiver (frame (message c.plan m) w) (with_post c m w) d
+  pub put : (c : Mail) (m w : ℕ) (p : Posted) (d : Mail) → cells.put c m w p d → (p ≡ Done) × Posts c m w d
   pub took : (c : Mail) (m : ℕ) (a : Option ℕ) (d : Mail) → cells.took c m a d → Takes c m a d
   pub got : (c : Mail) (m w : ℕ) → cells.got c m w → plain_cell c.words.cells m ≡ Some w
 
@@ -71,7 +73,7 @@ node_cells = record {
   may_post = MayPost;
   may_take = MayTake;
   got = λ c m w. plain_cell c.words.cells m ≡ Some w;
-  put = λ c m w p d. (p ≡ Done) × SentTo (message c.plan m).receiver (frame (message c.plan m) w) (with_post c m w) d;
+  put = λ c m w p d. (p ≡ Done) × Posts c m w d;
   took = Takes;
   below = λ c k. c.plan.bits ≡ k;
 }
@@ -154,6 +156,7 @@ module _ (cells : Meaning Mail) (are : AreNodeCells cells) (n : Node) (s : ℕ) 
   allows_at got (Take m j) x = are.may_take c m (record {
     there = subst (λ z. m < length (messages z)) (sym h.going.own.plan) x.0;
     receiver = ap (λ z. (message z m).receiver) h.going.own.plan ∙ x.1 ∙ sym h.going.own.me;
+    kept = λ from. kept_before m j (sym (ap (λ z. (message z m).sender) h.going.own.plan) ∙ from ∙ h.going.own.me);
   })
   allows_at got _ x = tt
 
