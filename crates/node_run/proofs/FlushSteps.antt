@@ -97,6 +97,8 @@ module _ (n : Node) (k : ℕ) (start : Begin) (c : Mail) (g : Going n k start c)
       own = own';
       within = g.within;
       taken = subst (HasTaken n k) (sym same_cells) g.taken;
+      posted = subst (HasPosted n k) (sym same_cells) g.posted;
+      own_words = subst (KeepsOwn n) (sym same_cells) g.own_words;
       sent = λ got ag r peer. whole_prefix _ _ _ (said_still got ag r peer);
     };
     why = subst (StopsBy n k start d) (sym (nothing.2 some).1) ((lq, other), subst (λ z. Rose z (outlet_to d q).faults) (g.calm q (lq, other)) (nothing.2 some).0);

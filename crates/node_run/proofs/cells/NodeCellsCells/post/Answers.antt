@@ -15,7 +15,7 @@ pub invariant_of-self : goal.invariant_of-self
 invariant_of-self g c =
     let may = subst (λ (z : Mail). MayPost z c.args.number c.args.word) (sym c.self.view_is) c.requires in
     with_word _ c.self.invariant c.args.number c.args.word may.there
-    (λ to. absurd ((between_parties c.self.inside.plan.now c.self.invariant.sound c.args.number may.there).apart (may.sender ∙ sym to)))
+    (λ from. absurd (from.sender may.sender))
     c.post.new.self c.post.ensures.put.0
 
 pub frame-requires : goal.frame-requires
