@@ -1,5 +1,5 @@
 -- A step of a desk that goes by the words that its cells know.
-use Rattle.std.proofs.Common.{◌≡◌, ℕ, ◌+◌, ◌<◌, ◌^◌, List, All, length, refl, sym, ap, ◌∙◌, subst, arith}
+use Rattle.std.proofs.Common.{◌≡◌, ◌≢◌, ℕ, ◌+◌, ◌<◌, ◌^◌, List, All, length, refl, sym, ap, ◌∙◌, subst, arith}
 use Rattle.std.specs.Prelude.{slice_index}
 use Rattle.std.proofs.lemmas.Bool.{cases_lt}
 use Rattle.std.proofs.lemmas.List.{get_or_past}
@@ -11,7 +11,7 @@ use Rattle.circuit_model.specs.Circuits.{set_at}
 use Rattle.circuit_model.proofs.SetAt.{set_here, set_there}
 use Rattle.job_session.specs.Sessions.{Slot}
 use Rattle.job_plan.specs.Plans.{Plan}
-use Rattle.job_session.specs.Sessions.Slot.{Input, At_gate, Output, Mask, Mask_product, Masked}
+use Rattle.job_session.specs.Sessions.Slot.{Input, At_gate, Output, Mask, Mask_product, Masked, Kept}
 use Rattle.job_plan.specs.Messages.{messages}
 use Rattle.message_board.specs.declared.cells.Cells.{Ghosts as Meaning}
 use Rattle.party_program.specs.declared.program.Instruction.{Instruction}
@@ -19,7 +19,7 @@ use Rattle.party_program.specs.declared.program.Instruction.TheVariants.{Draw, D
 use Rattle.party_program.specs.Programs.{program, at}
 use Rattle.party_program.specs.States.{Given, State, slot_of, posted}
 use Rattle.party_program.specs.Proper.{Proper, with_got}
-use Rattle.party_program.proofs.RisingTakes.{takes_rise}
+use Rattle.party_program.proofs.DifferentTakes.{takes_differ}
 use Rattle.program_laws.proofs.OncePosted.{once}
 use Rattle.party_desk.specs.declared.desk.Desk.{Desk}
 use Rattle.party_desk.specs.declared.desk.Stepped.{Stepped}
@@ -44,6 +44,7 @@ small_post plan s d (At_gate t) i h = small_of (2 ^ plan.bits) d.memory.rows.ite
 small_post plan s d (Output o) i h = small_of (2 ^ plan.bits) d.memory.rows.items _ (pow_pos plan.bits) h.small_rows
 small_post plan s d (Mask t side) i h = small_of (2 ^ plan.bits) d.memory.rows.items _ (pow_pos plan.bits) h.small_rows
 small_post plan s d (Mask_product t) i h = small_of (2 ^ plan.bits) d.memory.rows.items _ (pow_pos plan.bits) h.small_rows
+small_post plan s d (Kept j) i h = small_of (2 ^ plan.bits) d.memory.rows.items _ (pow_pos plan.bits) h.small_rows
 
 module _ (l : Given) (d : Desk) (is_desk : IsDesk l d) where
   next_at : (e : Instruction) → instruction_at l d ≡ e → NextIs l d.position e
@@ -124,8 +125,8 @@ module _ {C : Type 0} (cells : Meaning C) (plan : Plan) (c : C) (l : Given) (d :
         desk = h;
         known = λ r m k less is'. elim (cases_lt r d.position) [
           | inl before ↦
-              let rises : m < n = takes_rise l.plan l.session l.party r d.position m k n j before is' (sym at_here ∙ is) in
-              subst (cells.got f m) (sym (set_there l.got n m v (λ z. let lower : m < n = rises in absurd (omega arith)))) (keeps.got m (l.got m) (may.goes.known r m k before is'))
+              let differs : m ≢ n = takes_differ l.plan l.session l.party r d.position m k n j may.goes.desk.suits.plan before is' (sym at_here ∙ is) in
+              subst (cells.got f m) (sym (set_there l.got n m v differs)) (keeps.got m (l.got m) (may.goes.known r m k before is'))
           | inr past ↦
               let same : r ≡ d.position = omega (arith, more, less, past) in
               let both : Take m k ≡ Take n j = sym is' ∙ ap (at (program l.plan l.party l.session)) same ∙ sym at_here ∙ is in
