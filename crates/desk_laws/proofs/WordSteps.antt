@@ -13,6 +13,7 @@ use Rattle.job_session.specs.Sessions.{Slot}
 use Rattle.job_plan.specs.Plans.{Plan}
 use Rattle.job_session.specs.Sessions.Slot.{Input, At_gate, Output, Mask, Mask_product, Masked, Kept}
 use Rattle.job_plan.specs.Messages.{messages}
+use Rattle.job_plan.proofs.PlanSchemes.{plan_is}
 use Rattle.message_board.specs.declared.cells.Cells.{Ghosts as Meaning}
 use Rattle.party_program.specs.declared.program.Instruction.{Instruction}
 use Rattle.party_program.specs.declared.program.Instruction.TheVariants.{Draw, Deal, Post, Take, Linear, Own, Sum, Open, Join, Deliver, End}
@@ -125,7 +126,7 @@ module _ {C : Type 0} (cells : Meaning C) (plan : Plan) (c : C) (l : Given) (d :
         desk = h;
         known = λ r m k less is'. elim (cases_lt r d.position) [
           | inl before ↦
-              let differs : m ≢ n = takes_differ l.plan l.session l.party r d.position m k n j may.goes.desk.suits.plan before is' (sym at_here ∙ is) in
+              let differs : m ≢ n = takes_differ l.plan l.session l.party r d.position m k n j (plan_is l.plan may.goes.desk.suits.sound) before is' (sym at_here ∙ is) in
               subst (cells.got f m) (sym (set_there l.got n m v differs)) (keeps.got m (l.got m) (may.goes.known r m k before is'))
           | inr past ↦
               let same : r ≡ d.position = omega (arith, more, less, past) in
