@@ -55,12 +55,12 @@ module _ (l : Given) (d : Desk) (is_desk : IsDesk l d) where
       let here : State = on_wires (row_of d.memory) (state_of (length l.plan.groups) d.memory) in
       let small : posted l.plan l.session (slot_of l.plan n) j here < 2 ^ l.plan.bits = small_post l.plan l.session d (slot_of l.plan n) j is_desk.fits in (
         there,
-        sym ((once l.plan n there).posted.alone l.party l.session d.position j is).0,
+        sym ((once l.plan n (plan_is l.plan is_desk.suits.sound) there).posted.alone l.party l.session d.position j is).0,
         subst (λ z. z < 2 ^ l.plan.bits) right (subst (λ z. posted l.plan z (slot_of l.plan n) j here < 2 ^ l.plan.bits) (sym is_desk.session) small),
       )
   next_at (Take n j) is =
       let there : n < length (messages l.plan) = (subst (Proper l.plan l.session) is (proper l d is_desk)).number in
-      (there, sym ((once l.plan n there).taken.alone l.party l.session d.position j is).0)
+      (there, sym ((once l.plan n (plan_is l.plan is_desk.suits.sound) there).taken.alone l.party l.session d.position j is).0)
   next_at (Draw k) is = tt
   next_at (Deal k j) is = tt
   next_at (Linear k) is = tt
