@@ -132,10 +132,10 @@ module _ (has : ℕ → ℕ → Type 0) (w : World) (whole : IsWhole w) (ds : Li
       let j : ℕ = b.1 in
       let is : m ≡ first plan s k + j = (let x = a.4 in let y = b.4 in omega arith) in
       let owner = (whole.sound.sessions s ls).owned in
-      let post' = posted_in plan (is_plan w whole) s 0 ls owner k j b.2 b.3 in
+      let post' = posted_in plan (is_plan w whole) s ls owner k j b.2 b.3 in
       let number : ℕ = first plan s k + j in
       let p : ℕ = (message plan number).sender in
-      let lp : p < plan.parties = each_sender plan (is_plan w whole) s 0 ls owner k j b.2 b.3 in
+      let lp : p < plan.parties = each_sender plan (is_plan w whole) s ls owner k j b.2 b.3 in
       let d0 : Desk = (element_there ds (s * n + p) (beside w s p lp ds h ls)).0 in
       let end : (get_or ds (s * n + p) d0).position ≡ length (program plan p s) =
       by_place (λ k (desk : Desk). desk.position ≡ length (program_of w k)) ds ended (s * n + p) d0 (beside w s p lp ds h ls) ∙ ap length (program_there w s p lp) in
