@@ -1,5 +1,5 @@
 -- The slot in which an instruction stands is that of the message that it names.
-use Rattle.std.proofs.Common.{◌≡◌, ℕ, ◌<◌, length, refl, sym, ap, ap₂, ◌∙◌, subst, arith}
+use Rattle.std.proofs.Common.{◌≡◌, ℕ, ◌<◌, length, sym, ap, ap₂, ◌∙◌, subst, arith}
 use Rattle.std.specs.List.{AllByRecursion}
 use Rattle.std.proofs.lemmas.Bool.{cases_lt}
 use mathlib.Core.Logic.{inl, inr}
@@ -67,7 +67,7 @@ module _ (plan : Plan) (sound : IsSound plan) (s p : ℕ) (ls : s < length plan.
 
 -- a desk at a slot that is there
 module _ (plan : Plan) (d : Desk) (stands : Stands plan d) (there : d.place.slot < slots plan d.session) where
-  pub at_product : d.place.pattern ≡ Multiplied → IsSlot plan d.session d.place.slot Multiplies
+  at_product : d.place.pattern ≡ Multiplied → IsSlot plan d.session d.place.slot Multiplies
   at_product product = record { kind = product_in_slot plan d.session (slot plan d.session d.place.slot) (sym (stands.place.pattern there) ∙ product); slot = there }
 
 -- a desk at a message of its session, which is of the desk's slot

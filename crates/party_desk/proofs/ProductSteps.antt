@@ -142,7 +142,7 @@ module _ (plan : Plan) (p s : ℕ) (valid : IsPlan plan) (ls : s < length plan.s
 
   step_at : (i : ℕ) (d : Step) → i < place.count
       → slice_index_or (half_program plan p s half place.slot) i instruction.End ≡ placed place.slot (first_named plan s place.slot) (deals_before plan p s place.slot) (slice_index_or (steps plan p half Multiplied) i d)
-  step_at i d less valid =
+  step_at i d less =
       let count = product_count plan p s valid ls half place in_product q here in
       let long = length-half plan p s half place.slot valid ls there in
       step_is plan p s half place.slot valid ls there i d (omega (arith, less, count, long))
@@ -152,7 +152,7 @@ module _ (plan : Plan) (p s : ℕ) (valid : IsPlan plan) (ls : s < length plan.s
   -- after its deal come posts
   pub posts_there : InProduct Head place → has_pair (scheme plan) p ≡ true → 2 ≤ i → i < place.count
       → (n j : ℕ) × (slice_index_or (half_program plan p s Head place.slot) i instruction.End ≡ instruction.Post n j)
-  posts_there in_product has from valid less =
+  posts_there in_product has from less =
       let long = product_long plan p s valid ls Head place in_product q here in
       let found = post_of place.slot (first_named plan s place.slot) (deals_before plan p s place.slot) (slice_index_or (steps plan p Head Multiplied) i Deal) (head_post plan p has i Deal from (omega (arith, less, long))) in
       (found.0, found.1, step_at plan p s valid ls Head place in_product q here i Deal less ∙ found.2)
