@@ -211,8 +211,9 @@ def main(words):
             expect(batch_of_slots(job) == [0, 0, 0, 3, 3, 3, 6, 7, 7], f'other batches: {batch_of_slots(job)}')
             runs = nodes_are_cut(program, top, job)
             parties_of_both_orders(program, top, job)
-        with tempfile.TemporaryDirectory() as top:
-            parties_of_both_orders(program, top, str(TOP / 'examples/network'))
+        for example in ['network', 'prepared/mixed']:
+            with tempfile.TemporaryDirectory() as top:
+                parties_of_both_orders(program, top, str(TOP / 'examples' / example))
     except (Wrong, OSError, subprocess.SubprocessError) as wrong:
         print(f'rounds: NOT AS EXPECTED: {wrong}')
         return 1
