@@ -12,11 +12,11 @@ use Rattle.list_laws.specs.Checks.{◌answers◌, first_fault}
 use Rattle.party_set.specs.Parties.{Structure, has_party, within}
 use Rattle.maximal_groups.specs.Families.{LiesWithin}
 use Rattle.job_plan.specs.InputWords.{AreInputs}
-use Rattle.job_session.specs.Sessions.{Session, no_session, owners, readers, output_wire}
+use Rattle.job_session.specs.Sessions.{Session, no_session, owners, source, readers, output_wire}
 use Rattle.job_plan.specs.Plans.{Plan, structure, session, reads}
 use Rattle.share_world.specs.Laws.{IsWhole}
 use Rattle.share_world.specs.Worlds.{World, input_of, plain}
-use Rattle.tape_map.specs.TapeMaps.{hidden, with_inputs}
+use Rattle.tape_map.specs.TapeMaps.{member_gives, hidden, with_inputs}
 use Rattle.tape_map.specs.Laws.{Agree, CanHide}
 use Rattle.tape_map.specs.MapFaults.{is_tolerated, input_check, output_check, input_checks, output_checks, value_checks, map_fault}
 use Rattle.tape_map.specs.declared.fault.MapFault.{MapFault}
@@ -64,12 +64,12 @@ module _ (w : World) (other : List (List (List ℕ))) (group : ℕ) where
   abbrev outputs_pass : Type 0
   outputs_pass = first_fault (joined (length w.plan.sessions) (output_checks w other group)) ≡ None
 
-  agree_inputs : inputs_pass → (s v : ℕ) → v < length (owners (session w.plan s)) → has_party group (slice_index (owners (session w.plan s)) v) ≡ true
+  agree_inputs : inputs_pass → (s v : ℕ) → v < length (owners (session w.plan s)) → member_gives group (source (session w.plan s) v) ≡ true
       → input_of (with_inputs w other) s v ≡ input_of w s v
   agree_inputs h s v lv member = elim (cases_lt s (length w.plan.sessions)) [
     | inl ls ↦
         let one = joined-passed (length (owners (session w.plan s))) v (λ u. input_check w other group s u ∷ []) lv (joined-passed (length w.plan.sessions) s (input_checks w other group) ls h) in
-        same_where (has_party group (slice_index (owners (session w.plan s)) v)) (input_of w s v) (input_of (with_inputs w other) s v)
+        same_where (member_gives group (source (session w.plan s) v)) (input_of w s v) (input_of (with_inputs w other) s v)
         (none_failed _ (InputDiffers s v (input_of w s v) (input_of (with_inputs w other) s v)) None one).0 member
     | inr past ↦ absurd (let none = ap (λ x. length (owners x)) (no_more w.plan s past) in omega arith)
   ]
@@ -92,7 +92,7 @@ module _ (w : World) (other : List (List (List ℕ))) (group : ℕ) where
   inputs_agreed h =
       all-passed (length w.plan.sessions) (input_checks w other group) (λ s ls. all-passed (length (owners (session w.plan s))) (λ v. input_check w other group s v ∷ []) (λ v lv.
       one-passed _ (InputDiffers s v (input_of w s v) (input_of (with_inputs w other) s v))
-      (where_same (has_party group (slice_index (owners (session w.plan s)) v)) (input_of w s v) (input_of (with_inputs w other) s v) (h.inputs s v lv))))
+      (where_same (member_gives group (source (session w.plan s) v)) (input_of w s v) (input_of (with_inputs w other) s v) (h.inputs s v lv))))
 
   outputs_agreed : Agree w other group → outputs_pass
   outputs_agreed h =
