@@ -78,6 +78,27 @@ moved_mask_at plan s g more rows side t l e =
     ∙ listed_at (length x.gates) (grown_mask plan s g more rows side) t [] l
     ∙ cond-true (is_product (gate x t).operation) _ [] both.1
 
+-- the tables as they were made, with what is known of their parts
+pub made_table : (plan : Plan) (s g : ℕ) (more : List ℕ) (rows : List (List ℕ)) (c : Change) → c.session ≡ s → c.hidden ≡ g → c.growths.items ≡ more → c.rows ≡ rows
+    → session_words c.moved.items ≡ grown_rows plan s c.hidden c.growths.items c.rows
+    → session_words c.first_masks.items ≡ grown_masks plan s c.hidden c.growths.items c.rows First
+    → session_words c.second_masks.items ≡ grown_masks plan s c.hidden c.growths.items c.rows Second → IsTable plan s g more rows c
+made_table plan s g more rows c at hidden_is grown table moved_is first second = record {
+  at = at;
+  hidden_summand = hidden_is;
+  growths = grown;
+  rows = table;
+  moved = moved_is ∙ ap₂ (grown_rows plan s c.hidden) grown table ∙ ap (λ n. grown_rows plan s n more rows) hidden_is;
+  masks = masks;
+}
+  where
+    with_known : (side : Side) → grown_masks plan s c.hidden c.growths.items c.rows side ≡ grown_masks plan s g more rows side
+    with_known side = ap₂ (λ more rows. grown_masks plan s c.hidden more rows side) grown table ∙ ap (λ n. grown_masks plan s n more rows side) hidden_is
+
+    masks : (side : Side) → masks_of c side ≡ grown_masks plan s g more rows side
+    masks First = first ∙ with_known First
+    masks Second = second ∙ with_known Second
+
 -- by its own tables
 own_tables : (plan : Plan) (s g : ℕ) (more : List ℕ) (rows : List (List ℕ)) (c : Change) → IsTable plan s g more rows c
     → IsTable plan c.session c.hidden c.growths.items c.rows c
