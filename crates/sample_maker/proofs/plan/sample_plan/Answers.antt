@@ -9,8 +9,8 @@ use Rattle.sample_maker.proofs.OneSession.{fit_one}
 use Rattle.sample_maker.proofs.SampleLimits.{few_messages, few_words}
 use Rattle.sample_maker.proofs.plan.sample_plan.Goals as goal
 
-pub make-requires-clause-fit : goal.make-requires-clause-fit
-make-requires-clause-fit c = subst AllFit (sym c.in_ok-parts.ensures.items) (fit_one c.in_ok-sample_part.field-0 c.in_ok-sample_part.ensures.fit)
+pub make-requires-3-clause-fit : goal.make-requires-3-clause-fit
+make-requires-3-clause-fit c = subst AllFit (sym c.in_ok-parts.ensures.items) (fit_one c.in_ok-sample_part.field-0 c.in_ok-sample_part.ensures.fit)
 
 -- the plan of a sample's parts, of which nothing is carried
 of_sample : (bits : ℕ) (structure : Structure) (sessions : List Session) (n : ℕ) → bits ≡ 32 → structure ≡ three_parties → sessions ≡ sample_session n ∷ [] → plan_of bits structure (keeping sessions) ≡ sample_plan n
