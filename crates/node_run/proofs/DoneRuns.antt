@@ -22,6 +22,9 @@ use Rattle.program_laws.specs.Meets.{local_given}
 use Rattle.program_laws.specs.Parts.{IsPart}
 use Rattle.program_laws.proofs.LocalPrograms.{met}
 use Rattle.program_laws.specs.Once.{take_session}
+use Rattle.job_plan.specs.Plans.{Plan, IsPlan}
+use Rattle.program_laws.proofs.TakenMessages.{taken_there}
+use Rattle.program_laws.proofs.SentMessages.{there}
 use Rattle.program_laws.proofs.OncePosted.{once}
 use Rattle.program_laws.proofs.OpenedOutputs.{opens_right}
 use Rattle.program_laws.proofs.PartLaws.{part_plan, part_words}
@@ -70,6 +73,13 @@ inside es q i is ne = elim (cases_lt q (length es)) [
   | inl l ↦ l
   | inr past ↦ absurd (ne (sym (get_or_past es q End past) ∙ is))
 ]
+
+-- a message is taken in a session of the plan
+take_there : (plan : Plan) (m : ℕ) → IsPlan plan → m < length (messages plan) → take_session plan m < length plan.sessions
+take_there plan m h l =
+    let key : Key = message plan m in
+    let is = there plan m l in
+    (taken_there plan h key.session key.slot is.session_within is.slot_within (omega (arith, is.place_within))).session_there
 
 module _ (n : Node) (start : Begin) (after : LinksReading) (ds : List Desk) (now : Mail) (r : Results) (h : RanToEnd n start after ds now r) where
   part : IsPart n.world n.me

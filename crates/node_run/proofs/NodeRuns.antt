@@ -24,11 +24,11 @@ use Rattle.node_talk.specs.declared.fault.NodeFault.TheVariants.{Link, Closed, B
 use Rattle.node_talk.specs.Talks.{Node, IsPeer, own_word, said, place_of}
 use Rattle.node_talk.specs.PeerLinks.{place_among, no_inlet, no_outlet, in_from, out_to}
 use Rattle.node_talk.specs.Causes.{Cause}
-use Rattle.node_talk.specs.Runs.{Results, IsDone, TalkedThrough, StopsAfter, NoSendRose, AllStarted, BrokeOff}
+use Rattle.node_talk.specs.Runs.{Results, IsDone, TalkedThrough, KeepsItsWords, StopsAfter, NoSendRose, AllStarted, BrokeOff}
 use Rattle.node_talk.proofs.NoCauses.{no_cause}
 use Rattle.node_talk.proofs.RightRuns.{joins}
 use Rattle.node_talk.proofs.ExpectedPlaces.{placed}
-use Rattle.node_talk.proofs.ActPlaces.{taken_by}
+use Rattle.node_talk.proofs.ActPlaces.{posted_by, taken_by}
 use Rattle.link_reader.specs.NodeReaders.{incoming, ReadsFrom, HasReadWords, SaidWhatItCould}
 use Rattle.link_reader.proofs.BrokenOffRuns.{breaks_off}
 use Rattle.link_reader.specs.ReadWords.{ReadsWords, CameShort}
