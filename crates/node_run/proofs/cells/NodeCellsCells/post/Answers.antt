@@ -1,4 +1,4 @@
-use Rattle.std.proofs.Common.{◌<◌, ◌^◌, ap, sym, ◌∙◌, subst, arith}
+use Rattle.std.proofs.Common.{◌<◌, ◌^◌, sym, subst, arith}
 use Rattle.job_plan.specs.declared.key.Key.{Key}
 use Rattle.frame_code.specs.Frames.{FitsFrame}
 use Rattle.node_run.specs.Mail.{Mail, MayPost}
