@@ -199,10 +199,13 @@ module _ (net : Network) (h : IsNetwork net) where
           | left' here ↦
               let session : t ≡ (message plan m').session = sym comes.session ∙ ap (λ (z : ℕ × ℕ). z.0) here in
               let slot : take_slot plan m' ≡ (message plan m').slot = ap (λ (z : ℕ × ℕ). z.1) here in
-              right' (sym session, elim (cases_lt (message plan m').slot (message plan m).slot) [
-                | left' l ↦ l
-                | right' past ↦ absurd (let a = first.order position r m i m' i' stands is (omega (arith, slot, past)) in omega (arith, a, less))
-              ])
+              right' (
+                sym session,
+                elim (cases_lt (message plan m').slot (message plan m).slot) [
+                  | left' l ↦ l
+                  | right' past ↦ absurd (let a = first.order position r m i m' i' stands is (omega (arith, slot, past)) in omega (arith, a, less))
+                ],
+              )
           | right' later ↦ left' (omega (arith, later, comes.session))
         ]
 

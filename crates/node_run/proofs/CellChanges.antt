@@ -360,6 +360,11 @@ no_word (Some v) h = absurd (h v refl)
 pub looked_may : (c d : Mail) (m : ℕ) (a : Option ℕ) → Looked c m a d → ComesFromPeer c m → ComesFromPeer d m
 looked_may c d m a h may = subst (λ (z : Mail). ComesFromPeer z m) (sym h.rest) (record { there = may.there; receiver = may.receiver; sender = may.sender })
 
+-- what might be taken may still be, where no word is lost
+pub still_may : (c d : Mail) (m : ℕ) (a : Option ℕ) → Looked c m a d → (r : ℕ) → MayTake c r → (now : CellContents) → ((x : ℕ) → plain_cell c.words.cells r ≡ Some x → plain_cell now.cells r ≡ Some x) → MayTake (record d { words = now }) r
+still_may c d m a h r may now keeps =
+    subst (λ (z : Mail). MayTake (record z { words = now }) r) (sym h.rest) (record { there = may.there; receiver = may.receiver; kept = λ own. let v = may.kept own in (v.0, keeps v.0 v.1) })
+
 -- a message to the party whose word isn't kept is a peer's
 pub missing_peer : (c : Mail) (m : ℕ) → MayTake c m → plain_cell c.words.cells m ≡ None → ComesFromPeer c m
 missing_peer c m may empty = record {

@@ -226,7 +226,7 @@ halted_goes n start q c d h quiet f =
       k = h.k;
       stopped = stopped_at n h.k start d g;
       why = subst (StopsBy n h.k start d) (sym g.quiet)
-          (g, (why.1.0, why.1.1, why.1.2, subst (λ z. NeverComes z why.1.0) (sym f.rest) (record { ended = never.ended; total = never.total; found = never.found; few = never.few })));
+          (g, (why.1.0, why.1.1, why.1.2, subst (λ z. NeverComes z why.1.0) (sym f.rest) (record { peer = never.peer; ended = never.ended; total = never.total; found = never.found; few = never.few })));
       outlets = going_stays n h.k start d g;
     }
 

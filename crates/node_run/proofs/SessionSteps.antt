@@ -451,13 +451,13 @@ module _ (cells : Meaning Mail) (are : AreNodeCells cells) (n : Node) (s : ℕ) 
       word = λ r v f from got ag.
           let before' : Agrees n c.words.cells got = (λ m' v' to g. ag m' v' to (keeps m' v' g)) in
           ⊎_elim (λ before. h.going.own_words.word r v before from got before')
-              (λ (new : (r ≡ m) × (v ≡ x)).
-              let mine : (message plan m).sender ≡ n.me = ap (λ z. (message plan z).sender) (sym new.0) ∙ from in
-              let b = kept_before m j is mine in
-              let both : Some v ≡ Some b.0 = sym f ∙ ap (plain_cell c'.words.cells) new.0 ∙ keeps m b.0 b.1 in
-              let one : v ≡ b.0 = cc in
-              one ∙ h.going.own_words.word m b.0 b.1 mine got before' ∙ ap (λ z. own_word n got (message plan z)) (sym new.0))
-              (put_new c.words.cells m x r v lm (ap (λ z. plain_cell z r) (sym put) ∙ f));
+          (λ (new : (r ≡ m) × (v ≡ x)).
+          let mine : (message plan m).sender ≡ n.me = ap (λ z. (message plan z).sender) (sym new.0) ∙ from in
+          let b = kept_before m j is mine in
+          let both : Some v ≡ Some b.0 = sym f ∙ ap (plain_cell c'.words.cells) new.0 ∙ keeps m b.0 b.1 in
+          let one : v ≡ b.0 = cc in
+          one ∙ h.going.own_words.word m b.0 b.1 mine got before' ∙ ap (λ z. own_word n got (message plan z)) (sym new.0))
+          (put_new c.words.cells m x r v lm (ap (λ z. plain_cell z r) (sym put) ∙ f));
     }
 
     takes : (m j : ℕ) → e ≡ Take m j → Next
