@@ -32,7 +32,7 @@ returns c =
     let plan = c.args.self.now in
     let each = ap (λ n. (n - 1) * c.args.deal) c.shares.ensures.is in
     let is : c.tape_start.result + c.mask_words.result + (c.shares.result - 1) * c.args.deal ≡ deal_place plan c.args.p c.args.s c.args.deal =
-        omega (arith, each, c.tape_start.ensures.is, c.mask_words.ensures, deal_place_is plan c.args.p c.args.s c.args.deal c.requires.deal) in
+    omega (arith, each, c.tape_start.ensures.is, c.mask_words.ensures, deal_place_is plan c.args.p c.args.s c.args.deal c.requires.deal) in
     record {
       is = is;
       in_slot = λ k lk dealing e. is ∙ ap (deal_place plan c.args.p c.args.s) e ∙ ap (place plan c.args.p c.args.s) (slot_of_deal plan c.args.p c.args.s k lk dealing);
