@@ -1,7 +1,7 @@
-use Rattle.std.proofs.Common.{◌≡◌, ℕ, ◌<◌, ◌++◌, List, [], length, sym, ap, ap₂, ◌∙◌, arith}
+use Rattle.std.proofs.Common.{◌≡◌, ℕ, ◌<◌, ◌++◌, List, [], length, refl, sym, ap, ap₂, ◌∙◌, arith}
 use Rattle.std.specs.Prelude.{slice_index_or}
 use Rattle.std.specs.Global.{Vec}
-use Rattle.std.proofs.lemmas.List.{length-map, with_items_is}
+use Rattle.std.proofs.lemmas.List.{get_or-replicate, length-map, length-replicate, with_items_is}
 use Rattle.list_laws.specs.Lists.{joined}
 use Rattle.list_laws.proofs.JoinedLists.{joined_more, length-listed, listed_at}
 use Rattle.job_plan.specs.InputWords.{session_words}
@@ -21,6 +21,17 @@ list_read w lists s list words are ls read is =
     let there : s < length lists = omega (arith, ls, ap length are, length-listed count (value_list w), length-map lists (λ (list : Vec ℕ). list.items)) in
     is ∙ row_read lists s list there read ∙ ap (λ xs. slice_index_or xs s []) are ∙ listed_at count (value_list w) s [] ls
 
+pub loop-s-init : goal.loop-s-init
+loop-s-init c =
+    let w : World = world_given c.args.plan.now c.args.inputs.now c.args.tapes.now in
+    let many : length c.in_ok-changed.changed.items ≡ c.parties.result =
+    sym (length-map c.in_ok-changed.changed.items (λ (t : Vec ℕ). t.items)) ∙ ap length c.in_ok-changed.ensures ∙ length-replicate c.parties.result [] in
+    record {
+      parties = many ∙ c.parties.ensures.is;
+      pieces = λ p lp. ap (λ xs. slice_index_or xs p []) c.in_ok-changed.ensures ∙ get_or-replicate c.parties.result p [] [] (omega (arith, lp, c.parties.ensures.is));
+      carried = c.in_ok-carried.ensures w refl;
+    }
+
 pub bounds-first-s : goal.bounds-first-s
 bounds-first-s c =
     let w : World = world_given c.args.plan.now c.args.inputs.now c.args.tapes.now in
@@ -31,15 +42,15 @@ bounds-second-s c =
     let w : World = with_inputs (world_given c.args.plan.now c.args.inputs.now c.args.tapes.now) c.args.other.now in
     omega (arith, c.loop-s-test.true, c.sessions-s-end.ensures, ap length c.requires.second, length-listed (length w.plan.sessions) (value_list w), length-map c.args.second.now (λ (list : Vec ℕ). list.items))
 
-pub make-change-requires-clause-first : goal.make-change-requires-clause-first
-make-change-requires-clause-first c =
+pub make-requires-clause-first : goal.make-requires-clause-first
+make-requires-clause-first c =
     let w : World = world_given c.args.plan.now c.args.inputs.now c.args.tapes.now in
     list_read w c.args.first.now c.loop-s.s c.index-first-s.result _ c.requires.first (omega (arith, c.loop-s-test.true, c.sessions-s-end.ensures)) c.index-first-s.is c.deref.ensures.value
 
-pub make-change-requires-clause-second : goal.make-change-requires-clause-second
-make-change-requires-clause-second c =
+pub make-requires-clause-second : goal.make-requires-clause-second
+make-requires-clause-second c =
     let w : World = world_given c.args.plan.now c.args.inputs.now c.args.tapes.now in
-    list_read (with_inputs w c.args.other.now) c.args.second.now c.loop-s.s c.index-second-s.result _ c.requires.second (omega (arith, c.loop-s-test.true, c.sessions-s-end.ensures)) c.index-second-s.is c.deref-2.ensures.value
+    list_read (with_inputs w c.args.other.now) c.args.second.now c.loop-s.s c.index-second-s.result _ c.requires.second (omega (arith, c.loop-s-test.true, c.sessions-s-end.ensures)) c.index-second-s.is c.deref-in-loop-s.ensures.value
 
 pub push_pieces-requires-clause-fits : goal.push_pieces-requires-clause-fits
 push_pieces-requires-clause-fits c =

@@ -23,13 +23,13 @@ output_fault-requires-clause-second c =
     let w : World = world_given c.args.plan.now c.args.inputs.now c.args.tapes.now in
     values_are (with_inputs w c.args.other.now) (session_words c.deref-2.result.now) (ap session_words c.deref-2.ensures.value ∙ c.in_ok-second.ensures w.tapes)
 
-pub changed_tapes-changed-requires-clause-first : goal.changed_tapes-changed-requires-clause-first
-changed_tapes-changed-requires-clause-first c =
+pub changed_tapes-requires-clause-first : goal.changed_tapes-requires-clause-first
+changed_tapes-requires-clause-first c =
     let w : World = world_given c.args.plan.now c.args.inputs.now c.args.tapes.now in
     ap session_words c.deref-3.ensures.value ∙ c.in_ok-first.ensures w.tapes
 
-pub changed_tapes-changed-requires-clause-second : goal.changed_tapes-changed-requires-clause-second
-changed_tapes-changed-requires-clause-second c =
+pub changed_tapes-requires-clause-second : goal.changed_tapes-requires-clause-second
+changed_tapes-requires-clause-second c =
     let w : World = world_given c.args.plan.now c.args.inputs.now c.args.tapes.now in
     ap session_words c.deref-4.ensures.value ∙ c.in_ok-second.ensures w.tapes
 
@@ -45,13 +45,13 @@ returns-in-Some-2-clause-fault c =
     let tolerated = lies c.args.plan.now mask c.in-Some.share (some_found c.hidden_summand.result c.in-Some.share c.args.groups.now c.args.plan.now mask c.requires.groups c.hidden_summand.ensures c.in-Some.is) in
     inr (inputs_fail w c.args.other.now mask c.in-Some-2.fault tolerated (sym (c.in_ok-fault.ensures w.tapes) ∙ c.in-Some-2.is))
 
-pub returns-in-Some-3-clause-fault : goal.returns-in-Some-3-clause-fault
-returns-in-Some-3-clause-fault c =
+pub returns-in-Some-output_fault-clause-fault : goal.returns-in-Some-output_fault-clause-fault
+returns-in-Some-output_fault-clause-fault c =
     let w : World = world_given c.args.plan.now c.args.inputs.now c.args.tapes.now in
     let mask = c.args.group.mask in
     let tolerated = lies c.args.plan.now mask c.in-Some.share (some_found c.hidden_summand.result c.in-Some.share c.args.groups.now c.args.plan.now mask c.requires.groups c.hidden_summand.ensures c.in-Some.is) in
-    inr (outputs_fail w c.args.other.now mask c.in-Some-3.fault tolerated (sym (c.in_ok-fault.ensures w.tapes) ∙ c.in_default-2.is) (outputs_read w c.args.other.now mask _ _ _ c.requires.whole.sound (ap session_words c.deref.ensures.value ∙ c.in_ok-first.ensures w.tapes)
-    (ap session_words c.deref-2.ensures.value ∙ c.in_ok-second.ensures w.tapes) c.output_fault.ensures ∙ c.in-Some-3.is))
+    inr (outputs_fail w c.args.other.now mask c.in-Some-output_fault.fault tolerated (sym (c.in_ok-fault.ensures w.tapes) ∙ c.in_default-2.is) (outputs_read w c.args.other.now mask _ _ _ c.requires.whole.sound (ap session_words c.deref.ensures.value ∙ c.in_ok-first.ensures w.tapes)
+    (ap session_words c.deref-2.ensures.value ∙ c.in_ok-second.ensures w.tapes) c.output_fault.ensures ∙ c.in-Some-output_fault.is))
 
 pub returns-clause-hides : goal.returns-clause-hides
 returns-clause-hides c =
@@ -59,7 +59,7 @@ returns-clause-hides c =
     let mask = c.args.group.mask in
     let tolerated = lies c.args.plan.now mask c.in-Some.share (some_found c.hidden_summand.result c.in-Some.share c.args.groups.now c.args.plan.now mask c.requires.groups c.hidden_summand.ensures c.in-Some.is) in
     can_hide w c.args.other.now mask c.requires.whole c.requires.other tolerated (sym (c.in_ok-fault.ensures w.tapes) ∙ c.in_default-2.is) (outputs_read w c.args.other.now mask _ _ _ c.requires.whole.sound (ap session_words c.deref.ensures.value ∙ c.in_ok-first.ensures w.tapes)
-    (ap session_words c.deref-2.ensures.value ∙ c.in_ok-second.ensures w.tapes) c.output_fault.ensures ∙ c.in_default-3.is)
+    (ap session_words c.deref-2.ensures.value ∙ c.in_ok-second.ensures w.tapes) c.output_fault.ensures ∙ c.in_default-output_fault.is)
 
 pub returns-in-Some-2-clause-recipient : goal.returns-in-Some-2-clause-recipient
 returns-in-Some-2-clause-recipient c =
@@ -68,10 +68,10 @@ returns-in-Some-2-clause-recipient c =
     let tolerated = lies c.args.plan.now mask c.in-Some.share (some_found c.hidden_summand.result c.in-Some.share c.args.groups.now c.args.plan.now mask c.requires.groups c.hidden_summand.ensures c.in-Some.is) in
     recipient_below w c.args.other.now mask c.in-Some-2.fault (inputs_fail w c.args.other.now mask c.in-Some-2.fault tolerated (sym (c.in_ok-fault.ensures w.tapes) ∙ c.in-Some-2.is))
 
-pub returns-in-Some-3-clause-recipient : goal.returns-in-Some-3-clause-recipient
-returns-in-Some-3-clause-recipient c =
+pub returns-in-Some-output_fault-clause-recipient : goal.returns-in-Some-output_fault-clause-recipient
+returns-in-Some-output_fault-clause-recipient c =
     let w : World = world_given c.args.plan.now c.args.inputs.now c.args.tapes.now in
     let mask = c.args.group.mask in
     let tolerated = lies c.args.plan.now mask c.in-Some.share (some_found c.hidden_summand.result c.in-Some.share c.args.groups.now c.args.plan.now mask c.requires.groups c.hidden_summand.ensures c.in-Some.is) in
-    recipient_below w c.args.other.now mask c.in-Some-3.fault (outputs_fail w c.args.other.now mask c.in-Some-3.fault tolerated (sym (c.in_ok-fault.ensures w.tapes) ∙ c.in_default-2.is) (outputs_read w c.args.other.now mask _ _ _ c.requires.whole.sound (ap session_words c.deref.ensures.value ∙ c.in_ok-first.ensures w.tapes)
-    (ap session_words c.deref-2.ensures.value ∙ c.in_ok-second.ensures w.tapes) c.output_fault.ensures ∙ c.in-Some-3.is))
+    recipient_below w c.args.other.now mask c.in-Some-output_fault.fault (outputs_fail w c.args.other.now mask c.in-Some-output_fault.fault tolerated (sym (c.in_ok-fault.ensures w.tapes) ∙ c.in_default-2.is) (outputs_read w c.args.other.now mask _ _ _ c.requires.whole.sound (ap session_words c.deref.ensures.value ∙ c.in_ok-first.ensures w.tapes)
+    (ap session_words c.deref-2.ensures.value ∙ c.in_ok-second.ensures w.tapes) c.output_fault.ensures ∙ c.in-Some-output_fault.is))

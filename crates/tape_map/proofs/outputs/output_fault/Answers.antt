@@ -37,7 +37,7 @@ session_fault-requires-clause-second c =
     let s = c.loop-s.s in
     let ls : s < length c.args.plan.now.sessions = omega (arith, c.loop-s-test.true, c.sessions-s-end.ensures) in
     let there : s < length c.args.second.now = omega (arith, ls, c.requires.second.sessions, length-map c.args.second.now (λ (list : Vec ℕ). list.items)) in
-    ap length (c.deref-2.ensures.value ∙ row_read c.args.second.now s c.index-second-s.result there c.index-second-s.is) ∙ c.requires.second.wires s ls
+    ap length (c.deref-in-loop-s.ensures.value ∙ row_read c.args.second.now s c.index-second-s.result there c.index-second-s.is) ∙ c.requires.second.wires s ls
 
 pub returns-in-Some : goal.returns-in-Some
 returns-in-Some c =
@@ -47,7 +47,7 @@ returns-in-Some c =
     let ls : s < length plan.sessions = omega (arith, c.loop-s-test.true, c.sessions-s-end.ensures) in
     let lf : s < length c.args.first.now = omega (arith, ls, c.requires.first.sessions, length-map c.args.first.now (λ (list : Vec ℕ). list.items)) in
     let lg : s < length c.args.second.now = omega (arith, ls, c.requires.second.sessions, length-map c.args.second.now (λ (list : Vec ℕ). list.items)) in
-    let same = read_checks plan mask s c.args.first.now c.args.second.now _ _ _ _ lf lg c.index-first-s.is c.index-second-s.is c.deref.ensures.value c.deref-2.ensures.value in
+    let same = read_checks plan mask s c.args.first.now c.args.second.now _ _ _ _ lf lg c.index-first-s.is c.index-second-s.is c.deref.ensures.value c.deref-in-loop-s.ensures.value in
     sym (joined-stops (length plan.sessions) s (λ s. value_checks plan mask s (value_at (session_words c.args.first.now) s) (value_at (session_words c.args.second.now) s))
     c.in-Some.fault ls c.loop-s.invariant (ap first_fault (sym same) ∙ sym c.session_fault.ensures ∙ c.in-Some.is))
 
@@ -59,6 +59,6 @@ loop-s-preserved c =
     let ls : s < length plan.sessions = omega (arith, c.loop-s-test.true, c.sessions-s-end.ensures) in
     let lf : s < length c.args.first.now = omega (arith, ls, c.requires.first.sessions, length-map c.args.first.now (λ (list : Vec ℕ). list.items)) in
     let lg : s < length c.args.second.now = omega (arith, ls, c.requires.second.sessions, length-map c.args.second.now (λ (list : Vec ℕ). list.items)) in
-    let same = read_checks plan mask s c.args.first.now c.args.second.now _ _ _ _ lf lg c.index-first-s.is c.index-second-s.is c.deref.ensures.value c.deref-2.ensures.value in
+    let same = read_checks plan mask s c.args.first.now c.args.second.now _ _ _ _ lf lg c.index-first-s.is c.index-second-s.is c.deref.ensures.value c.deref-in-loop-s.ensures.value in
     joined_more-passed s (λ s. value_checks plan mask s (value_at (session_words c.args.first.now) s) (value_at (session_words c.args.second.now) s))
     c.loop-s.invariant (ap first_fault (sym same) ∙ sym c.session_fault.ensures ∙ c.in_default.is)
