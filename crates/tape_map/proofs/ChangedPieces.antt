@@ -26,11 +26,10 @@ use Rattle.job_plan.specs.Plans.{Plan, session, slot, slots, words, words_in, pl
 use Rattle.job_plan.specs.InputWords.{AreInputs, session_words}
 use Rattle.job_plan.specs.Sound.{IsSound}
 use Rattle.job_plan.proofs.Slots.{at_its_number}
-use Rattle.share_world.specs.Laws.{IsWorld, IsWhole}
+use Rattle.share_world.specs.Laws.{IsWhole}
 use Rattle.share_world.specs.Solutions.{GatesInOrder}
 use Rattle.share_world.specs.Worlds.{World, input_of, source_value, tape_word, run_of, value_before, values_before, plain, mask}
 use Rattle.share_world.proofs.SmallWords.{small_words}
-use Rattle.share_world.proofs.WireSums.{world_sums}
 use Rattle.share_world.proofs.Settled.{in_order, settled, product_settled}
 use Rattle.wire_tables.specs.WireTables.{summand_rows, value_list}
 use Rattle.wire_tables.proofs.ValueLists.{small_plain}

@@ -1,15 +1,14 @@
-use Rattle.std.proofs.Common.{◌≡◌, ℕ, ◌<◌, List, Option, length, sym, ap, ap₂, ◌∙◌, arith}
+use Rattle.std.proofs.Common.{◌≡◌, ℕ, ◌<◌, List, length, sym, ap, ap₂, ◌∙◌, arith}
 use Rattle.std.specs.Prelude.{slice_index, slice_index_or}
 use Rattle.std.specs.Global.{Vec}
 use Rattle.std.proofs.lemmas.List.{length-map}
 use Rattle.list_laws.specs.Checks.{first_fault}
 use Rattle.list_laws.proofs.FirstFaults.{joined-stops, joined_more-passed}
 use Rattle.job_plan.specs.InputWords.{session_words}
-use Rattle.job_plan.specs.Plans.{Plan, session}
+use Rattle.job_plan.specs.Plans.{Plan}
 use Rattle.wire_tables.specs.WireTables.{value_at}
 use Rattle.wire_tables.proofs.ListedRows.{row_read}
-use Rattle.tape_map.specs.MapFaults.{AreValues, value_checks}
-use Rattle.tape_map.specs.declared.fault.MapFault.{MapFault}
+use Rattle.tape_map.specs.MapFaults.{value_checks}
 use Rattle.tape_map.proofs.outputs.output_fault.Goals as goal
 
 -- the checks of session s, as its lists were read
