@@ -5,6 +5,7 @@ from product import CHECK, RUN, Row, SEED, Whole
 
 TOLERATING = 'version = 2\nring_bits = 8\nparties = ["a", "b", "c"]\ntolerated = [["a"], ["b"], ["c"]]\n'
 MOST_WIDTH = 1_024
+JOBS_OF_WIDTHS = 16
 
 
 def session(circuit, owners, readers, products='direct'):
@@ -132,17 +133,27 @@ def powers(count):
     return job(sessions, ['3 5'] + ['7'] * (count - 1))
 
 
-def of_width(width):
-    """A job in which a value of so many wires is carried, and its negative is read."""
-    negatives = ''.join(f'1 1 {wire} {width + wire} NEG\n' for wire in range(width))
-    circuit = f'{width} {2 * width}\n1 {width}\n1 {width}\n{negatives}'
-    return job([session('wide.txt', ['a'], ['']), session('wide.txt', ['@0.0'], ['c'])],
-               [' '.join(str(7 * wire % 256) for wire in range(width)), ''], circuits=[('wide.txt', circuit)])
+def words_of(width):
+    """The words that a gives for a value of so many wires."""
+    return ' '.join(str(7 * (wire + width) % 256) for wire in range(width))
 
 
-def negatives_of_negatives(width):
-    """What it writes: the words that a gives."""
-    return f'out 1 0 c {" ".join(str(7 * wire % 256) for wire in range(width))}\n'
+def of_widths(widths):
+    """A job in which a value of each of these widths is carried, and the negatives of its negatives are read."""
+    count = sum(widths)
+    negatives = ''.join(f'1 1 {wire} {count + wire} NEG\n' for wire in range(count))
+    values = f'{len(widths)} {" ".join(map(str, widths))}\n'
+    sessions = [session('wide.txt', len(widths) * 'a', len(widths) * ['']),
+                session('wide.txt', [f'@0.{value}' for value in range(len(widths))], len(widths) * ['c'])]
+    return job(sessions, [' '.join(filter(None, map(words_of, widths))), ''], circuits=[('wide.txt', f'{count} {2 * count}\n{values}{values}{negatives}')])
+
+
+def width_rows():
+    """Values of each width to the largest are carried, some in each job."""
+    for first in range(JOBS_OF_WIDTHS):
+        widths = range(first, MOST_WIDTH + 1, JOBS_OF_WIDTHS)
+        yield Row(f'carried_values_of_{first}_to_{widths[-1]}_wires', RUN, of_widths(widths),
+                  out=''.join(f'out 1 {value} c {words_of(width)}'.rstrip() + '\n' for value, width in enumerate(widths)))
 
 
 # One party, which keeps all for itself.
@@ -219,7 +230,7 @@ CARRIED_AUDITS = [
     audited('a_carried_wire_that_is_dealt', '1 1 0 a c 11', '1 0 0 a c 9\n1 1 0 a c 11', 'view 3 WrongKey line=16'),
 ]
 
-CARRIED_WIDTHS = [Row(f'carried_value_of_{width}_wires', RUN, of_width(width), out=negatives_of_negatives(width)) for width in range(MOST_WIDTH + 1)]
+CARRIED_WIDTHS = list(width_rows())
 
 
 def refused(name, sessions, fault, **changes):

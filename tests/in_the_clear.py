@@ -126,6 +126,6 @@ def out_in_the_clear(files):
         widths, values = values_of(files[session['circuit']], session['layout'], given, top['ring_bits'])
         earlier.append([[next(values) for _ in range(width)] for width in widths])
         for value, (its_words, readers) in enumerate(zip(earlier[-1], session['readers'])):
-            text = ' '.join(map(str, its_words))
-            out += ''.join(f'out {number} {value} {name} {text}\n' for name in top['parties'] if name in readers)
+            text = ''.join(f' {word}' for word in its_words)
+            out += ''.join(f'out {number} {value} {name}{text}\n' for name in top['parties'] if name in readers)
     return out
