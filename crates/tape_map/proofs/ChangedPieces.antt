@@ -26,11 +26,10 @@ use Rattle.job_plan.specs.Plans.{Plan, session, slot, slots, words, words_in, pl
 use Rattle.job_plan.specs.InputWords.{AreInputs, session_words}
 use Rattle.job_plan.specs.Sound.{IsSound}
 use Rattle.job_plan.proofs.Slots.{at_its_number}
-use Rattle.share_world.specs.Laws.{IsWorld, IsWhole}
+use Rattle.share_world.specs.Laws.{IsWhole}
 use Rattle.share_world.specs.Solutions.{GatesInOrder}
 use Rattle.share_world.specs.Worlds.{World, input_of, source_value, tape_word, run_of, value_before, values_before, plain, mask}
 use Rattle.share_world.proofs.SmallWords.{small_words}
-use Rattle.share_world.proofs.WireSums.{world_sums}
 use Rattle.share_world.proofs.Settled.{in_order, settled, product_settled}
 use Rattle.wire_tables.specs.WireTables.{summand_rows, value_list}
 use Rattle.wire_tables.proofs.ValueLists.{small_plain}
@@ -149,6 +148,11 @@ pushed_like tape n n' q q' g g' d d' a a' en eq eg ed ea =
     ∙ ap (λ a. listed n' (raised q' g' d' (λ i. slice_index tape (a + i)))) ea
 
 -- ---- the tables of a world
+
+-- the source of a wire that party p gives
+pub given_is : (p : ℕ) (from : Source) → given_by p from ≡ true → from ≡ Given p
+given_is p (Given q) e = ap (λ (n : ℕ). Given n) (eqb-true q p e)
+given_is p (Carried r c i) e = absurd (both_ways false refl e)
 
 -- numbers of the ring, one for each wire
 pub listed_fit : (plan : Plan) (s : ℕ) (f : ℕ → ℕ) → ((v : ℕ) → f v < 2 ^ plan.bits) → AreGrowths plan s (listed (session plan s).wires f)
@@ -305,7 +309,7 @@ module _ (w : World) (other : List (List (List ℕ))) (group : ℕ) (whole : IsW
   growth_is : (p : ℕ) (z : Slot) → Inside x z → 0 < words_in w.plan s p z → growth_in w.plan c p z ≡ growth w other group s p z
   growth_is p (Input v) inside some =
       let within : v < x.wires = omega (arith, inside, (whole.sound.sessions s ls).wired.input_wires) in
-      let from = given_here p v (source x v) refl (gives_here p v some) in
+      let from = given_is p (source x v) (gives_here p v some) in
       growth_at v within ∙ ap₂ (difference q) (input_at_end after v p ordered inside from) (input_at_end w v p ordered inside from)
     where
       gives_here : (p v : ℕ) → 0 < words_in w.plan s p (Input v) → given_by p (source x v) ≡ true
@@ -313,10 +317,6 @@ module _ (w : World) (other : List (List (List ℕ))) (group : ℕ) (whole : IsW
         | inl gives ↦ gives
         | inr none ↦ absurd (let no_words = cond-false (deals_in w.plan s p (Input v)) (m - 1) 0 none in omega (arith, some, no_words))
       ]
-
-      given_here : (p v : ℕ) (from : Source) → source x v ≡ from → given_by p from ≡ true → source x v ≡ Given p
-      given_here p v (Given r) is e = is ∙ ap (λ (n : ℕ). Given n) (eqb-true r p e)
-      given_here p v (Carried r c i) is e = absurd (both_ways false refl e)
   growth_is p (Mask t side) inside some = growth_before t side inside.0 (and_parts x.prepared (is_product (gate x t).operation) inside.1).1
   growth_is p (At_gate t) inside some =
       let product = direct_product p t some in

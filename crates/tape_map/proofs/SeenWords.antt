@@ -18,7 +18,7 @@ use Rattle.job_plan.specs.Plans.{session, holds, least_holder, slot, slots, slot
 use Rattle.job_plan.proofs.DistinctMessages.{every_place}
 use Rattle.job_plan.proofs.PlanSchemes.{least_holds, least_within}
 use Rattle.share_world.specs.Locals.{key_at}
-use Rattle.share_world.specs.Worlds.{World, word, word_in, deal_of, touches, view}
+use Rattle.share_world.specs.Worlds.{World, word, word_in, touches, view}
 use Rattle.share_world.proofs.GoingMessages.{Deals, Goes, every_going}
 use Rattle.share_world.proofs.SmallWords.{is_plan}
 use Rattle.tape_map.specs.TapeMaps.{changed_tapes, hidden, second_world, with_inputs}

@@ -44,9 +44,9 @@ impl Change {
     ghost use Rattle.tape_map.specs.TapeMaps.{hidden, hidden_word, with_inputs};
     ghost use Rattle.tape_map.specs.Changes.{IsChange, Fits, growth_in, growth_by, grown_piece};
 
-    /// The tables of session `s`, where the other inputs are to be hidden at this summand. `first` has the values of the
-    /// session's wires, `second` those with the other inputs, and `carried` what is carried of the sessions before. What
-    /// is carried of this one is added there.
+    /// The tables of session `s`, where the other inputs are to be hidden at this summand. `first` has the values of
+    /// the session's wires, `second` those with the other inputs, and `carried` what is carried of the sessions
+    /// before. What is carried of this one is added there.
     pub fn make(
         alloc: Global,
         plan: &Plan,
