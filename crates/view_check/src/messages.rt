@@ -154,7 +154,15 @@ fn check_messages(
     let mut carried = CarriedRows::new(alloc, plan)?;
     for s in 0..plan.sessions() {
         check_session(
-            alloc, plan, inputs, tapes, names, group, &mut carried, s, rest,
+            alloc,
+            plan,
+            inputs,
+            tapes,
+            names,
+            group,
+            &mut carried,
+            s,
+            rest,
         )?;
     }
     Ok(())
