@@ -37,14 +37,14 @@ OwnViewsHaveAll =
     → (touches (2 ^ (message w.plan n).sender) (message w.plan n) ≡ true)
     × (touches (2 ^ (message w.plan n).receiver) (message w.plan n) ≡ true)
 
--- all that party p gets in session s before slot k is right, and so is all that it kept in earlier sessions for this one
+-- all that party p gets in session s before slot k is right, and so is all that it kept for the session in earlier ones
 pub record IsRightBefore (w : World) (got : Key → ℕ) (p s k : ℕ) : Type 0 where
   pub slots : (key : Key) → key.receiver ≡ p → key.session ≡ s → key.slot < k → got key ≡ word w key
   pub kept : (v r c at i : ℕ) → source (session w.plan s) v ≡ Carried r c at
       → got (kept_key w.plan r s v i p) ≡ word w (kept_key w.plan r s v i p)
 
--- what a party sends or keeps by its own program is right, where all that it got in the slots before is, and all that it
--- kept in earlier sessions for this one: so of wrong words the first is its sender's own doing
+-- what a party sends or keeps by its own program is right, where all that it got in the slots before is, and all that
+-- it kept in earlier sessions for this one: so of wrong words the first is its sender's own doing
 abbrev pub WrongWordsAreOwn : Type 0
 WrongWordsAreOwn =
     (w : World) (n : ℕ) (got : Key → ℕ) → IsWhole w → n < length (messages w.plan)
