@@ -227,6 +227,16 @@ CARRIED_AUDITS = [
     audited('the_first_kept_word_is_another', '0 4 0 c c 9', '0 4 0 c c 0', 'view 4 WrongWord line=14 wanted=9 found=0'),
     audited('no_kept_word', '0 4 0 c c 9\n', '', 'view 3 WrongKey line=14'),
     audited('a_word_kept_by_another', '0 4 0 c c 9', '0 4 0 c b 9', 'view 3 WrongKey line=14'),
+    audited('two_kept_words_exchanged', '0 4 0 c c 9\n0 4 1 c c 12\n', '0 4 1 c c 12\n0 4 0 c c 9\n', 'view 3 WrongKey line=14'),
+    audited('a_kept_word_twice', '0 4 0 c c 9\n', '0 4 0 c c 9\n0 4 0 c c 9\n', 'view 3 WrongKey line=15'),
+    audited('a_kept_word_that_differs_by_the_ring', '0 4 0 c c 9', '0 4 0 c c 265', 'view 4 WrongWord line=14 wanted=9 found=265'),
+    audited('the_first_of_a_dealt_and_a_kept_word', '0 2 1 a c 2\n', '0 2 1 a c 3\n', 'view 4 WrongWord line=7 wanted=2 found=3',
+            view=OF_C.replace('0 4 1 c c 12', '0 4 1 c c 13')),
+    Row('a_view_that_ends_among_the_kept_words', ['audit', 'd'], [*CARRIED, Whole('view.txt', OF_C[:OF_C.index('0 4 1')])], status=3,
+        err='refused view 5 FewLines found=13\n'),
+    # The words that go on come from the opened files, and not from the view.
+    Row('a_carried_product_of_another_input', ['audit', 'd'], [*CARRIED, party('a', ['6', '3'], 'tape = "10 20 1 2 11 21 1 2"'), Whole('view.txt', OF_C)],
+        status=3, err='refused view 4 WrongWord line=26 wanted=105 found=84\n'),
     audited('a_carried_wire_that_is_dealt', '1 1 0 a c 11', '1 0 0 a c 9\n1 1 0 a c 11', 'view 3 WrongKey line=16'),
 ]
 
