@@ -22,6 +22,7 @@ MOST_VALUES = 1_024
 MOST_WIRES = 131_072
 MOST_LINE = 2**22
 NAME = re.compile(r'(?!of$)[A-Za-z][A-Za-z0-9_]{0,15}')
+CARRIED = re.compile(r'@(0|[1-9][0-9]?)\.(0|[1-9][0-9]{0,3})')
 FILE_NAME = re.compile(r'[A-Za-z0-9_-][A-Za-z0-9._-]{0,63}')
 
 # A value of bits may be as wide as a circuit has wires, and its number has so many digits.
@@ -115,8 +116,14 @@ def read_fields(folder):
     return fields
 
 
-def read_session(folder, number, fields):
-    """A session of the job, with the widths of its circuit."""
+def carried_width(owner, earlier):
+    """The width of the output value that an owner names, of one of the earlier sessions; nothing where it names none."""
+    session, value = map(int, found.groups()) if (found := CARRIED.fullmatch(owner)) else (len(earlier), 0)
+    return earlier[session].outputs[value] if session < len(earlier) and value < len(earlier[session].outputs) else None
+
+
+def read_session(folder, number, fields, earlier):
+    """A session of the job, with the widths of its circuit. Values of the earlier sessions may be carried into it."""
     where = f'{os.path.join(folder, "job.toml")}: session {number}'
     circuit, layout, owners, readers = (fields['session'][number].get(name) for name in ('circuit', 'layout', 'owners', 'readers'))
     need(isinstance(layout, str) and layout in LAYOUTS, f'{where}: layout is none of {", ".join(LAYOUTS)}')
@@ -124,10 +131,13 @@ def read_session(folder, number, fields):
     need(layout != 'bristol' or fields['ring_bits'] == 1, f'{where}: the layout bristol goes with ring_bits = 1')
     need(is_texts(owners), f'{where}: owners is no list of names')
     need(isinstance(readers, list) and all(is_texts(names) for names in readers), f'{where}: readers is no list of lists of names')
-    stranger = next((name for name in itertools.chain(owners, *readers) if name not in fields['parties']), None)
-    need(stranger is None, f'{where}: {str(stranger)[:40]!r} is no party')
+    givers = [owner for owner in owners if fields['version'] == 1 or carried_width(owner, earlier) is None]
+    stranger = next((name for name in itertools.chain(givers, *readers) if name not in fields['parties']), None)
+    need(stranger is None, f'{where}: {str(stranger)[:40]!r} is no party' + ' and no value of an earlier session' * (fields['version'] == 2))
     inputs, outputs = LAYOUTS[layout](folder, circuit)
     need(len(owners) == len(inputs), f'{where}: there are {len(owners)} owners, and {circuit} has {len(inputs)} input values')
+    wider = next((owner for owner, width in zip(owners, inputs) if owner not in givers and carried_width(owner, earlier) != width), None)
+    need(wider is None, f'{where}: the value {wider} has another width in {circuit}')
     need(len(readers) == len(outputs), f'{where}: there are {len(readers)} lists of readers, and {circuit} has {len(outputs)} output values')
     return Session(layout == 'bristol', owners, readers, inputs, outputs)
 
@@ -138,7 +148,10 @@ def read_job(folder):
     path, version, bits = os.path.join(folder, 'job.toml'), fields.get('version'), fields.get('ring_bits')
     need(type(version) is int and version in (1, 2), f'{path}: version is neither 1 nor 2')
     need(type(bits) is int and 1 <= bits <= 64, f'{path}: ring_bits is no number from 1 to 64')
-    return Job(bits, fields['parties'], [read_session(folder, number, fields) for number in range(len(fields['session']))])
+    sessions = []
+    for number in range(len(fields['session'])):
+        sessions.append(read_session(folder, number, fields, sessions))
+    return Job(bits, fields['parties'], sessions)
 
 
 def job_text(fields):

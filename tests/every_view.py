@@ -20,7 +20,7 @@ from product import PRODUCT
 from rows import EXAMPLES, GROUPS, MOST_SECONDS
 
 # Groups of rows that have jobs which are accepted.
-ACCEPTED = ['accepted', 'wide rings', 'tolerated', 'prepared', 'expressions', 'parties', 'jobs']
+ACCEPTED = ['accepted', 'wide rings', 'tolerated', 'prepared', 'carried', 'expressions', 'parties', 'jobs']
 
 # Of a job with more groups than these, the smallest, the largest, and those of one party and of all but one are taken.
 MOST_GROUPS = 64

@@ -107,16 +107,25 @@ def values_of(data, layout, given, bits):
     return circuit[1], iter(last_wires(circuit, words, bits))
 
 
+def words_from(owner, words, earlier):
+    """The words of an input value: those that a party gives, or an output value of one of the earlier sessions."""
+    if not owner.startswith('@'):
+        return words[owner]
+    session, _, value = owner[1:].partition('.')
+    return iter(earlier[int(session)][int(value)])
+
+
 def out_in_the_clear(files):
     """What a run over these files, by their names, is to write."""
     top, sessions = fields(files['job.toml'])
     inputs = {name: fields(files[f'party_{name}.toml'])[0]['inputs'] for name in top['parties']}
-    out = ''
+    out, earlier = '', []
     for number, session in enumerate(sessions):
         words = {name: iter(texts[number].split()) for name, texts in inputs.items()}
-        given = [words[owner] for owner in session['owners']]
+        given = [words_from(owner, words, earlier) for owner in session['owners']]
         widths, values = values_of(files[session['circuit']], session['layout'], given, top['ring_bits'])
-        for value, (width, readers) in enumerate(zip(widths, session['readers'])):
-            text = ' '.join(str(next(values)) for _ in range(width))
-            out += ''.join(f'out {number} {value} {name} {text}\n' for name in top['parties'] if name in readers)
+        earlier.append([[next(values) for _ in range(width)] for width in widths])
+        for value, (its_words, readers) in enumerate(zip(earlier[-1], session['readers'])):
+            text = ''.join(f' {word}' for word in its_words)
+            out += ''.join(f'out {number} {value} {name}{text}\n' for name in top['parties'] if name in readers)
     return out

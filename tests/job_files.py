@@ -74,6 +74,20 @@ PRODUCTS = [
     (TOLERATING + BAD_SESSION + 'circuit = "m"\nproducts = "prepared"\n', 'job 7 BadOwner session=0 at=1'),
 ]
 
+# In version 2 an owner may be an output value below 1,024 of an earlier session, in numbers without leading zeros. Whatever else begins with an
+# at sign is told apart from what is no party; the first of both is told.
+CARRIES = [
+    (TOP + SESSION + GOOD_SESSION + 'owners = ["@0.0"]\nreaders = []\n', 'job 7 BadOwner session=1 at=0'),
+    (TOLERATING + GOOD_SESSION + 'owners = ["a", "@0.0"]\nreaders = []\n', 'job 18 BadCarry session=0 at=1'),
+    *((TOLERATING + SESSION + GOOD_SESSION + f'owners = ["{text}"]\nreaders = []\n', 'job 18 BadCarry session=1 at=0')
+      for text in ['@1.0', '@00.0', '@0.00', '@0.01', '@0.1024', '@0.18446744073709551616', '@', '@0', '@0.', '@.0', '@0.0.0', '@0.0 ', '@ 0.0',
+                   '@+0.0', '@a.0']),
+    (TOLERATING + SESSION + GOOD_SESSION + 'owners = ["@0.0", "d", "@1.0"]\nreaders = []\n', 'job 7 BadOwner session=1 at=1'),
+    (TOLERATING + SESSION + GOOD_SESSION + 'owners = ["@0.0", "@1.0", "d"]\nreaders = []\n', 'job 18 BadCarry session=1 at=1'),
+    (TOLERATING + SESSION + GOOD_SESSION + 'owners = [" @0.0"]\nreaders = []\n', 'job 7 BadOwner session=1 at=0'),
+    (TOLERATING + SESSION + GOOD_SESSION + 'owners = ["@0.0", "@0.1023"]\nreaders = [["d"]]\n', 'job 8 BadReader session=1 value=0 at=0'),
+]
+
 # A session stands before the hosts, and these before the port.
 HOSTS_AND_PORTS = [
     (TOP + BAD_HOSTS + SESSION + '[[session]]\n', 'job 3 Missing session=1 field=circuit'),
@@ -105,7 +119,7 @@ def refused(words, text, fault):
 
 JOB_FILES = [
     *(refused(CHECK, text, fault) for table in [VERSIONS, UNKNOWN_FIELDS, TOP_FIELDS, BITS_AND_NAMES, SESSION_FIELDS, SESSION_VALUES, PRODUCTS,
-                                                HOSTS_AND_PORTS, FIELDS_OF_VERSIONS, TOLERATED_GROUPS] for text, fault in table),
+                                                CARRIES, HOSTS_AND_PORTS, FIELDS_OF_VERSIONS, TOLERATED_GROUPS] for text, fault in table),
     # A node wants hosts.
     refused(['node', 'd', 'a'], TOP + SESSION, 'job 3 Missing field=hosts'),
 ]

@@ -18,6 +18,7 @@ import sys
 import tempfile
 
 from accepted_runs import ACCEPTED
+from carried_runs import CARRIED_RUNS
 from expressions import EXPR, EXPRESSIONS, SQUARE_OF_A_SUM
 from in_the_clear import fields, out_in_the_clear
 from prepared_runs import PREPARED_RUNS
@@ -104,7 +105,7 @@ def expect_faults(ended, begins):
 
 
 def accepted_jobs(program):
-    for row in [*ACCEPTED, *WIDE_RINGS, *TOLERATED, *PREPARED_RUNS, *EXPRESSIONS]:
+    for row in [*ACCEPTED, *WIDE_RINGS, *TOLERATED, *PREPARED_RUNS, *CARRIED_RUNS, *EXPRESSIONS]:
         if row.out.startswith('out ') and '--view' not in row.words and len(row.out) <= MOST_WRITTEN:
             expect_written(row.files(), run(program, row.files()))
 

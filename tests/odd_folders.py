@@ -1,6 +1,6 @@
 """What a job's folder may hold that no script can go on with: changes of the files of the product."""
 
-from product import CIRCUIT, Edit, Whole, Without
+from product import CIRCUIT, Edit, SESSION, Whole, Without
 
 LONG = b'9' * 5_000
 
@@ -26,7 +26,15 @@ LINES = [
 CIRCUITS = ['1 3\n2 1 1\n', '1 3\nx 1 1\n1 1\n', '1 3\n2 1\n1 1\n', '1 3\n2 1 1 1\n1 1\n', '1 3\n-1\n1 1\n', '1 3\n2 1 1\n1 99999999999999999999\n',
             '1 3\n1025 1 1\n1 1\n', '1 3\n2 1 ' + '9' * 5_000 + '\n1 1\n', '1 3\n2 1 1.0\n1 1\n', '1 3\n2 131072 1\n1 1\n', CIRCUIT.replace('2 1 1', '1 1')]
 
+# A session behind the product's, which carries nothing that is there: no session, no value, not in this form, or in another width.
+TWO = 'version = 2\nring_bits = 8\nparties = ["a", "b", "c"]\ntolerated = [[]]\n' + SESSION + SESSION.replace('mul.txt', 'next.txt').replace('"a"', '"{owner}"').replace('"c"', '"{reader}"')
+CARRIES = ['@1.0', '@2.0', '@0.1', '@0.1024', '@00.0', '@0.00', '@0', '@0.0.0', ' @0.0', '@']
+NEXT = [Whole('next.txt', text) for text in (CIRCUIT.encode(), b'1 4\n2 2 1\n1 1\n2 1 0 1 3 MUL\n')]
+
 ODD_FOLDERS = [
+    *[[Whole('job.toml', TWO.format(owner=carry, reader='c').encode()), NEXT[0]] for carry in CARRIES],
+    [Whole('job.toml', TWO.format(owner='@0.0', reader='c').encode()), NEXT[1]],
+    [Whole('job.toml', TWO.format(owner='@0.0', reader='@0.0').encode()), NEXT[0]],
     *[[change(name)] for name in ('job.toml', 'mul.txt') for change in FILES],
     *[[Edit('job.toml', line, other)] for line, others in LINES for other in others],
     *[[Whole('mul.txt', text.encode())] for text in CIRCUITS],

@@ -80,7 +80,8 @@ def read_exactly(link, count):
 
 
 def go_slot_by_slot(program, folder, job, name):
-    """Plays a party one slot after another: of each slot it posts its messages, and then takes those of the others."""
+    """Plays a party one slot after another: of each slot it posts its messages, and then takes those of the others. What it keeps for itself
+    goes nowhere."""
     party = Peers(program, job, name)
     with contextlib.ExitStack() as stack:
         links, says = {}, {}
@@ -95,9 +96,9 @@ def go_slot_by_slot(program, folder, job, name):
             expect(read_exactly(links[peer], HELLO) == party.talk(peer, party.me)[:HELLO], f'{party.names[peer]} says another hello')
         for session, slot, share, sender, receiver, word in by_slots(party.messages, name):
             frame = struct.pack('>BHIBBBQ', 1, int(session), int(slot), int(share), party.names.index(sender), party.names.index(receiver), int(word))
-            if sender == name:
+            if sender == name != receiver:
                 says[party.names.index(receiver)].sendall(frame)
-            else:
+            elif sender != name:
                 expect(read_exactly(links[party.names.index(sender)], FRAME) == frame, f'{sender} says another frame in slot {slot}')
 
 
@@ -211,7 +212,7 @@ def main(words):
             expect(batch_of_slots(job) == [0, 0, 0, 3, 3, 3, 6, 7, 7], f'other batches: {batch_of_slots(job)}')
             runs = nodes_are_cut(program, top, job)
             parties_of_both_orders(program, top, job)
-        for example in ['network', 'prepared/mixed']:
+        for example in ['network', 'prepared/mixed', 'running_total']:
             with tempfile.TemporaryDirectory() as top:
                 parties_of_both_orders(program, top, str(TOP / 'examples' / example))
     except (Wrong, OSError, subprocess.SubprocessError) as wrong:

@@ -15,6 +15,7 @@ import tempfile
 
 from accepted_runs import ACCEPTED, PRODUCTS_OF_TWO_SESSIONS
 from audits import AUDITS, FAULTY_VIEWS
+from carried_runs import CARRIED_AUDITS, CARRIED_FAULTS, CARRIED_PAIRS, CARRIED_RUNS, CARRIED_WIDTHS
 from circuit_faults import CIRCUIT_FAULTS
 from circuit_files import CIRCUIT_FILES
 from expressions import EXPRESSIONS, FAULTY_EXPRESSIONS
@@ -41,6 +42,10 @@ GROUPS = {
     'wide rings': WIDE_RINGS,
     'tolerated': TOLERATED,
     'prepared': PREPARED_RUNS,
+    'carried': CARRIED_RUNS,
+    'carried widths': CARRIED_WIDTHS,
+    'carried pairs and audits': [*CARRIED_PAIRS, *CARRIED_AUDITS],
+    'faults of what is carried': CARRIED_FAULTS,
     'words': OTHER_WORDS,
     'jobs': [*JOB_FAULTS, *JOB_FILES],
     'formulas': FORMULAS,
@@ -63,7 +68,7 @@ GROUPS = {
 }
 
 # Those of which each run that writes outputs is computed in the clear.
-IN_THE_CLEAR = ['accepted', 'wide rings', 'tolerated', 'prepared', 'expressions']
+IN_THE_CLEAR = ['accepted', 'wide rings', 'tolerated', 'prepared', 'carried', 'carried widths', 'expressions']
 
 
 def call(program, row):

@@ -280,7 +280,8 @@ def circuits_have_limits(program, top):
 # Numbers.
 
 def write_random_job(chance, folder, of_bits):
-    """Writes a job of three parties and one to three sessions, and gives each party's numbers and the lines of the readers."""
+    """Writes a job of three parties and one to three sessions, and gives each party's numbers and the lines of the readers. A session of
+    words may carry the product of the one before."""
     parties, bits = ['a', 'b', 'c'], 1 if of_bits else chance.choice([2, 8, 32, 33, 64])
     given, lines, sessions = {party: [] for party in parties}, [], []
     os.mkdir(folder)
@@ -288,7 +289,10 @@ def write_random_job(chance, folder, of_bits):
         widths = [chance.choice([1, 5, 16, 70]) for _ in range(2)] if of_bits else [1, 1]
         owners, readers = [chance.choice(parties) for _ in range(2)], [chance.sample(parties, chance.randrange(3)) for _ in range(2)]
         (x_width, x), (y_width, y) = [(width * bits, chance.randrange(-2**(width * bits - 1), 2**(width * bits))) for width in widths]
-        given[owners[0]].append(x)
+        if number and not of_bits and chance.randrange(2):
+            owners[0], x = f'@{number - 1}.1', found[1]
+        else:
+            given[owners[0]].append(x)
         given[owners[1]].append(y)
         x, y = x % 2**x_width, y % 2**y_width
         if of_bits:
@@ -302,7 +306,7 @@ def write_random_job(chance, folder, of_bits):
         sessions.append({'circuit': f'{number}.txt', 'layout': 'bristol' if of_bits else 'ring', 'owners': owners, 'readers': readers})
         lines += [f'session {number} value {value}: {party} reads {found[value]}\n' for value in range(2) for party in parties
                   if party in readers[value]]
-    fields = {'version': 1, 'ring_bits': bits, 'parties': parties, 'formula': '2 of (a, b, c)', 'session': sessions}
+    fields = {'version': 2, 'ring_bits': bits, 'parties': parties, 'tolerated': [['a'], ['b'], ['c']], 'session': sessions}
     pathlib.Path(folder, 'job.toml').write_text(job_folder.job_text(fields))
     return given, ''.join(lines)
 

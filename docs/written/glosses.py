@@ -32,7 +32,7 @@ PARTS = [
          [('walk_laws', 'accepted_jobs_are_right_and_private')]),
 ]
 # Laws that no part has: worked jobs by computation, steps of proofs, and faults of code.
-APART = {('share_world', 'multiply_job'), ('tape_map', 'multiply_job'), ('view_counts', 'multiply_counts'), ('tape_map', 'hidden_summands_move'), ('tape_map', 'delta_is_plain'),
+APART = {('share_world', 'multiply_job'), ('share_world', 'carried_job'), ('tape_map', 'multiply_job'), ('view_counts', 'multiply_counts'), ('tape_map', 'hidden_summands_move'), ('tape_map', 'delta_is_plain'),
          ('tape_map', 'worlds_stay_whole'), ('tape_map', 'agreement_is_symmetric')}
 
 # What each theorem rests on, for the first page: the sentence, and the functions or definitions that it stands on.

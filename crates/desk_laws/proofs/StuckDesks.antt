@@ -21,7 +21,8 @@ use Rattle.party_desk.specs.declared.desk.Desk.{Desk}
 use Rattle.party_desk.specs.Desks.{IsDesk}
 use Rattle.program_laws.specs.Lawful.{given_in, given_to, program_of}
 use Rattle.program_laws.specs.Moves.{CanMove}
-use Rattle.program_laws.proofs.Ranks.{one_moves, sender_within, session_is, posted_in, each_sender}
+use Rattle.program_laws.specs.Orders.{ComesTo}
+use Rattle.program_laws.proofs.Ranks.{comes_to, some_session_moves, posted_in, each_sender}
 use Rattle.desk_laws.specs.InWorld.{HasPosts}
 use Rattle.desk_laws.specs.Pools.{AreDesks, AllHavePosts, Stuck, AllStuck, AllEnded}
 use Rattle.desk_laws.proofs.Elements.{element_there, by_place, by_element}
@@ -63,6 +64,15 @@ module _ (has : ℕ → ℕ → Type 0) (w : World) (whole : IsWhole w) (ds : Li
   there s p q m i d ls lp less at' =
       by_place (λ k (desk : Desk). HasPosts has w (k / n) (k % n) desk.position) ds posted (s * n + p) d (beside w s p lp ds h ls) q m i less (ap (λ z. at z q) (program_there w s p lp) ∙ at')
 
+  -- a message that comes to a session is of that session or of an earlier one
+  sent_within : (s m : ℕ) → s < length w.plan.sessions → ComesTo w.plan s m → (message w.plan m).session < length w.plan.sessions
+  sent_within s m ls it =
+      let to = it.session in
+      elim it.order [
+        | inl same ↦ (let here = ap (λ there. there.0) same in omega (arith, ls, to, here))
+        | inr later ↦ omega (arith, ls, to, later)
+      ]
+
   module _ (stuck : AllStuck has w ds) (d0 : Desk) where
     -- where the desks stand
     abbrev position : ℕ → ℕ → ℕ
@@ -79,9 +89,9 @@ module _ (has : ℕ → ℕ → Type 0) (w : World) (whole : IsWhole w) (ds : Li
         let m : ℕ = t.0 in
         let taken : at (program w.plan p s) (position s p) ≡ Take m t.1 = ap (λ z. at z (position s p)) (sym same) ∙ t.2 in
         let post = moves.1 m t.1 taken in
-        let sender = sender_within w.plan whole.sound s ls p (position s p) m t.1 moves.0 taken in
-        let session' = subst (λ z. z < length w.plan.sessions) (sym (session_is w.plan whole.sound s ls p (position s p) m t.1 moves.0 taken)) ls in
-        absurd (t.3 (word w (message w.plan m)) (there (message w.plan m).session (message w.plan m).sender post.0 m post.1 d0 session' sender post.2 post.3)))
+        let it = comes_to w.plan whole.sound s ls p (position s p) m t.1 moves.0 taken in
+        let session' = sent_within s m ls it in
+        absurd (t.3 (word w (message w.plan m)) (there (message w.plan m).session (message w.plan m).sender post.0 m post.1 d0 session' it.sender post.2 post.3)))
         (by_place (λ j (desk : Desk). Stuck has w j desk.position) ds stuck k d0 (beside w s p lp ds h ls))
 
     ended : (k : ℕ) → k < length ds → (get_or ds k d0).position ≡ length (program_of w k)
@@ -94,7 +104,7 @@ module _ (has : ℕ → ℕ → Type 0) (w : World) (whole : IsWhole w) (ds : Li
         let here : position s p ≡ (get_or ds k d0).position = ap (λ z. (get_or ds z d0).position) same in
         let within : (get_or ds k d0).position ≤ length (program_of w k) = (by_place (λ j (desk : Desk). IsDesk (given_to w j) desk) ds h.desks k d0 l).position in
         elim (cases_lt (get_or ds k d0).position (length (program_of w k))) [
-          | inl left ↦ let r = one_moves w.plan position s p whole.sound ls lp (omega arith) in absurd (none_moves s r.0 ls r.1 r.2)
+          | inl left ↦ let r = some_session_moves w.plan position whole.sound s p ls lp (omega arith) in absurd (none_moves r.0 r.2.0 (let least = r.1 in omega (arith, ls, least)) r.2.1 r.2.2)
           | inr past ↦ omega arith
         ]
 
@@ -122,10 +132,10 @@ module _ (has : ℕ → ℕ → Type 0) (w : World) (whole : IsWhole w) (ds : Li
       let j : ℕ = b.1 in
       let is : m ≡ first plan s k + j = (let x = a.4 in let y = b.4 in omega arith) in
       let owner = (whole.sound.sessions s ls).owned in
-      let post' = posted_in plan (is_plan w whole) s 0 ls owner k j b.2 b.3 in
+      let post' = posted_in plan (is_plan w whole) s ls owner k j b.2 b.3 in
       let number : ℕ = first plan s k + j in
       let p : ℕ = (message plan number).sender in
-      let lp : p < plan.parties = each_sender plan (is_plan w whole) s 0 ls owner k j b.2 b.3 in
+      let lp : p < plan.parties = each_sender plan (is_plan w whole) s ls owner k j b.2 b.3 in
       let d0 : Desk = (element_there ds (s * n + p) (beside w s p lp ds h ls)).0 in
       let end : (get_or ds (s * n + p) d0).position ≡ length (program plan p s) =
       by_place (λ k (desk : Desk). desk.position ≡ length (program_of w k)) ds ended (s * n + p) d0 (beside w s p lp ds h ls) ∙ ap length (program_there w s p lp) in

@@ -1,5 +1,5 @@
 -- A step of a desk that goes by the words that its cells know.
-use Rattle.std.proofs.Common.{◌≡◌, ℕ, ◌+◌, ◌<◌, ◌^◌, List, All, length, refl, sym, ap, ◌∙◌, subst, arith}
+use Rattle.std.proofs.Common.{◌≡◌, ◌≢◌, ℕ, ◌+◌, ◌<◌, ◌^◌, List, All, length, refl, sym, ap, ◌∙◌, subst, arith}
 use Rattle.std.specs.Prelude.{slice_index}
 use Rattle.std.proofs.lemmas.Bool.{cases_lt}
 use Rattle.std.proofs.lemmas.List.{get_or_past}
@@ -11,15 +11,16 @@ use Rattle.circuit_model.specs.Circuits.{set_at}
 use Rattle.circuit_model.proofs.SetAt.{set_here, set_there}
 use Rattle.job_session.specs.Sessions.{Slot}
 use Rattle.job_plan.specs.Plans.{Plan}
-use Rattle.job_session.specs.Sessions.Slot.{Input, At_gate, Output, Mask, Mask_product, Masked}
+use Rattle.job_session.specs.Sessions.Slot.{Input, At_gate, Output, Mask, Mask_product, Masked, Kept}
 use Rattle.job_plan.specs.Messages.{messages}
+use Rattle.job_plan.proofs.PlanSchemes.{plan_is}
 use Rattle.message_board.specs.declared.cells.Cells.{Ghosts as Meaning}
 use Rattle.party_program.specs.declared.program.Instruction.{Instruction}
 use Rattle.party_program.specs.declared.program.Instruction.TheVariants.{Draw, Deal, Post, Take, Linear, Own, Sum, Open, Join, Deliver, End}
 use Rattle.party_program.specs.Programs.{program, at}
 use Rattle.party_program.specs.States.{Given, State, slot_of, posted}
 use Rattle.party_program.specs.Proper.{Proper, with_got}
-use Rattle.party_program.proofs.RisingTakes.{takes_rise}
+use Rattle.party_program.proofs.DifferentTakes.{takes_differ}
 use Rattle.program_laws.proofs.OncePosted.{once}
 use Rattle.party_desk.specs.declared.desk.Desk.{Desk}
 use Rattle.party_desk.specs.declared.desk.Stepped.{Stepped}
@@ -44,6 +45,7 @@ small_post plan s d (At_gate t) i h = small_of (2 ^ plan.bits) d.memory.rows.ite
 small_post plan s d (Output o) i h = small_of (2 ^ plan.bits) d.memory.rows.items _ (pow_pos plan.bits) h.small_rows
 small_post plan s d (Mask t side) i h = small_of (2 ^ plan.bits) d.memory.rows.items _ (pow_pos plan.bits) h.small_rows
 small_post plan s d (Mask_product t) i h = small_of (2 ^ plan.bits) d.memory.rows.items _ (pow_pos plan.bits) h.small_rows
+small_post plan s d (Kept j) i h = small_of (2 ^ plan.bits) d.memory.rows.items _ (pow_pos plan.bits) h.small_rows
 
 module _ (l : Given) (d : Desk) (is_desk : IsDesk l d) where
   next_at : (e : Instruction) → instruction_at l d ≡ e → NextIs l d.position e
@@ -53,12 +55,12 @@ module _ (l : Given) (d : Desk) (is_desk : IsDesk l d) where
       let here : State = on_wires (row_of d.memory) (state_of (length l.plan.groups) d.memory) in
       let small : posted l.plan l.session (slot_of l.plan n) j here < 2 ^ l.plan.bits = small_post l.plan l.session d (slot_of l.plan n) j is_desk.fits in (
         there,
-        sym ((once l.plan n there).posted.alone l.party l.session d.position j is).0,
+        sym ((once l.plan n (plan_is l.plan is_desk.suits.sound) there).posted.alone l.party l.session d.position j is).0,
         subst (λ z. z < 2 ^ l.plan.bits) right (subst (λ z. posted l.plan z (slot_of l.plan n) j here < 2 ^ l.plan.bits) (sym is_desk.session) small),
       )
   next_at (Take n j) is =
       let there : n < length (messages l.plan) = (subst (Proper l.plan l.session) is (proper l d is_desk)).number in
-      (there, sym ((once l.plan n there).taken.alone l.party l.session d.position j is).0)
+      (there, sym ((once l.plan n (plan_is l.plan is_desk.suits.sound) there).taken.alone l.party l.session d.position j is).0)
   next_at (Draw k) is = tt
   next_at (Deal k j) is = tt
   next_at (Linear k) is = tt
@@ -124,8 +126,8 @@ module _ {C : Type 0} (cells : Meaning C) (plan : Plan) (c : C) (l : Given) (d :
         desk = h;
         known = λ r m k less is'. elim (cases_lt r d.position) [
           | inl before ↦
-              let rises : m < n = takes_rise l.plan l.session l.party r d.position m k n j before is' (sym at_here ∙ is) in
-              subst (cells.got f m) (sym (set_there l.got n m v (λ z. let lower : m < n = rises in absurd (omega arith)))) (keeps.got m (l.got m) (may.goes.known r m k before is'))
+              let differs : m ≢ n = takes_differ l.plan l.session l.party r d.position m k n j (plan_is l.plan may.goes.desk.suits.sound) before is' (sym at_here ∙ is) in
+              subst (cells.got f m) (sym (set_there l.got n m v differs)) (keeps.got m (l.got m) (may.goes.known r m k before is'))
           | inr past ↦
               let same : r ≡ d.position = omega (arith, more, less, past) in
               let both : Take m k ≡ Take n j = sym is' ∙ ap (at (program l.plan l.party l.session)) same ∙ sym at_here ∙ is in

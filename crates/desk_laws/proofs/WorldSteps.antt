@@ -7,6 +7,7 @@ use Rattle.circuit_model.proofs.SetAt.{set_here, set_there}
 use Rattle.job_plan.specs.Plans.{Plan}
 use Rattle.job_plan.specs.Numbers.{message}
 use Rattle.share_world.specs.Worlds.{World, word}
+use Rattle.share_world.proofs.SmallWords.{is_plan}
 use Rattle.message_board.specs.declared.cells.Cells.{Ghosts as Meaning}
 use Rattle.party_program.specs.declared.program.Instruction.{Instruction}
 use Rattle.party_program.specs.declared.program.Instruction.TheVariants.{Draw, Deal, Post, Take, Linear, Own, Sum, Open, Join, Deliver, End}
@@ -45,10 +46,10 @@ module _ {C : Type 0} (cells : Meaning C) (plan : Plan) (w : World) (s p : ℕ) 
   word_is n j is = law.right s p d.position n j may.desk.suits.session may.desk.suits.party (sym here ∙ is)
 
   sender_is : (n j : ℕ) → i ≡ Post n j → (message w.plan n).sender ≡ p
-  sender_is n j is = sym ((once w.plan n (proper (Post n j) is).number).posted.alone p s d.position j (sym here ∙ is)).0
+  sender_is n j is = sym ((once w.plan n (is_plan w may.whole) (proper (Post n j) is).number).posted.alone p s d.position j (sym here ∙ is)).0
 
   receiver_is : (n j : ℕ) → i ≡ Take n j → (message w.plan n).receiver ≡ p
-  receiver_is n j is = sym ((once w.plan n (proper (Take n j) is).number).taken.alone p s d.position j (sym here ∙ is)).0
+  receiver_is n j is = sym ((once w.plan n (is_plan w may.whole) (proper (Take n j) is).number).taken.alone p s d.position j (sym here ∙ is)).0
 
   allows_at : (e : Instruction) → i ≡ e → Allows cells c l d.position e
   allows_at (Draw k) is = tt

@@ -4,3 +4,5 @@ pub mod Readers
 pub mod Ports
 pub mod GrownLists
 pub mod Rows
+pub mod Owners
+pub mod Sessions

@@ -12,8 +12,9 @@ use Rattle.party_set.specs.Names.{party_named, names_fault}
 use Rattle.job_file.specs.declared.field.Field.{Field}
 use Rattle.job_file.specs.declared.field.Field.TheVariants.{Version, RingBits, Parties, Tolerated, Hosts, Port, Session, Circuit, Layout, Products, Owners, Readers}
 use Rattle.job_file.specs.declared.fault.JobFault.{JobFault}
-use Rattle.job_file.specs.declared.fault.JobFault.TheVariants.{NotToml, Version as OtherVersion, Missing, Unknown, WrongKind, BadRing, Names, SessionCount, BadFileName, BadLayout, BadProducts, BadOwner, BadReader, BadHost, BadPort, BadTolerated, TooManyTolerated}
+use Rattle.job_file.specs.declared.fault.JobFault.TheVariants.{NotToml, Version as OtherVersion, Missing, Unknown, WrongKind, BadRing, Names, SessionCount, BadFileName, BadLayout, BadProducts, BadOwner, BadCarry, BadReader, BadHost, BadPort, BadTolerated, TooManyTolerated}
 use Rattle.job_file.specs.Names.{field_text, field_kind, top_fields, session_fields, is_file_name, is_host, layout_of}
+use Rattle.job_file.specs.Owners.{is_carry, owner_in}
 use Rattle.job_file.specs.Forms.{JobForm, job_form, is_version_two, adversary_field, prepared_in, integer, text, texts, items, lists, tables}
 
 -- ---- lists of parties' names
@@ -134,13 +135,27 @@ session_fields_fault version_two session fields = first_fault
     ∷ required_fault (Some session) Readers fields
     ∷ [])
 
+-- that of an owner's text in a session, at its place
+abbrev pub owner_fault : Bool → List (List ℕ) → ℕ → ℕ → List ℕ → Option JobFault
+owner_fault version_two names session at text =
+    is_none (owner_in version_two names session text) answers
+    (if is_carry version_two text then BadCarry session at else BadOwner session at)
+
+-- that of the first of the owners from this place on that has one
+unfoldable pub owners_fault : Bool → List (List ℕ) → ℕ → ℕ → List (List ℕ) → Option JobFault
+owners_fault version_two names session at [] = None
+owners_fault version_two names session at (text ∷ rest) = first_fault
+    (owner_fault version_two names session at text
+    ∷ owners_fault version_two names session (at + 1) rest
+    ∷ [])
+
 -- that of their values
 unfoldable pub session_values_fault : Bool → List (List ℕ) → ℕ → Members → Option JobFault
 session_values_fault version_two names session fields = first_fault
     ((not (is_file_name (text Circuit fields)) answers BadFileName session)
     ∷ (is_none (layout_of version_two (text Layout fields)) answers BadLayout session)
     ∷ (is_none (prepared_in fields) answers BadProducts session)
-    ∷ option_map (λ at. BadOwner session at) (position (is_no_party names) (texts Owners fields))
+    ∷ owners_fault version_two names session 0 (texts Owners fields)
     ∷ option_map (λ bad. BadReader session bad.0 bad.1)
     (bad_in_lists names 0 (lists Readers fields))
     ∷ [])

@@ -1,6 +1,7 @@
 -- What a job's file gives, where it has no fault: values are total, with a default where there is none.
 use Rattle.std.specs.Prelude.{ℕ, ◌^◌, ℤ, pos, nat_abs, bit_or, Bool, false, if◌then◌else◌, List, map, fold, Option, Some}
 use Rattle.std.specs.Option.{unwrap_or}
+use Rattle.std.specs.List.{enumerate_from}
 use Rattle.std.specs.Ordering.{int_eq}
 use Rattle.toml.specs.Data.{Data, Members}
 use Rattle.toml_fields.specs.Fields.{has_field, integer_at, text_at, items_at, texts_at, texts_of, fields_of}
@@ -10,15 +11,18 @@ use Rattle.job_file.specs.declared.field.Field.TheVariants.{Version, RingBits, P
 use Rattle.job_file.specs.declared.layout.SessionLayout.{SessionLayout}
 use Rattle.job_file.specs.declared.layout.SessionLayout.TheVariants.{Gates}
 use Rattle.circuit_model.specs.declared.layout.CircuitLayout.TheVariants.{Ring}
+use Rattle.job_file.specs.declared.owner.JobOwner.{JobOwner}
+use Rattle.job_file.specs.declared.owner.JobOwner.TheVariants.{Party}
 use Rattle.job_file.specs.Names.{field_text, layout_of, are_prepared}
+use Rattle.job_file.specs.Owners.{owner_in}
 
--- a session: the file of its circuit and what that has, whether its products are prepared, the party that gives each
--- input value, and for each output value the mask of the parties that read it
+-- a session: the file of its circuit and what that has, whether its products are prepared, what gives each input value,
+-- and for each output value the mask of the parties that read it
 pub record SessionForm : Type 0 where
   pub circuit : List ℕ
   pub layout : SessionLayout
   pub prepared : Bool
-  pub owners : List ℕ
+  pub owners : List JobOwner
   pub readers : List ℕ
 
 -- what tells the tolerated groups: the text of a formula, or the masks of the listed groups
@@ -80,15 +84,24 @@ party_of names name = unwrap_or (party_named names name) 0
 unfoldable pub mask_of : List (List ℕ) → List (List ℕ) → ℕ
 mask_of names group = fold (λ mask name. bit_or mask (2 ^ party_of names name)) 0 group
 
--- that of a table, in a file of version 2 or not
-unfoldable pub session_form : Bool → List (List ℕ) → Members → SessionForm
-session_form version_two names fields = record {
+-- the owner that a text tells in the session of this number, in a file of version 2 or not
+abbrev pub owner_of : Bool → List (List ℕ) → ℕ → List ℕ → JobOwner
+owner_of version_two names session text = unwrap_or (owner_in version_two names session text) (Party 0)
+
+-- the session of this number, of this table
+unfoldable pub session_form : Bool → List (List ℕ) → ℕ → Members → SessionForm
+session_form version_two names session fields = record {
   circuit = text Circuit fields;
   layout = unwrap_or (layout_of version_two (text Layout fields)) (Gates Ring);
   prepared = unwrap_or (prepared_in fields) false;
-  owners = map (party_of names) (texts Owners fields);
+  owners = map (owner_of version_two names session) (texts Owners fields);
   readers = map (mask_of names) (lists Readers fields);
 }
+
+-- the sessions of these tables, numbered from 0
+abbrev pub session_forms : Bool → List (List ℕ) → List Members → List SessionForm
+session_forms version_two names tables =
+    map (λ table. session_form version_two names table.0 table.1) (enumerate_from 0 tables)
 
 unfoldable pub adversary_form : Members → AdversaryForm
 adversary_form fields =
@@ -102,5 +115,5 @@ job_form fields = record {
   adversary = adversary_form fields;
   hosts = texts Hosts fields;
   port = nat_abs (integer Port fields);
-  sessions = map (session_form (is_version_two fields) (texts Parties fields)) (tables Session fields);
+  sessions = session_forms (is_version_two fields) (texts Parties fields) (tables Session fields);
 }

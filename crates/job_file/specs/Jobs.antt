@@ -1,11 +1,12 @@
 -- A job as the code keeps it.
-use Rattle.std.specs.Prelude.{◌≡◌, ℕ, ◌<◌, ◌≤◌, All, length, map}
+use Rattle.std.specs.Prelude.{◌≡◌, ℕ, ◌<◌, ◌≤◌, All, List, length, map, slice_index_or}
 use Rattle.party_set.specs.Names.{AreNames}
 use Rattle.party_set.specs.Parties.{Members}
 use Rattle.job_file.specs.declared.job.Job.{Job}
 use Rattle.job_file.specs.declared.job.JobSession.{JobSession}
 use Rattle.job_file.specs.declared.job.Adversary.{Adversary}
 use Rattle.job_file.specs.declared.job.Adversary.TheVariants.{Formula, Tolerated}
+use Rattle.job_file.specs.Owners.{IsOwner}
 use Rattle.job_file.specs.Forms.{JobForm, SessionForm, AdversaryForm, by_formula, by_list}
 
 abbrev pub session_view : JobSession → SessionForm
@@ -31,10 +32,16 @@ job_view job = record {
   sessions = map session_view job.sessions.items;
 }
 
--- a session among so many parties: each owner is one of them, each reader group has as many
-pub record IsSession (parties : ℕ) (session : JobSession) : Type 0 where
-  pub owners : All (λ owner. owner < parties) session.owners.items
+-- the session of this number among so many parties: each owner is one of them or of an earlier session, each reader group
+-- has as many
+pub record IsSession (parties : ℕ) (number : ℕ) (session : JobSession) : Type 0 where
+  pub owners : All (IsOwner parties number) session.owners.items
   pub readers : All (λ (group : Members). group.parties ≡ parties) session.readers.items
+
+-- such sessions, numbered from 0
+abbrev pub AreSessions : ℕ → List JobSession → Type 0
+AreSessions parties sessions =
+    (s : ℕ) (d : JobSession) → s < length sessions → IsSession parties s (slice_index_or sessions s d)
 
 -- the listed groups, if any, are of so many parties
 abbrev pub HasParties : ℕ → Adversary → Type 0
@@ -49,4 +56,4 @@ pub record IsJob (job : Job) : Type 0 where
   pub adversary : HasParties (length job.names) job.adversary
   pub some_sessions : 1 ≤ length job.sessions.items
   pub few_sessions : length job.sessions.items ≤ 16
-  pub sessions : All (IsSession (length job.names)) job.sessions.items
+  pub sessions : AreSessions (length job.names) job.sessions.items

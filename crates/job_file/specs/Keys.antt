@@ -4,7 +4,7 @@ use Rattle.party_set.specs.declared.names.NamesFault.{NamesFault}
 use Rattle.party_set.specs.declared.names.NamesFault.TheVariants.{BadName, TwiceNamed, PartyCount, Memory as NoMemory}
 use Rattle.job_file.specs.declared.field.Field.{Field}
 use Rattle.job_file.specs.declared.fault.JobFault.{JobFault}
-use Rattle.job_file.specs.declared.fault.JobFault.TheVariants.{NotToml, Version, Missing, Unknown, WrongKind, BadRing, Names, SessionCount, BadFileName, BadLayout, BadProducts, BadOwner, BadReader, BadHost, BadPort, BadTolerated, TooManyTolerated, Memory}
+use Rattle.job_file.specs.declared.fault.JobFault.TheVariants.{NotToml, Version, Missing, Unknown, WrongKind, BadRing, Names, SessionCount, BadFileName, BadLayout, BadProducts, BadOwner, BadCarry, BadReader, BadHost, BadPort, BadTolerated, TooManyTolerated, Memory}
 
 abbrev pub fault_part : JobFault → List ℕ
 fault_part (Names fault) = codes "names"
@@ -34,6 +34,7 @@ fault_number (BadPort port) = 14
 fault_number (BadTolerated value at) = 15
 fault_number (TooManyTolerated count) = 16
 fault_number (BadProducts session) = 17
+fault_number (BadCarry session at) = 18
 fault_number (Names fault) = names_number fault
 fault_number Memory = 0
 
@@ -60,6 +61,7 @@ fault_name (BadPort port) = codes "BadPort"
 fault_name (BadTolerated value at) = codes "BadTolerated"
 fault_name (TooManyTolerated count) = codes "TooManyTolerated"
 fault_name (BadProducts session) = codes "BadProducts"
+fault_name (BadCarry session at) = codes "BadCarry"
 fault_name (Names fault) = names_name fault
 fault_name Memory = codes "Memory"
 
@@ -68,6 +70,7 @@ session_key (Missing session field) = session
 session_key (Unknown session text) = session
 session_key (WrongKind session field) = session
 session_key (BadOwner session at) = Some session
+session_key (BadCarry session at) = Some session
 session_key (BadReader session value at) = Some session
 session_key (BadFileName session) = Some session
 session_key (BadLayout session) = Some session
@@ -95,6 +98,7 @@ names_at _ = None
 
 abbrev pub at_key : JobFault → Option ℕ
 at_key (BadOwner session at) = Some at
+at_key (BadCarry session at) = Some at
 at_key (BadReader session value at) = Some at
 at_key (BadHost at) = Some at
 at_key (BadTolerated value at) = Some at

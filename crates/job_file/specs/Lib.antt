@@ -1,4 +1,5 @@
 pub mod Names
+pub mod Owners
 pub mod Forms
 pub mod Faults
 pub mod Answers

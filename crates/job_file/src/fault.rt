@@ -40,6 +40,11 @@ pub enum JobFault {
         session: u32,
         at: u64,
     },
+    /// An owner that begins with `@`, and tells no output value of an earlier session (version 2).
+    BadCarry {
+        session: u32,
+        at: u64,
+    },
     /// A reader of a value that is no party, or stands before in the value's list.
     BadReader {
         session: u32,

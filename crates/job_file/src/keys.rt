@@ -39,6 +39,7 @@ impl JobFault {
             JobFault::BadTolerated { .. } => 15,
             JobFault::TooManyTolerated { .. } => 16,
             JobFault::BadProducts { .. } => 17,
+            JobFault::BadCarry { .. } => 18,
             JobFault::Names { fault } => names_number(*fault),
             JobFault::Memory => 0,
         }
@@ -65,6 +66,7 @@ impl JobFault {
             JobFault::BadTolerated { .. } => "BadTolerated",
             JobFault::TooManyTolerated { .. } => "TooManyTolerated",
             JobFault::BadProducts { .. } => "BadProducts",
+            JobFault::BadCarry { .. } => "BadCarry",
             JobFault::Names { fault } => names_name(*fault),
             JobFault::Memory => "Memory",
         }
@@ -79,6 +81,7 @@ impl JobFault {
             | JobFault::Unknown { session, .. }
             | JobFault::WrongKind { session, .. } => *session,
             JobFault::BadOwner { session, .. }
+            | JobFault::BadCarry { session, .. }
             | JobFault::BadReader { session, .. }
             | JobFault::BadFileName { session }
             | JobFault::BadLayout { session }
@@ -125,6 +128,7 @@ impl JobFault {
     {
         match self {
             JobFault::BadOwner { at, .. }
+            | JobFault::BadCarry { at, .. }
             | JobFault::BadReader { at, .. }
             | JobFault::BadHost { at }
             | JobFault::BadTolerated { at, .. } => Some(*at),

@@ -1,5 +1,5 @@
 //! Lists of parties' names.
-ghost use Rattle.std.specs.Prelude.{◌≡◌, ◌<◌, ◌||◌, map, [], position, length, IfSome};
+ghost use Rattle.std.specs.Prelude.{◌≡◌, ◌<◌, ◌||◌, map, [], length, IfSome};
 ghost use Rattle.std.specs.List.{list_any};
 ghost use Rattle.std.specs.Str.{bytes_eq};
 ghost use Rattle.toml.specs.View.{view};
@@ -9,15 +9,6 @@ ghost use Rattle.job_file.specs.Faults.{bad_name, bad_in_lists, is_no_party};
 use party_set::Names;
 use toml::Value;
 use toml_fields::{items_of, text_of};
-
-/// The place of the first text that is no party's name.
-pub fn first_stranger(items: &[Value], names: &Names) -> Option<usize>
-    ensures { result ≡ position (λ item. is_no_party names.now (text_of (view item))) items.now }
-{
-    items
-        .iter()
-        .position(|item| names.number(text_of(item)).is_none())
-}
 
 /// The first text that is no party's name, or stands before in its list: its list, and its place there.
 pub fn bad_in_lists(lists: &[Value], names: &Names) -> Option<(usize, usize)>

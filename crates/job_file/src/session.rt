@@ -1,24 +1,23 @@
 //! Rows of the table of faults that speak of a session.
-ghost use Rattle.std.specs.Prelude.{◌≡◌, ◌≤◌, ◌||◌, map, Some, None, [], position, length};
-ghost use Rattle.std.specs.List.{list_any};
+ghost use Rattle.std.specs.Prelude.{◌≡◌, ◌≤◌, map, length};
 ghost use Rattle.std.specs.Option.{option_map, unwrap_or};
 ghost use Rattle.toml.specs.Data.{as_table};
-ghost use Rattle.std.specs.Str.{bytes_eq};
 ghost use Rattle.toml.specs.View.{view, table_view};
 ghost use Rattle.toml_fields.specs.Fields.{text_of, texts_of, fields_of};
 ghost use Rattle.job_file.specs.Answers.{TellsFault, TellsOrMemory};
-ghost use Rattle.job_file.specs.Faults.{session_fields_fault, session_values_fault, sessions_fault, bad_in_lists, is_no_party};
-ghost use Rattle.job_file.specs.declared.fault.JobFault.TheVariants.{BadOwner, BadReader};
+ghost use Rattle.job_file.specs.Faults.{session_fields_fault, session_values_fault, sessions_fault, owner_fault, owners_fault, bad_in_lists};
+ghost use Rattle.job_file.specs.declared.fault.JobFault.TheVariants.{BadReader};
 
 use crate::check::{check, check_optional, check_required, check_session_known, prepared_in};
 use crate::fault::JobFault;
 use crate::field::Field;
-use crate::parties::{bad_in_lists, first_stranger};
+use crate::owner::{is_carry, owner_in};
+use crate::parties::bad_in_lists;
 use crate::texts::{is_file_name, layout_of};
 use party_set::Names;
 use std::alloc::Global;
 use toml::{Table, Value};
-use toml_fields::{fields_of, items_at, text_at};
+use toml_fields::{fields_of, items_at, text_at, text_of};
 
 #[tactic(auto, unfolding(crate::specs::Faults::session_fields_fault))]
 fn check_fields(
@@ -55,21 +54,45 @@ fn check_values(
         prepared_in(table).is_none(),
         JobFault::BadProducts { session },
     )?;
-    check_owners(items_at(table, Field::Owners.text()), session, names)?;
+    check_owners(
+        items_at(table, Field::Owners.text()),
+        version_two,
+        session,
+        names,
+    )?;
     check_readers(items_at(table, Field::Readers.text()), session, names)
 }
 
-fn check_owners(owners: &[Value], session: u32, names: &Names) -> Result<(), JobFault>
-    ensures { TellsFault result (option_map (λ at. BadOwner session at)
-        (position (is_no_party names.now) (map text_of (map view owners.now)))) }
+fn check_owners(
+    owners: &[Value],
+    version_two: bool,
+    session: u32,
+    names: &Names,
+) -> Result<(), JobFault>
+    ensures { TellsFault result (owners_fault version_two names.now session 0 (map text_of (map view owners.now))) }
 {
-    match first_stranger(owners, names) {
-        Some(at) => Err(JobFault::BadOwner {
-            session,
-            at: at as u64,
-        }),
-        None => Ok(()),
+    for (at, item) in owners.iter().enumerate() {
+        check_owner(text_of(item), at as u64, version_two, session, names)?;
     }
+    Ok(())
+}
+
+fn check_owner(
+    text: &str,
+    at: u64,
+    version_two: bool,
+    session: u32,
+    names: &Names,
+) -> Result<(), JobFault>
+    ensures { TellsFault result (owner_fault version_two names.now session at text.now) }
+{
+    if owner_in(version_two, names, session, text).is_some() {
+        return Ok(());
+    }
+    if is_carry(version_two, text) {
+        return Err(JobFault::BadCarry { session, at });
+    }
+    Err(JobFault::BadOwner { session, at })
 }
 
 // More values than a `u32` counts do not fit in memory.

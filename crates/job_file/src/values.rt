@@ -3,15 +3,17 @@ ghost use Rattle.std.specs.Prelude.{◌≡◌, ◌<◌, ◌≤◌, ◌^◌, All,
 ghost use Rattle.party_set.specs.Parties.{Members};
 ghost use Rattle.toml.specs.View.{view, table_view};
 ghost use Rattle.toml_fields.specs.Fields.{text_of, texts_of, fields_of};
-ghost use Rattle.job_file.specs.Forms.{party_of, mask_of, session_form, adversary_form, job_form, integer, texts, items};
+ghost use Rattle.job_file.specs.Forms.{party_of, owner_of, mask_of, session_form, session_forms, adversary_form, job_form, integer, texts, items};
+ghost use Rattle.job_file.specs.Owners.{IsOwner};
 ghost use Rattle.job_file.specs.Faults.{ring_fault, port_fault};
-ghost use Rattle.job_file.specs.Jobs.{session_view, adversary_view, job_view, HasParties, IsSession, IsJob};
+ghost use Rattle.job_file.specs.Jobs.{session_view, adversary_view, job_view, HasParties, IsSession, AreSessions, IsJob};
 ghost use Rattle.job_file.specs.declared.field.Field.TheVariants.{RingBits, Parties, Port, Session};
 
 use crate::check::{is_there, is_version_two, prepared_in};
 use crate::field::Field;
 use crate::job::{Adversary, Job, JobSession};
 use crate::layout::SessionLayout;
+use crate::owner::{JobOwner, owner_in};
 use crate::session::fields_or;
 use crate::texts::layout_of;
 use circuit_model::CircuitLayout;
@@ -31,15 +33,31 @@ fn party_of(names: &Names, name: &str) -> u32
     names.number(name).unwrap_or(0)
 }
 
-fn owners_of(alloc: Global, owners: &[Value], names: &Names) -> Result<Vec<u32>, AllocError>
-    ensures is { IfOk result (λ parties. parties.items ≡ map (party_of names.now) (map text_of (map view owners.now))) }
-    ensures within { IfOk result (λ parties. All (λ owner. owner < length names.now) parties.items) }
+/// The owner that this text tells in a session, or the first party.
+fn owner_of(version_two: bool, names: &Names, session: u32, text: &str) -> JobOwner
+    ensures is { result ≡ owner_of version_two names.now session text.now }
+    ensures within { IsOwner (length names.now) session result }
 {
-    let mut parties = Vec::new(alloc);
+    let _ = names.len();
+    owner_in(version_two, names, session, text).unwrap_or(JobOwner::Party(0))
+}
+
+fn owners_of(
+    alloc: Global,
+    owners: &[Value],
+    version_two: bool,
+    session: u32,
+    names: &Names,
+) -> Result<Vec<JobOwner>, AllocError>
+    ensures is { IfOk result (λ told. told.items
+        ≡ map (owner_of version_two names.now session) (map text_of (map view owners.now))) }
+    ensures within { IfOk result (λ told. All (IsOwner (length names.now) session) told.items) }
+{
+    let mut told = Vec::new(alloc);
     for owner in owners {
-        parties.push(party_of(names, text_of(owner)))?;
+        told.push(owner_of(version_two, names, session, text_of(owner)))?;
     }
-    Ok(parties)
+    Ok(told)
 }
 
 fn mask_of(readers: &[Value], names: &Names) -> u32
@@ -94,18 +112,20 @@ fn session_of(
     alloc: Global,
     table: &Table,
     version_two: bool,
+    number: u32,
     names: &Names,
 ) -> Result<JobSession, AllocError>
     ensures form { IfOk result (λ session. session_view session
-        ≡ session_form version_two names.now (table_view table.now)) }
-    ensures parties { IfOk result (IsSession (length names.now)) }
+        ≡ session_form version_two names.now number (table_view table.now)) }
+    ensures parties { IfOk result (IsSession (length names.now) number) }
 {
     let circuit = copy_of(alloc, text_at(table, Field::Circuit.text()))?;
     let layout = layout_of(version_two, text_at(table, Field::Layout.text())).unwrap_or(
         SessionLayout::Gates(CircuitLayout::Ring),
     );
     let prepared = prepared_in(table).unwrap_or(false);
-    let owners = owners_of(alloc, items_at(table, Field::Owners.text()), names)?;
+    let owners = items_at(table, Field::Owners.text());
+    let owners = owners_of(alloc, owners, version_two, number, names)?;
     let readers = groups_of(alloc, items_at(table, Field::Readers.text()), names)?;
     Ok(JobSession {
         circuit,
@@ -122,15 +142,17 @@ fn sessions_of(
     version_two: bool,
     names: &Names,
 ) -> Result<Vec<JobSession>, AllocError>
+    requires { length tables.now ≤ 16 }
     ensures form { IfOk result (λ sessions. map session_view sessions.items
-        ≡ map (session_form version_two names.now) (map fields_of (map view tables.now))) }
-    ensures parties { IfOk result (λ sessions. All (IsSession (length names.now)) sessions.items) }
+        ≡ session_forms version_two names.now (map fields_of (map view tables.now))) }
+    ensures parties { IfOk result (λ sessions. AreSessions (length names.now) sessions.items) }
     ensures count { IfOk result (λ sessions. length sessions.items ≡ length tables.now) }
 {
     let empty = Table::new(alloc);
     let mut sessions = Vec::new(alloc);
-    for table in tables {
-        sessions.push(session_of(alloc, fields_or(table, &empty), version_two, names)?)?;
+    for (number, item) in tables.iter().enumerate() {
+        let table = fields_or(item, &empty);
+        sessions.push(session_of(alloc, table, version_two, number as u32, names)?)?;
     }
     Ok(sessions)
 }

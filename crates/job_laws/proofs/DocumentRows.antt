@@ -1,7 +1,7 @@
 -- The document of a job has no fault, and is read as the job.
 use Rattle.std.proofs.Common.{◌≡◌, ◌≢◌, inl, inr, ℕ, zero, suc, ◌+◌, ◌≤◌, nat_lt, Bool, true, false, cond, not, ◌||◌, ◌&&◌, ◌==◌, ℤ, pos, nat_abs, List, [], ◌∷◌, length, map, Option, None, Some, IfSome, Ok, Err, refl, ap, ap₂, ◌∙◌, arith}
 use Rattle.std.specs.Prelude.{codes, position}
-use Rattle.std.specs.List.{AllByRecursion}
+use Rattle.std.specs.List.{AllByRecursion, enumerate_from}
 use Rattle.std.specs.Option.{is_none, is_some, unwrap_or, option_map, option_map_or, option_or}
 use Rattle.std.specs.Str.{IsUtf8}
 use Rattle.std.specs.Ordering.{int_eq}
@@ -17,7 +17,7 @@ use Rattle.toml_fields.specs.declared.kind.Kind.{Kind}
 use Rattle.toml_fields.specs.declared.kind.Kind.TheVariants as kinds
 use Rattle.toml_fields.specs.Fields.{items_of, text_of, texts_of, fields_of, integer_of, has_field, is_misfit, integer_at, text_at, items_at, texts_at, is_of_kind}
 use Rattle.list_laws.specs.Checks.{◌answers◌, or_fault}
-use Rattle.party_set.specs.Names.{name_at, names_fault, AreNames}
+use Rattle.party_set.specs.Names.{names_fault, AreNames}
 use Rattle.party_set.proofs.NameFaults.{no_fault_from}
 use Rattle.circuit_model.specs.declared.layout.CircuitLayout.TheVariants.{Bristol, Ring}
 use Rattle.job_file.specs.declared.field.Field.{Field}
@@ -28,10 +28,11 @@ use Rattle.job_file.specs.declared.layout.SessionLayout.{SessionLayout}
 use Rattle.job_file.specs.declared.layout.SessionLayout.TheVariants.{Gates, Expressions}
 use Rattle.job_file.specs.Names.{field_text, field_kind, top_fields, session_fields, is_file_name, is_host, layout_of, are_prepared}
 use Rattle.job_file.specs.Forms as forms
-use Rattle.job_file.specs.Forms.{JobForm, SessionForm, AdversaryForm, by_formula, by_list, is_version_two, adversary_field, prepared_in, session_form, adversary_form, job_form, party_of, mask_of}
-use Rattle.job_file.specs.Faults.{is_no_party, bad_in_lists, is_within, required_fault, optional_fault, unknown_fault, version_fault, fields_fault, ring_fault, parties_fault, groups_fault, adversary_fault, count_fault, hosts_fault, port_fault, node_fault, session_fields_fault, session_values_fault, sessions_fault, job_fault, job_in}
-use Rattle.job_laws.specs.Documents.{texts_data, groups_data, member_names, layout_text, products_data, session_fields_of, sessions_data, version_data, formula_data, tolerated_data, hosts_data, port_data, document_of_job, HasLayout, HasProducts, IsSessionForm, HasGroups, AreHosts, HasPeers, IsJobForm, DocumentsSayTheirJobs}
-use Rattle.job_laws.proofs.MemberNames.{good_lists, masks_back, owners_back, owners_named}
+use Rattle.job_file.specs.Forms.{JobForm, SessionForm, AdversaryForm, by_formula, by_list, is_version_two, adversary_field, prepared_in, owner_of, session_form, session_forms, adversary_form, job_form, mask_of}
+use Rattle.job_file.specs.Faults.{bad_in_lists, owners_fault, is_within, required_fault, optional_fault, unknown_fault, version_fault, fields_fault, ring_fault, parties_fault, groups_fault, adversary_fault, count_fault, hosts_fault, port_fault, node_fault, session_fields_fault, session_values_fault, sessions_fault, job_fault, job_in}
+use Rattle.job_laws.specs.Documents.{texts_data, groups_data, member_names, layout_text, products_data, session_fields_of, sessions_data, version_data, formula_data, tolerated_data, hosts_data, port_data, document_of_job, owner_text, HasLayout, HasProducts, IsSessionForm, AreSessionForms, HasGroups, AreHosts, HasPeers, IsJobForm, DocumentsSayTheirJobs}
+use Rattle.job_laws.proofs.MemberNames.{good_lists, masks_back}
+use Rattle.job_laws.proofs.OwnerTexts.{two_of, owners_back, owners_pass}
 use Rattle.job_laws.proofs.DocumentShapes.{IsPlain, string_plain, texts_plain, groups_plain, list_plain, texts_listed, groups_back, sessions_back, items_back, length_same, are_texts, are_groups, are_sessions, nowhere}
 use Rattle.job_laws.proofs.DocumentFields as table_of
 use Rattle.job_laws.proofs.DocumentFields.{value_of}
@@ -101,10 +102,6 @@ optional session field ms o at kind = passed _ (fits field ms o at kind)
 
 -- ---- a session
 
-abbrev pub two_of : AdversaryForm → Bool
-two_of (by_formula text) = false
-two_of (by_list masks) = true
-
 layout_back : (adversary : AdversaryForm) (layout : SessionLayout) → HasLayout adversary layout → layout_of (two_of adversary) (layout_text layout) ≡ Some layout
 unfolding layout_of
 layout_back (by_formula text) (Gates Bristol) h = refl
@@ -132,32 +129,32 @@ unfolding prepared_in are_prepared
 products_back true ms at = ap₂ (λ told text. cond told (are_prepared text) (Some false)) (there Products ms _ at) (text_is Products ms (codes "prepared") at)
 products_back false ms at = ap (λ told. cond told (are_prepared (forms.text Products ms)) (Some false)) (not_there Products ms at)
 
-module _ (names : List (List ℕ)) (are : AreNames names) (adversary : AdversaryForm) (s : SessionForm) (is : IsSessionForm (length names) adversary s) where
+module _ (names : List (List ℕ)) (are : AreNames names) (adversary : AdversaryForm) (n : ℕ) (early : n ≤ 16) (s : SessionForm) (is : IsSessionForm (length names) adversary n s) where
   abbrev ms : Members
   ms = session_fields_of names s
 
   at_circuit : value_of Circuit ms ≡ Some (string s.circuit)
-  at_circuit = table_of.at_circuit (string s.circuit) (string (layout_text s.layout)) (texts_data (map (name_at names) s.owners)) (products_data s.prepared) (groups_data names s.readers)
+  at_circuit = table_of.at_circuit (string s.circuit) (string (layout_text s.layout)) (texts_data (map (owner_text names) s.owners)) (products_data s.prepared) (groups_data names s.readers)
 
   at_layout : value_of Layout ms ≡ Some (string (layout_text s.layout))
-  at_layout = table_of.at_layout (string s.circuit) (string (layout_text s.layout)) (texts_data (map (name_at names) s.owners)) (products_data s.prepared) (groups_data names s.readers)
+  at_layout = table_of.at_layout (string s.circuit) (string (layout_text s.layout)) (texts_data (map (owner_text names) s.owners)) (products_data s.prepared) (groups_data names s.readers)
 
-  at_owners : value_of Owners ms ≡ Some (texts_data (map (name_at names) s.owners))
-  at_owners = table_of.at_owners (string s.circuit) (string (layout_text s.layout)) (texts_data (map (name_at names) s.owners)) (products_data s.prepared) (groups_data names s.readers)
+  at_owners : value_of Owners ms ≡ Some (texts_data (map (owner_text names) s.owners))
+  at_owners = table_of.at_owners (string s.circuit) (string (layout_text s.layout)) (texts_data (map (owner_text names) s.owners)) (products_data s.prepared) (groups_data names s.readers)
 
   at_products : value_of Products ms ≡ products_data s.prepared
-  at_products = table_of.at_products (string s.circuit) (string (layout_text s.layout)) (texts_data (map (name_at names) s.owners)) (products_data s.prepared) (groups_data names s.readers)
+  at_products = table_of.at_products (string s.circuit) (string (layout_text s.layout)) (texts_data (map (owner_text names) s.owners)) (products_data s.prepared) (groups_data names s.readers)
 
   at_readers : value_of Readers ms ≡ Some (groups_data names s.readers)
-  at_readers = table_of.at_readers (string s.circuit) (string (layout_text s.layout)) (texts_data (map (name_at names) s.owners)) (products_data s.prepared) (groups_data names s.readers)
+  at_readers = table_of.at_readers (string s.circuit) (string (layout_text s.layout)) (texts_data (map (owner_text names) s.owners)) (products_data s.prepared) (groups_data names s.readers)
 
-  fields_pass : (n : ℕ) → session_fields_fault (two_of adversary) n ms ≡ None
+  fields_pass : session_fields_fault (two_of adversary) n ms ≡ None
   unfolding session_fields_fault unknown_fault field_text field_kind is_of_kind
-  fields_pass n = then_none (no_map _ (table_of.session_known (string s.circuit) (string (layout_text s.layout)) (texts_data (map (name_at names) s.owners)) (products_data s.prepared) (groups_data names s.readers) (map field_text (session_fields (two_of adversary))) refl refl refl (products_known adversary s.prepared is.products) refl))
+  fields_pass = then_none (no_map _ (table_of.session_known (string s.circuit) (string (layout_text s.layout)) (texts_data (map (owner_text names) s.owners)) (products_data s.prepared) (groups_data names s.readers) (map field_text (session_fields (two_of adversary))) refl refl refl (products_known adversary s.prepared is.products) refl))
       (then_none (required (Some n) Circuit ms _ at_circuit refl)
       (then_none (required (Some n) Layout ms _ at_layout refl)
       (then_none (optional (Some n) Products ms _ at_products (products_kind s.prepared))
-      (then_none (required (Some n) Owners ms _ at_owners (are_texts (map (name_at names) s.owners)))
+      (then_none (required (Some n) Owners ms _ at_owners (are_texts (map (owner_text names) s.owners)))
       (then_none (required (Some n) Readers ms _ at_readers (are_groups names s.readers))
       refl)))))
 
@@ -167,39 +164,40 @@ module _ (names : List (List ℕ)) (are : AreNames names) (adversary : Adversary
   products_are : prepared_in ms ≡ Some s.prepared
   products_are = products_back s.prepared ms at_products
 
-  values_pass : (n : ℕ) → session_values_fault (two_of adversary) names n ms ≡ None
+  values_pass : session_values_fault (two_of adversary) names n ms ≡ None
   unfolding session_values_fault
-  values_pass n = then_none (passed _ (ap (λ text. not (is_file_name text)) (text_is Circuit ms s.circuit at_circuit) ∙ ap not is.circuit))
+  values_pass = then_none (passed _ (ap (λ text. not (is_file_name text)) (text_is Circuit ms s.circuit at_circuit) ∙ ap not is.circuit))
       (then_none (passed _ (ap is_none layout_is))
       (then_none (passed _ (ap is_none products_are))
-      (then_none (no_map _ (ap (position (is_no_party names)) (texts_are Owners ms (map (name_at names) s.owners) at_owners) ∙ nowhere (is_no_party names) (map (name_at names) s.owners) (owners_named names are s.owners is.owners)))
+      (then_none (ap (owners_fault (two_of adversary) names n 0) (texts_are Owners ms (map (owner_text names) s.owners) at_owners) ∙ owners_pass names are n early adversary 0 s.owners is.owners is.carries)
       (then_none (no_map _ (ap (bad_in_lists names 0) (lists_are Readers ms names s.readers at_readers) ∙ good_lists names are 0 s.readers))
       refl))))
 
   same_session : (a b : SessionForm) → a.circuit ≡ b.circuit → a.layout ≡ b.layout → a.prepared ≡ b.prepared → a.owners ≡ b.owners → a.readers ≡ b.readers → a ≡ b
   same_session a b c l p o r i = record { circuit = c i; layout = l i; prepared = p i; owners = o i; readers = r i }
 
-  session_back : session_form (two_of adversary) names ms ≡ s
+  session_back : session_form (two_of adversary) names n ms ≡ s
   unfolding session_form
   session_back = same_session _ s
       (text_is Circuit ms s.circuit at_circuit)
       (ap (λ o. unwrap_or o (Gates Ring)) layout_is)
       (ap (λ o. unwrap_or o false) products_are)
-      (ap (map (party_of names)) (texts_are Owners ms (map (name_at names) s.owners) at_owners) ∙ owners_back names are s.owners is.owners)
+      (ap (map (owner_of (two_of adversary) names n)) (texts_are Owners ms (map (owner_text names) s.owners) at_owners) ∙ owners_back names are n early adversary s.owners is.owners is.carries)
       (ap (map (mask_of names)) (lists_are Readers ms names s.readers at_readers) ∙ masks_back names are s.readers is.readers)
 
 module _ (names : List (List ℕ)) (are : AreNames names) (adversary : AdversaryForm) where
-  sessions_pass : (n : ℕ) (sessions : List SessionForm) → AllByRecursion (IsSessionForm (length names) adversary) sessions → sessions_fault (two_of adversary) names n (map (session_fields_of names) sessions) ≡ None
+  sessions_pass : (n : ℕ) (sessions : List SessionForm) → n + length sessions ≤ 16 → AreSessionForms (length names) adversary n sessions → sessions_fault (two_of adversary) names n (map (session_fields_of names) sessions) ≡ None
   unfolding sessions_fault
-  sessions_pass n [] h = refl
-  sessions_pass n (s ∷ sessions) h = then_none (fields_pass names are adversary s h.0 n)
-      (then_none (values_pass names are adversary s h.0 n)
-      (then_none (sessions_pass (n + 1) sessions h.1)
+  sessions_pass n [] few h = refl
+  sessions_pass n (s ∷ sessions) few h = then_none (fields_pass names are adversary n (omega (arith, few)) s h.0)
+      (then_none (values_pass names are adversary n (omega (arith, few)) s h.0)
+      (then_none (sessions_pass (n + 1) sessions (omega (arith, few)) h.1)
       refl))
 
-  forms_back : (sessions : List SessionForm) → AllByRecursion (IsSessionForm (length names) adversary) sessions → map (session_form (two_of adversary) names) (map (session_fields_of names) sessions) ≡ sessions
-  forms_back [] h = refl
-  forms_back (s ∷ sessions) h = ap₂ (λ a b. a ∷ b) (session_back names are adversary s h.0) (forms_back sessions h.1)
+  forms_back : (n : ℕ) (sessions : List SessionForm) → n + length sessions ≤ 16 → AreSessionForms (length names) adversary n sessions
+      → map (λ (t : ℕ × Members). session_form (two_of adversary) names t.0 t.1) (enumerate_from n (map (session_fields_of names) sessions)) ≡ sessions
+  forms_back n [] few h = refl
+  forms_back n (s ∷ sessions) few h = ap₂ (λ a b. a ∷ b) (session_back names are adversary n (omega (arith, few)) s h.0) (forms_back (n + 1) sessions (omega (arith, few)) h.1)
 
 -- ---- hosts and port
 
@@ -427,7 +425,7 @@ module _ (node : Bool) (job : JobForm) (is : IsJobForm node job) where
       (then_none (parties_pass)
       (then_none (adversary_passes)
       (then_none (count_passes)
-      (then_none (ap₂ (λ b names. sessions_fault b names 0 (forms.tables Session fields)) is_two names_are ∙ ap (sessions_fault two job.names 0) sessions_are ∙ sessions_pass job.names is.names job.adversary 0 job.sessions is.sessions)
+      (then_none (ap₂ (λ b names. sessions_fault b names 0 (forms.tables Session fields)) is_two names_are ∙ ap (sessions_fault two job.names 0) sessions_are ∙ sessions_pass job.names is.names job.adversary 0 job.sessions (let few = is.few_sessions in omega (arith, few)) is.sessions)
       (then_none (hosts_pass fields job.names job.hosts at_parties at_hosts is.hosts)
       (then_none (port_passes fields job.port at_port is.port)
       refl)))))))))
@@ -451,8 +449,8 @@ module _ (node : Bool) (job : JobForm) (is : IsJobForm node job) where
       (ap (λ b. cond b (by_list (map (mask_of (forms.texts Parties fields)) (forms.lists Tolerated fields))) (by_formula (forms.text Formula fields))) is_two ∙ adversary_back job.adversary at_formula at_tolerated is.groups)
       (hosts_are fields job.hosts at_hosts)
       (ap nat_abs (port_is fields job.port at_port))
-      (ap₂ (λ b names. map (session_form b names) (forms.tables Session fields)) is_two names_are
-      ∙ ap (map (session_form two job.names)) sessions_are ∙ forms_back job.names is.names job.adversary job.sessions is.sessions)
+      (ap₂ (λ b names. session_forms b names (forms.tables Session fields)) is_two names_are
+      ∙ ap (session_forms two job.names) sessions_are ∙ forms_back job.names is.names job.adversary 0 job.sessions (let few = is.few_sessions in omega (arith, few)) is.sessions)
 
   -- ---- the text
 
@@ -488,8 +486,8 @@ module _ (node : Bool) (job : JobForm) (is : IsJobForm node job) where
 
   session_plain : (s : SessionForm) → IsPlain 3 (table (session_fields_of job.names s))
   session_plain s =
-      let all = table_of.session_plain (string s.circuit) (string (layout_text s.layout)) (texts_data (map (name_at job.names) s.owners)) (products_data s.prepared) (groups_data job.names s.readers) (wider 0 2 _ (omega arith) (string_plain s.circuit)) (wider 0 2 _ (omega arith) (string_plain (layout_text s.layout)))
-      (wider 1 2 _ (omega arith) (texts_plain (map (name_at job.names) s.owners))) (products_plain s.prepared) (groups_plain job.names s.readers) in
+      let all = table_of.session_plain (string s.circuit) (string (layout_text s.layout)) (texts_data (map (owner_text job.names) s.owners)) (products_data s.prepared) (groups_data job.names s.readers) (wider 0 2 _ (omega arith) (string_plain s.circuit)) (wider 0 2 _ (omega arith) (string_plain (layout_text s.layout)))
+      (wider 1 2 _ (omega arith) (texts_plain (map (owner_text job.names) s.owners))) (products_plain s.prepared) (groups_plain job.names s.readers) in
       record { deep = (let deep = all.deep in omega arith); dates = all.dates; sorted = all.sorted }
 
   pub read_back : (text : List ℕ) → IsUtf8 text → IsDocumentText false fields text → job_in node text ≡ Ok job

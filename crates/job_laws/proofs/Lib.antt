@@ -1,4 +1,5 @@
 mod MemberNames
+mod OwnerTexts
 mod DocumentShapes
 mod DocumentFields
 mod DocumentRows

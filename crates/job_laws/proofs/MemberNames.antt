@@ -180,11 +180,3 @@ module _ (names : List (List ℕ)) (are : AreNames names) where
   pub masks_back : (masks : List ℕ) → AllByRecursion (λ mask. mask < 2 ^ length names) masks → map (mask_of names) (map (member_names names) masks) ≡ masks
   masks_back [] h = refl
   masks_back (m ∷ masks) h = ap₂ (λ a b. a ∷ b) (mask_back m h.0) (masks_back masks h.1)
-
-  pub owners_back : (owners : List ℕ) → AllByRecursion (λ p. p < length names) owners → map (party_of names) (map (name_at names) owners) ≡ owners
-  owners_back [] h = refl
-  owners_back (p ∷ owners) h = ap₂ (λ a b. a ∷ b) (party_back p h.0) (owners_back owners h.1)
-
-  pub owners_named : (owners : List ℕ) → AllByRecursion (λ p. p < length names) owners → AllByRecursion (λ text. is_no_party names text ≡ false) (map (name_at names) owners)
-  owners_named [] h = tt
-  owners_named (p ∷ owners) h = (is_party p h.0, owners_named owners h.1)

@@ -1,12 +1,12 @@
 -- A job that is read is within the limits.
-use Rattle.std.proofs.Common.{◌≡◌, ◌≢◌, inl, inr, ℕ, ◌+◌, ◌^◌, ◌<◌, ◌≤◌, Bool, true, false, cond, not, ◌||◌, ◌&&◌, ◌==◌, nat_lt, ℤ, pos, negsuc, nat_abs, List, [], ◌∷◌, ◌++◌, length, map, Option, None, Some, Ok, Err, refl, sym, ap, subst, ◌∙◌, arith}
+use Rattle.std.proofs.Common.{◌≡◌, ◌≢◌, inl, inr, ℕ, ◌+◌, ◌^◌, ◌<◌, ◌≤◌, Bool, true, false, cond, not, ◌||◌, ◌&&◌, ◌==◌, nat_lt, ℤ, pos, negsuc, nat_abs, List, [], ◌∷◌, ◌++◌, length, map, Option, None, Some, IfSome, Ok, Err, refl, sym, ap, subst, ◌∙◌, arith}
 use Rattle.std.specs.Prelude.{codes, fold, bit_or, position, int_le, min}
-use Rattle.std.specs.List.{AllByRecursion, list_any, position_or_len}
+use Rattle.std.specs.List.{AllByRecursion, list_any, position_or_len, enumerate_from}
 use Rattle.std.specs.Option.{is_none, is_some, unwrap_or, option_map, option_map_or, option_or}
 use Rattle.std.specs.Str.{bytes_eq}
 use Rattle.std.proofs.lemmas.Bool.{leb-true, ltb-false, eqb-true, and_parts}
 use Rattle.std.proofs.lemmas.List.Sums.{fails_before_first}
-use Rattle.std.proofs.lemmas.List.Quantifiers.{position-Some}
+use Rattle.std.proofs.lemmas.List.FromFn.{length-enumerate_from}
 use Rattle.std.proofs.lemmas.List.Elements.{recursion_from_All}
 use Rattle.std.proofs.lemmas.Nat.{pow_pos, or_lt}
 use Rattle.std.proofs.Math.Pow.{pow-lt}
@@ -22,16 +22,20 @@ use Rattle.circuit_model.specs.declared.layout.CircuitLayout.TheVariants.{Bristo
 use Rattle.job_file.specs.declared.field.Field.{Field}
 use Rattle.job_file.specs.declared.field.Field.TheVariants.{RingBits, Parties, Formula, Tolerated, Hosts, Port, Session, Circuit, Layout, Products, Owners, Readers}
 use Rattle.job_file.specs.declared.fault.JobFault.{JobFault}
-use Rattle.job_file.specs.declared.fault.JobFault.TheVariants.{NotToml, BadRing, BadFileName, BadLayout, BadProducts, BadOwner, BadReader, BadHost, BadPort, BadTolerated, TooManyTolerated, Missing, Unknown, WrongKind, Names}
+use Rattle.job_file.specs.declared.fault.JobFault.TheVariants.{NotToml, BadRing, BadFileName, BadLayout, BadProducts, BadOwner, BadCarry, BadReader, BadHost, BadPort, BadTolerated, TooManyTolerated, Missing, Unknown, WrongKind, Names}
 use Rattle.job_file.specs.declared.layout.SessionLayout.TheVariants.{Gates, Expressions}
+use Rattle.job_file.specs.declared.owner.JobOwner.{JobOwner}
+use Rattle.job_file.specs.declared.owner.JobOwner.TheVariants.{Party}
+use Rattle.job_file.specs.Owners.{is_carry, owner_in, IsOwner}
 use Rattle.job_file.specs.Names.{field_text, top_fields, session_fields, is_file_name, is_host, layout_of, are_prepared}
-use Rattle.job_file.specs.Forms.{JobForm, AdversaryForm, by_formula, by_list, integer, text, texts, items, lists, tables, is_version_two, adversary_field, prepared_in, session_form, adversary_form, job_form, party_of, mask_of}
-use Rattle.job_file.specs.Faults.{is_no_party, bad_name, bad_in_lists, is_there, is_of_other_kind, is_within, required_fault, optional_fault, unknown_fault, version_fault, fields_fault, ring_fault, parties_fault, groups_fault, adversary_fault, count_fault, hosts_fault, port_fault, session_fields_fault, session_values_fault, sessions_fault, job_fault, job_in}
+use Rattle.job_file.specs.Forms.{JobForm, AdversaryForm, by_formula, by_list, integer, text, texts, items, lists, tables, is_version_two, adversary_field, prepared_in, owner_of, session_form, session_forms, adversary_form, job_form, party_of, mask_of}
+use Rattle.job_file.specs.Faults.{is_no_party, bad_name, bad_in_lists, owner_fault, owners_fault, is_there, is_of_other_kind, is_within, required_fault, optional_fault, unknown_fault, version_fault, fields_fault, ring_fault, parties_fault, groups_fault, adversary_fault, count_fault, hosts_fault, port_fault, session_fields_fault, session_values_fault, sessions_fault, job_fault, job_in}
 use Rattle.job_file.proofs.Rows.{session_count}
-use Rattle.job_laws.specs.Documents.{HasLayout, HasProducts, IsSessionForm, HasGroups, AreHosts, IsJobForm}
+use Rattle.job_file.proofs.Owners.{named_below, owner_within}
+use Rattle.job_laws.specs.Documents.{HasLayout, HasProducts, HasOwner, IsSessionForm, AreSessionForms, HasGroups, AreHosts, IsJobForm}
 use Rattle.job_laws.proofs.DocumentShapes.{length_same}
 use Rattle.job_laws.proofs.DocumentFields.{not_known}
-use Rattle.job_laws.proofs.DocumentRows.{two_of}
+use Rattle.job_laws.proofs.OwnerTexts.{two_of}
 
 -- ---- checks that passed
 
@@ -62,16 +66,12 @@ all_fail test xs e =
 
 -- ---- parties by name
 
-named_below : (n : ℕ) (o : Option ℕ) → ((p : ℕ) → o ≡ Some p → p < n) → is_none o ≡ false → unwrap_or o 0 < n
-named_below n None h e = cc
-named_below n (Some p) h e = h p refl
+some_below : (n : ℕ) (o : Option ℕ) → ((p : ℕ) → o ≡ Some p → p < n) → is_none o ≡ false → unwrap_or o 0 < n
+some_below n None h e = cc
+some_below n (Some p) h e = h p refl
 
 party_below : (names : List (List ℕ)) (text : List ℕ) → is_no_party names text ≡ false → party_of names text < length names
-party_below names text e = named_below (length names) (party_named names text) (λ p is. (position-Some (λ other. bytes_eq other text) names p [] is).0) e
-
-parties_below : (names texts : List (List ℕ)) → AllByRecursion (λ text. is_no_party names text ≡ false) texts → AllByRecursion (λ p. p < length names) (map (party_of names) texts)
-parties_below names [] h = tt
-parties_below names (text ∷ texts) h = (party_below names text h.0, parties_below names texts h.1)
+party_below names text e = some_below (length names) (party_named names text) (named_below names text) e
 
 bad_step : (a b : Bool) (n : ℕ) (rest : Option ℕ) → cond (a || b) (Some n) rest ≡ None → (a ≡ false) × (rest ≡ None)
 bad_step true b n rest e = cc
@@ -124,6 +124,33 @@ products_fit (by_formula formula) s fields e =
     let none = not_known (map field_text (session_fields false)) (field_text Products) fields refl known in
     subst (λ told. HasProducts (by_formula formula) (unwrap_or (cond (is_some told) (are_prepared (text Products fields)) (Some false)) false)) (sym none) tt
 
+-- an owner is told, where there is no fault
+told_within : (P : JobOwner → Type 0) (o : Option JobOwner) (fault : JobFault) → (is_none o answers fault) ≡ None → IfSome o P → P (unwrap_or o (Party 0))
+told_within P None fault e h = cc
+told_within P (Some owner) fault e h = h
+
+owners_within : (two : Bool) (names : List (List ℕ)) (s at : ℕ) (texts : List (List ℕ)) → owners_fault two names s at texts ≡ None
+    → AllByRecursion (IsOwner (length names) s) (map (owner_of two names s) texts)
+unfolding owners_fault
+owners_within two names s at [] e = tt
+owners_within two names s at (text ∷ texts) e =
+    let one = head_passed (owner_fault two names s at text) (owners_fault two names s (at + 1) texts ∷ []) e in
+    let two_passed = head_passed (owners_fault two names s (at + 1) texts) [] one.1 in (
+      told_within (IsOwner (length names) s) (owner_in two names s text) (cond (is_carry two text) (BadCarry s at) (BadOwner s at)) one.0 (owner_within two names s text),
+      owners_within two names s (at + 1) texts two_passed.0,
+    )
+
+-- none is carried in version 1
+party_fits : (formula : List ℕ) (o : Option ℕ) → HasOwner (by_formula formula) (unwrap_or (option_map (λ party. Party party) o) (Party 0))
+party_fits formula None = tt
+party_fits formula (Some p) = tt
+
+owners_fit : (adversary : AdversaryForm) (names : List (List ℕ)) (s : ℕ) (texts : List (List ℕ)) → AllByRecursion (HasOwner adversary) (map (owner_of (two_of adversary) names s) texts)
+unfolding owner_in
+owners_fit adversary names s [] = tt
+owners_fit (by_list masks) names s (text ∷ texts) = (tt, owners_fit (by_list masks) names s texts)
+owners_fit (by_formula formula) names s (text ∷ texts) = (party_fits formula (party_named names text), owners_fit (by_formula formula) names s texts)
+
 module _ (adversary : AdversaryForm) (names : List (List ℕ)) where
   fields_known : (s : ℕ) (fields : Members) → session_fields_fault (two_of adversary) s fields ≡ None → unknown_fault (Some s) (session_fields (two_of adversary)) fields ≡ None
   unfolding session_fields_fault
@@ -131,13 +158,13 @@ module _ (adversary : AdversaryForm) (names : List (List ℕ)) where
       (head_passed (unknown_fault (Some s) (session_fields (two_of adversary)) fields)
       (required_fault (Some s) Circuit fields ∷ required_fault (Some s) Layout fields ∷ optional_fault (Some s) Products fields ∷ required_fault (Some s) Owners fields ∷ required_fault (Some s) Readers fields ∷ []) e).0
 
-  session_within : (s : ℕ) (fields : Members) → session_fields_fault (two_of adversary) s fields ≡ None → session_values_fault (two_of adversary) names s fields ≡ None → IsSessionForm (length names) adversary (session_form (two_of adversary) names fields)
+  session_within : (s : ℕ) (fields : Members) → session_fields_fault (two_of adversary) s fields ≡ None → session_values_fault (two_of adversary) names s fields ≡ None → IsSessionForm (length names) adversary s (session_form (two_of adversary) names s fields)
   unfolding session_values_fault session_form
   session_within s fields there e =
       let name : Option JobFault = not (is_file_name (text Circuit fields)) answers BadFileName s in
       let layout : Option JobFault = is_none (layout_of (two_of adversary) (text Layout fields)) answers BadLayout s in
       let products : Option JobFault = is_none (prepared_in fields) answers BadProducts s in
-      let owners : Option JobFault = option_map (λ at. BadOwner s at) (position (is_no_party names) (texts Owners fields)) in
+      let owners : Option JobFault = owners_fault (two_of adversary) names s 0 (texts Owners fields) in
       let readers : Option JobFault = option_map (λ bad. BadReader s bad.0 bad.1) (bad_in_lists names 0 (lists Readers fields)) in
       let one = head_passed name (layout ∷ products ∷ owners ∷ readers ∷ []) e in
       let two = head_passed layout (products ∷ owners ∷ readers ∷ []) one.1 in
@@ -148,11 +175,13 @@ module _ (adversary : AdversaryForm) (names : List (List ℕ)) where
         circuit = not_false (is_file_name (text Circuit fields)) (not_failed (not (is_file_name (text Circuit fields))) (BadFileName s) one.0);
         layout = layout_fits adversary (text Layout fields);
         products = products_fit adversary s fields (fields_known s fields there);
-        owners = parties_below names (texts Owners fields) (all_fail (is_no_party names) (texts Owners fields) (map_none (λ at. BadOwner s at) (position (is_no_party names) (texts Owners fields)) four.0));
+        owners = owners_within (two_of adversary) names s 0 (texts Owners fields) four.0;
+        carries = owners_fit adversary names s (texts Owners fields);
         readers = masks_below names 0 (lists Readers fields) (map_none (λ bad. BadReader s bad.0 bad.1) (bad_in_lists names 0 (lists Readers fields)) five.0);
       }
 
-  sessions_within : (s : ℕ) (all : List Members) → sessions_fault (two_of adversary) names s all ≡ None → AllByRecursion (IsSessionForm (length names) adversary) (map (session_form (two_of adversary) names) all)
+  sessions_within : (s : ℕ) (all : List Members) → sessions_fault (two_of adversary) names s all ≡ None
+      → AreSessionForms (length names) adversary s (map (λ (t : ℕ × Members). session_form (two_of adversary) names t.0 t.1) (enumerate_from s all))
   unfolding sessions_fault
   sessions_within s [] e = tt
   sessions_within s (fields ∷ rest) e =
@@ -292,7 +321,7 @@ module _ (fields : Members) where
       let bits = number_within 64 (integer RingBits fields) (not_false _ (not_failed (not (is_within (pos 1) (pos 64) (integer RingBits fields))) (BadRing (integer RingBits fields)) four.0)) in
       let names : AreNames (texts Parties fields) = no_fault_tells (texts Parties fields) (map_none (λ fault. Names fault) (names_fault (texts Parties fields)) five.0) in
       let sessions_are = session_count (length (items Session fields)) seven.0 in
-      let long : length (job_form fields).sessions ≡ length (items Session fields) = length_same (session_form (is_version_two fields) (texts Parties fields)) (tables Session fields) ∙ length_same fields_of (items Session fields) in
+      let long : length (job_form fields).sessions ≡ length (items Session fields) = length_same (λ (t : ℕ × Members). session_form (is_version_two fields) (texts Parties fields) t.0 t.1) (enumerate_from 0 (tables Session fields)) ∙ length-enumerate_from 0 (tables Session fields) ∙ length_same fields_of (items Session fields) in
       let same = adversary_is (is_version_two fields) refl in (
         record {
           some_bits = bits.0;
@@ -307,7 +336,7 @@ module _ (fields : Members) where
           };
           some_sessions = omega (arith, sessions_are.0, long);
           few_sessions = omega (arith, sessions_are.1, long);
-          sessions = subst (λ b. AllByRecursion (IsSessionForm (length (texts Parties fields)) (adversary_form fields)) (map (session_form b (texts Parties fields)) (tables Session fields))) same
+          sessions = subst (λ b. AreSessionForms (length (texts Parties fields)) (adversary_form fields) 0 (session_forms b (texts Parties fields) (tables Session fields))) same
               (sessions_within (adversary_form fields) (texts Parties fields) 0 (tables Session fields)
               (subst (λ b. sessions_fault b (texts Parties fields) 0 (tables Session fields) ≡ None) (sym same) eight.0));
         },

@@ -1,6 +1,6 @@
 -- Jobs within the limits, and the document of each.
-use Rattle.std.specs.Prelude.{◌≡◌, ◌≢◌, ◌⊎◌, ℕ, zero, suc, ◌^◌, ◌<◌, ◌≤◌, Bool, true, false, pos, List, [], ◌∷◌, length, map, codes, Option, Some, None, Ok}
-use Rattle.std.specs.List.{AllByRecursion}
+use Rattle.std.specs.Prelude.{◌≡◌, ◌≢◌, ◌⊎◌, ℕ, zero, suc, ◌^◌, ◌<◌, ◌≤◌, Bool, true, false, pos, List, [], ◌∷◌, ◌++◌, length, map, codes, decimal, Option, Some, None, Ok}
+use Rattle.std.specs.List.{AllByRecursion, enumerate_from}
 use Rattle.std.specs.Str.{IsUtf8}
 use Rattle.toml.specs.Data.{Data, string, integer, array, table, Items, no_items, item, Members, no_members, member}
 use Rattle.toml.specs.Text.{IsDocumentText}
@@ -12,7 +12,10 @@ use Rattle.job_file.specs.declared.field.Field.{Field}
 use Rattle.job_file.specs.declared.field.Field.TheVariants.{Version, RingBits, Parties, Formula, Tolerated, Hosts, Port, Session, Circuit, Layout, Products, Owners, Readers}
 use Rattle.job_file.specs.declared.layout.SessionLayout.{SessionLayout}
 use Rattle.job_file.specs.declared.layout.SessionLayout.TheVariants.{Gates, Expressions}
+use Rattle.job_file.specs.declared.owner.JobOwner.{JobOwner}
+use Rattle.job_file.specs.declared.owner.JobOwner.TheVariants.{Party, Carried}
 use Rattle.job_file.specs.Names.{field_text, is_file_name, is_host}
+use Rattle.job_file.specs.Owners.{IsOwner}
 use Rattle.job_file.specs.Forms.{JobForm, SessionForm, AdversaryForm, by_formula, by_list}
 use Rattle.job_file.specs.Faults.{job_in}
 
@@ -53,12 +56,17 @@ abbrev pub products_data : Bool → Option Data
 products_data true = Some (string (codes "prepared"))
 products_data false = None
 
+-- how an owner is named: a party by its name, a carried value by its session and its number there
+abbrev pub owner_text : List (List ℕ) → JobOwner → List ℕ
+owner_text names (Party party) = name_at names party
+owner_text names (Carried session value) = codes "@" ++ (decimal session ++ (codes "." ++ decimal value))
+
 -- the fields of a session's table, in the order of their names' bytes
 abbrev pub session_fields_of : List (List ℕ) → SessionForm → Members
 session_fields_of names s =
     with_field Circuit (Some (string s.circuit))
     (with_field Layout (Some (string (layout_text s.layout)))
-    (with_field Owners (Some (texts_data (map (name_at names) s.owners)))
+    (with_field Owners (Some (texts_data (map (owner_text names) s.owners)))
     (with_field Products (products_data s.prepared)
     (with_field Readers (Some (groups_data names s.readers)) no_members))))
 
@@ -114,13 +122,24 @@ abbrev pub HasProducts : AdversaryForm → Bool → Type 0
 HasProducts (by_formula text) true = ⊥
 HasProducts _ _ = Unit {0}
 
--- a session of so many parties
-pub record IsSessionForm (n : ℕ) (adversary : AdversaryForm) (s : SessionForm) : Type 0 where
+-- and so do carried values
+abbrev pub HasOwner : AdversaryForm → JobOwner → Type 0
+HasOwner (by_formula text) (Carried session value) = ⊥
+HasOwner _ _ = Unit {0}
+
+-- the session of this number among so many parties
+pub record IsSessionForm (n : ℕ) (adversary : AdversaryForm) (number : ℕ) (s : SessionForm) : Type 0 where
   pub circuit : is_file_name s.circuit ≡ true
   pub layout : HasLayout adversary s.layout
   pub products : HasProducts adversary s.prepared
-  pub owners : AllByRecursion (λ p. p < n) s.owners
+  pub owners : AllByRecursion (IsOwner n number) s.owners
+  pub carries : AllByRecursion (HasOwner adversary) s.owners
   pub readers : AllByRecursion (λ mask. mask < 2 ^ n) s.readers
+
+-- such sessions, of which the first has this number
+abbrev pub AreSessionForms : ℕ → AdversaryForm → ℕ → List SessionForm → Type 0
+AreSessionForms n adversary number sessions =
+    AllByRecursion (λ session. IsSessionForm n adversary session.0 session.1) (enumerate_from number sessions)
 
 -- at most 4,096 listed groups, of so many parties
 abbrev pub HasGroups : ℕ → AdversaryForm → Type 0
@@ -147,7 +166,7 @@ pub record IsJobForm (node : Bool) (job : JobForm) : Type 0 where
   pub peers : node ≡ true → HasPeers job
   pub some_sessions : 1 ≤ length job.sessions
   pub few_sessions : length job.sessions ≤ 16
-  pub sessions : AllByRecursion (IsSessionForm (length job.names) job.adversary) job.sessions
+  pub sessions : AreSessionForms (length job.names) job.adversary 0 job.sessions
 
 -- ---- the laws
 

@@ -6,7 +6,7 @@ use Rattle.list_laws.proofs.JoinedLists.{total_within}
 use Rattle.secret_sharing.specs.Schemes.{has_pair}
 use Rattle.job_session.specs.declared.side.Side.TheVariants.{First, Second}
 use Rattle.job_session.specs.Sessions.{Session, Slot}
-use Rattle.job_session.specs.Sessions.Slot.{Input, At_gate, Output, Mask, Mask_product, Masked}
+use Rattle.job_session.specs.Sessions.Slot.{Input, At_gate, Output, Mask, Mask_product, Masked, Kept}
 use Rattle.job_session.specs.SoundSessions.{Inside}
 use Rattle.job_session.specs.SlotNumbers.{prepared_before}
 use Rattle.job_session.specs.Counts.{prepared_products}
@@ -66,6 +66,7 @@ module _ (plan : Plan) (p s : ℕ) where
       at (Masked t Second) inside e l = absurd (omega (arith, l))
       at (At_gate t) inside e l = absurd (omega (arith, l))
       at (Output o) inside e l = absurd (omega (arith, l))
+      at (Kept j) inside e l = absurd (omega (arith, l))
 
   behind_within : behind ≤ slots plan s
   behind_within = omega (arith, (slots_are_numbered x).count)

@@ -5,17 +5,19 @@ use Rattle.std.specs.List.{AllByRecursion}
 use Rattle.std.proofs.lemmas.Bool.{and_parts, and_from, eq-eqb, eqb-true, false_from_ne_true}
 use Rattle.std.proofs.lemmas.List.Sums.{position_or_len_is, passes_at_first}
 use Rattle.list_laws.specs.Lists.{joined, listed, only_if}
-use Rattle.job_session.specs.Sessions.{Slot}
-use Rattle.job_plan.specs.Plans.{Plan, slot, slots, giver, least_holder, words_in, deals_in, opens_to}
+use Rattle.job_session.specs.declared.source.Source.{Source}
+use Rattle.job_session.specs.declared.source.Source.TheVariants.{Given, Carried}
+use Rattle.job_session.specs.Sessions.{Slot, source}
+use Rattle.job_plan.specs.Plans.{Plan, session, slot, slots, least_holder, words_in, deals_in, opens_to}
 use Rattle.job_plan.specs.declared.key.Key.{Key}
-use Rattle.job_plan.specs.Messages.{messages, slot_messages, deal_message, open_messages, product_messages}
-use Rattle.job_session.specs.Sessions.Slot.{Input, At_gate, Output, Mask, Mask_product, Masked}
+use Rattle.job_plan.specs.Messages.{messages, slot_messages, deal_message, input_messages, kept_messages, open_messages, product_messages}
+use Rattle.job_session.specs.Sessions.Slot.{Input, At_gate, Output, Mask, Mask_product, Masked, Kept}
 use Rattle.job_plan.specs.Numbers.{same_key, no_key, message, number, NumbersAreInverse, PlacesDiffer}
 use Rattle.list_laws.proofs.JoinedLists.{every_append, every_joined, every_only_if, every_weaker, laid_at}
 
 -- ---- lists whose elements differ
 
-abbrev Distinct : {A : Type 0} → List A → Type 0
+abbrev pub Distinct : {A : Type 0} → List A → Type 0
 Distinct [] = Unit {0}
 Distinct (x ∷ xs) = AllByRecursion (λ y. x ≢ y) xs × Distinct xs
 
@@ -25,7 +27,7 @@ distinct_append tag n (x ∷ xs) ys a b d e =
     (every_append (λ y. x ≢ y) xs ys d.0 (every_weaker (λ y. tag y ≡ n) (λ y. x ≢ y) ys (λ y h same. omega (arith, a.0, h, ap tag same)) b), distinct_append tag n xs ys a.1 b d.1 e)
 
 -- parts with a tag of their own
-distinct_joined : {A : Type 0} (tag : A → ℕ) (n : ℕ) (f : ℕ → List A) → ((k : ℕ) → k < n → Distinct (f k)) → ((k : ℕ) → k < n → AllByRecursion (λ x. tag x ≡ k) (f k)) → Distinct (joined n f)
+pub distinct_joined : {A : Type 0} (tag : A → ℕ) (n : ℕ) (f : ℕ → List A) → ((k : ℕ) → k < n → Distinct (f k)) → ((k : ℕ) → k < n → AllByRecursion (λ x. tag x ≡ k) (f k)) → Distinct (joined n f)
 distinct_joined tag zero f d t = tt
 distinct_joined tag (suc n) f d t =
     distinct_append tag n (joined n f) (f n)
@@ -83,13 +85,21 @@ module _ (P : Key → Type 0) (plan : Plan) (s k : ℕ) (h : (i p q : ℕ) → i
   every_product : (z : Slot) → AllByRecursion P (product_messages plan s k z)
   every_product z = every_joined P plan.parties _ (λ p lp. every_only_if P (deals_in plan s p z) _ (λ e. every_row (λ i. p)))
 
+  every_input : (from : Source) → AllByRecursion P (input_messages plan s k from)
+  every_input (Given p) = every_row (λ i. p)
+  every_input (Carried r c i) = tt
+
+  every_kept : AllByRecursion P (kept_messages plan s k)
+  every_kept = every_joined P (length plan.groups) _ (λ i li. every_joined P plan.parties _ (λ p lp. every_one P _ _ (h i p p li)))
+
   pub every_summand : (z : Slot) → AllByRecursion P (slot_messages plan s k z)
-  every_summand (Input v) = every_row (λ i. giver plan s v)
+  every_summand (Input v) = every_input (source (session plan s) v)
   every_summand (At_gate t) = every_product (At_gate t)
   every_summand (Output o) = every_joined P plan.parties _ (λ r lr. every_only_if P (opens_to plan s r (Output o)) _ (λ e. every_open r))
   every_summand (Mask t side) = every_row (least_holder plan)
   every_summand (Mask_product t) = every_product (Mask_product t)
   every_summand (Masked t side) = every_joined P plan.parties _ (λ r lr. every_open r)
+  every_summand (Kept j) = every_kept
 
 pub every_slot : (P : Key → Type 0) (plan : Plan) (s k : ℕ) (z : Slot) → ((i p q : ℕ) → P (record { session = s; slot = k; share = i; sender = p; receiver = q })) → AllByRecursion P (slot_messages plan s k z)
 every_slot P plan s k z h = every_summand P plan s k (λ i p q li. h i p q) z
@@ -105,13 +115,24 @@ opens_distinct plan s k wanted =
     distinct_joined (λ x. x.receiver) plan.parties _ (λ r lr. distinct_only_if (wanted r) _ (open_distinct plan s k r))
     (λ r lr. every_only_if (λ x. x.receiver ≡ r) (wanted r) _ (λ e. every_joined (λ x. x.receiver ≡ r) (length plan.groups) _ (λ i li. every_one (λ x. x.receiver ≡ r) _ _ refl)))
 
+input_distinct : (plan : Plan) (s k : ℕ) (from : Source) → Distinct (input_messages plan s k from)
+input_distinct plan s k (Given p) = rows_distinct plan s k (λ i. p)
+input_distinct plan s k (Carried r c i) = tt
+
+kept_distinct : (plan : Plan) (s k : ℕ) → Distinct (kept_messages plan s k)
+kept_distinct plan s k =
+    distinct_joined (λ x. x.share) (length plan.groups) _
+    (λ i li. distinct_joined (λ x. x.receiver) plan.parties _ (λ p lp. distinct_one _ _) (λ p lp. every_one (λ x. x.receiver ≡ p) _ _ refl))
+    (λ i li. every_joined (λ x. x.share ≡ i) plan.parties _ (λ p lp. every_one (λ x. x.share ≡ i) _ _ refl))
+
 slot_distinct : (plan : Plan) (s k : ℕ) (z : Slot) → Distinct (slot_messages plan s k z)
-slot_distinct plan s k (Input v) = rows_distinct plan s k (λ i. giver plan s v)
+slot_distinct plan s k (Input v) = input_distinct plan s k (source (session plan s) v)
 slot_distinct plan s k (At_gate t) = product_distinct plan s k (At_gate t)
 slot_distinct plan s k (Output o) = opens_distinct plan s k (λ r. opens_to plan s r (Output o))
 slot_distinct plan s k (Mask t side) = rows_distinct plan s k (least_holder plan)
 slot_distinct plan s k (Mask_product t) = product_distinct plan s k (Mask_product t)
 slot_distinct plan s k (Masked t side) = opens_distinct plan s k (λ r. true)
+slot_distinct plan s k (Kept j) = kept_distinct plan s k
 
 messages_distinct : (plan : Plan) → Distinct (messages plan)
 messages_distinct plan =

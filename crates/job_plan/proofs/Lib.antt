@@ -4,6 +4,8 @@ pub mod SlotSums
 pub mod DistinctMessages
 pub mod SlotMessages
 pub mod TallyLaws
+pub mod KeptSessions
+pub mod KeptPlaces
 pub mod SlotPatterns
 pub mod SlotStarts
 pub mod GrownLists

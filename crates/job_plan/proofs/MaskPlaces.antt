@@ -7,7 +7,7 @@ use Rattle.list_laws.proofs.Totals.{total_more}
 use Rattle.secret_sharing.specs.Schemes.{has_pair}
 use Rattle.job_session.specs.declared.side.Side.TheVariants.{First, Second}
 use Rattle.job_session.specs.Sessions.{Session, Slot, is_prepared}
-use Rattle.job_session.specs.Sessions.Slot.{Input, At_gate, Output, Mask, Mask_product, Masked}
+use Rattle.job_session.specs.Sessions.Slot.{Input, At_gate, Output, Mask, Mask_product, Masked, Kept}
 use Rattle.job_session.specs.SoundSessions.{Inside}
 use Rattle.job_session.specs.SlotNumbers.{prepared_before}
 use Rattle.job_session.proofs.SessionSlots.{slot_kinds, slots_are_numbered}
@@ -103,6 +103,7 @@ module _ (plan : Plan) (p s : ℕ) where
       at (Output o) inside e = no_mask e
       at (Mask_product t) inside e = no_mask e
       at (Masked t side) inside e = no_mask e
+      at (Kept j) inside e = no_mask e
 
   -- where p draws so many words for a mask, and so many for a product
   pub mask_place : (k for_mask for_product : ℕ) → k < slots plan s → is_mask (slot plan s k) ≡ true → for_mask ≡ least_held plan p (length plan.groups)

@@ -12,7 +12,7 @@ use Rattle.job_plan.specs.Plans.{Plan, structure, holds, duty, scheme, least_par
 use Rattle.std.specs.List.{range_with_len}
 
 pub plan_is : (plan : Plan) → IsSound plan → IsPlan plan
-plan_is plan h = record { bits = h.some_bits; groups = h.some_groups; q2 = h.q2 }
+plan_is plan h = record { bits = h.some_bits; groups = h.some_groups; q2 = h.q2; earlier = h.earlier; kept = h.kept }
 
 pub least_party_is : (plan : Plan) (test : ℕ → Bool) (p : ℕ) → p < plan.parties → test p ≡ true → (least_party plan test < plan.parties) × (test (least_party plan test) ≡ true)
 least_party_is plan test p l e = elim (cases_lt (least_party plan test) plan.parties) [

@@ -9,10 +9,10 @@ use Rattle.job_plan.specs.declared.pattern.Line.{Line}
 use Rattle.job_plan.specs.declared.pattern.LineOrder.{LineOrder}
 use Rattle.job_plan.specs.declared.pattern.LineOrder.TheVariants.{BySender, BySummand, ByReceiver}
 use Rattle.job_plan.specs.declared.pattern.Pattern.{Pattern}
-use Rattle.job_plan.specs.declared.pattern.Pattern.TheVariants.{Silent, Dealt, Multiplied, Opened, HandedOut, OpenedToAll, Joined}
+use Rattle.job_plan.specs.declared.pattern.Pattern.TheVariants.{Silent, Dealt, Multiplied, Opened, HandedOut, OpenedToAll, Joined, Held, Received}
 use Rattle.job_plan.specs.Plans.{Plan, scheme, holds, least_holder}
 use Rattle.job_plan.specs.Numbers.{rank, IsRising}
-use Rattle.job_plan.specs.Patterns.{named, deal_line, deal_lines, open_lines, lines, order_of}
+use Rattle.job_plan.specs.Patterns.{named, deal_line, deal_lines, held_line, open_lines, lines, order_of}
 use Rattle.job_plan.proofs.RankSearch.{no_line, named_at}
 use Rattle.job_plan.proofs.SlotPatterns.{open_line}
 
@@ -85,6 +85,13 @@ module _ (plan : Plan) (s k : ℕ) (parties : plan.parties ≤ 12) (shares : len
   opens_at : (r : ℕ) → Rise (rank_of ByReceiver) (0 + r * 64) (0 + r * 64 + 64) (open_lines plan r)
   opens_at r = let none : r * 64 ≡ 0 + r * 64 = omega arith in subst (λ z. Rise (rank_of ByReceiver) z (z + 64) (open_lines plan r)) none (open_rises r)
 
+  -- one summand of a kept wire
+  holders_rise : (i : ℕ) → Rise (rank_of BySummand) (0 + i * 12) (0 + i * 12 + 12) (joined plan.parties (held_line plan i))
+  holders_rise i =
+      let base = 0 + i * 12 in
+      rise_wider (rank_of BySummand) base (base + plan.parties * 1) (base + 12) (joined plan.parties (held_line plan i)) (omega arith)
+      (rise_joined (rank_of BySummand) base 1 plan.parties (held_line plan i) (λ p lp. rise_one (rank_of BySummand) (base + p * 1) (base + p * 1 + 1) (holds plan p i) _ (omega arith) (omega arith)))
+
   pattern_rises : (pattern : Pattern) → (lo : ℕ) × (hi : ℕ) × Rise (rank_of (order_of pattern)) lo hi (lines plan pattern)
   pattern_rises Silent = (0, 0, omega arith)
   pattern_rises (Dealt p) = (p * 768, p * 768 + 768, deal_rises p)
@@ -105,6 +112,8 @@ module _ (plan : Plan) (s k : ℕ) (parties : plan.parties ≤ 12) (shares : len
   )
   pattern_rises OpenedToAll = (0, 0 + plan.parties * 64, rise_joined (rank_of ByReceiver) 0 64 plan.parties (open_lines plan) (λ r lr. opens_at r))
   pattern_rises Joined = (0, 0, omega arith)
+  pattern_rises Held = (0, 0 + length plan.groups * 12, rise_joined (rank_of BySummand) 0 12 (length plan.groups) (λ i. joined plan.parties (held_line plan i)) (λ i li. holders_rise i))
+  pattern_rises Received = (0, 0, omega arith)
 
   -- in the order of the pattern
   pub lines_rise : (pattern : Pattern) → IsRising (rank (order_of pattern)) (map (named s k) (lines plan pattern))

@@ -8,12 +8,14 @@ use Rattle.secret_sharing.specs.Schemes.{has_pair}
 use Rattle.party_set.specs.Parties.{has_party}
 use Rattle.job_plan.specs.declared.key.Key.{Key}
 use Rattle.job_plan.specs.declared.pattern.Line.{Line}
-use Rattle.job_plan.specs.declared.pattern.Pattern.TheVariants.{Silent, Multiplied, Joined}
-use Rattle.job_session.specs.Sessions.{Slot, readers, is_direct, is_prepared}
-use Rattle.job_plan.specs.Plans.{Plan, holds, least_holder, scheme, session, giver}
-use Rattle.job_session.specs.Sessions.Slot.{Input, At_gate, Output, Mask, Mask_product, Masked}
-use Rattle.job_plan.specs.Messages.{deal_message, deal_messages, open_messages, slot_messages}
-use Rattle.job_plan.specs.Patterns.{named, deal_line, deal_lines, open_lines, lines, pattern, SlotsFollowPatterns}
+use Rattle.job_plan.specs.declared.pattern.Pattern.TheVariants.{Silent, Multiplied, Joined, Held}
+use Rattle.job_session.specs.declared.source.Source.{Source}
+use Rattle.job_session.specs.declared.source.Source.TheVariants.{Given, Carried}
+use Rattle.job_session.specs.Sessions.{Slot, readers, is_direct, is_prepared, source}
+use Rattle.job_plan.specs.Plans.{Plan, holds, least_holder, scheme, session}
+use Rattle.job_session.specs.Sessions.Slot.{Input, At_gate, Output, Mask, Mask_product, Masked, Kept}
+use Rattle.job_plan.specs.Messages.{deal_message, deal_messages, input_messages, kept_messages, open_messages, slot_messages}
+use Rattle.job_plan.specs.Patterns.{named, deal_line, deal_lines, held_line, input_pattern, open_lines, lines, pattern, SlotsFollowPatterns}
 
 map_joined : {A B : Type 0} (f : A → B) (n : ℕ) (g : ℕ → List A) → map f (joined n g) ≡ joined n (λ k. map f (g k))
 map_joined f zero g = refl
@@ -23,7 +25,7 @@ pub map_only_if : {A B : Type 0} (f : A → B) (b : Bool) (xs : List A) → map 
 map_only_if f true xs = refl
 map_only_if f false xs = refl
 
-none_joined : {A : Type 0} (n : ℕ) (f : ℕ → List A) → ((k : ℕ) → f k ≡ []) → joined n f ≡ []
+pub none_joined : {A : Type 0} (n : ℕ) (f : ℕ → List A) → ((k : ℕ) → f k ≡ []) → joined n f ≡ []
 none_joined zero f h = refl
 none_joined (suc n) f h = ap₂ (λ x y. x ++ y) (none_joined n f h) (h n)
 
@@ -61,13 +63,24 @@ module _ (plan : Plan) (s k : ℕ) where
   gate_is false true = none_joined plan.parties _ (λ p. refl)
   gate_is false false = none_joined plan.parties _ (λ p. refl)
 
+  input_is : (from : Source) → input_messages plan s k from ≡ map at (lines plan (input_pattern from))
+  input_is (Given p) = deals_are p
+  input_is (Carried r c i) = refl
+
+  kept_is : kept_messages plan s k ≡ map at (lines plan Held)
+  kept_is =
+      let cell : ℕ → ℕ → Line = λ i p. record { share = i; sender = p; receiver = p } in
+      joined_eq (length plan.groups) _ _ (λ i li. parts plan.parties (λ p. holds plan p i) (λ p. at (cell i p) ∷ []) (λ p. cell i p ∷ []) (λ p. refl))
+      ∙ sym (map_joined at (length plan.groups) (λ i. joined plan.parties (held_line plan i)))
+
   follow : (z : Slot) → slot_messages plan s k z ≡ map at (lines plan (pattern plan s z))
-  follow (Input v) = deals_are (giver plan s v)
+  follow (Input v) = input_is (source (session plan s) v)
   follow (At_gate t) = gate_is (is_direct (session plan s) t) (is_prepared (session plan s) t)
   follow (Output o) = parts plan.parties (has_party (slice_index (readers (session plan s)) o)) (open_messages plan s k) (open_lines plan) opens_are
   follow (Mask t side) = rows (least_holder plan)
   follow (Mask_product t) = parts plan.parties (has_pair (scheme plan)) (deal_messages plan s k) (deal_lines plan) deals_are
   follow (Masked t side) = joined_eq plan.parties _ _ (λ r l. opens_are r) ∙ sym (map_joined at plan.parties (open_lines plan))
+  follow (Kept j) = kept_is
 
 pub slots_follow_patterns : (plan : Plan) → SlotsFollowPatterns plan
 slots_follow_patterns plan s k z = follow plan s k z

@@ -1,17 +1,13 @@
 -- Sums over the slots of a session, kind by kind.
-use Rattle.std.proofs.Common.{◌≡◌, ℕ, zero, suc, ◌+◌, ◌*◌, ◌≤◌, Bool, true, false, not, ◌&&◌, if◌then◌else◌, List, [], ◌∷◌, ◌++◌, take, length, refl, ap, ap₂, ◌∙◌, arith}
-use Rattle.std.specs.Prelude.{slice_index_or, count_by}
-use Rattle.std.proofs.lemmas.Bool.{cases_Bool, cond-true, cond-false}
-use Rattle.std.proofs.Math.Seq.{take-length}
-use Rattle.std.proofs.lemmas.List.Sums.{count_by_more_yes, count_by_more_no}
-use mathlib.Core.Logic.{inl, inr}
+use Rattle.std.proofs.Common.{◌≡◌, ℕ, zero, suc, ◌+◌, ◌*◌, Bool, true, false, not, ◌&&◌, if◌then◌else◌, List, [], ◌∷◌, ◌++◌, length, refl, ap, ap₂, ◌∙◌, arith}
+use Rattle.std.specs.Prelude.{slice_index_or}
 use Rattle.list_laws.specs.Lists.{total, joined, listed, only_if}
 use Rattle.list_laws.proofs.Totals.{total_eq, total_zero, total_mul_left, total_count}
 use Rattle.circuit_model.specs.declared.gate.Gate.{Gate}
 use Rattle.circuit_model.specs.Circuits.{is_product}
 use Rattle.job_session.specs.declared.side.Side.TheVariants.{First, Second}
 use Rattle.job_session.specs.Sessions.{Session, Slot, owners, readers, gate, no_gate, is_prepared, is_direct, prepared_slots, gate_slots, slot_list, session_slot, session_slots}
-use Rattle.job_session.specs.Sessions.Slot.{Input, At_gate, Output, Mask, Mask_product, Masked}
+use Rattle.job_session.specs.Sessions.Slot.{Input, At_gate, Output, Mask, Mask_product, Masked, Kept}
 use Rattle.job_session.specs.Counts.{products, prepared_products}
 
 -- ---- counts as sums
@@ -58,16 +54,17 @@ sum_of_masks s f = total (length s.gates) (λ t. if is_prepared s t then f (Mask
 abbrev pub sum_of_gates : Session → (Slot → ℕ) → ℕ
 sum_of_gates s f = total (length s.gates) (λ t. (if is_prepared s t then f (Masked t First) + f (Masked t Second) else 0) + f (At_gate t))
 
-list_is : (s : Session) → slot_list s ≡ prepared_slots s ++ (listed (length (owners s)) (λ v. Input v) ++ (gate_slots s ++ listed (length (readers s)) (λ o. Output o)))
+list_is : (s : Session) → slot_list s ≡ prepared_slots s ++ (listed (length (owners s)) (λ v. Input v) ++ (gate_slots s ++ (listed (length (readers s)) (λ o. Output o) ++ listed (length s.kept) (λ j. Kept j))))
 unfolding slot_list
 list_is s = refl
 
 -- a sum over the slots by their kinds
 pub by_kind : (s : Session) (f : Slot → ℕ) → total (session_slots s) (λ k. f (session_slot s k))
-    ≡ sum_of_masks s f + total (length (owners s)) (λ v. f (Input v)) + sum_of_gates s f + total (length (readers s)) (λ o. f (Output o))
+    ≡ sum_of_masks s f + total (length (owners s)) (λ v. f (Input v)) + sum_of_gates s f + total (length (readers s)) (λ o. f (Output o)) + total (length s.kept) (λ j. f (Kept j))
 by_kind s f =
     let inputs = listed (length (owners s)) (λ v. Input v) in
     let outputs = listed (length (readers s)) (λ o. Output o) in
+    let kept = listed (length s.kept) (λ j. Kept j) in
     let masks : summed f (prepared_slots s) ≡ sum_of_masks s f =
     summed_joined f (length s.gates) _
     ∙ total_eq (length s.gates) _ _ (λ t l. summed_if f (is_prepared s t) _ ∙ ap (λ n. if is_prepared s t then n else 0) (omega arith)) in
@@ -76,18 +73,20 @@ by_kind s f =
     ∙ total_eq (length s.gates) _ _ (λ t l.
     summed_append f (only_if (is_prepared s t) (Masked t First ∷ Masked t Second ∷ [])) (At_gate t ∷ [])
     ∙ ap₂ (λ a b. a + b) (summed_if f (is_prepared s t) _ ∙ ap (λ n. if is_prepared s t then n else 0) (omega arith)) (omega arith)) in
-    let parts : summed f (slot_list s) ≡ summed f (prepared_slots s ++ (inputs ++ (gate_slots s ++ outputs))) = ap (summed f) (list_is s) in
+    let parts : summed f (slot_list s) ≡ summed f (prepared_slots s ++ (inputs ++ (gate_slots s ++ (outputs ++ kept)))) = ap (summed f) (list_is s) in
     summed_places f (Output (length (readers s))) (slot_list s)
     ∙ omega (
       arith,
       parts,
-      summed_append f (prepared_slots s) (inputs ++ (gate_slots s ++ outputs)),
-      summed_append f inputs (gate_slots s ++ outputs),
-      summed_append f (gate_slots s) outputs,
+      summed_append f (prepared_slots s) (inputs ++ (gate_slots s ++ (outputs ++ kept))),
+      summed_append f inputs (gate_slots s ++ (outputs ++ kept)),
+      summed_append f (gate_slots s) (outputs ++ kept),
+      summed_append f outputs kept,
       masks,
       summed_listed f (length (owners s)) (λ v. Input v),
       gates,
       summed_listed f (length (readers s)) (λ o. Output o),
+      summed_listed f (length s.kept) (λ j. Kept j),
     )
 
 -- ---- how many slots pass a test

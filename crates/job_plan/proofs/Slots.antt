@@ -17,5 +17,5 @@ few_prepared s (suc t) = (let one = at_most_one (is_prepared s t) in omega (arit
     at_most_one true = omega arith
     at_most_one false = omega arith
 
-pub few_slots : (s : Session) → IsWired s → session_slots s ≤ 655360
-few_slots s h = omega (arith, h.wires, h.gates, h.input_wires, h.output_wires, few_prepared s (length s.gates), (slots_are_numbered s).count)
+pub few_slots : (s : Session) → IsWired s → session_slots s ≤ 2752512
+few_slots s h = omega (arith, h.wires, h.gates, h.input_wires, h.output_wires, few_prepared s (length s.gates), h.kept.few, (slots_are_numbered s).count)

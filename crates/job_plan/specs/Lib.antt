@@ -1,4 +1,5 @@
 pub mod Plans
+pub mod Keeping
 pub mod Messages
 pub mod Patterns
 pub mod Tables

@@ -2,9 +2,11 @@
 use Rattle.std.specs.Prelude.{ℕ, ◌&&◌, not, nat_eq, List, [], ◌∷◌, length}
 use Rattle.list_laws.specs.Lists.{joined, only_if}
 use Rattle.job_plan.specs.declared.key.Key.{Key}
-use Rattle.job_session.specs.Sessions.{Slot}
-use Rattle.job_plan.specs.Plans.{Plan, holds, least_holder, deals_in, slot, slots, opens_to, giver}
-use Rattle.job_session.specs.Sessions.Slot.{Input, At_gate, Output, Mask, Mask_product, Masked}
+use Rattle.job_session.specs.declared.source.Source.{Source}
+use Rattle.job_session.specs.declared.source.Source.TheVariants.{Given, Carried}
+use Rattle.job_session.specs.Sessions.{Slot, source}
+use Rattle.job_session.specs.Sessions.Slot.{Input, At_gate, Output, Mask, Mask_product, Masked, Kept}
+use Rattle.job_plan.specs.Plans.{Plan, holds, least_holder, deals_in, session, slot, slots, opens_to}
 
 -- summand i of a deal of p, to party q: a message where q is another party that holds it
 abbrev pub deal_message : Plan → ℕ → ℕ → ℕ → ℕ → ℕ → List Key
@@ -22,6 +24,11 @@ open_messages plan s k r =
     joined (length plan.groups) (λ i. only_if (not (holds plan r i))
     (record { session = s; slot = k; share = i; sender = least_holder plan i; receiver = r } ∷ []))
 
+-- an input that a party gives is dealt by it; one that is carried has no messages
+abbrev pub input_messages : Plan → ℕ → ℕ → Source → List Key
+input_messages plan s k (Given p) = deal_messages plan s k p
+input_messages plan s k (Carried r c i) = []
+
 -- a deal by each party that deals in the slot
 abbrev pub product_messages : Plan → ℕ → ℕ → Slot → List Key
 product_messages plan s k z = joined plan.parties (λ p. only_if (deals_in plan s p z) (deal_messages plan s k p))
@@ -31,16 +38,26 @@ abbrev pub mask_messages : Plan → ℕ → ℕ → List Key
 mask_messages plan s k =
     joined (length plan.groups) (λ i. joined plan.parties (deal_message plan s k (least_holder plan i) i))
 
--- an input is dealt by its owner, a product by each party that has a pair, an output is opened to each reader, and a
--- masked wire to all
+-- summand i of a kept wire, from party p to itself: a message where p holds it
+abbrev pub kept_message : Plan → ℕ → ℕ → ℕ → ℕ → List Key
+kept_message plan s k i p =
+    only_if (holds plan p i) (record { session = s; slot = k; share = i; sender = p; receiver = p } ∷ [])
+
+-- a kept wire: each summand from each party that holds it to itself
+abbrev pub kept_messages : Plan → ℕ → ℕ → List Key
+kept_messages plan s k = joined (length plan.groups) (λ i. joined plan.parties (kept_message plan s k i))
+
+-- an input is dealt by the party that gives it, a product by each party that has a pair, an output is opened to each
+-- reader, and a masked wire to all; a kept wire is kept by its holders
 abbrev pub slot_messages : Plan → ℕ → ℕ → Slot → List Key
-slot_messages plan s k (Input v) = deal_messages plan s k (giver plan s v)
+slot_messages plan s k (Input v) = input_messages plan s k (source (session plan s) v)
 slot_messages plan s k (At_gate t) = product_messages plan s k (At_gate t)
 slot_messages plan s k (Output o) =
     joined plan.parties (λ r. only_if (opens_to plan s r (Output o)) (open_messages plan s k r))
 slot_messages plan s k (Mask t side) = mask_messages plan s k
 slot_messages plan s k (Mask_product t) = product_messages plan s k (Mask_product t)
 slot_messages plan s k (Masked t side) = joined plan.parties (open_messages plan s k)
+slot_messages plan s k (Kept j) = kept_messages plan s k
 
 -- the messages of session s, slot by slot
 abbrev pub session_messages : Plan → ℕ → List Key

@@ -3,6 +3,7 @@
 use Rattle.std.specs.Prelude.{ℕ, false, [], ◌∷◌}
 use Rattle.circuit_model.specs.declared.gate.Operation.TheVariants.{Mul}
 use Rattle.party_set.specs.Parties.{Structure}
+use Rattle.job_session.specs.declared.values.Owner.TheVariants.{Party}
 use Rattle.job_session.specs.Sessions.{Session}
 use Rattle.job_plan.specs.Plans.{Plan, plan_of}
 
@@ -15,9 +16,10 @@ abbrev pub multiply_session : Session
 multiply_session = record {
   gates = record { operation = Mul; first = 0; second = 1; output = 2; constant = 0 } ∷ [];
   wires = 3;
-  inputs = record { width = 1; owner = 0 } ∷ record { width = 1; owner = 1 } ∷ [];
+  inputs = record { width = 1; owner = Party 0 } ∷ record { width = 1; owner = Party 1 } ∷ [];
   outputs = record { width = 1; readers = record { parties = 3; mask = 4 } } ∷ [];
   prepared = false;
+  kept = [];
 }
 
 -- in the ring of so many bits

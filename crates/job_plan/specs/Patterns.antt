@@ -8,10 +8,12 @@ use Rattle.job_plan.specs.declared.pattern.Line.{Line}
 use Rattle.job_plan.specs.declared.pattern.LineOrder.{LineOrder}
 use Rattle.job_plan.specs.declared.pattern.LineOrder.TheVariants.{BySender, BySummand, ByReceiver}
 use Rattle.job_plan.specs.declared.pattern.Pattern.{Pattern}
-use Rattle.job_plan.specs.declared.pattern.Pattern.TheVariants.{Silent, Dealt, Multiplied, Opened, HandedOut, OpenedToAll, Joined}
-use Rattle.job_session.specs.Sessions.{Slot, readers, is_direct, is_prepared}
-use Rattle.job_plan.specs.Plans.{Plan, holds, least_holder, scheme, session, slot, giver}
-use Rattle.job_session.specs.Sessions.Slot.{Input, At_gate, Output, Mask, Mask_product, Masked}
+use Rattle.job_plan.specs.declared.pattern.Pattern.TheVariants.{Silent, Dealt, Multiplied, Opened, HandedOut, OpenedToAll, Joined, Held, Received}
+use Rattle.job_session.specs.declared.source.Source.{Source}
+use Rattle.job_session.specs.declared.source.Source.TheVariants.{Given, Carried}
+use Rattle.job_session.specs.Sessions.{Slot, readers, is_direct, is_prepared, source}
+use Rattle.job_session.specs.Sessions.Slot.{Input, At_gate, Output, Mask, Mask_product, Masked, Kept}
+use Rattle.job_plan.specs.Plans.{Plan, holds, least_holder, scheme, session, slot}
 use Rattle.job_plan.specs.Messages.{slot_messages}
 
 -- the message of a line, in slot k of session s
@@ -35,8 +37,12 @@ open_lines plan r =
     joined (length plan.groups) (λ i. only_if (not (holds plan r i))
     (record { share = i; sender = least_holder plan i; receiver = r } ∷ []))
 
+-- summand i of a kept wire, which party p holds
+abbrev pub held_line : Plan → ℕ → ℕ → List Line
+held_line plan i p = only_if (holds plan p i) (record { share = i; sender = p; receiver = p } ∷ [])
+
 -- the lines of a pattern, in order: of a product each party that has a pair deals, an output is opened to each reader,
--- and the summands of a mask are handed out by their least holders
+-- the summands of a mask are handed out by their least holders, and those of a kept wire stay with all their holders
 abbrev pub lines : Plan → Pattern → List Line
 lines plan Silent = []
 lines plan (Dealt p) = deal_lines plan p
@@ -46,9 +52,11 @@ lines plan HandedOut =
     joined (length plan.groups) (λ i. joined plan.parties (deal_line plan (least_holder plan i) i))
 lines plan OpenedToAll = joined plan.parties (open_lines plan)
 lines plan Joined = []
+lines plan Held = joined (length plan.groups) (λ i. joined plan.parties (held_line plan i))
+lines plan Received = []
 
--- the order in which the lines of a pattern stand: openings by their receivers, masks by their summands, all others by
--- their senders
+-- the order in which the lines of a pattern stand: openings by their receivers, masks and kept wires by their summands, all
+-- others by their senders
 abbrev pub order_of : Pattern → LineOrder
 order_of Silent = BySender
 order_of (Dealt p) = BySender
@@ -57,18 +65,26 @@ order_of (Opened readers) = ByReceiver
 order_of HandedOut = BySummand
 order_of OpenedToAll = ByReceiver
 order_of Joined = BySender
+order_of Held = BySummand
+order_of Received = BySender
 
 -- ---- the pattern of a slot
 
+-- how the messages of an input go: a party deals it, or it is received from the earlier session
+abbrev pub input_pattern : Source → Pattern
+input_pattern (Given p) = Dealt p
+input_pattern (Carried r c i) = Received
+
 -- how the messages of this slot of session s go
 abbrev pub pattern : Plan → ℕ → Slot → Pattern
-pattern plan s (Input v) = Dealt (giver plan s v)
+pattern plan s (Input v) = input_pattern (source (session plan s) v)
 pattern plan s (At_gate t) =
     if is_direct (session plan s) t then Multiplied else if is_prepared (session plan s) t then Joined else Silent
 pattern plan s (Output o) = Opened (slice_index (readers (session plan s)) o)
 pattern plan s (Mask t side) = HandedOut
 pattern plan s (Mask_product t) = Multiplied
 pattern plan s (Masked t side) = OpenedToAll
+pattern plan s (Kept j) = Held
 
 -- the pattern of slot k of session s
 abbrev pub pattern_at : Plan → ℕ → ℕ → Pattern

@@ -1,10 +1,12 @@
 -- Plans: parties, maximal groups and sessions; and what a party deals in the slots of a session.
-use Rattle.std.specs.Prelude.{ℕ, ◌+◌, ◌-◌, ◌<◌, Bool, true, false, ◌&&◌, nat_eq, if◌then◌else◌, List, length, slice_index, slice_index_or}
+use Rattle.std.specs.Prelude.{◌≡◌, ℕ, ◌+◌, ◌-◌, ◌<◌, Bool, true, false, ◌&&◌, nat_eq, if◌then◌else◌, List, length, slice_index, slice_index_or}
 use Rattle.list_laws.specs.Lists.{total}
 use Rattle.secret_sharing.specs.Schemes.{Scheme, has_pair}
 use Rattle.party_set.specs.Parties.{Structure, IsQ2, has_party}
-use Rattle.job_session.specs.Sessions.{Session, Slot, owners, readers, is_direct, no_session, session_slot, session_slots}
-use Rattle.job_session.specs.Sessions.Slot.{Input, At_gate, Output, Mask, Mask_product, Masked}
+use Rattle.job_session.specs.declared.source.Source.TheVariants.{Carried}
+use Rattle.job_session.specs.Sessions.{Session, Slot, given_by, is_direct, no_session, owners, readers, session_slot, session_slots, source}
+use Rattle.job_session.specs.Sessions.Slot.{Input, At_gate, Output, Mask, Mask_product, Masked, Kept}
+use Rattle.job_session.specs.Carries.{kept_from, kept_place}
 use Rattle.job_session.specs.SlotNumbers.{session_slot_number}
 use Rattle.share_layout.specs.Layouts as layout
 use Rattle.product_duty.specs.Duties as duties
@@ -55,11 +57,21 @@ Q2 plan = IsQ2 (structure plan)
 abbrev pub session : Plan → ℕ → Session
 session plan s = slice_index_or plan.sessions s no_session
 
--- values can be shared, and products computed
+-- each carried wire is carried from an earlier session
+abbrev pub CarriesEarlier : Plan → Type 0
+CarriesEarlier plan = (s v r c i : ℕ) → source (session plan s) v ≡ Carried r c i → r < s
+
+-- each session keeps what the sessions of the plan carry from it
+abbrev pub KeepsCarried : Plan → Type 0
+KeepsCarried plan = (s : ℕ) → (session plan s).kept ≡ kept_from s plan.sessions
+
+-- values can be shared, and products computed; sessions keep what later ones carry
 pub record IsPlan (plan : Plan) : Type 0 where
   pub bits : 0 < plan.bits
   pub groups : 0 < length plan.groups
   pub q2 : Q2 plan
+  pub earlier : CarriesEarlier plan
+  pub kept : KeepsCarried plan
 
 -- ---- sessions and their slots
 
@@ -75,15 +87,15 @@ slots plan s = session_slots (session plan s)
 abbrev pub slot_number : Plan → ℕ → Slot → ℕ
 slot_number plan s z = session_slot_number (session plan s) z
 
+-- the slot in which session r keeps the wire that input wire v of session s carries from it
+abbrev pub keeping_slot : Plan → ℕ → ℕ → ℕ → ℕ
+keeping_slot plan s v r = slot_number plan r (Kept (kept_place plan.sessions s v))
+
 -- ---- what is done in a slot of session s
 
--- the party that gives input wire v
-abbrev pub giver : Plan → ℕ → ℕ → ℕ
-giver plan s v = slice_index (owners (session plan s)) v
-
--- party p gives input wire v
+-- party p gives input wire v, which is not carried then
 abbrev pub gives : Plan → ℕ → ℕ → ℕ → Bool
-gives plan s p v = nat_eq (giver plan s v) p
+gives plan s p v = given_by p (source (session plan s) v)
 
 -- how many of the input wires before v party p gives
 abbrev pub given_before : Plan → ℕ → ℕ → ℕ → ℕ
@@ -93,7 +105,8 @@ given_before plan p s v = total v (λ u. if gives plan s p u then 1 else 0)
 abbrev pub input_count : Plan → ℕ → ℕ → ℕ
 input_count plan p s = given_before plan p s (length (owners (session plan s)))
 
--- party p deals: an input of its own, or its part of a product, which of a prepared one is the product of its masks
+-- party p deals: an input that it gives, or its part of a product, which of a prepared one is the product of its masks; a
+-- carried input is dealt by nobody
 abbrev pub deals_in : Plan → ℕ → ℕ → Slot → Bool
 deals_in plan s p (Input v) = gives plan s p v
 deals_in plan s p (At_gate t) = is_direct (session plan s) t && has_pair (scheme plan) p

@@ -1,14 +1,16 @@
 -- Plans within the limits, and the tables that go with a plan.
 use Rattle.std.specs.Prelude.{◌≡◌, ℕ, ◌<◌, ◌≤◌, List, length}
 use Rattle.list_laws.specs.Lists.{total}
-use Rattle.job_plan.specs.Plans.{Plan, session, words, Q2}
 use Rattle.job_session.specs.SoundSessions.{IsSoundSession}
+use Rattle.job_plan.specs.Plans.{Plan, session, words, Q2, CarriesEarlier, KeepsCarried}
+use Rattle.job_plan.specs.Keeping.{AllFit}
 use Rattle.job_plan.specs.declared.patterns.Patterns.{Patterns}
 use Rattle.job_plan.specs.Messages.{messages}
 use Rattle.job_plan.specs.Tables.{AreLines}
 use Rattle.job_plan.specs.Firsts.{starts_of, word_starts_of}
 
--- a sharing in which products can be computed, and all is within the limits but for the messages and the tape words
+-- a sharing in which products can be computed, sessions whose carried values fit those before them, and all is within the
+-- limits but for the messages and the tape words; what sessions keep may be other than what later ones carry
 pub record IsOutline (plan : Plan) : Type 0 where
   pub some_bits : 0 < plan.bits
   pub bits : plan.bits ≤ 64
@@ -19,9 +21,10 @@ pub record IsOutline (plan : Plan) : Type 0 where
   pub q2 : Q2 plan
   pub few_sessions : length plan.sessions ≤ 16
   pub sessions : (s : ℕ) → s < length plan.sessions → IsSoundSession plan.parties (session plan s)
+  pub fit : AllFit plan.sessions
 
--- a sharing in which products can be computed, and all is within the limits: ring, parties, groups, sessions, messages,
--- tape words of a party
+-- a sharing in which products can be computed, sessions that keep what later ones carry, and all is within the limits: ring,
+-- parties, groups, sessions, messages, tape words of a party
 pub record IsSound (plan : Plan) : Type 0 where
   pub some_bits : 0 < plan.bits
   pub bits : plan.bits ≤ 64
@@ -34,6 +37,8 @@ pub record IsSound (plan : Plan) : Type 0 where
   pub few_messages : length (messages plan) ≤ 1048576
   pub few_words : (p : ℕ) → p < plan.parties → total (length plan.sessions) (words plan p) ≤ 1048576
   pub sessions : (s : ℕ) → s < length plan.sessions → IsSoundSession plan.parties (session plan s)
+  pub earlier : CarriesEarlier plan
+  pub kept : KeepsCarried plan
 
 -- a plan's tables: how many messages there are, the lines of its patterns, where the messages of each slot begin, and
 -- each party's words before each session

@@ -3,7 +3,7 @@ use Rattle.std.specs.Prelude.{ℕ, ◌+◌, ◌*◌, length}
 use Rattle.list_laws.specs.Lists.{total}
 use Rattle.job_session.specs.Counts.{outputs_read, prepared_products}
 use Rattle.job_plan.specs.Plans.{Plan, session, words}
-use Rattle.job_plan.specs.Messages.{deal_messages, open_messages, mask_messages}
+use Rattle.job_plan.specs.Messages.{deal_messages, open_messages, mask_messages, kept_messages}
 use Rattle.job_plan.specs.Numbers.{deals}
 
 -- how many openings there are to p in session s: the outputs that it reads, and two for each prepared product
@@ -20,6 +20,11 @@ party_messages plan p =
 abbrev pub masks_messages : Plan → ℕ
 masks_messages plan =
     length (mask_messages plan 0 0) * total (length plan.sessions) (λ s. 2 * prepared_products (session plan s))
+
+-- how many messages the kept wires have in all sessions
+abbrev pub keeping_messages : Plan → ℕ
+keeping_messages plan =
+    length (kept_messages plan 0 0) * total (length plan.sessions) (λ s. length (session plan s).kept)
 
 -- how many tape words p draws in all sessions
 abbrev pub tape_length : Plan → ℕ → ℕ

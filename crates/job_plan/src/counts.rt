@@ -2,10 +2,11 @@
 ghost use Rattle.std.specs.Prelude.{◌≡◌, ℕ, ◌*◌, ◌^◌, ◌<◌, ◌≤◌, ◌&&◌, nat_eq, not, length};
 ghost use Rattle.list_laws.specs.Lists.{total, joined};
 ghost use Rattle.job_plan.specs.Plans.{holds, session, least_held, words};
-ghost use Rattle.job_plan.specs.Messages.{deal_message, deal_messages, open_messages, mask_messages, messages};
+ghost use Rattle.job_plan.specs.Keeping.{carried_count, keeping_plan};
+ghost use Rattle.job_plan.specs.Messages.{deal_message, deal_messages, kept_message, kept_messages, mask_messages, messages, open_messages};
 ghost use Rattle.job_plan.specs.Numbers.{deals};
 ghost use Rattle.job_session.specs.Counts.{prepared_products};
-ghost use Rattle.job_plan.specs.Tallies.{openings, party_messages, masks_messages, tape_length};
+ghost use Rattle.job_plan.specs.Tallies.{keeping_messages, openings, party_messages, masks_messages, tape_length};
 
 use crate::outline::Outline;
 
@@ -64,6 +65,31 @@ fn mask_size(outline: &Outline) -> u32
     let mut count = 0;
     for i in 0..outline.shares() {
         count += receivers(outline, outline.least_holder(i), i);
+    }
+    count
+}
+
+// How many parties hold summand i.
+fn holders(outline: &Outline, i: u32) -> u32
+    requires { i < length outline.now.groups }
+    ensures is { (s k : ℕ) → result ≡ length (joined outline.now.parties (kept_message outline.now s k i)) }
+    ensures few { result ≤ 12 }
+{
+    let mut count = 0;
+    for p in 0..outline.parties() {
+        count += u32::from(outline.holds(p, i));
+    }
+    count
+}
+
+// How many messages a kept wire has.
+fn kept_size(outline: &Outline) -> u32
+    ensures is { (s k : ℕ) → result ≡ length (kept_messages outline.now s k) }
+    ensures few { result ≤ 768 }
+{
+    let mut count = 0;
+    for i in 0..outline.shares() {
+        count += holders(outline, i);
     }
     count
 }
@@ -172,6 +198,32 @@ fn all_masks(outline: &Outline) -> u64
     count
 }
 
+// How many input wires session s carries.
+fn carried_count(outline: &Outline, s: u32) -> u32
+    requires { s < length outline.now.sessions }
+    ensures is { result ≡ carried_count (session outline.now s) }
+    ensures few { result ≤ 131072 }
+{
+    let part = outline.part(s);
+    let mut count = 0;
+    for v in 0..part.input_wires() as u32 {
+        count += u32::from(part.source(v).is_carried());
+    }
+    count
+}
+
+// How many input wires all sessions carry.
+fn all_carried(outline: &Outline) -> u64
+    ensures is { result ≡ total (length outline.now.sessions) (λ s. carried_count (session outline.now s)) }
+    ensures few { result ≤ 2097152 }
+{
+    let mut count = 0;
+    for s in 0..outline.sessions() {
+        count += u64::from(carried_count(outline, s));
+    }
+    count
+}
+
 // How many messages p deals and is opened in all sessions.
 fn party_message_count(outline: &Outline, p: u32) -> u64
     requires { p < outline.now.parties }
@@ -190,15 +242,24 @@ fn mask_message_count(outline: &Outline) -> u64
     u64::from(mask_size(outline)) * all_masks(outline)
 }
 
-/// How many messages there are in all sessions.
+// How many messages the kept wires have in all sessions, where these keep what later ones carry.
+fn kept_message_count(outline: &Outline) -> u64
+    ensures is { result ≡ keeping_messages (keeping_plan outline.now) }
+    ensures few { result < 2 ^ 32 }
+{
+    let _ = outline.parties();
+    u64::from(kept_size(outline)) * all_carried(outline)
+}
+
+/// How many messages there are in all sessions, where these keep what later ones carry.
 pub(crate) fn message_count(outline: &Outline) -> u64
-    ensures { result ≡ length (messages outline.now) }
+    ensures { result ≡ length (messages (keeping_plan outline.now)) }
 {
     let mut count = 0;
     for p in 0..outline.parties() {
         count += party_message_count(outline, p);
     }
-    count + mask_message_count(outline)
+    count + mask_message_count(outline) + kept_message_count(outline)
 }
 
 /// How many tape words party `p` draws in all sessions.

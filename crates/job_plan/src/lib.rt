@@ -3,6 +3,7 @@
 
 mod counts;
 mod inputs;
+mod keeping;
 mod key;
 mod laws;
 mod lines;
@@ -16,7 +17,9 @@ mod ranks;
 mod starts;
 
 pub use inputs::Inputs;
-pub use job_session::{InputValue, OutputValue, RowTable, SessionPart, Side, SlotKind};
+pub use job_session::{
+    InputValue, KeptWire, OutputValue, Owner, RowTable, SessionPart, Side, SlotKind, Source,
+};
 pub use key::Key;
 pub use laws::{deals_have_slots, numbers_are_inverse, places_are_apart, slots_follow_patterns};
 pub use pattern::{Line, Pattern};

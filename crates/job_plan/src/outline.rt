@@ -1,11 +1,14 @@
 //! What a plan is made of.
 ghost use Rattle.std.specs.Prelude.{◌≡◌};
+ghost use Rattle.job_plan.specs.Patterns.{input_pattern};
 
+use crate::keeping::keep_carried;
 use crate::pattern::Pattern;
-use job_session::{SessionPart, SlotKind};
+use job_session::{SessionPart, SlotKind, Source};
 use mpc_ring::Ring;
 use product_duty::Duty;
 use share_layout::Layout;
+use std::alloc::{AllocError, Global};
 use std::marker::Model;
 
 /// A ring, a structure of parties and the sessions. Contracts see a plan of the definitions.
@@ -30,19 +33,21 @@ impl Model for Outline {
 }
 
 impl Outline {
-    ghost use Rattle.std.specs.Prelude.{◌≡◌, ◌<◌, ◌≤◌, All, length};
+    ghost use Rattle.std.specs.Prelude.{◌≡◌, ◌<◌, ◌≤◌, All, IfOk, length};
     ghost use Rattle.secret_sharing.specs.Schemes.{has_pair};
     ghost use Rattle.job_plan.specs.Plans.{structure, scheme, session, slot, slots, plan_of, holds, least_holder};
     ghost use Rattle.job_plan.specs.Numbers.{is_mask};
     ghost use Rattle.job_session.specs.Sessions.Slot.{At_gate};
     ghost use Rattle.job_plan.specs.Patterns.{pattern, pattern_at, Occurs};
     ghost use Rattle.job_session.specs.SoundSessions.{IsSoundSession};
+    ghost use Rattle.job_plan.specs.Keeping.{AllFit, keeping_plan};
     ghost use Rattle.job_plan.specs.Sound.{IsOutline};
 
     pub(crate) fn of(ring: Ring, layout: Layout, duty: Duty, parts: Vec<SessionPart>) -> Outline
         requires structure { duty ≡ layout }
         requires few { length parts.items ≤ 16 }
         requires sound { All (IsSoundSession layout.parties) parts.items }
+        requires fit { AllFit parts.items }
         ensures { result ≡ plan_of ring layout parts.items }
     {
         let _ = (
@@ -57,6 +62,20 @@ impl Outline {
             duty,
             parts,
         }
+    }
+
+    /// The same with sessions that keep what later ones carry, in the place of what they kept.
+    pub(crate) fn keep(self, alloc: Global) -> Result<Outline, AllocError>
+        ensures { IfOk result (λ outline. outline ≡ keeping_plan self) }
+    {
+        let Outline {
+            ring,
+            layout,
+            duty,
+            parts,
+        } = self;
+        let parts = keep_carried(alloc, parts)?;
+        Ok(Outline::of(ring, layout, duty, parts))
     }
 
     pub(crate) fn ring(&self) -> Ring
@@ -159,12 +178,13 @@ impl Outline {
     {
         let part = self.part(s);
         match part.slot_kind(k) {
-            SlotKind::Input(v) => Pattern::Dealt(part.wire_owner(v)),
+            SlotKind::Input(v) => input_pattern(part.source(v)),
             SlotKind::Gate(t) => self.gate_pattern(s, t),
             SlotKind::Output(o) => Pattern::Opened(part.wire_readers(o)),
             SlotKind::Mask(_, _) => Pattern::HandedOut,
             SlotKind::MaskProduct(_) => Pattern::Multiplied,
             SlotKind::Masked(_, _) => Pattern::OpenedToAll,
+            SlotKind::Kept(_) => Pattern::Held,
         }
     }
 
@@ -181,5 +201,15 @@ impl Outline {
         } else {
             Pattern::Multiplied
         }
+    }
+}
+
+// How the messages of an input go.
+fn input_pattern(source: Source) -> Pattern
+    ensures { result ≡ input_pattern source }
+{
+    match source {
+        Source::Given(party) => Pattern::Dealt(party),
+        Source::Carried { .. } => Pattern::Received,
     }
 }

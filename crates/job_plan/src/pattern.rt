@@ -45,6 +45,10 @@ pub enum Pattern {
     OpenedToAll,
     /// There are none: a prepared product is joined.
     Joined,
+    /// A wire is kept for a later session: each of its holders sends it to itself.
+    Held,
+    /// There are none: an input wire that is carried has those of the earlier session.
+    Received,
 }
 
 impl Pattern {
@@ -56,10 +60,12 @@ impl Pattern {
         ensures { result ≡ order_of self }
     {
         match self {
-            Pattern::Silent | Pattern::Dealt(_) | Pattern::Multiplied | Pattern::Joined => {
-                LineOrder::BySender
-            }
-            Pattern::HandedOut => LineOrder::BySummand,
+            Pattern::Silent
+            | Pattern::Dealt(_)
+            | Pattern::Multiplied
+            | Pattern::Joined
+            | Pattern::Received => LineOrder::BySender,
+            Pattern::HandedOut | Pattern::Held => LineOrder::BySummand,
             Pattern::Opened(_) | Pattern::OpenedToAll => LineOrder::ByReceiver,
         }
     }

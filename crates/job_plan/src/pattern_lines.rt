@@ -3,9 +3,9 @@ ghost use Rattle.std.specs.Prelude.{◌≡◌, ◌<◌, ◌++◌, OnOk, IfOk, le
 ghost use Rattle.list_laws.specs.Lists.{joined, listed, only_if};
 ghost use Rattle.secret_sharing.specs.Schemes.{has_pair};
 ghost use Rattle.party_set.specs.Parties.{has_party};
-ghost use Rattle.job_plan.specs.declared.pattern.Pattern.TheVariants.{Multiplied, Opened, HandedOut, OpenedToAll};
+ghost use Rattle.job_plan.specs.declared.pattern.Pattern.TheVariants.{Multiplied, Opened, HandedOut, OpenedToAll, Held};
 ghost use Rattle.job_plan.specs.Plans.{scheme};
-ghost use Rattle.job_plan.specs.Patterns.{deal_line, deal_lines, open_lines, lines};
+ghost use Rattle.job_plan.specs.Patterns.{deal_line, deal_lines, held_line, open_lines, lines};
 
 use crate::counts::sends;
 use crate::lines::Lines;
@@ -114,6 +114,33 @@ pub(crate) fn handed_out_lines(alloc: Global, outline: &Outline) -> Result<Lines
     let mut lines = Lines::new(alloc);
     for share in 0..outline.shares() {
         push_summand(outline, outline.least_holder(share), share, &mut lines)?;
+    }
+    Ok(lines)
+}
+
+// The lines of one summand of a kept wire.
+fn push_holders(outline: &Outline, share: u32, lines: &mut Lines) -> Result<(), AllocError>
+    requires { share < length outline.now.groups }
+    ensures { OnOk result (lines.new ≡ lines.old ++ joined outline.now.parties (held_line outline.now share)) }
+{
+    for p in 0..outline.parties() {
+        let line = Line {
+            share: share as u8,
+            sender: p as u8,
+            receiver: p as u8,
+        };
+        lines.push_if(outline.holds(p, share), line)?;
+    }
+    Ok(())
+}
+
+/// The lines of a kept wire.
+pub(crate) fn held_lines(alloc: Global, outline: &Outline) -> Result<Lines, AllocError>
+    ensures { IfOk result (λ made. made ≡ lines outline.now Held) }
+{
+    let mut lines = Lines::new(alloc);
+    for share in 0..outline.shares() {
+        push_holders(outline, share, &mut lines)?;
     }
     Ok(lines)
 }

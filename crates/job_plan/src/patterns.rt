@@ -10,18 +10,19 @@ use crate::lines::Lines;
 use crate::outline::Outline;
 use crate::pattern::{Line, Pattern};
 use crate::pattern_lines::{
-    dealt_lines, handed_out_lines, multiplied_lines, opened_lines, opened_to_all_lines,
+    dealt_lines, handed_out_lines, held_lines, multiplied_lines, opened_lines, opened_to_all_lines,
 };
 use indexmap::IndexMap;
 use std::alloc::{AllocError, Global};
 
 /// The lines of each pattern that the slots of a plan may have: of a product, of a mask, of an opening to all, of a
-/// deal of each party, and of an opening to each group that reads an output.
+/// kept wire, of a deal of each party, and of an opening to each group that reads an output.
 #[derive(Drop)]
 pub(crate) struct Patterns {
     product: Lines,
     handed_out: Lines,
     opened_to_all: Lines,
+    held: Lines,
     deals: Vec<Lines>,
     openings: IndexMap<u32, Lines>,
 }
@@ -39,12 +40,14 @@ impl Patterns {
         let product = multiplied_lines(alloc, outline)?;
         let handed_out = handed_out_lines(alloc, outline)?;
         let opened_to_all = opened_to_all_lines(alloc, outline)?;
+        let held = held_lines(alloc, outline)?;
         let deals = deals_of_each(alloc, outline)?;
         let openings = openings_of_each(alloc, outline)?;
         Ok(Patterns {
             product,
             handed_out,
             opened_to_all,
+            held,
             deals,
             openings,
         })
@@ -56,11 +59,12 @@ impl Patterns {
         ensures { (plan : Plan) → AreLines plan self.now → Occurs plan pattern → result.now ≡ lines plan pattern }
     {
         match pattern {
-            Pattern::Silent | Pattern::Joined => &[],
+            Pattern::Silent | Pattern::Joined | Pattern::Received => &[],
             Pattern::Dealt(p) => self.deals[p as usize].as_slice(),
             Pattern::Multiplied => self.product.as_slice(),
             Pattern::HandedOut => self.handed_out.as_slice(),
             Pattern::OpenedToAll => self.opened_to_all.as_slice(),
+            Pattern::Held => self.held.as_slice(),
             Pattern::Opened(readers) => self.opening(readers),
         }
     }

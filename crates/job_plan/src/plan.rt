@@ -1,5 +1,7 @@
 //! Plans, with the tables that number their messages.
 ghost use Rattle.std.specs.Prelude.{◌≡◌, ◌≤◌, IfOk, MatchResult, length};
+ghost use Rattle.job_plan.specs.Plans.{KeepsCarried};
+ghost use Rattle.job_plan.specs.Keeping.{keeping_plan};
 ghost use Rattle.job_plan.specs.Messages.{messages};
 ghost use Rattle.job_plan.specs.Sound.{IsLaid};
 ghost use Rattle.job_plan.specs.Limits.{IsPlanWithin, IsPlanRefusal};
@@ -17,7 +19,7 @@ use mpc_ring::Ring;
 use plan_faults::PlanFault;
 use product_duty::Duty;
 use share_layout::Layout;
-use std::alloc::Global;
+use std::alloc::{AllocError, Global};
 use std::marker::Model;
 use std::sync::Arc;
 
@@ -56,12 +58,13 @@ impl Plan {
     ghost use Rattle.job_plan.specs.Patterns.{named, lines, pattern_at, Occurs};
     ghost use Rattle.job_plan.specs.Numbers.{message, number, deals, deals_before, deal_place, deal_slot, is_mask, masks_before, DrawsSummand};
     ghost use Rattle.job_session.specs.SoundSessions.{IsSoundSession};
+    ghost use Rattle.job_plan.specs.Keeping.{AllFit, keeping};
     ghost use Rattle.job_plan.specs.Sound.{IsSound};
     ghost use Rattle.job_plan.specs.Firsts.{first};
     ghost use Rattle.job_plan.specs.Limits.{IsPlanWithin, IsPlanRefusal};
 
-    /// The plan of these sessions. It is refused where it has more than 1,048,576 messages, or a party would draw
-    /// more tape words than that. Both are counted before any table is made.
+    /// The plan of these sessions, each of which keeps what those behind it carry from it. It is refused where it has more
+    /// than 1,048,576 messages, or a party would draw more tape words than that. Both are counted before any table is made.
     pub fn make(
         alloc: Global,
         ring: Ring,
@@ -72,14 +75,16 @@ impl Plan {
         requires structure { duty ≡ layout }
         requires few { length parts.items ≤ 16 }
         requires sound { All (IsSoundSession layout.parties) parts.items }
-        ensures made { IfOk result (λ plan. plan ≡ plan_of ring layout parts.items) }
-        ensures within { OnOk result (IsPlanWithin (plan_of ring layout parts.items)) }
-        ensures refusal { IfErr result (IsPlanRefusal (plan_of ring layout parts.items)) }
+        requires fit { AllFit parts.items }
+        ensures made { IfOk result (λ plan. plan ≡ plan_of ring layout (keeping parts.items)) }
+        ensures within { OnOk result (IsPlanWithin (plan_of ring layout (keeping parts.items))) }
+        ensures refusal { IfErr result (IsPlanRefusal (plan_of ring layout (keeping parts.items))) }
     {
         let outline = Outline::of(ring, layout, duty, parts);
-        let tables = tables_of(alloc, &outline)?;
+        let count = check_limits(&outline)?;
+        let outline = outline.keep(alloc)?;
+        let tables = tables_of(alloc, &outline, count)?;
         let Tables {
-            count,
             patterns,
             starts,
             words,
@@ -404,42 +409,52 @@ impl Plan {
 // The most messages of a plan, and the most tape words of a party.
 const LIMIT: u64 = 1_048_576;
 
-// The count of messages, the lines of each pattern, and where each slot and each session begins.
+// The lines of each pattern, and where each slot and each session begins.
 #[derive(Drop)]
 struct Tables {
-    count: u32,
     patterns: Patterns,
     starts: Vec<Starts>,
     words: Vec<Starts>,
 }
 
-// The tables of a plan, unless it is refused.
-fn tables_of(alloc: Global, outline: &Outline) -> Result<Tables, PlanFault>
-    ensures laid { IfOk result (λ made.
-        IsLaid outline.now made.count made.patterns made.starts.items made.words.items) }
-    ensures limits { MatchResult result (λ _. IsPlanWithin outline.now) (IsPlanRefusal outline.now) }
+// How many messages a plan has whose sessions keep what later ones carry, unless it is refused.
+fn check_limits(outline: &Outline) -> Result<u32, PlanFault>
+    ensures { MatchResult result
+        (λ count. IsPlanWithin (keeping_plan outline.now) × (count ≡ length (messages (keeping_plan outline.now))))
+        (IsPlanRefusal (keeping_plan outline.now)) }
 {
-    let _ = outline.parties();
     let count = message_count(outline);
     if count > LIMIT {
         return Err(PlanFault::TooManyMessages { count });
     }
     check_words(outline)?;
-    let count = count as u32;
+    Ok(count as u32)
+}
+
+// The tables of a plan that isn't refused.
+fn tables_of(alloc: Global, outline: &Outline, count: u32) -> Result<Tables, AllocError>
+    requires kept { KeepsCarried outline.now }
+    requires within { IsPlanWithin outline.now }
+    requires count { count ≡ length (messages outline.now) }
+    ensures { IfOk result (λ made.
+        IsLaid outline.now count made.patterns made.starts.items made.words.items) }
+{
+    let _ = (outline.parties(), count);
     let patterns = Patterns::make(alloc, outline)?;
     let starts = list_starts(alloc, outline, &patterns)?;
     let words = list_words(alloc, outline)?;
     Ok(Tables {
-        count,
         patterns,
         starts,
         words,
     })
 }
 
+// Looks for a party that draws too many tape words. What sessions keep draws none.
 fn check_words(outline: &Outline) -> Result<(), PlanFault>
-    requires { length (messages outline.now) ≤ 1048576 }
-    ensures { MatchResult result (λ _. IsPlanWithin outline.now) (IsPlanRefusal outline.now) }
+    requires { length (messages (keeping_plan outline.now)) ≤ 1048576 }
+    ensures { MatchResult result
+        (λ _. IsPlanWithin (keeping_plan outline.now)) (IsPlanRefusal (keeping_plan outline.now)) }
 {
     for party in 0..outline.parties() {
         let words = word_count(outline, party);

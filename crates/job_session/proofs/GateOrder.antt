@@ -1,24 +1,24 @@
 -- A session whose gates are in order sets each wire once, and reads it only after that, its products prepared or not.
 use Rattle.std.proofs.Common.{◌≡◌, ℕ, zero, suc, ◌+◌, ◌*◌, ◌<◌, ◌≤◌, ◌⊎◌, true, false, ◌||◌, List, [], ◌∷◌, inl, inr, length, refl, sym, ap, ap₂, ◌∙◌, subst, arith}
-use Rattle.std.specs.Prelude.{nat_eq, take}
+use Rattle.std.specs.Prelude.{nat_eq, take, All, slice_index_or, if◌then◌else◌}
 use Rattle.std.specs.List.{list_any}
 use Rattle.std.proofs.lemmas.Bool.{cases_lt, cases_Bool, or_cases, or_left, or_right, cond-true, cond-false, and_parts, eq-eqb, eqb-true, false≢true, false_from_ne_true, both_ways}
-use Rattle.std.proofs.lemmas.List.{get_or_default}
 use Rattle.circuit_model.specs.Circuits.{is_product}
 use Rattle.circuit_model.specs.declared.gate.Gate.{Gate}
 use Rattle.circuit_model.specs.declared.gate.Operation.{Operation}
 use Rattle.circuit_model.specs.declared.gate.Operation.TheVariants.{Add, Sub, Mul, Neg, Eq, Eqw, And, Xor, Inv}
 use Rattle.circuit_model.specs.Netlists.{inputs_read, arity, read_by}
+use Rattle.job_session.specs.declared.values.KeptWire.{KeptWire}
 use Rattle.job_session.specs.declared.side.Side.{Side}
 use Rattle.job_session.specs.declared.side.Side.TheVariants.{First, Second}
-use Rattle.job_session.specs.Sessions.{Session, Slot, owners, readers, gate, no_gate, is_prepared, operand, mask_wire, product_wire, output_wire, session_slot, session_slots}
-use Rattle.job_session.specs.Sessions.Slot.{Input, At_gate, Output, Mask, Mask_product, Masked}
+use Rattle.job_session.specs.Sessions.{Session, Slot, owners, readers, gate, is_prepared, kept_wire, no_kept, operand, mask_wire, product_wire, output_wire, session_slot, session_slots}
+use Rattle.job_session.specs.Sessions.Slot.{Input, At_gate, Output, Mask, Mask_product, Masked, Kept}
 use Rattle.job_session.specs.SlotNumbers.{prepared_before, first_of_gate, session_slot_number}
 use Rattle.job_session.specs.KeptWires.{sets_in, reads_in, slot_sets, slot_reads, IsInOrder}
-use Rattle.job_session.specs.SoundSessions.{Inside}
-use Rattle.job_session.proofs.SessionSlots.{gate_rises, more_before, one_more, slot_there, slots_are_numbered, direct_count, slot_input, slot_gate, slot_output, slot_cases}
+use Rattle.job_session.specs.SoundSessions.{Inside, IsWired}
+use Rattle.job_session.proofs.SessionSlots.{gate_rises, more_before, number_within, one_more, slot_kinds, slot_there, slots_are_numbered}
 use Rattle.job_session.proofs.KeptRows.{one_wire}
-use Rattle.job_session.proofs.LastReads.{gate_reads}
+use Rattle.job_session.proofs.ScannedBatches.{read_named}
 
 -- wire w is an input wire, or one of the first t gates sets it
 abbrev pub SetBefore : Session → ℕ → ℕ → Type 0
@@ -63,7 +63,8 @@ pub operand_read : (g : Gate) (side : Side) → is_product g.operation ≡ true 
 operand_read g First e = first_read g.operation g.first g.second e
 operand_read g Second e = second_read g.operation g.first g.second e
 
-module _ (s : Session) (h : GatesInOrder s) (inputs_below : length (owners s) ≤ s.wires) (output_below : (t : ℕ) → t < length s.gates → (gate s t).output < s.wires) where
+module _ (s : Session) (h : GatesInOrder s) (inputs_below : length (owners s) ≤ s.wires) (output_below : (t : ℕ) → t < length s.gates → (gate s t).output < s.wires)
+    (kept_there : All (λ (wire : KeptWire). wire.output < length (readers s)) s.kept) where
   abbrev Sets : Slot → ℕ → Type 0
   Sets z w = list_any (nat_eq w) (sets_in s z) ≡ true
 
@@ -97,6 +98,7 @@ module _ (s : Session) (h : GatesInOrder s) (inputs_below : length (owners s) �
   which (Mask t Second) w i e = inr (record { gate_of = t; place = 1; few = omega arith; wire = one_wire (mask_wire s t Second) w e; is = refl })
   which (Mask_product t) w i e = inr (record { gate_of = t; place = 2; few = omega arith; wire = one_wire (product_wire s t) w e; is = refl })
   which (Masked t side) w i e = absurd (false≢true e)
+  which (Kept j) w i e = absurd (false≢true e)
 
   same_gate : (t u w : ℕ) → t < count → u < count → w ≡ (gate s t).output → w ≡ (gate s u).output → t ≡ u
   same_gate t u w lt lu a b = elim (cases_lt t u) [
@@ -201,6 +203,9 @@ module _ (s : Session) (h : GatesInOrder s) (inputs_below : length (owners s) �
   ]
   read_before (Output o) w l e =
       later (first_of_gate s count) _ w (omega arith) (before_gate count w (subst (SetBefore s count) (sym (one_wire (output_wire s o) w e)) (h.outputs o l)) (omega arith))
+  read_before (Kept j) w l e =
+      let set = h.outputs (slice_index_or s.kept j no_kept).output (kept_there j no_kept l) in
+      later (first_of_gate s count) _ w (omega arith) (before_gate count w (subst (SetBefore s count) (sym (one_wire (kept_wire s j) w e)) set) (omega arith))
 
   pub in_order : IsInOrder s
   in_order = record {
@@ -211,48 +216,100 @@ module _ (s : Session) (h : GatesInOrder s) (inputs_below : length (owners s) �
         (session_slot_number s found.0, omega (arith, less, number_of k l), subst (λ y. Sets y w) (sym (slot_there s found.0 found.1)) found.3);
   }
 
--- ---- a direct session's gates are in order
+-- ---- the gates of a wired session are in order
 
-module _ (s : Session) (direct : s.prepared ≡ false) (order : IsInOrder s) where
-  abbrev inputs : ℕ
-  inputs = length (owners s)
+module _ (s : Session) (wired : IsWired s) where
+  abbrev number : Slot → ℕ
+  number z = session_slot_number s z
 
-  input_sets : (v : ℕ) → v < inputs → slot_sets s v v ≡ true
-  input_sets v l = ap (λ z. list_any (nat_eq v) (sets_in s z)) (slot_input s direct v l) ∙ is_one v
+  sets_at : (z : Slot) (w : ℕ) → Inside s z → list_any (nat_eq w) (sets_in s z) ≡ true → slot_sets s (number z) w ≡ true
+  sets_at z w i e = subst (λ y. list_any (nat_eq w) (sets_in s y) ≡ true) (sym (slot_there s z i)) e
 
-  gate_sets : (t w : ℕ) → t < length s.gates → w ≡ (gate s t).output → slot_sets s (inputs + t) w ≡ true
-  gate_sets t w l e = ap (λ z. list_any (nat_eq w) (sets_in s z)) (slot_gate s direct t l) ∙ or_left (nat_eq w (gate s t).output) false (eq-eqb w (gate s t).output e)
+  reads_at : (z : Slot) (w : ℕ) → Inside s z → list_any (nat_eq w) (reads_in s z) ≡ true → slot_reads s (number z) w ≡ true
+  reads_at z w i e = subst (λ y. list_any (nat_eq w) (reads_in s y) ≡ true) (sym (slot_there s z i)) e
 
-  set_before : (t j w : ℕ) → t ≤ length s.gates → j < inputs + t → slot_sets s j w ≡ true → SetBefore s t w
-  set_before t j w le before = slot_cases s direct (λ j z. j < inputs + t → list_any (nat_eq w) (sets_in s z) ≡ true → SetBefore s t w)
-      (λ v l b e. inl (let is = one_wire v w e in omega (arith, is, l)))
-      (λ u l b e. inr (u, omega (arith, b), one_wire (gate s u).output w e))
-      (λ o l b e. absurd (false≢true e))
-      j (omega (arith, before, le, direct_count s direct)) before
+  -- wire w is an input wire, or slot j is of the gate that sets it
+  abbrev SetIn : ℕ → ℕ → Type 0
+  SetIn j w = (w < length (owners s)) ⊎ ((u : ℕ) × (u < length s.gates) × (w ≡ (gate s u).output) × (number (At_gate u) ≡ j))
 
-  pub direct_order : GatesInOrder s
-  direct_order = record {
+  set_in : (j w : ℕ) → j < session_slots s → w < s.wires → slot_sets s j w ≡ true → SetIn j w
+  set_in j w l below = slot_kinds s (λ j z. list_any (nat_eq w) (sets_in s z) ≡ true → SetIn j w) each j l
+    where
+      each : (z : Slot) → Inside s z → list_any (nat_eq w) (sets_in s z) ≡ true → SetIn (number z) w
+      each (Input v) i e = inl (let is = one_wire v w e in omega (arith, is, i))
+      each (At_gate t) i e = inr (t, i, one_wire (gate s t).output w e, refl)
+      each (Output o) i e = absurd (false≢true e)
+      each (Mask t First) i e = absurd (let is = one_wire (mask_wire s t First) w e in omega (arith, is, below))
+      each (Mask t Second) i e = absurd (let is = one_wire (mask_wire s t Second) w e in omega (arith, is, below))
+      each (Mask_product t) i e = absurd (let is = one_wire (product_wire s t) w e in omega (arith, is, below))
+      each (Masked t side) i e = absurd (false≢true e)
+      each (Kept j) i e = absurd (false≢true e)
+
+  set_early : (t j w : ℕ) → j < number (At_gate t) → SetIn j w → SetBefore s t w
+  set_early t j w less (inl l) = inl l
+  set_early t j w less (inr u) = elim (cases_lt u.0 t) [
+    | inl before ↦ inr (u.0, before, u.2)
+    | inr past ↦ elim (cases_lt t u.0) [
+      | inl after ↦ absurd (let rises = gate_rises s t u.0 after in omega (arith, rises, less, u.3))
+      | inr back ↦ absurd (let same : t ≡ u.0 = omega (arith, past, back) in omega (arith, ap (λ n. number (At_gate n)) same, less, u.3))
+    ]
+  ]
+
+  -- what a slot up to that of gate t reads is set before the gate
+  read_early : (t w : ℕ) (z : Slot) → Inside s z → w < s.wires → list_any (nat_eq w) (reads_in s z) ≡ true → number z ≤ number (At_gate t) → SetBefore s t w
+  read_early t w z i below e le =
+      let set = wired.order.before (number z) w (number_within s z i) (reads_at z w i e) in
+      set_early t set.0 w (omega (arith, set.1, le)) (set_in set.0 w (omega (arith, set.1, number_within s z i)) below set.2)
+
+  -- of a prepared product the operands are read before its own slot
+  operand_early : (t w : ℕ) (side : Side) → t < length s.gates → is_prepared s t ≡ true → w < s.wires → nat_eq w (operand (gate s t) side) ≡ true → SetBefore s t w
+  operand_early t w side l e below same =
+      read_early t w (Masked t side) (l, e) below (or_left (nat_eq w (operand (gate s t) side)) (nat_eq w (mask_wire s t side) || false) same) (masked_early side)
+    where
+      two : ◌≡◌ {A = ℕ} (if is_prepared s t then 2 else 0) 2
+      two = cond-true (is_prepared s t) 2 0 e
+
+      masked_early : (side : Side) → number (Masked t side) ≤ number (At_gate t)
+      masked_early First = omega arith
+      masked_early Second = omega (arith, two)
+
+  gate_early : (t w : ℕ) → t < length s.gates → list_any (nat_eq w) (read_by (gate s t)) ≡ true → SetBefore s t w
+  gate_early t w l e = elim (or_cases (nat_eq w (gate s t).first) (nat_eq w (gate s t).second) (read_named (gate s t) w e)) [
+    | inl one ↦ by_side First (let is = eqb-true w (gate s t).first one in omega (arith, is, wired.first t l)) one
+    | inr two ↦ by_side Second (let is = eqb-true w (gate s t).second two in omega (arith, is, wired.second t l)) two
+  ]
+    where
+      by_side : (side : Side) → w < s.wires → nat_eq w (operand (gate s t) side) ≡ true → SetBefore s t w
+      by_side side below same = elim (cases_Bool (is_prepared s t)) [
+        | inl yes' ↦ operand_early t w side l yes' below same
+        | inr no' ↦ read_early t w (At_gate t) l below
+            (subst (λ (ws : List ℕ). list_any (nat_eq w) ws ≡ true) (sym (cond-false (is_prepared s t) (mask_wire s t First ∷ mask_wire s t Second ∷ product_wire s t ∷ []) (read_by (gate s t)) no')) e) (omega arith)
+      ]
+
+  pub gates_in_order : GatesInOrder s
+  gates_in_order = record {
     fresh = λ t l set. fresh t l set;
-    read = λ t w l e.
-        let read : slot_reads s (inputs + t) w ≡ true = gate_reads s direct inputs t w (gate s t) l refl (get_or_default s.gates t no_gate (gate s t) l) ∙ e in
-        let set = order.before (inputs + t) w (omega (arith, l, direct_count s direct)) read in
-        set_before t set.0 w (omega (arith, l)) set.1 set.2;
+    read = gate_early;
     outputs = λ o l.
         let w = output_wire s o in
-        let k = inputs + length s.gates + o in
-        let read : slot_reads s k w ≡ true = ap (λ z. list_any (nat_eq w) (reads_in s z)) (slot_output s direct o l) ∙ is_one w in
-        let set = order.before k w (omega (arith, l, direct_count s direct)) read in
-        set_by set.0 w (omega (arith, set.1, l, direct_count s direct)) set.2;
+        let set = wired.order.before (number (Output o)) w (number_within s (Output o) l) (reads_at (Output o) w l (is_one w)) in
+        set_at_all (set_in set.0 w (omega (arith, set.1, number_within s (Output o) l)) (omega (arith, l, wired.output_wires)) set.2);
   }
     where
       fresh : (t : ℕ) → t < length s.gates → SetBefore s t (gate s t).output → ⊥
-      fresh t l (inl input) = both_ways (slot_sets s (inputs + t) (gate s t).output)
-          (order.once (gate s t).output (inputs + t) (gate s t).output (omega (arith, input)) (omega (arith, l, direct_count s direct)) (input_sets (gate s t).output input)) (gate_sets t (gate s t).output l refl)
-      fresh t l (inr u) = both_ways (slot_sets s (inputs + t) (gate s t).output)
-          (order.once (inputs + u.0) (inputs + t) (gate s t).output (omega (arith, u.1)) (omega (arith, l, direct_count s direct)) (gate_sets u.0 (gate s t).output (omega (arith, u.1, l)) u.2)) (gate_sets t (gate s t).output l refl)
+      fresh t l (inl input) =
+          let w = (gate s t).output in
+          both_ways (slot_sets s (number (At_gate t)) w)
+          (wired.order.once (number (Input w)) (number (At_gate t)) w (omega (arith, input)) (number_within s (At_gate t) l) (sets_at (Input w) w input (is_one w)))
+          (sets_at (At_gate t) w l (is_one w))
+      fresh t l (inr u) =
+          let w = (gate s t).output in
+          let rises = gate_rises s u.0 t u.1 in
+          both_ways (slot_sets s (number (At_gate t)) w)
+          (wired.order.once (number (At_gate u.0)) (number (At_gate t)) w (omega (arith, rises)) (number_within s (At_gate t) l)
+          (sets_at (At_gate u.0) w (omega (arith, u.1, l)) (or_left (nat_eq w (gate s u.0).output) false (eq-eqb w (gate s u.0).output u.2))))
+          (sets_at (At_gate t) w l (is_one w))
 
-      set_by : (j w : ℕ) → j < session_slots s → slot_sets s j w ≡ true → SetBefore s (length s.gates) w
-      set_by j w = slot_cases s direct (λ j z. list_any (nat_eq w) (sets_in s z) ≡ true → SetBefore s (length s.gates) w)
-          (λ v l e. inl (let is = one_wire v w e in omega (arith, is, l)))
-          (λ u l e. inr (u, l, one_wire (gate s u).output w e))
-          (λ o l e. absurd (false≢true e)) j
+      set_at_all : {j w : ℕ} → SetIn j w → SetBefore s (length s.gates) w
+      set_at_all (inl l) = inl l
+      set_at_all (inr u) = inr (u.0, u.1, u.2)

@@ -30,4 +30,4 @@ pub direct_names : (s : Session) → s.prepared ≡ false → row_names s ≡ s.
 direct_names s e = cond-false s.prepared (s.wires + 3 * length s.gates) s.wires e
 
 pub few_slots : (s : Session) → IsWired s → session_slots s < 4294967295
-few_slots s wired = omega (arith, slot_count s, few_before s (length s.gates), wired.wires, wired.gates, wired.input_wires, wired.output_wires)
+few_slots s wired = omega (arith, slot_count s, few_before s (length s.gates), wired.wires, wired.gates, wired.input_wires, wired.output_wires, wired.kept.few)

@@ -15,7 +15,7 @@ use Rattle.circuit_model.specs.declared.gate.Operation.{Operation}
 use Rattle.circuit_model.specs.declared.gate.Operation.TheVariants.{Add, Sub, Mul, Neg, Eq, Eqw, And, Xor, Inv}
 use Rattle.job_session.specs.declared.batch_scan.BatchScan.{BatchScan}
 use Rattle.job_session.specs.Sessions.{Session, Slot, gate, no_gate, mask_wire, product_wire, row_names, owners, readers, output_wire, session_slot, session_slots}
-use Rattle.job_session.specs.Sessions.Slot.{Input, At_gate, Output, Mask, Mask_product, Masked}
+use Rattle.job_session.specs.Sessions.Slot.{Input, At_gate, Output, Mask, Mask_product, Masked, Kept}
 use Rattle.job_session.specs.KeptWires.{reads_in, slot_reads}
 use Rattle.job_session.specs.SoundSessions.{IsWired, Inside}
 use Rattle.job_session.specs.Wirings.{is_named}
@@ -46,6 +46,7 @@ completes_within s k w wired l = slot_kinds s (λ k z. list_any (nat_eq w) (comp
     each (Mask t side) i e = omega (arith, one_wire (mask_wire s t side) w e, mask_within s t side i.0 i.1)
     each (Mask_product t) i e = omega (arith, one_wire (product_wire s t) w e, product_named s t i.0 i.1)
     each (Masked t side) i e = absurd (false≢true e)
+    each (Kept j) i e = absurd (false≢true e)
 
 -- ---- a direct session has no slot of a prepared product
 

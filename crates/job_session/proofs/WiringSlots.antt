@@ -1,27 +1,52 @@
 -- The slots of a session as the program has it.
-use Rattle.std.proofs.Common.{◌≡◌, ℕ, ◌+◌, ◌-◌, ◌<◌, ◌≤◌, true, false, ◌||◌, List, [], ◌∷◌, length, inl, inr, Some, None, refl, sym, ap, ◌∙◌, subst, arith}
-use Rattle.std.specs.Prelude.{nat_eq, slice_index_or, is_some, Option}
+use Rattle.std.proofs.Common.{◌≡◌, ℕ, ◌+◌, ◌-◌, ◌<◌, ◌≤◌, true, false, ◌||◌, List, [], ◌∷◌, ◌++◌, length, take, length-append, inl, inr, Some, None, refl, sym, ap, ◌∙◌, subst, arith}
+use Rattle.std.specs.Prelude.{map, nat_eq, slice_index_or, is_some, Option}
 use Rattle.std.specs.List.{list_any}
-use Rattle.std.proofs.lemmas.Bool.{or_cases, or_left, eq-eqb, eqb-true, false≢true}
-use Rattle.std.proofs.lemmas.List.{get_or_default, get_or-map, length-map}
+use Rattle.std.proofs.lemmas.Bool.{cases_Bool, cond-true, cond-false, or_cases, or_left, eq-eqb, eqb-true, false≢true}
+use Rattle.std.proofs.lemmas.List.{get_or_default, get_or-map, length-map, take_all, take-append-le, take-map}
+use Rattle.list_laws.specs.Lists.{listed}
+use Rattle.list_laws.proofs.JoinedLists.{length-listed}
 use Rattle.list_laws.proofs.Tests.{or_false}
 use Rattle.circuit_model.specs.declared.gate.Gate.{Gate}
+use Rattle.job_session.specs.declared.source.Source.TheVariants.{Given}
 use Rattle.job_session.specs.declared.touched.Touched.{Touched}
+use Rattle.job_session.specs.declared.values.KeptWire.{KeptWire}
 use Rattle.job_session.specs.declared.wiring.Wiring.{Wiring}
-use Rattle.job_session.specs.Sessions.{Session, Slot, gate, no_gate, has_product, is_gate, output_wire, owners, readers, session_slot, session_slots}
-use Rattle.job_session.specs.Sessions.Slot.{Input, At_gate, Output, Mask, Mask_product, Masked}
+use Rattle.job_session.specs.Sessions.{Session, Slot, gate, giver, no_gate, has_product, is_gate, output_wire, owners, readers, session_slot, session_slots, slot_list}
+use Rattle.job_session.specs.Sessions.Slot.{Input, At_gate, Output, Mask, Mask_product, Masked, Kept}
 use Rattle.job_session.specs.KeptWires.{reads_in, sets_in, slot_reads}
 use Rattle.job_session.specs.declared.slot_kind.SlotKind.{SlotKind}
 use Rattle.job_session.specs.SoundSessions.{IsWired, slot_of_kind}
-use Rattle.job_session.specs.Wirings.{AreReads, IsTouched, IsWiring, is_among, is_named, session_in}
-use Rattle.job_session.proofs.SessionSlots.{direct_count, slot_gate, slot_input, slot_output, slot_cases}
+use Rattle.job_session.specs.Wirings.{AreReads, IsTouched, IsWiring, is_among, is_named, session_in, some_carried}
+use Rattle.job_session.proofs.SessionSlots.{direct_count, kept_last, own_slots, slot_gate, slot_input, slot_output, slot_cases}
 use Rattle.job_session.proofs.RowNames.{wires_named}
+use Rattle.job_session.proofs.ValueWires.{values_given}
 use Rattle.job_session.proofs.LastReads.{gate_reads}
 use Rattle.job_session.proofs.ScannedSlots.{reads_within}
 use Rattle.job_session.proofs.ScannedBatches.{read_named}
 
-pub wiring_count : (w : Wiring) → IsWiring w → w.prepared ≡ false → session_slots (session_in w) ≡ length w.owners.items + length w.gates.items + length w.readers.items
-wiring_count w v direct = (let count = direct_count (session_in w) direct in omega (arith, count, ap length v.owned, ap length v.read))
+-- the table of owners has one for each input wire
+pub owners_count : (w : Wiring) → IsWiring w → length w.owners.items ≡ length (owners (session_in w))
+owners_count w v = ap length v.owned ∙ length-map (owners (session_in w)) giver
+
+pub wiring_count : (w : Wiring) → IsWiring w → w.prepared ≡ false → session_slots (session_in w) ≡ length w.owners.items + length w.gates.items + length w.readers.items + length w.kept.items
+wiring_count w v direct = (let count = direct_count (session_in w) direct in omega (arith, count, owners_count w v, ap length v.read))
+
+-- where no source is listed, a party gives each input wire
+pub all_given : (w : Wiring) → IsWiring w → w.sources.items ≡ [] → owners (session_in w) ≡ map (λ (p : ℕ). Given p) w.owners.items
+all_given w v none = elim (cases_Bool (some_carried w.inputs.items)) [
+  | inr no' ↦ values_given w.inputs.items no' ∙ ap (map (λ (p : ℕ). Given p)) (sym v.owned)
+  | inl yes' ↦
+      let empty : owners (session_in w) ≡ [] = sym (cond-true (some_carried w.inputs.items) (owners (session_in w)) [] yes') ∙ sym v.sources ∙ none in
+      empty ∙ sym (ap (λ xs. map (λ (p : ℕ). Given p) (map giver xs)) empty) ∙ ap (map (λ (p : ℕ). Given p)) (sym v.owned)
+]
+
+-- and where some are, each is
+pub all_listed : (w : Wiring) → IsWiring w → (v : ℕ) → v < length w.sources.items → w.sources.items ≡ owners (session_in w)
+all_listed w h v l = elim (cases_Bool (some_carried w.inputs.items)) [
+  | inl yes' ↦ h.sources ∙ cond-true (some_carried w.inputs.items) (owners (session_in w)) [] yes'
+  | inr no' ↦ absurd (let none = ap length (h.sources ∙ cond-false (some_carried w.inputs.items) (owners (session_in w)) [] no') in omega (arith, l, none))
+]
 
 -- the table of kinds has one for each slot
 pub kinds_count : (w : Wiring) → IsWiring w → w.prepared ≡ true → length w.kinds.items ≡ session_slots (session_in w)
@@ -32,6 +57,23 @@ pub kind_listed : (w : Wiring) (k : ℕ) (found : SlotKind) → IsWiring w → w
 kind_listed w k found v e l is =
     let past = Output (length (readers (session_in w))) in
     ap slot_of_kind is ∙ sym (get_or-map slot_of_kind w.kinds.items k found past (omega (arith, l, kinds_count w v e))) ∙ ap (λ xs. slice_index_or xs k past) (v.kinds e)
+
+-- and one for each wire that is kept, behind the others
+pub kept_relisted : (w : Wiring) (kept : List KeptWire) (n : ℕ) → IsWiring w → w.prepared ≡ true → n + length w.kept.items ≡ length w.kinds.items
+    → map slot_of_kind (take n w.kinds.items) ++ listed (length kept) (λ j. Kept j) ≡ slot_list (record (session_in w) { kept = kept })
+kept_relisted w kept n v e long =
+    let s = session_in w in
+    let others = own_slots s in
+    let behind = listed (length s.kept) (λ j. Kept j) in
+    let same : n ≡ length others = omega (arith, long, kinds_count w v e, ap length (kept_last s), length-append others behind, length-listed (length s.kept) (λ j. Kept j)) in
+    ap (λ xs. xs ++ listed (length kept) (λ j. Kept j)) (
+    sym (take-map slot_of_kind n w.kinds.items) ∙ ap (take n) (v.kinds e ∙ kept_last s) ∙ ap (λ k. take k (others ++ behind)) same
+    ∙ take-append-le (length others) others behind (omega arith) ∙ take_all (length others) others (omega arith)
+    )
+    ∙ sym (again s kept)
+  where
+    again : (s : Session) (kept : List KeptWire) → slot_list (record s { kept = kept }) ≡ own_slots s ++ listed (length kept) (λ j. Kept j)
+    again s kept = kept_last (record s { kept = kept })
 
 -- the wires in the fields of a gate are those of its slot
 pub gate_is_touched : (s : Session) (n t : ℕ) (g : Gate) (touched : Touched) → IsWired s → s.prepared ≡ false → t < length s.gates → n ≡ length (owners s) → g ≡ slice_index_or s.gates t g
@@ -114,6 +156,7 @@ direct_product s direct = slot_cases s direct (λ k z. has_product z ≡ true �
     (λ v l e. absurd (false≢true e))
     (λ t l e. (omega arith, omega (arith, l), ap (λ n. At_gate n) (omega arith)))
     (λ o l e. absurd (false≢true e))
+    (λ j l e. absurd (false≢true e))
 
 pub gate_has : (z : Slot) → is_gate z ≡ true → has_product z ≡ true
 gate_has (At_gate t) e = refl
@@ -122,3 +165,4 @@ gate_has (Output o) e = absurd (false≢true e)
 gate_has (Mask t side) e = absurd (false≢true e)
 gate_has (Mask_product t) e = absurd (false≢true e)
 gate_has (Masked t side) e = absurd (false≢true e)
+gate_has (Kept j) e = absurd (false≢true e)

@@ -4,7 +4,7 @@ use Rattle.std.specs.List.{list_any}
 use Rattle.list_laws.specs.Lists.{only_if, some_below, total}
 use Rattle.circuit_model.specs.Circuits.{is_product}
 use Rattle.job_session.specs.Sessions.{Session, Slot, gate, is_prepared, mask_wire, product_wire, session_slot, session_slots}
-use Rattle.job_session.specs.Sessions.Slot.{Input, At_gate, Output, Mask, Mask_product, Masked}
+use Rattle.job_session.specs.Sessions.Slot.{Input, At_gate, Output, Mask, Mask_product, Masked, Kept}
 use Rattle.job_session.specs.KeptWires.{reads_in, sets_in}
 
 -- the wires of a slot that are complete only when what others post there was taken
@@ -15,6 +15,7 @@ completes s (Output o) = []
 completes s (Mask t side) = mask_wire s t side ∷ []
 completes s (Mask_product t) = product_wire s t ∷ []
 completes s (Masked t side) = []
+completes s (Kept j) = []
 
 -- slot k completes wire w
 abbrev pub slot_completes : Session → ℕ → ℕ → Bool

@@ -5,9 +5,9 @@ use Rattle.std.specs.List.{list_any}
 use Rattle.list_laws.specs.Lists.{total, some_below}
 use Rattle.circuit_model.specs.Netlists.{read_by}
 use Rattle.job_session.specs.declared.row_table.RowTable.{RowTable}
-use Rattle.job_session.specs.Sessions.{Session, Slot, gate, is_prepared, operand, mask_wire, product_wire, row_names, output_wire, session_slot, session_slots}
+use Rattle.job_session.specs.Sessions.{Session, Slot, gate, is_prepared, operand, mask_wire, product_wire, row_names, kept_wire, output_wire, session_slot, session_slots}
 use Rattle.job_session.specs.declared.side.Side.TheVariants.{First, Second}
-use Rattle.job_session.specs.Sessions.Slot.{Input, At_gate, Output, Mask, Mask_product, Masked}
+use Rattle.job_session.specs.Sessions.Slot.{Input, At_gate, Output, Mask, Mask_product, Masked, Kept}
 
 -- the wires that a slot sets
 abbrev pub sets_in : Session → Slot → List ℕ
@@ -17,6 +17,7 @@ sets_in s (Output o) = []
 sets_in s (Mask t side) = mask_wire s t side ∷ []
 sets_in s (Mask_product t) = product_wire s t ∷ []
 sets_in s (Masked t side) = []
+sets_in s (Kept j) = []
 
 -- the wires that a slot reads; a prepared product joins its masks and their product
 abbrev pub reads_in : Session → Slot → List ℕ
@@ -27,6 +28,7 @@ reads_in s (Output o) = output_wire s o ∷ []
 reads_in s (Mask t side) = []
 reads_in s (Mask_product t) = mask_wire s t First ∷ mask_wire s t Second ∷ []
 reads_in s (Masked t side) = operand (gate s t) side ∷ mask_wire s t side ∷ []
+reads_in s (Kept j) = kept_wire s j ∷ []
 
 -- slot k sets wire w
 abbrev pub slot_sets : Session → ℕ → ℕ → Bool

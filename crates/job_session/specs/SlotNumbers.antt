@@ -2,7 +2,7 @@
 use Rattle.std.specs.Prelude.{◌≡◌, ℕ, ◌+◌, ◌*◌, ◌<◌, if◌then◌else◌, length}
 use Rattle.list_laws.specs.Lists.{total}
 use Rattle.job_session.specs.Sessions.{Session, Slot, owners, readers, is_prepared, session_slot, session_slots}
-use Rattle.job_session.specs.Sessions.Slot.{Input, At_gate, Output, Mask, Mask_product, Masked}
+use Rattle.job_session.specs.Sessions.Slot.{Input, At_gate, Output, Mask, Mask_product, Masked, Kept}
 use Rattle.job_session.specs.SoundSessions.{Inside}
 use Rattle.job_session.specs.declared.side.Side.TheVariants.{First, Second}
 
@@ -28,6 +28,7 @@ session_slot_number s (Masked t First) = first_of_gate s t
 session_slot_number s (Masked t Second) = first_of_gate s t + 1
 session_slot_number s (At_gate t) = first_of_gate s t + (if is_prepared s t then 2 else 0)
 session_slot_number s (Output o) = first_of_gate s (length s.gates) + o
+session_slot_number s (Kept j) = first_of_gate s (length s.gates) + length (readers s) + j
 
 -- each slot stands at its number, and each number below the count of slots is one slot's
 pub record SlotsAreNumbered (s : Session) : Type 0 where
@@ -35,4 +36,4 @@ pub record SlotsAreNumbered (s : Session) : Type 0 where
   pub number : (k : ℕ) → k < session_slots s → session_slot_number s (session_slot s k) ≡ k
   pub there : (kind : Slot) → Inside s kind
       → (session_slot_number s kind < session_slots s) × (session_slot s (session_slot_number s kind) ≡ kind)
-  pub count : session_slots s ≡ first_of_gate s (length s.gates) + length (readers s)
+  pub count : session_slots s ≡ first_of_gate s (length s.gates) + length (readers s) + length s.kept

@@ -1,5 +1,5 @@
 //! The batches of a session, found slot by slot.
-ghost use Rattle.std.specs.Prelude.{◌≡◌, ◌-◌, IfOk, OnOk, false};
+ghost use Rattle.std.specs.Prelude.{◌≡◌, ◌-◌, [], IfOk, OnOk, false};
 ghost use Rattle.job_session.specs.Sessions.{session_slots};
 ghost use Rattle.job_session.specs.Batches.{AreBatchEnds};
 ghost use Rattle.job_session.specs.BatchScans.{IsBatchScan};
@@ -220,19 +220,20 @@ pub(crate) fn batch_ends(alloc: Global, wiring: &Wiring) -> Result<Vec<u32>, All
 {
     let names = wiring.row_names() as usize;
     let mut scan = BatchScan::start(alloc, names, wiring.slots() as usize)?;
-    if wiring.prepared {
-        scan_kinds(wiring, &mut scan)?;
-    } else {
+    if wiring.is_bare() {
         scan_direct(wiring, &mut scan)?;
+    } else {
+        scan_kinds(wiring, &mut scan)?;
     }
     scan.into_ends(wiring)
 }
 
-// All slots of a direct session.
+// All slots of a direct session that keeps nothing.
 #[inline(always)]
 fn scan_direct(wiring: &Wiring, scan: &mut BatchScan) -> Result<(), AllocError>
     requires wiring { IsWiring wiring.now }
     requires direct { wiring.now.prepared ≡ false }
+    requires bare { wiring.now.kept.items ≡ [] }
     requires scan { IsBatchScan (session_in wiring.now) 0 0 scan.old }
     ensures { OnOk result (IsBatchScan (session_in wiring.now) (session_slots (session_in wiring.now) - 1)
         (session_slots (session_in wiring.now)) scan.new) }

@@ -2,7 +2,7 @@
 ghost use Rattle.std.specs.Prelude.{◌≡◌, ℕ, ◌<◌, ◌++◌, [], ◌∷◌, IfOk, OnOk, map, length, true};
 ghost use Rattle.list_laws.specs.Lists.{listed};
 ghost use Rattle.job_session.specs.Sessions.{Slot, gate_slots, owners, prepared_slots, readers, slot_list};
-ghost use Rattle.job_session.specs.Sessions.Slot.{Input, Output};
+ghost use Rattle.job_session.specs.Sessions.Slot.{Input, Output, Kept};
 ghost use Rattle.job_session.specs.SoundSessions.{slot_of_kind};
 ghost use Rattle.job_session.specs.Wirings.{IsWiring, session_in, prepared_in};
 
@@ -21,6 +21,7 @@ pub(crate) fn list_kinds(alloc: Global, wiring: &Wiring) -> Result<Vec<SlotKind>
     push_inputs(wiring, &mut kinds)?;
     push_gates(wiring, &mut kinds)?;
     push_outputs(wiring, &mut kinds)?;
+    push_kept(wiring.kept.len() as u32, &mut kinds)?;
     Ok(kinds)
 }
 
@@ -82,6 +83,17 @@ fn push_outputs(wiring: &Wiring, kinds: &mut Vec<SlotKind>) -> Result<(), AllocE
 {
     for o in 0..wiring.readers.len() as u32 {
         kinds.push(SlotKind::Output(o))?;
+    }
+    Ok(())
+}
+
+/// So many wires that are kept.
+pub(crate) fn push_kept(count: u32, kinds: &mut Vec<SlotKind>) -> Result<(), AllocError>
+    ensures { OnOk result (map slot_of_kind kinds.new.items ≡ map slot_of_kind kinds.old.items
+        ++ listed count (λ j. Kept j)) }
+{
+    for j in 0..count {
+        kinds.push(SlotKind::Kept(j))?;
     }
     Ok(())
 }

@@ -80,6 +80,7 @@ impl Wiring {
             SlotKind::Input(_) | SlotKind::Mask(..) => (None, None),
             SlotKind::Gate(t) => self.early_gate_reads(t),
             SlotKind::Output(o) => (Some(self.output_wire(o)), None),
+            SlotKind::Kept(j) => (Some(self.kept_wire(j)), None),
             SlotKind::MaskProduct(t) => {
                 let first = self.mask_wire(t, Side::First);
                 (Some(first), Some(self.mask_wire(t, Side::Second)))
@@ -134,7 +135,7 @@ impl Wiring {
             SlotKind::Gate(t) => Some(self.gates[t as usize].output),
             SlotKind::Mask(t, side) => Some(self.mask_wire(t, side)),
             SlotKind::MaskProduct(t) => Some(self.product_wire(t)),
-            SlotKind::Output(_) | SlotKind::Masked(..) => None,
+            SlotKind::Output(_) | SlotKind::Masked(..) | SlotKind::Kept(..) => None,
         }
     }
 

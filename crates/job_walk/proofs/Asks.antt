@@ -1,10 +1,9 @@
 -- Which files steps ask for that follow each other.
-use Rattle.std.proofs.Common.{◌≡◌, ℕ, List, [], ◌∷◌, ◌++◌, map, Result, Ok, Err, refl, sym, ap, subst, inl, inr, ◌∙◌, append_assoc}
-use Rattle.std.specs.Prelude.{◌⊎◌}
+use Rattle.std.proofs.Common.{ℕ, List, [], ◌++◌, map, refl, sym, ap, ◌∙◌, append_assoc}
 use Rattle.std.proofs.lemmas.List.{append-nil, map-append}
 use Rattle.outer_io.specs.Files.{FilesReading}
 use Rattle.job_walk.specs.Names.{path_of}
-use Rattle.job_walk.specs.FilesAsked.{AsksFor, AsksPart, IsLast}
+use Rattle.job_walk.specs.FilesAsked.{AsksFor, AsksPart}
 
 module _ (dir : List ℕ) where
   pub asks_none : (now : FilesReading) → AsksFor dir [] now now

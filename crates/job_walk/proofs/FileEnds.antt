@@ -11,7 +11,7 @@ use Rattle.job_walk.specs.JobOf.{file_at, bytes_of, file_limit}
 use Rattle.job_walk.specs.Verdict.{accepted, missing, refused}
 use Rattle.job_walk.specs.FilesAsked.{AsksFor, AsksPart, IsLast}
 use Rattle.job_walk.specs.Reads.{KeepsFiles}
-use Rattle.job_walk.proofs.Asks.{part_all, part_none}
+use Rattle.job_walk.proofs.Asks.{part_all}
 use Rattle.refusal_text.specs.Lines.{too_long_line}
 
 pub read_keeps : (name : List ℕ) (limit : ℕ) (before after : FilesReading) (result : Result (Vec ℕ Global) ReadRefusal) → Reads name limit before after result → KeepsFiles before after

@@ -1,5 +1,5 @@
 -- The files of a job that was read.
-use Rattle.std.proofs.Common.{◌≡◌, ℕ, List, [], ◌∷◌, ◌++◌, Bool, Option, None, Some, Result, Ok, Err, refl, sym, ap, subst, ◌∙◌}
+use Rattle.std.proofs.Common.{◌≡◌, ℕ, List, [], ◌∷◌, Bool, None, Some, Result, Ok, Err, refl, sym, ap, subst}
 use Rattle.std.specs.Prelude.{IfSome, IfOk, IsErrAnd}
 use Rattle.std.proofs.lemmas.Result.{err_from_is_err_and}
 use Rattle.outer_io.specs.Files.{FilesReading, Told, IsContent}
@@ -7,7 +7,6 @@ use Rattle.job_file.specs.Forms.{JobForm}
 use Rattle.job_file.specs.Faults.{job_in}
 use Rattle.job_file.specs.Jobs.{job_view}
 use Rattle.job_file.specs.declared.job.Job.{Job}
-use Rattle.job_file.specs.declared.fault.JobFault.{JobFault}
 use Rattle.refusal_text.specs.Lines.{job_line}
 use Rattle.job_walk.specs.declared.stop.Stop.{Stop}
 use Rattle.job_walk.specs.Names.{job_file, path_of}

@@ -1,4 +1,5 @@
 pub mod Asks
+pub mod CarriedValues
 pub mod Equal
 pub mod FileEnds
 pub mod JobFiles

@@ -31,23 +31,23 @@ module _ (dir : List ℕ) (job : JobForm) (sessions : List JobSession) (s : ℕ)
   pub parts_same : (parts parts' : List Session) (k : ℕ) (mid after : FilesReading) → parts ≡ parts' → ReadsRest parts k mid after → ReadsRest parts' k mid after
   parts_same parts parts' k mid after same r = subst (λ ps. ReadsRest ps k mid after) same r
 
-  module _ (session : JobSession) (is : session ≡ get_or sessions s session) (l : s < length sessions) (parts : List Session) (count : length parts ≡ s) where
+  module _ (session : JobSession) (is : session ≡ get_or sessions s session) (l : s < length sessions) (shown parts : List Session) (same : shown ≡ parts) where
     abbrev form : SessionForm
     form = session_view session
 
     on_list : (after : FilesReading) → ReadsForms parts (form ∷ drop (s + 1) (map session_view sessions)) before after → ReadsRest parts s before after
     on_list after r = subst (λ xs. ReadsForms parts xs before after) (sym (left_of session_view sessions s session l ∙ ap (λ x. session_view x ∷ drop (s + 1) (map session_view sessions)) (sym is))) r
 
-    pub session_next : (mid after : FilesReading) (part : Session) → ReadsAs dir (session.circuit ∷ []) (λ (part : Session). part) (λ m. SessionAt m dir job s form) before mid (Ok part)
+    pub session_next : (mid after : FilesReading) (part : Session) → ReadsAs dir (session.circuit ∷ []) (λ (part : Session). part) (λ m. SessionAt m dir job shown form) before mid (Ok part)
         → ReadsRest (parts ++ part ∷ []) (s + 1) mid after → ReadsRest parts s before after
     unfolding SessionsAfter
     session_next mid after part r rest =
-        on_list after (reads_then _ _ _ _ before mid after part result (subst (λ k. ReadsAs dir (session.circuit ∷ []) (λ (part : Session). part) (λ m. SessionAt m dir job k form) before mid (Ok part)) (sym count) r) rest)
+        on_list after (reads_then _ _ _ _ before mid after part result (subst (λ earlier. ReadsAs dir (session.circuit ∷ []) (λ (part : Session). part) (λ m. SessionAt m dir job earlier form) before mid (Ok part)) same r) rest)
 
-    pub session_stops : (after : FilesReading) (stop : Stop) → IsErrAnd result (λ e. e ≡ stop) → ReadsAs {C = Session} dir (session.circuit ∷ []) (λ part. part) (λ m. SessionAt m dir job s form) before after (Err stop) → ReadsRest parts s before after
+    pub session_stops : (after : FilesReading) (stop : Stop) → IsErrAnd result (λ e. e ≡ stop) → ReadsAs {C = Session} dir (session.circuit ∷ []) (λ part. part) (λ m. SessionAt m dir job shown form) before after (Err stop) → ReadsRest parts s before after
     unfolding SessionsAfter
     session_stops after stop err r =
-        on_list after (reads_exit _ _ _ _ _ before after stop result err (subst (λ k. ReadsAs {C = Session} dir (session.circuit ∷ []) (λ part. part) (λ m. SessionAt m dir job k form) before after (Err stop)) (sym count) r))
+        on_list after (reads_exit _ _ _ _ _ before after stop result err (subst (λ earlier. ReadsAs {C = Session} dir (session.circuit ∷ []) (λ part. part) (λ m. SessionAt m dir job earlier form) before after (Err stop)) same r))
 
 pub sessions_end : (dir : List ℕ) (job : JobForm) (sessions : List JobSession) (s : ℕ) (now : FilesReading) (parts : Vec Session Global) → length sessions ≤ s
     → ReadsAs dir (circuits (drop s (map session_view sessions))) seen_parts (λ m. SessionsAfter m dir job parts.items (drop s (map session_view sessions))) now now (Ok parts)

@@ -13,13 +13,18 @@ use Rattle.circuit_file.specs.CircuitFiles.{circuit_in}
 use Rattle.expr_circuit.specs.Laws.{IsCircuitOf, IsFault as IsProgramFault}
 use Rattle.expr_circuit.specs.declared.fault.ExprFault.{ExprFault}
 use Rattle.job_session.specs.Sessions.{Session}
+use Rattle.job_session.specs.declared.values.Owner.{Owner}
+use Rattle.job_session.specs.declared.values.Owner.TheVariants as owner
 use Rattle.job_plan.specs.Plans.{Plan, plan_of}
+use Rattle.job_plan.specs.Keeping.{keeping}
 use Rattle.job_plan.specs.Limits.{IsPlanWithin, IsPlanRefusal}
 use Rattle.job_session.specs.Parts.{part_fault, session_of}
 use Rattle.plan_faults.specs.declared.part_fault.PartFault.{PartFault}
 use Rattle.plan_faults.specs.declared.plan_fault.PlanFault.{PlanFault}
 use Rattle.plan_faults.specs.declared.plan_fault.PlanFault.TheVariants as plan_fault
 use Rattle.job_file.specs.Forms.{JobForm, SessionForm, AdversaryForm, by_formula, by_list}
+use Rattle.job_file.specs.declared.owner.JobOwner.{JobOwner}
+use Rattle.job_file.specs.declared.owner.JobOwner.TheVariants.{Party, Carried}
 use Rattle.job_file.specs.declared.layout.SessionLayout.{SessionLayout}
 use Rattle.job_file.specs.declared.layout.SessionLayout.TheVariants.{Gates, Expressions}
 use Rattle.job_file.specs.Faults.{job_in}
@@ -111,12 +116,18 @@ StructureOf job = Then (GroupsOf job.names job.adversary) (Q2Of job)
 abbrev pub groups_in : ℕ → List ℕ → List Members
 groups_in parties masks = map (λ mask. record { parties = parties; mask = mask }) masks
 
--- the session of a circuit, with prepared products or direct ones, where the counts of owners and readers are the
--- circuit's
-abbrev pub part_of : (PartFault → List ℕ) → Netlist → Bool → List ℕ → List Members → Verdict Session
-part_of line circuit prepared owners readers =
-    unless (part_fault circuit owners readers) line
-    (record (session_of circuit owners readers) { prepared = prepared })
+-- who gives an input value of a session
+abbrev pub owner_of : JobOwner → Owner
+owner_of (Party party) = owner.Party party
+owner_of (Carried session value) = owner.Carried session value
+
+-- the session of a circuit behind those before it, with prepared products or direct ones, where the counts of owners and
+-- readers are the circuit's, and each carried value is one of an earlier session and of the same width
+abbrev pub part_of :
+    (PartFault → List ℕ) → Netlist → Bool → List JobOwner → List Members → List Session → Verdict Session
+part_of line circuit prepared owners readers before =
+    unless (part_fault circuit (map owner_of owners) readers before) line
+    (record (session_of circuit (map owner_of owners) readers) { prepared = prepared })
 
 -- the circuit of a program of expressions, or the program's first fault
 unfoldable pub ExpressionsOf : (ExprFault → List ℕ) → ℕ → List ℕ → Verdict Netlist → Type 0
@@ -130,20 +141,21 @@ unfoldable pub CircuitOf : SessionLayout → List ℕ → ℕ → ℕ → List �
 CircuitOf (Gates layout) file s bits bytes = Ends (verdict_of (circuit_line file s) (circuit_in layout bits bytes))
 CircuitOf Expressions file s bits bytes = ExpressionsOf (expressions_line file s) bits bytes
 
--- session s: its circuit's file, and its counts of owners and readers
-unfoldable pub SessionAt : Contents → List ℕ → JobForm → ℕ → SessionForm → Verdict Session → Type 0
-SessionAt files dir job s form =
+-- the session behind those that were read: its circuit's file, its counts of owners and readers, and what it carries
+unfoldable pub SessionAt :
+    Contents → List ℕ → JobForm → List Session → SessionForm → Verdict Session → Type 0
+SessionAt files dir job before form =
     Then (Ends (file_at files dir form.circuit)) (λ bytes.
-    Then (CircuitOf form.layout form.circuit s job.bits bytes) (λ circuit.
-    Ends (part_of (session_line s) circuit form.prepared form.owners
-    (groups_in (length job.names) form.readers))))
+    Then (CircuitOf form.layout form.circuit (length before) job.bits bytes) (λ circuit.
+    Ends (part_of (session_line (length before)) circuit form.prepared form.owners
+    (groups_in (length job.names) form.readers) before)))
 
 -- these sessions, after those that were read
 unfoldable pub SessionsAfter :
     Contents → List ℕ → JobForm → List Session → List SessionForm → Verdict (List Session) → Type 0
 SessionsAfter files dir job before [] = Ends (accepted before)
 SessionsAfter files dir job before (form ∷ forms) =
-    Then (SessionAt files dir job (length before) form) (λ s.
+    Then (SessionAt files dir job before form) (λ s.
     SessionsAfter files dir job (before ++ (s ∷ [])) forms)
 
 -- ---- the plan
@@ -165,12 +177,13 @@ pub record Planned : Type 0 where
   pub group : Option Members
   pub plan : Plan
 
--- the plan of a job over this structure, where its circuits are accepted and its sessions fit
+-- the plan of a job over this structure, where its circuits are accepted and its sessions fit; each of them keeps what
+-- later ones carry
 unfoldable pub PlannedOf :
     Contents → List ℕ → JobForm → Option Members → Structure → Verdict Planned → Type 0
 PlannedOf files dir job group s =
     Then (SessionsAfter files dir job [] job.sessions) (λ sessions.
-    Then (PlanOf job (plan_of job.bits s sessions)) (λ plan.
+    Then (PlanOf job (plan_of job.bits s (keeping sessions))) (λ plan.
     Ends (accepted (record { names = job.names; group = group; plan = plan }))))
 
 -- the plan of a folder, for which no party's file is read, and the group that a text asks for

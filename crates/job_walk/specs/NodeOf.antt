@@ -2,6 +2,7 @@
 use Rattle.std.specs.Prelude.{ℕ, true, List, [], ◌∷◌, map, Option, None, Some}
 use Rattle.party_set.specs.Names.{party_named}
 use Rattle.job_plan.specs.Plans.{Plan, plan_of}
+use Rattle.job_plan.specs.Keeping.{keeping}
 use Rattle.job_file.specs.Forms.{JobForm, SessionForm}
 use Rattle.job_digest.specs.Digests.{digest_of}
 use Rattle.party_file.specs.Table.{PartyForm}
@@ -42,7 +43,7 @@ NodeAt files dir name =
     Then (Ends (party_of (party_named job.names name))) (λ me.
     Then (StructureOf job) (λ groups.
     Then (SessionsAfter files dir job [] job.sessions) (λ sessions.
-    Then (PlanOf job (plan_of job.bits groups sessions)) (λ plan.
+    Then (PlanOf job (plan_of job.bits groups (keeping sessions))) (λ plan.
     Then (PartyAt files dir plan me name) (λ given.
     Ends (accepted (record {
       names = job.names;

@@ -3,6 +3,7 @@ ghost use Rattle.std.specs.Prelude.{◌≡◌, ◌≤◌, false, [], ◌∷◌, 
 ghost use Rattle.std.specs.Option.{is_some};
 ghost use Rattle.party_set.specs.Parties.{IsQ2};
 ghost use Rattle.job_plan.specs.Plans.{plan_of, structure};
+ghost use Rattle.job_plan.specs.Keeping.{AllFit, keeping};
 ghost use Rattle.job_session.specs.SoundSessions.{IsSoundSession};
 ghost use Rattle.outer_io.specs.Files.{FilesReading};
 ghost use Rattle.job_file.specs.Jobs.{job_view, IsJob};
@@ -120,9 +121,10 @@ pub(crate) fn make_plan(
     requires q2 { IsQ2 groups.now }
     requires few { length parts.items ≤ 16 }
     requires sound { All (IsSoundSession (length job.now.names)) parts.items }
+    requires fit { AllFit parts.items }
     ensures walks { WalksAs (λ plan. plan)
-        (PlanOf (job_view job.now) (plan_of job.now.ring groups.now parts.items)) result }
-    ensures is { IfOk result (λ plan. plan ≡ plan_of job.now.ring groups.now parts.items) }
+        (PlanOf (job_view job.now) (plan_of job.now.ring groups.now (keeping parts.items))) result }
+    ensures is { IfOk result (λ plan. plan ≡ plan_of job.now.ring groups.now (keeping parts.items)) }
 {
     let layout = Layout::make(alloc, groups)?;
     let duty = Duty::make(alloc, groups)?;

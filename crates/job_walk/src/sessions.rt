@@ -1,12 +1,14 @@
-//! The sessions of a job: their circuits' files, and the counts of owners and readers.
-ghost use Rattle.std.specs.Prelude.{◌≡◌, ◌<◌, ◌≤◌, [], ◌∷◌, All, IfOk, OnOk, length};
+//! The sessions of a job: their circuits' files, the counts of owners and readers, and what they carry.
+ghost use Rattle.std.specs.Prelude.{◌≡◌, ◌<◌, ◌≤◌, [], ◌∷◌, All, IfOk, OnOk, length, map};
 ghost use Rattle.circuit_model.specs.Checks.{Gives};
 ghost use Rattle.circuit_file.specs.CircuitFiles.{circuit_in};
+ghost use Rattle.job_session.specs.Parts.{CarriesFit};
 ghost use Rattle.job_session.specs.SoundSessions.{IsSoundSession};
+ghost use Rattle.job_plan.specs.Keeping.{AllFit};
 ghost use Rattle.job_file.specs.Jobs.{job_view, session_view, IsJob, IsSession};
 ghost use Rattle.refusal_text.specs.Lines.{circuit_line, expressions_line, session_line};
 ghost use Rattle.job_walk.specs.Verdict.{Ends, verdict_of};
-ghost use Rattle.job_walk.specs.JobOf.{part_of, CircuitOf, ExpressionsOf, SessionAt, SessionsAfter};
+ghost use Rattle.job_walk.specs.JobOf.{owner_of, part_of, CircuitOf, ExpressionsOf, SessionAt, SessionsAfter};
 ghost use Rattle.job_walk.specs.FileLogs.{Logs};
 ghost use Rattle.job_walk.specs.NodeOf.{circuit_files};
 ghost use Rattle.job_walk.specs.Reads.{ReadsAs, WalksAs};
@@ -17,8 +19,8 @@ use crate::file_log::FileLog;
 use crate::stop::refusal;
 use circuit_model::{Circuit, CircuitFault, CircuitLayout};
 use expr_circuit::ExprFault;
-use job_file::{Job, JobSession, SessionLayout};
-use job_plan::SessionPart;
+use job_file::{Job, JobOwner, JobSession, SessionLayout};
+use job_plan::{Owner, SessionPart};
 use mpc_ring::Ring;
 use outer_io::Files;
 use party_set::Group;
@@ -41,39 +43,43 @@ pub(crate) fn read_sessions<F: Files, L: FileLog>(
         (F.reading files.old) (F.reading files.new) result }
     ensures count { IfOk result (λ parts. length parts.items ≤ 16) }
     ensures sound { IfOk result (λ parts. All (IsSoundSession (length job.now.names)) parts.items) }
+    ensures fit { IfOk result (λ parts. AllFit parts.items) }
     ensures log { OnOk result
         (Logs L.has (F.reading files.old).told dir.now (circuit_files (job_view job.now)) log.old log.new) }
 {
     let mut parts = Vec::new(alloc);
-    for s in 0..job.sessions.len() {
-        let part = read_session(alloc, files, log, dir, job, &job.sessions[s], s as u32)?;
+    for session in &job.sessions {
+        let part = read_session(alloc, files, log, dir, job, &parts, session)?;
         parts.push(part)?;
     }
     Ok(parts)
 }
 
+// Reads the session behind those before it.
 fn read_session<F: Files, L: FileLog>(
     alloc: Global,
     files: &mut F,
     log: &mut L,
     dir: &str,
     job: &Job,
+    before: &[SessionPart],
     session: &JobSession,
-    s: u32,
 ) -> Result<SessionPart, Stop>
     requires job { IsJob job.now }
-    requires session { IsSession (length job.now.names) session.now }
+    requires few { length before.now < 16 }
+    requires session { IsSession (length job.now.names) (length before.now) session.now }
     ensures reads { ReadsAs dir.now (session.now.circuit ∷ []) (λ part. part)
-        (λ contents. SessionAt contents dir.now (job_view job.now) s (session_view session.now))
+        (λ contents. SessionAt contents dir.now (job_view job.now) before.now (session_view session.now))
         (F.reading files.old) (F.reading files.new) result }
     ensures sound { IfOk result (IsSoundSession (length job.now.names)) }
+    ensures fit { IfOk result (CarriesFit before.now) }
     ensures log { OnOk result
         (Logs L.has (F.reading files.old).told dir.now (session.now.circuit ∷ []) log.old log.new) }
 {
     let bytes = read_file(alloc, files, dir, session.circuit.as_str())?;
     log.take(&bytes);
-    let circuit = circuit_of(alloc, &bytes, session, job.ring, s)?;
-    part_of(alloc, circuit, session, s, job)
+    let circuit = circuit_of(alloc, &bytes, session, job.ring, before.len() as u32)?;
+    part_of(alloc, circuit, session, job, before)
 }
 
 fn read_circuit(
@@ -145,34 +151,51 @@ fn circuit_of_expressions(
     }
 }
 
+// The session of a circuit, behind those before it.
 fn part_of(
     alloc: Global,
     circuit: Circuit,
     session: &JobSession,
-    s: u32,
     job: &Job,
+    before: &[SessionPart],
 ) -> Result<SessionPart, Stop>
-    requires { IsSession (length job.now.names) session.now }
+    requires few { length before.now < 16 }
+    requires session { IsSession (length job.now.names) (length before.now) session.now }
     ensures walks { WalksAs (λ part. part)
-        (Ends (part_of (session_line s) circuit session.now.prepared session.now.owners.items
-        session.now.readers.items)) result }
+        (Ends (part_of (session_line (length before.now)) circuit session.now.prepared session.now.owners.items
+        session.now.readers.items before.now)) result }
     ensures sound { IfOk result (IsSoundSession (length job.now.names)) }
+    ensures fit { IfOk result (CarriesFit before.now) }
 {
     let _ = job;
-    let owners = owners_of(session)?;
+    let owners = owners_of(alloc, session)?;
     let readers = readers_of(session)?;
-    match SessionPart::make(alloc, circuit, owners, readers) {
+    match SessionPart::make(alloc, circuit, owners, readers, before) {
         Ok(part) if session.prepared => Ok(part.prepared(alloc)?),
         Ok(part) => Ok(part),
         Err(PartFault::Memory) => Err(Stop::Memory),
-        Err(fault) => Err(refusal(session_line(alloc, s, fault))),
+        Err(fault) => Err(refusal(session_line(alloc, before.len() as u32, fault))),
     }
 }
 
-fn owners_of(session: &JobSession) -> Result<Vec<u32>, AllocError>
-    ensures { IfOk result (λ owners. owners.items ≡ session.now.owners.items) }
+// Who gives an input value.
+fn owner_of(owner: JobOwner) -> Owner
+    ensures { result ≡ owner_of owner }
 {
-    session.owners.clone()
+    match owner {
+        JobOwner::Party(party) => Owner::Party(party),
+        JobOwner::Carried { session, value } => Owner::Carried { session, value },
+    }
+}
+
+fn owners_of(alloc: Global, session: &JobSession) -> Result<Vec<Owner>, AllocError>
+    ensures { IfOk result (λ owners. owners.items ≡ map owner_of session.now.owners.items) }
+{
+    session
+        .owners
+        .iter()
+        .map(|owner| owner_of(*owner))
+        .collect(alloc)
 }
 
 fn readers_of(session: &JobSession) -> Result<Vec<Group>, AllocError>

@@ -9,7 +9,7 @@ use Rattle.circuit_model.specs.Netlists.{read_by}
 use Rattle.job_session.specs.declared.side.Side.{Side}
 use Rattle.job_session.specs.declared.side.Side.TheVariants.{First, Second}
 use Rattle.job_session.specs.Sessions.{Session, Slot, gate, is_prepared, mask_wire, operand, product_wire, session_slot, session_slots}
-use Rattle.job_session.specs.Sessions.Slot.{Input, At_gate, Output, Mask, Mask_product, Masked}
+use Rattle.job_session.specs.Sessions.Slot.{Input, At_gate, Output, Mask, Mask_product, Masked, Kept}
 use Rattle.job_session.specs.SlotNumbers.{first_of_gate, prepared_before, session_slot_number}
 use Rattle.job_session.specs.SoundSessions.{IsWired, Inside}
 use Rattle.job_session.specs.Counts.{prepared_products, products}
@@ -78,6 +78,7 @@ module _ (s : Session) (wired : IsWired s) (by_layers : StandsByLayers s) (joins
   rank_of (Masked t side) = suc (all + layer s t)
   rank_of (At_gate t) = suc (all + layer s t)
   rank_of (Output o) = suc (all + depth s)
+  rank_of (Kept o) = suc (all + depth s)
 
   abbrev rank : ℕ → ℕ
   rank k = rank_of (session_slot s k)
@@ -166,6 +167,7 @@ module _ (s : Session) (wired : IsWired s) (by_layers : StandsByLayers s) (joins
   stands (Masked t Second) i = inr (inl (record { gate_of = t; there = i.0; from = omega arith; to = (let one = one_more s t i.1 in omega (arith, one)); is = refl }))
   stands (At_gate t) l = inr (inl (record { gate_of = t; there = l; from = omega arith; to = (let two = two_ones (is_prepared s t) in omega (arith, two)); is = refl }))
   stands (Output o) l = inr (inr (omega arith, refl))
+  stands (Kept o) l = inr (inr (omega arith, refl))
 
   rise : (n m r q : ℕ) → Stands n r → Stands m q → n ≤ m → r ≤ q
   rise n m r q (inl (inl a)) (inl (inl b)) le = omega (arith, le, a.number, b.number, a.few, b.few, a.from, a.to, b.from, b.to, a.is, b.is)
@@ -277,11 +279,13 @@ module _ (s : Session) (wired : IsWired s) (by_layers : StandsByLayers s) (joins
   reads_rise y (Input v) w i j b c r = absurd (false≢true r)
   reads_rise y (Mask t side) w i j b c r = absurd (false≢true r)
   reads_rise (Output o) z w i j b c r = absurd (false≢true c)
+  reads_rise (Kept o) z w i j b c r = absurd (false≢true c)
   reads_rise (Masked u side) z w i j b c r = absurd (false≢true c)
   reads_rise (Input v) (Mask_product t) w i j b c r = absurd (let is = one_wire v w c in let mask = masks_read t w r in omega (arith, is, mask.2, i, wired.input_wires))
   reads_rise (Input v) (Masked t side) w i j b c r = omega arith
   reads_rise (Input v) (At_gate t) w i j b c r = omega arith
   reads_rise (Input v) (Output o) w i j b c r = omega arith
+  reads_rise (Input v) (Kept o) w i j b c r = omega arith
   reads_rise (Mask u side) (Mask_product t) w i j b c r =
       let is = one_wire (mask_wire s u side) w c in
       let mask = masks_read t w r in
@@ -292,10 +296,12 @@ module _ (s : Session) (wired : IsWired s) (by_layers : StandsByLayers s) (joins
   reads_rise (Mask u side) (Masked t _) w i j b c r = (let less = before_all u i.0 i.1 in omega (arith, less))
   reads_rise (Mask u side) (At_gate t) w i j b c r = (let less = before_all u i.0 i.1 in omega (arith, less))
   reads_rise (Mask u side) (Output o) w i j b c r = (let less = before_all u i.0 i.1 in omega (arith, less))
+  reads_rise (Mask u side) (Kept o) w i j b c r = (let less = before_all u i.0 i.1 in omega (arith, less))
   reads_rise (Mask_product u) (Mask_product t) w i j b c r = absurd (let is = one_wire (product_wire s u) w c in let mask = masks_read t w r in omega (arith, is, mask.1, mask.2))
   reads_rise (Mask_product u) (Masked t side) w i j b c r = (let less = before_all u i.0 i.1 in omega (arith, less))
   reads_rise (Mask_product u) (At_gate t) w i j b c r = (let less = before_all u i.0 i.1 in omega (arith, less))
   reads_rise (Mask_product u) (Output o) w i j b c r = (let less = before_all u i.0 i.1 in omega (arith, less))
+  reads_rise (Mask_product u) (Kept o) w i j b c r = (let less = before_all u i.0 i.1 in omega (arith, less))
   reads_rise (At_gate u) (Mask_product t) w i j b c r = absurd (let made = gate_completes u w c in let mask = masks_read t w r in omega (arith, made.1, mask.2, wired.output u i))
   reads_rise (At_gate u) (Masked t side) w i j b c r =
       let made = gate_completes u w c in
@@ -315,14 +321,20 @@ module _ (s : Session) (wired : IsWired s) (by_layers : StandsByLayers s) (joins
       let made = gate_completes u w c in
       let deep = within_depth u i in
       omega (arith, deep, one_product u made.0)
+  reads_rise (At_gate u) (Kept o) w i j b c r =
+      let made = gate_completes u w c in
+      let deep = within_depth u i in
+      omega (arith, deep, one_product u made.0)
 
   join_rises : (y z : Slot) → Inside s y → Inside s z → session_slot_number s y < session_slot_number s z → is_join s y ≡ true → sets_early s z ≡ true → rank_of y < rank_of z
   join_rises (Input v) z i j b e f = absurd (false≢true e)
   join_rises (Output o) z i j b e f = absurd (false≢true e)
+  join_rises (Kept o) z i j b e f = absurd (false≢true e)
   join_rises (Mask t side) z i j b e f = absurd (false≢true e)
   join_rises (Mask_product t) z i j b e f = absurd (false≢true e)
   join_rises (Masked t side) z i j b e f = absurd (false≢true e)
   join_rises (At_gate u) (Output o) i j b e f = absurd (false≢true f)
+  join_rises (At_gate u) (Kept o) i j b e f = absurd (false≢true f)
   join_rises (At_gate u) (Masked t side) i j b e f = absurd (false≢true f)
   join_rises (At_gate u) (Input v) i j b e f = absurd (omega (arith, b, j))
   join_rises (At_gate u) (Mask t First) i j b e f = absurd (let less = before_all t j.0 j.1 in omega (arith, b, less))

@@ -17,6 +17,7 @@ use Rattle.job_plan.proofs.DistinctMessages.{every_place}
 use Rattle.party_program.specs.Proper.{Proper}
 use Rattle.program_laws.specs.Once.{IsBetweenParties}
 use Rattle.program_laws.proofs.MessageParties.{between}
+use Rattle.program_laws.proofs.SentMessages.{givers}
 use Rattle.program_laws.proofs.OncePosted.{once}
 use Rattle.program_laws.proofs.ProperPrograms.{proper_at}
 use Rattle.frame_code.specs.Frames.{FitsFrame}
@@ -83,13 +84,13 @@ module _ (plan : Plan) (me n : ℕ) (l : n < length (messages plan)) where
 -- ---- frames
 
 pub between_parties : (plan : Plan) → IsSound plan → (m : ℕ) → m < length (messages plan) → IsBetweenParties plan (message plan m)
-between_parties plan h m lm = between plan m (plan_is plan h) (λ s v ls lv. (h.sessions s ls).owned v lv) lm
+between_parties plan h m lm = between plan m (plan_is plan h) (givers plan h) lm
 
 -- a frame has room for the name of each message
 pub fits_frame : (plan : Plan) → IsSound plan → (m : ℕ) → m < length (messages plan) → FitsFrame (message plan m)
 fits_frame plan h m lm =
     let key : Key = message plan m in
-    let o = once plan m lm in
+    let o = once plan m (plan_is plan h) lm in
     let b = between_parties plan h m lm in
     let p = subst (Proper plan key.session) o.posted.stands (proper_at plan h key.session key.sender o.session_there b.sender o.posted.position) in
     let few = few_slots (session plan key.session) (h.sessions key.session o.session_there).wired in

@@ -3,11 +3,11 @@ use Rattle.std.specs.Prelude.{◌≡◌, ◌⊎◌, ℕ, ◌<◌, ◌≤◌, Lis
 use Rattle.outer_io.specs.Sink.{added, AddedPrefix}
 use Rattle.job_plan.specs.declared.key.Key.{Key}
 use Rattle.node_talk.specs.declared.fault.NodeFault.{NodeFault}
-use Rattle.node_talk.specs.Talks.{Node, IsPeer, IsRun, own_word, said, talk, expected, expected_at}
+use Rattle.node_talk.specs.Talks.{Node, IsPeer, IsRun, Stays, own_word, said, talk, expected, expected_at}
 use Rattle.node_talk.specs.PeerLinks.{in_from, out_to}
 use Rattle.outer_io.specs.Links.{LinksReading}
 use Rattle.node_talk.specs.Causes.{Cause}
-use Rattle.node_talk.specs.Runs.{TalkedThrough, TakesWhatCame, StopsAfter, NoSendRose, AllStarted, BrokeOff}
+use Rattle.node_talk.specs.Runs.{TalkedThrough, KeepsItsWords, TakesWhatCame, StopsAfter, NoSendRose, AllStarted, BrokeOff}
 use Rattle.link_reader.specs.Expected.{TalkModel}
 use Rattle.link_reader.specs.ReadWords.{ReadsWords}
 
@@ -57,28 +57,35 @@ ReadsOfAll n words before after =
     (q : ℕ) → IsPeer n q
     → (words q ≡ []) ⊎ ((result : Result (Unit {0}) NodeFault) × ReadsFrom n q (words q) before after result)
 
--- each message has the word that was read at its place, where one was
-abbrev pub HasReadWords : Node → (Key → ℕ) → (ℕ → List ℕ) → Type 0
-HasReadWords n got words = (q : ℕ) → IsPeer n q → HasFirstWords n q got (length (words q)) (words q)
+-- each message of a peer has the word that was read at its place, where one was, and each that stays with the party the
+-- word that it kept
+abbrev pub HasReadWords : Node → (Key → ℕ) → (ℕ → List ℕ) → (Key → ℕ) → Type 0
+HasReadWords n got words kept =
+    ((q : ℕ) → IsPeer n q → HasFirstWords n q got (length (words q)) (words q))
+    × ((key : Key) → Stays n key → got key ≡ kept key)
 
 -- all peers were read, and the party said all that its first k instructions say: the next one takes a word that wasn't
 -- read
-pub record SaidWhatItCould (n : Node) (words : ℕ → List ℕ) (k : ℕ) (before after : LinksReading) : Type 0 where
+pub record SaidWhatItCould (n : Node) (words : ℕ → List ℕ) (kept : Key → ℕ) (k : ℕ) (before after : LinksReading)
+    : Type 0 where
   pub read : (q : ℕ) → IsPeer n q → (result : Result (Unit {0}) NodeFault) × ReadsFrom n q (words q) before after result
-  pub told : (got : Key → ℕ) → HasReadWords n got words → (q : ℕ) → IsPeer n q
+  pub told : (got : Key → ℕ) → HasReadWords n got words kept → (q : ℕ) → IsPeer n q
       → (out_to n after q).told ≡ added (out_to n before q).told (said n q (own_word n got) k)
   pub stops : StopsAfter n (λ q. length (words q)) k
 
 -- a party stopped at a fault: of what its first k instructions say it said a first part, whatever words are still to
--- come, and they take only words that were read. Where no send failed and all readers were started, it said what it could
+-- come, and they take only words that were read, or that it kept for itself as it computes them. Where no send failed and
+-- all readers were started, it said what it could
 pub record StoppedShort (n : Node) (before after : LinksReading) (fault : NodeFault) : Type 0 where
   pub k : ℕ
   pub words : ℕ → List ℕ
+  pub kept : Key → ℕ
   pub read : ReadsOfAll n words before after
   pub takes : TakesWhatCame n (λ q. length (words q)) k
-  pub sent : (got : Key → ℕ) → HasReadWords n got words → (q : ℕ) → IsPeer n q
+  pub keeps : (got : Key → ℕ) → HasReadWords n got words kept → KeepsItsWords n got k
+  pub sent : (got : Key → ℕ) → HasReadWords n got words kept → (q : ℕ) → IsPeer n q
       → AddedPrefix (out_to n before q).told (said n q (own_word n got) k) (out_to n after q).told
-  pub all : AllStarted fault → NoSendRose n before after → SaidWhatItCould n words k before after
+  pub all : AllStarted fault → NoSendRose n before after → SaidWhatItCould n words kept k before after
 
 -- so it broke off
 abbrev pub BreaksOff : Node → Type 0

@@ -169,14 +169,14 @@ unfolding CircuitOf
 circuit_ends (Gates layout) file s bits bytes = ends _
 circuit_ends Expressions file s bits bytes = expressions_end _ bits bytes
 
-session_ends : (files : Contents) (dir : List ℕ) (job : JobForm) (s : ℕ) (form : SessionForm) → EndsSomehow (SessionAt files dir job s form)
+session_ends : (files : Contents) (dir : List ℕ) (job : JobForm) (before : List Session) (form : SessionForm) → EndsSomehow (SessionAt files dir job before form)
 unfolding SessionAt
-session_ends files dir job s form = then_ends _ _ (ends _) (λ bytes is. then_ends _ _ (circuit_ends form.layout form.circuit s job.bits bytes) (λ circuit made. ends _))
+session_ends files dir job before form = then_ends _ _ (ends _) (λ bytes is. then_ends _ _ (circuit_ends form.layout form.circuit (length before) job.bits bytes) (λ circuit made. ends _))
 
 sessions_end : (files : Contents) (dir : List ℕ) (job : JobForm) (before : List Session) (forms : List SessionForm) → EndsSomehow (SessionsAfter files dir job before forms)
 unfolding SessionsAfter
 sessions_end files dir job before [] = ends _
-sessions_end files dir job before (form ∷ forms) = then_ends _ _ (session_ends files dir job (length before) form) (λ s is. sessions_end files dir job (before ++ (s ∷ [])) forms)
+sessions_end files dir job before (form ∷ forms) = then_ends _ _ (session_ends files dir job before form) (λ s is. sessions_end files dir job (before ++ (s ∷ [])) forms)
 
 -- ---- the plan
 

@@ -1,11 +1,12 @@
 -- The job of accepted files is a whole world.
 use Rattle.std.proofs.Common.{◌≡◌, ℕ, zero, suc, ◌+◌, ◌^◌, ◌<◌, ◌≤◌, Bool, true, false, if◌then◌else◌, List, [], ◌∷◌, ◌++◌, length, map, Option, None, Some, Result, Ok, Err, inl, inr, refl, sym, ap, ◌∙◌, subst, arith, append_assoc}
-use Rattle.std.specs.Prelude.{slice_index, slice_index_or, nat_le, not}
+use Rattle.std.specs.Prelude.{All, slice_index, slice_index_or, nat_le, not}
+use Rattle.std.specs.Option.{option_or}
 use Rattle.std.specs.List.{AllByRecursion, concat}
 use Rattle.std.proofs.lemmas.Bool.{cases_lt, leb-true}
 use Rattle.std.proofs.lemmas.Nat.{pow_pos}
 use Rattle.std.proofs.lemmas.List.{append-nil, get_or-map, get_or_past, get_or_append_left, get_or_push, length-append, length-map}
-use Rattle.std.proofs.lemmas.List.Elements.{All-from_recursion, All-map, recursion_from_All}
+use Rattle.std.proofs.lemmas.List.Elements.{All-from_get_or, All-from_recursion, All-map, recursion_from_All}
 use Rattle.toml.specs.Data.{Members as Fields}
 use Rattle.list_laws.specs.Lists.{joined, total}
 use Rattle.list_laws.proofs.JoinedLists.{length-joined, every_joined, every_at}
@@ -27,12 +28,18 @@ use Rattle.group_formula.specs.Grammar.{shape}
 use Rattle.group_formula.proofs.Meaning.{sound, parties_below}
 use Rattle.group_formula.proofs.Monotonicity.{family_of}
 use Rattle.plan_faults.specs.declared.part_fault.PartFault.{PartFault}
-use Rattle.job_session.specs.Sessions.{Session, no_session}
+use Rattle.plan_faults.specs.Counts.{counts_fault}
+use Rattle.job_session.specs.Sessions.{Session, no_session, session_at}
 use Rattle.job_session.specs.declared.values.OutputValue.{OutputValue}
-use Rattle.job_session.specs.Parts.{session_of, part_fault, output_values}
-use Rattle.job_session.specs.SoundSessions.{IsSoundSession}
-use Rattle.job_session.proofs.CircuitSessions.{sound_session, sound_prepared, counts_agree}
+use Rattle.job_session.specs.declared.values.Owner.{Owner}
+use Rattle.job_session.specs.Carries.{kept_from}
+use Rattle.job_session.specs.Parts.{CarriesFit, carries_fault, session_of, part_fault, output_values}
+use Rattle.job_session.specs.SoundSessions.{IsSoundSession, IsWired}
+use Rattle.job_session.proofs.Carries.{carries_fit}
+use Rattle.job_session.proofs.CircuitSessions.{sound_session, sound_with, counts_agree}
 use Rattle.job_plan.specs.Plans.{Plan, plan_of, words}
+use Rattle.job_plan.specs.Keeping.{AllFit, keeping}
+use Rattle.job_plan.proofs.KeptSessions.{are_kept, carries_earlier, keeping_at, keeping_fits, keeps_carried, length_keeping}
 use Rattle.job_plan.specs.Sound.{IsSound}
 use Rattle.job_plan.specs.Limits.{IsPlanWithin}
 use Rattle.job_plan.specs.InputWords.{AreInputs, given}
@@ -41,7 +48,8 @@ use Rattle.job_file.specs.Forms.{JobForm, SessionForm, AdversaryForm, by_formula
 use Rattle.job_file.specs.Faults.{job_in}
 use Rattle.job_file.specs.declared.layout.SessionLayout.{SessionLayout}
 use Rattle.job_file.specs.declared.layout.SessionLayout.TheVariants.{Gates, Expressions}
-use Rattle.job_laws.specs.Documents.{IsSessionForm, IsJobForm}
+use Rattle.job_file.specs.Owners.{IsOwner}
+use Rattle.job_laws.specs.Documents.{AreSessionForms, IsSessionForm, IsJobForm}
 use Rattle.job_laws.proofs.ReadJobs.{good_job}
 use Rattle.party_file.specs.Table.{PartyForm, party_in, party_in_fields, party_checks, party_given}
 use Rattle.party_file.specs.Forms.{FitsPlan}
@@ -51,7 +59,8 @@ use Rattle.share_world.specs.Laws.{IsWhole}
 use Rattle.job_run.specs.Parties.{world_of}
 use Rattle.mpc_top.specs.WholeJobs.{WholeJob, whole_job, JobAt}
 use Rattle.job_walk.specs.Verdict.{accepted, refused, Then, verdict_of, unless}
-use Rattle.job_walk.specs.JobOf.{Contents, FormulaOf, few_groups, groups_of, GroupsOf, Q2Of, StructureOf, groups_in, part_of, CircuitOf, ExpressionsOf, SessionAt, SessionsAfter, PlanOf, Planned, PlannedOf, JobText, PlanAt, PartyAt, PartiesAfter}
+use Rattle.job_walk.proofs.CarriedValues.{fit_push, owners_among, owners_earlier}
+use Rattle.job_walk.specs.JobOf.{Contents, FormulaOf, few_groups, groups_of, GroupsOf, Q2Of, StructureOf, groups_in, owner_of, part_of, CircuitOf, ExpressionsOf, SessionAt, SessionsAfter, PlanOf, Planned, PlannedOf, JobText, PlanAt, PartyAt, PartiesAfter}
 
 -- ---- verdicts
 
@@ -233,17 +242,30 @@ outputs_within n [] masks h = tt
 outputs_within n (w ∷ ws) [] h = tt
 outputs_within n (w ∷ ws) (mask ∷ masks) h = (h.0, outputs_within n ws masks h.1)
 
-part_sound : (n : ℕ) (adversary : AdversaryForm) (line : PartFault → List ℕ) (c : Netlist) (form : SessionForm) (s : Session) → IsCircuit c → IsSessionForm n adversary form → accepted s ≡ part_of line c form.prepared form.owners (groups_in n form.readers) → IsSoundSession n s
-part_sound n adversary line c form s valid named e =
+-- neither of two faults is there
+pub neither : (a b : Option PartFault) → option_or a b ≡ None → (a ≡ None) × (b ≡ None)
+neither None b e = (refl, e)
+neither (Some f) b e = cc
+
+-- a session that is made behind those before it is sound, and what it carries fits them
+part_fits : (n : ℕ) (adversary : AdversaryForm) (line : PartFault → List ℕ) (c : Netlist) (before : List Session) (form : SessionForm) (s : Session) → IsCircuit c → IsSessionForm n adversary (length before) form
+    → accepted s ≡ part_of line c form.prepared form.owners (groups_in n form.readers) before → IsSoundSession n s × CarriesFit before s
+part_fits n adversary line c before form s valid named e =
     let groups : List Members = groups_in n form.readers in
-    let made = was_none (part_fault c form.owners groups) line s (record (session_of c form.owners groups) { prepared = form.prepared }) e in
-    let counts = counts_agree (length c.inputs) (length form.owners) (length c.outputs) (length groups) made.0 in
-    subst (IsSoundSession n) (sym made.1)
-    (sound_prepared n (session_of c form.owners groups) form.prepared refl
-    (sound_session c form.owners groups n valid counts.0 counts.1
-    (record { owned = All-from_recursion (λ owner. owner < n) form.owners named.owners; read = All-map (λ (group : Members). group.parties ≡ n) (λ mask. record { parties = n; mask = mask }) form.readers (λ k d l. refl) })
-    (All-from_recursion (λ (value : OutputValue). value.readers.mask < 2 ^ value.readers.parties) (output_values c.outputs groups)
-    (outputs_within n c.outputs form.readers named.readers))))
+    let owners : List Owner = map owner_of form.owners in
+    let made = was_none (part_fault c owners groups before) line s (record (session_of c owners groups) { prepared = form.prepared }) e in
+    let faults = neither (counts_fault (length c.inputs) (length owners) (length c.outputs) (length groups)) (carries_fault before c.inputs owners) made.0 in
+    let counts = counts_agree (length c.inputs) (length owners) (length c.outputs) (length groups) faults.0 in
+    let all : All (IsOwner n (length before)) form.owners = All-from_recursion (IsOwner n (length before)) form.owners named.owners in
+    let read : All (λ (group : Members). group.parties ≡ n) groups = All-map (λ (group : Members). group.parties ≡ n) (λ mask. record { parties = n; mask = mask }) form.readers (λ k d l. refl) in (
+      subst (IsSoundSession n) (sym made.1)
+          (sound_with n (session_of c owners groups) form.prepared []
+          (sound_session c owners groups n valid counts.0 counts.1 (owners_among n (length before) form.owners groups all read)
+          (All-from_recursion (λ (value : OutputValue). value.readers.mask < 2 ^ value.readers.parties) (output_values c.outputs groups)
+          (outputs_within n c.outputs form.readers named.readers)))
+          (record { outputs = λ k d l. absurd (omega (arith, l)); few = omega arith })),
+      carries_fit before s c.inputs owners (ap (λ (s : Session). s.inputs) made.1) (owners_earlier n (length before) form.owners all) faults.1,
+    )
 
 circuit_is_valid : (layout : SessionLayout) (file : List ℕ) (s bits : ℕ) (bytes : List ℕ) (c : Netlist) → 0 < bits → bits ≤ 64 → CircuitOf layout file s bits bytes (accepted c) → IsCircuit c
 unfolding CircuitOf ExpressionsOf
@@ -251,10 +273,11 @@ circuit_is_valid (Gates layout) file s bits bytes c some few read = (file_ground
 circuit_is_valid Expressions file s bits bytes c some few read = subst IsCircuit (sym read.made) (valid_program bits bytes read.program read.is some few)
 
 module _ (files : Contents) (dir : List ℕ) (job : JobForm) (some : 0 < job.bits) (few : job.bits ≤ 64) where
-  session_is_sound : (s : ℕ) (form : SessionForm) (x : Session) → IsSessionForm (length job.names) job.adversary form → SessionAt files dir job s form (accepted x) → IsSoundSession (length job.names) x
+  session_fits : (before : List Session) (form : SessionForm) (x : Session) → IsSessionForm (length job.names) job.adversary (length before) form → SessionAt files dir job before form (accepted x)
+      → IsSoundSession (length job.names) x × CarriesFit before x
   unfolding SessionAt Then
-  session_is_sound s at x named (bytes, there, (c, read, e)) =
-      part_sound (length job.names) job.adversary _ c at x (circuit_is_valid at.layout at.circuit s job.bits bytes c some few read) named e
+  session_fits before at x named (bytes, there, (c, read, e)) =
+      part_fits (length job.names) job.adversary _ c before at x (circuit_is_valid at.layout at.circuit (length before) job.bits bytes c some few read) named e
 
   -- each session is sound
   abbrev AreSound : List Session → Type 0
@@ -268,22 +291,41 @@ module _ (files : Contents) (dir : List ℕ) (job : JobForm) (some : 0 < job.bit
         subst (IsSoundSession (length job.names)) (sym (get_or_push sessions x no_session s same)) last
   ]
 
-  sessions_are_sound : (before : List Session) (forms : List SessionForm) (sessions : List Session) → AreSound before → AllByRecursion (IsSessionForm (length job.names) job.adversary) forms
-      → SessionsAfter files dir job before forms (accepted sessions) → AreSound sessions × (length sessions ≡ length before + length forms)
+  -- sessions that were read are sound, and what each carries fits those before it
+  sessions_fit : (before : List Session) (number : ℕ) (forms : List SessionForm) (sessions : List Session) → number ≡ length before → AreSound before → AllFit before
+      → AreSessionForms (length job.names) job.adversary number forms → SessionsAfter files dir job before forms (accepted sessions)
+      → AreSound sessions × AllFit sessions
   unfolding SessionsAfter Then
-  sessions_are_sound before [] sessions each named e =
+  sessions_fit before number [] sessions count each fit named e =
       let same : sessions ≡ before = accepted_is sessions before e in
-      (subst AreSound (sym same) each, ap length same ∙ omega arith)
-  sessions_are_sound before (form ∷ forms) sessions each named (x, at, rest) =
-      let next = sessions_are_sound (before ++ x ∷ []) forms sessions (sound_push before x each (session_is_sound (length before) form x named.0 at)) named.1 rest in
-      (next.0, omega (arith, next.1, length-append before (x ∷ [])))
+      (subst AreSound (sym same) each, subst AllFit (sym same) fit)
+  sessions_fit before number (form ∷ forms) sessions count each fit named (x, at, rest) =
+      let one = session_fits before form x (subst (λ n. IsSessionForm (length job.names) job.adversary n form) count named.0) at in
+      sessions_fit (before ++ x ∷ []) (number + 1) forms sessions (omega (arith, count, length-append before (x ∷ []))) (sound_push before x each one.0) (fit_push before x fit one.1) named.1 rest
+
+-- as many sessions are read as there are forms
+pub sessions_count : (files : Contents) (dir : List ℕ) (job : JobForm) (before : List Session) (forms : List SessionForm) (sessions : List Session) → SessionsAfter files dir job before forms (accepted sessions)
+    → length sessions ≡ length before + length forms
+unfolding SessionsAfter Then
+sessions_count files dir job before [] sessions e = ap length (accepted_is sessions before e) ∙ omega arith
+sessions_count files dir job before (form ∷ forms) sessions (x, at, rest) = omega (arith, sessions_count files dir job (before ++ x ∷ []) forms sessions rest, length-append before (x ∷ []))
+
+-- sessions stay sound where they keep what later ones carry
+keeping_sound : (parties : ℕ) (sessions : List Session) → length sessions ≤ 16 → AllFit sessions → ((s : ℕ) → s < length sessions → IsSoundSession parties (session_at sessions s))
+    → (s : ℕ) → s < length (keeping sessions) → IsSoundSession parties (session_at (keeping sessions) s)
+keeping_sound parties sessions few fit sound s l =
+    let l' : s < length sessions = omega (arith, l, length_keeping sessions) in
+    let wired : All IsWired sessions = All-from_get_or IsWired sessions no_session (λ i li. (sound i li).wired) in
+    subst (IsSoundSession parties) (sym (keeping_at sessions s l'))
+    (sound_with parties (session_at sessions s) (session_at sessions s).prepared (kept_from s sessions) (sound s l') (are_kept sessions fit s few wired))
 
 -- ---- the plan, and the job
 
 pub plan_is_sound : {node : Bool} (files : Contents) (dir : List ℕ) (job : JobForm) (s : Structure) (sessions : List Session) → IsJobForm node job → IsFound job.names s
-    → SessionsAfter files dir job [] job.sessions (accepted sessions) → IsPlanWithin (plan_of job.bits s sessions) → IsSound (plan_of job.bits s sessions)
+    → SessionsAfter files dir job [] job.sessions (accepted sessions) → IsPlanWithin (plan_of job.bits s (keeping sessions)) → IsSound (plan_of job.bits s (keeping sessions))
 plan_is_sound files dir job s sessions good found read limits =
-    let each = sessions_are_sound files dir job good.some_bits good.few_bits [] job.sessions sessions (λ s l. absurd (omega (arith, l))) good.sessions read in
+    let each = sessions_fit files dir job good.some_bits good.few_bits [] 0 job.sessions sessions refl (λ s l. absurd (omega (arith, l))) (λ s l. absurd (omega (arith, l))) good.sessions read in
+    let few : length sessions ≤ 16 = omega (arith, sessions_count files dir job [] job.sessions sessions read, good.few_sessions) in
     record {
       some_bits = good.some_bits;
       bits = good.few_bits;
@@ -292,19 +334,21 @@ plan_is_sound files dir job s sessions good found read limits =
       some_groups = found.antichain.some_group;
       groups = found.antichain.few_groups;
       q2 = found.q2;
-      few_sessions = omega (arith, each.1, good.few_sessions);
+      few_sessions = omega (arith, length_keeping sessions, few);
       few_messages = limits.messages;
       few_words = limits.words;
-      sessions = λ i l. subst (λ n. IsSoundSession n (slice_index_or sessions i no_session)) (sym found.parties) (each.0 i l);
+      sessions = λ i l. subst (λ n. IsSoundSession n (session_at (keeping sessions) i)) (sym found.parties) (keeping_sound (length job.names) sessions few each.1 each.0 i l);
+      earlier = carries_earlier (keeping sessions) (keeping_fits sessions each.1);
+      kept = keeps_carried sessions each.1;
     }
 
 sound_plan : {node : Bool} (files : Contents) (dir : List ℕ) (job : JobForm) (group : Option Members) (s : Structure) (planned : Planned) → IsJobForm node job → IsFound job.names s
     → PlannedOf files dir job group s (accepted planned) → IsSound planned.plan × (length planned.names ≡ planned.plan.parties)
 unfolding PlannedOf PlanOf Then
 sound_plan files dir job group s planned good found (sessions, read, (plan, (same, within), e)) =
-    let is : planned ≡ record { names = job.names; group = group; plan = plan_of job.bits s sessions } =
+    let is : planned ≡ record { names = job.names; group = group; plan = plan_of job.bits s (keeping sessions) } =
     accepted_is planned _ e ∙ ap (λ (plan : Plan). record { names = job.names; group = group; plan = plan }) same in
-    let limits : IsPlanWithin (plan_of job.bits s sessions) = within in
+    let limits : IsPlanWithin (plan_of job.bits s (keeping sessions)) = within in
     subst (λ (planned : Planned). IsSound planned.plan × (length planned.names ≡ planned.plan.parties)) (sym is)
     (plan_is_sound files dir job s sessions good found read limits, sym found.parties)
 

@@ -1,24 +1,26 @@
 -- Whatever runs broke off, what a party says and got is the world's.
-use Rattle.std.proofs.Common.{◌≡◌, ◌≢◌, ℕ, zero, suc, ◌+◌, ◌*◌, ◌<◌, ◌≤◌, ◌^◌, nat_eq, if◌then◌else◌, List, [], ◌++◌, take, drop, length, refl, sym, ap, ◌∙◌, subst, arith, append_assoc, length-append, ⊎_elim}
+use Rattle.std.proofs.Common.{◌≡◌, ◌≢◌, ℕ, zero, suc, ◌+◌, ◌*◌, ◌<◌, ◌≤◌, ◌^◌, List, [], ◌++◌, take, drop, length, refl, sym, ap, ◌∙◌, subst, arith, append_assoc, length-append, ⊎_elim}
 use Rattle.std.specs.Prelude.{slice_index_or, Some}
 use Rattle.std.specs.List.{AllByRecursion}
-use Rattle.std.proofs.lemmas.Bool.{cases_eq, cases_lt, cond-true, cond-false, eq-eqb, ne_eqb}
+use Rattle.std.proofs.lemmas.Bool.{cases_eq, cases_lt}
 use Rattle.std.proofs.lemmas.List.{take-append-drop, length-take-le}
 use Rattle.std.proofs.Math.ListN.{get_or-append}
 use mathlib.Core.Logic.{inl as left', inr as right'}
-use Rattle.job_plan.specs.Plans.{Plan}
+use Rattle.job_plan.specs.Plans.{Plan, IsPlan}
 use Rattle.job_plan.specs.declared.key.Key.{Key}
 use Rattle.job_plan.specs.Messages.{messages}
 use Rattle.job_plan.specs.Numbers.{message, no_key, number}
 use Rattle.job_plan.proofs.DistinctMessages.{every_place, number_of_message}
 use Rattle.share_world.specs.Worlds.{World, word}
 use Rattle.share_world.specs.Locals.{local_word}
-use Rattle.share_world.proofs.SmallWords.{small_word}
+use Rattle.share_world.proofs.SmallWords.{small_word, is_plan}
 use Rattle.party_program.specs.declared.program.Instruction.TheVariants.{Post, Take, End}
 use Rattle.party_program.specs.Programs.{program, at}
 use Rattle.program_laws.specs.Parts.{IsPart}
 use Rattle.program_laws.proofs.OncePosted.{once}
 use Rattle.program_laws.proofs.PartLaws.{part_of}
+use Rattle.program_laws.proofs.RightWords.{IsBefore}
+use Rattle.program_laws.specs.Once.{take_slot}
 use Rattle.program_laws.proofs.Ranks.{batches_post_first}
 use Rattle.network_laws.proofs.EarlierTakes.{posts_world}
 use Rattle.std.proofs.lemmas.List.{get_or_past}
@@ -27,15 +29,15 @@ use Rattle.frame_code.specs.Frames.{hello, frame}
 use Rattle.frame_code.proofs.ReadFrames.{word_in, word_back, length-hello}
 use Rattle.node_talk.specs.declared.fault.NodeFault.{NodeFault}
 use Rattle.node_talk.specs.declared.fault.NodeFault.TheVariants.{NoThread}
-use Rattle.node_talk.specs.Talks.{Node, acts, messages_between, frames, stream, talk, said, posts_to, post_to, place_of, IsRun}
+use Rattle.node_talk.specs.Talks.{Node, acts, Stays, messages_between, frames, stream, talk, said, posts_to, post_to, place_of, IsRun}
 use Rattle.node_talk.specs.PeerLinks.{out_to}
 use Rattle.node_talk.specs.Runs.{BrokeOff}
-use Rattle.node_talk.proofs.PassedLists.{every_from_places, take_place}
+use Rattle.node_talk.proofs.PassedLists.{take_place}
 use Rattle.node_talk.proofs.MessageOrder.{posts_are_all, gather_prefix}
 use Rattle.node_talk.proofs.Frames.{stream_length, strip, small_64}
-use Rattle.node_talk.proofs.ExpectedPlaces.{placed, Expected, expected_there, between_parties}
-use Rattle.node_talk.proofs.ActPlaces.{before_session, at_act, within_acts, posted_there, taken_there}
-use Rattle.node_talk.proofs.RightRuns.{is_of_world}
+use Rattle.node_talk.proofs.ExpectedPlaces.{placed, expected_there, between_parties}
+use Rattle.node_talk.proofs.ActPlaces.{act_there, before_session, at_act, within_acts, posted_there, posted_before_take, taken_there}
+use Rattle.node_talk.proofs.RightRuns.{got_world, is_of_world, kept_as_sent}
 use Rattle.node_talk.proofs.KeptViews.{own_view}
 use Rattle.network_laws.specs.Networks.{Network, node, RanThrough, IsNetwork, SaysWorld, IsRight}
 use Rattle.network_laws.proofs.RunsAsShort.{run_of_all, run_broke, part_of_more, part_of_talk}
@@ -55,11 +57,14 @@ module _ (net : Network) (h : IsNetwork net) where
   abbrev key_at : ℕ → ℕ → ℕ → Key
   key_at p q j = slice_index_or (messages_between net.world.plan p q) j no_key
 
+  valid : IsPlan net.world.plan
+  valid = is_plan net.world h.whole
+
   part : (p : ℕ) → p < plan.parties → IsPart net.world p
   part p lp = part_of w h.whole p lp
 
   any_run : (p : ℕ) → p < plan.parties → (fault : NodeFault) × (got : Key → ℕ) × BrokeOff (node net p) got (net.before p) (net.after p) fault
-  any_run p lp = ⊎_elim (λ (r : RanThrough net p). (NoThread p, r.got, run_broke (node net p) (part p lp) r.got (net.before p) (net.after p) r.talked (NoThread p))) (λ b. (b.fault, b.got, b.broke)) (h.runs p lp)
+  any_run p lp = ⊎_elim (λ (r : RanThrough net p). (NoThread p, r.got, run_broke (node net p) (part p lp) r.got (net.before p) (net.after p) r.talked (net.results p) r.done (NoThread p))) (λ b. (b.fault, b.got, b.broke)) (h.runs p lp)
 
   got_of : (p : ℕ) → (got : Key → ℕ) × (p < plan.parties → (fault : NodeFault) × BrokeOff (node net p) got (net.before p) (net.after p) fault)
   got_of p = elim (cases_lt p plan.parties) [
@@ -115,16 +120,32 @@ module _ (net : Network) (h : IsNetwork net) where
       ∙ ap (λ z. z ++ drop t.0 text) t.1 ∙ take-append-drop t.0 text in
       frames_begin word' (own p) (keys p q) f (run.begins.0 ++ (pipe.lost ++ drop t.0 text)) run.count (strip start _ _ whole)
 
-  -- words in slots below this one are the world's wherever they are held
-  abbrev RightBelow : ℕ → Type 0
-  RightBelow N =
-      (p q : ℕ) (lp : p < plan.parties) (lq : q < plan.parties) (ne : p ≢ q) (f : ℕ) (word' : Key → ℕ) → IsRun (node net q) p (h.pipes p q lp lq ne).held f word' → (j : ℕ) → j < f → (key_at p q j).slot < N → word' (key_at p q j) ≡ word w (key_at p q j)
+  -- ---- the world's words, session by session and then slot by slot
+
+  -- words of slot k of session s are the world's wherever they are held
+  abbrev HeldRight : ℕ → ℕ → Type 0
+  HeldRight s k =
+      (p q : ℕ) (lp : p < plan.parties) (lq : q < plan.parties) (ne : p ≢ q) (f : ℕ) (word' : Key → ℕ) → IsRun (node net q) p (h.pipes p q lp lq ne).held f word' → (j : ℕ) → j < f
+      → (key_at p q j).session ≡ s → (key_at p q j).slot ≡ k → word' (key_at p q j) ≡ word w (key_at p q j)
+
+  -- so are those that a party kept for itself, where it posted them
+  abbrev KeptRight : ℕ → ℕ → Type 0
+  KeptRight s k =
+      (p : ℕ) (lp : p < plan.parties) (m : ℕ) → m < length (messages plan) → Stays (node net p) (message plan m) → (message plan m).session ≡ s → (message plan m).slot ≡ k
+      → (j i : ℕ) → j < (broke p lp).k → at (acts (node net p)) j ≡ Post m i → got p (message plan m) ≡ word w (message plan m)
+
+  abbrev RightAt : ℕ → ℕ → Type 0
+  RightAt s k = HeldRight s k × KeptRight s k
+
+  -- and in all slots before slot k of session t
+  abbrev RightBefore : ℕ → ℕ → Type 0
+  RightBefore t n = (s k : ℕ) → IsBefore t n s k → RightAt s k
 
   -- message m is none of those that p posted before its post
-  not_yet : (p q : ℕ) (lp : p < plan.parties) (m u : ℕ) (lm : m < length (messages plan)) → u ≤ (once plan m lm).posted.position → u ≤ length (program plan p (message plan m).session)
+  not_yet : (p q : ℕ) (lp : p < plan.parties) (m u : ℕ) (lm : m < length (messages plan)) → u ≤ (once plan m valid lm).posted.position → u ≤ length (program plan p (message plan m).session)
       → AllByRecursion (λ key. key ≡ message plan m → ⊥) (posts_to (node net p) q (before_session (node net p) (message plan m).session + u))
   not_yet p q lp m u lm late lu =
-      let o = once plan m lm in
+      let o = once plan m valid lm in
       posted_before (node net p) q (message plan m).session u (λ key. key ≡ message plan m → ⊥) o.session_there lu (λ t v m' i' lt before e same.
       let g = posted_there w p (part p lp) t lt v m' i' e in
       let one : m' ≡ m = sym (number_of_message plan m' g.0) ∙ ap (number plan) same ∙ number_of_message plan m lm in
@@ -133,7 +154,7 @@ module _ (net : Network) (h : IsNetwork net) where
 
   -- what was said before a position is shorter than a frame that is posted there or later
   too_late : (p q : ℕ) (lp : p < plan.parties) (lq : q < plan.parties) (ne : p ≢ q) (j m u : ℕ) (lm : m < length (messages plan)) → j < length (keys p q) → message plan m ≡ key_at p q j
-      → 38 + 18 * j < length (taken p q lp lq ne) → u ≤ (once plan m lm).posted.position → u ≤ length (program plan p (message plan m).session)
+      → 38 + 18 * j < length (taken p q lp lq ne) → u ≤ (once plan m valid lm).posted.position → u ≤ length (program plan p (message plan m).session)
       → before_session (node net p) (message plan m).session + u < length (acts (node net p))
       → AddedPrefix (out_to (node net p) (net.before p) q).told (said (node net p) q (own p) (before_session (node net p) (message plan m).session + u)) (out_to (node net p) (net.after p) q).told → ⊥
   too_late p q lp lq ne j m u lm lj is long late lu lk cut =
@@ -150,12 +171,70 @@ module _ (net : Network) (h : IsNetwork net) where
       let place : slice_index_or posts j no_key ≡ key_at p q j = sym (ap (λ z. slice_index_or z j no_key) split ∙ get_or-append posts r.0 no_key j inside') in
       every_place (λ key. key ≡ message plan m → ⊥) posts j no_key (not_yet p q lp m u lm late lu) inside' (place ∙ sym is)
 
-  own_right : (N : ℕ) → RightBelow N → (p q : ℕ) (lp : p < plan.parties) (lq : q < plan.parties) (ne : p ≢ q) (j : ℕ) → j < length (keys p q) → (key_at p q j).slot ≡ N
+  -- what p took before it posted message m is the world's, if that is so in the slots before m's
+  module _ (p : ℕ) (lp : p < plan.parties) (m i position : ℕ) (ls : (message net.world.plan m).session < length net.world.plan.sessions) (stands : at (program net.world.plan p (message net.world.plan m).session) position ≡ Post m i)
+      (before : RightBefore (message net.world.plan m).session (message net.world.plan m).slot) where
+    abbrev n : Node
+    n = node net p
+
+    abbrev t : ℕ
+    t = (message net.world.plan m).session
+
+    within : (r m' i' : ℕ) → at (program plan p t) r ≡ Take m' i' → r < length (program plan p t)
+    within r m' i' is = elim (cases_lt r (length (program plan p t))) [
+      | left' l ↦ l
+      | right' past ↦ absurd (let f : End ≡ Take m' i' = sym (get_or_past (program plan p t) r End past) ∙ is in cc)
+    ]
+
+    at_place : (r m' i' : ℕ) → at (program plan p t) r ≡ Take m' i' → (before_session n t + r < length (acts n)) × (at (acts n) (before_session n t + r) ≡ Take m' i')
+    at_place r m' i' is =
+        let l = within r m' i' is in
+        ((let a = within_acts n t (suc r) ls (omega (arith, l)) in omega (arith, a)), at_act n t r ls l ∙ is)
+
+    early : (r m' i' : ℕ) → r < position → at (program plan p t) r ≡ Take m' i' → IsBefore t (message plan m).slot (message plan m').session (message plan m').slot
+    early r m' i' less is =
+        let first = batches_post_first plan h.whole.sound t p ls in
+        let comes = first.takes r m' i' (within r m' i' is) is in
+        elim comes.order [
+          | left' here ↦
+              let session : t ≡ (message plan m').session = sym comes.session ∙ ap (λ (z : ℕ × ℕ). z.0) here in
+              let slot : take_slot plan m' ≡ (message plan m').slot = ap (λ (z : ℕ × ℕ). z.1) here in
+              right' (
+                sym session,
+                elim (cases_lt (message plan m').slot (message plan m).slot) [
+                  | left' l ↦ l
+                  | right' past ↦ absurd (let a = first.order position r m i m' i' stands is (omega (arith, slot, past)) in omega (arith, a, less))
+                ],
+              )
+          | right' later ↦ left' (omega (arith, later, comes.session))
+        ]
+
+    took_right : (r m' i' : ℕ) → r < position → at (program plan p t) r ≡ Take m' i' → before_session n t + r < (broke p lp).k → got p (message plan m') ≡ word w (message plan m')
+    took_right r m' i' less is in_time =
+        let there = taken_there w p (part p lp) t ls r m' i' is in
+        let here = at_place r m' i' is in
+        let right = before (message plan m').session (message plan m').slot (early r m' i' less is) in
+        let x = broke p lp in
+        let r' : ℕ = (message plan m').sender in
+        elim (cases_eq r' p) [
+          | left' from ↦
+              let b = posted_before_take n (part p lp) (before_session n t + r) m' i' here.0 here.1 from in
+              right.1 p lp m' there.0 (from, there.1) refl refl b.place b.share (let a = b.before in omega (arith, a, in_time)) b.is
+          | right' apart ↦
+              let b = between_parties n (part p lp) m' there.0 in
+              let pipe = h.pipes r' p b.sender lp apart in
+              let place = placed n m' there.0 there.1 in
+              let came : place_of n m' < x.came r' = elim (x.takes (before_session n t + r) m' i' in_time here.1) [ left' from ↦ absurd (apart from) | right' l ↦ l ] in
+              let run = x.hears r' (b.sender, apart) pipe.held pipe.inlet (omega (arith, came)) in
+              subst (λ z. got p z ≡ word w z) place.1 (right.0 r' p b.sender lp apart (x.came r') (got p) run (place_of n m') came (ap (λ z. z.session) place.1) (ap (λ z. z.slot) place.1))
+        ]
+
+  -- the message at a place is p's own word, if so much was taken
+  own_right : (p q : ℕ) (lp : p < plan.parties) (lq : q < plan.parties) (ne : p ≢ q) (j : ℕ) → RightBefore (key_at p q j).session (key_at p q j).slot → j < length (keys p q)
       → 38 + 18 * j < length (taken p q lp lq ne) → own p (key_at p q j) ≡ word w (key_at p q j)
-  own_right N below p q lp lq ne j lj slot_is long =
-      let x : Expected (node net q) p j = expected_there (node net q) p j lj in
-      let is : message plan x.number ≡ key_at p q j = x.same in
-      subst (λ z. own p z ≡ word w z) is (posts_world w h.whole session' p (once plan x.number x.there).session_there lp (got p) x.number (message plan x.number).share position stands got_before)
+  own_right p q lp lq ne j before lj long =
+      let is : message plan m ≡ key_at p q j = (expected_there (node net q) p j lj).same in
+      subst (λ z. own p z ≡ word w z) is (posts_world w h.whole session' p (once plan m valid lm).session_there lp (got p) m (message plan m).share position stands got_before)
     where
       m : ℕ
       m = (expected_there (node net q) p j lj).number
@@ -167,56 +246,29 @@ module _ (net : Network) (h : IsNetwork net) where
       session' = (message plan m).session
 
       position : ℕ
-      position = (once plan m lm).posted.position
+      position = (once plan m valid lm).posted.position
 
       stands : at (program plan p session') position ≡ Post m (message plan m).share
-      stands = ap (λ z. at (program plan z session') position) (sym (expected_there (node net q) p j lj).sender) ∙ (once plan m lm).posted.stands
+      stands = ap (λ z. at (program plan z session') position) (sym (expected_there (node net q) p j lj).sender) ∙ (once plan m valid lm).posted.stands
 
-      slot_here : (message plan m).slot ≡ N
-      slot_here = ap (λ z. z.slot) (expected_there (node net q) p j lj).same ∙ slot_is
+      before' : RightBefore (message plan m).session (message plan m).slot
+      before' = subst (λ (z : Key). RightBefore z.session z.slot) (sym (expected_there (node net q) p j lj).same) before
 
-      -- what p took before the post is the world's
+      -- what p took before the post is the world's, or what is posted after its take wasn't said
       got_before : (r m' i : ℕ) → r < position → at (program plan p session') r ≡ Take m' i → got p (message plan m') ≡ word w (message plan m')
       got_before r m' i less takes' =
           let n : Node = node net p in
-          let ls = (once plan m lm).session_there in
-          let there = taken_there w p (part p lp) session' ls r m' i takes' in
-          let key : Key = message plan m' in
-          let b = between_parties n (part p lp) m' there.0 in
-          let r' : ℕ = key.sender in
-          let apart : r' ≢ p = (λ e. b.apart (e ∙ sym there.1)) in
-          let pipe = h.pipes r' p b.sender lp apart in
-          let place = placed n m' there.0 there.1 in
+          let ls = (once plan m valid lm).session_there in
           let x = broke p lp in
-          let early : key.slot < N = elim (cases_lt key.slot N) [
-            | left' l ↦ l
-            | right' past ↦ absurd (let first = (batches_post_first plan h.whole.sound session' p ls).order position r m (message plan m).share m' i stands takes' (let z = slot_here in omega (arith, z, past)) in omega (arith, first, less))
-          ] in
-          elim (cases_lt (place_of n m') (x.came r')) [
-            -- it came, and stands in the bytes
-            | left' came ↦
-                let run = x.hears r' (b.sender, apart) pipe.held pipe.inlet (omega arith) in
-                let slot_below : (key_at r' p (place_of n m')).slot < N = subst (λ z. z.slot < N) (sym place.1) early in
-                subst (λ z. got p z ≡ word w z) place.1 (below r' p b.sender lp apart (x.came r') (got p) run (place_of n m') came slot_below)
-            -- it didn't come, and what is posted after its take wasn't said
-            | right' none ↦ absurd (
-                let within : r < length (program plan p session') = inside r takes' in
-                let k : ℕ = before_session n session' + r in
-                let lk : k < length (acts n) = (let a = within_acts n session' (suc r) ls (omega arith) in omega arith) in
-                let at_k : at (acts n) k ≡ Take m' i = at_act n session' r ls within ∙ takes' in
-                let stopped : x.k ≤ k = not_taken x.k k (λ l. let came : place_of n m' < x.came r' = x.takes k m' i l at_k in absurd (omega arith)) in
-                too_late p q lp lq ne j m r lm lj (expected_there (node net q) p j lj).same long (omega (arith, less)) (omega (arith, within)) lk
-                (part_of_more n q (own p) x.k k stopped _ _ (x.told q (lq, λ e. ne (sym e))))
+          let k : ℕ = before_session n session' + r in
+          let there = at_place p lp m (message plan m).share position ls stands before' r m' i takes' in
+          let l = within p lp m (message plan m).share position ls stands before' r m' i takes' in
+          elim (cases_lt k x.k) [
+            | left' in_time ↦ took_right p lp m (message plan m).share position ls stands before' r m' i less takes' in_time
+            | right' stopped ↦ absurd (
+                too_late p q lp lq ne j m r lm lj (expected_there (node net q) p j lj).same long (omega (arith, less)) (omega (arith, l)) there.0
+                (part_of_more n q (own p) x.k k (omega (arith, stopped)) _ _ (x.told q (lq, λ e. ne (sym e))))
                 )
-          ]
-        where
-          not_taken : (a b : ℕ) → (b < a → ⊥) → a ≤ b
-          not_taken a b never = omega arith
-
-          inside : (u : ℕ) → at (program plan p session') u ≡ Take m' i → u < length (program plan p session')
-          inside u is' = elim (cases_lt u (length (program plan p session'))) [
-            | left' l ↦ l
-            | right' past ↦ absurd (let f : End ≡ Take m' i = sym (get_or_past (program plan p session') u End past) ∙ is' in cc)
           ]
 
   -- so many bytes are held where a run of f frames is
@@ -230,27 +282,67 @@ module _ (net : Network) (h : IsNetwork net) where
       let sum = length-append pipe.held pipe.lost in
       omega arith
 
-  right_below : (N : ℕ) → RightBelow N
-  right_below zero p q lp lq ne f word' run j lf less = absurd (omega arith)
-  right_below (suc N) p q lp lq ne f word' run j lf less =
+  held_right : (s k : ℕ) → RightBefore s k → HeldRight s k
+  held_right s k before p q lp lq ne f word' run j lf session slot =
       let key : Key = key_at p q j in
       let lj : j < length (keys p q) = (let c = run.count in omega arith) in
-      elim (cases_eq key.slot N) [
-        | left' e ↦
-            let o = own_right N (right_below N) p q lp lq ne j lj e (let l = long_enough p q lp lq ne f word' run in omega arith) in
-            let few : length (take f (keys p q)) ≡ f = length-take-le f (keys p q) run.count in
-            let place : slice_index_or (take f (keys p q)) j no_key ≡ key = take_place (keys p q) f j no_key lf in
-            let same : frame key (word' key) ≡ frame key (own p key) = subst (λ z. frame z (word' z) ≡ frame z (own p z)) place (every_place (λ z. frame z (word' z) ≡ frame z (own p z)) (take f (keys p q)) j no_key (same_as_own p q lp lq ne f word' run) (omega arith)) in
-            let small : word' key < 2 ^ plan.bits = subst (λ z. word' z < 2 ^ plan.bits) place (every_place (λ z. word' z < 2 ^ plan.bits) (take f (keys p q)) j no_key run.small (omega arith)) in
-            sym (word_back key (word' key) [] (small_64 plan.bits (word' key) h.whole.sound.bits small)) ∙ ap (λ z. word_in (z ++ [])) same
-            ∙ word_back key (own p key) [] (small_64 plan.bits (own p key) h.whole.sound.bits (subst (λ z. z < 2 ^ plan.bits) (sym o) (small_word w h.whole key))) ∙ o
-        | right' other ↦ right_below N p q lp lq ne f word' run j lf (omega arith)
-      ]
+      let before' : RightBefore key.session key.slot = subst (λ z. RightBefore z key.slot) (sym session) (subst (RightBefore s) (sym slot) before) in
+      let o = own_right p q lp lq ne j before' lj (let l = long_enough p q lp lq ne f word' run in omega arith) in
+      let few : length (take f (keys p q)) ≡ f = length-take-le f (keys p q) run.count in
+      let place : slice_index_or (take f (keys p q)) j no_key ≡ key = take_place (keys p q) f j no_key lf in
+      let same : frame key (word' key) ≡ frame key (own p key) = subst (λ z. frame z (word' z) ≡ frame z (own p z)) place (every_place (λ z. frame z (word' z) ≡ frame z (own p z)) (take f (keys p q)) j no_key (same_as_own p q lp lq ne f word' run) (omega arith)) in
+      let small : word' key < 2 ^ plan.bits = subst (λ z. word' z < 2 ^ plan.bits) place (every_place (λ z. word' z < 2 ^ plan.bits) (take f (keys p q)) j no_key run.small (omega arith)) in
+      sym (word_back key (word' key) [] (small_64 plan.bits (word' key) h.whole.sound.bits small)) ∙ ap (λ z. word_in (z ++ [])) same
+      ∙ word_back key (own p key) [] (small_64 plan.bits (own p key) h.whole.sound.bits (subst (λ z. z < 2 ^ plan.bits) (sym o) (small_word w h.whole key))) ∙ o
+
+  kept_right : (s k : ℕ) → RightBefore s k → KeptRight s k
+  kept_right s k before p lp m lm stays session slot j i less is =
+      let n : Node = node net p in
+      let o = once plan m valid lm in
+      let l : j < length (acts n) = elim (cases_lt j (length (acts n))) [
+        | left' l ↦ l
+        | right' past ↦ absurd (let f : End ≡ Post m i = sym (get_or_past (acts n) j End past) ∙ is in cc)
+      ] in
+      let a = act_there n j l in
+      let here : at (program plan p a.session) a.position ≡ Post m i = sym a.same ∙ is in
+      let alone = o.posted.alone p a.session a.position i here in
+      let stands : at (program plan p (message plan m).session) a.position ≡ Post m i = subst (λ z. at (program plan p z) a.position ≡ Post m i) alone.1 here in
+      let before' : RightBefore (message plan m).session (message plan m).slot = subst (λ z. RightBefore z (message plan m).slot) (sym session) (subst (RightBefore s) (sym slot) before) in
+      let there : j ≡ before_session n (message plan m).session + a.position = a.place ∙ ap (λ z. before_session n z + a.position) alone.1 in
+      (broke p lp).keeps j m i less is stays.1
+      ∙ posts_world w h.whole (message plan m).session p o.session_there lp (got p) m i a.position stands
+      (λ r m' i' before'' takes'. took_right p lp m i a.position o.session_there stands before' r m' i' before'' takes' (omega (arith, there, before'', less)))
+
+  right_here : (s k : ℕ) → RightBefore s k → RightAt s k
+  right_here s k before = (held_right s k before, kept_right s k before)
+
+  by_slots : (t : ℕ) → RightBefore t 0 → (k : ℕ) → RightBefore t k
+  by_slots t earlier zero s j is = earlier s j is
+  by_slots t earlier (suc k) s j is = elim is [
+    | left' less ↦ earlier s j (left' less)
+    | right' here ↦ elim (cases_eq j k) [
+      | left' same ↦ subst (λ z. RightAt z j) (sym here.0) (subst (RightAt t) (sym same) (right_here t k (by_slots t earlier k)))
+      | right' ne ↦ by_slots t earlier k s j (right' (here.0, (let a = here.1 in omega (arith, a, ne))))
+    ]
+  ]
+
+  by_sessions : (t : ℕ) → RightBefore t 0
+  by_sessions zero s j is = elim is [ left' less ↦ absurd (omega (arith, less)) | right' here ↦ absurd (let a = here.1 in omega (arith, a)) ]
+  by_sessions (suc t) s j is = elim is [
+    | left' less ↦ elim (cases_eq s t) [
+      | left' same ↦ by_slots t (by_sessions t) (suc j) s j (right' (same, omega arith))
+      | right' ne ↦ by_sessions t s j (left' (omega (arith, less, ne)))
+    ]
+    | right' here ↦ absurd (let a = here.1 in omega (arith, a))
+  ]
+
+  right_before : (t k : ℕ) → RightBefore t k
+  right_before t k = by_slots t (by_sessions t) k
 
   -- ---- what an outlet took begins what its party says in the world
 
   own_said : (p q : ℕ) (lp : p < plan.parties) (lq : q < plan.parties) (ne : p ≢ q) (j : ℕ) → j < length (keys p q) → 38 + 18 * j < length (taken p q lp lq ne) → own p (key_at p q j) ≡ word w (key_at p q j)
-  own_said p q lp lq ne j lj long = let N : ℕ = (key_at p q j).slot in own_right N (right_below N) p q lp lq ne j lj refl long
+  own_said p q lp lq ne j lj long = own_right p q lp lq ne j (right_before (key_at p q j).session (key_at p q j).slot) lj long
 
   pub says_world : SaysWorld net
   says_world p q lp lq ne =
@@ -273,13 +365,14 @@ module _ (net : Network) (h : IsNetwork net) where
     heard_right q lq ne j lj =
         let pipe = h.pipes q p lq lp ne in
         let all = run_of_all (node net p) (part p lp) run.got (net.before p) (net.after p) run.talked q (lq, ne) pipe.held pipe.inlet (length (keys q p)) (omega arith) in
-        right_below (suc (key_at q p j).slot) q p lq lp ne (length (keys q p)) run.got all j lj (omega arith)
+        (right_here (key_at q p j).session (key_at q p j).slot (right_before (key_at q p j).session (key_at q p j).slot)).0 q p lq lp ne (length (keys q p)) run.got all j lj refl refl
 
     got_right : (m : ℕ) → m < length (messages plan) → (message plan m).receiver ≡ p → run.got (message plan m) ≡ word w (message plan m)
-    got_right m lm to =
+    got_right = got_world (node net p) h.whole lp run.got (λ m lm to apart.
         let b = between_parties (node net p) (part p lp) m lm in
         let place = placed (node net p) m lm to in
-        subst (λ z. run.got z ≡ word w z) place.1 (heard_right (message plan m).sender b.sender (λ e. b.apart (e ∙ sym to)) (place_of (node net p) m) place.0)
+        subst (λ z. run.got z ≡ word w z) place.1 (heard_right (message plan m).sender b.sender apart (place_of (node net p) m) place.0))
+        (kept_as_sent (node net p) run.got (net.results p) run.done)
 
     pub is_right : IsRight net p
     is_right = record {

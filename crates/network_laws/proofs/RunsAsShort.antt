@@ -1,5 +1,5 @@
 -- What a run that ended well tells, a run that broke off tells too.
-use Rattle.std.proofs.Common.{◌≡◌, ℕ, ◌<◌, ◌≤◌, ◌^◌, List, ◌++◌, take, drop, length, refl, sym, ap, ◌∙◌, subst, inl, arith, append_assoc, Option, Some}
+use Rattle.std.proofs.Common.{◌≡◌, ℕ, ◌<◌, ◌≤◌, ◌^◌, List, ◌++◌, take, drop, length, refl, sym, ap, ◌∙◌, subst, inl, inr, arith, append_assoc, Option, Some}
 use Rattle.std.specs.List.{flat_map}
 use Rattle.std.proofs.lemmas.Bool.{cases_lt}
 use Rattle.std.proofs.lemmas.List.{take-append-drop, take_all}
@@ -12,12 +12,13 @@ use Rattle.outer_io.proofs.WrittenPieces.{prefix_first}
 use Rattle.node_talk.specs.declared.fault.NodeFault.{NodeFault}
 use Rattle.node_talk.specs.Talks.{Node, IsPeer, acts, own_word, talk, said, post_to, expected, frames, stream, heard, IsRun}
 use Rattle.node_talk.specs.PeerLinks.{in_from, out_to}
-use Rattle.node_talk.specs.Runs.{TalkedThrough, BrokeOff}
+use Rattle.node_talk.specs.Runs.{Results, IsDone, TalkedThrough, BrokeOff}
 use Rattle.node_talk.proofs.PassedLists.{every_taken}
 use Rattle.node_talk.proofs.Frames.{stream_append, begins_with, said_prefix}
 use Rattle.node_talk.proofs.ExpectedPlaces.{placed}
-use Rattle.node_talk.proofs.ActPlaces.{taken_by}
+use Rattle.node_talk.proofs.ActPlaces.{posted_by, taken_by}
 use Rattle.node_talk.proofs.MessageOrder.{talk_is_said}
+use Rattle.node_talk.proofs.RightRuns.{kept_as_sent}
 
 whole_prefix : (a : List ℕ) (told told' : Option (List ℕ)) → told' ≡ added told a → AddedPrefix told a told'
 whole_prefix a told told' is = (length a, is ∙ ap (added told) (sym (take_all (length a) a (omega arith))))
@@ -51,12 +52,13 @@ module _ (n : Node) (part : IsPart n.world n.me) (got : Key → ℕ) (before aft
         );
       }
 
-  pub run_broke : (fault : NodeFault) → BrokeOff n got before after fault
-  run_broke fault = record {
+  pub run_broke : (r : Results) → IsDone n got r → (fault : NodeFault) → BrokeOff n got before after fault
+  run_broke r done fault = record {
     came = λ q. length (expected n q);
     k = length (acts n);
     hears = λ q peer bytes told some. run_of_all q peer bytes told (length (expected n q)) (omega arith);
-    takes = λ j m i l e. let t = taken_by n part j m i l e in (placed n m t.0 t.1).0;
+    takes = λ j m i l e. let t = taken_by n part j m i l e in inr (placed n m t.0 t.1).0;
+    keeps = λ j m i l e to. let p = posted_by n part j m i l e in kept_as_sent n got r done m p.0 (p.1, to);
     told = λ q peer. whole_prefix (said n q (own_word n got) (length (acts n))) (out_to n before q).told (out_to n after q).told (told_all q peer);
     all = λ started calm. record {
       told = told_all;

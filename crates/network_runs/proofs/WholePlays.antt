@@ -13,9 +13,9 @@ use Rattle.job_plan.specs.Plans.{reads, session}
 use Rattle.job_plan.specs.Messages.{messages}
 use Rattle.job_plan.specs.Numbers.{message, no_key}
 use Rattle.share_world.specs.Worlds.{World, plain, word}
-use Rattle.share_world.specs.Laws.{IsWhole, IsWorld}
+use Rattle.share_world.specs.Laws.{IsWhole}
 use Rattle.share_world.proofs.SentWords.{opened_are_plain}
-use Rattle.share_world.proofs.SmallWords.{small_word}
+use Rattle.share_world.proofs.SmallWords.{is_world, small_word}
 use Rattle.outer_io.specs.Inlet.{InletReading, ahead, shut_inlet}
 use Rattle.outer_io.specs.Outlet.{OutletReading, shut_outlet}
 use Rattle.outer_io.specs.Links.{LinksReading}
@@ -64,12 +64,6 @@ module _ (w : World) (digest : List ℕ) (p : ℕ) (lp : p < w.plan.parties) (in
 module _ (w : World) (whole : IsWhole w) (digest : List ℕ) (p : ℕ) (lp : p < w.plan.parties) where
   abbrev me : Node
   me = record { world = w; me = p; digest = digest }
-
-  is_world : IsWorld w
-  is_world = record {
-    plan = record { bits = whole.sound.some_bits; groups = omega (arith, whole.sound.some_groups); q2 = whole.sound.q2 };
-    inputs = whole.inputs.below;
-  }
 
   abbrev kept : ℕ → Option ℕ
   kept m = if nat_eq (message w.plan m).sender p || nat_eq (message w.plan m).receiver p then Some (word w (message w.plan m)) else None
@@ -123,7 +117,7 @@ module _ (w : World) (whole : IsWhole w) (digest : List ℕ) (p : ℕ) (lp : p <
     session_count = length-listed (length w.plan.sessions) row;
     words = got_word;
     sent = λ m lm from. sent_word m lm from ∙ ap Some (sym (own_right me whole lp (word w) right m lm from));
-    outputs = λ s o ls lo read. output_at s o ls lo ∙ cond-true (reads w.plan p s o) _ None read ∙ ap Some (sym (opened_are_plain w is_world p s o lo));
+    outputs = λ s o ls lo read. output_at s o ls lo ∙ cond-true (reads w.plan p s o) _ None read ∙ ap Some (sym (opened_are_plain w (is_world w whole) p s o lo));
     no_word = none_else;
     no_output = no_other;
   }

@@ -18,7 +18,7 @@ use Rattle.outer_io.specs.Sink.{Writes}
 use Rattle.outer_io.specs.declared.sink.Failed.{Failed}
 use Rattle.node_talk.specs.PeerLinks.{place_among, no_outlet}
 use Rattle.link_reader.proofs.ExpectedMessages.{between_parties}
-use Rattle.node_run.specs.Mail.{Mail, BoxModel, no_box, box_of, IsRead, IsMail, SentTo, FlushedTo, failed_after, MayTake, Takes, TakesFrom, Looked, LookedAtMark, NeverComes}
+use Rattle.node_run.specs.Mail.{Mail, BoxModel, no_box, box_of, IsRead, IsMail, SentTo, FlushedTo, failed_after, ComesFromPeer, MayTake, Takes, TakesFrom, Looked, LookedAtMark, NeverComes}
 use Rattle.node_run.proofs.KnownWords.{cell_there}
 
 -- ---- places
@@ -72,8 +72,8 @@ box_read (y ∷ xs) (suc j) a d l = box_read xs j a d (omega arith)
 
 -- ---- messages
 
-pub other_sender : (c : Mail) → IsMail c → (m : ℕ) → MayTake c m → (message c.plan m).sender ≢ c.me
-other_sender c mail m may e = (between_parties c.plan mail.sound m may.there).apart (e ∙ sym may.receiver)
+pub peer_kept : (c : Mail) (d : Mail) (m : ℕ) → d ≡ record c { words = d.words; boxes = d.boxes } → ComesFromPeer c m → ComesFromPeer d m
+peer_kept c d m rest from = subst (λ (z : Mail). ComesFromPeer z m) (sym rest) (record { there = from.there; receiver = from.receiver; sender = from.sender })
 
 -- ---- a send
 
@@ -87,9 +87,11 @@ module _ (c : Mail) (mail : IsMail c) where
     cells = mail.cells;
     bits = mail.bits;
     places = mail.places;
-    placed = mail.placed;
-    room = mail.room;
-    read = λ m v to e. let r = mail.read m v to e in record { there = r.there; found = r.found; known = r.known; reduced = r.reduced };
+    placed = λ m from. mail.placed m (record { there = from.there; receiver = from.receiver; sender = from.sender });
+    room = λ m from. mail.room m (record { there = from.there; receiver = from.receiver; sender = from.sender });
+    read = λ m v from e.
+        let r = mail.read m v (record { there = from.there; receiver = from.receiver; sender = from.sender }) e in
+        record { there = r.there; found = r.found; known = r.known; reduced = r.reduced };
   }
 
   module _ {O : Type 0} (f : O → OutletReading) (outs : List O) (shows : c.outlets ≡ map f outs) (j : ℕ) (x : O) where
@@ -145,10 +147,10 @@ looks_found v u place w (Some x) e h = let same : x ≡ w = cc in subst (λ (z :
 pub notes_grow : (v u : View) (mark : ℕ) → u ≡ notes v mark → (p w : ℕ) → Knows v.seen p w → Knows u.seen p w
 notes_grow v u mark is p w k = subst (λ (z : View). Knows z.seen p w) (sym is) k
 
-module _ (c : Mail) (mail : IsMail c) (m : ℕ) (may : MayTake c m) (j : ℕ) (at : j ≡ place_among c.me (message c.plan m).sender) (b b' : BoxModel) (is : b ≡ get_or c.boxes j b) (same : b' ≡ record b { view = b'.view })
+module _ (c : Mail) (mail : IsMail c) (m : ℕ) (may : ComesFromPeer c m) (j : ℕ) (at : j ≡ place_among c.me (message c.plan m).sender) (b b' : BoxModel) (is : b ≡ get_or c.boxes j b) (same : b' ≡ record b { view = b'.view })
     (grows : (p w : ℕ) → Knows b.view.seen p w → Knows b'.view.seen p w) where
   within_boxes : j < length c.boxes
-  within_boxes = let p = between_parties c.plan mail.sound m may.there in let a = place_within c.me (message c.plan m).sender c.plan.parties (length c.boxes) p.sender (other_sender c mail m may) mail.me mail.boxes in omega arith
+  within_boxes = let p = between_parties c.plan mail.sound m may.there in let a = place_within c.me (message c.plan m).sender c.plan.parties (length c.boxes) p.sender may.sender mail.me mail.boxes in omega arith
 
   abbrev now : Mail
   now = record c { boxes = set c.boxes j b' }
@@ -182,9 +184,12 @@ module _ (c : Mail) (mail : IsMail c) (m : ℕ) (may : MayTake c m) (j : ℕ) (a
     cells = mail.cells;
     bits = mail.bits;
     places = mail.places;
-    placed = mail.placed;
-    room = λ r lr to. (let a = mail.room r lr to in let e = (box_grows (message c.plan r).sender).0 in omega arith);
-    read = λ r v to e. let x = mail.read r v to e in record { there = x.there; found = x.found; known = (box_grows (message c.plan r).sender).1 (slice_index c.places r) x.found x.known; reduced = x.reduced };
+    placed = λ r from. mail.placed r (record { there = from.there; receiver = from.receiver; sender = from.sender });
+    room = λ r from.
+        let a = mail.room r (record { there = from.there; receiver = from.receiver; sender = from.sender }) in
+        let e = (box_grows (message c.plan r).sender).0 in
+        omega (arith, a, e);
+    read = λ r v from e. let x = mail.read r v (record { there = from.there; receiver = from.receiver; sender = from.sender }) e in record { there = x.there; found = x.found; known = (box_grows (message c.plan r).sender).1 (slice_index c.places r) x.found x.known; reduced = x.reduced };
   }
 
   -- the sender's box before
@@ -192,7 +197,7 @@ module _ (c : Mail) (mail : IsMail c) (m : ℕ) (may : MayTake c m) (j : ℕ) (a
   sender_was = ap (λ z. slice_index_or c.boxes z no_box) (sym at) ∙ box_read c.boxes j b no_box within_boxes ∙ sym is
 
   other_boxes : (q : ℕ) → q ≢ c.me → q ≢ (message c.plan m).sender → box_of now q ≡ box_of c q
-  other_boxes q nq ne = box_there c.boxes j (place_among c.me q) b' no_box (λ e. places_differ c.me (message c.plan m).sender q (other_sender c mail m may) nq ne (e ∙ at))
+  other_boxes q nq ne = box_there c.boxes j (place_among c.me q) b' no_box (λ e. places_differ c.me (message c.plan m).sender q may.sender nq ne (e ∙ at))
 
   pub looked : (place : ℕ) → place ≡ slice_index c.places m → (answer : Option ℕ) → Looks b.view place answer b'.view → Looked c m answer (record c { boxes = set c.boxes j b' })
   looked place there answer looks = record {
@@ -234,10 +239,11 @@ total_of : (noted n : ℕ) (known : Option ℕ) → noted ≡ 2 → total_after 
 total_of zero n known e = absurd (omega arith)
 total_of (suc noted) n known e = refl
 
-pub never_comes : (c d : Mail) (m : ℕ) → (box_of c (message c.plan m).sender).view.noted ≡ 2 → Looked c m None d → NeverComes d m
-never_comes c d m noted h =
+pub never_comes : (c d : Mail) (m : ℕ) → (message c.plan m).sender ≢ c.me → (box_of c (message c.plan m).sender).view.noted ≡ 2 → Looked c m None d → NeverComes d m
+never_comes c d m other noted h =
     let before : View = (box_of c (message c.plan m).sender).view in
     record {
+      peer = subst (λ (z : Mail). (message z.plan m).sender ≢ z.me) (sym h.rest) other;
       ended = subst (λ (z : Mail). (box_of d (message z.plan m).sender).view.noted ≡ 2) (sym h.rest) (ap (λ (v : View). v.noted) h.looks.2 ∙ noted);
       total = h.looks.0;
       found = subst (λ (z : Mail). (box_of d (message z.plan m).sender).view.total ≡ Some h.looks.0) (sym h.rest) (ap (λ (v : View). v.total) h.looks.2 ∙ total_of before.noted h.looks.0 before.total noted);
@@ -261,10 +267,10 @@ put_some cells m v l = ⊎_elim
     (put_is cells m v l)
 
 -- a word that was found in the sender's inbox, as a number of the ring
-pub is_read : (c : Mail) (m found v : ℕ) → MayTake c m → Knows (box_of c (message c.plan m).sender).view.seen (slice_index c.places m) found → v ≡ found % 2 ^ c.plan.bits → (message c.plan m).receiver ≡ c.me → IsRead c m v
-is_read c m found v may known is to = record { there = may.there; found = found; known = known; reduced = is }
+pub is_read : (c : Mail) (m found v : ℕ) → ComesFromPeer c m → Knows (box_of c (message c.plan m).sender).view.seen (slice_index c.places m) found → v ≡ found % 2 ^ c.plan.bits → ComesFromPeer c m → IsRead c m v
+is_read c m found v may known is from = record { there = may.there; found = found; known = known; reduced = is }
 
-module _ (c : Mail) (mail : IsMail c) (m v : ℕ) (there : m < length (messages c.plan)) (read : (message c.plan m).receiver ≡ c.me → IsRead c m v) (now : CellContents) (put : now ≡ record c.words { cells = plain_put c.words.cells m v }) where
+module _ (c : Mail) (mail : IsMail c) (m v : ℕ) (there : m < length (messages c.plan)) (read : ComesFromPeer c m → IsRead c m v) (now : CellContents) (put : now ≡ record c.words { cells = plain_put c.words.cells m v }) where
   lm : m < length c.words.cells
   lm = let b = mail.cells in omega (arith, there, b)
 
@@ -283,12 +289,12 @@ module _ (c : Mail) (mail : IsMail c) (m v : ℕ) (there : m < length (messages 
     cells = word_count ∙ mail.cells;
     bits = ap (λ z. z.bits) put ∙ mail.bits;
     places = mail.places;
-    placed = mail.placed;
-    room = mail.room;
-    read = λ r x to e. ⊎_elim
-        (λ old. let y = mail.read r x to old in record { there = y.there; found = y.found; known = y.known; reduced = y.reduced })
+    placed = λ r from. mail.placed r (record { there = from.there; receiver = from.receiver; sender = from.sender });
+    room = λ r from. mail.room r (record { there = from.there; receiver = from.receiver; sender = from.sender });
+    read = λ r x from e. ⊎_elim
+        (λ old. let y = mail.read r x (record { there = from.there; receiver = from.receiver; sender = from.sender }) old in record { there = y.there; found = y.found; known = y.known; reduced = y.reduced })
         (λ (new : (r ≡ m) × (x ≡ v)).
-        let y = read (subst (λ z. (message c.plan z).receiver ≡ c.me) new.0 to) in
+        let y = read (subst (ComesFromPeer c) new.0 (record { there = from.there; receiver = from.receiver; sender = from.sender })) in
         subst (λ z. IsRead (record c { words = now }) z x) (sym new.0) (record { there = y.there; found = y.found; known = y.known; reduced = new.1 ∙ y.reduced }))
         (put_new c.words.cells m v r x lm (ap (λ z. plain_cell z r) (sym cells_are) ∙ e));
   }
@@ -306,7 +312,7 @@ any_default [] k d l = absurd (omega arith)
 any_default (x ∷ xs) zero d l = refl
 any_default (x ∷ xs) (suc k) d l = any_default xs k d (omega arith)
 
-pub place_there : (c : Mail) → IsMail c → (m : ℕ) → MayTake c m → (x : ℕ) → x ≡ slice_index_or c.places m x → x ≡ slice_index c.places m
+pub place_there : (c : Mail) → IsMail c → (m : ℕ) → ComesFromPeer c m → (x : ℕ) → x ≡ slice_index_or c.places m x → x ≡ slice_index c.places m
 place_there c mail m may x is = is ∙ any_default c.places m x (let a = may.there in let b = mail.places in omega arith)
 
 -- ---- takes
@@ -351,8 +357,21 @@ pub no_word : (o : Option ℕ) → ((v : ℕ) → o ≡ Some v → ⊥) → o �
 no_word None h = refl
 no_word (Some v) h = absurd (h v refl)
 
-pub looked_may : (c d : Mail) (m : ℕ) (a : Option ℕ) → Looked c m a d → MayTake c m → MayTake d m
-looked_may c d m a h may = subst (λ (z : Mail). MayTake z m) (sym h.rest) (record { there = may.there; receiver = may.receiver })
+pub looked_may : (c d : Mail) (m : ℕ) (a : Option ℕ) → Looked c m a d → ComesFromPeer c m → ComesFromPeer d m
+looked_may c d m a h may = subst (λ (z : Mail). ComesFromPeer z m) (sym h.rest) (record { there = may.there; receiver = may.receiver; sender = may.sender })
+
+-- what might be taken may still be, where no word is lost
+pub still_may : (c d : Mail) (m : ℕ) (a : Option ℕ) → Looked c m a d → (r : ℕ) → MayTake c r → (now : CellContents) → ((x : ℕ) → plain_cell c.words.cells r ≡ Some x → plain_cell now.cells r ≡ Some x) → MayTake (record d { words = now }) r
+still_may c d m a h r may now keeps =
+    subst (λ (z : Mail). MayTake (record z { words = now }) r) (sym h.rest) (record { there = may.there; receiver = may.receiver; kept = λ own. let v = may.kept own in (v.0, keeps v.0 v.1) })
+
+-- a message to the party whose word isn't kept is a peer's
+pub missing_peer : (c : Mail) (m : ℕ) → MayTake c m → plain_cell c.words.cells m ≡ None → ComesFromPeer c m
+missing_peer c m may empty = record {
+  there = may.there;
+  receiver = may.receiver;
+  sender = λ own. let v = may.kept own in (let f : None ≡ Some v.0 = sym empty ∙ v.1 in cc);
+}
 
 pub looked_known : (c d : Mail) (m w : ℕ) → Looked c m (Some w) d → Knows (box_of d (message d.plan m).sender).view.seen (slice_index d.places m) w
 looked_known c d m w h = subst (λ (z : Mail). Knows (box_of d (message z.plan m).sender).view.seen (slice_index z.places m) w) (sym h.rest) (looks_found (box_of c (message c.plan m).sender).view (box_of d (message c.plan m).sender).view (slice_index c.places m) w (Some w) refl h.looks)

@@ -21,16 +21,20 @@ use Rattle.party_desk.specs.Desks.{IsDesk, output_at}
 use Rattle.program_laws.specs.Meets.{local_given}
 use Rattle.program_laws.specs.Parts.{IsPart}
 use Rattle.program_laws.proofs.LocalPrograms.{met}
+use Rattle.program_laws.specs.Once.{take_session}
+use Rattle.job_plan.specs.Plans.{Plan, IsPlan}
+use Rattle.program_laws.proofs.TakenMessages.{taken_there}
+use Rattle.program_laws.proofs.SentMessages.{there}
 use Rattle.program_laws.proofs.OncePosted.{once}
 use Rattle.program_laws.proofs.OpenedOutputs.{opens_right}
-use Rattle.program_laws.proofs.PartLaws.{part_words}
+use Rattle.program_laws.proofs.PartLaws.{part_plan, part_words}
 use Rattle.outer_io.specs.Links.{LinksReading}
 use Rattle.outer_io.specs.Sink.{added}
 use Rattle.node_talk.specs.Talks.{Node, acts, IsPeer, own_word, expected, place_of}
 use Rattle.node_talk.specs.PeerLinks.{out_to}
 use Rattle.node_talk.specs.Runs.{Results, IsDone, TalkedThrough, word_kept, output_of}
 use Rattle.node_talk.proofs.MessageOrder.{talk_is_said}
-use Rattle.node_talk.proofs.ExpectedPlaces.{between_parties, Expected, expected_there}
+use Rattle.node_talk.proofs.ExpectedPlaces.{Expected, expected_there}
 use Rattle.node_talk.proofs.ActPlaces.{at_act, within_acts}
 use Rattle.link_reader.specs.NodeReaders.{ReadsFrom, HasFirstWords}
 use Rattle.link_reader.proofs.Runs.{talks_through}
@@ -46,7 +50,7 @@ pub record RanToEnd (n : Node) (start : Begin) (after : LinksReading) (ds : List
   pub told : (q : ℕ) → IsPeer n q → (out_to n after q).told ≡ (outlet_to now q).told
   pub words : ℕ → List ℕ
   pub read : (q : ℕ) → IsPeer n q → ReadsFrom n q (words q) start.links after (Ok tt)
-  pub heard : (m v : ℕ) → (message n.world.plan m).receiver ≡ n.me → plain_cell now.words.cells m ≡ Some v
+  pub heard : (m v : ℕ) → (message n.world.plan m).receiver ≡ n.me → (message n.world.plan m).sender ≢ n.me → plain_cell now.words.cells m ≡ Some v
       → (place_of n m < length (words (message n.world.plan m).sender))
       × (v ≡ slice_index (words (message n.world.plan m).sender) (place_of n m))
   pub kept_words : r.words ≡ now.words.cells
@@ -70,6 +74,13 @@ inside es q i is ne = elim (cases_lt q (length es)) [
   | inr past ↦ absurd (ne (sym (get_or_past es q End past) ∙ is))
 ]
 
+-- a message is taken in a session of the plan
+take_there : (plan : Plan) (m : ℕ) → IsPlan plan → m < length (messages plan) → take_session plan m < length plan.sessions
+take_there plan m h l =
+    let key : Key = message plan m in
+    let is = there plan m l in
+    (taken_there plan h key.session key.slot is.session_within is.slot_within (omega (arith, is.place_within))).session_there
+
 module _ (n : Node) (start : Begin) (after : LinksReading) (ds : List Desk) (now : Mail) (r : Results) (h : RanToEnd n start after ds now r) where
   part : IsPart n.world n.me
   part = h.order.going.own.part
@@ -86,23 +97,25 @@ module _ (n : Node) (start : Begin) (after : LinksReading) (ds : List Desk) (now
   found : (m : ℕ) → m < length (messages n.world.plan) → (message n.world.plan m).receiver ≡ n.me → (v : ℕ) × (plain_cell now.words.cells m ≡ Some v)
   found m lm to =
       let key : Key = message n.world.plan m in
-      let o = once n.world.plan m lm in
-      let takes' : at (program n.world.plan n.me key.session) o.taken.position ≡ Take m key.share = ap (λ z. at (program n.world.plan z key.session) o.taken.position) (sym to) ∙ o.taken.stands in
-      let less : o.taken.position < length (program n.world.plan n.me key.session) = inside (program n.world.plan n.me key.session) o.taken.position (Take m key.share) takes' (λ f. cc) in
-      let lk : before_session n key.session + o.taken.position < length (acts n) = (let a = within_acts n key.session (suc o.taken.position) o.session_there (omega arith) in omega arith) in
-      h.order.going.taken (before_session n key.session + o.taken.position) m key.share lk (at_act n key.session o.taken.position o.session_there less ∙ takes')
+      let valid = part_plan n.world n.me part in
+      let o = once n.world.plan m valid lm in
+      let t : ℕ = take_session n.world.plan m in
+      let there = take_there n.world.plan m valid lm in
+      let takes' : at (program n.world.plan n.me t) o.taken.position ≡ Take m key.share = ap (λ z. at (program n.world.plan z t) o.taken.position) (sym to) ∙ o.taken.stands in
+      let less : o.taken.position < length (program n.world.plan n.me t) = inside (program n.world.plan n.me t) o.taken.position (Take m key.share) takes' (λ f. cc) in
+      let lk : before_session n t + o.taken.position < length (acts n) = (let a = within_acts n t (suc o.taken.position) there (omega arith) in omega arith) in
+      h.order.going.taken (before_session n t + o.taken.position) m key.share lk (at_act n t o.taken.position there less ∙ takes')
 
   -- a word that it sent is kept, and is its own
   sent_word : (m : ℕ) → m < length (messages n.world.plan) → (message n.world.plan m).sender ≡ n.me → plain_cell now.words.cells m ≡ Some (own_word n (known n now.words.cells) (message n.world.plan m))
   sent_word m lm from =
       let key : Key = message n.world.plan m in
-      let o = once n.world.plan m lm in
+      let o = once n.world.plan m (part_plan n.world n.me part) lm in
       let posts' : at (program n.world.plan n.me key.session) o.posted.position ≡ Post m key.share = ap (λ z. at (program n.world.plan z key.session) o.posted.position) (sym from) ∙ o.posted.stands in
       let less : o.posted.position < length (program n.world.plan n.me key.session) = inside (program n.world.plan n.me key.session) o.posted.position (Post m key.share) posts' (λ f. cc) in
       let lk : before_session n key.session + o.posted.position < length (acts n) = (let a = within_acts n key.session (suc o.posted.position) o.session_there (omega arith) in omega arith) in
       let v = h.order.going.posted (before_session n key.session + o.posted.position) m key.share lk (at_act n key.session o.posted.position o.session_there less ∙ posts') in
-      let b = between_parties n part m lm in
-      v.1 ∙ ap Some ((h.order.going.own_words m v.0 v.1 (λ to. b.apart (from ∙ sym to))).1 (known n now.words.cells) agrees)
+      v.1 ∙ ap Some (h.order.going.own_words.word m v.0 v.1 from (known n now.words.cells) agrees)
 
   first_words : (q : ℕ) → IsPeer n q → HasFirstWords n q (known n now.words.cells) (length (expected n q)) (h.words q)
   first_words q peer = (
@@ -110,7 +123,7 @@ module _ (n : Node) (start : Begin) (after : LinksReading) (ds : List Desk) (now
     λ place l.
         let x : Expected n q place = expected_there n q place l in
         let v = found x.number x.there x.receiver in
-        let e = h.heard x.number v.0 x.receiver v.1 in
+        let e = h.heard x.number v.0 x.receiver (λ from. peer.1 (sym x.sender ∙ from)) v.1 in
         ap (known n now.words.cells) (sym x.same) ∙ agrees x.number v.0 x.receiver v.1 ∙ e.1 ∙ ap (λ z. slice_index (h.words z) (place_of n x.number)) x.sender ∙ ap (slice_index (h.words q)) x.place_is,
   )
 
@@ -159,7 +172,7 @@ module _ (n : Node) (start : Begin) (after : LinksReading) (ds : List Desk) (now
 
       none_there : (o : Option ℕ) (m : ℕ) → plain_cell now.words.cells m ≡ o → (message n.world.plan m).receiver ≢ n.me → (message n.world.plan m).sender ≢ n.me → o ≡ None
       none_there None m is ne ns = refl
-      none_there (Some v) m is ne ns = absurd (ns (h.order.going.own_words m v is ne).0)
+      none_there (Some v) m is ne ns = absurd (ns (h.order.going.own_words.sender m v is ne))
 
   pub is_done : (got : Key → ℕ) × IsDone n got r × TalkedThrough n got start.links after
   is_done = (known n now.words.cells, done, talked)

@@ -97,6 +97,8 @@ module _ (n : Node) (k : ℕ) (start : Begin) (c : Mail) (g : Going n k start c)
       own = own';
       within = g.within;
       taken = subst (HasTaken n k) (sym same_cells) g.taken;
+      posted = subst (HasPosted n k) (sym same_cells) g.posted;
+      own_words = subst (KeepsOwn n) (sym same_cells) g.own_words;
       sent = λ got ag r peer. whole_prefix _ _ _ (said_still got ag r peer);
     };
     why = subst (StopsBy n k start d) (sym (nothing.2 some).1) ((lq, other), subst (λ z. Rose z (outlet_to d q).faults) (g.calm q (lq, other)) (nothing.2 some).0);
@@ -224,7 +226,7 @@ halted_goes n start q c d h quiet f =
       k = h.k;
       stopped = stopped_at n h.k start d g;
       why = subst (StopsBy n h.k start d) (sym g.quiet)
-          (g, (why.1.0, why.1.1, why.1.2, subst (λ z. NeverComes z why.1.0) (sym f.rest) (record { ended = never.ended; total = never.total; found = never.found; few = never.few })));
+          (g, (why.1.0, why.1.1, why.1.2, subst (λ z. NeverComes z why.1.0) (sym f.rest) (record { peer = never.peer; ended = never.ended; total = never.total; found = never.found; few = never.few })));
       outlets = going_stays n h.k start d g;
     }
 

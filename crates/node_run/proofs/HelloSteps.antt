@@ -108,6 +108,11 @@ module _ (n : Node) (q : ℕ) (start : Begin) (c : Mail) (h : Greeted n q start 
         own = own';
         within = omega arith;
         taken = λ j m i l e. absurd (omega arith);
+        posted = λ j m i l e. absurd (omega arith);
+        own_words = record {
+          sender = λ m v e ne. absurd (let f : None ≡ Some v = sym (words' m) ∙ e in cc);
+          word = λ m v e from got ag. absurd (let f : None ≡ Some v = sym (words' m) ∙ e in cc);
+        };
         sent = λ got ag r peer. in_said r (own_word n got) _ _ (elim (cases_eq r q) [
           | inl e ↦ subst (λ z. AddedPrefix (out_to n start.links z).told (hello n.me z n.digest) (outlet_to d z).told) (sym e) (subst (λ z. AddedPrefix z.told (hello n.me q n.digest) (outlet_to d q).told) fresh (written.1 some).0)
           | inr ne ↦ subst (λ z. AddedPrefix (out_to n start.links r).told (hello n.me r n.digest) z.told) (sym (there r peer ne)) (before_here r peer)
@@ -144,7 +149,10 @@ all_greeted n start c h = record {
   within = omega arith;
   taken = λ j m i l e. absurd (omega arith);
   posted = λ j m i l e. absurd (omega arith);
-  own_words = λ m v e ne. absurd (let f : None ≡ Some v = sym (h.words m) ∙ e in cc);
+  own_words = record {
+    sender = λ m v e ne. absurd (let f : None ≡ Some v = sym (h.words m) ∙ e in cc);
+    word = λ m v e from got ag. absurd (let f : None ≡ Some v = sym (h.words m) ∙ e in cc);
+  };
   sent = λ got ag q peer. h.sent q peer peer.0 ∙ ap (added (out_to n start.links q).told) (sym (said_nothing n q (own_word n got)));
   calm = h.calm;
   room = λ q peer. h.room q peer peer.0;

@@ -1,5 +1,5 @@
 -- What a run leaves has the clauses of a node's run.
-use Rattle.std.proofs.Common.{◌≡◌, ◌⊎◌, ℕ, ◌+◌, ◌-◌, ◌<◌, false, List, [], length, map, refl, sym, ap, ◌∙◌, subst, arith, Option, Some, None, Result, Ok, Err, inl, inr, ⊎_elim}
+use Rattle.std.proofs.Common.{◌≡◌, ◌≢◌, ◌⊎◌, ℕ, ◌+◌, ◌-◌, ◌<◌, false, List, [], length, map, refl, sym, ap, ◌∙◌, subst, arith, Option, Some, None, Result, Ok, Err, inl, inr, ⊎_elim}
 use Rattle.std.specs.Prelude.{slice_index_or, is_err, IsTrue}
 use Rattle.std.specs.List.{list_all}
 use Rattle.std.proofs.Math.ListN.{length-map}
@@ -24,11 +24,11 @@ use Rattle.node_talk.specs.declared.fault.NodeFault.TheVariants.{Link, Closed, B
 use Rattle.node_talk.specs.Talks.{Node, IsPeer, own_word, said, place_of}
 use Rattle.node_talk.specs.PeerLinks.{place_among, no_inlet, no_outlet, in_from, out_to}
 use Rattle.node_talk.specs.Causes.{Cause}
-use Rattle.node_talk.specs.Runs.{Results, IsDone, TalkedThrough, StopsAfter, NoSendRose, AllStarted, BrokeOff}
+use Rattle.node_talk.specs.Runs.{Results, IsDone, TalkedThrough, KeepsItsWords, StopsAfter, NoSendRose, AllStarted, BrokeOff}
 use Rattle.node_talk.proofs.NoCauses.{no_cause}
 use Rattle.node_talk.proofs.RightRuns.{joins}
 use Rattle.node_talk.proofs.ExpectedPlaces.{placed}
-use Rattle.node_talk.proofs.ActPlaces.{taken_by}
+use Rattle.node_talk.proofs.ActPlaces.{posted_by, taken_by}
 use Rattle.link_reader.specs.NodeReaders.{incoming, ReadsFrom, HasReadWords, SaidWhatItCould}
 use Rattle.link_reader.proofs.BrokenOffRuns.{breaks_off}
 use Rattle.link_reader.specs.ReadWords.{ReadsWords, CameShort}
@@ -132,8 +132,10 @@ module _ (n : Node) (start : Begin) (after : LinksReading) (now : Mail) (own : I
   broke_silent none k s fault hindered = breaks_off n own.digest start.links after fault (record {
     k = k;
     words = λ q. [];
+    kept = λ key. 0;
     read = λ q peer. inl refl;
     takes = λ j m i l e. let v = s.taken j m i l e in absurd (let f : None ≡ Some v.0 = sym (none m) ∙ v.1 in cc);
+    keeps = λ got has j m i l e to. let v = s.posted j m i l e in absurd (let f : None ≡ Some v.0 = sym (none m) ∙ v.1 in cc);
     sent = λ got has q peer. subst (AddedPrefix (out_to n start.links q).told (said n q (own_word n got) k)) (sym (ap (λ z. z.told) (outlet_same q)))
         (s.sent got (λ m v to e. absurd (let f : None ≡ Some v = sym (none m) ∙ e in cc)) q peer);
     all = λ started calm. absurd (hindered started calm);
@@ -157,31 +159,43 @@ module _ (n : Node) (start : Begin) (after : LinksReading) (now : Mail) (own : I
         let e = end_at n now 0 start.links.inlets after.inlets fault h (place_among n.me q) (place_among n.me q) (within q peer) (omega arith) in
         (e.result, subst (λ z. PeerRead n now start.links after q z e.result) e.same (peer_read n now start.links after q e.result own.me peer.1 e.end), e.none)
 
-    taken_word : (m v : ℕ) → (message n.world.plan m).receiver ≡ n.me → plain_cell now.words.cells m ≡ Some v → WordRead n m v (words (message n.world.plan m).sender)
-    taken_word m v to is =
-        let r = read (message n.world.plan m).sender (sender n start now own mail m v to is) in
-        word_read n start now own mail m v to is start.links after (words (message n.world.plan m).sender) r.0 r.1
+    taken_word : (m v : ℕ) → (message n.world.plan m).receiver ≡ n.me → (message n.world.plan m).sender ≢ n.me → plain_cell now.words.cells m ≡ Some v → WordRead n m v (words (message n.world.plan m).sender)
+    taken_word m v to apart is =
+        let r = read (message n.world.plan m).sender (sender n start now own mail m v to apart is) in
+        word_read n start now own mail m v to apart is start.links after (words (message n.world.plan m).sender) r.0 r.1
 
-    agrees : (got : Key → ℕ) → HasReadWords n got words → Agrees n now.words.cells got
-    agrees got has m v to is =
-        let w = taken_word m v to is in
-        let p = placed n m (there n start now own mail m v to is) to in
-        ap got (sym p.1) ∙ (has (message n.world.plan m).sender (sender n start now own mail m v to is)).1 (place_of n m) w.within ∙ sym w.word
+    agrees : (got : Key → ℕ) → HasReadWords n got words (known n now.words.cells) → Agrees n now.words.cells got
+    agrees got has m v to is = elim (cases_eq (message n.world.plan m).sender n.me) [
+      | left' from ↦ has.1 (message n.world.plan m) (from, to) ∙ agrees_known n now.words.cells own.cells m v to is
+      | right' apart ↦
+          let w = taken_word m v to apart is in
+          let p = placed n m (there n start now own mail m v to apart is) to in
+          ap got (sym p.1) ∙ (has.0 (message n.world.plan m).sender (sender n start now own mail m v to apart is)).1 (place_of n m) w.within ∙ sym w.word
+    ]
 
-    pub broke_while_read : (k : ℕ) → Stopped n k start now → (told : NodeFault) → (AllStarted told → NoSendRose n start.links after → SaidWhatItCould n words k start.links after) → (got : Key → ℕ) × BrokeOff n got start.links after told
+    -- what it posted to itself is its own word
+    keeps_words : (k : ℕ) → Stopped n k start now → (got : Key → ℕ) → HasReadWords n got words (known n now.words.cells) → KeepsItsWords n got k
+    keeps_words k s got has j m i l e to =
+        let v = s.posted j m i l e in
+        let from = (posted_by n own.part j m i (let b = s.within in omega (arith, l, b)) e).1 in
+        agrees got has m v.0 to v.1 ∙ s.own_words.word m v.0 v.1 from got (agrees got has)
+
+    pub broke_while_read : (k : ℕ) → Stopped n k start now → (told : NodeFault) → (AllStarted told → NoSendRose n start.links after → SaidWhatItCould n words (known n now.words.cells) k start.links after) → (got : Key → ℕ) × BrokeOff n got start.links after told
     broke_while_read k s told all = breaks_off n own.digest start.links after told (record {
       k = k;
       words = words;
+      kept = known n now.words.cells;
       read = λ q peer. let r = read q peer in inr (r.0, r.1.reads);
       takes = λ j m i l e.
           let v = s.taken j m i l e in
           let t = taken_by n own.part j m i (let b = s.within in omega (arith, l, b)) e in
-          (taken_word m v.0 t.1 v.1).within;
+          elim (cases_eq (message n.world.plan m).sender n.me) [ left' from ↦ inl from | right' apart ↦ inr (taken_word m v.0 t.1 apart v.1).within ];
+      keeps = keeps_words k s;
       sent = λ got has q peer. subst (AddedPrefix (out_to n start.links q).told (said n q (own_word n got) k)) (sym (ap (λ z. z.told) (outlet_same q))) (s.sent got (agrees got has) q peer);
       all = all;
     })
 
-    said_could : (k : ℕ) → Going n k start now → StopsAfter n (λ q. length (words q)) k → SaidWhatItCould n words k start.links after
+    said_could : (k : ℕ) → Going n k start now → StopsAfter n (λ q. length (words q)) k → SaidWhatItCould n words (known n now.words.cells) k start.links after
     said_could k going stops = record {
       read = λ q peer. let r = read q peer in (r.0, r.1.reads);
       told = λ got has q peer. ap (λ z. z.told) (outlet_same q) ∙ going.sent got (agrees got has) q peer;
@@ -197,9 +211,9 @@ module _ (n : Node) (start : Begin) (after : LinksReading) (now : Mail) (own : I
     pub broke_at_take : (told : NodeFault) (k : ℕ) → StopsBy n k start now None → (got : Key → ℕ) × BrokeOff n got start.links after told
     broke_at_take told k why =
         let m : ℕ = why.1.0 in
-        let r = read (message n.world.plan m).sender (from_peer n start now own mail k m why.1.1 why.1.2) in
+        let r = read (message n.world.plan m).sender (from_peer n start now own mail k m why.1.1 why.1.2 why.1.3) in
         broke_while_read k (stopped_at n k start now why.0) told (λ started calm. said_could k why.0
-        (inr (m, why.1.1, why.1.2, not_read n start now own mail k m why.1.1 why.1.2 why.1.3 start.links after (words (message n.world.plan m).sender) r.0 r.1)))
+        (inr (m, why.1.1, why.1.2, ⊎_elim (from_peer n start now own mail k m why.1.1 why.1.2 why.1.3).1 (not_read n start now own mail k m why.1.1 why.1.2 why.1.3 start.links after (words (message n.world.plan m).sender) r.0 r.1))))
 
     -- ---- the first fault of a reader
 
@@ -234,7 +248,7 @@ module _ (n : Node) (start : Begin) (after : LinksReading) (now : Mail) (own : I
       told = λ q peer. ap (λ z. z.told) (outlet_same q);
       words = words;
       read = λ q peer. let r = read q peer in whole_reads q (words q) r.0 (r.2 none) r.1.reads;
-      heard = λ m v to e. let w = taken_word m v to e in (w.within, w.word);
+      heard = λ m v to apart e. let w = taken_word m v to apart e in (w.within, w.word);
       kept_words = ap (λ z. z.words) is;
       kept_outputs = ap (λ z. z.outputs) is;
     })
@@ -246,7 +260,7 @@ module _ (n : Node) (start : Begin) (after : LinksReading) (now : Mail) (own : I
     pub no_stop : fault ≡ None → (k : ℕ) → StopsBy n k start now None → ⊥
     no_stop none k s =
         let m : ℕ = s.1.0 in
-        let r = read (message n.world.plan m).sender (from_peer n start now own mail k m s.1.1 s.1.2) in
+        let r = read (message n.world.plan m).sender (from_peer n start now own mail k m s.1.1 s.1.2 s.1.3) in
         let noted : (box_of now (message n.world.plan m).sender).view.noted ≡ 2 = subst (λ z. (box_of now (message z m).sender).view.noted ≡ 2) own.plan s.1.3.ended in
         not_whole r.0 (r.2 none) (sym noted ∙ r.1.got.mark (λ z. absurd (omega (arith, noted, z))))
       where

@@ -25,11 +25,12 @@ use Rattle.link_reader.specs.Heard.{KeepsCalm}
 use Rattle.link_reader.specs.NodeReaders.{incoming, ReadsFrom}
 use Rattle.link_reader.specs.ReadWords.{ReadsWords}
 use Rattle.link_reader.proofs.Runs.{came_so_far, whole_words, word_at, word_at_place}
-use Rattle.node_run.specs.Mail.{Mail, IsMail, NeverComes, place_to, no_box, box_of}
+use Rattle.node_run.specs.Mail.{ComesFromPeer, Mail, IsMail, NeverComes, place_to, no_box, box_of}
 use Rattle.node_run.specs.Progress.{Begin, IsOf}
 use Rattle.node_run.specs.Remains.{party_at, PeerEnd, first_of, AllEnd, AllKeepCalm, ReadBy, EndsAtRefusal}
 use Rattle.node_run.specs.NodeRuns.{GaveAll}
 use Rattle.node_run.proofs.ClosedLinks.{calm_same, inlet_shut}
+use Rattle.node_run.proofs.KnownWords.{cell_there}
 
 -- ---- places of peers
 
@@ -199,20 +200,24 @@ small_word n q words before after result place l reads =
     let c = came_so_far (incoming n q) words (in_from n before q) (in_from n after q) result (omega arith) reads in
     every_at (λ w. w < 2 ^ n.world.plan.bits) words place (pow_pos n.world.plan.bits) c.1.small
 
-module _ (n : Node) (start : Begin) (now : Mail) (own : IsOf n start now) (mail : IsMail now) (m v : ℕ) (to : (message n.world.plan m).receiver ≡ n.me) (is : plain_cell now.words.cells m ≡ Some v) where
-  receiver : (message now.plan m).receiver ≡ now.me
-  receiver = ap (λ z. (message z m).receiver) own.plan ∙ to ∙ sym own.me
-
+module _ (n : Node) (start : Begin) (now : Mail) (own : IsOf n start now) (mail : IsMail now) (m v : ℕ) (to : (message n.world.plan m).receiver ≡ n.me) (apart : (message n.world.plan m).sender ≢ n.me) (is : plain_cell now.words.cells m ≡ Some v) where
   pub there : m < length (messages n.world.plan)
-  there = subst (λ z. m < length (messages z)) own.plan (mail.read m v receiver is).there
+  there = let a = cell_there now.words.cells m v is in let b = own.cells in omega (arith, a, b)
+
+  from_peer_now : ComesFromPeer now m
+  from_peer_now = record {
+    there = subst (λ z. m < length (messages z)) (sym own.plan) there;
+    receiver = ap (λ z. (message z m).receiver) own.plan ∙ to ∙ sym own.me;
+    sender = λ e. apart (sym (ap (λ z. (message z m).sender) own.plan) ∙ e ∙ own.me);
+  }
 
   pub sender : IsPeer n (message n.world.plan m).sender
-  sender = let b = between_parties n own.part m there in (b.sender, λ e. b.apart (e ∙ sym to))
+  sender = let b = between_parties n own.part m there in (b.sender, apart)
 
   pub word_read : (before after : LinksReading) (words : List ℕ) (result : Result (Unit {0}) NodeFault) → PeerRead n now before after (message n.world.plan m).sender words result → WordRead n m v words
   word_read before after words result p =
-      let x = mail.read m v receiver is in
-      let place : slice_index now.places m ≡ place_of n m = mail.placed m x.there receiver ∙ ap (λ z. place_to z now.me m) own.plan ∙ ap (λ z. place_to n.world.plan z m) own.me in
+      let x = mail.read m v from_peer_now is in
+      let place : slice_index now.places m ≡ place_of n m = mail.placed m from_peer_now ∙ ap (λ z. place_to z now.me m) own.plan ∙ ap (λ z. place_to n.world.plan z m) own.me in
       let known : Knows (box_of now (message n.world.plan m).sender).view.seen (place_of n m) x.found =
       subst (λ z. Knows (box_of now (message n.world.plan m).sender).view.seen z x.found) place (subst (λ z. Knows (box_of now (message z m).sender).view.seen (slice_index now.places m) x.found) own.plan x.known) in
       let k = p.got.known (place_of n m) x.found known in
@@ -231,15 +236,17 @@ module _ (n : Node) (start : Begin) (now : Mail) (own : IsOf n start now) (mail 
     | right' past ↦ absurd (let f : End ≡ Take m i = sym (get_or_past (acts n) k End past) ∙ is in cc)
   ]
 
-  pub from_peer : IsPeer n (message n.world.plan m).sender
-  from_peer = let b = between_parties n own.part m awaited.0 in (b.sender, λ e. b.apart (e ∙ sym awaited.1))
+  pub from_peer : NeverComes now m → IsPeer n (message n.world.plan m).sender
+  from_peer never =
+      let b = between_parties n own.part m awaited.0 in
+      (b.sender, λ e. never.peer (ap (λ z. (message z m).sender) own.plan ∙ e ∙ sym own.me))
 
   -- its sender's reader didn't read it
   pub not_read : NeverComes now m → (before after : LinksReading) (words : List ℕ) (result : Result (Unit {0}) NodeFault) → PeerRead n now before after (message n.world.plan m).sender words result → ¬ (place_of n m < length words)
   not_read never before after words result p less =
       let there : m < length (messages now.plan) = subst (λ z. m < length (messages z)) (sym own.plan) awaited.0 in
       let to : (message now.plan m).receiver ≡ now.me = ap (λ z. (message z m).receiver) own.plan ∙ awaited.1 ∙ sym own.me in
-      let place : slice_index now.places m ≡ place_of n m = mail.placed m there to ∙ ap (λ z. place_to z now.me m) own.plan ∙ ap (λ z. place_to n.world.plan z m) own.me in
+      let place : slice_index now.places m ≡ place_of n m = mail.placed m (record { there = there; receiver = to; sender = never.peer }) ∙ ap (λ z. place_to z now.me m) own.plan ∙ ap (λ z. place_to n.world.plan z m) own.me in
       let all : never.total ≡ length words = p.got.total never.total (subst (λ z. (box_of now (message z m).sender).view.total ≡ Some never.total) own.plan never.found) in
       let few = never.few in
       absurd (omega (arith, place, all, few, less))

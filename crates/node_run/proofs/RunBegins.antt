@@ -72,11 +72,13 @@ module _ (share : Share) (kept : Kept) (h : IsNodeReady share kept) where
         cells = h.words.count;
         bits = h.words.bits;
         places = p.count;
-        placed = λ m lm to. p.each m lm;
-        room = λ m lm to.
+        placed = λ m from. p.each m from.there;
+        room = λ m from.
+            let lm = from.there in
+            let to = from.receiver in
             let b = between_parties share.plan h.fits.sound m lm in
             let q : ℕ = (message share.plan m).sender in
-            let other : q ≢ share.me = λ e. b.apart (e ∙ sym to) in
+            let other : q ≢ share.me = from.sender in
             let less : place_among share.me q < length kept.readers =
             place_within share.me q share.plan.parties (length kept.readers) b.sender other party (let r = h.peers.reader_count in omega (arith, r, party)) in
             let x = element_there kept.readers (place_among share.me q) less in
@@ -86,7 +88,7 @@ module _ (share : Share) (kept : Kept) (h : IsNodeReady share kept) where
             let at = p.each m lm in
             let within = (placed some m lm to).0 in
             omega (arith, places, at, within);
-        read = λ m v to e. absurd (let f : None ≡ Some v = sym (h.words.empty m) ∙ e in cc);
+        read = λ m v from e. absurd (let f : None ≡ Some v = sym (h.words.empty m) ∙ e in cc);
       }
 
   -- over an equal plan

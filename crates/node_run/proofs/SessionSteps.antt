@@ -38,8 +38,8 @@ use Rattle.node_talk.specs.Talks.{Node, acts, IsPeer, own_word, said, frames, po
 use Rattle.node_talk.specs.PeerLinks.{place_among, no_outlet, out_to}
 use Rattle.node_talk.proofs.Frames.{said_step}
 use Rattle.node_talk.proofs.ExpectedPlaces.{between_parties}
-use Rattle.node_talk.proofs.ActPlaces.{at_act, within_acts, taken_there}
-use Rattle.node_run.specs.Mail.{Mail, SentTo, MayPost, MayTake, Takes, NeverComes, with_post, failed_after, outlet_to}
+use Rattle.node_talk.proofs.ActPlaces.{at_act, within_acts, posted_before_take, taken_there}
+use Rattle.node_run.specs.Mail.{Mail, SentTo, Posts, ComesFromPeer, MayPost, MayTake, Takes, TakesFrom, NeverComes, with_post, failed_after, outlet_to}
 use Rattle.node_run.specs.Progress.{Begin, Agrees, HasTaken, HasPosted, KeepsOwn, IsOf, Going, KeepsRoom, OutletStays, Stopped, StopsBy, Halted, InSession, before_session, ids_of, said_bytes}
 use Rattle.node_run.specs.Turns.{Awaits}
 use Rattle.node_run.proofs.KnownWords.{known, agrees_known, later_taken, later_posted}
@@ -55,6 +55,8 @@ stopped_at n k start c g = record {
   own = g.own;
   within = g.within;
   taken = g.taken;
+  posted = g.posted;
+  own_words = g.own_words;
   sent = λ got ag q peer. whole_prefix _ _ _ (g.sent got ag q peer);
 }
 
@@ -62,7 +64,7 @@ stopped_at n k start c g = record {
 pub record AreNodeCells (cells : Meaning Mail) : Type 0 where
   pub may_post : (c : Mail) (m w : ℕ) → MayPost c m w → cells.may_post c m w
   pub may_take : (c : Mail) (m : ℕ) → MayTake c m → cells.may_take c m
-  pub put : (c : Mail) (m w : ℕ) (p : Posted) (d : Mail) → cells.put c m w p d → (p ≡ Done) × SentTo (message c.plan m).receiver (frame (message c.plan m) w) (with_post c m w) d
+  pub put : (c : Mail) (m w : ℕ) (p : Posted) (d : Mail) → cells.put c m w p d → (p ≡ Done) × Posts c m w d
   pub took : (c : Mail) (m : ℕ) (a : Option ℕ) (d : Mail) → cells.took c m a d → Takes c m a d
   pub got : (c : Mail) (m w : ℕ) → cells.got c m w → plain_cell c.words.cells m ≡ Some w
 
@@ -71,7 +73,7 @@ node_cells = record {
   may_post = MayPost;
   may_take = MayTake;
   got = λ c m w. plain_cell c.words.cells m ≡ Some w;
-  put = λ c m w p d. (p ≡ Done) × SentTo (message c.plan m).receiver (frame (message c.plan m) w) (with_post c m w) d;
+  put = λ c m w p d. (p ≡ Done) × Posts c m w d;
   took = Takes;
   below = λ c k. c.plan.bits ≡ k;
 }
@@ -145,31 +147,40 @@ module _ (cells : Meaning Mail) (are : AreNodeCells cells) (n : Node) (s : ℕ) 
   abbrev e : Instruction
   e = at (program n.world.plan n.me s) d.position
 
-  allows_at : (got : Key → ℕ) (i : Instruction) → NextIs (l got) d.position i → Allows cells c (l got) d.position i
-  allows_at got (Post m j) x = are.may_post c m (word_at (l got) d.position m j) (record {
-    there = subst (λ z. m < length (messages z)) (sym h.going.own.plan) x.0;
-    sender = ap (λ z. (message z m).sender) h.going.own.plan ∙ x.1 ∙ sym h.going.own.me;
-    small = subst (λ z. word_at (l got) d.position m j < 2 ^ z.bits) (sym h.going.own.plan) x.2;
-  })
-  allows_at got (Take m j) x = are.may_take c m (record {
-    there = subst (λ z. m < length (messages z)) (sym h.going.own.plan) x.0;
-    receiver = ap (λ z. (message z m).receiver) h.going.own.plan ∙ x.1 ∙ sym h.going.own.me;
-  })
-  allows_at got _ x = tt
-
-  pub may_step : (got : Key → ℕ) → Agrees n c.words.cells got → MayStep cells n.world.plan c (local_given n.world got s n.me) d
-  may_step got ag = record { same = refl; desk = h.desk got ag; allows = allows_at got (instruction_at (l got) d) (next_is (l got) d (h.desk got ag)) }
-
-  pub some_given : (given : Given) × MayStep cells n.world.plan c given d
-  some_given = (l (known n c.words.cells), may_step (known n c.words.cells) (agrees_known n c.words.cells h.going.own.cells))
-
-  -- ---- the instruction among all
-
   inside : (e ≡ End → ⊥) → d.position < length (program n.world.plan n.me s)
   inside ne = elim (cases_lt d.position (length (program n.world.plan n.me s))) [
     | left' l ↦ l
     | right' past ↦ absurd (ne (get_or_past (program n.world.plan n.me s) d.position End past))
   ]
+
+  -- what it takes of itself it posted before
+  kept_before : (m j : ℕ) → e ≡ Take m j → (message n.world.plan m).sender ≡ n.me → (v : ℕ) × (plain_cell c.words.cells m ≡ Some v)
+  kept_before m j is from =
+      let more = inside (λ f. (let g : Take m j ≡ End = sym is ∙ f in cc)) in
+      let lk : k < length (acts n) = (let a = within_acts n s (suc d.position) h.session (omega (arith, more)) in omega (arith, a)) in
+      let b = posted_before_take n h.going.own.part k m j lk (at_act n s d.position h.session more ∙ is) from in
+      h.going.posted b.place m b.share b.before b.is
+
+  allows_at : (got : Key → ℕ) (i : Instruction) → e ≡ i → NextIs (l got) d.position i → Allows cells c (l got) d.position i
+  allows_at got (Post m j) is x = are.may_post c m (word_at (l got) d.position m j) (record {
+    there = subst (λ z. m < length (messages z)) (sym h.going.own.plan) x.0;
+    sender = ap (λ z. (message z m).sender) h.going.own.plan ∙ x.1 ∙ sym h.going.own.me;
+    small = subst (λ z. word_at (l got) d.position m j < 2 ^ z.bits) (sym h.going.own.plan) x.2;
+  })
+  allows_at got (Take m j) is x = are.may_take c m (record {
+    there = subst (λ z. m < length (messages z)) (sym h.going.own.plan) x.0;
+    receiver = ap (λ z. (message z m).receiver) h.going.own.plan ∙ x.1 ∙ sym h.going.own.me;
+    kept = λ from. kept_before m j is (sym (ap (λ z. (message z m).sender) h.going.own.plan) ∙ from ∙ h.going.own.me);
+  })
+  allows_at got _ is x = tt
+
+  pub may_step : (got : Key → ℕ) → Agrees n c.words.cells got → MayStep cells n.world.plan c (local_given n.world got s n.me) d
+  may_step got ag = record { same = refl; desk = h.desk got ag; allows = allows_at got (instruction_at (l got) d) refl (next_is (l got) d (h.desk got ag)) }
+
+  pub some_given : (given : Given) × MayStep cells n.world.plan c given d
+  some_given = (l (known n c.words.cells), may_step (known n c.words.cells) (agrees_known n c.words.cells h.going.own.cells))
+
+  -- ---- the instruction among all
 
   module _ (more : d.position < length (program n.world.plan n.me s)) where
     lk : k < length (acts n)
@@ -188,59 +199,40 @@ module _ (cells : Meaning Mail) (are : AreNodeCells cells) (n : Node) (s : ℕ) 
 
     module _ (c' : Mail) (own : IsOf n start c') (outlets : c'.outlets ≡ c.outlets) (failed : c'.failed ≡ c.failed) (me : c'.me ≡ c.me)
         (keeps : (m v : ℕ) → plain_cell c.words.cells m ≡ Some v → plain_cell c'.words.cells m ≡ Some v)
-        (news : (m v : ℕ) → (message plan m).receiver ≢ n.me → plain_cell c'.words.cells m ≡ Some v → plain_cell c.words.cells m ≡ Some v)
-        (no_post : (q : ℕ) (word : Key → ℕ) → frames word (post_to plan q e) ≡ []) (not_post : (m i : ℕ) → e ≡ Post m i → ⊥) (took : (m i : ℕ) → e ≡ Take m i → (v : ℕ) × (plain_cell c'.words.cells m ≡ Some v)) where
+        (own_words : KeepsOwn n c'.words.cells) (posted : HasPosted n (suc (before_session n s + d.position)) c'.words.cells)
+        (no_post : (q : ℕ) → IsPeer n q → (word : Key → ℕ) → frames word (post_to plan q e) ≡ []) (took : (m i : ℕ) → e ≡ Take m i → (v : ℕ) × (plain_cell c'.words.cells m ≡ Some v)) where
       outlet_same : (q : ℕ) → outlet_to c' q ≡ outlet_to c q
       outlet_same q = ap (λ z. (slice_index_or z (place_among c'.me q) no_outlet).sink) outlets ∙ ap (λ z. (slice_index_or c.outlets (place_among z q) no_outlet).sink) me
 
-      no_bytes : (q : ℕ) → said_bytes n q k ≡ said_bytes n q (suc k)
-      no_bytes q = let a = bytes_more n q k (λ (key : Key). 0) [] lk (ap (λ z. frames (λ (key : Key). 0) (post_to plan q z)) act_is ∙ no_post q (λ (key : Key). 0)) in omega (arith, a)
+      no_bytes : (q : ℕ) → IsPeer n q → said_bytes n q k ≡ said_bytes n q (suc k)
+      no_bytes q peer = let a = bytes_more n q k (λ (key : Key). 0) [] lk (ap (λ z. frames (λ (key : Key). 0) (post_to plan q z)) act_is ∙ no_post q peer (λ (key : Key). 0)) in omega (arith, a)
 
       pub goes_on : Going n (suc k) start c'
       goes_on = record {
         own = own;
         within = (let a = lk in omega arith);
         taken = later_taken n k c'.words.cells (λ j m i l f. let v = h.going.taken j m i l f in (v.0, keeps m v.0 v.1)) (λ m i f. took m i (sym act_is ∙ f));
-        posted = later_posted n k c'.words.cells (λ j m i l f. let v = h.going.posted j m i l f in (v.0, keeps m v.0 v.1)) (λ m i f. absurd (not_post m i (sym act_is ∙ f)));
-        own_words = λ m v f ne. let o = h.going.own_words m v (news m v ne f) ne in (o.0, λ got agrees. o.1 got (λ m' v' to g. agrees m' v' to (keeps m' v' g)));
+        posted = posted;
+        own_words = own_words;
         sent = λ got agrees q peer.
-            ap (λ z. z.told) (outlet_same q) ∙ h.going.sent got (λ m v to f. agrees m v to (keeps m v f)) q peer ∙ ap (added (out_to n start.links q).told) (sym (said_same q (own_word n got) (no_post q (own_word n got))));
+            ap (λ z. z.told) (outlet_same q) ∙ h.going.sent got (λ m v to f. agrees m v to (keeps m v f)) q peer ∙ ap (added (out_to n start.links q).told) (sym (said_same q (own_word n got) (no_post q peer (own_word n got))));
         calm = λ q peer. ap (λ z. z.faults) (outlet_same q) ∙ h.going.calm q peer;
-        room = λ q peer. subst (KeepsRoom (said_bytes n q (suc k)) (out_to n start.links q)) (sym (outlet_same q)) (room_at (said_bytes n q k) (said_bytes n q (suc k)) _ _ (no_bytes q) (h.going.room q peer));
+        room = λ q peer. subst (KeepsRoom (said_bytes n q (suc k)) (out_to n start.links q)) (sym (outlet_same q)) (room_at (said_bytes n q k) (said_bytes n q (suc k)) _ _ (no_bytes q peer) (h.going.room q peer));
         quiet = failed ∙ h.going.quiet;
       }
 
     -- ---- a post
 
     module _ (m i : ℕ) (is : e ≡ Post m i) (there : m < length (messages n.world.plan)) (sender : (message n.world.plan m).sender ≡ n.me) (c' : Mail)
-        (sents : (got : Key → ℕ) → Agrees n c.words.cells got → SentTo (message n.world.plan m).receiver (frame (message n.world.plan m) (own_word n got (message n.world.plan m))) (with_post c m (own_word n got (message n.world.plan m))) c') where
+        (cells_are : (got : Key → ℕ) → Agrees n c.words.cells got → c'.words.cells ≡ plain_put c.words.cells m (own_word n got (message n.world.plan m))) where
       abbrev to_q : ℕ
       to_q = (message plan m).receiver
-
-      abbrev bytes : (Key → ℕ) → List ℕ
-      bytes got = frame (message plan m) (own_word n got (message plan m))
 
       old_agrees : Agrees n c.words.cells (known n c.words.cells)
       old_agrees = agrees_known n c.words.cells h.going.own.cells
 
-      some_sent : SentTo to_q (bytes (known n c.words.cells)) (with_post c m (own_word n (known n c.words.cells) (message plan m))) c'
-      some_sent = sents (known n c.words.cells) (agrees_known n c.words.cells h.going.own.cells)
-
-      to_peer : IsPeer n to_q
-      to_peer = let b = between_parties n h.going.own.part m there in (b.receiver, λ f. b.apart (sender ∙ sym f))
-
       not_take : (m' i' : ℕ) → e ≡ Take m' i' → ⊥
       not_take m' i' f = (let g : Post m i ≡ Take m' i' = sym is ∙ f in cc)
-
-      said_here : (got : Key → ℕ) → said n to_q (own_word n got) (suc k) ≡ said n to_q (own_word n got) k ++ bytes got
-      said_here got = said_more to_q (own_word n got) (bytes got) (ap (λ z. frames (own_word n got) (post_to plan to_q z)) is ∙ post_here plan m i (own_word n got) to_q refl)
-
-      said_there : (got : Key → ℕ) (q : ℕ) → to_q ≢ q → said n q (own_word n got) (suc k) ≡ said n q (own_word n got) k
-      said_there got q ne = said_same q (own_word n got) (ap (λ z. frames (own_word n got) (post_to plan q z)) is ∙ post_there plan m i (own_word n got) q ne)
-
-      -- the cells have the word of the message, as the party has it by itself
-      cells_are : (got : Key → ℕ) → Agrees n c.words.cells got → c'.words.cells ≡ plain_put c.words.cells m (own_word n got (message plan m))
-      cells_are got ag = ap (λ (z : Mail). z.words.cells) (sents got ag).rest
 
       lm : m < length c.words.cells
       lm = let a = h.going.own.cells in omega (arith, there, a)
@@ -255,18 +247,8 @@ module _ (cells : Meaning Mail) (are : AreNodeCells cells) (n : Node) (s : ℕ) 
       new_word : (got : Key → ℕ) → Agrees n c.words.cells got → (r v : ℕ) → plain_cell c'.words.cells r ≡ Some v → (plain_cell c.words.cells r ≡ Some v) ⊎ ((r ≡ m) × (v ≡ own_word n got (message plan m)))
       new_word got ag r v f = put_new c.words.cells m (own_word n got (message plan m)) r v lm (ap (λ z. plain_cell z r) (sym (cells_are got ag)) ∙ f)
 
-      outlet_there : (q : ℕ) → IsPeer n q → to_q ≢ q → outlet_to c' q ≡ outlet_to c q
-      outlet_there q peer ne = ap (λ z. z.sink) (some_sent.others q (subst (λ z. q < z.parties) (sym h.going.own.plan) peer.0) (λ f. peer.1 (f ∙ h.going.own.me)) (λ f. ne (sym f)))
-
-      own' : IsOf n start c'
-      own' = record {
-        part = h.going.own.part;
-        digest = h.going.own.digest;
-        plan = ap (λ (z : Mail). z.plan) some_sent.rest ∙ h.going.own.plan;
-        me = ap (λ (z : Mail). z.me) some_sent.rest ∙ h.going.own.me;
-        ids = ap (λ (z : Mail). ids_of z.boxes) some_sent.rest ∙ h.going.own.ids;
-        cells = ap length (cells_are (known n c.words.cells) old_agrees) ∙ put_length c.words.cells m (own_word n (known n c.words.cells) (message plan m)) lm ∙ h.going.own.cells;
-      }
+      count' : length c'.words.cells ≡ length (messages n.world.plan)
+      count' = ap length (cells_are (known n c.words.cells) old_agrees) ∙ put_length c.words.cells m (own_word n (known n c.words.cells) (message plan m)) lm ∙ h.going.own.cells
 
       taken' : HasTaken n k c'.words.cells
       taken' j m' i' l f = let v = h.going.taken j m' i' l f in (v.0, kept_still m' v.0 v.1)
@@ -281,97 +263,146 @@ module _ (cells : Meaning Mail) (are : AreNodeCells cells) (n : Node) (s : ℕ) 
           (λ m' i' f. let same : Post m i ≡ Post m' i' = sym is ∙ sym act_is ∙ f in let one : m ≡ m' = cc in (here.0, ap (plain_cell c'.words.cells) (sym one) ∙ here.1))
 
       own_words' : KeepsOwn n c'.words.cells
-      own_words' r v f ne = (
-        ⊎_elim (λ before. (h.going.own_words r v before ne).0)
+      own_words' = record {
+        sender = λ r v f ne. ⊎_elim (λ before. h.going.own_words.sender r v before ne)
             (λ (new : (r ≡ m) × (v ≡ own_word n (known n c.words.cells) (message plan m))). ap (λ z. (message plan z).sender) new.0 ∙ sender)
-            (new_word (known n c.words.cells) old_agrees r v f),
-        λ got agrees. ⊎_elim (λ before. (h.going.own_words r v before ne).1 got (agrees_before got agrees))
+            (new_word (known n c.words.cells) old_agrees r v f);
+        word = λ r v f from got agrees. ⊎_elim (λ before. h.going.own_words.word r v before from got (agrees_before got agrees))
             (λ (new : (r ≡ m) × (v ≡ own_word n got (message plan m))). new.1 ∙ ap (λ z. own_word n got (message plan z)) (sym new.0))
-            (new_word got (agrees_before got agrees) r v f),
-      )
-
-      -- all of a frame, or a first part of it
-      abbrev All : List ℕ → Type 0
-      All xs = ((outlet_to c' to_q).told ≡ added (outlet_to c to_q).told xs) × Sent xs (outlet_to c to_q) (outlet_to c' to_q)
-
-      abbrev Part : List ℕ → Type 0
-      Part xs = AddedPrefix (outlet_to c to_q).told xs (outlet_to c' to_q).told × Rose (outlet_to c to_q).faults (outlet_to c' to_q).faults × (c'.failed ≡ Some to_q) × Unsent xs (outlet_to c to_q) (outlet_to c' to_q)
-
-      -- how many bytes a frame adds
-      bytes_here : (got : Key → ℕ) → said_bytes n to_q (suc k) ≡ said_bytes n to_q k + length (bytes got)
-      bytes_here got = bytes_more n to_q k (own_word n got) (bytes got) lk (ap (λ z. frames (own_word n got) (post_to plan to_q z)) (act_is ∙ is) ∙ post_here plan m i (own_word n got) to_q refl)
-
-      bytes_there : (q : ℕ) → to_q ≢ q → said_bytes n q k ≡ said_bytes n q (suc k)
-      bytes_there q ne = let a = bytes_more n q k (λ (key : Key). 0) [] lk (ap (λ z. frames (λ (key : Key). 0) (post_to plan q z)) (act_is ∙ is) ∙ post_there plan m i (λ (key : Key). 0) q ne) in omega (arith, a)
-
-      by_result : (xs : List ℕ) (r : Result (Unit {0}) Failed) → Writes xs (outlet_to c to_q) (outlet_to c' to_q) r → c'.failed ≡ failed_after to_q r c.failed → (c'.failed ≡ None → All xs) × (c'.failed ≢ None → Part xs)
-      by_result xs (Ok u) w kept = (λ quiet. (w.ok, sent_ok xs _ _ u w), λ some. absurd (some (kept ∙ h.going.quiet)))
-      by_result xs (Err f) w kept = (λ quiet. absurd (let g : Some to_q ≡ None = sym kept ∙ quiet in cc), λ some. (w.err, w.failed, kept, sent_err xs _ _ f w))
-
-      written : (got : Key → ℕ) → Agrees n c.words.cells got → (c'.failed ≡ None → All (bytes got)) × (c'.failed ≢ None → Part (bytes got))
-      written got ag = let x = sents got ag in by_result (bytes got) x.result x.writes (ap (λ z. z.failed) x.rest)
-
-      some_written : (c'.failed ≡ None → All (bytes (known n c.words.cells))) × (c'.failed ≢ None → Part (bytes (known n c.words.cells)))
-      some_written = written (known n c.words.cells) (agrees_known n c.words.cells h.going.own.cells)
-
-      abbrev old_words : Key → ℕ
-      old_words = known n c.words.cells
-
-      there_room : (q : ℕ) → IsPeer n q → to_q ≢ q → KeepsRoom (said_bytes n q (suc k)) (out_to n start.links q) (outlet_to c' q)
-      there_room q peer ne = room_at (said_bytes n q k) (said_bytes n q (suc k)) _ _ (bytes_there q ne) (subst (KeepsRoom (said_bytes n q k) (out_to n start.links q)) (sym (outlet_there q peer ne)) (h.going.room q peer))
-
-      posted_ok : c'.failed ≡ None → Going n (suc k) start c'
-      posted_ok quiet = record {
-        own = own';
-        within = (let a = lk in omega arith);
-        taken = later_taken n k c'.words.cells taken' (λ m' i' f. absurd (not_take m' i' (sym act_is ∙ f)));
-        posted = posted';
-        own_words = own_words';
-        sent = λ got agrees q peer.
-            let before' = agrees_before got agrees in
-            elim (cases_eq to_q q) [
-              | left' eq ↦ subst (λ z. (outlet_to c' z).told ≡ added (out_to n start.links z).told (said n z (own_word n got) (suc k))) eq
-                  (((written got before').0 quiet).0 ∙ ap (λ z. added z (bytes got)) (h.going.sent got before' to_q to_peer) ∙ added-append (out_to n start.links to_q).told (said n to_q (own_word n got) k) (bytes got) ∙ ap (added (out_to n start.links to_q).told) (sym (said_here got)))
-              | right' ne ↦ ap (λ z. z.told) (outlet_there q peer ne) ∙ h.going.sent got before' q peer ∙ ap (added (out_to n start.links q).told) (sym (said_there got q ne))
-            ];
-        calm = λ q peer. elim (cases_eq to_q q) [
-          | left' eq ↦ subst (λ z. (outlet_to c' z).faults ≡ (out_to n start.links z).faults) eq ((some_written.0 quiet).1.faults ∙ h.going.calm to_q to_peer)
-          | right' ne ↦ ap (λ z. z.faults) (outlet_there q peer ne) ∙ h.going.calm q peer
-        ];
-        room = λ q peer. elim (cases_eq to_q q) [
-          | left' eq ↦ subst (λ z. KeepsRoom (said_bytes n z (suc k)) (out_to n start.links z) (outlet_to c' z)) eq
-              (room_at _ (said_bytes n to_q (suc k)) _ _ (sym (bytes_here old_words)) (room_then (said_bytes n to_q k) (length (bytes old_words)) _ _ _ (h.going.room to_q to_peer) (some_written.0 quiet).1.room))
-          | right' ne ↦ there_room q peer ne
-        ];
-        quiet = quiet;
+            (new_word got (agrees_before got agrees) r v f);
       }
 
-      posted_err : c'.failed ≢ None → Halted n start c'
-      posted_err some = record {
-        k = suc k;
-        stopped = record {
+      -- ---- where the message stays with the party
+
+      module _ (to : (message n.world.plan m).receiver ≡ n.me) (same : (word : ℕ) × (c' ≡ with_post c m word)) where
+        pub posted_here : Going n (suc k) start c'
+        posted_here = goes_on c' (record {
+          part = h.going.own.part;
+          digest = h.going.own.digest;
+          plan = ap (λ (z : Mail). z.plan) same.1 ∙ h.going.own.plan;
+          me = ap (λ (z : Mail). z.me) same.1 ∙ h.going.own.me;
+          ids = ap (λ (z : Mail). ids_of z.boxes) same.1 ∙ h.going.own.ids;
+          cells = count';
+        }) (ap (λ (z : Mail). z.outlets) same.1) (ap (λ (z : Mail). z.failed) same.1) (ap (λ (z : Mail). z.me) same.1) kept_still own_words' posted'
+            (λ q peer word. ap (λ z. frames word (post_to plan q z)) is ∙ post_there plan m i word q (λ e'. peer.1 (sym e' ∙ to)))
+            (λ m' i' f. absurd (not_take m' i' f))
+
+      -- ---- where it goes to a peer
+
+      module _ (other : (message n.world.plan m).receiver ≢ n.me)
+          (sents : (got : Key → ℕ) → Agrees n c.words.cells got → SentTo (message n.world.plan m).receiver (frame (message n.world.plan m) (own_word n got (message n.world.plan m))) (with_post c m (own_word n got (message n.world.plan m))) c') where
+        abbrev bytes : (Key → ℕ) → List ℕ
+        bytes got = frame (message plan m) (own_word n got (message plan m))
+
+        some_sent : SentTo to_q (bytes (known n c.words.cells)) (with_post c m (own_word n (known n c.words.cells) (message plan m))) c'
+        some_sent = sents (known n c.words.cells) (agrees_known n c.words.cells h.going.own.cells)
+
+        to_peer : IsPeer n to_q
+        to_peer = let b = between_parties n h.going.own.part m there in (b.receiver, other)
+
+        said_here : (got : Key → ℕ) → said n to_q (own_word n got) (suc k) ≡ said n to_q (own_word n got) k ++ bytes got
+        said_here got = said_more to_q (own_word n got) (bytes got) (ap (λ z. frames (own_word n got) (post_to plan to_q z)) is ∙ post_here plan m i (own_word n got) to_q refl)
+
+        said_there : (got : Key → ℕ) (q : ℕ) → to_q ≢ q → said n q (own_word n got) (suc k) ≡ said n q (own_word n got) k
+        said_there got q ne = said_same q (own_word n got) (ap (λ z. frames (own_word n got) (post_to plan q z)) is ∙ post_there plan m i (own_word n got) q ne)
+
+        outlet_there : (q : ℕ) → IsPeer n q → to_q ≢ q → outlet_to c' q ≡ outlet_to c q
+        outlet_there q peer ne = ap (λ z. z.sink) (some_sent.others q (subst (λ z. q < z.parties) (sym h.going.own.plan) peer.0) (λ f. peer.1 (f ∙ h.going.own.me)) (λ f. ne (sym f)))
+
+        own' : IsOf n start c'
+        own' = record {
+          part = h.going.own.part;
+          digest = h.going.own.digest;
+          plan = ap (λ (z : Mail). z.plan) some_sent.rest ∙ h.going.own.plan;
+          me = ap (λ (z : Mail). z.me) some_sent.rest ∙ h.going.own.me;
+          ids = ap (λ (z : Mail). ids_of z.boxes) some_sent.rest ∙ h.going.own.ids;
+          cells = count';
+        }
+
+        -- all of a frame, or a first part of it
+        abbrev All : List ℕ → Type 0
+        All xs = ((outlet_to c' to_q).told ≡ added (outlet_to c to_q).told xs) × Sent xs (outlet_to c to_q) (outlet_to c' to_q)
+
+        abbrev Part : List ℕ → Type 0
+        Part xs = AddedPrefix (outlet_to c to_q).told xs (outlet_to c' to_q).told × Rose (outlet_to c to_q).faults (outlet_to c' to_q).faults × (c'.failed ≡ Some to_q) × Unsent xs (outlet_to c to_q) (outlet_to c' to_q)
+
+        -- how many bytes a frame adds
+        bytes_here : (got : Key → ℕ) → said_bytes n to_q (suc k) ≡ said_bytes n to_q k + length (bytes got)
+        bytes_here got = bytes_more n to_q k (own_word n got) (bytes got) lk (ap (λ z. frames (own_word n got) (post_to plan to_q z)) (act_is ∙ is) ∙ post_here plan m i (own_word n got) to_q refl)
+
+        bytes_there : (q : ℕ) → to_q ≢ q → said_bytes n q k ≡ said_bytes n q (suc k)
+        bytes_there q ne = let a = bytes_more n q k (λ (key : Key). 0) [] lk (ap (λ z. frames (λ (key : Key). 0) (post_to plan q z)) (act_is ∙ is) ∙ post_there plan m i (λ (key : Key). 0) q ne) in omega (arith, a)
+
+        by_result : (xs : List ℕ) (r : Result (Unit {0}) Failed) → Writes xs (outlet_to c to_q) (outlet_to c' to_q) r → c'.failed ≡ failed_after to_q r c.failed → (c'.failed ≡ None → All xs) × (c'.failed ≢ None → Part xs)
+        by_result xs (Ok u) w kept = (λ quiet. (w.ok, sent_ok xs _ _ u w), λ some. absurd (some (kept ∙ h.going.quiet)))
+        by_result xs (Err f) w kept = (λ quiet. absurd (let g : Some to_q ≡ None = sym kept ∙ quiet in cc), λ some. (w.err, w.failed, kept, sent_err xs _ _ f w))
+
+        written : (got : Key → ℕ) → Agrees n c.words.cells got → (c'.failed ≡ None → All (bytes got)) × (c'.failed ≢ None → Part (bytes got))
+        written got ag = let x = sents got ag in by_result (bytes got) x.result x.writes (ap (λ z. z.failed) x.rest)
+
+        some_written : (c'.failed ≡ None → All (bytes (known n c.words.cells))) × (c'.failed ≢ None → Part (bytes (known n c.words.cells)))
+        some_written = written (known n c.words.cells) (agrees_known n c.words.cells h.going.own.cells)
+
+        abbrev old_words : Key → ℕ
+        old_words = known n c.words.cells
+
+        there_room : (q : ℕ) → IsPeer n q → to_q ≢ q → KeepsRoom (said_bytes n q (suc k)) (out_to n start.links q) (outlet_to c' q)
+        there_room q peer ne = room_at (said_bytes n q k) (said_bytes n q (suc k)) _ _ (bytes_there q ne) (subst (KeepsRoom (said_bytes n q k) (out_to n start.links q)) (sym (outlet_there q peer ne)) (h.going.room q peer))
+
+        posted_ok : c'.failed ≡ None → Going n (suc k) start c'
+        posted_ok quiet = record {
           own = own';
           within = (let a = lk in omega arith);
           taken = later_taken n k c'.words.cells taken' (λ m' i' f. absurd (not_take m' i' (sym act_is ∙ f)));
+          posted = posted';
+          own_words = own_words';
           sent = λ got agrees q peer.
               let before' = agrees_before got agrees in
               elim (cases_eq to_q q) [
-                | left' eq ↦ subst (λ z. AddedPrefix (out_to n start.links z).told (said n z (own_word n got) (suc k)) (outlet_to c' z).told) eq
-                    (subst (λ z. AddedPrefix (out_to n start.links to_q).told z (outlet_to c' to_q).told) (sym (said_here got)) (prefix_second (said n to_q (own_word n got) k) (bytes got) _ _ _ (h.going.sent got before' to_q to_peer) ((written got before').1 some).0))
-                | right' ne ↦ whole_prefix (said n q (own_word n got) (suc k)) _ _ (ap (λ z. z.told) (outlet_there q peer ne) ∙ h.going.sent got before' q peer ∙ ap (added (out_to n start.links q).told) (sym (said_there got q ne)))
+                | left' eq ↦ subst (λ z. (outlet_to c' z).told ≡ added (out_to n start.links z).told (said n z (own_word n got) (suc k))) eq
+                    (((written got before').0 quiet).0 ∙ ap (λ z. added z (bytes got)) (h.going.sent got before' to_q to_peer) ∙ added-append (out_to n start.links to_q).told (said n to_q (own_word n got) k) (bytes got) ∙ ap (added (out_to n start.links to_q).told) (sym (said_here got)))
+                | right' ne ↦ ap (λ z. z.told) (outlet_there q peer ne) ∙ h.going.sent got before' q peer ∙ ap (added (out_to n start.links q).told) (sym (said_there got q ne))
               ];
-        };
-        why = subst (StopsBy n (suc k) start c') (sym (some_written.1 some).2) (to_peer, subst (λ z. Rose z (outlet_to c' to_q).faults) (h.going.calm to_q to_peer) (some_written.1 some).1);
-        outlets = λ q peer. elim (cases_eq to_q q) [
-          | left' eq ↦ subst (λ z. OutletStays n z c'.failed (out_to n start.links z) (outlet_to c' z)) eq
-              (failed_stays n to_q c'.failed (said_bytes n to_q k) (bytes old_words) _ _ _ (some_written.1 some).2 (h.going.calm to_q to_peer) (h.going.room to_q to_peer)
-              (let a = bytes_within n to_q (suc k) (let b = lk in omega arith) in let e = bytes_here old_words in omega (arith, a, e)) (some_written.1 some).3)
-          | right' ne ↦ other_stays n q to_q c'.failed (said_bytes n q (suc k)) _ _ (some_written.1 some).2 ne (ap (λ z. z.faults) (outlet_there q peer ne) ∙ h.going.calm q peer) (there_room q peer ne)
-        ];
-      }
+          calm = λ q peer. elim (cases_eq to_q q) [
+            | left' eq ↦ subst (λ z. (outlet_to c' z).faults ≡ (out_to n start.links z).faults) eq ((some_written.0 quiet).1.faults ∙ h.going.calm to_q to_peer)
+            | right' ne ↦ ap (λ z. z.faults) (outlet_there q peer ne) ∙ h.going.calm q peer
+          ];
+          room = λ q peer. elim (cases_eq to_q q) [
+            | left' eq ↦ subst (λ z. KeepsRoom (said_bytes n z (suc k)) (out_to n start.links z) (outlet_to c' z)) eq
+                (room_at _ (said_bytes n to_q (suc k)) _ _ (sym (bytes_here old_words)) (room_then (said_bytes n to_q k) (length (bytes old_words)) _ _ _ (h.going.room to_q to_peer) (some_written.0 quiet).1.room))
+            | right' ne ↦ there_room q peer ne
+          ];
+          quiet = quiet;
+        }
 
-      pub posted : (c'.failed ≡ None → Going n (suc k) start c') × (c'.failed ≢ None → Halted n start c')
-      posted = (posted_ok, posted_err)
+        posted_err : c'.failed ≢ None → Halted n start c'
+        posted_err some = record {
+          k = suc k;
+          stopped = record {
+            own = own';
+            within = (let a = lk in omega arith);
+            taken = later_taken n k c'.words.cells taken' (λ m' i' f. absurd (not_take m' i' (sym act_is ∙ f)));
+            posted = posted';
+            own_words = own_words';
+            sent = λ got agrees q peer.
+                let before' = agrees_before got agrees in
+                elim (cases_eq to_q q) [
+                  | left' eq ↦ subst (λ z. AddedPrefix (out_to n start.links z).told (said n z (own_word n got) (suc k)) (outlet_to c' z).told) eq
+                      (subst (λ z. AddedPrefix (out_to n start.links to_q).told z (outlet_to c' to_q).told) (sym (said_here got)) (prefix_second (said n to_q (own_word n got) k) (bytes got) _ _ _ (h.going.sent got before' to_q to_peer) ((written got before').1 some).0))
+                  | right' ne ↦ whole_prefix (said n q (own_word n got) (suc k)) _ _ (ap (λ z. z.told) (outlet_there q peer ne) ∙ h.going.sent got before' q peer ∙ ap (added (out_to n start.links q).told) (sym (said_there got q ne)))
+                ];
+          };
+          why = subst (StopsBy n (suc k) start c') (sym (some_written.1 some).2) (to_peer, subst (λ z. Rose z (outlet_to c' to_q).faults) (h.going.calm to_q to_peer) (some_written.1 some).1);
+          outlets = λ q peer. elim (cases_eq to_q q) [
+            | left' eq ↦ subst (λ z. OutletStays n z c'.failed (out_to n start.links z) (outlet_to c' z)) eq
+                (failed_stays n to_q c'.failed (said_bytes n to_q k) (bytes old_words) _ _ _ (some_written.1 some).2 (h.going.calm to_q to_peer) (h.going.room to_q to_peer)
+                (let a = bytes_within n to_q (suc k) (let b = lk in omega arith) in let e = bytes_here old_words in omega (arith, a, e)) (some_written.1 some).3)
+            | right' ne ↦ other_stays n q to_q c'.failed (said_bytes n q (suc k)) _ _ (some_written.1 some).2 ne (ap (λ z. z.faults) (outlet_there q peer ne) ∙ h.going.calm q peer) (there_room q peer ne)
+          ];
+        }
+
+        pub posted : (c'.failed ≡ None → Going n (suc k) start c') × (c'.failed ≢ None → Halted n start c')
+        posted = (posted_ok, posted_err)
 
   -- ---- a step that moved
 
@@ -403,12 +434,31 @@ module _ (cells : Meaning Mail) (are : AreNodeCells cells) (n : Node) (s : ℕ) 
     stays : (i : Instruction) → e ≡ i → (i ≡ End → ⊥) → ((q : ℕ) (word : Key → ℕ) → frames word (post_to plan q i) ≡ []) → ((m j : ℕ) → i ≡ Post m j → ⊥) → ((m j : ℕ) → i ≡ Take m j → ⊥) → c' ≡ c → ((got : Key → ℕ) → Agrees n c'.words.cells got → IsDesk (l got) d') → Next
     stays i is ne no_post not_post no_take same desk =
         let more = inside (λ f. ne (sym is ∙ f)) in
-        let g = goes_on more c' (subst (IsOf n start) (sym same) h.going.own) (ap (λ z. z.outlets) same) (ap (λ z. z.failed) same) (ap (λ z. z.me) same) keeps (λ m v ne' f. ap (λ (z : Mail). plain_cell z.words.cells m) (sym same) ∙ f) (λ q word. ap (λ z. frames word (post_to plan q z)) is ∙ no_post q word)
-        (λ m j f. not_post m j (sym is ∙ f)) (λ m j f. absurd (no_take m j (sym is ∙ f))) in
+        let g = goes_on more c' (subst (IsOf n start) (sym same) h.going.own) (ap (λ z. z.outlets) same) (ap (λ z. z.failed) same) (ap (λ z. z.me) same) keeps (subst (λ (z : Mail). KeepsOwn n z.words.cells) (sym same) h.going.own_words)
+        (later_posted n k c'.words.cells (λ j m i' less f. let v = h.going.posted j m i' less f in (v.0, keeps m v.0 v.1)) (λ m j f. absurd (not_post m j (sym is ∙ sym (act_is more) ∙ f))))
+        (λ q peer word. ap (λ z. frames word (post_to plan q z)) is ∙ no_post q word) (λ m j f. absurd (no_take m j (sym is ∙ f))) in
         (λ quiet. in_session g desk, λ some. absurd (some (ap (λ z. z.failed) same ∙ h.going.quiet)))
 
     taken : (m j : ℕ) → e ≡ Take m j → (m < length (messages n.world.plan)) × ((message n.world.plan m).receiver ≡ n.me)
     taken m j is = taken_there n.world n.me h.going.own.part s h.session d.position m j is
+
+    -- a take leaves the party's own words as they are: one that it takes of itself was there
+    own_after : (m j x : ℕ) → e ≡ Take m j → c'.words.cells ≡ plain_put c.words.cells m x → m < length c.words.cells → KeepsOwn n c'.words.cells
+    own_after m j x is put lm = record {
+      sender = λ r v f ne. ⊎_elim (λ before. h.going.own_words.sender r v before ne)
+          (λ (new : (r ≡ m) × (v ≡ x)). absurd (ne (ap (λ z. (message plan z).receiver) new.0 ∙ (taken m j is).1)))
+          (put_new c.words.cells m x r v lm (ap (λ z. plain_cell z r) (sym put) ∙ f));
+      word = λ r v f from got ag.
+          let before' : Agrees n c.words.cells got = (λ m' v' to g. ag m' v' to (keeps m' v' g)) in
+          ⊎_elim (λ before. h.going.own_words.word r v before from got before')
+          (λ (new : (r ≡ m) × (v ≡ x)).
+          let mine : (message plan m).sender ≡ n.me = ap (λ z. (message plan z).sender) (sym new.0) ∙ from in
+          let b = kept_before m j is mine in
+          let both : Some v ≡ Some b.0 = sym f ∙ ap (plain_cell c'.words.cells) new.0 ∙ keeps m b.0 b.1 in
+          let one : v ≡ b.0 = cc in
+          one ∙ h.going.own_words.word m b.0 b.1 mine got before' ∙ ap (λ z. own_word n got (message plan z)) (sym new.0))
+          (put_new c.words.cells m x r v lm (ap (λ z. plain_cell z r) (sym put) ∙ f));
+    }
 
     takes : (m j : ℕ) → e ≡ Take m j → Next
     takes m j is =
@@ -426,8 +476,9 @@ module _ (cells : Meaning Mail) (are : AreNodeCells cells) (n : Node) (s : ℕ) 
         } in
         let lm : m < length c.words.cells = (let a = (taken m j is).0 in let b = h.going.own.cells in omega (arith, a, b)) in
         let g = goes_on more c' own (ap (λ z. z.outlets) t.rest) (ap (λ z. z.failed) t.rest) (ap (λ z. z.me) t.rest) keeps
-        (λ r v ne f. ⊎_elim (λ before. before) (λ (new : (r ≡ m) × (v ≡ x.0)). absurd (ne (ap (λ z. (message plan z).receiver) new.0 ∙ (taken m j is).1))) (put_new c.words.cells m x.0 r v lm (ap (λ z. plain_cell z r) (sym t.answers.1) ∙ f)))
-        (λ q word. ap (λ z. frames word (post_to plan q z)) is) (λ m' j' f. (let other : Take m j ≡ Post m' j' = sym is ∙ f in cc))
+        (own_after m j x.0 is t.answers.1 lm)
+        (later_posted n k c'.words.cells (λ j' m' i' less f. let v = h.going.posted j' m' i' less f in (v.0, keeps m' v.0 v.1)) (λ m' j' f. absurd (let other : Take m j ≡ Post m' j' = sym is ∙ sym (act_is more) ∙ f in cc)))
+        (λ q peer word. ap (λ z. frames word (post_to plan q z)) is)
         (λ m' j' f. let same : Take m j ≡ Take m' j' = sym is ∙ f in let one : m ≡ m' = cc in (x.0, ap (plain_cell c'.words.cells) (sym one) ∙ known_now)) in
         (λ quiet. in_session g (λ got ag. hears got ag), λ some. absurd (some (ap (λ z. z.failed) t.rest ∙ h.going.quiet)))
       where
@@ -444,16 +495,33 @@ module _ (cells : Meaning Mail) (are : AreNodeCells cells) (n : Node) (s : ℕ) 
     posts m j is =
         let more = inside (λ f. (let g : Post m j ≡ End = sym is ∙ f in cc)) in
         let right = goes_at old (Post m j) is (λ f. cc) in
-        let after' = posted more m j is right.0.number right.1.0 c' (λ got ag. sent got ag) in
-        (λ quiet. in_session (after'.0 quiet) (λ got ag. (subst (Does cells (l got) d c d' c') is (step got ag).1).1), after'.1)
+        let desk : (got : Key → ℕ) → Agrees n c'.words.cells got → IsDesk (l got) d' = (λ got ag. (subst (Does cells (l got) d c d' c') is (step got ag).1).1) in
+        elim (cases_eq (message plan m).receiver n.me) [
+          | left' to ↦
+              let g = posted_here more m j is right.0.number right.1.0 c' (λ got ag. kept got ag to) to (own_word n old (message plan m), stayed old (agrees_known n c.words.cells h.going.own.cells) to) in
+              (λ quiet. in_session g desk, λ some. absurd (some (g.quiet)))
+          | right' other ↦
+              let after' = posted more m j is right.0.number right.1.0 c' (λ got ag. ap (λ (z : Mail). z.words.cells) (sent got ag other).rest) other (λ got ag. sent got ag other) in
+              (λ quiet. in_session (after'.0 quiet) desk, after'.1)
+        ]
       where
-        sent : (got : Key → ℕ) → Agrees n c.words.cells got → SentTo (message plan m).receiver (frame (message plan m) (own_word n got (message plan m))) (with_post c m (own_word n got (message plan m))) c'
-        sent got ag =
+        put_of : (got : Key → ℕ) → Agrees n c.words.cells got → Posts c m (own_word n got (message plan m)) c'
+        put_of got ag =
             let x = subst (Does cells (l got) d c d' c') is (steps (l got) (may_step got ag)).1 in
-            let put = (are.put c m (word_at (l got) d.position m j) x.0.0 c' x.0.1).1 in
             let own : word_at (l got) d.position m j ≡ own_word n got (message plan m) = (goes_at got (Post m j) is (λ f. cc)).1.1 in
+            subst (λ z. Posts c m z c') own (are.put c m (word_at (l got) d.position m j) x.0.0 c' x.0.1).1
+
+        stayed : (got : Key → ℕ) → Agrees n c.words.cells got → (message plan m).receiver ≡ n.me → c' ≡ with_post c m (own_word n got (message plan m))
+        stayed got ag to = (put_of got ag).stays (ap (λ z. (message z m).receiver) h.going.own.plan ∙ to ∙ sym h.going.own.me)
+
+        kept : (got : Key → ℕ) → Agrees n c.words.cells got → (message plan m).receiver ≡ n.me → c'.words.cells ≡ plain_put c.words.cells m (own_word n got (message plan m))
+        kept got ag to = ap (λ (z : Mail). z.words.cells) (stayed got ag to)
+
+        sent : (got : Key → ℕ) → Agrees n c.words.cells got → (message plan m).receiver ≢ n.me → SentTo (message plan m).receiver (frame (message plan m) (own_word n got (message plan m))) (with_post c m (own_word n got (message plan m))) c'
+        sent got ag other =
+            let receiver : (message c.plan m).receiver ≡ (message plan m).receiver = ap (λ z. (message z m).receiver) h.going.own.plan in
             subst (λ z. SentTo (message z m).receiver (frame (message z m) (own_word n got (message plan m))) (with_post c m (own_word n got (message plan m))) c') h.going.own.plan
-            (subst (λ z. SentTo (message c.plan m).receiver (frame (message c.plan m) z) (with_post c m z) c') own put)
+            ((put_of got ag).goes (λ f. other (sym receiver ∙ f ∙ h.going.own.me)))
 
     moved_at : (i : Instruction) → e ≡ i → Next
     moved_at (Post m j) is = posts m j is
@@ -467,21 +535,26 @@ module _ (cells : Meaning Mail) (are : AreNodeCells cells) (n : Node) (s : ℕ) 
   -- ---- a step that did nothing
 
   module _ (d' : Desk) (c' : Mail) (m : ℕ) (steps : (given : Given) → MayStep cells n.world.plan c given d → Steps cells given d c d' c' (instruction_at given d) (NotYet m)) where
-    waited_at : (i : Instruction) → e ≡ i → Waits cells d c d' c' m i → InSession n s start d' c' × MayTake c' m × Awaits n s d' m
+    -- a word that is kept is given
+    not_here : (m' : ℕ) → (v : ℕ) × (plain_cell c.words.cells m' ≡ Some v) → TakesFrom c m' (plain_cell c.words.cells m') None c' → ⊥
+    not_here m' v from = let x = subst (λ o. TakesFrom c m' o None c') v.1 from in (let f : None ≡ Some v.0 = x.0 in cc)
+
+    waited_at : (i : Instruction) → e ≡ i → Waits cells d c d' c' m i → InSession n s start d' c' × ComesFromPeer c' m × Awaits n s d' m
     waited_at (Take m' j) is x =
         let t = are.took c m' None c' x.2 in
         let r = rested n s start d c h c' t.rest t.answers t.ids in
         let there = taken_there n.world n.me h.going.own.part s h.session d.position m' j is in (
           subst (λ z. InSession n s start z c') (sym x.1) r,
-          subst (MayTake c') (sym x.0) (record {
+          subst (ComesFromPeer c') (sym x.0) (record {
             there = subst (λ z. m' < length (messages z)) (sym r.going.own.plan) there.0;
             receiver = ap (λ z. (message z m').receiver) r.going.own.plan ∙ there.1 ∙ sym r.going.own.me;
+            sender = λ from. not_here m' (kept_before m' j is (sym (ap (λ z. (message z m').sender) r.going.own.plan) ∙ from ∙ r.going.own.me)) t.from;
           }),
           subst (Awaits n s d') (sym x.0) (subst (λ z. Awaits n s z m') (sym x.1) (j, act_is (inside (λ f. (let g : Take m' j ≡ End = sym is ∙ f in cc))) ∙ is)),
         )
     waited_at _ is x = absurd x
 
-    pub waited : InSession n s start d' c' × MayTake c' m × Awaits n s d' m
+    pub waited : InSession n s start d' c' × ComesFromPeer c' m × Awaits n s d' m
     waited = waited_at e refl (steps (l (known n c.words.cells)) (may_step (known n c.words.cells) (agrees_known n c.words.cells h.going.own.cells)))
 
   module _ (d' : Desk) (c' : Mail) (steps : (given : Given) → MayStep cells n.world.plan c given d → Steps cells given d c d' c' (instruction_at given d) Ended) where

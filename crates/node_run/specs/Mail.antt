@@ -16,6 +16,7 @@ use Rattle.outer_io.specs.Links.{are_flushed}
 use Rattle.outer_io.specs.Outlet.{OutletReading}
 use Rattle.outer_io.specs.Sink.{SinkReading, Writes}
 use Rattle.outer_io.specs.declared.sink.Failed.{Failed}
+use Rattle.frame_code.specs.Frames.{frame}
 use Rattle.node_talk.specs.Talks.{goes}
 use Rattle.node_talk.specs.PeerLinks.{place_among, no_outlet}
 
@@ -61,6 +62,12 @@ no_box = record {
 abbrev pub box_of : Mail → ℕ → BoxModel
 box_of x q = slice_index_or x.boxes (place_among x.me q) no_box
 
+-- message m goes from a peer to the party
+pub record ComesFromPeer (x : Mail) (m : ℕ) : Type 0 where
+  pub there : m < length (messages x.plan)
+  pub receiver : (message x.plan m).receiver ≡ x.me
+  pub sender : (message x.plan m).sender ≢ x.me
+
 -- a word that was read: it is that at its place in the sender's inbox, as a number of the ring
 pub record IsRead (x : Mail) (m v : ℕ) : Type 0 where
   pub there : m < length (messages x.plan)
@@ -72,8 +79,9 @@ pub record IsRead (x : Mail) (m v : ℕ) : Type 0 where
 abbrev pub place_to : Plan → ℕ → ℕ → ℕ
 place_to plan p m = length (filter (goes (message plan m).sender p) (take m (messages plan)))
 
--- there is an outlet and an inbox for each peer and a cell for each message, each message to the party has its place,
--- and each word that is kept of one was read there
+-- there is an outlet and an inbox for each peer and a cell for each message; each message of a peer to the party has its
+-- place, and each word that is kept of one was read there. The word of a message that stays with the party is in its cell
+-- alone
 pub record IsMail (x : Mail) : Type 0 where
   pub sound : IsSound x.plan
   pub me : x.me < x.plan.parties
@@ -82,11 +90,9 @@ pub record IsMail (x : Mail) : Type 0 where
   pub cells : length x.words.cells ≡ length (messages x.plan)
   pub bits : x.words.bits ≡ x.plan.bits
   pub places : length x.places ≡ length (messages x.plan)
-  pub placed : (m : ℕ) → m < length (messages x.plan) → (message x.plan m).receiver ≡ x.me
-      → slice_index x.places m ≡ place_to x.plan x.me m
-  pub room : (m : ℕ) → m < length (messages x.plan) → (message x.plan m).receiver ≡ x.me
-      → slice_index x.places m < (box_of x (message x.plan m).sender).places
-  pub read : (m v : ℕ) → (message x.plan m).receiver ≡ x.me → plain_cell x.words.cells m ≡ Some v → IsRead x m v
+  pub placed : (m : ℕ) → ComesFromPeer x m → slice_index x.places m ≡ place_to x.plan x.me m
+  pub room : (m : ℕ) → ComesFromPeer x m → slice_index x.places m < (box_of x (message x.plan m).sender).places
+  pub read : (m v : ℕ) → ComesFromPeer x m → plain_cell x.words.cells m ≡ Some v → IsRead x m v
 
 -- ---- what posts and takes do
 
@@ -95,7 +101,7 @@ abbrev pub failed_after : ℕ → Result (Unit {0}) Failed → Option ℕ → Op
 failed_after q (Ok _) before = before
 failed_after q (Err _) before = Some q
 
--- x with this word kept of message m, where none was
+-- the same, with this word kept of message m, where none was
 abbrev pub with_post : Mail → ℕ → ℕ → Mail
 with_post x m word = record x { words = record x.words { cells = plain_put x.words.cells m word } }
 
@@ -111,16 +117,23 @@ pub record FlushedTo (q : ℕ) (before after : Mail) : Type 0 where
   pub sent : SentTo q [] before after
   pub out : OnOk sent.result ((link_to after q).holds ≡ false)
 
+-- a post of message m kept this word, and sent its frame where the message goes to a peer
+pub record Posts (before : Mail) (m word : ℕ) (after : Mail) : Type 0 where
+  pub stays : (message before.plan m).receiver ≡ before.me → after ≡ with_post before m word
+  pub goes : (message before.plan m).receiver ≢ before.me
+      → SentTo (message before.plan m).receiver (frame (message before.plan m) word) (with_post before m word) after
+
 -- the party sends message m, and this is a word of the ring
 pub record MayPost (x : Mail) (m word : ℕ) : Type 0 where
   pub there : m < length (messages x.plan)
   pub sender : (message x.plan m).sender ≡ x.me
   pub small : word < 2 ^ x.plan.bits
 
--- message m goes to the party
+-- message m goes to the party, and where it is its own, it was posted
 pub record MayTake (x : Mail) (m : ℕ) : Type 0 where
   pub there : m < length (messages x.plan)
   pub receiver : (message x.plan m).receiver ≡ x.me
+  pub kept : (message x.plan m).sender ≡ x.me → (v : ℕ) × (plain_cell x.words.cells m ≡ Some v)
 
 -- what an answer says of the words: that word is kept of the message and the others stay, or nothing changed
 abbrev pub AnswersAs : ℕ → Option ℕ → List (Option ℕ) → List (Option ℕ) → Type 0
@@ -145,9 +158,10 @@ pub record LookedAtMark (before : Mail) (m : ℕ) (answer : Option Bool) (after 
       ≡ notes (box_of before (message before.plan m).sender).view found
   pub others : (q : ℕ) → q ≢ before.me → q ≢ (message before.plan m).sender → box_of after q ≡ box_of before q
 
--- the word of message m won't come: its sender's reader ended by a fault, and a look after that found how many words it
--- had pushed, which are too few
+-- the word of message m, which is of a peer, won't come: its sender's reader ended by a fault, and a look after that found
+-- how many words it had pushed, which are too few
 pub record NeverComes (x : Mail) (m : ℕ) : Type 0 where
+  pub peer : (message x.plan m).sender ≢ x.me
   pub ended : (box_of x (message x.plan m).sender).view.noted ≡ 2
   pub total : ℕ
   pub found : (box_of x (message x.plan m).sender).view.total ≡ Some total

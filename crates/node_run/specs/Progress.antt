@@ -24,13 +24,13 @@ use Rattle.node_run.specs.Mail.{Mail, BoxModel, NeverComes, NothingWaits, link_t
 abbrev pub before_session : Node → ℕ → ℕ
 before_session n s = length (joined s (program n.world.plan n.me))
 
--- the words that were read are so
+-- the words that are kept of messages to the party are so
 abbrev pub Agrees : Node → List (Option ℕ) → (Key → ℕ) → Type 0
 Agrees n cells got =
     (m v : ℕ) → (message n.world.plan m).receiver ≡ n.me → plain_cell cells m ≡ Some v
     → got (message n.world.plan m) ≡ v
 
--- the word of each take among the first k instructions was read
+-- the word of each take among the first k instructions is kept
 abbrev pub HasTaken : Node → ℕ → List (Option ℕ) → Type 0
 HasTaken n k cells = (j m i : ℕ) → j < k → at (acts n) j ≡ Take m i → (v : ℕ) × (plain_cell cells m ≡ Some v)
 
@@ -38,12 +38,13 @@ HasTaken n k cells = (j m i : ℕ) → j < k → at (acts n) j ≡ Take m i → 
 abbrev pub HasPosted : Node → ℕ → List (Option ℕ) → Type 0
 HasPosted n k cells = (j m i : ℕ) → j < k → at (acts n) j ≡ Post m i → (v : ℕ) × (plain_cell cells m ≡ Some v)
 
--- each other word that is kept is of a message that the party sends, as it computes it from the words that were read
-abbrev pub KeepsOwn : Node → List (Option ℕ) → Type 0
-KeepsOwn n cells =
-    (m v : ℕ) → plain_cell cells m ≡ Some v → (message n.world.plan m).receiver ≢ n.me
-    → ((message n.world.plan m).sender ≡ n.me)
-    × ((got : Key → ℕ) → Agrees n cells got → v ≡ own_word n got (message n.world.plan m))
+-- each word that is kept is of a message to the party, or that it sends; of one that it sends it is what the party
+-- computes from the words of messages to it
+pub record KeepsOwn (n : Node) (cells : List (Option ℕ)) : Type 0 where
+  pub sender : (m v : ℕ) → plain_cell cells m ≡ Some v → (message n.world.plan m).receiver ≢ n.me
+      → (message n.world.plan m).sender ≡ n.me
+  pub word : (m v : ℕ) → plain_cell cells m ≡ Some v → (message n.world.plan m).sender ≡ n.me
+      → (got : Key → ℕ) → Agrees n cells got → v ≡ own_word n got (message n.world.plan m)
 
 -- no word is lost
 abbrev pub KeepsWords : Mail → Mail → Type 0
@@ -100,11 +101,13 @@ pub record Going (n : Node) (k : ℕ) (start : Begin) (now : Mail) : Type 0 wher
   pub room : (q : ℕ) → IsPeer n q → KeepsRoom (said_bytes n q k) (out_to n start.links q) (outlet_to now q)
   pub quiet : now.failed ≡ None
 
--- of what the first k instructions say a first part was sent, and each word that they take was read
+-- of what the first k instructions say a first part was sent, each word that they take is kept, and each that they post
 pub record Stopped (n : Node) (k : ℕ) (start : Begin) (now : Mail) : Type 0 where
   pub own : IsOf n start now
   pub within : k ≤ length (acts n)
   pub taken : HasTaken n k now.words.cells
+  pub posted : HasPosted n k now.words.cells
+  pub own_words : KeepsOwn n now.words.cells
   pub sent : (got : Key → ℕ) → Agrees n now.words.cells got → (q : ℕ) → IsPeer n q
       → AddedPrefix (out_to n start.links q).told (said n q (own_word n got) k) (outlet_to now q).told
 

@@ -1,4 +1,5 @@
-//! The cells of a node: a post keeps its word and sends it in a frame, and a take looks into the sender's inbox.
+//! The cells of a node: a post keeps its word, and sends it to a peer in a frame. A take gives the word that is kept, or
+//! looks into the sender's inbox. What a party posts to itself stays in its cells.
 ghost use Rattle.std.specs.Prelude.{◌≡◌, ◌≢◌, ℕ, ◌<◌};
 ghost use Rattle.node_talk.specs.PeerLinks.{place_among};
 ghost use Rattle.node_run.specs.Mail.{SentTo};
@@ -91,11 +92,11 @@ impl<'p, O: Outlet> NodeCells<'p, O> {
 }
 
 impl<'p, O: Outlet> NodeCells<'p, O> {
-    ghost use Rattle.node_run.specs.Mail.{MayTake, Looked, LookedAtMark};
+    ghost use Rattle.node_run.specs.Mail.{ComesFromPeer, Looked, LookedAtMark};
 
-    /// The word of this message in its sender's inbox, or None where it isn't there yet.
+    /// The word of this message of a peer in its sender's inbox, or None where it isn't there yet.
     pub fn look(&mut self, number: u32) -> Option<u64>
-        requires { MayTake self.old number }
+        requires { ComesFromPeer self.old number }
         ensures { Looked self.old number result self.new }
     {
         let sender = self.plan.message(number).sender;
@@ -105,7 +106,7 @@ impl<'p, O: Outlet> NodeCells<'p, O> {
 
     /// Whether the reader of this message's sender ended by a fault, or None where it goes on.
     pub fn mark(&mut self, number: u32) -> Option<bool>
-        requires { MayTake self.old number }
+        requires { ComesFromPeer self.old number }
         ensures { LookedAtMark self.old number result self.new }
     {
         let sender = self.plan.message(number).sender;
@@ -115,11 +116,9 @@ impl<'p, O: Outlet> NodeCells<'p, O> {
 
 impl<'p, O: Outlet> Cells for NodeCells<'p, O> {
     ghost use Rattle.std.specs.Prelude.{◌≡◌, Some};
-    ghost use Rattle.job_plan.specs.Numbers.{message};
     ghost use Rattle.message_board.specs.Plain.{plain_cell};
     ghost use Rattle.message_board.specs.declared.cells.Posted.TheVariants.{Done};
-    ghost use Rattle.frame_code.specs.Frames.{frame};
-    ghost use Rattle.node_run.specs.Mail.{MayPost, MayTake, with_post, SentTo, Takes};
+    ghost use Rattle.node_run.specs.Mail.{MayPost, MayTake, Posts, Takes};
 
     ghost may_post = { MayPost };
 
@@ -127,8 +126,7 @@ impl<'p, O: Outlet> Cells for NodeCells<'p, O> {
 
     ghost got = { λ c n w. plain_cell c.words.cells n ≡ Some w };
 
-    ghost put = { λ c n w a d. (a ≡ Done)
-        × SentTo (message c.plan n).receiver (frame (message c.plan n) w) (with_post c n w) d };
+    ghost put = { λ c n w a d. (a ≡ Done) × Posts c n w d };
 
     ghost took = { Takes };
 
@@ -137,7 +135,9 @@ impl<'p, O: Outlet> Cells for NodeCells<'p, O> {
     fn post(&mut self, number: u32, word: u64) -> Posted {
         let _ = self.words.post(number, word);
         let key = self.plan.message(number);
-        self.send(key.receiver, &frame(&key, word));
+        if key.receiver != self.me {
+            self.send(key.receiver, &frame(&key, word));
+        }
         Posted::Done
     }
 

@@ -2,7 +2,7 @@
 ghost use Rattle.std.specs.Prelude.{◌≡◌, ℕ, ◌<◌, length, true, false, None};
 ghost use Rattle.party_program.specs.Programs.{program};
 ghost use Rattle.node_talk.specs.Talks.{Node};
-ghost use Rattle.node_run.specs.Mail.{MayTake, NothingWaits};
+ghost use Rattle.node_run.specs.Mail.{ComesFromPeer, NothingWaits};
 ghost use Rattle.node_run.specs.Progress.{Begin, InSession, InOrder, Halted, KeepsWords};
 ghost use Rattle.node_run.specs.Turns.{Turns, Awaits};
 
@@ -19,7 +19,7 @@ use std::sync::Wait;
 enum Turn {
     // It moved.
     Moved,
-    // It waits for the word of this message.
+    // It waits for the word of this message, which is a peer's.
     Waits(u32),
     // It is at its end.
     Ended,
@@ -48,7 +48,7 @@ fn advance<'p, O: Outlet>(plan: &Plan, desk: &mut Desk, cells: &mut NodeCells<'p
     }
 }
 
-// Waits for the word of this message, once all that was said went out. It answers whether the session goes on: not
+// Waits for the word of this message of a peer, once all that was said went out. It answers whether the session goes on: not
 // where that failed, nor where the reader of the word's sender ended by a fault, and a look after that didn't find it.
 fn wait_for<'p, O: Outlet, R: Wait>(
     rt: &R,
@@ -56,7 +56,7 @@ fn wait_for<'p, O: Outlet, R: Wait>(
     parker: &PartyParker,
     number: u32,
 ) -> bool
-    requires { MayTake cells.old number }
+    requires { ComesFromPeer cells.old number }
     ensures on { (n : Node) (s : ℕ) (start : Begin) (desk : Desk) → InSession n s start desk cells.old
         → result ≡ true → InSession n s start desk cells.new }
     ensures halted { (n : Node) (s : ℕ) (start : Begin) (desk : Desk) → InSession n s start desk cells.old

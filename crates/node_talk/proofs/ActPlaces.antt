@@ -1,5 +1,5 @@
 -- The instructions of a party by their place in all, and the messages that they name.
-use Rattle.std.proofs.Common.{◌≡◌, ℕ, zero, suc, ◌+◌, ◌-◌, ◌<◌, ◌≤◌, ◌++◌, length, List, sym, ap, ◌∙◌, subst, arith, length-append}
+use Rattle.std.proofs.Common.{◌≡◌, ℕ, zero, suc, ◌+◌, ◌-◌, ◌<◌, ◌≤◌, ◌++◌, length, List, refl, sym, ap, ◌∙◌, subst, arith, length-append}
 use Rattle.std.proofs.lemmas.Bool.{cases_lt, cases_eq}
 use Rattle.std.proofs.lemmas.List.{get_or-append-add}
 use Rattle.std.proofs.Math.ListN.{get_or-append}
@@ -10,13 +10,16 @@ use Rattle.job_plan.specs.Numbers.{message}
 use Rattle.share_world.specs.Worlds.{World}
 use Rattle.party_program.specs.declared.program.Instruction.{Instruction}
 use Rattle.party_program.specs.declared.program.Instruction.TheVariants.{Post, Take, End}
-use Rattle.party_program.specs.Programs.{program, at}
+use Rattle.party_program.specs.Programs.{program, at, post}
 use Rattle.party_program.specs.Proper.{Proper}
 use Rattle.program_laws.specs.Meets.{local_given}
 use Rattle.program_laws.specs.Parts.{IsPart}
 use Rattle.program_laws.proofs.OncePosted.{once}
+use Rattle.program_laws.specs.Once.{take_slot}
+use Rattle.program_laws.specs.Orders.{ComesTo}
+use Rattle.program_laws.proofs.Ranks.{batches_post_first}
 use Rattle.program_laws.proofs.ProperPrograms.{is_proper}
-use Rattle.program_laws.proofs.PartLaws.{part_suits}
+use Rattle.program_laws.proofs.PartLaws.{part_plan, part_suits}
 use Rattle.node_talk.specs.Talks.{Node, acts}
 
 -- ---- joined lists
@@ -95,15 +98,63 @@ module _ (w : World) (p : ℕ) (part : IsPart w p) (s : ℕ) (ls : s < length w.
   pub posted_there : at (program w.plan p s) q ≡ Post m i → (m < length (messages w.plan)) × ((message w.plan m).sender ≡ p)
   posted_there e =
       let g = subst (Proper w.plan s) e proper_here in
-      (g.number, sym ((once w.plan m g.number).posted.alone p s q i e).0)
+      (g.number, sym ((once w.plan m (part_plan w p part) g.number).posted.alone p s q i e).0)
 
   pub taken_there : at (program w.plan p s) q ≡ Take m i → (m < length (messages w.plan)) × ((message w.plan m).receiver ≡ p)
   taken_there e =
       let g = subst (Proper w.plan s) e proper_here in
-      (g.number, sym ((once w.plan m g.number).taken.alone p s q i e).0)
+      (g.number, sym ((once w.plan m (part_plan w p part) g.number).taken.alone p s q i e).0)
 
 -- the message of a take
 pub taken_by : (n : Node) → IsPart n.world n.me → (k m i : ℕ) → k < length (acts n) → at (acts n) k ≡ Take m i → (m < length (messages n.world.plan)) × ((message n.world.plan m).receiver ≡ n.me)
 taken_by n part k m i l is =
     let a = act_there n k l in
     taken_there n.world n.me part a.session a.session_there a.position m i (sym a.same ∙ is)
+
+-- the message of a post
+pub posted_by : (n : Node) → IsPart n.world n.me → (k m i : ℕ) → k < length (acts n) → at (acts n) k ≡ Post m i → (m < length (messages n.world.plan)) × ((message n.world.plan m).sender ≡ n.me)
+posted_by n part k m i l is =
+    let a = act_there n k l in
+    posted_there n.world n.me part a.session a.session_there a.position m i (sym a.same ∙ is)
+
+-- ---- messages that stay with the party
+
+-- sessions stand in their order
+pub sessions_rise : (n : Node) (r s q u : ℕ) → r < s → q < length (program n.world.plan n.me r) → before_session n r + q < before_session n s + u
+sessions_rise n r s q u less lq = let a = joined_within (program n.world.plan n.me) (suc r) s (omega arith) in omega (arith, a, next_session n r, lq)
+
+-- what the party takes of itself it posted before
+pub record PostedBefore (n : Node) (k m : ℕ) : Type 0 where
+  pub place : ℕ
+  pub before : place < k
+  pub share : ℕ
+  pub is : at (acts n) place ≡ Post m share
+
+pub posted_before_take : (n : Node) → IsPart n.world n.me → (k m i : ℕ) → k < length (acts n) → at (acts n) k ≡ Take m i → (message n.world.plan m).sender ≡ n.me → PostedBefore n k m
+posted_before_take n part k m i l is from =
+    let a = act_there n k l in
+    let plan = n.world.plan in
+    let here : at (program plan n.me a.session) a.position ≡ Take m i = sym a.same ∙ is in
+    let comes : ComesTo plan a.session m = (batches_post_first plan part.sound a.session n.me a.session_there).takes a.position m i a.within here in
+    let o = once plan m (part_plan n.world n.me part) comes.number in
+    let r : ℕ = (message plan m).session in
+    let posts : (q : ℕ) × (q < length (program plan n.me r)) × (at (program plan n.me r) q ≡ post plan m) = (batches_post_first plan part.sound r n.me o.session_there).posts m comes.number refl from in
+    record {
+      place = before_session n r + posts.0;
+      before = subst (λ z. before_session n r + posts.0 < z) (sym a.place) (earlier a.session a.position posts.0 a.session_there comes posts.1 posts.2 here);
+      share = (message plan m).share;
+      is = at_act n r posts.0 o.session_there posts.1 ∙ posts.2;
+    }
+  where
+    earlier : (s u q : ℕ) → s < length n.world.plan.sessions → ComesTo n.world.plan s m → q < length (program n.world.plan n.me (message n.world.plan m).session) → at (program n.world.plan n.me (message n.world.plan m).session) q ≡ post n.world.plan m
+        → at (program n.world.plan n.me s) u ≡ Take m i → before_session n (message n.world.plan m).session + q < before_session n s + u
+    earlier s u q ls comes lq posts takes = elim comes.order [
+      | inl here ↦
+          let plan = n.world.plan in
+          let same : s ≡ (message plan m).session = sym comes.session ∙ ap (λ (z : ℕ × ℕ). z.0) here in
+          let slot : take_slot plan m ≡ (message plan m).slot = ap (λ (z : ℕ × ℕ). z.1) here in
+          let posts' : at (program plan n.me s) q ≡ post plan m = subst (λ z. at (program plan n.me z) q ≡ post plan m) (sym same) posts in
+          let first = (batches_post_first plan part.sound s n.me ls).order q u m (message plan m).share m i posts' takes (omega (arith, slot)) in
+          omega (arith, first, ap (before_session n) same)
+      | inr later ↦ sessions_rise n (message n.world.plan m).session s q u (omega (arith, later, comes.session)) lq
+    ]

@@ -9,6 +9,7 @@ use Rattle.program_laws.specs.Parts.{IsPart}
 use Rattle.program_laws.specs.Once.{IsBetweenParties}
 use Rattle.program_laws.proofs.PartLaws.{part_plan}
 use Rattle.program_laws.proofs.MessageParties.{between}
+use Rattle.program_laws.proofs.SentMessages.{givers}
 use Rattle.node_talk.specs.Talks.{Node, goes, expected, expected_at, place_of}
 use Rattle.node_talk.proofs.PassedLists.{passes_at, StandsAt, stands_at}
 
@@ -45,4 +46,4 @@ expected_there n q place l =
 
 -- a message that a party of a world gets or sends goes between parties
 pub between_parties : (n : Node) → IsPart n.world n.me → (m : ℕ) → m < length (messages n.world.plan) → IsBetweenParties n.world.plan (message n.world.plan m)
-between_parties n part m lm = between n.world.plan m (part_plan n.world n.me part) (λ s v ls lv. (part.sound.sessions s ls).owned v lv) lm
+between_parties n part m lm = between n.world.plan m (part_plan n.world n.me part) (givers n.world.plan part.sound) lm

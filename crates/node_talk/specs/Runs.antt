@@ -9,7 +9,7 @@ use Rattle.job_plan.specs.Numbers.{message}
 use Rattle.job_plan.specs.declared.key.Key.{Key}
 use Rattle.share_world.specs.Worlds.{word, plain, touches}
 use Rattle.share_world.specs.Locals.{local_output}
-use Rattle.party_program.specs.declared.program.Instruction.TheVariants.{Take}
+use Rattle.party_program.specs.declared.program.Instruction.TheVariants.{Post, Take}
 use Rattle.party_program.specs.Programs.{at}
 use Rattle.outer_io.specs.Count.{Rose}
 use Rattle.outer_io.specs.Inlet.{ahead}
@@ -35,7 +35,8 @@ word_kept r m = slice_index_or r.words m None
 abbrev pub output_of : Results → ℕ → ℕ → Option ℕ
 output_of r s o = slice_index_or (slice_index_or r.outputs s []) o None
 
--- it has the words that it got, and the words that it sent and the outputs, which it computes from those, and no others
+-- it has the words that it got, and the words that it sent and the outputs, which it computes from those, and no others; a
+-- message that stays with it is of both kinds
 pub record IsDone (n : Node) (got : Key → ℕ) (r : Results) : Type 0 where
   pub message_count : length r.words ≡ length (messages n.world.plan)
   pub session_count : length r.outputs ≡ length n.world.plan.sessions
@@ -68,9 +69,10 @@ pub record TalkedThrough (n : Node) (got : Key → ℕ) (before after : LinksRea
 
 -- ---- where a run breaks off
 
--- message m is among the first ones that came from each peer, so many of each
+-- message m is of the party itself, or among the first ones that came from each peer, so many of each
 abbrev pub HasCome : Node → (ℕ → ℕ) → ℕ → Type 0
-HasCome n came m = place_of n m < came (message n.world.plan m).sender
+HasCome n came m =
+    ((message n.world.plan m).sender ≡ n.me) ⊎ (place_of n m < came (message n.world.plan m).sender)
 
 -- the first k instructions take only words that came
 abbrev pub TakesWhatCame : Node → (ℕ → ℕ) → ℕ → Type 0
@@ -79,6 +81,12 @@ TakesWhatCame n came k = (j m i : ℕ) → j < k → at (acts n) j ≡ Take m i 
 -- the instruction after the first k takes a word that didn't come, or there is none
 abbrev pub StopsAfter : Node → (ℕ → ℕ) → ℕ → Type 0
 StopsAfter n came k = (k ≡ length (acts n)) ⊎ ((m : ℕ) × (i : ℕ) × (at (acts n) k ≡ Take m i) × ¬ HasCome n came m)
+
+-- each word that the first k instructions post to the party itself is the one that it computes
+abbrev pub KeepsItsWords : Node → (Key → ℕ) → ℕ → Type 0
+KeepsItsWords n got k =
+    (j m i : ℕ) → j < k → at (acts n) j ≡ Post m i → (message n.world.plan m).receiver ≡ n.me
+    → got (message n.world.plan m) ≡ own_word n got (message n.world.plan m)
 
 -- so there is one place where it stops, by what came
 abbrev pub StopsAtOnePlace : Node → Type 0
@@ -105,14 +113,15 @@ pub record SaidAll (n : Node) (got : Key → ℕ) (came : ℕ → ℕ) (k : ℕ)
       → (bytes : List ℕ) → (in_from n before q).told ≡ Some bytes → EndsBefore n q bytes (suc (came q))
 
 -- So many frames came from each peer, with the words that the party got: an inlet that is told holds them. Each outlet
--- took a first part of what the party says by its first k instructions, which take only words that came. Where no send
--- failed and all readers were started, it said all that it could.
+-- took a first part of what the party says by its first k instructions, which take only words that came, or that the
+-- party kept for itself as it computes them. Where no send failed and all readers were started, it said all that it could.
 pub record BrokeOff (n : Node) (got : Key → ℕ) (before after : LinksReading) (fault : NodeFault) : Type 0 where
   pub came : ℕ → ℕ
   pub k : ℕ
   pub hears : (q : ℕ) → IsPeer n q → (bytes : List ℕ) → (in_from n before q).told ≡ Some bytes → 0 < came q
       → IsRun n q bytes (came q) got
   pub takes : TakesWhatCame n came k
+  pub keeps : KeepsItsWords n got k
   pub told : (q : ℕ) → IsPeer n q
       → AddedPrefix (out_to n before q).told (said n q (own_word n got) k) (out_to n after q).told
   pub all : AllStarted fault → NoSendRose n before after → SaidAll n got came k before after

@@ -47,6 +47,10 @@ pub record Node : Type 0 where
 abbrev pub IsPeer : Node → ℕ → Type 0
 IsPeer n q = (q < n.world.plan.parties) × (q ≢ n.me)
 
+-- the message stays with it: it goes from it to itself, and so over no pipe
+abbrev pub Stays : Node → Key → Type 0
+Stays n key = (key.sender ≡ n.me) × (key.receiver ≡ n.me)
+
 -- the word of each of its messages, as it computes it by itself where it got these words
 abbrev pub own_word : Node → (Key → ℕ) → Key → ℕ
 own_word n got = local_word n.world got n.me

@@ -43,7 +43,7 @@ file_checks names fields =
 
 -- ---- the parties
 
--- the texts of party p: one for each session, and the words that its input wires want
+-- the texts of party p: one for each session, and a word for each input wire that it gives
 unfoldable pub text_checks : Plan → ℕ → List (List ℕ) → List (Option PartyFault)
 text_checks plan p texts =
     (not (length texts == length plan.sessions) answers CountDiffers None (length plan.sessions) (length texts))

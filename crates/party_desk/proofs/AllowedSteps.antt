@@ -6,10 +6,10 @@ use mathlib.Core.Logic.{inl, inr}
 use Rattle.mpc_ring.specs.Differences.{difference}
 use Rattle.circuit_model.specs.Circuits.{set_at}
 use Rattle.circuit_model.proofs.SetAt.{set_here, set_there}
-use Rattle.job_session.specs.Sessions.{Slot, gate, operand, output_wire, mask_wire, product_wire}
+use Rattle.job_session.specs.Sessions.{Slot, gate, kept_wire, operand, output_wire, mask_wire, product_wire}
 use Rattle.job_session.specs.Batches.{is_join}
 use Rattle.job_plan.specs.Plans.{Plan, least_held, session, slot}
-use Rattle.job_session.specs.Sessions.Slot.{Input, At_gate, Output, Mask, Mask_product, Masked}
+use Rattle.job_session.specs.Sessions.Slot.{Input, At_gate, Output, Mask, Mask_product, Masked, Kept}
 use Rattle.message_board.specs.declared.cells.Cells.{Ghosts as Meaning}
 use Rattle.party_program.specs.declared.program.Instruction.{Instruction}
 use Rattle.party_program.specs.declared.program.Instruction.TheVariants.{Draw, Deal, Post, Take, Linear, Own, Sum, Open, Join, Deliver, End}
@@ -24,7 +24,8 @@ use Rattle.party_program.proofs.StateReads.{state_same}
 use Rattle.program_laws.specs.WordsRead.{Carries, ReadsSummand}
 use Rattle.program_laws.proofs.SetWords.{reads_are_set}
 use Rattle.party_desk.specs.declared.memory.Memory.{Memory}
-use Rattle.party_program.proofs.RisingTakes.{takes_rise}
+use Rattle.job_plan.proofs.PlanSchemes.{plan_is}
+use Rattle.party_program.proofs.DifferentTakes.{takes_differ}
 use Rattle.program_laws.proofs.Lengths.{program_is_short}
 use Rattle.program_laws.proofs.ProgramParts.{fits}
 use Rattle.program_laws.proofs.ProperPrograms.{is_proper, can_deal, can_draw}
@@ -95,6 +96,7 @@ posted_same plan s (Mask t side) i a b rows = rows (mask_wire (session plan s) t
 posted_same plan s (Mask_product t) i a b rows = rows (product_wire (session plan s) t) refl
 posted_same plan s (Masked t side) i a b rows =
     ap₂ (difference (2 ^ plan.bits)) (rows (operand (gate (session plan s) t) side) (inl refl)) (rows (mask_wire (session plan s) t side) (inr refl))
+posted_same plan s (Kept place) i a b rows = rows (kept_wire (session plan s) place) refl
 
 remembers : (l : Given) (got : ℕ → ℕ) (q : ℕ) (d : Memory) (σ τ : State) → σ ≡ τ → Remembers l q d σ → Remembers (with_got l got) q d τ
 remembers l got q d σ τ e h = subst (Remembers (with_got l got) q d) e (record { rows = h.rows; own = h.own; sums = h.sums; excess = h.excess; given = h.given; outputs = h.outputs })
@@ -167,8 +169,8 @@ module _ (l : Given) (d : Desk) (is_desk : IsDesk l d) where
   pub joined_own : JoinsPrepared l.plan d.session i
   joined_own = subst (λ z. JoinsPrepared l.plan z i) (sym is_desk.session) (joined_there i refl)
 
-  pub names_own : NamesSlot l.plan i d.place.slot
-  names_own = names_slot l.plan l.session l.party suits.session d.place d.position is_desk.place
+  pub names_own : NamesSlot l.plan l.session i d.place.slot
+  names_own = names_slot l.plan suits.sound l.session l.party suits.session d.place d.position is_desk.place
 
   -- ---- the memory allows what the cells allow
 
@@ -182,6 +184,7 @@ module _ (l : Given) (d : Desk) (is_desk : IsDesk l d) where
   finds (Output o) f = f
   finds (Mask t side) f = f
   finds (Masked t side) f = f
+  finds (Kept place) f = f
 
   tape_left : length d.memory.tape ≡ length l.tape - (state l d.position).drawn
   tape_left = ap length is_desk.tape ∙ length-drop (state l d.position).drawn l.tape
@@ -243,8 +246,7 @@ module _ (l : Given) (d : Desk) (is_desk : IsDesk l d) where
       hears w n j is a =
           let more : Given = with_word l n w in
           let before : IsDesk (with_word l n w) d = goes_by l (set_at l.got n w) d is_desk (λ p m k less e.
-          let rises : m < n = takes_rise l.plan l.session l.party p d.position m k n j less e is in
-          sym (set_there l.got n m w (λ z. let lower : m < n = rises in absurd (omega arith)))) in
+          sym (set_there l.got n m w (takes_differ l.plan l.session l.party p d.position m k n j (plan_is l.plan suits.sound) less e is))) in
           kept (with_word l n w) d e w before proper (within (λ z. let both : Take n j ≡ End = sym is ∙ z in cc)) (subst (IsGivenWord (with_word l n w) w) (sym is) (sym (set_here l.got n n w refl))) (subst (λ z. Advanced l.plan w z d e) (sym is) a)
 
       does : (w : ℕ) (j : Instruction) → i ≡ j → Advanced l.plan w j d e → Effect cells l.plan d w c f j → Does cells l d c e f j
@@ -298,8 +300,10 @@ module _ {C : Type 0} (cells : Meaning C) (plan : Plan) (c : C) (l : Given) (d :
       let h = may_stand.own_program in
       subst (λ z. IsPlace plan z d.program.session d.place d.position) (sym h.of_party) (subst (λ z. IsPlace plan d.party z d.place d.position) (sym h.of_session) may_stand.place)
 
-  pub may_here : (j : Instruction) → j ≡ at (program plan d.program.party d.program.session) d.position → NamesSlot plan j d.place.slot
-  may_here j e = subst (λ z. NamesSlot z j d.place.slot) may.same (subst (λ z. NamesSlot l.plan z d.place.slot) (sym (own j e)) (names_own l d may.desk))
+  pub may_here : (j : Instruction) → j ≡ at (program plan d.program.party d.program.session) d.position → NamesSlot plan d.session j d.place.slot
+  may_here j e =
+      subst (λ z. NamesSlot plan z j d.place.slot) (sym may.desk.session)
+      (subst (λ z. NamesSlot z l.session j d.place.slot) may.same (subst (λ z. NamesSlot l.plan l.session z d.place.slot) (sym (own j e)) (names_own l d may.desk)))
 
   -- it has an instruction left there, unless that is the end
   pub may_left : (j : Instruction) → j ≡ at (program plan d.program.party d.program.session) d.position → HasLeft j d.place

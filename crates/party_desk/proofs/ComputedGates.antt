@@ -3,6 +3,7 @@ use Rattle.std.proofs.Common.{◌≡◌, ℕ, ◌+◌, ◌<◌, ◌≤◌, true,
 use Rattle.secret_sharing.specs.Schemes.{has_pair}
 use Rattle.job_plan.specs.declared.pattern.Pattern.TheVariants.{Silent, Multiplied}
 use Rattle.job_plan.specs.Plans.{scheme}
+use Rattle.job_plan.proofs.PlanSchemes.{plan_is}
 use Rattle.party_program.specs.declared.half.Half.TheVariants.{Head, Tail}
 use Rattle.party_program.specs.declared.program.Instruction.TheVariants.{Linear, Own, Sum, Take}
 use Rattle.party_program.specs.States.{Given}
@@ -15,17 +16,17 @@ use Rattle.party_desk.proofs.ProductSteps.{no_take_there}
 
 module _ (l : Given) (d : Desk) (h : IsDesk l d) where
   pub linear_here : (k : ℕ) → instruction_at l d ≡ Linear k → (d.place.half ≡ Head) × (d.place.pattern ≡ Silent)
-  linear_here = linear_place l.plan l.party l.session h.own_program.session_there d.place d.position h.place
+  linear_here = linear_place l.plan l.party l.session (plan_is l.plan h.own_program.sound) h.own_program.session_there d.place d.position h.place
 
   pub sum_here : (k : ℕ) → instruction_at l d ≡ Sum k → (d.place.half ≡ Tail) × (d.place.pattern ≡ Multiplied) × (d.place.done + 1 ≡ d.place.count)
-  sum_here = sum_place l.plan l.party l.session h.own_program.session_there d.place d.position h.place
+  sum_here = sum_place l.plan l.party l.session (plan_is l.plan h.own_program.sound) h.own_program.session_there d.place d.position h.place
 
   pub own_here : (k : ℕ) → instruction_at l d ≡ Own k → (d.place.half ≡ Head) × (d.place.pattern ≡ Multiplied) × (d.place.done ≡ 0) × (0 < d.place.count) × (has_pair (scheme l.plan) l.party ≡ true)
-  own_here = own_place l.plan l.party l.session h.own_program.session_there d.place d.position h.place
+  own_here = own_place l.plan l.party l.session (plan_is l.plan h.own_program.sound) h.own_program.session_there d.place d.position h.place
 
   -- in a head nothing is taken
   pub head_takes_none : d.place.half ≡ Head → (n i : ℕ) → instruction_at l d ≡ Take n i → ⊥
-  head_takes_none head n i is = no_take_there l.plan l.party l.session h.own_program.session_there d.place d.position n i h.place head is
+  head_takes_none head n i is = no_take_there l.plan l.party l.session (plan_is l.plan h.own_program.sound) h.own_program.session_there d.place d.position n i h.place head is
 
   -- a place of another pattern has nothing of a gate
   pub none_of_gates : ((d.place.pattern ≡ Silent) → ⊥) → ((d.place.pattern ≡ Multiplied) → ⊥) → NothingToCompute l d

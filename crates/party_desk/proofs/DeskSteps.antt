@@ -10,7 +10,7 @@ use Rattle.secret_sharing.specs.Schemes.{Scheme, own_product}
 use Rattle.job_session.specs.Sessions.{Session, Slot, gate, is_prepared, mask_wire, product_in}
 use Rattle.job_session.specs.declared.side.Side.TheVariants.{First, Second}
 use Rattle.job_plan.specs.Plans.{Plan, least_held, session, slot}
-use Rattle.job_session.specs.Sessions.Slot.{Input, At_gate, Output, Mask, Mask_product, Masked}
+use Rattle.job_session.specs.Sessions.Slot.{Input, At_gate, Output, Mask, Mask_product, Masked, Kept}
 use Rattle.job_session.specs.KeptWires.{IsInOrder, reads_in}
 use Rattle.circuit_model.specs.Circuits.{is_product}
 use Rattle.circuit_model.specs.Netlists.{read_by}
@@ -30,7 +30,7 @@ use Rattle.program_laws.proofs.SetWords.{own_row, read_is_held, reads_are_set}
 use Rattle.share_world.proofs.Settled.{is_first, is_second}
 use Rattle.party_desk.specs.Rows.{row, SameRow, SameRows}
 use Rattle.party_program.specs.ProgramPlaces.{IsPlace, IsProgram}
-use Rattle.party_program.specs.States.{Given, State, slot_of, state, next, word_after, dealt_in, drawn_in, joined_in, opened_in, took_in}
+use Rattle.party_program.specs.States.{Given, State, taking_slot, state, next, word_after, dealt_in, drawn_in, joined_in, opened_in, took_in}
 use Rattle.party_desk.specs.declared.memory.Memory.{Memory}
 use Rattle.party_desk.specs.Memories.{state_of, row_of, on_wires, Alike, IsMemoryOf}
 use Rattle.party_desk.specs.Desks.{Advanced, IsDesk, Remembers, after_on_rows, instruction_at, posts_in, takes_in, posts_before, takes_before}
@@ -65,6 +65,7 @@ module _ (l : Given) where
   words_drawn (Output o) words σ h = absurd h
   words_drawn (Mask_product t) words σ h = absurd h
   words_drawn (Masked t side) words σ h = absurd h
+  words_drawn (Kept place) words σ h = absurd h
 
   words_dealt : (z : Slot) (words : ℕ → ℕ) (input : ℕ) (σ : State) → Deals z → (dealt_in l.plan l.session words input z σ).drawn ≡ σ.drawn + (length l.plan.groups - 1)
   words_dealt (Input v) words input σ h = refl
@@ -73,6 +74,7 @@ module _ (l : Given) where
   words_dealt (Output o) words input σ h = absurd h
   words_dealt (Mask t side) words input σ h = absurd h
   words_dealt (Masked t side) words input σ h = absurd h
+  words_dealt (Kept place) words input σ h = absurd h
 
   none_taken : (z : Slot) (i w : ℕ) (σ : State) → (took_in l.plan l.session z i w σ).drawn ≡ σ.drawn
   none_taken (Input v) i w σ = refl
@@ -81,6 +83,7 @@ module _ (l : Given) where
   none_taken (Mask t side) i w σ = refl
   none_taken (Mask_product t) i w σ = refl
   none_taken (Masked t side) i w σ = refl
+  none_taken (Kept place) i w σ = refl
 
   none_opened : (z : Slot) (σ : State) → (opened_in l.plan l.party l.session z σ).drawn ≡ σ.drawn
   none_opened (Masked t side) σ = refl
@@ -89,6 +92,7 @@ module _ (l : Given) where
   none_opened (Output o) σ = refl
   none_opened (Mask t side) σ = refl
   none_opened (Mask_product t) σ = refl
+  none_opened (Kept place) σ = refl
 
   none_joined : (z : Slot) (σ : State) → (joined_in l.plan l.session z σ).drawn ≡ σ.drawn
   none_joined (At_gate t) σ = refl
@@ -97,12 +101,13 @@ module _ (l : Given) where
   none_joined (Mask t side) σ = refl
   none_joined (Mask_product t) σ = refl
   none_joined (Masked t side) σ = refl
+  none_joined (Kept place) σ = refl
 
   pub draws : (e : Instruction) (σ : State) → Proper l.plan l.session e → (next l e σ).drawn ≡ σ.drawn + drawn_by l.plan l.party e
   draws (Draw k) σ h = words_drawn (slot l.plan l.session k) (word_after l σ.drawn) σ h.kind
   draws (Deal k d) σ h = words_dealt (slot l.plan l.session k) (word_after l σ.drawn) (slice_index l.inputs σ.given) σ h.kind
   draws (Post n i) σ h = omega arith
-  draws (Take n i) σ h = none_taken (slot_of l.plan n) i (l.got n) σ ∙ omega arith
+  draws (Take n i) σ h = none_taken (taking_slot l.plan n) i (l.got n) σ ∙ omega arith
   draws (Linear k) σ h = omega arith
   draws (Own k) σ h = omega arith
   draws (Sum k) σ h = omega arith
@@ -147,6 +152,7 @@ module _ (plan : Plan) (s k : ℕ) where
   own_reads (Output o) is h = absurd h
   own_reads (Mask t side) is h = absurd h
   own_reads (Masked t side) is h = absurd h
+  own_reads (Kept place) is h = absurd h
 
 module _ (plan : Plan) (sound : IsSound plan) (s p : ℕ) (ls : s < length plan.sessions) (q : ℕ) where
   reads_of : (e : Instruction) → at (program plan p s) q ≡ e → ReadsByGate plan s p e

@@ -6,13 +6,13 @@ use Rattle.circuit_model.specs.Circuits.{is_product}
 use Rattle.circuit_model.specs.declared.gate.Gate.{Gate}
 use Rattle.job_session.specs.Batches.{IsBatch}
 use Rattle.job_session.specs.Sessions.{Session, Slot, owners, session_slot, session_slots, product_in}
-use Rattle.job_session.specs.Sessions.Slot.{Input, At_gate, Output, Mask, Mask_product, Masked}
+use Rattle.job_session.specs.Sessions.Slot.{Input, At_gate, Output, Mask, Mask_product, Masked, Kept}
 use Rattle.job_session.proofs.SessionSlots.{slot_cases}
 use Rattle.job_plan.specs.declared.pattern.Pattern.TheVariants.{Silent, Multiplied, Joined}
-use Rattle.job_plan.specs.Plans.{Plan, session, slot, slots}
+use Rattle.job_plan.specs.Plans.{IsPlan, Plan, session, slot, slots}
 use Rattle.job_plan.specs.Numbers.{deals_before}
-use Rattle.job_plan.specs.Firsts.{first}
 use Rattle.job_plan.specs.Patterns.{pattern, pattern_at}
+use Rattle.job_plan.proofs.PlanSchemes.{plan_is}
 use Rattle.party_program.specs.declared.half.Half.{Half}
 use Rattle.party_program.specs.declared.half.Half.TheVariants.{Head, Tail}
 use Rattle.party_program.specs.declared.place.Place.{Place}
@@ -20,7 +20,7 @@ use Rattle.party_program.specs.declared.program.Instruction.{Instruction}
 use Rattle.party_program.specs.declared.program.Instruction.TheVariants.{Linear, Post, Sum, End}
 use Rattle.party_program.specs.declared.step.Step.{Step}
 use Rattle.party_program.specs.declared.step.Step.TheVariants as step
-use Rattle.party_program.specs.Programs.{half_program, program, at}
+use Rattle.party_program.specs.Programs.{first_named, half_program, program, at}
 use Rattle.party_program.specs.PartySteps.{steps, placed}
 use Rattle.party_program.specs.Proper.{IsGate, IsGivenWord, IsSlot, Multiplies, Proper, drawn_by}
 use Rattle.party_program.specs.ProgramPlaces.{position_of, InProduct, IsPlace}
@@ -70,7 +70,7 @@ module _ (l : Given) (d : Desk) (h : IsDesk l d) (i : Instruction) (m : Memory) 
 pub gate_slot : (s : Session) → s.prepared ≡ false → (k : ℕ) → k < session_slots s → Multiplies (session_slot s k) → (length (owners s) ≤ k) × (k < length (owners s) + length s.gates)
 gate_slot s direct k lk =
     slot_cases s direct (λ j z. Multiplies z → (length (owners s) ≤ j) × (j < length (owners s) + length s.gates))
-    (λ v l h. absurd h) (λ t l h. (omega arith, omega arith)) (λ o l h. absurd h) k lk
+    (λ v l h. absurd h) (λ t l h. (omega arith, omega arith)) (λ o l h. absurd h) (λ j l h. absurd h) k lk
 
 -- a slot of a product is of a gate, or of a product of masks
 pub product_gate : (plan : Plan) (s k : ℕ) → pattern_at plan s k ≡ Multiplied → Multiplies (slot plan s k)
@@ -84,6 +84,7 @@ gate_multiplies (Output o) h = absurd h
 gate_multiplies (Mask t side) h = absurd h
 gate_multiplies (Mask_product t) h = absurd h
 gate_multiplies (Masked t side) h = absurd h
+gate_multiplies (Kept place) h = absurd h
 
 -- how the slot of a gate goes that isn't a prepared product
 by_product : (prepared product : Bool) → (prepared && product) ≡ false → (if (not prepared && product) then Multiplied else if (prepared && product) then Joined else Silent) ≡ (if product then Multiplied else Silent)
@@ -142,14 +143,14 @@ module _ (l : Given) (d : Desk) (h : IsDesk l d) (more : instruction_at l d ≢ 
   short =
       let some = left in
       let count : d.place.count ≡ length (half_program l.plan l.party s d.place.half d.place.slot) = h.place.count ∙ count_at l.plan l.party s d.place.half d.place.slot in_place in
-      let long = length-half l.plan l.party s d.place.half d.place.slot h.suits.session in_place in
+      let long = length-half l.plan l.party s d.place.half d.place.slot (plan_is l.plan h.suits.sound) h.suits.session in_place in
       omega (arith, some, count, long)
 
-  abbrev here : instruction_at l d ≡ placed d.place.slot (first l.plan s d.place.slot) (deals_before l.plan l.party s d.place.slot)
+  abbrev here : instruction_at l d ≡ placed d.place.slot (first_named l.plan s d.place.slot) (deals_before l.plan l.party s d.place.slot)
       (slice_index_or (steps l.plan l.party d.place.half (pattern_at l.plan s d.place.slot)) d.place.done step.Deal)
   here =
       instruction_is l.plan l.party s d.place d.position h.place left
-      ∙ step_is l.plan l.party s d.place.half d.place.slot h.suits.session in_place d.place.done step.Deal short
+      ∙ step_is l.plan l.party s d.place.half d.place.slot (plan_is l.plan h.suits.sound) h.suits.session in_place d.place.done step.Deal short
 
   pub linear_here : (k : ℕ) → instruction_at l d ≡ Linear k → k ≡ d.place.slot
   linear_here k is = placed_linear _ _ _ k _ (sym here ∙ is)
@@ -247,9 +248,9 @@ linear_after plan l d goes k is m fits kept state =
     let more = left l d goes.desk ne in
     let there = in_place l d goes.desk ne in
     let batch = batch_of l.plan l.party l.session d.place d.position place there in
-    let gate' = linear_place l.plan l.party l.session goes.desk.suits.session d.place d.position place k is in
+    let gate' = linear_place l.plan l.party l.session (plan_is l.plan goes.desk.suits.sound) goes.desk.suits.session d.place d.position place k is in
     let silent : pattern_at l.plan l.session d.place.slot ≡ Silent = sym (place.pattern there) ∙ gate'.1 in
-    let one = linear_one l.plan l.party l.session d.place.batch d.place.end d.place.slot goes.desk.suits.session batch.0 batch.1 batch.2 silent in
+    let one = linear_one l.plan l.party l.session d.place.batch d.place.end d.place.slot (plan_is l.plan goes.desk.suits.sound) goes.desk.suits.session batch.0 batch.1 batch.2 silent in
     let count : d.place.count ≡ length (half_program l.plan l.party l.session Head d.place.slot) =
     place.count ∙ count_at l.plan l.party l.session d.place.half d.place.slot there ∙ ap (λ z. length (half_program l.plan l.party l.session z d.place.slot)) gate'.0 in
     let fits' : IsMemoryOf l.plan d.session m = subst (λ z. IsMemoryOf z d.session m) (sym goes.same) fits in
@@ -266,13 +267,13 @@ module _ (plan : Plan) (l : Given) (d : Desk) (k : ℕ) (before : IsBefore plan 
   ls = before.unplaced.own_program.session_there
 
   abbrev start : Place
-  start = first_place l.plan l.party l.session d.place.batch d.place.end k ls before.batch before.from less Head
+  start = first_place l.plan l.party l.session d.place.batch d.place.end k (plan_is l.plan before.unplaced.own_program.sound) ls before.batch before.from less Head
 
   starts : IsPlace l.plan l.party l.session start d.position
   starts =
-      let one = linear_one l.plan l.party l.session d.place.batch d.place.end k ls before.batch before.from less silent in
+      let one = linear_one l.plan l.party l.session d.place.batch d.place.end k (plan_is l.plan before.unplaced.own_program.sound) ls before.batch before.from less silent in
       subst (IsPlace l.plan l.party l.session start) (sym before.position)
-      (first_is l.plan l.party l.session d.place.batch d.place.end k ls before.batch before.from less Head (omega (arith, one)))
+      (first_is l.plan l.party l.session d.place.batch d.place.end k (plan_is l.plan before.unplaced.own_program.sound) ls before.batch before.from less Head (omega (arith, one)))
 
   abbrev desk : Desk
   desk = at_place d start
@@ -283,7 +284,7 @@ module _ (plan : Plan) (l : Given) (d : Desk) (k : ℕ) (before : IsBefore plan 
   linear_there : instruction_at l desk ≡ Linear k
   linear_there =
       ap (at (program l.plan l.party l.session)) before.position
-      ∙ linear_at l.plan l.party l.session d.place.batch d.place.end k ls before.batch before.from less silent
+      ∙ linear_at l.plan l.party l.session d.place.batch d.place.end k (plan_is l.plan before.unplaced.own_program.sound) ls before.batch before.from less silent
 
   pub few_before : d.position < 4294967295
   few_before = few_done l desk stands_there
@@ -292,7 +293,7 @@ module _ (plan : Plan) (l : Given) (d : Desk) (k : ℕ) (before : IsBefore plan 
       → Alike (length plan.groups) (state_of (length plan.groups) m) (on_rows (row_of d.memory) ((gate_at plan d.session k).output ∷ []) (computed (2 ^ plan.bits) (gate_at plan d.session k)) (state_of (length plan.groups) d.memory))
       → IsBefore plan l Head (k + 1) (record d { position = d.position + 1; memory = m })
   gate_before m fits kept state =
-      let more = linear_more l.plan l.party l.session d.place.batch d.place.end k ls before.batch before.from less silent in
+      let more = linear_more l.plan l.party l.session d.place.batch d.place.end k (plan_is l.plan before.unplaced.own_program.sound) ls before.batch before.from less silent in
       let here = before.position in
       let lower = before.from in
       let fits' : IsMemoryOf l.plan d.session m = subst (λ z. IsMemoryOf z d.session m) (sym before.unplaced.same) fits in
@@ -374,16 +375,16 @@ among_on part slot end (suc n) gates are first among direct =
     (omega (arith, from), omega (arith, to))
 
 -- the tails of linear gates are empty
-pub tails_stay : (plan : Plan) (p s a b : ℕ) → s < length plan.sessions → (k n : ℕ) → k + n ≤ slots plan s → ((t : ℕ) → t < n → pattern_at plan s (k + t) ≡ Silent)
+pub tails_stay : (plan : Plan) (p s a b : ℕ) → IsPlan plan → s < length plan.sessions → (k n : ℕ) → k + n ≤ slots plan s → ((t : ℕ) → t < n → pattern_at plan s (k + t) ≡ Silent)
     → position_of plan p s Tail a b (k + n) ≡ position_of plan p s Tail a b k
-tails_stay plan p s a b ls k zero within silent = let same : k + 0 ≡ k = omega arith in ap (position_of plan p s Tail a b) same
-tails_stay plan p s a b ls k (suc n) within silent =
+tails_stay plan p s a b valid ls k zero within silent = let same : k + 0 ≡ k = omega arith in ap (position_of plan p s Tail a b) same
+tails_stay plan p s a b valid ls k (suc n) within silent =
     let next : k + suc n ≡ k + n + 1 = omega arith in
     let none : length (half_program plan p s Tail (k + n)) ≡ 0 =
-    length-half plan p s Tail (k + n) ls (omega (arith, within)) ∙ ap (λ z. length (steps plan p Tail z)) (silent n (omega arith)) in
+    length-half plan p s Tail (k + n) valid ls (omega (arith, within)) ∙ ap (λ z. length (steps plan p Tail z)) (silent n (omega arith)) in
     let more = position_more plan p s Tail a b (k + n) in
     let moved = ap (position_of plan p s Tail a b) next in
-    let rest = tails_stay plan p s a b ls k n (omega (arith, within)) (λ t l. silent t (omega (arith, l))) in
+    let rest = tails_stay plan p s a b valid ls k n (omega (arith, within)) (λ t l. silent t (omega (arith, l))) in
     omega (arith, none, more, moved, rest)
 
 -- ---- the place is brought up

@@ -13,6 +13,7 @@ use Rattle.message_board.specs.declared.steps.View.{View}
 use Rattle.message_board.specs.Pairs.{Knows}
 use Rattle.message_board.specs.Rule.{posts, looks, sees}
 use Rattle.message_board.specs.Seats.{Sitting, IsPostAnswer}
+use Rattle.job_plan.proofs.PlanSchemes.{plan_is}
 use Rattle.party_program.specs.declared.half.Half.TheVariants.{Head, Tail}
 use Rattle.party_program.specs.declared.place.Place.{Place}
 use Rattle.party_program.specs.declared.program.Instruction.{Instruction}
@@ -22,7 +23,7 @@ use Rattle.party_program.specs.Programs.{half_program, program, at}
 use Rattle.party_program.specs.PartySteps.{steps}
 use Rattle.party_program.specs.ProgramPlaces.{position_of, InProduct, IsPlace, IsProgram}
 use Rattle.party_program.specs.Proper.{IsGivenWord, IsSlot, Multiplies}
-use Rattle.party_program.specs.States.{Given, posted, slot_of, took_in}
+use Rattle.party_program.specs.States.{Given, posted, taking_slot, took_in}
 use Rattle.party_program.proofs.GateSlots.{product_at, product_count, product_ends, product_there, product_two}
 use Rattle.party_program.proofs.ProgramPlaces.{batch_of, count_at, half_within, in_slot, is_own}
 use Rattle.program_laws.proofs.Lengths.{program_is_short}
@@ -69,14 +70,14 @@ module _ (plan : Plan) (l : Given) (d : Desk) (goes : IsDeskOfPlan plan l d) (in
   product_within =
       subst (λ z. d.place.slot < slots z d.session) goes.same
       (subst (λ z. d.place.slot < slots l.plan z) (sym goes.desk.session)
-      (product_there l.plan l.party l.session there Tail d.place in_product d.position goes.desk.place))
+      (product_there l.plan l.party l.session (plan_is l.plan goes.desk.own_program.sound) there Tail d.place in_product d.position goes.desk.place))
 
   -- the last instruction of its tail is the sum
   pub product_sum : d.place.done + 1 ≡ d.place.count → instruction_at l d ≡ Sum d.place.slot
   product_sum last =
       let here : d.position + 0 ≡ d.position = omega arith in
       sym (ap (at (program l.plan l.party l.session)) here)
-      ∙ product_ends l.plan l.party l.session there d.place in_product d.position goes.desk.place 0 (omega (arith, last))
+      ∙ product_ends l.plan l.party l.session (plan_is l.plan goes.desk.own_program.sound) there d.place in_product d.position goes.desk.place 0 (omega (arith, last))
 
 -- an instruction that was found further on in the tail of a product, where the memory alone has changed since
 module _ (plan : Plan) (l : Given) (d e : Desk) (goes : IsDeskOfPlan plan l d) (in_product : InProduct Tail d.place) (at' : ℕ) (from : d.place.done ≤ at') (left : at' < d.place.count) (same : e ≡ record d { memory = e.memory }) where
@@ -94,14 +95,14 @@ module _ (plan : Plan) (l : Given) (d e : Desk) (goes : IsDeskOfPlan plan l d) (
     pub takes_next : instruction_at l (taken_on e (at' - d.place.done)) ≡ i
     takes_next =
         ap (λ (z : Desk). at (program l.plan l.party l.session) (z.position + (at' - d.place.done))) same
-        ∙ product_at l.plan l.party l.session goes.desk.own_program.session_there Tail d.place in_product d.position goes.desk.place (at' - d.place.done) (omega (arith, from, left))
+        ∙ product_at l.plan l.party l.session (plan_is l.plan goes.desk.own_program.sound) goes.desk.own_program.session_there Tail d.place in_product d.position goes.desk.place (at' - d.place.done) (omega (arith, from, left))
         ∙ ap (λ n. slice_index_or (half_program l.plan l.party l.session Tail d.place.slot) n End) far
         ∙ sym its
 
     -- before the last one it is a take
     pub take_found : at' + 1 < d.place.count → (n j : ℕ) × (i ≡ Take n j)
     take_found more =
-        let there = takes_there l.plan l.party l.session goes.desk.own_program.session_there d.place d.position at' goes.desk.place in_product more in
+        let there = takes_there l.plan l.party l.session (plan_is l.plan goes.desk.own_program.sound) goes.desk.own_program.session_there d.place d.position at' goes.desk.place in_product more in
         (there.0, there.1, its ∙ there.2)
 
 -- the program of a desk is that of its party in its session
@@ -113,7 +114,7 @@ goes_program plan l d goes =
 -- a tail has so many steps
 pub tail_long : (plan : Plan) (l : Given) (d : Desk) → IsDeskOfPlan plan l d → InProduct Tail d.place → d.place.count ≡ length (steps plan d.program.party Tail Multiplied)
 tail_long plan l d goes in_product =
-    product_long plan d.program.party d.program.session (goes_program plan l d goes).session_there Tail d.place in_product d.position (goes_place plan l d goes)
+    product_long plan d.program.party d.program.session (plan_is plan (goes_program plan l d goes).sound) (goes_program plan l d goes).session_there Tail d.place in_product d.position (goes_place plan l d goes)
 
 pub tail_listed : (plan : Plan) (l : Given) (d : Desk) (goes : IsDeskOfPlan plan l d) → InProduct Tail d.place → (list : List Step) → ((z : Plan) (p s : ℕ) → IsProgram z p s d.program → list ≡ steps z p Tail Multiplied) → d.place.count ≡ length list
 tail_listed plan l d goes in_product list are =
@@ -273,7 +274,7 @@ module _ (plan : Plan) (l : Given) (n : ℕ) (d : Desk) (sending : IsSending pla
   sender_within =
       subst (λ z. d.place.slot < slots z d.session) sending.unplaced.same
       (subst (λ z. d.place.slot < slots l.plan z) (sym sending.unplaced.session)
-      (product_there l.plan l.party l.session ls Head d.place sending.product sending.begun sending.place))
+      (product_there l.plan l.party l.session (plan_is l.plan sending.unplaced.own_program.sound) ls Head d.place sending.product sending.begun sending.place))
 
   -- the instruction that comes next
   pub sender_next : (i : Instruction) → i ≡ slice_index_or (half_program plan d.program.party d.program.session Head d.place.slot) n End → instruction_at l sender ≡ i
@@ -282,7 +283,7 @@ module _ (plan : Plan) (l : Given) (n : ℕ) (d : Desk) (sending : IsSending pla
       let none = sending.starts in
       let far : d.place.done + n ≡ n = omega (arith, none) in
       ap (at (program l.plan l.party l.session)) sending.position
-      ∙ product_at l.plan l.party l.session ls Head d.place sending.product sending.begun sending.place n (omega (arith, none, left))
+      ∙ product_at l.plan l.party l.session (plan_is l.plan sending.unplaced.own_program.sound) ls Head d.place sending.product sending.begun sending.place n (omega (arith, none, left))
       ∙ ap (λ j. slice_index_or (half_program l.plan l.party l.session Head d.place.slot) j End) far
       ∙ sym (found ∙ (λ z. slice_index_or (half_program (sym sending.unplaced.same z) (own.of_party z) (own.of_session z) Head d.place.slot) n End))
 
@@ -290,7 +291,7 @@ module _ (plan : Plan) (l : Given) (n : ℕ) (d : Desk) (sending : IsSending pla
   pub post_found : (i : Instruction) → i ≡ slice_index_or (half_program plan d.program.party d.program.session Head d.place.slot) n End → 2 ≤ n → (m j : ℕ) × (i ≡ Post m j)
   post_found i found from =
       let own = sending.unplaced.own_program in
-      let there = posts_there l.plan l.party l.session ls d.place sending.begun n sending.place sending.product sending.has from left in
+      let there = posts_there l.plan l.party l.session (plan_is l.plan sending.unplaced.own_program.sound) ls d.place sending.begun n sending.place sending.product sending.has from left in
       (there.0, there.1, found ∙ (λ z. slice_index_or (half_program (sym sending.unplaced.same z) (own.of_party z) (own.of_session z) Head d.place.slot) n End) ∙ there.2)
 
   -- and after it
@@ -361,11 +362,11 @@ module _ (plan : Plan) (l : Given) (d : Desk) (goes : IsDeskOfPlan plan l d) (wi
 
   -- a word that it takes joins the sums
   pub product_taken : (n i w : ℕ) → instruction_at l d ≡ Take n i → (m : Memory) → Alike (length plan.groups) (state_of (length plan.groups) m) (added (2 ^ plan.bits) i w (state_of (length plan.groups) d.memory))
-      → Alike (length plan.groups) (state_of (length plan.groups) m) (on_rows (row_of d.memory) (sets_in (session plan d.session) (slot_of plan n)) (took_in plan d.session (slot_of plan n) i w) (state_of (length plan.groups) d.memory))
+      → Alike (length plan.groups) (state_of (length plan.groups) m) (on_rows (row_of d.memory) (sets_in (session plan d.session) (taking_slot plan n)) (took_in plan d.session (taking_slot plan n) i w) (state_of (length plan.groups) d.memory))
   product_taken n i w is m state =
       let proper = goes_proper plan l d goes (Take n i) (sym is) in
-      let here : slot plan d.session d.place.slot ≡ slot_of plan n = ap₂ (slot plan) (sym proper.session) (sym (goes_names plan l d goes (Take n i) (sym is))) in
-      added_on_rows plan d.session (row_of d.memory) (state_of (length plan.groups) d.memory) (state_of (length plan.groups) m) i w state (slot_of plan n)
+      let here : slot plan d.session d.place.slot ≡ taking_slot plan n = ap (slot plan d.session) (sym (goes_names plan l d goes (Take n i) (sym is))) ∙ proper.taken_is in
+      added_on_rows plan d.session (row_of d.memory) (state_of (length plan.groups) d.memory) (state_of (length plan.groups) m) i w state (taking_slot plan n)
       (subst AddsUp here (products_add_up plan d.session (slot plan d.session d.place.slot) of_product))
 
 -- ---- one post after another
@@ -404,19 +405,19 @@ module _ (plan : Plan) (l : Given) (d : Desk) (sending : IsSending plan l 2 d) w
   -- its head has so many steps
   pub head_long : d.place.count ≡ length (steps plan d.program.party Head Multiplied)
   head_long =
-      product_long l.plan l.party l.session own.session_there Head d.place sending.product sending.begun sending.place
+      product_long l.plan l.party l.session (plan_is l.plan own.sound) own.session_there Head d.place sending.product sending.begun sending.place
       ∙ (λ z. length (steps (sending.unplaced.same z) (sym own.of_party z) Head Multiplied))
 
   pub head_listed : (list : List Step) → ((z : Plan) (p s : ℕ) → IsProgram z p s d.program → list ≡ steps z p Head Multiplied) → d.place.count ≡ length list
   head_listed list are = head_long ∙ ap (length {A = Step}) (sym (are plan d.program.party d.program.session sending_program))
 
   pub head_two : 2 ≤ d.place.count
-  head_two = product_two l.plan l.party l.session own.session_there d.place sending.product sending.begun sending.place sending.starts sending.has
+  head_two = product_two l.plan l.party l.session (plan_is l.plan own.sound) own.session_there d.place sending.product sending.begun sending.place sending.starts sending.has
 
   -- the instructions of the head are few
   pub head_few : d.position + (d.place.count - 2) < 4294967295
   head_few =
-      let there = product_there l.plan l.party l.session own.session_there Head d.place sending.product sending.begun sending.place in
+      let there = product_there l.plan l.party l.session (plan_is l.plan own.sound) own.session_there Head d.place sending.product sending.begun sending.place in
       let found = batch_of l.plan l.party l.session d.place sending.begun sending.place there in
       let within = half_within l.plan l.party l.session d.place.batch d.place.end d.place.slot found.0 found.1 found.2 d.place.half in
       let count : d.place.count ≡ length (half_program l.plan l.party l.session d.place.half d.place.slot) = sending.place.count ∙ count_at l.plan l.party l.session d.place.half d.place.slot there in
@@ -444,11 +445,11 @@ module _ (plan : Plan) (l : Given) (d : Desk) (sending : IsSending plan l 2 d) w
 pub sent_all : (plan : Plan) (l : Given) (n : ℕ) (d : Desk) → IsSending plan l n d → n ≡ d.place.count → IsBefore plan l Head (d.place.slot + 1) d
 sent_all plan l n d now all =
     let own = now.unplaced.own_program in
-    let there = product_there l.plan l.party l.session own.session_there Head d.place now.product now.begun now.place in
+    let there = product_there l.plan l.party l.session (plan_is l.plan own.sound) own.session_there Head d.place now.product now.begun now.place in
     let found = batch_of l.plan l.party l.session d.place now.begun now.place there in
     let from = found.1 in
     let to = found.2 in
-    let count = product_count l.plan l.party l.session own.session_there Head d.place now.product now.begun now.place in
+    let count = product_count l.plan l.party l.session (plan_is l.plan own.sound) own.session_there Head d.place now.product now.begun now.place in
     let done : now.begun ≡ position_of l.plan l.party l.session Head d.place.batch d.place.end d.place.slot + d.place.done =
     now.place.done ∙ ap (λ z. position_of l.plan l.party l.session z d.place.batch d.place.end d.place.slot + d.place.done) now.product.0 in
     let none = now.starts in
@@ -466,7 +467,7 @@ sent_all plan l n d now all =
 pub sent_gate : (plan : Plan) (l : Given) (n : ℕ) (d : Desk) → IsSending plan l n d → IsSlot l.plan l.session d.place.slot Multiplies
 sent_gate plan l n d now =
     let own = now.unplaced.own_program in
-    let there = product_there l.plan l.party l.session own.session_there Head d.place now.product now.begun now.place in
+    let there = product_there l.plan l.party l.session (plan_is l.plan own.sound) own.session_there Head d.place now.product now.begun now.place in
     record { kind = product_gate l.plan l.session d.place.slot (sym (now.place.pattern there) ∙ now.product.1); slot = there }
 
 pub sent_slot : (plan : Plan) (l : Given) (n : ℕ) (d : Desk) → IsSending plan l n d → IsSlot plan d.session d.place.slot Multiplies
@@ -535,7 +536,7 @@ module _ (l : Given) (d : Desk) (moves : ℕ) (more : d.place.done + moves + 1 <
       (place_on l.plan l.party l.session (further d.place moves) (d.position + moves) 1 here more))))
 
   pub taken_more : (n i w : ℕ) (m : Memory) → IsDesk l (taken_on d moves) → IsMemoryOf l.plan d.session m → KeepsGiven d.memory m
-      → Alike (length l.plan.groups) (state_of (length l.plan.groups) m) (on_rows (row_of d.memory) (sets_in (session l.plan d.session) (slot_of l.plan n)) (took_in l.plan d.session (slot_of l.plan n) i w) (state_of (length l.plan.groups) d.memory))
+      → Alike (length l.plan.groups) (state_of (length l.plan.groups) m) (on_rows (row_of d.memory) (sets_in (session l.plan d.session) (taking_slot l.plan n)) (took_in l.plan d.session (taking_slot l.plan n) i w) (state_of (length l.plan.groups) d.memory))
       → Advanced l.plan w (Take n i) (taken_on d moves) (taken_on (record d { memory = m }) (moves + 1))
   taken_more n i w m h fits kept state = record {
     party = refl;

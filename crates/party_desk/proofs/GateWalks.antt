@@ -64,8 +64,10 @@ module _ (plan : Plan) (l : Given) (d : Desk) (goes : IsDeskOfPlan plan l d) whe
   pub goes_proper : (i : Instruction) → i ≡ instruction_at l d → Proper plan d.session i
   goes_proper i is = subst (λ z. Proper z d.session i) goes.same (subst (Proper l.plan d.session) (sym is) (proper_own l d goes.desk))
 
-  pub goes_names : (i : Instruction) → i ≡ instruction_at l d → NamesSlot plan i d.place.slot
-  goes_names i is = subst (λ z. NamesSlot z i d.place.slot) goes.same (subst (λ j. NamesSlot l.plan j d.place.slot) (sym is) (names_own l d goes.desk))
+  pub goes_names : (i : Instruction) → i ≡ instruction_at l d → NamesSlot plan d.session i d.place.slot
+  goes_names i is =
+      subst (λ z. NamesSlot plan z i d.place.slot) (sym goes.desk.session)
+      (subst (λ z. NamesSlot z l.session i d.place.slot) goes.same (subst (λ j. NamesSlot l.plan l.session j d.place.slot) (sym is) (names_own l d goes.desk)))
 
   -- a deal finds its words
   pub goes_deals : (k j : ℕ) → Deal k j ≡ instruction_at l d → CanDeal plan (slot plan d.session k) d.memory

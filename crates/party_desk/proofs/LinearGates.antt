@@ -12,6 +12,7 @@ use Rattle.job_plan.specs.Sound.{IsSound}
 use Rattle.job_plan.specs.declared.pattern.Pattern.TheVariants.{Multiplied}
 use Rattle.job_plan.specs.Patterns.{pattern_at}
 use Rattle.job_plan.specs.Plans.{Plan, session}
+use Rattle.job_plan.proofs.PlanSchemes.{plan_is}
 use Rattle.party_program.specs.declared.half.Half.TheVariants.{Head, Tail}
 use Rattle.party_program.specs.declared.place.Place.{Place}
 use Rattle.party_program.specs.ProgramPlaces.{position_of, IsPlace}
@@ -230,7 +231,7 @@ module _ (plan : Plan) (l : Given) (d : Desk) (slot : ℕ) (part : Session) (gat
         from = omega (arith, from);
         to = omega (arith, to, few);
         position = start.position
-            ∙ sym (tails_stay l.plan l.party l.session d.place.batch d.place.end start.unplaced.own_program.session_there slot n (omega (arith, to, few, there))
+            ∙ sym (tails_stay l.plan l.party l.session d.place.batch d.place.end (plan_is l.plan start.unplaced.own_program.sound) start.unplaced.own_program.session_there slot n (omega (arith, to, few, there))
             (λ t less. later_pattern plan l d slot t part gates start.unplaced.same start.unplaced.session own d.place.end are (omega (arith, less, few)) (λ u more. first.linear u (omega (arith, less, more))) false (first.linear t less) (never_prepared part.prepared)));
       }
 

@@ -1,7 +1,7 @@
 -- Wires of slots that have rows.
 use Rattle.std.proofs.Common.{◌≡◌, ℕ, ◌+◌, ◌<◌, true, length, refl, arith}
 use Rattle.job_session.specs.Sessions.{Session, Slot, gate, operand, owners, readers, output_wire, product_in, row_names, has_product}
-use Rattle.job_session.specs.Sessions.Slot.{Input, At_gate, Output, Mask, Mask_product, Masked}
+use Rattle.job_session.specs.Sessions.Slot.{Input, At_gate, Output, Mask, Mask_product, Masked, Kept}
 use Rattle.job_session.specs.declared.side.Side.{Side}
 use Rattle.job_session.specs.declared.side.Side.TheVariants.{First, Second}
 use Rattle.job_session.specs.SoundSessions.{Inside, IsWired}
@@ -21,6 +21,7 @@ product_here (Input v) h = absurd h
 product_here (Output o) h = absurd h
 product_here (Mask t side) h = absurd h
 product_here (Masked t side) h = absurd h
+product_here (Kept place) h = absurd h
 
 module _ (plan : Plan) (sound : IsSound plan) (s : ℕ) (ls : s < length plan.sessions) where
   abbrev x : Session
@@ -53,6 +54,7 @@ module _ (plan : Plan) (sound : IsSound plan) (s : ℕ) (ls : s < length plan.se
   product_within_rows (Output o) l h = absurd h
   product_within_rows (Mask t side) l h = absurd h
   product_within_rows (Masked t side) l h = absurd h
+  product_within_rows (Kept place) l h = absurd h
 
   pub slot_within_rows : (k : ℕ) → IsSlot plan s k Multiplies → GateWithin plan s (gate_at plan s k)
   slot_within_rows k named = product_within_rows (slot plan s k) ((slots_are_numbered x).inside k named.slot) named.kind

@@ -5,6 +5,7 @@ use Rattle.circuit_model.specs.declared.gate.Gate.{Gate}
 use Rattle.secret_sharing.specs.Schemes.{has_pair}
 use Rattle.job_plan.specs.Plans.{Plan, scheme, slot}
 use Rattle.job_plan.specs.Numbers.{deals_before}
+use Rattle.job_plan.proofs.PlanSchemes.{plan_is}
 use Rattle.party_program.specs.declared.half.Half.TheVariants.{Head}
 use Rattle.party_program.specs.declared.program.Instruction.TheVariants.{Deal, Own, Post}
 use Rattle.party_program.specs.Programs.{program, at}
@@ -50,13 +51,13 @@ module _ (plan : Plan) (l : Given) (d : Desk) (goes : IsDeskOfPlan plan l d) (in
   next_deal = deals_before l.plan l.party l.session k
 
   two : 2 ≤ d.place.count
-  two = product_two l.plan l.party l.session ls d.place in_product d.position goes.desk.place starts has
+  two = product_two l.plan l.party l.session (plan_is l.plan goes.desk.own_program.sound) ls d.place in_product d.position goes.desk.place starts has
 
   own_next : at (program l.plan l.party l.session) d.position ≡ Own k
-  own_next = product_own l.plan l.party l.session ls d.place in_product d.position goes.desk.place starts has
+  own_next = product_own l.plan l.party l.session (plan_is l.plan goes.desk.own_program.sound) ls d.place in_product d.position goes.desk.place starts has
 
   deal_next : at (program l.plan l.party l.session) (d.position + 1) ≡ Deal k next_deal
-  deal_next = product_deal l.plan l.party l.session ls d.place in_product d.position goes.desk.place starts has
+  deal_next = product_deal l.plan l.party l.session (plan_is l.plan goes.desk.own_program.sound) ls d.place in_product d.position goes.desk.place starts has
 
   -- none of both is a post
   pub own_silent : NoPosts l d.position (d.position + 2)

@@ -9,10 +9,9 @@ use Rattle.list_laws.proofs.JoinedLists.{every_append, every_only_if}
 use Rattle.secret_sharing.specs.Schemes.{has_pair}
 use Rattle.job_plan.specs.declared.pattern.Line.{Line}
 use Rattle.job_plan.specs.declared.pattern.Pattern.{Pattern}
-use Rattle.job_plan.specs.declared.pattern.Pattern.TheVariants.{Silent, Dealt, Multiplied, Opened, HandedOut, OpenedToAll, Joined}
-use Rattle.job_plan.specs.Plans.{Plan, least_held, scheme, slots}
+use Rattle.job_plan.specs.declared.pattern.Pattern.TheVariants.{Silent, Dealt, Multiplied, Opened, HandedOut, OpenedToAll, Joined, Held, Received}
+use Rattle.job_plan.specs.Plans.{IsPlan, Plan, least_held, scheme, slots}
 use Rattle.job_plan.specs.Numbers.{deals_before}
-use Rattle.job_plan.specs.Firsts.{first}
 use Rattle.job_plan.specs.Patterns.{lines, pattern_at}
 use Rattle.job_plan.proofs.DistinctMessages.{every_place}
 use Rattle.party_program.specs.declared.half.Half.{Half}
@@ -21,7 +20,7 @@ use Rattle.party_program.specs.declared.place.Place.{Place}
 use Rattle.party_program.specs.declared.program.Instruction.TheVariants as instruction
 use Rattle.party_program.specs.declared.step.Step.{Step}
 use Rattle.party_program.specs.declared.step.Step.TheVariants.{Draw, Deal, Own, Post, Take, Linear, Sum, Open, Join, Deliver}
-use Rattle.party_program.specs.Programs.{half_program, program, at}
+use Rattle.party_program.specs.Programs.{first_named, half_program, program, at}
 use Rattle.party_program.specs.PartySteps.{steps_before, post_steps, take_steps, post_step, take_step, is_from, is_to, steps, placed}
 use Rattle.party_program.specs.ProgramPlaces.{InProduct, IsPlace}
 use Rattle.party_program.proofs.ProgramPlaces.{count_at, ends_there, in_slot, instruction_is, length-half, step_is}
@@ -80,6 +79,8 @@ module _ (plan : Plan) (p : ℕ) where
   none_before HandedOut = every_only_if NotTake (nat_lt 0 (least_held plan p (length plan.groups))) (Draw ∷ []) (λ e. (tt, tt))
   none_before OpenedToAll = tt
   none_before Joined = tt
+  none_before Held = tt
+  none_before Received = tt
 
   head_not_take : (pattern : Pattern) (i : ℕ) (d : Step) → i < length (steps plan p Head pattern) → NotTake (slice_index_or (steps plan p Head pattern) i d)
   head_not_take pattern i d =
@@ -126,9 +127,9 @@ module _ (k first' deals : ℕ) where
   no_take_of Deliver n i h e = cc
 
 -- a place in a half of a product
-module _ (plan : Plan) (p s : ℕ) (ls : s < length plan.sessions) (half : Half) (place : Place) (in_product : InProduct half place) (q : ℕ) (here : IsPlace plan p s place q) where
+module _ (plan : Plan) (p s : ℕ) (valid : IsPlan plan) (ls : s < length plan.sessions) (half : Half) (place : Place) (in_product : InProduct half place) (q : ℕ) (here : IsPlace plan p s place q) where
   there : place.slot < slots plan s
-  there = product_there plan p s ls half place in_product q here
+  there = product_there plan p s valid ls half place in_product q here
 
   multiplied : pattern_at plan s place.slot ≡ Multiplied
   multiplied = sym (here.pattern there) ∙ in_product.1
@@ -136,45 +137,45 @@ module _ (plan : Plan) (p s : ℕ) (ls : s < length plan.sessions) (half : Half)
   -- it has so many steps
   pub product_long : place.count ≡ length (steps plan p half Multiplied)
   product_long =
-      product_count plan p s ls half place in_product q here ∙ length-half plan p s half place.slot ls there
+      product_count plan p s valid ls half place in_product q here ∙ length-half plan p s half place.slot valid ls there
       ∙ ap (λ pattern. length (steps plan p half pattern)) multiplied
 
   step_at : (i : ℕ) (d : Step) → i < place.count
-      → slice_index_or (half_program plan p s half place.slot) i instruction.End ≡ placed place.slot (first plan s place.slot) (deals_before plan p s place.slot) (slice_index_or (steps plan p half Multiplied) i d)
+      → slice_index_or (half_program plan p s half place.slot) i instruction.End ≡ placed place.slot (first_named plan s place.slot) (deals_before plan p s place.slot) (slice_index_or (steps plan p half Multiplied) i d)
   step_at i d less =
-      let count = product_count plan p s ls half place in_product q here in
-      let long = length-half plan p s half place.slot ls there in
-      step_is plan p s half place.slot ls there i d (omega (arith, less, count, long))
-      ∙ ap (λ pattern. placed place.slot (first plan s place.slot) (deals_before plan p s place.slot) (slice_index_or (steps plan p half pattern) i d)) multiplied
+      let count = product_count plan p s valid ls half place in_product q here in
+      let long = length-half plan p s half place.slot valid ls there in
+      step_is plan p s half place.slot valid ls there i d (omega (arith, less, count, long))
+      ∙ ap (λ pattern. placed place.slot (first_named plan s place.slot) (deals_before plan p s place.slot) (slice_index_or (steps plan p half pattern) i d)) multiplied
 
-module _ (plan : Plan) (p s : ℕ) (ls : s < length plan.sessions) (place : Place) (q i : ℕ) (here : IsPlace plan p s place q) where
+module _ (plan : Plan) (p s : ℕ) (valid : IsPlan plan) (ls : s < length plan.sessions) (place : Place) (q i : ℕ) (here : IsPlace plan p s place q) where
   -- after its deal come posts
   pub posts_there : InProduct Head place → has_pair (scheme plan) p ≡ true → 2 ≤ i → i < place.count
       → (n j : ℕ) × (slice_index_or (half_program plan p s Head place.slot) i instruction.End ≡ instruction.Post n j)
   posts_there in_product has from less =
-      let long = product_long plan p s ls Head place in_product q here in
-      let found = post_of place.slot (first plan s place.slot) (deals_before plan p s place.slot) (slice_index_or (steps plan p Head Multiplied) i Deal) (head_post plan p has i Deal from (omega (arith, less, long))) in
-      (found.0, found.1, step_at plan p s ls Head place in_product q here i Deal less ∙ found.2)
+      let long = product_long plan p s valid ls Head place in_product q here in
+      let found = post_of place.slot (first_named plan s place.slot) (deals_before plan p s place.slot) (slice_index_or (steps plan p Head Multiplied) i Deal) (head_post plan p has i Deal from (omega (arith, less, long))) in
+      (found.0, found.1, step_at plan p s valid ls Head place in_product q here i Deal less ∙ found.2)
 
   -- before its sum come takes
   pub takes_there : InProduct Tail place → i + 1 < place.count
       → (n j : ℕ) × (slice_index_or (half_program plan p s Tail place.slot) i instruction.End ≡ instruction.Take n j)
   takes_there in_product less =
-      let long = product_long plan p s ls Tail place in_product q here in
-      let found = take_of place.slot (first plan s place.slot) (deals_before plan p s place.slot) (slice_index_or (steps plan p Tail Multiplied) i Deal) (tail_take plan p i Deal (omega (arith, less, long))) in
-      (found.0, found.1, step_at plan p s ls Tail place in_product q here i Deal (omega (arith, less)) ∙ found.2)
+      let long = product_long plan p s valid ls Tail place in_product q here in
+      let found = take_of place.slot (first_named plan s place.slot) (deals_before plan p s place.slot) (slice_index_or (steps plan p Tail Multiplied) i Deal) (tail_take plan p i Deal (omega (arith, less, long))) in
+      (found.0, found.1, step_at plan p s valid ls Tail place in_product q here i Deal (omega (arith, less)) ∙ found.2)
 
 -- a head takes nothing
-pub no_take_there : (plan : Plan) (p s : ℕ) → s < length plan.sessions → (place : Place) (q n i : ℕ) → IsPlace plan p s place q → place.half ≡ Head → at (program plan p s) q ≢ instruction.Take n i
-no_take_there plan p s ls place q n i here head is = elim (cases_lt place.done place.count) [
+pub no_take_there : (plan : Plan) (p s : ℕ) → IsPlan plan → s < length plan.sessions → (place : Place) (q n i : ℕ) → IsPlace plan p s place q → place.half ≡ Head → at (program plan p s) q ≢ instruction.Take n i
+no_take_there plan p s valid ls place q n i here head is = elim (cases_lt place.done place.count) [
   | inr past ↦ let both : instruction.Take n i ≡ instruction.End = sym is ∙ ends_there plan p s place q here past in cc
   | inl left ↦
       let there' = in_slot plan p s place q here left in
       let count : place.count ≡ length (half_program plan p s place.half place.slot) = here.count ∙ count_at plan p s place.half place.slot there' in
-      let long = length-half plan p s place.half place.slot ls there' in
+      let long = length-half plan p s place.half place.slot valid ls there' in
       let short : place.done < length (steps plan p place.half (pattern_at plan s place.slot)) = omega (arith, left, count, long) in
-      no_take_of place.slot (first plan s place.slot) (deals_before plan p s place.slot) _ n i
+      no_take_of place.slot (first_named plan s place.slot) (deals_before plan p s place.slot) _ n i
       (subst (λ z. NotTake (slice_index_or (steps plan p z (pattern_at plan s place.slot)) place.done Deal)) (sym head)
       (head_not_take plan p (pattern_at plan s place.slot) place.done Deal (subst (λ z. place.done < length (steps plan p z (pattern_at plan s place.slot))) head short)))
-      (sym (instruction_is plan p s place q here left ∙ step_is plan p s place.half place.slot ls there' place.done Deal short) ∙ is)
+      (sym (instruction_is plan p s place q here left ∙ step_is plan p s place.half place.slot valid ls there' place.done Deal short) ∙ is)
 ]

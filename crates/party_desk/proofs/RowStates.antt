@@ -7,7 +7,7 @@ use Rattle.circuit_model.proofs.SetAt.{set_here, set_there}
 use Rattle.circuit_model.specs.declared.gate.Gate.{Gate}
 use Rattle.secret_sharing.specs.Schemes.{local}
 use Rattle.job_session.specs.Sessions.{Session, Slot, gate, product_in}
-use Rattle.job_session.specs.Sessions.Slot.{Input, At_gate, Output, Mask, Mask_product, Masked}
+use Rattle.job_session.specs.Sessions.Slot.{Input, At_gate, Output, Mask, Mask_product, Masked, Kept}
 use Rattle.job_session.specs.KeptWires.{sets_in}
 use Rattle.job_plan.specs.Plans.{Plan, session}
 use Rattle.party_program.specs.Proper.{Multiplies}
@@ -70,6 +70,7 @@ module _ (plan : Plan) (s : ℕ) where
     added_on_rows (Masked t side) h = none_put
     added_on_rows (Input v) h = absurd h
     added_on_rows (Mask t side) h = absurd h
+    added_on_rows (Kept place) h = none_put
 
   pub products_add_up : (z : Slot) → Multiplies z → AddsUp z
   products_add_up (At_gate t) h = tt
@@ -78,6 +79,7 @@ module _ (plan : Plan) (s : ℕ) where
   products_add_up (Output o) h = absurd h
   products_add_up (Mask t side) h = absurd h
   products_add_up (Masked t side) h = absurd h
+  products_add_up (Kept place) h = absurd h
 
   -- the deal of a product, and its posts, are of its wire
   pub dealt_at_product : (row_of words : ℕ → ℕ) (input : ℕ) (z : Slot) (σ : State) → Multiplies z
@@ -88,6 +90,7 @@ module _ (plan : Plan) (s : ℕ) where
   dealt_at_product row_of words input (Output o) σ h = absurd h
   dealt_at_product row_of words input (Mask t side) σ h = absurd h
   dealt_at_product row_of words input (Masked t side) σ h = absurd h
+  dealt_at_product row_of words input (Kept place) σ h = absurd h
 
   pub posted_of_product : (z : Slot) (i : ℕ) (σ : State) → Multiplies z → posted plan s z i σ ≡ σ.rows (product_in x z).output i
   posted_of_product (At_gate t) i σ h = refl
@@ -96,3 +99,4 @@ module _ (plan : Plan) (s : ℕ) where
   posted_of_product (Output o) i σ h = absurd h
   posted_of_product (Mask t side) i σ h = absurd h
   posted_of_product (Masked t side) i σ h = absurd h
+  posted_of_product (Kept place) i σ h = absurd h

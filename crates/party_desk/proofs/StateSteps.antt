@@ -14,7 +14,7 @@ use Rattle.circuit_model.specs.declared.gate.Gate.{Gate}
 use Rattle.secret_sharing.specs.Schemes.{Scheme, IsScheme, dealt, has_pair, own_product}
 use Rattle.secret_sharing.specs.Prepared.{joined_summand}
 use Rattle.job_session.specs.Sessions.{Session, Slot, gate, is_prepared, operand, output_wire, mask_wire, product_wire, product_in}
-use Rattle.job_session.specs.Sessions.Slot.{Input, At_gate, Output, Mask, Mask_product, Masked}
+use Rattle.job_session.specs.Sessions.Slot.{Input, At_gate, Output, Mask, Mask_product, Masked, Kept}
 use Rattle.job_session.specs.KeptWires.{is_read, reads_in, sets_in}
 use Rattle.job_session.specs.declared.side.Side.{Side}
 use Rattle.job_session.specs.declared.side.Side.TheVariants.{First, Second}
@@ -23,7 +23,7 @@ use Rattle.job_plan.proofs.PlanSchemes.{scheme_is}
 use Rattle.party_program.specs.declared.program.Instruction.{Instruction}
 use Rattle.party_program.specs.declared.program.Instruction.TheVariants.{Draw, Deal, Post, Take, Linear, Own, Sum, Open, Join, Deliver, End}
 use Rattle.party_program.specs.Proper.{IsMask, IsOutput, Proper}
-use Rattle.party_program.specs.States.{State, after, dealt_in, drawn_in, excess_of, joined_in, opened, opened_in, output_in_slot, set_side, slot_of, took_in}
+use Rattle.party_program.specs.States.{State, after, dealt_in, drawn_in, excess_of, joined_in, opened, opened_in, output_in_slot, set_side, taking_slot, took_in}
 use Rattle.program_laws.specs.WordsRead.{gate_at, Deals, Reads, ReadsSummand, SetsSummand, Takes}
 use Rattle.program_laws.proofs.GateReads.{local_same}
 use Rattle.program_laws.proofs.SetWords.{Finishes}
@@ -104,6 +104,7 @@ module _ (plan : Plan) (s p : ℕ) where
   taken_wire (Output o) v e = absurd e
   taken_wire (Mask_product t) v e = absurd e
   taken_wire (Masked t side) v e = absurd e
+  taken_wire (Kept place) v e = absurd e
 
   dealt_wire : (z : Slot) (v : ℕ) → Deals x z v → sets_in x z ≡ v ∷ []
   dealt_wire (Input u) v e = ap (λ w. w ∷ []) (sym e)
@@ -112,12 +113,13 @@ module _ (plan : Plan) (s p : ℕ) where
   dealt_wire (Output o) v e = absurd e
   dealt_wire (Mask t side) v e = absurd e
   dealt_wire (Masked t side) v e = absurd e
+  dealt_wire (Kept place) v e = absurd e
 
   -- a wire that an instruction sets is the one that it sets
   pub set_wire : (e : Instruction) (v i : ℕ) → SetsSummand plan p s e v i → wires_set plan s e ≡ v ∷ []
   set_wire (Draw k) v i h = taken_wire (slot plan s k) v h.0
   set_wire (Deal k d) v i h = dealt_wire (slot plan s k) v h
-  set_wire (Take n j) v i h = taken_wire (slot_of plan n) v h.0
+  set_wire (Take n j) v i h = taken_wire (taking_slot plan n) v h.0
   set_wire (Linear k) v i h = ap (λ w. w ∷ []) (sym h)
   set_wire (Sum k) v i h = ap (λ w. w ∷ []) (sym h)
   set_wire (Join k) v i h = ap (λ w. w ∷ []) (sym h)
@@ -147,6 +149,7 @@ module _ (plan : Plan) (s p : ℕ) where
     drawn_or_stays (Output o) v i = inr (λ σ. refl)
     drawn_or_stays (Mask_product t) v i = inr (λ σ. refl)
     drawn_or_stays (Masked t side) v i = inr (λ σ. refl)
+    drawn_or_stays (Kept place) v i = inr (λ σ. refl)
 
     dealt_or_stays : (z : Slot) (v i : ℕ) → Deals x z v ⊎ Stays (dealt_in plan s words input z) v i
     dealt_or_stays (Input u) v i = one_or_stays u v i (dealt_in plan s words input (Input u)) (λ σ ne. off σ.rows u v i _ ne)
@@ -155,6 +158,7 @@ module _ (plan : Plan) (s p : ℕ) where
     dealt_or_stays (Output o) v i = inr (λ σ. refl)
     dealt_or_stays (Mask t side) v i = inr (λ σ. refl)
     dealt_or_stays (Masked t side) v i = inr (λ σ. refl)
+    dealt_or_stays (Kept place) v i = inr (λ σ. refl)
 
     put_or_stays : (u j w v i : ℕ) (does : State → State) → ((σ : State) → (does σ).rows ≡ set_at σ.rows u (set_at (σ.rows u) j w)) → ((v ≡ u) × (i ≡ j)) ⊎ Stays does v i
     put_or_stays u j w v i does is = elim (cases_eq v u) [
@@ -172,6 +176,7 @@ module _ (plan : Plan) (s p : ℕ) where
     taken_or_stays (Output o) j w v i = inr (λ σ. refl)
     taken_or_stays (Mask_product t) j w v i = inr (λ σ. refl)
     taken_or_stays (Masked t side) j w v i = inr (λ σ. refl)
+    taken_or_stays (Kept place) j w v i = inr (λ σ. refl)
 
     opened_stays : (z : Slot) (v i : ℕ) → Stays (opened_in plan p s z) v i
     opened_stays (Masked t side) v i σ = refl
@@ -180,6 +185,7 @@ module _ (plan : Plan) (s p : ℕ) where
     opened_stays (Output o) v i σ = refl
     opened_stays (Mask t side) v i σ = refl
     opened_stays (Mask_product t) v i σ = refl
+    opened_stays (Kept place) v i σ = refl
 
     joined_or_stays : (k : ℕ) (z : Slot) → slot plan s k ≡ z → (v i : ℕ) → (v ≡ (gate_at plan s k).output) ⊎ Stays (joined_in plan s z) v i
     joined_or_stays k (At_gate t) e v i =
@@ -190,12 +196,13 @@ module _ (plan : Plan) (s p : ℕ) where
     joined_or_stays k (Mask t side) e v i = inr (λ σ. refl)
     joined_or_stays k (Mask_product t) e v i = inr (λ σ. refl)
     joined_or_stays k (Masked t side) e v i = inr (λ σ. refl)
+    joined_or_stays k (Kept place) e v i = inr (λ σ. refl)
 
     -- an instruction sets a summand, or leaves it as it is
     pub set_or_stays : (got : ℕ → ℕ) (e : Instruction) (v i : ℕ) → SetsSummand plan p s e v i ⊎ Stays (after plan p s words input got e) v i
     set_or_stays got (Draw k) v i = drawn_or_stays (slot plan s k) v i
     set_or_stays got (Deal k d) v i = dealt_or_stays (slot plan s k) v i
-    set_or_stays got (Take n j) v i = taken_or_stays (slot_of plan n) j (got n) v i
+    set_or_stays got (Take n j) v i = taken_or_stays (taking_slot plan n) j (got n) v i
     set_or_stays got (Linear k) v i = one_or_stays (gate_at plan s k).output v i (after plan p s words input got (Linear k)) (λ σ ne. off σ.rows (gate_at plan s k).output v i _ ne)
     set_or_stays got (Sum k) v i = one_or_stays (gate_at plan s k).output v i (after plan p s words input got (Sum k)) (λ σ ne. off σ.rows (gate_at plan s k).output v i _ ne)
     set_or_stays got (Join k) v i = joined_or_stays k (slot plan s k) refl v i
@@ -263,6 +270,7 @@ module _ (plan : Plan) (s p : ℕ) where
       draw_same k (Output o) is mask = absurd mask
       draw_same k (Mask_product t) is mask = absurd mask
       draw_same k (Masked t side) is mask = absurd mask
+      draw_same k (Kept place) is mask = absurd mask
 
       deal_same : (k d : ℕ) (z : Slot) → slot plan s k ≡ z → SameAfter (Deal k d) (dealt_in plan s words input z ρ) (dealt_in plan s words input z σ)
       deal_same k d (Input u) is = record {
@@ -280,6 +288,7 @@ module _ (plan : Plan) (s p : ℕ) where
       deal_same k d (Output o) is = record { rows = λ v i li sets l. absurd (subst (λ y. Deals x' y v) is sets); same_parts = parts }
       deal_same k d (Mask t side) is = record { rows = λ v i li sets l. absurd (subst (λ y. Deals x' y v) is sets); same_parts = parts }
       deal_same k d (Masked t side) is = record { rows = λ v i li sets l. absurd (subst (λ y. Deals x' y v) is sets); same_parts = parts }
+      deal_same k d (Kept place) is = record { rows = λ v i li sets l. absurd (subst (λ y. Deals x' y v) is sets); same_parts = parts }
 
       put_same : (u j w v i : ℕ) → v ≡ u → i ≡ j → set_at ρ.rows u (set_at (ρ.rows u) j w) v i ≡ set_at σ.rows u (set_at (σ.rows u) j w) v i
       put_same u j w v i e here = set_both ρ.rows σ.rows u v i _ _ e (set_here (ρ.rows u) j i w here ∙ sym (set_here (σ.rows u) j i w here))
@@ -290,7 +299,7 @@ module _ (plan : Plan) (s p : ℕ) where
         | inr ne ↦ set_there ρ.sums j i _ ne ∙ parts.sums i li ∙ sym (set_there σ.sums j i _ ne)
       ]
 
-      take_same : (n j w : ℕ) (z : Slot) → slot_of plan n ≡ z → SameAfter (Take n j) (took_in plan s z j w ρ) (took_in plan s z j w σ)
+      take_same : (n j w : ℕ) (z : Slot) → taking_slot plan n ≡ z → SameAfter (Take n j) (took_in plan s z j w ρ) (took_in plan s z j w σ)
       take_same n j w (Input u) is = record {
         rows = λ v i li sets l. put_same u j w v i (subst (λ y. Takes x' y v) is sets.0) sets.1;
         same_parts = record { own = parts.own; sums = parts.sums; excess = parts.excess; given = parts.given; outputs = parts.outputs };
@@ -303,6 +312,7 @@ module _ (plan : Plan) (s p : ℕ) where
       take_same n j w (Output o) is = record { rows = λ v i li sets l. absurd (subst (λ y. Takes x' y v) is sets.0); same_parts = with_sums _ _ (sums_put j w) }
       take_same n j w (Mask_product t) is = record { rows = λ v i li sets l. absurd (subst (λ y. Takes x' y v) is sets.0); same_parts = with_sums _ _ (sums_put j w) }
       take_same n j w (Masked t side) is = record { rows = λ v i li sets l. absurd (subst (λ y. Takes x' y v) is sets.0); same_parts = with_sums _ _ (sums_put j w) }
+      take_same n j w (Kept place) is = record { rows = λ v i li sets l. absurd (subst (λ y. Takes x' y v) is sets.0); same_parts = with_sums _ _ (sums_put j w) }
 
       linear_same : (k : ℕ) → ReadsByGate (Linear k) → KnownAt (Linear k) → HeldLater (Linear k) → SameAfter (Linear k) (after plan p s words input got (Linear k) ρ) (after plan p s words input got (Linear k) σ)
       linear_same k reads known held =
@@ -370,6 +380,7 @@ module _ (plan : Plan) (s p : ℕ) where
       open_same k (Output o) is known = record { rows = λ v i li sets l. absurd sets; same_parts = parts }
       open_same k (Mask t side) is known = record { rows = λ v i li sets l. absurd sets; same_parts = parts }
       open_same k (Mask_product t) is known = record { rows = λ v i li sets l. absurd sets; same_parts = parts }
+      open_same k (Kept place) is known = record { rows = λ v i li sets l. absurd sets; same_parts = parts }
 
       -- the summands of a prepared product
       joined_same : (t i : ℕ) → ρ.rows (mask_wire x' t First) i ≡ σ.rows (mask_wire x' t First) i → ρ.rows (mask_wire x' t Second) i ≡ σ.rows (mask_wire x' t Second) i → ρ.rows (product_wire x' t) i ≡ σ.rows (product_wire x' t) i
@@ -422,13 +433,14 @@ module _ (plan : Plan) (s p : ℕ) where
       deliver_same k (Mask t side) is output known = absurd output
       deliver_same k (Mask_product t) is output known = absurd output
       deliver_same k (Masked t side) is output known = absurd output
+      deliver_same k (Kept place) is output known = absurd output
 
       -- after an instruction they are the same in what it sets and is read later
       pub after_same : IsPlan plan → (e : Instruction) → Proper plan s e → ReadsByGate e → KnownAt e → HeldLater e → SameAfter e (after plan p s words input got e ρ) (after plan p s words input got e σ)
       after_same is_plan (Draw k) proper reads known held = draw_same k (slot plan s k) refl proper.kind
       after_same is_plan (Deal k d) proper reads known held = deal_same k d (slot plan s k) refl
       after_same is_plan (Post n j) proper reads known held = record { rows = λ v i li sets l. absurd sets; same_parts = parts }
-      after_same is_plan (Take n j) proper reads known held = take_same n j (got n) (slot_of plan n) refl
+      after_same is_plan (Take n j) proper reads known held = take_same n j (got n) (taking_slot plan n) refl
       after_same is_plan (Linear k) proper reads known held = linear_same k reads known held
       after_same is_plan (Own k) proper reads known held = own_same is_plan k reads known
       after_same is_plan (Sum k) proper reads known held = sum_same k known held
@@ -439,7 +451,7 @@ module _ (plan : Plan) (s p : ℕ) where
 
 -- where a take gives the word that is got
 pub after_word : (plan : Plan) (p s : ℕ) (words : ℕ → ℕ) (input w : ℕ) (got : ℕ → ℕ) (e : Instruction) (σ : State) → IsWordOf got w e → after plan p s words input (λ n. w) e σ ≡ after plan p s words input got e σ
-after_word plan p s words input w got (Take n j) σ is = ap (λ z. took_in plan s (slot_of plan n) j z σ) is
+after_word plan p s words input w got (Take n j) σ is = ap (λ z. took_in plan s (taking_slot plan n) j z σ) is
 after_word plan p s words input w got (Draw k) σ is = refl
 after_word plan p s words input w got (Deal k d) σ is = refl
 after_word plan p s words input w got (Post n j) σ is = refl

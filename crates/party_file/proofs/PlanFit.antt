@@ -1,5 +1,5 @@
 -- What a party's file without a fault gives fits the plan.
-use Rattle.std.proofs.Common.{◌≡◌, ℕ, zero, suc, ◌^◌, ◌<◌, ◌≤◌, Bool, true, false, not, nat_lt, nat_eq, List, [], ◌∷◌, length, map, drop, Option, None, Some, refl, sym, ◌∙◌, ap, subst, arith, inl, inr, length-drop}
+use Rattle.std.proofs.Common.{◌≡◌, ℕ, zero, suc, ◌^◌, ◌<◌, ◌≤◌, Bool, true, false, not, nat_lt, List, [], ◌∷◌, length, map, drop, Option, None, Some, refl, sym, ◌∙◌, ap, subst, arith, inl, inr, length-drop}
 use Rattle.std.specs.Prelude.{codes, All, sum, slice_index, slice_index_or, ◌==◌, if◌then◌else◌}
 use Rattle.std.proofs.lemmas.Bool.{eqb-true, ltb-true, ltb-false, cases_lt, not-false}
 use Rattle.std.proofs.lemmas.List.{get_or-map, length-map, get_or_past, length-take-le}
@@ -13,7 +13,8 @@ use Rattle.tape_words.specs.Cuts.{cut}
 use Rattle.tape_words.specs.Seeds.{seed_word}
 use Rattle.tape_words.proofs.SeedLists.{stream_words-inside}
 use Rattle.toml_fields.specs.Fields.{has_field, text_at, texts_at}
-use Rattle.job_session.specs.Sessions.{owners}
+use Rattle.job_session.specs.Sessions.{given_by, owners}
+use Rattle.job_session.specs.declared.source.Source.TheVariants.{Given}
 use Rattle.job_plan.specs.Plans.{Plan, session, words, gives}
 use Rattle.job_session.specs.Counts.{owned}
 use Rattle.list_laws.proofs.Totals.{total_count}
@@ -65,7 +66,7 @@ module _ (plan : Plan) (p : ℕ) (texts : List (List ℕ)) (counted : length tex
   input_sound s l = session_sound plan.bits (owned (session plan s) p) s (slice_index_or texts s []) (joined-passed (length plan.sessions) s (checks_of plan p texts) l passed)
 
   pub input_count : (s : ℕ) → s < length plan.sessions → length (slice_index_or (map numbers_in texts) s []) ≡ total (length (owners (session plan s))) (λ v. if gives plan s p v then 1 else 0)
-  input_count s l = ap length (input_at s l) ∙ (input_sound s l).0 ∙ sym (total_count (λ owner. nat_eq owner p) (owners (session plan s)) 0)
+  input_count s l = ap length (input_at s l) ∙ (input_sound s l).0 ∙ sym (total_count (given_by p) (owners (session plan s)) (Given 0))
 
   pub input_ring : (s : ℕ) → InRing plan.bits (slice_index_or (map numbers_in texts) s [])
   input_ring s = elim (cases_lt s (length plan.sessions)) [

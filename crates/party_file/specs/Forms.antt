@@ -8,8 +8,8 @@ use Rattle.party_file.specs.declared.data.PartyData.{PartyData}
 abbrev pub form_of : PartyData → PartyForm
 form_of found = record { inputs = session_words found.inputs.items; tapes = found.tapes.items }
 
--- for each session there is a word of the ring for each of the party's input wires, and a tape of as many words of the
--- ring as it draws
+-- for each session there is a word of the ring for each input wire that the party gives, and a tape of as many words of
+-- the ring as it draws
 pub record FitsPlan (plan : Plan) (p : ℕ) (form : PartyForm) : Type 0 where
   pub sessions : length form.inputs ≡ length plan.sessions
   pub counts : (s : ℕ) → s < length plan.sessions

@@ -7,10 +7,11 @@ use Rattle.secret_sharing.specs.Schemes.{has_pair}
 use Rattle.party_set.specs.Parties.{has_party}
 use Rattle.job_plan.specs.declared.pattern.Line.{Line}
 use Rattle.job_plan.specs.declared.pattern.Pattern.{Pattern}
-use Rattle.job_plan.specs.declared.pattern.Pattern.TheVariants.{Silent, Dealt, Multiplied, Opened, HandedOut, OpenedToAll, Joined}
+use Rattle.job_plan.specs.declared.pattern.Pattern.TheVariants.{Silent, Dealt, Multiplied, Opened, HandedOut, OpenedToAll, Joined, Held, Received}
 use Rattle.job_plan.specs.Plans.{Plan, holds, least_holder, scheme}
-use Rattle.job_plan.specs.Patterns.{deal_line, deal_lines, open_lines, lines}
+use Rattle.job_plan.specs.Patterns.{deal_line, deal_lines, held_line, open_lines, lines}
 use Rattle.job_plan.specs.Sound.{IsSound}
+use Rattle.party_program.specs.PartySteps.{taken_lines}
 
 only_few : (b : Bool) (xs : List Line) (n : ℕ) → length xs ≤ n → length (only_if b xs) ≤ n
 only_few true xs n l = l
@@ -43,6 +44,9 @@ module _ (plan : Plan) (sound : IsSound plan) where
   open_few : (r : ℕ) → length (open_lines plan r) ≤ 64
   open_few r = joined_few (length plan.groups) 64 1 _ sound.groups (λ i. only_few (not (holds plan r i)) (record { share = i; sender = least_holder plan i; receiver = r } ∷ []) 1 (omega arith))
 
+  pub held_few : length (lines plan Held) ≤ 768
+  held_few = joined_few (length plan.groups) 64 12 (λ i. joined plan.parties (held_line plan i)) sound.groups (λ i. joined_few plan.parties 12 1 (held_line plan i) sound.parties (λ p. only_few (holds plan p i) (record { share = i; sender = p; receiver = p } ∷ []) 1 (omega arith)))
+
   pub few_lines : (pattern : Pattern) → length (lines plan pattern) ≤ 9216
   few_lines Silent = omega arith
   few_lines (Dealt p) = let few = deal_few p in omega arith
@@ -51,3 +55,16 @@ module _ (plan : Plan) (sound : IsSound plan) where
   few_lines HandedOut = let few = joined_few (length plan.groups) 64 12 (λ i. joined plan.parties (deal_line plan (least_holder plan i) i)) sound.groups (λ i. summand_few (least_holder plan i) i) in omega arith
   few_lines OpenedToAll = let few = joined_few plan.parties 12 64 (open_lines plan) sound.parties open_few in omega arith
   few_lines Joined = omega arith
+  few_lines Held = let few = held_few in omega arith
+  few_lines Received = omega arith
+
+  pub few_taken : (pattern : Pattern) → length (taken_lines plan pattern) ≤ 9216
+  few_taken Silent = omega arith
+  few_taken (Dealt p) = few_lines (Dealt p)
+  few_taken Multiplied = few_lines Multiplied
+  few_taken (Opened readers) = few_lines (Opened readers)
+  few_taken HandedOut = few_lines HandedOut
+  few_taken OpenedToAll = few_lines OpenedToAll
+  few_taken Joined = omega arith
+  few_taken Held = omega arith
+  few_taken Received = few_lines Held

@@ -12,12 +12,15 @@ use Rattle.job_plan.specs.declared.key.Key.{Key}
 use Rattle.job_plan.specs.declared.pattern.Line.{Line}
 use Rattle.job_plan.specs.declared.pattern.Pattern.{Pattern}
 use Rattle.job_plan.specs.declared.pattern.Pattern.TheVariants.{Silent, Multiplied, Joined}
-use Rattle.job_session.specs.Sessions.{Slot, gate}
-use Rattle.job_plan.specs.Plans.{Plan, scheme, session, slot, slots, gives, opens_to, least_held}
-use Rattle.job_session.specs.Sessions.Slot.{Input, At_gate, Output, Mask, Mask_product, Masked}
+use Rattle.job_session.specs.declared.source.Source.{Source}
+use Rattle.job_session.specs.declared.source.Source.TheVariants.{Given, Carried}
+use Rattle.job_session.specs.Sessions.{Slot, gate, given_by, source}
+use Rattle.job_plan.specs.Plans.{IsPlan, Plan, keeping_slot, scheme, session, slot, slots, opens_to, least_held}
+use Rattle.job_session.specs.Sessions.Slot.{Input, At_gate, Output, Mask, Mask_product, Masked, Kept}
 use Rattle.job_plan.specs.Numbers.{message, no_key, deals_before}
 use Rattle.job_plan.specs.Firsts.{count, first, numbers}
-use Rattle.job_plan.specs.Patterns.{named, lines, pattern, pattern_at}
+use Rattle.job_plan.specs.Patterns.{input_pattern, named, lines, pattern, pattern_at}
+use Rattle.job_plan.proofs.KeptPlaces.{kept_in}
 use Rattle.job_plan.proofs.SlotMessages.{message_at}
 use Rattle.job_plan.proofs.SlotPatterns.{map_only_if, slots_follow_patterns}
 use Rattle.party_program.specs.declared.half.Half.{Half}
@@ -27,7 +30,7 @@ use Rattle.party_program.specs.declared.program.Instruction.TheVariants as instr
 use Rattle.party_program.specs.declared.step.Step.{Step}
 use Rattle.party_program.specs.declared.step.Step.TheVariants.{Draw, Deal, Own, Deliver}
 use Rattle.party_program.specs.Programs as programs
-use Rattle.party_program.specs.PartySteps.{steps_before, steps_after, post_steps, take_steps, post_step, take_step, is_from, is_to, steps, placed}
+use Rattle.party_program.specs.PartySteps.{steps_before, steps_after, post_steps, take_steps, post_step, take_step, is_from, is_to, steps, taken_lines, placed}
 
 map_map : {A B C : Type 0} (f : B → C) (g : A → B) (xs : List A) → map f (map g xs) ≡ map (λ x. f (g x)) xs
 map_map f g [] = refl
@@ -59,9 +62,10 @@ passing f test g check a j (l ∷ ls) h =
 abbrev pub gate_pattern : Bool → Bool → Pattern
 gate_pattern prepared product = if not prepared && product then Multiplied else if prepared && product then Joined else Silent
 
-module _ (plan : Plan) (p s k : ℕ) where
+-- in slot k, where the first message that is posted or taken has this number
+module _ (plan : Plan) (p s k number : ℕ) where
   abbrev place : Step → Instruction
-  place = placed k (first plan s k) (deals_before plan p s k)
+  place = placed k number (deals_before plan p s k)
 
   dealt_product : only_if (has_pair (scheme plan) p) (instruction.Own k ∷ instruction.Deal k (deals_before plan p s k) ∷ []) ≡ map place (steps_before plan p Multiplied)
   dealt_product = sym (map_only_if place (has_pair (scheme plan) p) (Own ∷ Deal ∷ []))
@@ -75,12 +79,17 @@ module _ (plan : Plan) (p s k : ℕ) where
   before_gate false false = refl
 
   opening_is : (z : Slot) → programs.opening plan p s k z ≡ map place (steps_before plan p (pattern plan s z))
-  opening_is (Input v) = sym (map_only_if place (gives plan s p v) (Deal ∷ []))
+  opening_is (Input v) = of_input (source (session plan s) v)
+    where
+      of_input : (from : Source) → only_if (given_by p from) (instruction.Deal k (deals_before plan p s k) ∷ []) ≡ map place (steps_before plan p (input_pattern from))
+      of_input (Given q) = sym (map_only_if place (nat_eq q p) (Deal ∷ []))
+      of_input (Carried r c i) = refl
   opening_is (At_gate t) = before_gate (session plan s).prepared (is_product (gate (session plan s) t).operation)
   opening_is (Output o) = refl
   opening_is (Mask t side) = sym (map_only_if place (nat_lt 0 (least_held plan p (length plan.groups))) (Draw ∷ []))
   opening_is (Mask_product t) = dealt_product
   opening_is (Masked t side) = refl
+  opening_is (Kept j) = refl
 
   after_gate : (prepared product : Bool) → only_if (not prepared && product) (instruction.Sum k ∷ []) ++ only_if (prepared && product) (instruction.Join k ∷ [])
       ≡ map place (steps_after p (gate_pattern prepared product))
@@ -90,44 +99,112 @@ module _ (plan : Plan) (p s k : ℕ) where
   after_gate false false = refl
 
   closing_is : (z : Slot) → programs.closing plan p s k z ≡ map place (steps_after p (pattern plan s z))
-  closing_is (Input v) = refl
+  closing_is (Input v) = of_input (source (session plan s) v)
+    where
+      of_input : (from : Source) → [] ≡ map place (steps_after p (input_pattern from))
+      of_input (Given q) = refl
+      of_input (Carried r c i) = refl
   closing_is (At_gate t) = after_gate (session plan s).prepared (is_product (gate (session plan s) t).operation)
   closing_is (Output o) = sym (map_only_if place (opens_to plan s p (Output o)) (Deliver ∷ []))
   closing_is (Mask t side) = refl
   closing_is (Mask_product t) = refl
   closing_is (Masked t side) = refl
+  closing_is (Kept j) = refl
 
-  module _ (ls : s < length plan.sessions) (lk : k < slots plan s) where
-    abbrev its : Pattern
-    its = pattern_at plan s k
+-- the messages of slot m of session r, as they are posted or taken in slot k, where so many deals stand before
+module _ (plan : Plan) (p r m k deals : ℕ) (lr : r < length plan.sessions) (lm : m < slots plan r) where
+  abbrev named_there : Step → Instruction
+  named_there = placed k (first plan r m) deals
 
-    pub length-lines : count plan s k ≡ length (lines plan its)
-    length-lines = ap length (slots_follow_patterns plan s k (slot plan s k)) ∙ length-map (lines plan its) (named s k)
+  abbrev there : Pattern
+  there = pattern_at plan r m
 
-    -- the message of a line
-    line_is : (i n : ℕ) (d : Line) → i < length (lines plan its) → n ≡ first plan s k + i → message plan n ≡ named s k (slice_index_or (lines plan its) i d)
-    line_is i n d l e =
-        ap (message plan) e
-        ∙ message_at plan s k ls lk i (let long = length-lines in omega arith)
-        ∙ ap (λ xs. slice_index_or xs i no_key) (slots_follow_patterns plan s k (slot plan s k))
-        ∙ get_or-map (named s k) (lines plan its) i d no_key l
+  pub length-lines : count plan r m ≡ length (lines plan there)
+  length-lines = ap length (slots_follow_patterns plan r m (slot plan r m)) ∙ length-map (lines plan there) (named r m)
 
-    numbers_are : (f : ℕ → Instruction) (test : ℕ → Bool) (g : ℕ × Line → Step) (check : ℕ × Line → Bool)
-        → ((n m : ℕ) (x : Line) → n ≡ first plan s k + m → message plan n ≡ named s k x → (test n ≡ check (m, x)) × (f n ≡ place (g (m, x))))
-        → map f (filter test (numbers plan s k)) ≡ map place (map g (filter check (enumerate_from 0 (lines plan its))))
-    numbers_are f test g check h =
-        let none : first plan s k + 0 ≡ first plan s k = omega arith in
-        ap (λ z. map f (filter test (range_with_len (first plan s k) z))) length-lines
-        ∙ ap (λ z. map f (filter test (range_with_len z (length (lines plan its))))) (sym none)
-        ∙ passing f test (λ e. place (g e)) check (first plan s k) 0 (lines plan its) (λ i n m d l e o. h n m (slice_index_or (lines plan its) i d) (omega arith) (line_is i n d l (omega arith)))
-        ∙ sym (map_map place g (filter check (enumerate_from 0 (lines plan its))))
+  -- the message of a line
+  line_is : (i n : ℕ) (d : Line) → i < length (lines plan there) → n ≡ first plan r m + i → message plan n ≡ named r m (slice_index_or (lines plan there) i d)
+  line_is i n d l e =
+      ap (message plan) e
+      ∙ message_at plan r m lr lm i (let long = length-lines in omega arith)
+      ∙ ap (λ xs. slice_index_or xs i no_key) (slots_follow_patterns plan r m (slot plan r m))
+      ∙ get_or-map (named r m) (lines plan there) i d no_key l
 
-    posts_are : programs.posts plan p s k ≡ map place (post_steps plan p its)
-    posts_are = numbers_are (programs.post plan) (programs.from plan p) post_step (is_from p) (λ n m x e is. (ap (λ (key : Key). nat_eq key.sender p) is, ap₂ instruction.Post e (ap (λ (key : Key). key.share) is)))
+  numbers_are : (f : ℕ → Instruction) (test : ℕ → Bool) (g : ℕ × Line → Step) (check : ℕ × Line → Bool)
+      → ((n j : ℕ) (x : Line) → n ≡ first plan r m + j → message plan n ≡ named r m x → (test n ≡ check (j, x)) × (f n ≡ named_there (g (j, x))))
+      → map f (filter test (numbers plan r m)) ≡ map named_there (map g (filter check (enumerate_from 0 (lines plan there))))
+  numbers_are f test g check h =
+      let none : first plan r m + 0 ≡ first plan r m = omega arith in
+      ap (λ z. map f (filter test (range_with_len (first plan r m) z))) length-lines
+      ∙ ap (λ z. map f (filter test (range_with_len z (length (lines plan there))))) (sym none)
+      ∙ passing f test (λ e. named_there (g e)) check (first plan r m) 0 (lines plan there) (λ i n j d l e o. h n j (slice_index_or (lines plan there) i d) (omega arith) (line_is i n d l (omega arith)))
+      ∙ sym (map_map named_there g (filter check (enumerate_from 0 (lines plan there))))
 
-    takes_are : programs.takes plan p s k ≡ map place (take_steps plan p its)
-    takes_are = numbers_are (programs.take_of plan) (programs.to plan p) take_step (is_to p) (λ n m x e is. (ap (λ (key : Key). nat_eq key.receiver p) is, ap₂ instruction.Take e (ap (λ (key : Key). key.share) is)))
+  posts_there : map (programs.post plan) (filter (programs.from plan p) (numbers plan r m)) ≡ map named_there (post_steps plan p there)
+  posts_there = numbers_are (programs.post plan) (programs.from plan p) post_step (is_from p) (λ n j x e is. (ap (λ (key : Key). nat_eq key.sender p) is, ap₂ instruction.Post e (ap (λ (key : Key). key.share) is)))
 
-    pub half_program_follows : (half : Half) → programs.half_program plan p s half k ≡ map place (steps plan p half its)
-    half_program_follows Head = ap₂ (λ x y. x ++ y) (opening_is (slot plan s k)) posts_are ∙ sym (map-append place (steps_before plan p its) (post_steps plan p its))
-    half_program_follows Tail = ap₂ (λ x y. x ++ y) takes_are (closing_is (slot plan s k)) ∙ sym (map-append place (take_steps plan p its) (steps_after p its))
+  takes_there : map (programs.take_of plan) (filter (programs.to plan p) (numbers plan r m)) ≡ map named_there (map take_step (filter (is_to p) (enumerate_from 0 (lines plan there))))
+  takes_there = numbers_are (programs.take_of plan) (programs.to plan p) take_step (is_to p) (λ n j x e is. (ap (λ (key : Key). nat_eq key.receiver p) is, ap₂ instruction.Take e (ap (λ (key : Key). key.share) is)))
+
+module _ (plan : Plan) (p s k : ℕ) (is : IsPlan plan) (ls : s < length plan.sessions) (lk : k < slots plan s) where
+  abbrev its : Pattern
+  its = pattern_at plan s k
+
+  abbrev deals : ℕ
+  deals = deals_before plan p s k
+
+  abbrev own : Step → Instruction
+  own = placed k (first plan s k) deals
+
+  -- the posts, for a slot that is of this
+  posts_of : (z : Slot) → slot plan s k ≡ z → programs.posts plan p s k ≡ map own (post_steps plan p (pattern plan s z))
+  posts_of z e = posts_there plan p s k k deals ls lk ∙ ap (λ z. map own (post_steps plan p (pattern plan s z))) e
+
+  posts_are : (z : Slot) → slot plan s k ≡ z → programs.posts plan p s k ≡ map (placed k (programs.first_in plan s k z) deals) (post_steps plan p (pattern plan s z))
+  posts_are (Input v) e = posts_of (Input v) e ∙ of_input (source (session plan s) v)
+    where
+      of_input : (from : Source) → map own (post_steps plan p (input_pattern from)) ≡ map (placed k (programs.first_of_input plan s k v from) deals) (post_steps plan p (input_pattern from))
+      of_input (Given q) = refl
+      of_input (Carried r c i) = refl
+  posts_are (At_gate t) e = posts_of (At_gate t) e
+  posts_are (Output o) e = posts_of (Output o) e
+  posts_are (Mask t side) e = posts_of (Mask t side) e
+  posts_are (Mask_product t) e = posts_of (Mask_product t) e
+  posts_are (Masked t side) e = posts_of (Masked t side) e
+  posts_are (Kept j) e = posts_of (Kept j) e
+
+  -- the takes of its own messages
+  takes_of : (z : Slot) → slot plan s k ≡ z → map (programs.take_of plan) (filter (programs.to plan p) (numbers plan s k)) ≡ map own (map take_step (filter (is_to p) (enumerate_from 0 (lines plan (pattern plan s z)))))
+  takes_of z e = takes_there plan p s k k deals ls lk ∙ ap (λ z. map own (map take_step (filter (is_to p) (enumerate_from 0 (lines plan (pattern plan s z)))))) e
+
+  gate_taken : (prepared product : Bool) → lines plan (gate_pattern prepared product) ≡ taken_lines plan (gate_pattern prepared product)
+  gate_taken true true = refl
+  gate_taken true false = refl
+  gate_taken false true = refl
+  gate_taken false false = refl
+
+  -- those of an input, which may be carried
+  of_source : (v : ℕ) → slot plan s k ≡ Input v → (from : Source) → source (session plan s) v ≡ from
+      → map (programs.take_of plan) (filter (programs.to plan p) (programs.input_taken plan s k v from)) ≡ map (placed k (programs.first_of_input plan s k v from) deals) (take_steps plan p (input_pattern from))
+  of_source v e (Given q) same = takes_of (Input v) e ∙ ap (λ from. map own (map take_step (filter (is_to p) (enumerate_from 0 (lines plan (input_pattern from)))))) same
+  of_source v e (Carried r c i) same =
+      let at = kept_in plan is s v r c i same in
+      let m = keeping_slot plan s v r in
+      takes_there plan p r m k deals (omega (arith, at.earlier, at.session_there)) at.slot_there
+      ∙ ap (λ z. map (placed k (first plan r m) deals) (map take_step (filter (is_to p) (enumerate_from 0 (lines plan (pattern plan r z)))))) at.slot_is
+
+  takes_are : (z : Slot) → slot plan s k ≡ z → map (programs.take_of plan) (filter (programs.to plan p) (programs.taken_in plan s k z)) ≡ map (placed k (programs.first_in plan s k z) deals) (take_steps plan p (pattern plan s z))
+  takes_are (Input v) e = of_source v e (source (session plan s) v) refl
+  takes_are (At_gate t) e = takes_of (At_gate t) e ∙ ap (λ rows. map own (map take_step (filter (is_to p) (enumerate_from 0 rows)))) (gate_taken (session plan s).prepared (is_product (gate (session plan s) t).operation))
+  takes_are (Output o) e = takes_of (Output o) e
+  takes_are (Mask t side) e = takes_of (Mask t side) e
+  takes_are (Mask_product t) e = takes_of (Mask_product t) e
+  takes_are (Masked t side) e = takes_of (Masked t side) e
+  takes_are (Kept j) e = refl
+
+  abbrev placed_here : Step → Instruction
+  placed_here = placed k (programs.first_named plan s k) deals
+
+  pub half_program_follows : (half : Half) → programs.half_program plan p s half k ≡ map placed_here (steps plan p half its)
+  half_program_follows Head = ap₂ (λ x y. x ++ y) (opening_is plan p s k (programs.first_named plan s k) (slot plan s k)) (posts_are (slot plan s k) refl) ∙ sym (map-append placed_here (steps_before plan p its) (post_steps plan p its))
+  half_program_follows Tail = ap₂ (λ x y. x ++ y) (takes_are (slot plan s k) refl) (closing_is plan p s k (programs.first_named plan s k) (slot plan s k)) ∙ sym (map-append placed_here (take_steps plan p its) (steps_after p its))

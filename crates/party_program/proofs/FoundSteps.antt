@@ -3,7 +3,7 @@ use Rattle.std.proofs.Common.{◌≡◌, ℕ, ◌+◌, ◌-◌, ◌<◌, ◌^◌
 use Rattle.std.specs.Prelude.{slice_index_or}
 use Rattle.std.proofs.lemmas.Bool.{cases_lt}
 use Rattle.job_plan.specs.Plans.{Plan, slots}
-use Rattle.job_plan.specs.Firsts.{first}
+use Rattle.job_plan.proofs.PlanSchemes.{plan_is}
 use Rattle.job_plan.specs.Numbers.{deals_before}
 use Rattle.job_plan.specs.Patterns.{pattern_at}
 use Rattle.job_plan.specs.declared.pattern.Pattern.{Pattern}
@@ -13,7 +13,7 @@ use Rattle.party_program.specs.declared.program.Program.{Program}
 use Rattle.party_program.specs.declared.program.Instruction.TheVariants.{End}
 use Rattle.party_program.specs.declared.step.Step.{Step}
 use Rattle.party_program.specs.declared.step.Step.TheVariants.{Draw}
-use Rattle.party_program.specs.Programs.{half_program}
+use Rattle.party_program.specs.Programs.{first_named, half_program}
 use Rattle.party_program.specs.PartySteps.{steps, placed, IsPlaced}
 use Rattle.party_program.specs.ProgramPlaces.{instructions_before, halves_before, count_in, OccursIn, IsProgram}
 use Rattle.party_program.proofs.ProgramPlaces.{before_more, both_before, count_at, length-half, step_fits, step_is}
@@ -41,7 +41,7 @@ module _ (plan : Plan) (own : Program) (is : IsProgram plan own.party own.sessio
   -- a count that was told for the pattern is that of the half's instructions
   module _ (count : ℕ) (told : 0 < count → count ≡ length (steps plan own.party half its)) where
     pub told_many : 0 < count → count ≡ length (half_program plan own.party own.session half k)
-    told_many some = told some ∙ ap (λ pattern. length (steps plan own.party half pattern)) same ∙ sym (length-half plan own.party own.session half k is.session_there lk)
+    told_many some = told some ∙ ap (λ pattern. length (steps plan own.party half pattern)) same ∙ sym (length-half plan own.party own.session half k (plan_is plan is.sound) is.session_there lk)
 
     pub told_few : count < 4294967296
     told_few = elim (cases_lt 0 count) [
@@ -57,7 +57,7 @@ module _ (plan : Plan) (own : Program) (is : IsProgram plan own.party own.sessio
     are = of ∙ ap (steps plan own.party half) same
 
     pub as_many : length found ≡ length (half_program plan own.party own.session half k)
-    as_many = ap (length {A = Step}) are ∙ sym (length-half plan own.party own.session half k is.session_there lk)
+    as_many = ap (length {A = Step}) are ∙ sym (length-half plan own.party own.session half k (plan_is plan is.sound) is.session_there lk)
 
     pub counted : length found ≡ count_in plan own.party own.session half k
     counted = as_many ∙ sym (count_at plan own.party own.session half k lk)
@@ -72,10 +72,10 @@ module _ (plan : Plan) (own : Program) (is : IsProgram plan own.party own.sessio
       within : i < length (steps plan own.party half (pattern_at plan own.session k))
       within = subst (λ (xs : List Step). i < length xs) are found_within
 
-      pub fits : IsPlaced (2 ^ 32 - first plan own.session k) (slice_index_or found i Draw)
-      fits = subst (λ xs. IsPlaced (2 ^ 32 - first plan own.session k) (slice_index_or xs i Draw)) (sym are) (step_fits plan own.party own.session half k is.session_there lk i Draw is.sound within)
+      pub fits : IsPlaced (2 ^ 32 - first_named plan own.session k) (slice_index_or found i Draw)
+      fits = subst (λ xs. IsPlaced (2 ^ 32 - first_named plan own.session k) (slice_index_or xs i Draw)) (sym are) (step_fits plan own.party own.session half k (plan_is plan is.sound) is.session_there lk i Draw is.sound within)
 
-      pub instruction : placed k (first plan own.session k) (deals_before plan own.party own.session k) (slice_index_or found i Draw) ≡ slice_index_or (half_program plan own.party own.session half k) i End
+      pub instruction : placed k (first_named plan own.session k) (deals_before plan own.party own.session k) (slice_index_or found i Draw) ≡ slice_index_or (half_program plan own.party own.session half k) i End
       instruction =
-          ap (λ xs. placed k (first plan own.session k) (deals_before plan own.party own.session k) (slice_index_or xs i Draw)) are
-          ∙ sym (step_is plan own.party own.session half k is.session_there lk i Draw within)
+          ap (λ xs. placed k (first_named plan own.session k) (deals_before plan own.party own.session k) (slice_index_or xs i Draw)) are
+          ∙ sym (step_is plan own.party own.session half k (plan_is plan is.sound) is.session_there lk i Draw within)

@@ -9,10 +9,9 @@ use Rattle.secret_sharing.specs.Schemes.{has_pair}
 use Rattle.party_set.specs.Parties.{has_party}
 use Rattle.job_plan.specs.declared.pattern.Line.{Line}
 use Rattle.job_plan.specs.declared.pattern.Pattern.{Pattern}
-use Rattle.job_plan.specs.declared.pattern.Pattern.TheVariants.{Silent, Dealt, Multiplied, Opened, HandedOut, OpenedToAll, Joined}
-use Rattle.job_plan.specs.Plans.{Plan, scheme, slots, least_held}
+use Rattle.job_plan.specs.declared.pattern.Pattern.TheVariants.{Silent, Dealt, Multiplied, Opened, HandedOut, OpenedToAll, Joined, Held, Received}
+use Rattle.job_plan.specs.Plans.{IsPlan, Plan, scheme, slots, least_held}
 use Rattle.job_plan.specs.Numbers.{deals_before}
-use Rattle.job_plan.specs.Firsts.{first}
 use Rattle.job_plan.specs.Patterns.{lines}
 use Rattle.job_plan.proofs.DistinctMessages.{every_place}
 use Rattle.party_program.specs.declared.half.Half.{Half}
@@ -22,8 +21,8 @@ use Rattle.party_program.specs.declared.program.Instruction.{Instruction}
 use Rattle.party_program.specs.declared.program.Instruction.TheVariants as instruction
 use Rattle.party_program.specs.declared.step.Step.{Step}
 use Rattle.party_program.specs.declared.step.Step.TheVariants.{Draw, Deal, Own, Post, Take, Linear, Sum, Open, Join, Deliver}
-use Rattle.party_program.specs.Programs.{program, at}
-use Rattle.party_program.specs.PartySteps.{steps_before, steps_after, post_steps, take_steps, post_step, take_step, is_from, is_to, steps, placed}
+use Rattle.party_program.specs.Programs.{first_named, program, at}
+use Rattle.party_program.specs.PartySteps.{steps_before, steps_after, post_steps, take_steps, post_step, take_step, is_from, is_to, steps, taken_lines, placed}
 use Rattle.party_program.specs.ProgramPlaces.{IsPlace}
 use Rattle.party_program.proofs.ProgramPlaces.{count_at, ends_there, in_slot, instruction_is, length-half, step_is}
 
@@ -56,7 +55,7 @@ module _ (plan : Plan) (p : ℕ) where
     every_post pattern = every_map P post_step (filter (is_from p) (enumerate_from 0 (lines plan pattern))) (λ y. of_post y.1.share y.0)
 
     every_take : (pattern : Pattern) → AllByRecursion P (take_steps plan p pattern)
-    every_take pattern = every_map P take_step (filter (is_to p) (enumerate_from 0 (lines plan pattern))) (λ y. of_take y.1.share y.0)
+    every_take pattern = every_map P take_step (filter (is_to p) (enumerate_from 0 (taken_lines plan pattern))) (λ y. of_take y.1.share y.0)
 
     every_step : (half : Half) (pattern : Pattern) → AllByRecursion P (steps_before plan p pattern) → AllByRecursion P (steps_after p pattern) → AllByRecursion P (steps plan p half pattern)
     every_step Head pattern h h' = every_append P (steps_before plan p pattern) (post_steps plan p pattern) h (every_post pattern)
@@ -79,6 +78,8 @@ module _ (plan : Plan) (p : ℕ) where
   linear_silent half HandedOut i d l is = absurd (not_in NotLinear half HandedOut i d Linear (every_step NotLinear (λ a b. tt) (λ a b. tt) half HandedOut (none_if NotLinear (nat_lt 0 (least_held plan p (length plan.groups))) (Draw ∷ []) (tt, tt)) tt) l is (λ z. z))
   linear_silent half OpenedToAll i d l is = absurd (not_in NotLinear half OpenedToAll i d Linear (every_step NotLinear (λ a b. tt) (λ a b. tt) half OpenedToAll tt (tt, tt)) l is (λ z. z))
   linear_silent half Joined i d l is = absurd (not_in NotLinear half Joined i d Linear (every_step NotLinear (λ a b. tt) (λ a b. tt) half Joined tt (tt, tt)) l is (λ z. z))
+  linear_silent half Held i d l is = absurd (not_in NotLinear half Held i d Linear (every_step NotLinear (λ a b. tt) (λ a b. tt) half Held tt tt) l is (λ z. z))
+  linear_silent half Received i d l is = absurd (not_in NotLinear half Received i d Linear (every_step NotLinear (λ a b. tt) (λ a b. tt) half Received tt tt) l is (λ z. z))
 
   -- a sum is the last step of the tail of a product
   sum_is_last : (half : Half) (pattern : Pattern) (i : ℕ) (d : Step) → i < length (steps plan p half pattern) → slice_index_or (steps plan p half pattern) i d ≡ Sum
@@ -98,6 +99,8 @@ module _ (plan : Plan) (p : ℕ) where
   sum_is_last half HandedOut i d l is = absurd (not_in NotSum half HandedOut i d Sum (every_step NotSum (λ a b. tt) (λ a b. tt) half HandedOut (none_if NotSum (nat_lt 0 (least_held plan p (length plan.groups))) (Draw ∷ []) (tt, tt)) tt) l is (λ z. z))
   sum_is_last half OpenedToAll i d l is = absurd (not_in NotSum half OpenedToAll i d Sum (every_step NotSum (λ a b. tt) (λ a b. tt) half OpenedToAll tt (tt, tt)) l is (λ z. z))
   sum_is_last half Joined i d l is = absurd (not_in NotSum half Joined i d Sum (every_step NotSum (λ a b. tt) (λ a b. tt) half Joined tt (tt, tt)) l is (λ z. z))
+  sum_is_last half Held i d l is = absurd (not_in NotSum half Held i d Sum (every_step NotSum (λ a b. tt) (λ a b. tt) half Held tt tt) l is (λ z. z))
+  sum_is_last half Received i d l is = absurd (not_in NotSum half Received i d Sum (every_step NotSum (λ a b. tt) (λ a b. tt) half Received tt tt) l is (λ z. z))
 
   -- an own product is the first step of a product
   own_first : (b : Bool) (i : ℕ) (d : Step) → i < length (only_if b (Own ∷ Deal ∷ []) ++ post_steps plan p Multiplied) → slice_index_or (only_if b (Own ∷ Deal ∷ []) ++ post_steps plan p Multiplied) i d ≡ Own → (i ≡ 0) × (b ≡ true)
@@ -117,6 +120,8 @@ module _ (plan : Plan) (p : ℕ) where
   own_is_first half HandedOut i d l is = absurd (not_in NotOwn half HandedOut i d Own (every_step NotOwn (λ a b. tt) (λ a b. tt) half HandedOut (none_if NotOwn (nat_lt 0 (least_held plan p (length plan.groups))) (Draw ∷ []) (tt, tt)) tt) l is (λ z. z))
   own_is_first half OpenedToAll i d l is = absurd (not_in NotOwn half OpenedToAll i d Own (every_step NotOwn (λ a b. tt) (λ a b. tt) half OpenedToAll tt (tt, tt)) l is (λ z. z))
   own_is_first half Joined i d l is = absurd (not_in NotOwn half Joined i d Own (every_step NotOwn (λ a b. tt) (λ a b. tt) half Joined tt (tt, tt)) l is (λ z. z))
+  own_is_first half Held i d l is = absurd (not_in NotOwn half Held i d Own (every_step NotOwn (λ a b. tt) (λ a b. tt) half Held tt tt) l is (λ z. z))
+  own_is_first half Received i d l is = absurd (not_in NotOwn half Received i d Own (every_step NotOwn (λ a b. tt) (λ a b. tt) half Received tt tt) l is (λ z. z))
 
 -- only steps of its kind become an instruction
 module _ (k first deals j : ℕ) where
@@ -157,7 +162,7 @@ module _ (k first deals j : ℕ) where
   is_own Deliver is = absurd cc
 
 -- a place tells by its half, its pattern and what is done which instruction of a gate may stand there
-module _ (plan : Plan) (p s : ℕ) (ls : s < length plan.sessions) (place : Place) (q : ℕ) (here : IsPlace plan p s place q) where
+module _ (plan : Plan) (p s : ℕ) (is : IsPlan plan) (ls : s < length plan.sessions) (place : Place) (q : ℕ) (here : IsPlace plan p s place q) where
   -- an instruction but the end is one of its slot
   some_left : (i : Instruction) → at (program plan p s) q ≡ i → i ≢ instruction.End → place.done < place.count
   some_left i is other = elim (cases_lt place.done place.count) [
@@ -174,34 +179,34 @@ module _ (plan : Plan) (p s : ℕ) (ls : s < length plan.sessions) (place : Plac
 
     count_is : place.count ≡ length (steps plan p place.half place.pattern)
     count_is =
-        here.count ∙ count_at plan p s place.half place.slot there ∙ length-half plan p s place.half place.slot ls there
+        here.count ∙ count_at plan p s place.half place.slot there ∙ length-half plan p s place.half place.slot is ls there
         ∙ ap (λ pattern. length (steps plan p place.half pattern)) (sym (here.pattern there))
 
     short : place.done < length (steps plan p place.half place.pattern)
     short = let all = count_is in omega (arith, some, all)
 
-    made_here : at (program plan p s) q ≡ placed place.slot (first plan s place.slot) (deals_before plan p s place.slot) step_at
+    made_here : at (program plan p s) q ≡ placed place.slot (first_named plan s place.slot) (deals_before plan p s place.slot) step_at
     made_here =
         instruction_is plan p s place q here some
-        ∙ step_is plan p s place.half place.slot ls there place.done Deal (subst (λ pattern. place.done < length (steps plan p place.half pattern)) (here.pattern there) short)
-        ∙ ap (λ pattern. placed place.slot (first plan s place.slot) (deals_before plan p s place.slot) (slice_index_or (steps plan p place.half pattern) place.done Deal)) (sym (here.pattern there))
+        ∙ step_is plan p s place.half place.slot is ls there place.done Deal (subst (λ pattern. place.done < length (steps plan p place.half pattern)) (here.pattern there) short)
+        ∙ ap (λ pattern. placed place.slot (first_named plan s place.slot) (deals_before plan p s place.slot) (slice_index_or (steps plan p place.half pattern) place.done Deal)) (sym (here.pattern there))
 
   pub linear_place : (k : ℕ) → at (program plan p s) q ≡ instruction.Linear k → (place.half ≡ Head) × (place.pattern ≡ Silent)
   linear_place k is =
       let some = some_left (instruction.Linear k) is (λ z. cc) in
       linear_silent plan p place.half place.pattern place.done Deal (short some)
-      (is_linear place.slot (first plan s place.slot) (deals_before plan p s place.slot) k (step_at some) (sym (made_here some) ∙ is))
+      (is_linear place.slot (first_named plan s place.slot) (deals_before plan p s place.slot) k (step_at some) (sym (made_here some) ∙ is))
 
   pub sum_place : (k : ℕ) → at (program plan p s) q ≡ instruction.Sum k → (place.half ≡ Tail) × (place.pattern ≡ Multiplied) × (place.done + 1 ≡ place.count)
   sum_place k is =
       let some = some_left (instruction.Sum k) is (λ z. cc) in
       let last = sum_is_last plan p place.half place.pattern place.done Deal (short some)
-      (is_sum place.slot (first plan s place.slot) (deals_before plan p s place.slot) k (step_at some) (sym (made_here some) ∙ is)) in
+      (is_sum place.slot (first_named plan s place.slot) (deals_before plan p s place.slot) k (step_at some) (sym (made_here some) ∙ is)) in
       (last.0, last.1, last.2 ∙ sym (count_is some))
 
   pub own_place : (k : ℕ) → at (program plan p s) q ≡ instruction.Own k → (place.half ≡ Head) × (place.pattern ≡ Multiplied) × (place.done ≡ 0) × (0 < place.count) × (has_pair (scheme plan) p ≡ true)
   own_place k is =
       let some = some_left (instruction.Own k) is (λ z. cc) in
       let first' = own_is_first plan p place.half place.pattern place.done Deal (short some)
-      (is_own place.slot (first plan s place.slot) (deals_before plan p s place.slot) k (step_at some) (sym (made_here some) ∙ is)) in
+      (is_own place.slot (first_named plan s place.slot) (deals_before plan p s place.slot) k (step_at some) (sym (made_here some) ∙ is)) in
       (first'.0, first'.1, first'.2, omega (arith, some), first'.3)

@@ -4,14 +4,16 @@ use Rattle.circuit_model.specs.Circuits.{is_product}
 use Rattle.secret_sharing.specs.Schemes.{has_pair}
 use Rattle.job_plan.specs.declared.pattern.Pattern.{Pattern}
 use Rattle.job_plan.specs.declared.pattern.Pattern.TheVariants.{Opened}
-use Rattle.job_session.specs.Sessions.{Slot, gate, readers_of}
-use Rattle.job_session.specs.SlotNumbers.{session_slot_number}
+use Rattle.job_session.specs.declared.source.Source.{Source}
+use Rattle.job_session.specs.declared.source.Source.TheVariants.{Given, Carried}
+use Rattle.job_session.specs.Sessions.{Slot, gate, given_by, readers_of, source}
+use Rattle.job_session.specs.SlotNumbers.{first_of_gate, session_slot_number}
 use Rattle.job_session.specs.SoundSessions.{Inside}
 use Rattle.job_plan.specs.Plans.{Plan, scheme, session, slots, deals_in}
-use Rattle.job_session.specs.Sessions.Slot.{Input, At_gate, Output, Mask, Mask_product, Masked}
-use Rattle.job_plan.specs.Patterns.{pattern, pattern_at, Occurs}
+use Rattle.job_session.specs.Sessions.Slot.{Input, At_gate, Output, Mask, Mask_product, Masked, Kept}
+use Rattle.job_plan.specs.Patterns.{input_pattern, pattern, pattern_at, Occurs}
 use Rattle.job_plan.specs.Sound.{IsSound}
-use Rattle.job_session.proofs.SessionSlots.{slot_count, slot_kinds}
+use Rattle.job_session.proofs.SessionSlots.{slot_kinds}
 use Rattle.party_program.specs.declared.half.Half.{Half}
 use Rattle.party_program.specs.declared.step.Step.{Step}
 use Rattle.party_program.specs.declared.step_table.StepTable.{StepTable}
@@ -26,13 +28,18 @@ module _ (plan : Plan) (s : ℕ) where
   gate_occurs false true = tt
   gate_occurs false false = tt
 
+  input_occurs : (from : Source) → ((p : ℕ) → from ≡ Given p → p < plan.parties) → Occurs plan (input_pattern from)
+  input_occurs (Given p) h = h p refl
+  input_occurs (Carried r c i) h = tt
+
   kind_occurs : IsSound plan → s < length plan.sessions → (z : Slot) → Inside (session plan s) z → Occurs plan (pattern plan s z)
-  kind_occurs sound ls (Input v) l = (sound.sessions s ls).owned v l
+  kind_occurs sound ls (Input v) l = input_occurs (source (session plan s) v) (λ p e. (sound.sessions s ls).owned v p l e)
   kind_occurs sound ls (At_gate t) l = gate_occurs (session plan s).prepared (is_product (gate (session plan s) t).operation)
   kind_occurs sound ls (Output o) l = record { at = s; output = o; session_there = ls; output_there = l; is = refl }
   kind_occurs sound ls (Mask t side) l = tt
   kind_occurs sound ls (Mask_product t) l = tt
   kind_occurs sound ls (Masked t side) l = tt
+  kind_occurs sound ls (Kept j) l = tt
 
   -- the pattern of a slot is one of the plan
   pattern_occurs : (k : ℕ) → IsSound plan → s < length plan.sessions → k < slots plan s → Occurs plan (pattern_at plan s k)
@@ -48,7 +55,11 @@ module _ (plan : Plan) (s : ℕ) where
 
   -- whether a party deals in a slot, its pattern tells
   pub deals_by_pattern : (p : ℕ) (z : Slot) → deals_in_pattern plan p (pattern plan s z) ≡ deals_in plan s p z
-  deals_by_pattern p (Input v) = refl
+  deals_by_pattern p (Input v) = of_input (source (session plan s) v)
+    where
+      of_input : (from : Source) → deals_in_pattern plan p (input_pattern from) ≡ given_by p from
+      of_input (Given q) = refl
+      of_input (Carried r c i) = refl
   deals_by_pattern p (At_gate t) = of_gate (session plan s).prepared (is_product (gate (session plan s) t).operation)
     where
       of_gate : (prepared product : Bool) → deals_in_pattern plan p (gate_pattern prepared product) ≡ ((not prepared && product) && has_pair (scheme plan) p)
@@ -60,10 +71,15 @@ module _ (plan : Plan) (s : ℕ) where
   deals_by_pattern p (Mask t side) = refl
   deals_by_pattern p (Mask_product t) = refl
   deals_by_pattern p (Masked t side) = refl
+  deals_by_pattern p (Kept j) = refl
 
-  -- only outputs are opened to readers, and they are the last slots
-  pub opened_last : (k readers : ℕ) → k < slots plan s → pattern_at plan s k ≡ Opened readers → slots plan s ≤ k + length (readers_of (session plan s).outputs)
-  opened_last k readers = slot_kinds (session plan s) (λ k z. pattern plan s z ≡ Opened readers → slots plan s ≤ k + length (readers_of (session plan s).outputs)) by_kind k
+  -- where the outputs begin
+  abbrev pub first_output : ℕ
+  first_output = first_of_gate (session plan s) (length (session plan s).gates)
+
+  -- only outputs are opened to readers
+  pub opened_last : (k readers : ℕ) → k < slots plan s → pattern_at plan s k ≡ Opened readers → (first_output ≤ k) × (k < first_output + length (readers_of (session plan s).outputs))
+  opened_last k readers = slot_kinds (session plan s) (λ k z. pattern plan s z ≡ Opened readers → (first_output ≤ k) × (k < first_output + length (readers_of (session plan s).outputs))) by_kind k
     where
       not_opened : (prepared product : Bool) → gate_pattern prepared product ≡ Opened readers → ⊥
       not_opened true true e = absurd cc
@@ -71,10 +87,16 @@ module _ (plan : Plan) (s : ℕ) where
       not_opened false true e = absurd cc
       not_opened false false e = absurd cc
 
-      by_kind : (z : Slot) → Inside (session plan s) z → pattern plan s z ≡ Opened readers → slots plan s ≤ session_slot_number (session plan s) z + length (readers_of (session plan s).outputs)
-      by_kind (Input v) l e = absurd cc
+      input_not : (from : Source) → input_pattern from ≡ Opened readers → ⊥
+      input_not (Given p) e = absurd cc
+      input_not (Carried r c i) e = absurd cc
+
+      by_kind : (z : Slot) → Inside (session plan s) z → pattern plan s z ≡ Opened readers
+          → (first_output ≤ session_slot_number (session plan s) z) × (session_slot_number (session plan s) z < first_output + length (readers_of (session plan s).outputs))
+      by_kind (Input v) l e = absurd (input_not (source (session plan s) v) e)
       by_kind (At_gate t) l e = absurd (not_opened (session plan s).prepared (is_product (gate (session plan s) t).operation) e)
-      by_kind (Output o) l e = omega (arith, slot_count (session plan s))
+      by_kind (Output o) l e = (omega (arith, l), omega (arith, l))
       by_kind (Mask t side) l e = absurd cc
       by_kind (Mask_product t) l e = absurd cc
       by_kind (Masked t side) l e = absurd cc
+      by_kind (Kept j) l e = absurd cc

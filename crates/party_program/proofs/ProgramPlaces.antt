@@ -11,12 +11,10 @@ use Rattle.job_session.specs.Sessions.{Session, session_slots}
 use Rattle.job_session.specs.Batches.{batch, is_last, IsBatch}
 use Rattle.job_session.proofs.BatchOrder.{batch_within}
 use Rattle.party_program.proofs.BegunBatches.{begun, begun_is, begun_end}
-use Rattle.job_plan.specs.Plans.{Plan, session, slots}
+use Rattle.job_plan.specs.Plans.{IsPlan, Plan, session, slots}
 use Rattle.job_plan.specs.Numbers.{deals_before}
-use Rattle.job_plan.specs.Firsts.{first}
 use Rattle.job_plan.specs.Patterns.{pattern_at}
 use Rattle.job_plan.specs.Sound.{IsSound}
-use Rattle.job_plan.proofs.SlotMessages.{first_within}
 use Rattle.party_program.specs.declared.half.Half.{Half}
 use Rattle.party_program.specs.declared.half.Half.TheVariants.{Head, Tail}
 use Rattle.party_program.specs.declared.program.Instruction.{Instruction}
@@ -25,11 +23,12 @@ use Rattle.party_program.specs.declared.program.Program.{Program}
 use Rattle.party_program.specs.declared.place.Place.{Place}
 use Rattle.party_program.specs.declared.step.Step.{Step}
 use Rattle.party_program.specs.declared.step.Step.TheVariants.{Draw, Deal, Own, Post, Take, Linear, Sum, Open, Join, Deliver}
-use Rattle.party_program.specs.Programs.{head, tail, tails, turn, half_program, program, at}
+use Rattle.party_program.specs.Programs.{first_named, head, tail, tails, turn, half_program, program, at}
 use Rattle.party_program.specs.PartySteps.{steps, placed, IsPlaced}
 use Rattle.party_program.specs.ProgramPlaces.{instructions_before, halves_before, position_of, count_in, IsPlace, IsProgram}
 use Rattle.party_program.proofs.FollowedPatterns.{half_program_follows}
-use Rattle.party_program.proofs.FewLines.{few_lines}
+use Rattle.party_program.proofs.FewLines.{few_lines, few_taken}
+use Rattle.party_program.proofs.NamedSlots.{few_named}
 use Rattle.party_program.proofs.PlacedSteps.{steps_placed}
 
 placed_within : (n m : ℕ) (step : Step) → n ≤ m → IsPlaced n step → IsPlaced m step
@@ -184,23 +183,21 @@ module _ (plan : Plan) (p s : ℕ) where
   abbrev steps_at : Half → ℕ → List Step
   steps_at half k = steps plan p half (pattern_at plan s k)
 
-  module _ (half : Half) (k : ℕ) (ls : s < length plan.sessions) (lk : k < slots plan s) where
+  module _ (half : Half) (k : ℕ) (is : IsPlan plan) (ls : s < length plan.sessions) (lk : k < slots plan s) where
     pub length-half : length (half_program plan p s half k) ≡ length (steps_at half k)
-    length-half = ap length (half_program_follows plan p s k ls lk half) ∙ length-map (steps_at half k) (placed k (first plan s k) (deals_before plan p s k))
+    length-half = ap length (half_program_follows plan p s k is ls lk half) ∙ length-map (steps_at half k) (placed k (first_named plan s k) (deals_before plan p s k))
 
     -- an instruction of a half is that of its step
-    pub step_is : (i : ℕ) (d : Step) → i < length (steps_at half k) → slice_index_or (half_program plan p s half k) i End ≡ placed k (first plan s k) (deals_before plan p s k) (slice_index_or (steps_at half k) i d)
+    pub step_is : (i : ℕ) (d : Step) → i < length (steps_at half k) → slice_index_or (half_program plan p s half k) i End ≡ placed k (first_named plan s k) (deals_before plan p s k) (slice_index_or (steps_at half k) i d)
     step_is i d l =
-        ap (λ xs. slice_index_or xs i End) (half_program_follows plan p s k ls lk half)
-        ∙ get_or-map (placed k (first plan s k) (deals_before plan p s k)) (steps_at half k) i d End l
+        ap (λ xs. slice_index_or xs i End) (half_program_follows plan p s k is ls lk half)
+        ∙ get_or-map (placed k (first_named plan s k) (deals_before plan p s k)) (steps_at half k) i d End l
 
     -- a message that a step names has a number of four bytes
-    pub step_fits : (i : ℕ) (d : Step) → IsSound plan → i < length (steps_at half k) → IsPlaced (2 ^ 32 - first plan s k) (slice_index_or (steps_at half k) i d)
+    pub step_fits : (i : ℕ) (d : Step) → IsSound plan → i < length (steps_at half k) → IsPlaced (2 ^ 32 - first_named plan s k) (slice_index_or (steps_at half k) i d)
     step_fits i d sound l =
-        let few = few_lines plan sound (pattern_at plan s k) in
-        let early = first_within plan s k ls (omega arith) in
-        let messages = sound.few_messages in
-        placed_within _ _ (slice_index_or (steps_at half k) i d) (omega arith) (steps_placed plan p (pattern_at plan s k) half i d l)
+        let early = few_named plan is sound s k ls lk in
+        placed_within _ _ (slice_index_or (steps_at half k) i d) (omega (arith, early)) (steps_placed plan p 9216 (pattern_at plan s k) (few_lines plan sound (pattern_at plan s k)) (few_taken plan sound (pattern_at plan s k)) half i d l)
 
   -- how many instructions stand in a half of a slot, and behind the last one
   pub count_at : (half : Half) (k : ℕ) → k < slots plan s → count_in plan p s half k ≡ length (half_program plan p s half k)

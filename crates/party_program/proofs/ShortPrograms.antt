@@ -1,24 +1,27 @@
 -- The count of a program's instructions is small.
-use Rattle.std.proofs.Common.{ℕ, zero, suc, ◌+◌, ◌*◌, ◌<◌, ◌≤◌, Bool, true, false, not, ◌&&◌, nat_lt, List, [], ◌∷◌, ◌++◌, map, length, sym, subst, arith, length-append}
+use Rattle.std.proofs.Common.{◌≡◌, ℕ, zero, suc, ◌+◌, ◌*◌, ◌<◌, ◌≤◌, Bool, true, false, not, ◌&&◌, nat_lt, List, [], ◌∷◌, ◌++◌, map, length, refl, sym, subst, arith, length-append}
 use Rattle.std.specs.List.{range_with_len, filter}
 use Rattle.std.proofs.lemmas.Bool.{cases_Bool, cond-true, cond-false}
 use mathlib.Core.Logic.{inl, inr}
 use Rattle.list_laws.specs.Lists.{total, only_if}
 use Rattle.circuit_model.specs.Circuits.{is_product}
 use Rattle.secret_sharing.specs.Schemes.{has_pair}
-use Rattle.job_session.specs.Sessions.{Slot, gate, is_prepared}
-use Rattle.job_session.proofs.SessionSlots.{slot_count}
-use Rattle.job_session.proofs.ScannedSlots.{total_most}
-use Rattle.job_plan.specs.Plans.{Plan, scheme, session, slot, slots, deals_in, gives, opens_to, least_held}
-use Rattle.job_session.specs.Sessions.Slot.{Input, At_gate, Output, Mask, Mask_product, Masked}
+use Rattle.job_session.specs.declared.source.Source.{Source}
+use Rattle.job_session.specs.declared.source.Source.TheVariants.{Given, Carried}
+use Rattle.job_session.specs.Sessions.{Slot, gate, source}
+use Rattle.job_plan.specs.Plans.{Plan, scheme, session, slot, slots, deals_in, gives, keeping_slot, opens_to, least_held}
+use Rattle.job_session.specs.Sessions.Slot.{Input, At_gate, Output, Mask, Mask_product, Masked, Kept}
 use Rattle.job_plan.specs.Numbers.{deals_before}
-use Rattle.job_plan.specs.Firsts.{count, first}
+use Rattle.job_plan.specs.Firsts.{count, first, numbers}
 use Rattle.job_plan.specs.Sound.{IsSound}
+use Rattle.job_plan.proofs.PlanSchemes.{plan_is}
 use Rattle.job_plan.proofs.SlotMessages.{first_within}
+use Rattle.job_plan.proofs.Slots.{few_slots}
 use Rattle.party_program.specs.declared.program.Instruction.{Instruction}
 use Rattle.party_program.specs.declared.program.Instruction.TheVariants.{Draw, Deal, Own, Linear, Sum, Join, Deliver}
-use Rattle.party_program.specs.Programs.{opening, closing, head, tail, posts, takes, slot_program, from, to, post, take_of}
+use Rattle.party_program.specs.Programs.{opening, closing, head, tail, posts, takes, slot_program, from, to, post, take_of, taken_in, input_taken}
 use Rattle.party_program.specs.ProgramPlaces.{instructions_before}
+use Rattle.party_program.proofs.NamedSlots.{few_kept}
 
 only_short : (b : Bool) (xs : List Instruction) → length (only_if b xs) ≤ length xs
 only_short true xs = omega arith
@@ -47,6 +50,7 @@ module _ (plan : Plan) (p s : ℕ) where
   opening_short k (Mask t side) = let short = only_short (nat_lt 0 (least_held plan p (length plan.groups))) (Draw k ∷ []) in omega arith
   opening_short k (Mask_product t) = let short = only_short (has_pair (scheme plan) p) (Own k ∷ Deal k (deals_before plan p s k) ∷ []) in omega arith
   opening_short k (Masked t side) = omega arith
+  opening_short k (Kept j) = omega arith
 
   closing_short : (k : ℕ) (z : Slot) → length (closing plan p s k z) ≤ 1
   closing_short k (Input v) = omega arith
@@ -61,33 +65,45 @@ module _ (plan : Plan) (p s : ℕ) where
   closing_short k (Mask t side) = omega arith
   closing_short k (Mask_product t) = omega arith
   closing_short k (Masked t side) = omega arith
+  closing_short k (Kept j) = omega arith
 
-  slot_short : (k : ℕ) → length (slot_program plan p s k) ≤ 2 * count plan s k + 4
-  slot_short k =
-      let z : Slot = slot plan s k in
-      let a = length-append (opening plan p s k z) (posts plan p s k) in
-      let b = length-append (takes plan p s k) (closing plan p s k z) in
-      let c = length-append (head plan p s k) (tail plan p s k) in
-      let few_before = opening_short k z in
-      let few_posts : length (posts plan p s k) ≤ count plan s k = passing_short (post plan) (from plan p) (first plan s k) (count plan s k) in
-      let few_takes : length (takes plan p s k) ≤ count plan s k = passing_short (take_of plan) (to plan p) (first plan s k) (count plan s k) in
-      let few_after = closing_short k z in
-      omega arith
+  -- in a slot that is of this
+  module _ (k : ℕ) (sound : IsSound plan) where
+    own_short : length (map (take_of plan) (filter (to plan p) (numbers plan s k))) ≤ count plan s k + 768
+    own_short = let short = passing_short (take_of plan) (to plan p) (first plan s k) (count plan s k) in omega arith
 
-  program_short : (n : ℕ) → instructions_before plan p s n ≤ 2 * total n (count plan s) + 4 * n
-  program_short zero = omega arith
-  program_short (suc n) = let here = slot_short n in let before = program_short n in omega arith
+    input_short : (v : ℕ) (from : Source) → source (session plan s) v ≡ from → length (map (take_of plan) (filter (to plan p) (input_taken plan s k v from))) ≤ count plan s k + 768
+    input_short v (Given q) e = own_short
+    input_short v (Carried r c i) e =
+        let m = keeping_slot plan s v r in
+        omega (arith, passing_short (take_of plan) (to plan p) (first plan r m) (count plan r m), few_kept plan (plan_is plan sound) sound s v r c i e)
+
+    takes_short : (z : Slot) → length (map (take_of plan) (filter (to plan p) (taken_in plan s k z))) ≤ count plan s k + 768
+    takes_short (Input v) = input_short v (source (session plan s) v) refl
+    takes_short (At_gate t) = own_short
+    takes_short (Output o) = own_short
+    takes_short (Mask t side) = own_short
+    takes_short (Mask_product t) = own_short
+    takes_short (Masked t side) = own_short
+    takes_short (Kept j) = omega arith
+
+    slot_short : length (slot_program plan p s k) ≤ 2 * count plan s k + 772
+    slot_short =
+        let z : Slot = slot plan s k in
+        let a = length-append (opening plan p s k z) (posts plan p s k) in
+        let b = length-append (takes plan p s k) (closing plan p s k z) in
+        let c = length-append (head plan p s k) (tail plan p s k) in
+        let few_before = opening_short k z in
+        let few_posts : length (posts plan p s k) ≤ count plan s k = passing_short (post plan) (from plan p) (first plan s k) (count plan s k) in
+        let few_takes : length (takes plan p s k) ≤ count plan s k + 768 = takes_short z in
+        let few_after = closing_short k z in
+        omega arith
+
+  program_short : (n : ℕ) → IsSound plan → instructions_before plan p s n ≤ 2 * total n (count plan s) + 772 * n
+  program_short zero sound = omega arith
+  program_short (suc n) sound = let here = slot_short n sound in let before = program_short n sound in omega arith
 
   -- the instructions of a plan within the limits fit into four bytes
   pub few_instructions : (k : ℕ) → IsSound plan → s < length plan.sessions → k ≤ slots plan s → instructions_before plan p s k < 4294967295
   few_instructions k sound ls lk =
-      let short = program_short k in
-      let few = first_within plan s k ls lk in
-      let messages = sound.few_messages in
-      let gates = (sound.sessions s ls).wired.gates in
-      let wires = (sound.sessions s ls).wired.wires in
-      let inputs = (sound.sessions s ls).wired.input_wires in
-      let outputs = (sound.sessions s ls).wired.output_wires in
-      let all = slot_count (session plan s) in
-      let prepared = total_most (length (session plan s).gates) (is_prepared (session plan s)) in
-      omega arith
+      omega (arith, program_short k sound, first_within plan s k ls lk, sound.few_messages, few_slots (session plan s) (sound.sessions s ls).wired, lk)

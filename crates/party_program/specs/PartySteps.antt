@@ -6,7 +6,7 @@ use Rattle.secret_sharing.specs.Schemes.{has_pair}
 use Rattle.party_set.specs.Parties.{has_party}
 use Rattle.job_plan.specs.declared.pattern.Line.{Line}
 use Rattle.job_plan.specs.declared.pattern.Pattern.{Pattern}
-use Rattle.job_plan.specs.declared.pattern.Pattern.TheVariants.{Silent, Dealt, Multiplied, Opened, HandedOut, OpenedToAll, Joined}
+use Rattle.job_plan.specs.declared.pattern.Pattern.TheVariants.{Silent, Dealt, Multiplied, Opened, HandedOut, OpenedToAll, Joined, Held, Received}
 use Rattle.job_plan.specs.Plans.{Plan, scheme, least_held}
 use Rattle.job_plan.specs.Patterns.{lines}
 use Rattle.party_program.specs.declared.half.Half.{Half}
@@ -50,9 +50,16 @@ is_to p entry = nat_eq entry.1.receiver p
 abbrev pub post_steps : Plan → ℕ → Pattern → List Step
 post_steps plan p pattern = map post_step (filter (is_from p) (enumerate_from 0 (lines plan pattern)))
 
+-- the lines that are taken in a slot of this pattern: where a wire is received, those by which it is kept, which are not
+-- taken where it is kept
+abbrev pub taken_lines : Plan → Pattern → List Line
+taken_lines plan Held = []
+taken_lines plan Received = lines plan Held
+taken_lines plan pattern = lines plan pattern
+
 -- its takes there
 abbrev pub take_steps : Plan → ℕ → Pattern → List Step
-take_steps plan p pattern = map take_step (filter (is_to p) (enumerate_from 0 (lines plan pattern)))
+take_steps plan p pattern = map take_step (filter (is_to p) (enumerate_from 0 (taken_lines plan pattern)))
 
 -- what p does after its takes
 abbrev pub steps_after : ℕ → Pattern → List Step
@@ -67,7 +74,8 @@ abbrev pub steps : Plan → ℕ → Half → Pattern → List Step
 steps plan p Head pattern = steps_before plan p pattern ++ post_steps plan p pattern
 steps plan p Tail pattern = take_steps plan p pattern ++ steps_after p pattern
 
--- the instruction of a step in slot k, whose first message has this number, where p has made so many deals before
+-- the instruction of a step in slot k, in which the first message that is posted or taken has this number, where p has made
+-- so many deals before
 abbrev pub placed : ℕ → ℕ → ℕ → Step → Instruction
 placed k first deals Draw = instruction.Draw k
 placed k first deals Deal = instruction.Deal k deals

@@ -4,10 +4,12 @@ use Rattle.std.specs.Global.{Vec}
 use Rattle.indexmap.specs.IndexMap.{IndexMap, get}
 use Rattle.list_laws.specs.Lists.{total, listed}
 use Rattle.job_plan.specs.declared.pattern.Pattern.{Pattern}
-use Rattle.job_plan.specs.declared.pattern.Pattern.TheVariants.{Silent, Dealt, Multiplied, Opened, HandedOut, OpenedToAll, Joined}
-use Rattle.job_session.specs.Sessions.{Session, owners, readers, session_slots}
+use Rattle.job_plan.specs.declared.pattern.Pattern.TheVariants.{Silent, Dealt, Multiplied, Opened, HandedOut, OpenedToAll, Joined, Held, Received}
+use Rattle.job_session.specs.declared.source.Source.TheVariants.{Carried}
+use Rattle.job_session.specs.Sessions.{Session, owners, readers, session_slots, source}
+use Rattle.job_session.specs.Sessions.Slot.{Input}
 use Rattle.job_session.specs.Batches.{IsInBatch}
-use Rattle.job_plan.specs.Plans.{Plan, session, slots}
+use Rattle.job_plan.specs.Plans.{Plan, keeping_slot, session, slot_number, slots}
 use Rattle.job_plan.specs.Numbers.{deals_before}
 use Rattle.job_plan.specs.Firsts.{first}
 use Rattle.job_plan.specs.Patterns.{pattern_at, Occurs}
@@ -20,7 +22,7 @@ use Rattle.party_program.specs.declared.deals.Tally.{Tally}
 use Rattle.party_program.specs.declared.step.Step.{Step}
 use Rattle.party_program.specs.declared.step_table.StepTable.{StepTable}
 use Rattle.party_program.specs.PartySteps.{steps}
-use Rattle.party_program.specs.Programs.{half_program, slot_program}
+use Rattle.party_program.specs.Programs.{first_named, half_program, slot_program}
 
 -- how many instructions of p stand in the first k slots
 abbrev pub instructions_before : Plan → ℕ → ℕ → ℕ → ℕ
@@ -47,7 +49,7 @@ count_in plan p s half k = if nat_lt k (slots plan s) then length (half_program 
 pub record IsPlace (plan : Plan) (p s : ℕ) (place : Place) (q : ℕ) : Type 0 where
   pub batch : IsInBatch (session plan s) place.batch place.end place.slot
   pub pattern : IsPatternIn plan s place.slot place.pattern
-  pub first : place.first ≡ first plan s place.slot
+  pub first : place.first ≡ first_named plan s place.slot
   pub done : q ≡ position_of plan p s place.half place.batch place.end place.slot + place.done
   pub count : place.count ≡ count_in plan p s place.half place.slot
   pub within : place.slot < slots plan s → place.done < place.count
@@ -80,13 +82,25 @@ pub record AreSteps (plan : Plan) (p s : ℕ) (half : Half) (table : StepTable) 
   pub handed_out : table.handed_out ≡ steps plan p half HandedOut
   pub opened_to_all : table.opened_to_all ≡ steps plan p half OpenedToAll
   pub joined : table.joined ≡ steps plan p half Joined
+  pub held : table.held ≡ steps plan p half Held
+  pub received : table.received ≡ steps plan p half Received
   pub dealt : table.dealt.items ≡ listed plan.parties (λ q. steps plan p half (Dealt q))
   pub opened : (k readers : ℕ) → k < slots plan s → pattern_at plan s k ≡ Opened readers
       → HasOpening plan p half table.opened readers
 
--- the only slots are those of input wires, gates and output wires
+-- the only slots are those of input wires, gates, output wires and kept wires
 abbrev pub HasNoneBeside : Session → Type 0
-HasNoneBeside x = session_slots x ≡ length (owners x) + length x.gates + length (readers x)
+HasNoneBeside x = session_slots x ≡ length (owners x) + length x.gates + length (readers x) + length x.kept
+
+-- the first message by which session r keeps what input wire v of session s carries from it is listed for the wire's slot
+abbrev pub IsReceived : {S : Type 0} → Plan → ℕ → IndexMap ℕ ℕ S → ℕ → ℕ → Type 0
+IsReceived plan s received v r =
+    get nat_eq received (slot_number plan s (Input v)) ≡ Some (first plan r (keeping_slot plan s v r))
+
+-- so for each wire that session s carries from one of the first n
+abbrev pub AreReceived : {S : Type 0} → Plan → ℕ → ℕ → IndexMap ℕ ℕ S → Type 0
+AreReceived plan s n received =
+    (v r c i : ℕ) → r < n → source (session plan s) v ≡ Carried r c i → IsReceived plan s received v r
 
 -- how many deals p makes before each of the first k slots are listed, these are the instructions and deals of p in
 -- those, and there is room for the others
@@ -106,5 +120,6 @@ pub record IsProgram (plan : Plan) (p s : ℕ) (program : Program) : Type 0 wher
   pub session_there : s < length plan.sessions
   pub heads : AreSteps plan p s Head program.heads
   pub tails : AreSteps plan p s Tail program.tails
+  pub received : AreReceived plan s s program.received
   pub deals : program.deals.items ≡ listed (slots plan s) (deals_before plan p s)
   pub length : program.length ≡ instructions_before plan p s (slots plan s)

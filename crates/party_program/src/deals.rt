@@ -50,7 +50,7 @@ pub(crate) fn list_deals(
     };
     let mut done = 0;
     // Without slots of prepared products, those of the gates stand together behind the inputs.
-    if slots == outputs + part.output_wires() as u32 {
+    if slots == outputs + part.output_wires() as u32 + part.kept().len() as u32 {
         push_slots(plan, p, s, heads, tails, 0, inputs, &mut list, &mut tally);
         push_gates(plan, p, s, heads, tails, &mut list, &mut tally);
         done = outputs;
@@ -131,5 +131,6 @@ fn deals_in(pattern: Pattern, p: u32, multiplies: bool) -> bool
         Pattern::Multiplied => multiplies,
         Pattern::Silent | Pattern::Opened(_) => false,
         Pattern::HandedOut | Pattern::OpenedToAll | Pattern::Joined => false,
+        Pattern::Held | Pattern::Received => false,
     }
 }

@@ -1,12 +1,12 @@
 //! Lists what a party does in a half of a slot of a pattern.
 ghost use Rattle.std.specs.Prelude.{◌≡◌, ◌<◌, ◌++◌, IfOk, OnOk};
 ghost use Rattle.job_plan.specs.Patterns.{Occurs};
-ghost use Rattle.party_program.specs.PartySteps.{steps_before, post_steps, take_steps, steps_after, steps};
+ghost use Rattle.party_program.specs.PartySteps.{steps_before, post_steps, taken_lines, take_steps, steps_after, steps};
 
 use crate::half::Half;
 use crate::step::Step;
 use crate::step_list::StepList;
-use job_plan::{Pattern, Plan};
+use job_plan::{Line, Pattern, Plan};
 use std::alloc::{AllocError, Global};
 
 /// What party `p` does in this half of a slot of this pattern.
@@ -43,6 +43,7 @@ fn push_before(plan: &Plan, p: u32, pattern: Pattern, list: &mut StepList) -> Re
     match pattern {
         Pattern::Silent => list.push(Step::Linear),
         Pattern::Opened(_) | Pattern::OpenedToAll | Pattern::Joined => Ok(()),
+        Pattern::Held | Pattern::Received => Ok(()),
         Pattern::Dealt(dealer) => list.push_if(dealer == p, Step::Deal),
         Pattern::Multiplied => {
             if plan.multiplies(p) {
@@ -72,13 +73,25 @@ fn push_posts(plan: &Plan, p: u32, pattern: Pattern, list: &mut StepList) -> Res
     Ok(())
 }
 
+// The lines that are taken: where a wire is received, those by which it is kept, which are not taken where it is kept.
+fn taken_lines(plan: &Plan, pattern: Pattern) -> &[Line]
+    requires { Occurs plan.now pattern }
+    ensures { result.now ≡ taken_lines plan.now pattern }
+{
+    match pattern {
+        Pattern::Held => &[],
+        Pattern::Received => plan.lines(Pattern::Held),
+        _ => plan.lines(pattern),
+    }
+}
+
 // The takes of p.
 fn push_takes(plan: &Plan, p: u32, pattern: Pattern, list: &mut StepList) -> Result<(), AllocError>
     requires { Occurs plan.now pattern }
     ensures { OnOk result (list.new ≡ list.old ++ take_steps plan.now p pattern) }
 {
     let _ = plan.parties();
-    let lines = plan.lines(pattern);
+    let lines = taken_lines(plan, pattern);
     for (place, line) in lines.iter().enumerate() {
         let step = Step::Take {
             place: place as u16,
@@ -97,6 +110,7 @@ fn push_after(plan: &Plan, p: u32, pattern: Pattern, list: &mut StepList) -> Res
     let _ = plan.parties();
     match pattern {
         Pattern::Silent | Pattern::Dealt(_) | Pattern::HandedOut => Ok(()),
+        Pattern::Held | Pattern::Received => Ok(()),
         Pattern::Multiplied => list.push(Step::Sum),
         Pattern::Opened(readers) => list.push_if(readers >> p & 1 == 1, Step::Deliver),
         Pattern::OpenedToAll => list.push(Step::Open),

@@ -17,7 +17,7 @@ pub struct Place {
     pub(crate) batch: u32,
     pub(crate) end: u32,
     pub(crate) pattern: Pattern,
-    // The number of the slot's first message.
+    // The number of the first message that is posted or taken in the slot.
     pub(crate) first: u32,
     // How many steps of the half are done, and how many it has. Past the last slot there are none.
     pub(crate) done: u32,
@@ -56,7 +56,7 @@ impl Place {
         self.end
     }
 
-    /// The number of the slot's first message.
+    /// The number of the first message that is posted or taken in the slot.
     #[inline(always)]
     pub fn first(self) -> u32
         ensures { result ≡ self.first }

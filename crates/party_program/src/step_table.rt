@@ -16,7 +16,8 @@ use job_plan::{Pattern, Plan};
 use std::alloc::{AllocError, Global};
 
 /// The steps of a party in the heads of a session's slots, or in their tails, for each pattern: of a linear gate, of a
-/// product, of what a prepared product needs more, of a value by its dealer, and of an output by its readers.
+/// product, of what a prepared product needs more, of a wire that is kept or received, of a value by its dealer, and of an
+/// output by its readers.
 #[derive(Drop)]
 pub(crate) struct StepTable {
     silent: StepList,
@@ -24,6 +25,8 @@ pub(crate) struct StepTable {
     handed_out: StepList,
     opened_to_all: StepList,
     joined: StepList,
+    held: StepList,
+    received: StepList,
     dealt: Vec<StepList>,
     opened: IndexMap<u32, StepList>,
 }
@@ -52,6 +55,8 @@ impl StepTable {
         let handed_out = list_steps(alloc, plan, p, half, Pattern::HandedOut)?;
         let opened_to_all = list_steps(alloc, plan, p, half, Pattern::OpenedToAll)?;
         let joined = list_steps(alloc, plan, p, half, Pattern::Joined)?;
+        let held = list_steps(alloc, plan, p, half, Pattern::Held)?;
+        let received = list_steps(alloc, plan, p, half, Pattern::Received)?;
         let dealt = deals_of_each(alloc, plan, p, half)?;
         let opened = openings_of_each(alloc, plan, p, s, half)?;
         Ok(StepTable {
@@ -60,6 +65,8 @@ impl StepTable {
             handed_out,
             opened_to_all,
             joined,
+            held,
+            received,
             dealt,
             opened,
         })
@@ -81,6 +88,8 @@ impl StepTable {
             Pattern::HandedOut => self.handed_out.as_slice(),
             Pattern::OpenedToAll => self.opened_to_all.as_slice(),
             Pattern::Joined => self.joined.as_slice(),
+            Pattern::Held => self.held.as_slice(),
+            Pattern::Received => self.received.as_slice(),
         }
     }
 
@@ -103,6 +112,7 @@ impl StepTable {
             Pattern::Multiplied => self.of_product().len(),
             Pattern::Dealt(_) | Pattern::Opened(_) => 0,
             Pattern::HandedOut | Pattern::OpenedToAll | Pattern::Joined => 0,
+            Pattern::Held | Pattern::Received => 0,
         }
     }
 
@@ -160,10 +170,10 @@ fn openings_of_each(
         → pattern_at plan.now s k ≡ Opened readers → HasOpening plan.now p half map readers) }
 {
     let _ = plan.parties();
-    let slots = plan.slots(s);
-    let outputs = plan.part(s).output_wires() as u32;
+    let part = plan.part(s);
+    let first = part.first_output_slot();
     let mut openings = IndexMap::new(alloc);
-    for k in slots - outputs..slots {
+    for k in first..first + part.output_wires() as u32 {
         add_opening(alloc, plan, p, s, half, k, &mut openings)?;
     }
     Ok(openings)

@@ -11,6 +11,10 @@ pub enum PartFault {
     OwnersDiffer { wanted: u64, found: u64 },
     /// There are other than as many groups of readers as output values.
     ReadersDiffer { wanted: u64, found: u64 },
+    /// An input value carries output value `wanted` of an earlier session, which has this many.
+    CarryMissing { wanted: u64, found: u64 },
+    /// An input value has this width, and the output value that it carries has another.
+    CarryWidth { wanted: u64, found: u64 },
     /// Memory ran out.
     Memory,
 }
@@ -45,6 +49,8 @@ impl PartFault {
         match self {
             PartFault::OwnersDiffer { .. } => 1,
             PartFault::ReadersDiffer { .. } => 2,
+            PartFault::CarryMissing { .. } => 3,
+            PartFault::CarryWidth { .. } => 4,
             PartFault::Memory => 0,
         }
     }
@@ -56,18 +62,21 @@ impl PartFault {
         match self {
             PartFault::OwnersDiffer { .. } => "OwnersDiffer",
             PartFault::ReadersDiffer { .. } => "ReadersDiffer",
+            PartFault::CarryMissing { .. } => "CarryMissing",
+            PartFault::CarryWidth { .. } => "CarryWidth",
             PartFault::Memory => "Memory",
         }
     }
 
-    /// How many the circuit wants.
+    /// How many are wanted; of a value that is missing, its number.
     pub fn wanted(self) -> Option<u64>
         ensures { result ≡ wanted_in self }
     {
         match self {
-            PartFault::OwnersDiffer { wanted, .. } | PartFault::ReadersDiffer { wanted, .. } => {
-                Some(wanted)
-            }
+            PartFault::OwnersDiffer { wanted, .. }
+            | PartFault::ReadersDiffer { wanted, .. }
+            | PartFault::CarryMissing { wanted, .. }
+            | PartFault::CarryWidth { wanted, .. } => Some(wanted),
             PartFault::Memory => None,
         }
     }
@@ -77,9 +86,10 @@ impl PartFault {
         ensures { result ≡ found_in self }
     {
         match self {
-            PartFault::OwnersDiffer { found, .. } | PartFault::ReadersDiffer { found, .. } => {
-                Some(found)
-            }
+            PartFault::OwnersDiffer { found, .. }
+            | PartFault::ReadersDiffer { found, .. }
+            | PartFault::CarryMissing { found, .. }
+            | PartFault::CarryWidth { found, .. } => Some(found),
             PartFault::Memory => None,
         }
     }

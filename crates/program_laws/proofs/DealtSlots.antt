@@ -9,26 +9,28 @@ use Rattle.circuit_model.proofs.SetAt.{set_here, set_there}
 use Rattle.secret_sharing.specs.Schemes.{Run, dealt}
 use Rattle.secret_sharing.proofs.SummandSums.{dealt_eq}
 use Rattle.job_session.specs.declared.side.Side.{Side}
-use Rattle.job_session.specs.Sessions.{Session, Slot, owners, mask_wire}
+use Rattle.job_session.specs.declared.source.Source.{Source}
+use Rattle.job_session.specs.declared.source.Source.TheVariants.{Given as GivenBy}
+use Rattle.job_session.specs.Sessions.{Session, Slot, given_by, owners, source, mask_wire}
 use Rattle.job_session.specs.Sessions.Slot.{Input, Mask}
-use Rattle.job_plan.specs.Plans.{Plan, scheme, session, slot, slots, holds, giver, given_before, least_holder, least_held, deals_in, words_in, words_before}
+use Rattle.job_plan.specs.Plans.{Plan, scheme, session, slot, slots, holds, given_before, least_holder, least_held, deals_in, words_in, words_before}
 use Rattle.job_plan.specs.declared.key.Key.{Key}
 use Rattle.job_plan.specs.Firsts.{numbers}
-use Rattle.job_plan.specs.Messages.{slot_messages, deal_message}
+use Rattle.job_plan.specs.Messages.{slot_messages, deal_message, input_messages}
 use Rattle.job_plan.specs.Numbers.{message, deals_before}
 use Rattle.job_plan.proofs.SlotMessages.{every_filter, keys_are}
 use Rattle.job_plan.proofs.TapePlaces.{held_within}
-use Rattle.share_world.specs.Worlds.{World, tape_word, input_of}
-use Rattle.share_world.specs.Locals.{local_deal, local_mask, local_run, local_word_in}
+use Rattle.share_world.specs.Worlds.{World, tape_word, input_of, source_input}
+use Rattle.share_world.specs.Locals.{local_mask, local_run, local_source, local_word_in}
 use Rattle.party_program.specs.declared.program.Instruction.{Instruction}
 use Rattle.party_program.specs.declared.program.Instruction.TheVariants.{Draw, Deal}
-use Rattle.party_program.specs.Programs.{from, to, opening, closing, takes}
+use Rattle.party_program.specs.Programs.{from, to, input_taken, opening, closing}
 use Rattle.party_program.specs.States.{Given, State, next, after_all, posted, dealt_in, drawn_in, word_after}
 use Rattle.party_program.specs.Proper.{Deals, IsMask}
 use Rattle.party_program.proofs.InstructionLists.{Leaves}
 use Rattle.program_laws.specs.Meets.{local_given, IsNextInput, Goes}
 use Rattle.program_laws.proofs.ProductSlots.{Doing}
-use Rattle.program_laws.proofs.SlotRuns.{Runs, number_is, word_is, more_words, Ready, Rowed, key, In, numbered, RowBy, all_rows, slot_is, word_of, slot_leaves}
+use Rattle.program_laws.proofs.SlotRuns.{Runs, number_is, word_is, more_words, Ready, Rowed, key, In, numbered, RowBy, all_rows, slot_is, word_of, idle, TakesOwn, own_takes, taking_is, own_leaves}
 use Rattle.program_laws.proofs.SlotTakes.{Writes, RowOf, Has, takes_row}
 use Rattle.program_laws.proofs.SlotTallies.{Any, any_number, row_any}
 
@@ -55,7 +57,7 @@ module _ (w : World) (got : Key → ℕ) (s p : ℕ) (h : Runs w s p) where
   -- others
   module _ (z : Slot) (sender : ℕ → ℕ) (v : ℕ) (value : ℕ → ℕ) (k count : ℕ) (at : slot w.plan s k ≡ z) (lk : k < slots w.plan s)
       (keys : slot_messages w.plan s k z ≡ joined (length w.plan.groups) (λ i. joined w.plan.parties (deal_message w.plan s k (sender i) i)))
-      (closes : closing w.plan p s k z ≡ []) (writes : Writes (local_given w got s p) z v)
+      (own : TakesOwn w got s p h z) (closes : closing w.plan p s k z ≡ []) (writes : Writes (local_given w got s p) z v)
       (sent : (i : ℕ) (σ : State) → posted w.plan s z i σ ≡ σ.rows v i)
       (word : (i r : ℕ) → sender i ≡ p → local_word_in w got p (key w got s p h k i p r) z ≡ value i)
       (theirs : (i : ℕ) → sender i ≢ p → value i ≡ got (key w got s p h k i (sender i) p)) where
@@ -76,12 +78,12 @@ module _ (w : World) (got : Key → ℕ) (s p : ℕ) (h : Runs w s p) where
         → σ1.outputs ≡ σ.outputs → σ1.excess ≡ σ.excess → Ready w got s p h (suc k) count σ1
         → Leaves (Goes w got s p) (local_given w got s p) (opening w.plan p s k z) (λ τ. τ ≡ σ1) σ → Doing w got s p h k (Rowed w got s p h v value (suc k) count σ) σ
     row_slot σ σ1 others mine outputs excess ready opens =
-        let τ : State = after_all l (takes plan p s k) σ1 in
+        let τ : State = after_all l (own_takes w got s p h k) σ1 in
         let R : State → Type 0 = Rowed w got s p h v value (suc k) count σ in
         let row : RowOf l v ns value σ1 τ = takes_row l z v ns value σ1 writes (every_filter _ _ (to plan p) (numbers plan s k) all (λ n f e.
         let i : ℕ = (message plan n).share in
         let receiver : (message plan n).receiver ≡ p = eqb-true _ _ e in (
-          slot_is w got s p h k z n _ _ _ at f.1.0,
+          taking_is w got s p h k z n _ _ _ own at f.1.0,
           ap got (f.1.0 ∙ ap (λ a. key w got s p h k i (sender i) a) receiver) ∙ sym (theirs i (λ same. f.1.2 (receiver ∙ sym same))),
         ))) in
         let after' : R τ = record {
@@ -91,7 +93,7 @@ module _ (w : World) (got : Key → ℕ) (s p : ℕ) (h : Runs w s p) where
           excess = row.excess ∙ excess;
           ready = record { sums = λ i li. ap (λ g. g i) row.sums ∙ ready.sums i li; drawn = row.drawn ∙ ready.drawn; given = row.given ∙ ready.given };
         } in
-        slot_leaves w got s p h k z at lk σ σ1 (λ ρ. ρ ≡ τ) R opens
+        own_leaves w got s p h k z own at lk σ σ1 (λ ρ. ρ ≡ τ) R opens
         (every_filter _ _ (from plan p) (numbers plan s k) all (λ n f e.
         let i : ℕ = (message plan n).share in
         let r : ℕ = (message plan n).receiver in
@@ -108,39 +110,51 @@ module _ (w : World) (got : Key → ℕ) (s p : ℕ) (h : Runs w s p) where
 
   -- ---- inputs
 
-  module _ (v k count : ℕ) (at : slot w.plan s k ≡ Input v) (lk : k < slots w.plan s) (lv : v < length (owners (session w.plan s))) (σ : State) (ready : Ready w got s p h k count σ) where
+  -- the summands with which a party starts of an input wire with this source
+  pub start_is : (v : ℕ) (o : Source) → v < length (owners (session w.plan s)) → source (session w.plan s) v ≡ o → (i : ℕ) → (local_run w got p s).start v i ≡ local_source w got p s v o i
+  start_is v o lv is i = cond-true (nat_lt v (length (owners x))) _ 0 (lt-ltb v (length (owners x)) lv) ∙ ap (λ a. local_source w got p s v a i) is
+
+  -- who doesn't deal the input goes on as it is
+  pub undealt : (v k count : ℕ) → slot w.plan s k ≡ Input v → deals_in w.plan s p (Input v) ≡ false → (σ : State) → Ready w got s p h k count σ
+      → Ready w got s p h (suc k) count σ × Leaves (Goes w got s p) (local_given w got s p) (opening w.plan p s k (Input v)) (λ τ. τ ≡ σ) σ
+  undealt v k count at none σ ready = (
+    idle w got s p h k count (Input v) σ at (cond-false (deals_in plan s p (Input v)) (m - 1) 0 none) ready,
+    subst (λ ys. Leaving ys (λ τ. τ ≡ σ) σ) (sym (cond-false (deals_in plan s p (Input v)) (Deal k (deals_before plan p s k) ∷ []) [] none)) (tt, refl),
+  )
+
+  module _ (v q k count : ℕ) (is : source (session w.plan s) v ≡ GivenBy q) (at : slot w.plan s k ≡ Input v) (lk : k < slots w.plan s) (lv : v < length (owners (session w.plan s))) (σ : State) (ready : Ready w got s p h k count σ) where
     abbrev z : Slot
     z = Input v
-
-    abbrev q : ℕ
-    q = giver plan s v
 
     abbrev value : ℕ → ℕ
     value = run.start v
 
-    start_is : (i : ℕ) → value i ≡ local_deal w got p s z q (input_of w s v) i
-    start_is i = cond-true (nat_lt v (length (owners x))) _ 0 (lt-ltb v (length (owners x)) lv)
-
     own_start : (i : ℕ) → q ≡ p → value i ≡ dealt (scheme plan) (input_of w s v) (tape_word w s z p) i
-    own_start i e = start_is i ∙ cond-true (nat_eq q p) _ _ (eq-eqb q p e)
+    own_start i e = start_is v (GivenBy q) lv is i ∙ cond-true (nat_eq q p) _ _ (eq-eqb q p e)
 
     other_start : (i : ℕ) → q ≢ p → value i ≡ got (key w got s p h k i q p)
-    other_start i ne = start_is i ∙ cond-false (nat_eq q p) _ _ (ne_eqb q p ne) ∙ ap (λ n. got (key w got s p h n i q p)) (number_is w got s p h k z at lk)
+    other_start i ne = start_is v (GivenBy q) lv is i ∙ cond-false (nat_eq q p) _ _ (ne_eqb q p ne) ∙ ap (λ n. got (key w got s p h n i q p)) (number_is w got s p h k z at lk)
+
+    own : TakesOwn w got s p h (Input v)
+    own = record { all = λ j. ap (input_taken plan s j v) is; same = refl }
 
     rows : (n : ℕ) (σ1 : State) → ((u i : ℕ) → u ≢ v → σ1.rows u i ≡ σ.rows u i) → ((i : ℕ) → i < m → q ≡ p → σ1.rows v i ≡ value i) → σ1.outputs ≡ σ.outputs → σ1.excess ≡ σ.excess → Ready w got s p h (suc k) n σ1
         → Leaving (opening plan p s k z) (λ τ. τ ≡ σ1) σ → Doing w got s p h k (Rowed w got s p h v value (suc k) n σ) σ
-    rows n σ1 = row_slot z (λ i. q) v value k n at lk refl refl (λ i a τ. refl) (λ i τ. refl) (λ i r e. sym (own_start i e)) other_start σ σ1
+    rows n σ1 = row_slot z (λ i. q) v value k n at lk (ap (input_messages plan s k) is) own refl (λ i a τ. refl) (λ i τ. refl) (λ i r e. sym (own_start i e)) other_start σ σ1
 
-    pub own_input : giver w.plan s v ≡ p → count ≡ given_before w.plan p s v → Doing w got s p h k (Rowed w got s p h v ((local_run w got p s).start v) (suc k) (count + 1) σ) σ
+    pub own_input : q ≡ p → count ≡ given_before w.plan p s v → Doing w got s p h k (Rowed w got s p h v ((local_run w got p s).start v) (suc k) (count + 1) σ) σ
     own_input e before =
         let d : ℕ = deals_before plan p s k in
-        let deals' : deals_in plan s p z ≡ true = eq-eqb q p e in
+        let deals' : deals_in plan s p z ≡ true = ap (given_by p) is ∙ eq-eqb q p e in
         let many : words_in plan s p z ≡ m - 1 = cond-true (deals_in plan s p z) (m - 1) 0 deals' in
         let words : ℕ → ℕ = word_after l σ.drawn in
         let new : ℕ → ℕ = dealt (scheme plan) (slice_index l.inputs σ.given) words in
         let σ1 : State = dealt_in plan s words (slice_index l.inputs σ.given) z σ in
         let does : next l (Deal k d) σ ≡ σ1 = ap (λ y. dealt_in plan s words (slice_index l.inputs σ.given) y σ) at in
-        let input : slice_index l.inputs σ.given ≡ input_of w s v = ap (slice_index l.inputs) (ready.given ∙ before) ∙ ap (λ a. slice_index (slice_index_or (slice_index_or w.inputs a []) s []) (given_before plan a s v)) (sym e) in
+        let input : slice_index l.inputs σ.given ≡ input_of w s v =
+        ap (slice_index l.inputs) (ready.given ∙ before)
+        ∙ ap (λ a. slice_index (slice_index_or (slice_index_or w.inputs a []) s []) (given_before plan a s v)) (sym e)
+        ∙ sym (ap (source_input w s v) is) in
         let new_is : (i : ℕ) → new i ≡ value i = λ i.
         ap (λ a. dealt (scheme plan) a words i) input
         ∙ dealt_eq (scheme plan) (input_of w s v) words (tape_word w s z p) i (λ j lj. word_is w got s p h k z j σ.drawn at lk (omega (arith, lj, many)) ready.drawn)
@@ -154,16 +168,10 @@ module _ (w : World) (got : Key → ℕ) (s p : ℕ) (h : Runs w s p) where
         (subst (λ ys. Leaving ys (λ τ. τ ≡ σ1) σ) (sym (cond-true (deals_in plan s p z) (Deal k d ∷ []) [] deals'))
         (((record { slot = lk; kind = subst Deals (sym at) tt }, (ready.drawn, lk, ap (deals_in plan s p) at ∙ deals', subst (λ y. IsNextInput plan s p y σ.given) (sym at) (ready.given ∙ before))), tt), does))
 
-    pub other_input : giver w.plan s v ≢ p → Doing w got s p h k (Rowed w got s p h v ((local_run w got p s).start v) (suc k) count σ) σ
+    pub other_input : q ≢ p → Doing w got s p h k (Rowed w got s p h v ((local_run w got p s).start v) (suc k) count σ) σ
     other_input ne =
-        let none : deals_in plan s p z ≡ false = ne_eqb q p ne in
-        rows count σ (λ u i other. refl) (λ i li e. absurd (ne e)) refl refl
-        (record {
-          sums = ready.sums;
-          drawn = ready.drawn ∙ sym (more_words w got s p h k z at ∙ (let zero' = cond-false (deals_in plan s p z) (m - 1) 0 none in omega (arith, zero')));
-          given = ready.given;
-        })
-        (subst (λ ys. Leaving ys (λ τ. τ ≡ σ) σ) (sym (cond-false (deals_in plan s p z) (Deal k (deals_before plan p s k) ∷ []) [] none)) (tt, refl))
+        let on = undealt v k count at (ap (given_by p) is ∙ ne_eqb q p ne) σ ready in
+        rows count σ (λ u i other. refl) (λ i li e. absurd (ne e)) refl refl on.0 on.1
 
   -- ---- masks
 
@@ -176,7 +184,7 @@ module _ (w : World) (got : Key → ℕ) (s p : ℕ) (h : Runs w s p) where
       let mine : (i : ℕ) → least_holder plan i ≡ p → value i ≡ tape_word w s z p (least_held plan p i) = λ i e. cond-true (nat_eq (least_holder plan i) p) _ _ (eq-eqb (least_holder plan i) p e) ∙ ap (λ a. tape_word w s z a (least_held plan a i)) e in
       let theirs : (i : ℕ) → least_holder plan i ≢ p → value i ≡ got (key w got s p h k i (least_holder plan i) p) = λ i ne. cond-false (nat_eq (least_holder plan i) p) _ _ (ne_eqb (least_holder plan i) p ne) ∙ ap (λ n. got (key w got s p h n i (least_holder plan i) p)) (number_is w got s p h k z at lk) in
       let more : words_before plan p s (suc k) ≡ words_before plan p s k + least_held plan p m = more_words w got s p h k z at in
-      let rows = row_slot z (least_holder plan) v value k count at lk refl refl (λ i a τ. refl) (λ i τ. refl) (λ i r e. refl) theirs σ in
+      let rows = row_slot z (least_holder plan) v value k count at lk refl (record { all = λ j. refl; same = refl }) refl (λ i a τ. refl) (λ i τ. refl) (λ i r e. refl) theirs σ in
       elim (cases_lt 0 (least_held plan p m)) [
         | inl some ↦
             let words : ℕ → ℕ = word_after l σ.drawn in

@@ -11,8 +11,8 @@ use Rattle.circuit_model.proofs.SetAt.{set_here, set_there}
 use Rattle.circuit_model.proofs.SetWires.{funext}
 use Rattle.secret_sharing.specs.Schemes.{dealt, own_product, local, has_pair}
 use Rattle.secret_sharing.specs.Prepared.{masked, joined_summand}
-use Rattle.job_session.specs.Sessions.{Session, Slot, gate, is_prepared, operand, output_wire, mask_wire, product_wire, product_in}
-use Rattle.job_session.specs.Sessions.Slot.{Input, At_gate, Output, Mask, Mask_product, Masked}
+use Rattle.job_session.specs.Sessions.{Session, Slot, gate, is_prepared, kept_wire, operand, output_wire, mask_wire, product_wire, product_in}
+use Rattle.job_session.specs.Sessions.Slot.{Input, At_gate, Output, Mask, Mask_product, Masked, Kept}
 use Rattle.job_session.specs.declared.side.Side.{Side}
 use Rattle.job_session.specs.declared.side.Side.TheVariants.{First, Second}
 use Rattle.job_session.specs.KeptWires.{sets_in, reads_in}
@@ -23,7 +23,7 @@ use Rattle.share_world.specs.Worlds.{World}
 use Rattle.share_world.proofs.Settled.{is_one, is_first, is_second}
 use Rattle.party_program.specs.declared.program.Instruction.{Instruction}
 use Rattle.party_program.specs.declared.program.Instruction.TheVariants.{Draw, Deal, Post, Take, Linear, Own, Sum, Open, Join, Deliver}
-use Rattle.party_program.specs.States.{Given, State, next, word_after, slot_of, output_in_slot, set_side, dealt_in, drawn_in, excess_of, posted, with_summand, took_in, computed, multiplied, summed, opened_in, joined_in, delivered, opened}
+use Rattle.party_program.specs.States.{Given, State, next, word_after, slot_of, taking_slot, output_in_slot, set_side, dealt_in, drawn_in, excess_of, posted, with_summand, took_in, computed, multiplied, summed, opened_in, joined_in, delivered, opened}
 use Rattle.program_laws.specs.Meets.{local_given, OpensRight, OpensExcess, Goes}
 use Rattle.program_laws.specs.Exchanges.{MayGoFirst}
 use Rattle.program_laws.proofs.GateReads.{local_same}
@@ -166,7 +166,7 @@ module _ (w : World) (got : Key → ℕ) (s p : ℕ) where
         right = λ σ τ same h. (h.0, tt);
       }
 
-  pub take_puts : (n i v : ℕ) (z : Slot) → slot_of plan n ≡ z → Only z v → Puts z (Take n i) v
+  pub take_puts : (n i v : ℕ) (z : Slot) → taking_slot plan n ≡ z → Only z v → Puts z (Take n i) v
   take_puts n i v (Input u) e only = take_row n i u v (Input u) (λ σ. ap (λ y. took_in plan s y i (l.got n) σ) e) (only u (is_one u u refl))
   take_puts n i v (Mask t side) e only =
       let mask : ℕ = mask_wire x t side in
@@ -175,6 +175,7 @@ module _ (w : World) (got : Key → ℕ) (s p : ℕ) where
   take_puts n i v (Output o) e only = take_sums n i v (Output o) (λ σ. ap (λ y. took_in plan s y i (l.got n) σ) e)
   take_puts n i v (Mask_product t) e only = take_sums n i v (Mask_product t) (λ σ. ap (λ y. took_in plan s y i (l.got n) σ) e)
   take_puts n i v (Masked t side) e only = take_sums n i v (Masked t side) (λ σ. ap (λ y. took_in plan s y i (l.got n) σ) e)
+  take_puts n i v (Kept j) e only = take_sums n i v (Kept j) (λ σ. ap (λ y. took_in plan s y i (l.got n) σ) e)
 
   pub sum_puts : (k v : ℕ) (z : Slot) → slot plan s k ≡ z → (product_in x z).output ≡ v → Puts z (Sum k) v
   sum_puts k v z e out =
@@ -263,6 +264,7 @@ module _ (w : World) (got : Key → ℕ) (s p : ℕ) where
       let u : ℕ = operand (gate x g) side in
       let m : ℕ = mask_wire x g side in
       ap₂ (λ a b. masked (scheme plan) a b i) (others σ v u row (clear.0 u (is_first u m))) (others σ v m row (clear.0 m (is_second u m)))
+  posted_is (Kept j) i v σ row t clear = let u : ℕ = kept_wire x j in ap (λ f. f i) (others σ v u row (clear.0 u (is_one u u refl)))
 
   pub post_passes : (n i v : ℕ) (z : Slot) → slot_of plan n ≡ z → Clear z v → Passes z (Post n i) v
   post_passes n i v z e clear =

@@ -8,7 +8,7 @@ use Rattle.list_laws.proofs.JoinedLists.{every_append, every_weaker, every_both}
 use Rattle.circuit_model.specs.Circuits.{is_product}
 use Rattle.circuit_model.specs.Netlists.{read_by}
 use Rattle.job_session.specs.Sessions.{Session, Slot, gate, is_prepared, mask_wire, product_wire, product_in, session_slots}
-use Rattle.job_session.specs.Sessions.Slot.{Input, At_gate, Output, Mask, Mask_product, Masked}
+use Rattle.job_session.specs.Sessions.Slot.{Input, At_gate, Output, Mask, Mask_product, Masked, Kept}
 use Rattle.job_session.specs.declared.side.Side.TheVariants.{First, Second}
 use Rattle.job_session.specs.KeptWires.{IsInOrder, slot_sets, slot_reads, sets_in, reads_in}
 use Rattle.job_session.specs.Batches.{completes, slot_completes, is_join, sets_early, reads_early, waits_for, batch}
@@ -22,14 +22,14 @@ use Rattle.share_world.specs.Worlds.{World}
 use Rattle.share_world.proofs.Settled.{is_one, of_one, is_first, is_second}
 use Rattle.party_program.specs.declared.program.Instruction.{Instruction}
 use Rattle.party_program.specs.declared.program.Instruction.TheVariants.{Deal}
-use Rattle.party_program.specs.Programs.{from, to, head, tail, tails}
+use Rattle.party_program.specs.Programs.{from, to, head, tail, tails, taken}
 use Rattle.party_program.specs.States.{Given, State}
 use Rattle.program_laws.specs.Meets.{local_given, Goes}
 use Rattle.program_laws.specs.Exchanges.{Becomes}
 use Rattle.job_session.proofs.BatchOrder.{no_wait, batch_within}
 use Rattle.program_laws.proofs.Exchanged.{GoesFirst, all_first}
 use Rattle.program_laws.proofs.GateReads.{product_reads}
-use Rattle.program_laws.proofs.ProgramParts.{Multiplied, in_slot, every_opening, every_closing, every_head, every_tail}
+use Rattle.program_laws.proofs.ProgramParts.{Multiplied, in_slot, taken_in_slot, every_opening, every_closing, every_head, every_tail}
 use Rattle.program_laws.proofs.FreeInstructions as free
 
 -- no wire of the list passes
@@ -86,6 +86,7 @@ module _ (x : Session) where
   product_completes (Output o) is = absurd is
   product_completes (Mask t side) is = absurd is
   product_completes (Masked t side) is = absurd is
+  product_completes (Kept j) is = absurd is
 
   -- a slot completes one wire or none
   one_or_none : (z : Slot) → (completes x z ≡ []) ⊎ ((v : ℕ) × (completes x z ≡ v ∷ []))
@@ -98,6 +99,7 @@ module _ (x : Session) where
   one_or_none (Mask t side) = inr (mask_wire x t side, refl)
   one_or_none (Mask_product t) = inr (product_wire x t, refl)
   one_or_none (Masked t side) = inl refl
+  one_or_none (Kept j) = inl refl
 
   -- which it sets
   pub completes_sets : (z : Slot) (v : ℕ) → list_any (nat_eq v) (completes x z) ≡ true → list_any (nat_eq v) (sets_in x z) ≡ true
@@ -110,6 +112,7 @@ module _ (x : Session) where
   completes_sets (Mask t side) v h = h
   completes_sets (Mask_product t) v h = h
   completes_sets (Masked t side) v h = h
+  completes_sets (Kept j) v h = h
 
   -- a slot that joins nothing reads all that it reads in its head
   pub early_reads : (z : Slot) → is_join x z ≡ false → reads_early x z ≡ reads_in x z
@@ -136,6 +139,7 @@ module _ (x : Session) where
   factors_read (Output o) h = absurd h
   factors_read (Mask t side) h = absurd h
   factors_read (Masked t side) h = absurd h
+  factors_read (Kept j) h = absurd h
 
 module _ (w : World) (sound : IsSound w.plan) (got : Key → ℕ) (s p : ℕ) (ls : s < length w.plan.sessions) where
   abbrev plan : Plan
@@ -167,7 +171,7 @@ module _ (w : World) (sound : IsSound w.plan) (got : Key → ℕ) (s p : ℕ) (l
       let back : (y : Slot) (t : Instruction) → z ≡ y → free.Puts w got s p y t v → free.Puts w got s p z t v = λ y t e h. subst (λ y. free.Puts w got s p y t v) (sym e) h in
       let out : (y : Slot) → z ≡ y → Multiplied x y → (product_in x z).output ≡ v = λ y e is. only (product_in x z).output (product_completes x z (subst (Multiplied x) (sym e) is)) in
       every_tail plan s p _ j
-      (every_filter _ _ (to plan p) (numbers plan s j) (in_slot plan sound s p ls j lj) (λ n f e. free.take_puts w got s p n (message plan n).share v z (ap₂ (slot plan) f.1.2 f.1.0) only))
+      (every_filter _ _ (to plan p) (taken plan s j) (taken_in_slot plan sound s p ls j lj) (λ n it e. free.take_puts w got s p n (message plan n).share v z it.same only))
       (every_closing plan s p _ j (record {
         sums = λ y e is. free.sum_puts w got s p j v z refl (out y e is);
         opens = λ t side e. back _ _ e (free.open_puts w got s p j t v side e);
@@ -204,6 +208,7 @@ module _ (w : World) (sound : IsSound w.plan) (got : Key → ℕ) (s p : ℕ) (l
       of_product d k v (Output o) e is clear = absurd is
       of_product d k v (Mask t side) e is clear = absurd is
       of_product d k v (Masked t side) e is clear = absurd is
+      of_product d k v (Kept j) e is clear = absurd is
 
   -- ---- a slot before another, that it doesn't wait for
 

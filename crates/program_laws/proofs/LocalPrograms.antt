@@ -1,7 +1,6 @@
 -- A program posts and delivers what its party computes by itself: it does what its slots do one after another.
 use Rattle.std.proofs.Common.{◌≡◌, ℕ, ◌<◌, length, subst}
 use Rattle.list_laws.specs.Lists.{joined}
-use Rattle.job_session.specs.Sessions.{readers}
 use Rattle.job_plan.specs.Plans.{session, slots}
 use Rattle.job_plan.specs.declared.key.Key.{Key}
 use Rattle.job_plan.specs.Sound.{IsSound}
@@ -15,7 +14,7 @@ use Rattle.program_laws.specs.Exchanges.{Becomes}
 use Rattle.program_laws.proofs.BatchRuns.{whole, at_beginnings}
 use Rattle.program_laws.proofs.Exchanged.{becoming}
 use Rattle.program_laws.proofs.FreeSlots.{in_batch}
-use Rattle.program_laws.proofs.LocalSlots.{InOutputs, slots_met}
+use Rattle.program_laws.proofs.LocalSlots.{InKept, slots_met}
 use Rattle.program_laws.proofs.SlotRuns.{Runs}
 
 module _ (w : World) (sound : IsSound w.plan) (got : Key → ℕ) (s p : ℕ) (ls : s < length w.plan.sessions) where
@@ -34,7 +33,7 @@ module _ (w : World) (sound : IsSound w.plan) (got : Key → ℕ) (s p : ℕ) (l
     runs = record { sound = sound; session_there = ls; party_there = lp; small = small }
 
     abbrev Met : State → Type 0
-    Met = InOutputs w got s p runs (length (readers (session w.plan s)))
+    Met = InKept w got s p runs (length (session w.plan s).kept)
 
     pub met : Leaves (Goes w got s p) l (program w.plan p s) Met new_state
     met = let slots = slots_met w got s p runs in (by_batches.along new_state slots.0, subst Met (by_batches.same new_state) slots.1)

@@ -2,6 +2,7 @@
 use Rattle.std.proofs.Common.{◌≡◌, ◌≢◌, ℕ, zero, suc, ◌+◌, ◌*◌, ◌<◌, ◌≤◌, Bool, true, false, not, ◌&&◌, nat_lt, if◌then◌else◌, List, length, refl, sym, ap, ◌∙◌, subst, arith}
 use Rattle.std.specs.Prelude.{Some}
 use Rattle.std.proofs.lemmas.Bool.{cases_eq, cases_lt, cases_Bool, cond-true, cond-false, eq-eqb, ne_eqb, lt-ltb, le-ltb, both_ways}
+use Rattle.std.proofs.lemmas.List.Elements.{All-get_or}
 use mathlib.Core.Logic.{inl, inr}
 use Rattle.list_laws.specs.Lists.{joined}
 use Rattle.circuit_model.specs.Circuits.{is_product}
@@ -9,12 +10,15 @@ use Rattle.circuit_model.proofs.SetAt.{set_here, set_there}
 use Rattle.secret_sharing.specs.Schemes.{Run, summands}
 use Rattle.job_session.specs.declared.side.Side.{Side}
 use Rattle.job_session.specs.declared.side.Side.TheVariants.{First, Second}
-use Rattle.job_session.specs.Sessions.{Session, Slot, owners, readers, gate, output_wire, is_prepared, mask_wire, product_wire}
-use Rattle.job_session.specs.Sessions.Slot.{Input, At_gate, Output, Mask, Mask_product, Masked}
+use Rattle.job_session.specs.declared.source.Source.{Source}
+use Rattle.job_session.specs.declared.source.Source.TheVariants.{Given as GivenBy, Carried}
+use Rattle.job_session.specs.declared.values.KeptWire.{KeptWire}
+use Rattle.job_session.specs.Sessions.{Session, Slot, given_by, owners, readers, source, gate, kept_wire, no_kept, output_wire, is_prepared, mask_wire, product_wire}
+use Rattle.job_session.specs.Sessions.Slot.{Input, At_gate, Output, Mask, Mask_product, Masked, Kept}
 use Rattle.job_session.specs.SlotNumbers.{prepared_before, first_input, first_of_gate}
 use Rattle.job_session.specs.SoundSessions.{Inside, IsWired}
 use Rattle.job_session.proofs.SessionSlots.{slots_are_numbered}
-use Rattle.job_plan.specs.Plans.{Plan, session, slot, slots, slot_number, holds, giver, gives, given_before, opens_to}
+use Rattle.job_plan.specs.Plans.{Plan, session, slot, slots, slot_number, holds, gives, given_before, opens_to}
 use Rattle.job_plan.specs.declared.key.Key.{Key}
 use Rattle.share_world.specs.Worlds.{World}
 use Rattle.share_world.specs.Locals.{local_mask, local_mask_product, local_excess, local_run, local_output}
@@ -23,6 +27,7 @@ use Rattle.party_program.specs.Programs.{slot_program}
 use Rattle.party_program.specs.States.{Given, State, new_state, after_all}
 use Rattle.party_program.proofs.InstructionLists.{Leaves, leaves_append}
 use Rattle.program_laws.specs.Meets.{local_given, Goes}
+use Rattle.program_laws.proofs.CarriedSlots.{carried_input, kept_slot}
 use Rattle.program_laws.proofs.DealtSlots.{own_input, other_input, mask_slot}
 use Rattle.program_laws.proofs.OpenedSlots.{Showed, masked_wire, Delivered, output_slot}
 use Rattle.program_laws.proofs.ProductSlots.{Doing, Has, made_at, direct_product, product_of_masks, linear_gate, joined_gate}
@@ -208,18 +213,32 @@ module _ (w : World) (got : Key → ℕ) (s p : ℕ) (h : Runs w s p) where
         outputs = λ o lo r. absurd (omega (arith, lo));
       }
 
-  give : (v : ℕ) → v < many → Up (input_at v) (Giving v) → Up (input_at (suc v)) (Giving (suc v))
-  give v lv up =
+  -- what sets the row of input wire v, and deals so many inputs
+  set_input : (v count : ℕ) → v < many → count ≡ given_before plan p s (suc v)
+      → ((σ : State) → Giving v σ → Doing w got s p h (input_at v) (Rowed w got s p h v (run.start v) (suc (input_at v)) count σ) σ)
+      → Up (input_at v) (Giving v) → Up (input_at (suc v)) (Giving (suc v))
+  set_input v count lv counted does up =
       let k : ℕ = input_at v in
+      up_to (suc k) (input_at (suc v)) (Giving (suc v)) (Giving (suc v)) (omega arith)
+      (go_on k k (Giving v) (Giving (suc v)) refl up (λ σ i. doing k _ (Giving (suc v)) σ (does σ i) (λ τ r. given_next v count σ τ lv i counted r))) (λ σ i. i)
+
+  give : (v : ℕ) (o : Source) → v < many → source x v ≡ o → Up (input_at v) (Giving v) → Up (input_at (suc v)) (Giving (suc v))
+  give v (GivenBy q) lv is up =
+      let k : ℕ = input_at v in
+      let n : ℕ = given_before plan p s v in
       let at = there (Input v) lv in
-      up_to (suc k) (input_at (suc v)) (Giving (suc v)) (Giving (suc v)) (omega arith) (go_on k k (Giving v) (Giving (suc v)) refl up (λ σ i. elim (cases_eq (giver plan s v) p) [
+      elim (cases_eq q p) [
         | inl e ↦
-            let counted : given_before plan p s v + 1 ≡ given_before plan p s (suc v) = (let yes' : one (gives plan s p v) ≡ 1 = cond-true (gives plan s p v) 1 0 (eq-eqb (giver plan s v) p e) in omega (arith, yes')) in
-            doing k _ (Giving (suc v)) σ (own_input w got s p h v k (given_before plan p s v) at.1 at.0 lv σ i.ready e refl) (λ τ r. given_next v (given_before plan p s v + 1) σ τ lv i counted r)
+            let one' : one (gives plan s p v) ≡ 1 = cond-true (gives plan s p v) 1 0 (ap (given_by p) is ∙ eq-eqb q p e) in
+            set_input v (n + 1) lv (omega (arith, one')) (λ σ i. own_input w got s p h v q k n is at.1 at.0 lv σ i.ready e refl) up
         | inr ne ↦
-            let counted : given_before plan p s v ≡ given_before plan p s (suc v) = (let no' : one (gives plan s p v) ≡ 0 = cond-false (gives plan s p v) 1 0 (ne_eqb (giver plan s v) p ne) in omega (arith, no')) in
-            doing k _ (Giving (suc v)) σ (other_input w got s p h v k (given_before plan p s v) at.1 at.0 lv σ i.ready ne) (λ τ r. given_next v (given_before plan p s v) σ τ lv i counted r)
-      ])) (λ σ i. i)
+            let none : one (gives plan s p v) ≡ 0 = cond-false (gives plan s p v) 1 0 (ap (given_by p) is ∙ ne_eqb q p ne) in
+            set_input v n lv (omega (arith, none)) (λ σ i. other_input w got s p h v q k n is at.1 at.0 lv σ i.ready ne) up
+      ]
+  give v (Carried r c j) lv is up =
+      let at = there (Input v) lv in
+      let none : one (gives plan s p v) ≡ 0 = cond-false (gives plan s p v) 1 0 (ap (given_by p) is) in
+      set_input v (given_before plan p s v) lv (omega (arith, none)) (λ σ i. carried_input w got s p h v r c j (input_at v) (given_before plan p s v) is at.1 at.0 lv σ i.ready) up
 
   given : (v : ℕ) → v ≤ many → Up (input_at v) (Giving v)
   given zero le = up_to (first_of g) (input_at 0) (Preparing g) (Giving 0) (omega arith) (prepared g (omega arith)) (λ σ i. record {
@@ -228,7 +247,7 @@ module _ (w : World) (got : Key → ℕ) (s p : ℕ) (h : Runs w s p) where
     ready = ready_at w got s p h (first_of g) (input_at 0) 0 σ (omega arith) i.ready;
     outputs = λ o lo r. absurd (omega (arith, lo));
   })
-  given (suc v) le = give v (omega (arith, le)) (given v (omega (arith, le)))
+  given (suc v) le = give v (source x v) (omega (arith, le)) refl (given v (omega (arith, le)))
 
   -- ---- gates
 
@@ -330,7 +349,7 @@ module _ (w : World) (got : Key → ℕ) (s p : ℕ) (h : Runs w s p) where
   output_at o = gate_at g + o
 
   -- before the slot of output o
-  abbrev pub InOutputs : ℕ → State → Type 0
+  abbrev InOutputs : ℕ → State → Type 0
   InOutputs o = Stands (summands run g) g all_given (output_at o) o
 
   deliver : (o : ℕ) → o < length (readers x) → Up (output_at o) (InOutputs o) → Up (output_at (suc o)) (InOutputs (suc o))
@@ -358,5 +377,39 @@ module _ (w : World) (got : Key → ℕ) (s p : ℕ) (h : Runs w s p) where
   })
   delivered_up (suc o) le = deliver o (omega (arith, le)) (delivered_up o (omega (arith, le)))
 
-  pub slots_met : Leaves (Goes w got s p) (local_given w got s p) (joined (slots w.plan s) (slot_program w.plan p s)) (InOutputs (length (readers (session w.plan s)))) new_state
-  slots_met = up_to (output_at (length (readers x))) (slots plan s) (InOutputs (length (readers x))) (InOutputs (length (readers x))) (sym (slots_are_numbered x).count) (delivered_up (length (readers x)) (omega arith)) (λ σ i. i)
+  -- ---- kept wires
+
+  abbrev all_read : ℕ
+  all_read = length (readers x)
+
+  abbrev kept_at : ℕ → ℕ
+  kept_at j = output_at all_read + j
+
+  -- before the slot of the wire that is kept at place j
+  abbrev pub InKept : ℕ → State → Type 0
+  InKept j = Stands (summands run g) g all_given (kept_at j) all_read
+
+  keep : (j : ℕ) → j < length x.kept → Up (kept_at j) (InKept j) → Up (kept_at (suc j)) (InKept (suc j))
+  keep j lj up =
+      let k : ℕ = kept_at j in
+      let at = there (Kept j) lj in
+      let here : kept_wire x j < x.wires = (let inside = All-get_or (λ (wire : KeptWire). wire.output < length (readers x)) x.kept j no_kept lj wired.kept.outputs in omega (arith, inside, wired.output_wires)) in
+      up_to (suc k) (kept_at (suc j)) (InKept (suc j)) (InKept (suc j)) (omega arith) (go_on k k (InKept j) (InKept (suc j)) refl up (λ σ i.
+      doing k (λ τ. (τ ≡ σ) × Ready w got s p h (suc k) all_given τ) (InKept (suc j)) σ (kept_slot w got s p h j k all_given at.1 at.0 σ i.ready (λ u lu held. i.wires (kept_wire x j) u here lu held)) (λ τ r. record {
+        wires = λ v u lv lu held. ap (λ (ρ : State). ρ.rows v u) r.0 ∙ i.wires v u lv lu held;
+        trips = λ t lt its. trip_same t σ τ (ap (λ (ρ : State). ρ.rows) r.0) (i.trips t lt its);
+        ready = ready_at w got s p h (suc k) (kept_at (suc j)) all_given τ (omega arith) r.1;
+        outputs = λ o lo reads. ap (λ (ρ : State). ρ.outputs o) r.0 ∙ i.outputs o lo reads;
+      }))) (λ σ i. i)
+
+  kept_up : (j : ℕ) → j ≤ length x.kept → Up (kept_at j) (InKept j)
+  kept_up zero le = up_to (output_at all_read) (kept_at 0) (InOutputs all_read) (InKept 0) (omega arith) (delivered_up all_read (omega arith)) (λ σ i. record {
+    wires = i.wires;
+    trips = i.trips;
+    ready = ready_at w got s p h (output_at all_read) (kept_at 0) all_given σ (omega arith) i.ready;
+    outputs = i.outputs;
+  })
+  kept_up (suc j) le = keep j (omega (arith, le)) (kept_up j (omega (arith, le)))
+
+  pub slots_met : Leaves (Goes w got s p) (local_given w got s p) (joined (slots w.plan s) (slot_program w.plan p s)) (InKept (length (session w.plan s).kept)) new_state
+  slots_met = up_to (kept_at (length x.kept)) (slots plan s) (InKept (length x.kept)) (InKept (length x.kept)) (sym (slots_are_numbered x).count) (kept_up (length x.kept) (omega arith)) (λ σ i. i)

@@ -4,19 +4,21 @@ use Rattle.std.specs.List.{range_with_len, filter}
 use Rattle.std.proofs.lemmas.Bool.{cases_eq, cases_lt, cases_Bool, cond-true, cond-false, eq-eqb, eqb-true}
 use mathlib.Core.Logic.{inl, inr}
 use Rattle.list_laws.proofs.JoinedLists.{total_within}
-use Rattle.job_plan.specs.Plans.{Plan, slot, slots}
+use Rattle.job_plan.specs.Plans.{Plan, IsPlan, slot, slots}
 use Rattle.job_plan.specs.declared.key.Key.{Key}
 use Rattle.job_plan.specs.Messages.{messages}
 use Rattle.job_plan.specs.Numbers.{message}
 use Rattle.job_plan.specs.Firsts.{count, session_count, first, numbers}
 use Rattle.job_plan.proofs.DistinctMessages.{number_of_message}
-use Rattle.job_plan.proofs.MessageSlots.{IsThere, is_there, number_is}
+use Rattle.job_plan.proofs.MessageSlots.{IsThere, number_is}
 use Rattle.party_program.specs.declared.program.Instruction.{Instruction}
 use Rattle.party_program.specs.declared.program.Instruction.TheVariants.{Post, Take, End}
-use Rattle.party_program.specs.Programs.{at, from, to, post, take_of, passes, opening, posts, takes, head, tail, slot_program}
-use Rattle.program_laws.specs.Once.{StandsOnceInSlot, IsOnceInSlot}
+use Rattle.party_program.specs.Programs.{at, from, to, post, take_of, passes, passed, opening, posts, takes, head, tail, slot_program}
+use Rattle.program_laws.specs.Once.{StandsOnceInSlot, IsOnceInSlot, taken_at, take_session, take_slot}
 use Rattle.program_laws.proofs.ContainedInstructions.{Contains, contains_left, contains_right, contains_kept}
 use Rattle.program_laws.proofs.SameTalks.{told, slot_told}
+use Rattle.program_laws.proofs.SentMessages.{there}
+use Rattle.program_laws.proofs.TakenMessages.{session_there, takes_from, taken_there, same_or_later}
 
 -- ---- numbers that rise
 
@@ -86,8 +88,47 @@ module _ (mine : ℕ → Bool) where
 
 -- ---- the numbers of a slot
 
-slot_rises : (plan : Plan) (b : Bool) (p s k : ℕ) → Rises (passes b plan p) (first plan s k) (first plan s k + count plan s k) (flat_map (told b) (slot_program plan p s k))
-slot_rises plan b p s k = subst (Rises (passes b plan p) (first plan s k) (first plan s k + count plan s k)) (sym (slot_told plan s p b k)) (kept (passes b plan p) (first plan s k) (count plan s k))
+-- where the messages of slot k of session s are posted, or else taken
+abbrev standing : Bool → Plan → ℕ → ℕ → ℕ × ℕ
+standing true plan s k = (s, k)
+standing false plan s k = taken_at plan s k
+
+-- number n is of a slot whose messages stand in slot j of session t
+pub record IsOf (plan : Plan) (b : Bool) (t j n : ℕ) : Type 0 where
+  pub at : ℕ
+  pub place : ℕ
+  pub within : place < slots plan at
+  pub least : first plan at place ≤ n
+  pub below : n < first plan at place + count plan at place
+  pub stands : standing b plan at place ≡ (t, j)
+
+-- what p posts in slot j of session t, or else takes there, rises in a range of such numbers
+pub record Ranges (plan : Plan) (b : Bool) (p t j : ℕ) : Type 0 where
+  pub lo : ℕ
+  pub hi : ℕ
+  pub rises : Rises (passes b plan p) lo hi (flat_map (told b) (slot_program plan p t j))
+  pub of : (n : ℕ) → lo ≤ n → n < hi → IsOf plan b t j n
+
+ranges_of : (plan : Plan) (b : Bool) (p t j s k : ℕ) → k < slots plan s → passed b plan t j ≡ numbers plan s k → standing b plan s k ≡ (t, j) → Ranges plan b p t j
+ranges_of plan b p t j s k lk are stands = record {
+  lo = first plan s k;
+  hi = first plan s k + count plan s k;
+  rises = subst (Rises (passes b plan p) (first plan s k) (first plan s k + count plan s k)) (sym (slot_told plan t p b j ∙ ap (filter (passes b plan p)) are))
+      (kept (passes b plan p) (first plan s k) (count plan s k));
+  of = λ n low high. record { at = s; place = k; within = lk; least = low; below = high; stands = stands };
+}
+
+ranges : (plan : Plan) → IsPlan plan → (b : Bool) (p t j : ℕ) → j < slots plan t → Ranges plan b p t j
+ranges plan h true p t j lj = ranges_of plan true p t j t j lj refl refl
+ranges plan h false p t j lj = elim (takes_from plan h t j (session_there plan t j lj) lj) [
+  | inl none ↦ record {
+    lo = 0;
+    hi = 0;
+    rises = subst (Rises (passes false plan p) 0 0) (sym (slot_told plan t p false j ∙ ap (filter (passes false plan p)) none)) (omega arith);
+    of = λ n low high. absurd (omega (arith, high));
+  }
+  | inr from ↦ ranges_of plan false p t j from.at from.place from.slot_there from.are from.to
+]
 
 -- a number of two slots shows that they are one
 one_slot : (plan : Plan) (s k t j n : ℕ) → k < slots plan s → j < slots plan t → first plan s k ≤ n → n < first plan s k + count plan s k → first plan t j ≤ n → n < first plan t j + count plan t j → (t ≡ s) × (j ≡ k)
@@ -117,47 +158,60 @@ module _ (plan : Plan) (n : ℕ) (l : n < length (messages plan)) where
   abbrev key : Key
   key = message plan n
 
-  pub there : IsThere plan key key.session key.slot
-  there = is_there plan key (subst (λ z. z < length (messages plan)) (sym (number_of_message plan n l)) l)
+  is : IsThere plan key key.session key.slot
+  is = there plan n l
 
-  number_here : first plan key.session key.slot + there.place ≡ n
-  number_here = sym (number_is plan key key.session key.slot there.place there.session_within there.slot_within there.place_within there.is) ∙ number_of_message plan n l
+  number_here : first plan key.session key.slot + is.place ≡ n
+  number_here = sym (number_is plan key key.session key.slot is.place is.session_within is.slot_within is.place_within is.is) ∙ number_of_message plan n l
 
   kept_here : (f : ℕ → Instruction) (test : ℕ → Bool) → test n ≡ true → Contains (map f (filter test (numbers plan key.session key.slot))) (f n)
   kept_here f test e =
       subst (λ z. Contains (map f (filter test (numbers plan key.session key.slot))) (f z)) number_here
-      (contains_kept f test (first plan key.session key.slot) (count plan key.session key.slot) there.place there.place_within (ap test number_here ∙ e))
+      (contains_kept f test (first plan key.session key.slot) (count plan key.session key.slot) is.place is.place_within (ap test number_here ∙ e))
 
-  -- it is posted in the head of its slot, and taken in the tail
+  -- it is posted in the head of its slot
   pub head_posts : Contains (head plan key.sender key.session key.slot) (post plan n)
   head_posts = contains_right (opening plan key.sender key.session key.slot (slot plan key.session key.slot)) (posts plan key.sender key.session key.slot) (post plan n) (kept_here (post plan) (from plan key.sender) (eq-eqb key.sender key.sender refl))
 
-  tail_takes : Contains (tail plan key.receiver key.session key.slot) (take_of plan n)
-  tail_takes = contains_left (takes plan key.receiver key.session key.slot) _ (take_of plan n) (kept_here (take_of plan) (to plan key.receiver) (eq-eqb key.receiver key.receiver refl))
+  module _ (h : IsPlan plan) where
+    -- and taken in the tail of the slot where those of its slot are taken
+    tail_takes : Contains (tail plan key.receiver (take_session plan n) (take_slot plan n)) (take_of plan n)
+    tail_takes =
+        let at = taken_there plan h key.session key.slot is.session_within is.slot_within (omega (arith, is.place_within)) in
+        contains_left (takes plan key.receiver (take_session plan n) (take_slot plan n)) _ (take_of plan n)
+        (subst (λ ns. Contains (map (take_of plan) (filter (to plan key.receiver) ns)) (take_of plan n)) (sym at.are)
+        (kept_here (take_of plan) (to plan key.receiver) (eq-eqb key.receiver key.receiver refl)))
 
-  stands_once : (b : Bool) (kind : ℕ → Instruction) (p : ℕ) → told b End ≡ [] → ((i : ℕ) → told b (kind i) ≡ n ∷ []) → ((r : ℕ) → passes b plan r n ≡ true → r ≡ p)
-      → Contains (slot_program plan p key.session key.slot) (kind key.share) → StandsOnceInSlot plan kind p key.session key.slot key.share
-  stands_once b kind p ends names party here =
-      let s : ℕ = key.session in
-      let k : ℕ = key.slot in
-      let low : first plan s k ≤ n = omega (arith, number_here) in
-      let high : n < first plan s k + count plan s k = omega (arith, number_here, there.place_within) in
-      record {
-        position = here.0;
-        within = here.1;
-        stands = here.2;
-        alone = λ r t j u i lj e.
-            let found : told b (at (slot_program plan r t j) u) ≡ n ∷ [] = ap (told b) e ∙ names i in
-            let his = bounds (passes b plan r) (told b) ends (first plan t j) (first plan t j + count plan t j) (slot_program plan r t j) u n (slot_rises plan b r t j) found in
-            let same_party : r ≡ p = party r his.2 in
-            let same = one_slot plan s k t j n there.slot_within lj low high his.0 his.1 in
-            let moved : told b (at (slot_program plan p s k) u) ≡ n ∷ [] =
-            ap₂ (λ x y. told b (at (slot_program plan x y k) u)) (sym same_party) (sym same.0) ∙ ap (λ y. told b (at (slot_program plan r t y) u)) (sym same.1) ∙ found in
-            (same_party, same.0, same.1, one_place (passes b plan p) (told b) ends (first plan s k) (first plan s k + count plan s k) (slot_program plan p s k) u here.0 n (slot_rises plan b p s k) moved (ap (told b) here.2 ∙ names key.share));
-      }
+    stands_once : (b : Bool) (kind : ℕ → Instruction) (p s k : ℕ) → told b End ≡ [] → ((i : ℕ) → told b (kind i) ≡ n ∷ []) → ((r : ℕ) → passes b plan r n ≡ true → r ≡ p)
+        → standing b plan key.session key.slot ≡ (s, k) → Contains (slot_program plan p s k) (kind key.share) → StandsOnceInSlot plan kind p s k key.share
+    stands_once b kind p s k ends names party stands here =
+        let low : first plan key.session key.slot ≤ n = omega (arith, number_here) in
+        let high : n < first plan key.session key.slot + count plan key.session key.slot = omega (arith, number_here, is.place_within) in
+        record {
+          position = here.0;
+          within = here.1;
+          stands = here.2;
+          alone = λ r t j u i lj e.
+              let found : told b (at (slot_program plan r t j) u) ≡ n ∷ [] = ap (told b) e ∙ names i in
+              let all = ranges plan h b r t j lj in
+              let his = bounds (passes b plan r) (told b) ends all.lo all.hi (slot_program plan r t j) u n all.rises found in
+              let same_party : r ≡ p = party r his.2 in
+              let of = all.of n his.0 his.1 in
+              let same = one_slot plan key.session key.slot of.at of.place n is.slot_within of.within low high of.least of.below in
+              let slot_is : (t, j) ≡ (s, k) = sym of.stands ∙ ap₂ (standing b plan) same.0 same.1 ∙ stands in
+              let same_session : t ≡ s = ap (λ (x : ℕ × ℕ). x.0) slot_is in
+              let same_slot : j ≡ k = ap (λ (x : ℕ × ℕ). x.1) slot_is in
+              let moved : told b (at (slot_program plan p s k) u) ≡ n ∷ [] =
+              ap₂ (λ x y. told b (at (slot_program plan x y k) u)) (sym same_party) (sym same_session) ∙ ap (λ y. told b (at (slot_program plan r t y) u)) (sym same_slot) ∙ found in
+              let own = ranges plan h b p s k (subst (λ z. k < slots plan z) same_session (subst (λ z. z < slots plan t) same_slot lj)) in
+              (same_party, same_session, same_slot, one_place (passes b plan p) (told b) ends own.lo own.hi (slot_program plan p s k) u here.0 n own.rises moved (ap (told b) here.2 ∙ names key.share));
+        }
 
-  pub once_in_slot : IsOnceInSlot plan key.session key.slot n
-  once_in_slot = record {
-    posted = stands_once true (Post n) key.sender refl (λ i. refl) (λ x e. sym (eqb-true key.sender x e)) (contains_left (head plan key.sender key.session key.slot) (tail plan key.sender key.session key.slot) (post plan n) head_posts);
-    taken = stands_once false (Take n) key.receiver refl (λ i. refl) (λ x e. sym (eqb-true key.receiver x e)) (contains_right (head plan key.receiver key.session key.slot) (tail plan key.receiver key.session key.slot) (take_of plan n) tail_takes);
-  }
+    pub once_in_slot : IsOnceInSlot plan key.session key.slot n
+    once_in_slot = record {
+      posted = stands_once true (Post n) key.sender key.session key.slot refl (λ i. refl) (λ x e. sym (eqb-true key.sender x e)) refl
+          (contains_left (head plan key.sender key.session key.slot) (tail plan key.sender key.session key.slot) (post plan n) head_posts);
+      taken = stands_once false (Take n) key.receiver (take_session plan n) (take_slot plan n) refl (λ i. refl) (λ x e. sym (eqb-true key.receiver x e)) refl
+          (contains_right (head plan key.receiver (take_session plan n) (take_slot plan n)) (tail plan key.receiver (take_session plan n) (take_slot plan n)) (take_of plan n) tail_takes);
+      order = same_or_later plan h key.session key.slot is.session_within is.slot_within;
+    }

@@ -5,7 +5,7 @@ use Rattle.std.proofs.lemmas.Bool.{cases_Bool, cond-true, cond-false, eq-eqb, eq
 use mathlib.Core.Logic.{inl, inr}
 use Rattle.list_laws.specs.Lists.{total, joined}
 use Rattle.list_laws.proofs.Totals.{total_one, total_zero}
-use Rattle.job_plan.specs.Plans.{Plan, session, slots}
+use Rattle.job_plan.specs.Plans.{Plan, IsPlan, session, slots}
 use Rattle.job_plan.specs.declared.key.Key.{Key}
 use Rattle.job_plan.specs.Messages.{messages}
 use Rattle.job_plan.specs.Numbers.{message}
@@ -13,11 +13,13 @@ use Rattle.job_session.specs.Batches.{batch}
 use Rattle.party_program.specs.declared.program.Instruction.{Instruction}
 use Rattle.party_program.specs.declared.program.Instruction.TheVariants.{Post, Take, End}
 use Rattle.party_program.specs.Programs.{at, head, tail, tails, program, slot_program}
-use Rattle.program_laws.specs.Once.{StandsOnce, StandsOnceInSlot, IsOnce}
+use Rattle.program_laws.specs.Once.{StandsOnce, StandsOnceInSlot, IsOnce, take_session, take_slot}
 use Rattle.program_laws.proofs.BatchRuns.{whole}
 use Rattle.program_laws.proofs.ContainedInstructions.{Contains, contains_left, contains_right}
-use Rattle.program_laws.proofs.OnceInSlots.{there, once_in_slot}
+use Rattle.program_laws.proofs.OnceInSlots.{once_in_slot}
 use Rattle.program_laws.proofs.ProgramParts.{all_parts, at_within, is_within, slot_in}
+use Rattle.program_laws.proofs.SentMessages.{there}
+use Rattle.program_laws.proofs.TakenMessages.{taken_there}
 
 -- ---- how many instructions of a list pass
 
@@ -119,12 +121,9 @@ in_slots plan s p =
     all_at Q [] h = tt
     all_at Q (e ∷ es) h = (h 0 (omega arith), all_at Q es (λ q l. h (suc q) (omega (arith, l))))
 
-module _ (plan : Plan) (b : Bool) (n p k : ℕ) (key : Key) (lk : k < slots plan key.session) (stands : StandsOnceInSlot plan (kind_of b n) p key.session k key.share) where
-  abbrev s : ℕ
-  s = key.session
-
-  here : Contains (program plan p s) (kind_of b n key.share)
-  here = slot_in plan s p k (kind_of b n key.share) lk (stands.position, stands.within, stands.stands)
+module _ (plan : Plan) (b : Bool) (n p s k share : ℕ) (lk : k < slots plan s) (stands : StandsOnceInSlot plan (kind_of b n) p s k share) where
+  here : Contains (program plan p s) (kind_of b n share)
+  here = slot_in plan s p k (kind_of b n share) lk (stands.position, stands.within, stands.stands)
 
   few : times (names b n) (program plan p s) ≤ 1
   few =
@@ -133,7 +132,7 @@ module _ (plan : Plan) (b : Bool) (n p k : ℕ) (key : Key) (lk : k < slots plan
       let sum = total_one (slots plan s) k c (λ j. 0) lk (λ j lj ne. none_pass (names b n) (slot_program plan p s j) (λ q e. let is = is_kind b n (at (slot_program plan p s j) q) e in ne (stands.alone p s j q is.0 lj is.1).2)) in
       omega (arith, own, sum, total_zero (slots plan s) (λ j. 0) (λ j lj. refl), times_stay (names b n) plan s p)
 
-  in_program : StandsOnce plan (kind_of b n) p key
+  in_program : StandsOnce plan (kind_of b n) p s share
   in_program = record {
     position = here.0;
     stands = here.2;
@@ -142,17 +141,18 @@ module _ (plan : Plan) (b : Bool) (n p k : ℕ) (key : Key) (lk : k < slots plan
         let slot_is = at_within _ (program plan r t) u within (in_slots plan t r) in
         let his = stands.alone r t slot_is.0 slot_is.2.0 i slot_is.1 (slot_is.2.2 ∙ e) in
         let moved : at (program plan p s) u ≡ kind_of b n i = ap₂ (λ x y. at (program plan x y) u) (sym his.0) (sym his.1) ∙ e in
-        (his.0, his.1, one_place (names b n) refl (program plan p s) u here.0 few (ap (names b n) moved ∙ kind_named b n i) (ap (names b n) here.2 ∙ kind_named b n key.share));
+        (his.0, his.1, one_place (names b n) refl (program plan p s) u here.0 few (ap (names b n) moved ∙ kind_named b n i) (ap (names b n) here.2 ∙ kind_named b n share));
   }
 
-pub once : (plan : Plan) (n : ℕ) → n < length (messages plan) → IsOnce plan n
-once plan n l =
+pub once : (plan : Plan) (n : ℕ) → IsPlan plan → n < length (messages plan) → IsOnce plan n
+once plan n h l =
     let key : Key = message plan n in
     let is = there plan n l in
-    let slotwise = once_in_slot plan n l in
+    let slotwise = once_in_slot plan n l h in
+    let at = taken_there plan h key.session key.slot is.session_within is.slot_within (omega (arith, is.place_within)) in
     record {
       session_there = is.session_within;
       slot_there = is.slot_within;
-      posted = in_program plan true n key.sender key.slot key is.slot_within slotwise.posted;
-      taken = in_program plan false n key.receiver key.slot key is.slot_within slotwise.taken;
+      posted = in_program plan true n key.sender key.session key.slot key.share is.slot_within slotwise.posted;
+      taken = in_program plan false n key.receiver (take_session plan n) (take_slot plan n) key.share at.slot_there slotwise.taken;
     }

@@ -14,7 +14,7 @@ use Rattle.share_world.specs.Locals.{local_output}
 use Rattle.party_program.specs.declared.program.Instruction.{Instruction}
 use Rattle.party_program.specs.declared.program.Instruction.TheVariants.{Draw, Deal, Post, Take, Linear, Own, Sum, Open, Join, Deliver, End}
 use Rattle.party_program.specs.Programs.{program, at}
-use Rattle.party_program.specs.States.{Given, State, new_state, state, next, drawn_in, dealt_in, took_in, opened, opened_in, joined_in, word_after, slot_of, output_in_slot}
+use Rattle.party_program.specs.States.{Given, State, new_state, state, next, drawn_in, dealt_in, took_in, opened, opened_in, joined_in, word_after, taking_slot, output_in_slot}
 use Rattle.party_program.proofs.InstructionLists.{along_at, state_is}
 use Rattle.program_laws.specs.Meets.{local_given, Goes, SmallTape}
 use Rattle.program_laws.proofs.LocalPrograms.{met}
@@ -63,7 +63,7 @@ module _ (w : World) (sound : IsSound w.plan) (got : Key → ℕ) (s p : ℕ) (l
   opens_next : (q o v : ℕ) (e : Instruction) → at (program w.plan p s) q ≡ e → ((o v : ℕ) → (state l q).outputs o ≡ Some v → Opens o v) → (next l e (state l q)).outputs o ≡ Some v → Opens o v
   opens_next q o v (Draw k) is before f = before o v (sym (ap (λ z. z o) (drawn_outputs w.plan p s (word_after l (state l q).drawn) (slot w.plan s k) (state l q))) ∙ f)
   opens_next q o v (Deal k d) is before f = before o v (sym (ap (λ z. z o) (dealt_outputs w.plan p s _ _ (slot w.plan s k) (state l q))) ∙ f)
-  opens_next q o v (Take n i) is before f = before o v (sym (ap (λ z. z o) (took_outputs w.plan p s (slot_of w.plan n) i _ (state l q))) ∙ f)
+  opens_next q o v (Take n i) is before f = before o v (sym (ap (λ z. z o) (took_outputs w.plan p s (taking_slot w.plan n) i _ (state l q))) ∙ f)
   opens_next q o v (Open k) is before f = before o v (sym (ap (λ z. z o) (opened_outputs w.plan p s (slot w.plan s k) (state l q))) ∙ f)
   opens_next q o v (Join k) is before f = before o v (sym (ap (λ z. z o) (joined_outputs w.plan p s (slot w.plan s k) (state l q))) ∙ f)
   opens_next q o v (Deliver k) is before f =

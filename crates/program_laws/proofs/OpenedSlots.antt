@@ -27,13 +27,13 @@ use Rattle.share_world.specs.Worlds.{World}
 use Rattle.share_world.specs.Locals.{local_mask, local_opened, local_excess, local_output, local_run, local_word_in}
 use Rattle.party_program.specs.declared.program.Instruction.{Instruction}
 use Rattle.party_program.specs.declared.program.Instruction.TheVariants.{Open, Deliver}
-use Rattle.party_program.specs.Programs.{from, to, post, opening, closing, takes}
+use Rattle.party_program.specs.Programs.{from, to, post, opening, closing}
 use Rattle.party_program.specs.States.{Given, State, next, after_all, posted, excess_of, opened, opened_in, delivered, output_in_slot, set_side}
 use Rattle.party_program.specs.Proper.{IsMasked, IsOutput}
 use Rattle.party_program.proofs.InstructionLists.{Leaves}
 use Rattle.program_laws.specs.Meets.{local_given, OpensRight, OpensExcess, RightAt, Goes}
 use Rattle.program_laws.proofs.ProductSlots.{Doing, Has}
-use Rattle.program_laws.proofs.SlotRuns.{Runs, valid, positive, number_is, more_words, Ready, key, In, numbered, ShownBy, all_shown, slot_is, word_of, none_taken, slot_leaves}
+use Rattle.program_laws.proofs.SlotRuns.{Runs, valid, positive, number_is, more_words, Ready, key, In, numbered, ShownBy, all_shown, slot_is, word_of, none_taken, TakesOwn, own_takes, taking_is, own_leaves}
 use Rattle.program_laws.proofs.SlotTakes.{Adds, SumsOf, tally, takes_sums}
 use Rattle.program_laws.proofs.SlotTallies.{key_tally, tally_is, key_tally-joined, key_tally-only_if, one_tally, no_words, total_only}
 
@@ -64,6 +64,7 @@ module _ (w : World) (got : Key → ℕ) (s p : ℕ) (h : Runs w s p) where
     pub keys : (k : ℕ) → slot_messages w.plan s k z ≡ joined w.plan.parties (λ r. only_if (opens_to w.plan s r z) (open_messages w.plan s k r))
     pub opens : (k : ℕ) → opening w.plan p s k z ≡ []
     pub adds : Adds z
+    pub own : TakesOwn w got s p h z
     pub word : (k i r : ℕ) → local_word_in w got p (key w got s p h k i p r) z ≡ value i
     pub sent : (i : ℕ) (σ : State) → posted w.plan s z i σ ≡ held σ i
     pub words : words_in w.plan s p z ≡ 0
@@ -119,10 +120,10 @@ module _ (w : World) (got : Key → ℕ) (s p : ℕ) (h : Runs w s p) where
         ∙ key_tally-only_if got p i (opens_to plan s p z) (open_messages plan s k p) ∙ cond-true (opens_to plan s p z) _ 0 reads ∙ mine'
 
     abbrev taken : State
-    taken = after_all l (takes plan p s k) σ
+    taken = after_all l (own_takes w got s p h k) σ
 
     took : SumsOf m q σ taken (λ i. 0 + tally l i ns)
-    took = takes_sums l m z ns σ (λ i. 0) kind.adds (every_filter _ _ (to plan p) (numbers plan s k) all (λ n f e. slot_is w got s p h k z n _ _ _ at f.1.0))
+    took = takes_sums l m z ns σ (λ i. 0) kind.adds (every_filter _ _ (to plan p) (numbers plan s k) all (λ n f e. taking_is w got s p h k z n _ _ _ kind.own at f.1.0))
         (λ i li. ready.sums i li ∙ sym (mod-eq_of_lt (positive w got s p h)))
 
     -- what p opens
@@ -140,7 +141,7 @@ module _ (w : World) (got : Key → ℕ) (s p : ℕ) (h : Runs w s p) where
     -- one instruction ends it
     opening_slot : (e : Instruction) (R : State → Type 0) → closing plan p s k z ≡ e ∷ [] → Goes w got s p e taken → R (next l e taken) → Doing w got s p h k R σ
     opening_slot e R closes goes after' =
-        slot_leaves w got s p h k z at lk σ σ (λ ρ. ρ ≡ taken) R
+        own_leaves w got s p h k z kind.own at lk σ σ (λ ρ. ρ ≡ taken) R
         (subst (λ ys. Leaving ys (λ τ. τ ≡ σ) σ) (sym (kind.opens k)) (tt, refl))
         sends refl
         (λ ρ same. subst (λ y. Leaving y R ρ) (sym closes) (subst (Leaving (e ∷ []) R) (sym same) ((goes, tt), after')))
@@ -149,7 +150,7 @@ module _ (w : World) (got : Key → ℕ) (s p : ℕ) (h : Runs w s p) where
     unread_slot : opens_to plan s p z ≡ false → (R : State → Type 0) → closing plan p s k z ≡ [] → R σ → Doing w got s p h k R σ
     unread_slot not' R closes after' =
         let none : taken ≡ σ = none_taken w got s p h ns σ (every_filter _ _ (to plan p) (numbers plan s k) all (λ n f e. both_ways (opens_to plan s p z) not' (subst (λ y. opens_to plan s y z ≡ true) (eqb-true _ _ e) f.1.2))) in
-        slot_leaves w got s p h k z at lk σ σ (λ ρ. ρ ≡ σ) R
+        own_leaves w got s p h k z kind.own at lk σ σ (λ ρ. ρ ≡ σ) R
         (subst (λ ys. Leaving ys (λ τ. τ ≡ σ) σ) (sym (kind.opens k)) (tt, refl))
         sends none
         (λ ρ same. subst (λ y. Leaving y R ρ) (sym closes) (tt, subst R (sym same) after'))
@@ -168,6 +169,7 @@ module _ (w : World) (got : Key → ℕ) (s p : ℕ) (h : Runs w s p) where
     keys = λ k. refl;
     opens = λ k. refl;
     adds = tt;
+    own = record { all = λ k. refl; same = refl };
     word = λ k i r. refl;
     sent = λ i σ. refl;
     words = refl;
@@ -214,6 +216,7 @@ module _ (w : World) (got : Key → ℕ) (s p : ℕ) (h : Runs w s p) where
     keys = λ k. refl;
     opens = λ k. refl;
     adds = tt;
+    own = record { all = λ k. refl; same = refl };
     word = λ k i r. refl;
     sent = λ i σ. refl;
     words = refl;

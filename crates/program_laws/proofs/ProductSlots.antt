@@ -27,12 +27,12 @@ use Rattle.share_world.specs.Locals.{key_at, local_deal, local_mask, local_mask_
 use Rattle.share_world.proofs.LocalWords.{holder_own}
 use Rattle.party_program.specs.declared.program.Instruction.{Instruction}
 use Rattle.party_program.specs.declared.program.Instruction.TheVariants.{Deal, Linear, Own, Sum, Join}
-use Rattle.party_program.specs.Programs.{from, to, post, opening, closing, takes, slot_program}
+use Rattle.party_program.specs.Programs.{from, to, post, opening, closing, slot_program}
 use Rattle.party_program.specs.States.{Given, State, next, after_all, posted, dealt_as, dealt_in, multiplied, summed, computed, joined_in, word_after}
 use Rattle.party_program.specs.Proper.{Deals, IsGate, Multiplies}
 use Rattle.party_program.proofs.InstructionLists.{Leaves}
 use Rattle.program_laws.specs.Meets.{local_given, RightAt, IsNextInput, Goes}
-use Rattle.program_laws.proofs.SlotRuns.{Runs, valid, positive, number_is, word_is, more_words, Ready, Rowed, key, In, numbered, DealtBy, all_dealt, slot_is, word_of, none_taken, slot_leaves}
+use Rattle.program_laws.proofs.SlotRuns.{Runs, valid, positive, number_is, word_is, more_words, Ready, Rowed, key, In, numbered, DealtBy, all_dealt, slot_is, word_of, none_taken, TakesOwn, own_takes, taking_is, own_leaves}
 use Rattle.program_laws.proofs.SlotTakes.{Adds, SumsOf, tally, takes_sums}
 use Rattle.program_laws.proofs.SlotTallies.{key_tally, tally_is, key_tally-joined, key_tally-only_if, deal_tally, no_words}
 
@@ -68,6 +68,7 @@ module _ (w : World) (got : Key → ℕ) (s p : ℕ) (h : Runs w s p) where
     pub opens : (k : ℕ) → opening plan p s k z ≡ only_if (has_pair (scheme plan) p) (Own k ∷ Deal k (deals_before plan p s k) ∷ [])
     pub closes : (k : ℕ) → closing plan p s k z ≡ Sum k ∷ []
     pub adds : Adds z
+    pub own : TakesOwn w got s p h z
     pub word : (k i r : ℕ) → local_word_in w got p (key w got s p h k i p r) z ≡ dealt (scheme plan) (own_product (scheme plan) p a b) (tape_word w s z p) i
     pub sent : (i : ℕ) (σ : State) → posted plan s z i σ ≡ σ.rows (product_in x z).output i
     pub made : (words : ℕ → ℕ) (input : ℕ) (σ : State) → dealt_in plan s words input z σ ≡ dealt_as plan words σ.own (product_in x z).output σ
@@ -86,6 +87,7 @@ module _ (w : World) (got : Key → ℕ) (s p : ℕ) (h : Runs w s p) where
         opens = λ k. ap₂ (λ b c. only_if b (Own k ∷ Deal k (deals_before plan p s k) ∷ []) ++ only_if (not c) (Linear k ∷ [])) (deals' p) both.1 ∙ append-nil _;
         closes = λ k. ap₂ (λ b c. only_if b (Sum k ∷ []) ++ only_if c (Join k ∷ [])) is (ap (λ a. a && is_product (gate x t).operation) (not-true x.prepared both.0));
         adds = tt;
+        own = record { all = λ k. refl; same = refl };
         word = λ k i r. refl;
         sent = λ i σ. refl;
         made = λ words input σ. refl;
@@ -102,6 +104,7 @@ module _ (w : World) (got : Key → ℕ) (s p : ℕ) (h : Runs w s p) where
     opens = λ k. refl;
     closes = λ k. refl;
     adds = tt;
+    own = record { all = λ k. refl; same = refl };
     word = λ k i r. refl;
     sent = λ i σ. refl;
     made = λ words input σ. refl;
@@ -167,9 +170,9 @@ module _ (w : World) (got : Key → ℕ) (s p : ℕ) (h : Runs w s p) where
         → (pairs ≡ true → (i : ℕ) → σ2.rows g.output i ≡ mine i) → σ2.drawn ≡ words_before plan p s (suc k)
         → Leaves (Goes w got s p) l (opening plan p s k z) (λ τ. τ ≡ σ2) σ → Doing k (Rowed w got s p h g.output product (suc k) count σ) σ
     rest σ2 rows outputs excess given none mine' drawn opens =
-        let τ : State = after_all l (takes plan p s k) σ2 in
+        let τ : State = after_all l (own_takes w got s p h k) σ2 in
         let R : State → Type 0 = Rowed w got s p h g.output product (suc k) count σ in
-        let took : SumsOf m q σ2 τ (λ i. 0 + tally l i ns) = takes_sums l m z ns σ2 (λ i. 0) kind.adds (every_filter _ _ (to plan p) (numbers plan s k) all (λ n f e. slot_is w got s p h k z n _ _ _ at f.1.0))
+        let took : SumsOf m q σ2 τ (λ i. 0 + tally l i ns) = takes_sums l m z ns σ2 (λ i. 0) kind.adds (every_filter _ _ (to plan p) (numbers plan s k) all (λ n f e. taking_is w got s p h k z n _ _ _ kind.own at f.1.0))
         (λ i li. ap (λ f. f i) none ∙ ready.sums i li ∙ sym (mod-eq_of_lt (positive w got s p h))) in
         let done : State = summed plan p g τ in
         let does : next l (Sum k) τ ≡ done = ap (λ y. summed plan p (product_in x y) τ) at in
@@ -188,7 +191,7 @@ module _ (w : World) (got : Key → ℕ) (s p : ℕ) (h : Runs w s p) where
           excess = took.excess ∙ excess;
           ready = record { sums = λ i li. refl; drawn = took.drawn ∙ drawn; given = took.given ∙ given ∙ ready.given };
         } in
-        slot_leaves w got s p h k z at lk σ σ2 (λ ρ. ρ ≡ τ) R opens
+        own_leaves w got s p h k z kind.own at lk σ σ2 (λ ρ. ρ ≡ τ) R opens
         (every_filter _ _ (from plan p) (numbers plan s k) all (λ n f e.
         let sender : (message plan n).sender ≡ p = eqb-true _ _ e in
         let i : ℕ = (message plan n).share in
@@ -290,7 +293,7 @@ module _ (w : World) (got : Key → ℕ) (s p : ℕ) (h : Runs w s p) where
           excess = refl;
           ready = record { sums = ready.sums; drawn = ready.drawn ∙ sym no_more; given = ready.given };
         } in
-        slot_leaves w got s p h k (At_gate t) at lk σ σ1 (λ ρ. ρ ≡ σ1) R opens
+        own_leaves w got s p h k (At_gate t) (record { all = λ k. refl; same = refl }) at lk σ σ1 (λ ρ. ρ ≡ σ1) R opens
         (none_there (λ n. RightAt w got s p (post plan n) σ1) (from plan p))
         (none_taken w got s p h (filter (to plan p) (numbers plan s k)) σ1 (none_there (λ n. ⊥) (to plan p)))
         (λ ρ same. subst (Leaves (Goes w got s p) l (closing plan p s k (At_gate t)) R) (sym same) (closes.0, subst R (sym (closes.1 ∙ is)) after'))

@@ -1,6 +1,5 @@
 -- The heads and tails of a program: what stands in them, and what each of their instructions names.
-use Rattle.std.proofs.Common.{◌≡◌, ◌≢◌, ℕ, zero, suc, ◌+◌, ◌-◌, ◌<◌, ◌≤◌, Bool, true, false, not, ◌&&◌, nat_eq, nat_lt, List, [], ◌∷◌, ◌++◌, map, length, refl, sym, ap, ◌∙◌, subst, arith, length-append}
-use Rattle.std.specs.Prelude.{slice_index}
+use Rattle.std.proofs.Common.{◌≡◌, ◌≢◌, ℕ, zero, suc, ◌+◌, ◌-◌, ◌<◌, ◌≤◌, Bool, true, false, not, nat_lt, List, [], ◌∷◌, ◌++◌, map, length, refl, sym, ap, ◌∙◌, subst, arith, length-append}
 use Rattle.std.specs.List.{AllByRecursion, filter}
 use Rattle.std.proofs.lemmas.Bool.{cases_lt, cond-true, and_from, and_parts, eqb-true, false≢true, ltb-true}
 use Rattle.std.proofs.lemmas.List.{get_or_past, get_or-append-add}
@@ -10,26 +9,26 @@ use Rattle.list_laws.specs.Lists.{joined, only_if}
 use Rattle.list_laws.proofs.JoinedLists.{every_joined, every_only_if, every_append}
 use Rattle.circuit_model.specs.Circuits.{is_product}
 use Rattle.secret_sharing.specs.Schemes.{has_pair}
-use Rattle.job_session.specs.Sessions.{Session, Slot, owners, gate, is_direct, is_prepared}
-use Rattle.job_session.specs.SoundSessions.{Inside}
+use Rattle.job_session.specs.Sessions.{Session, Slot, gate, is_direct, is_prepared}
 use Rattle.job_session.specs.declared.side.Side.{Side}
-use Rattle.job_session.specs.Sessions.Slot.{Input, At_gate, Output, Mask, Mask_product, Masked}
-use Rattle.job_session.proofs.SessionSlots.{slots_are_numbered}
-use Rattle.job_plan.specs.Plans.{Plan, IsPlan, scheme, session, slot, slots, holds, least_holder, deals_in, opens_to, gives, giver, words_in}
-use Rattle.job_plan.specs.declared.key.Key.{Key}
+use Rattle.job_session.specs.Sessions.Slot.{Input, At_gate, Output, Mask, Mask_product, Masked, Kept}
+use Rattle.job_plan.specs.Plans.{Plan, IsPlan, scheme, session, slot, slots, deals_in, opens_to, gives, words_in}
 use Rattle.job_plan.specs.Firsts.{numbers}
-use Rattle.job_plan.specs.Messages.{messages, slot_messages, deal_message, product_messages, open_messages}
+use Rattle.job_plan.specs.Messages.{messages}
 use Rattle.job_plan.specs.Numbers.{message, deals_before}
 use Rattle.job_plan.specs.Sound.{IsSound}
-use Rattle.job_plan.proofs.PlanSchemes.{least_within, plan_is}
-use Rattle.job_plan.proofs.SlotMessages.{each_number, every_filter}
+use Rattle.job_plan.proofs.PlanSchemes.{plan_is}
+use Rattle.job_plan.proofs.SlotMessages.{every_filter}
 use Rattle.job_session.specs.Batches.{batch, is_last}
 use Rattle.party_program.specs.declared.program.Instruction.{Instruction}
 use Rattle.party_program.specs.declared.program.Instruction.TheVariants.{Draw, Deal, Post, Take, Linear, Own, Sum, Open, Join, Deliver, End}
-use Rattle.party_program.specs.Programs.{at, from, to, post, take_of, opening, closing, posts, takes, head, tail, tails, turn, program, slot_program}
+use Rattle.party_program.specs.Programs.{at, from, to, post, take_of, opening, closing, posts, taken, takes, head, tail, tails, turn, program, slot_program}
 use Rattle.party_program.specs.Proper.{IsMask, IsMasked, IsOutput}
 use Rattle.job_session.proofs.BatchOrder.{batch_within, last_of}
+use Rattle.program_laws.specs.Once.{take_slot}
 use Rattle.program_laws.proofs.ContainedInstructions.{Contains, contains_left, contains_right, contains_joined}
+use Rattle.program_laws.proofs.SentMessages.{Of, each, givers}
+use Rattle.program_laws.proofs.TakenMessages.{IsTakenIn, all_taken}
 
 pub at_within : (P : Instruction → Type 0) (es : List Instruction) (q : ℕ) → q < length es → AllByRecursion P es → P (at es q)
 at_within P [] q l h = absurd (omega arith)
@@ -127,6 +126,7 @@ module _ (plan : Plan) (s p : ℕ) where
         opens (Mask t side) e = every_only_if Q (nat_lt 0 (words_in plan s p (Mask t side))) _ (λ b. (each.draws t side e (ltb-true 0 (words_in plan s p (Mask t side)) b), tt))
         opens (Mask_product t) e = every_only_if Q (deals_in plan s p (Mask_product t)) _ (λ b. both (Mask_product t) e tt b)
         opens (Masked t side) e = tt
+        opens (Kept j) e = tt
 
     pub every_closing : OfClosing → AllByRecursion Q (closing plan p s k (slot plan s k))
     every_closing each = closes (slot plan s k) refl
@@ -140,42 +140,13 @@ module _ (plan : Plan) (s p : ℕ) where
         closes (Mask t side) e = tt
         closes (Mask_product t) e = (each.sums (Mask_product t) e tt, tt)
         closes (Masked t side) e = (each.opens t side e, tt)
+        closes (Kept j) e = tt
 
     pub every_head : AllByRecursion Q (opening plan p s k (slot plan s k)) → AllByRecursion (λ n. Q (post plan n)) (filter (from plan p) (numbers plan s k)) → AllByRecursion Q (head plan p s k)
     every_head opens sent = every_append Q (opening plan p s k (slot plan s k)) (posts plan p s k) opens (every_map Q (post plan) _ sent)
 
-    pub every_tail : AllByRecursion (λ n. Q (take_of plan n)) (filter (to plan p) (numbers plan s k)) → AllByRecursion Q (closing plan p s k (slot plan s k)) → AllByRecursion Q (tail plan p s k)
+    pub every_tail : AllByRecursion (λ n. Q (take_of plan n)) (filter (to plan p) (taken plan s k)) → AllByRecursion Q (closing plan p s k (slot plan s k)) → AllByRecursion Q (tail plan p s k)
     every_tail got closes = every_append Q (takes plan p s k) (closing plan p s k (slot plan s k)) (every_map Q (take_of plan) _ got) closes
-
--- ---- the messages of a slot
-
--- the message is of this session and slot, and from a party
-abbrev pub Of : Plan → ℕ → ℕ → Key → Type 0
-Of plan s k y = (y.slot ≡ k) × (y.sender < plan.parties) × (y.session ≡ s)
-
-module _ (plan : Plan) (h : IsPlan plan) (s k : ℕ) where
-  of_deals : (sender : ℕ → ℕ) → ((i : ℕ) → i < length plan.groups → sender i < plan.parties) → AllByRecursion (Of plan s k) (joined (length plan.groups) (λ i. joined plan.parties (deal_message plan s k (sender i) i)))
-  of_deals sender within = every_joined (Of plan s k) (length plan.groups) _ (λ i li. every_joined (Of plan s k) plan.parties _ (λ r lr. every_only_if (Of plan s k) (not (nat_eq r (sender i)) && holds plan r i) _ (λ e. ((refl, within i li, refl), tt))))
-
-  of_products : (z : Slot) → AllByRecursion (Of plan s k) (product_messages plan s k z)
-  of_products z = every_joined (Of plan s k) plan.parties _ (λ d ld. every_only_if (Of plan s k) (deals_in plan s d z) _ (λ e. of_deals (λ i. d) (λ i li. ld)))
-
-  of_openings : (r : ℕ) → AllByRecursion (Of plan s k) (open_messages plan s k r)
-  of_openings r = every_joined (Of plan s k) (length plan.groups) _ (λ i li. every_only_if (Of plan s k) (not (holds plan r i)) _ (λ e. ((refl, least_within plan h i li, refl), tt)))
-
-  of_slot : (z : Slot) → ((v : ℕ) → z ≡ Input v → giver plan s v < plan.parties) → AllByRecursion (Of plan s k) (slot_messages plan s k z)
-  of_slot (Input v) owned = of_deals (λ i. giver plan s v) (λ i li. owned v refl)
-  of_slot (At_gate t) owned = of_products (At_gate t)
-  of_slot (Output o) owned = every_joined (Of plan s k) plan.parties _ (λ r lr. every_only_if (Of plan s k) (opens_to plan s r (Output o)) _ (λ e. of_openings r))
-  of_slot (Mask t side) owned = of_deals (least_holder plan) (least_within plan h)
-  of_slot (Mask_product t) owned = of_products (Mask_product t)
-  of_slot (Masked t side) owned = every_joined (Of plan s k) plan.parties _ (λ r lr. of_openings r)
-
-pub each : (plan : Plan) → IsPlan plan → (s k : ℕ) → s < length plan.sessions → ((v : ℕ) → v < length (owners (session plan s)) → slice_index (owners (session plan s)) v < plan.parties) → k < slots plan s
-    → AllByRecursion (λ n. (n < length (messages plan)) × Of plan s k (message plan n)) (numbers plan s k)
-each plan h s k ls owned lk =
-    let inside : Inside (session plan s) (slot plan s k) = (slots_are_numbered (session plan s)).inside k lk in
-    each_number plan s k ls lk (Of plan s k) (of_slot plan h s k (slot plan s k) (λ v e. owned v (subst (Inside (session plan s)) e inside)))
 
 -- ---- what instructions name, where the plan is within the limits
 
@@ -185,6 +156,12 @@ pub record Names (plan : Plan) (s n i : ℕ) : Type 0 where
   pub slot : (message plan n).slot < slots plan s
   pub session : (message plan n).session ≡ s
   pub sender : (message plan n).sender < plan.parties
+  pub share : i ≡ (message plan n).share
+
+-- it is taken in this session, in a slot that is there
+pub record Gets (plan : Plan) (s n i : ℕ) : Type 0 where
+  pub slot : take_slot plan n < slots plan s
+  pub taken : IsTakenIn plan s (take_slot plan n) n
   pub share : i ≡ (message plan n).share
 
 module _ (plan : Plan) (sound : IsSound plan) (s p : ℕ) (ls : s < length plan.sessions) where
@@ -209,6 +186,7 @@ module _ (plan : Plan) (sound : IsSound plan) (s p : ℕ) (ls : s < length plan.
   dealing (Output o) is pair = absurd is
   dealing (Mask t side) is pair = absurd is
   dealing (Masked t side) is pair = absurd is
+  dealing (Kept j) is pair = absurd is
 
   abbrev Linears : Slot → Type 0
   Linears z = (t : ℕ) × (z ≡ At_gate t) × (is_product (gate (session plan s) t).operation ≡ false)
@@ -226,14 +204,24 @@ module _ (plan : Plan) (sound : IsSound plan) (s p : ℕ) (ls : s < length plan.
   Fits (Join k) = Is k Joins
   Fits (Deliver k) = Is k IsOutput
   Fits (Post n i) = Names plan s n i × ((message plan n).sender ≡ p)
-  Fits (Take n i) = Names plan s n i
+  Fits (Take n i) = Gets plan s n i
   Fits End = ⊥
 
+  -- the messages of a slot
   pub in_slot : (k : ℕ) → k < slots plan s → AllByRecursion (λ n. (n < length (messages plan)) × Of plan s k (message plan n)) (numbers plan s k)
   in_slot k lk = each plan is_plan s k ls (sound.sessions s ls).owned lk
 
+  -- and those that are taken there
+  pub taken_in_slot : (k : ℕ) → k < slots plan s → AllByRecursion (IsTakenIn plan s k) (taken plan s k)
+  taken_in_slot k lk = all_taken plan is_plan (givers plan sound) s k ls lk
+
   named : (k n : ℕ) → k < slots plan s → (n < length (messages plan)) × Of plan s k (message plan n) → Names plan s n (message plan n).share
   named k n lk f = record { number = f.0; slot = (let a = f.1.0 in omega arith); session = f.1.2; sender = f.1.1; share = refl }
+
+  got_here : (k n : ℕ) → k < slots plan s → IsTakenIn plan s k n → Gets plan s n (message plan n).share
+  got_here k n lk it =
+      let here : take_slot plan n ≡ k = ap (λ (at : ℕ × ℕ). at.1) it.to in
+      record { slot = omega (arith, here, lk); taken = subst (λ j. IsTakenIn plan s j n) (sym here) it; share = refl }
 
   heads_fit : (k : ℕ) → k < slots plan s → AllByRecursion Fits (head plan p s k)
   heads_fit k lk = every_head plan s p Fits k
@@ -247,7 +235,7 @@ module _ (plan : Plan) (sound : IsSound plan) (s p : ℕ) (ls : s < length plan.
 
   tails_fit : (k : ℕ) → k < slots plan s → AllByRecursion Fits (tail plan p s k)
   tails_fit k lk = every_tail plan s p Fits k
-      (every_filter _ _ (to plan p) (numbers plan s k) (in_slot k lk) (λ n f e. named k n lk f))
+      (every_filter _ _ (to plan p) (taken plan s k) (taken_in_slot k lk) (λ n f e. got_here k n lk f))
       (every_closing plan s p Fits k (record {
         sums = λ z e is. (lk, subst Product (sym e) is);
         opens = λ t side e. (lk, subst IsMasked (sym e) tt);

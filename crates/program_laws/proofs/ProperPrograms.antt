@@ -9,7 +9,7 @@ use Rattle.list_laws.specs.Lists.{total}
 use Rattle.list_laws.proofs.JoinedLists.{total_within}
 use Rattle.job_session.specs.Sessions.{Slot, owners}
 use Rattle.job_plan.specs.Plans.{Plan, session, slot, slots, deals_in, least_held, words, gives, words_in, words_before, input_count}
-use Rattle.job_session.specs.Sessions.Slot.{Input, At_gate, Output, Mask, Mask_product, Masked}
+use Rattle.job_session.specs.Sessions.Slot.{Input, At_gate, Output, Mask, Mask_product, Masked, Kept}
 use Rattle.job_plan.specs.Sound.{IsSound}
 use Rattle.job_plan.specs.declared.key.Key.{Key}
 use Rattle.job_session.specs.SoundSessions.{Inside}
@@ -18,7 +18,7 @@ use Rattle.share_world.specs.Worlds.{World}
 use Rattle.party_program.specs.declared.program.Instruction.{Instruction}
 use Rattle.party_program.specs.declared.program.Instruction.TheVariants.{Draw, Deal, Post, Take, Linear, Own, Sum, Open, Join, Deliver, End}
 use Rattle.party_program.specs.Programs.{program, at}
-use Rattle.party_program.specs.States.{Given, State, new_state, state, after, drawn_in, dealt_in, took_in, opened_in, joined_in, word_after, slot_of}
+use Rattle.party_program.specs.States.{Given, State, new_state, state, after, drawn_in, dealt_in, took_in, opened_in, joined_in, word_after, taking_slot}
 use Rattle.party_program.specs.Proper.{Proper, IsMask, CanDraw, CanDealIn, HasInput}
 use Rattle.party_program.specs.GivenData.{Suits}
 use Rattle.party_program.proofs.InstructionLists.{along_at, state_is}
@@ -56,7 +56,7 @@ joined_same plan s _ σ τ e = e
 after_same : (plan : Plan) (p s : ℕ) (f g : ℕ → ℕ) (x y : ℕ) (got had : ℕ → ℕ) (e : Instruction) (σ τ : State) → HasDone σ τ → HasDone (after plan p s f x got e σ) (after plan p s g y had e τ)
 after_same plan p s f g x y got had (Draw k) σ τ h = drawn_same plan p s f g (slot plan s k) σ τ h
 after_same plan p s f g x y got had (Deal k d) σ τ h = dealt_same plan s f g x y (slot plan s k) σ τ h
-after_same plan p s f g x y got had (Take n i) σ τ h = took_same plan s (slot_of plan n) i (got n) (had n) σ τ h
+after_same plan p s f g x y got had (Take n i) σ τ h = took_same plan s (taking_slot plan n) i (got n) (had n) σ τ h
 after_same plan p s f g x y got had (Open k) σ τ h = opened_same plan p s (slot plan s k) σ τ h
 after_same plan p s f g x y got had (Join k) σ τ h = joined_same plan s (slot plan s k) σ τ h
 after_same plan p s f g x y got had (Post n i) σ τ h = h
@@ -130,6 +130,7 @@ module _ (plan : Plan) (h : IsSound plan) (s p : ℕ) (ls : s < length plan.sess
     has_input (Output o) inside yes' done next' = absurd (false≢true yes')
     has_input (Mask t side) inside yes' done next' = absurd (false≢true yes')
     has_input (Masked t side) inside yes' done next' = absurd (false≢true yes')
+    has_input (Kept j) inside yes' done next' = absurd (false≢true yes')
 
     abbrev here : ℕ → State
     here q = state (given plan p s inputs tape got) q
@@ -160,6 +161,7 @@ module _ (plan : Plan) (h : IsSound plan) (s p : ℕ) (ls : s < length plan.sess
         drawn_there (Output o) is = absurd is
         drawn_there (Mask_product t) is = absurd is
         drawn_there (Masked t side) is = absurd is
+        drawn_there (Kept j) is = absurd is
 
     -- a deal finds its words and its input
     pub deal_at : (q k d : ℕ) → at (program plan p s) q ≡ Deal k d → CanDealIn (given plan p s inputs tape got) k (state (given plan p s inputs tape got) q)
@@ -179,6 +181,7 @@ module _ (plan : Plan) (h : IsSound plan) (s p : ℕ) (ls : s < length plan.sess
         dealt_words (Output o) is = absurd (false≢true is)
         dealt_words (Mask t side) is = absurd (false≢true is)
         dealt_words (Masked t side) is = absurd (false≢true is)
+        dealt_words (Kept j) is = absurd (false≢true is)
 
 -- ---- the same of what suits the plan
 

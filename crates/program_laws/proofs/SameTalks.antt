@@ -10,7 +10,7 @@ use Rattle.job_plan.specs.Numbers.{message, deals_before}
 use Rattle.job_session.specs.Batches.{batch}
 use Rattle.party_program.specs.declared.program.Instruction.{Instruction}
 use Rattle.party_program.specs.declared.program.Instruction.TheVariants.{Draw, Deal, Post, Take, Linear, Own, Sum, Open, Join, Deliver}
-use Rattle.party_program.specs.Programs.{from, to, post, take_of, passes, opening, closing, posts, takes, head, tail, tails, program, slot_program}
+use Rattle.party_program.specs.Programs.{from, to, post, take_of, passes, passed, opening, closing, posts, taken, takes, head, tail, tails, program, slot_program}
 use Rattle.program_laws.specs.Talks.{post_no, take_no}
 use Rattle.program_laws.proofs.BatchRuns.{IsKept, whole}
 use Rattle.program_laws.proofs.ProgramParts.{every_opening, every_closing}
@@ -100,7 +100,7 @@ module _ (plan : Plan) (s p : ℕ) where
     quiet_head posts' k = flat_map-append f (opening plan p s k (slot plan s k)) (posts plan p s k) ∙ ap₂ (λ x y. x ++ y) (opening_tells k) (map_quiet f (post plan) (filter (from plan p) (numbers plan s k)) (λ n. posts' n (message plan n).share))
 
     pub quiet_tail : ((n i : ℕ) → f (Take n i) ≡ []) → (k : ℕ) → flat_map f (tail plan p s k) ≡ []
-    quiet_tail takes' k = flat_map-append f (takes plan p s k) (closing plan p s k (slot plan s k)) ∙ ap₂ (λ x y. x ++ y) (map_quiet f (take_of plan) (filter (to plan p) (numbers plan s k)) (λ n. takes' n (message plan n).share)) (closing_tells k)
+    quiet_tail takes' k = flat_map-append f (takes plan p s k) (closing plan p s k (slot plan s k)) ∙ ap₂ (λ x y. x ++ y) (map_quiet f (take_of plan) (filter (to plan p) (taken plan s k)) (λ n. takes' n (message plan n).share)) (closing_tells k)
 
   no_posts : Quiet post_no
   no_posts (Post n i) h = absurd h
@@ -119,7 +119,7 @@ module _ (plan : Plan) (s p : ℕ) where
   tail_posts : (k : ℕ) → flat_map post_no (tail plan p s k) ≡ []
   tail_posts = quiet_tail post_no no_posts (λ n i. refl)
 
-  tail_takes : (k : ℕ) → flat_map take_no (tail plan p s k) ≡ filter (to plan p) (numbers plan s k)
+  tail_takes : (k : ℕ) → flat_map take_no (tail plan p s k) ≡ filter (to plan p) (taken plan s k)
   tail_takes k = flat_map-append take_no (takes plan p s k) (closing plan p s k (slot plan s k)) ∙ ap₂ (λ x y. x ++ y) (map_told take_no (take_of plan) _ (λ n. refl)) (closing_tells take_no no_takes k) ∙ append-nil _
 
   pub posts_stay : flat_map post_no (program plan p s) ≡ flat_map post_no (joined (slots plan s) (slot_program plan p s))
@@ -128,8 +128,8 @@ module _ (plan : Plan) (s p : ℕ) where
   pub takes_stay : flat_map take_no (program plan p s) ≡ flat_map take_no (joined (slots plan s) (slot_program plan p s))
   takes_stay = told_stays take_no (inl head_takes)
 
-  -- the numbers of a slot that p sends, or else gets
-  pub slot_told : (b : Bool) (k : ℕ) → flat_map (told b) (slot_program plan p s k) ≡ filter (passes b plan p) (numbers plan s k)
+  -- the numbers that p posts in a slot, or else takes there
+  pub slot_told : (b : Bool) (k : ℕ) → flat_map (told b) (slot_program plan p s k) ≡ filter (passes b plan p) (passed b plan s k)
   slot_told true k = flat_map-append post_no (head plan p s k) (tail plan p s k) ∙ ap₂ (λ x y. x ++ y) (head_posts k) (tail_posts k) ∙ append-nil _
   slot_told false k = flat_map-append take_no (head plan p s k) (tail plan p s k) ∙ ap₂ (λ x y. x ++ y) (head_takes k) (tail_takes k)
 

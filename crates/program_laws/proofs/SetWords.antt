@@ -1,5 +1,5 @@
 -- What an instruction reads was set before, and what is still to be read stands in a row of its own.
-use Rattle.std.proofs.Common.{◌≡◌, ◌≢◌, ◌⊎◌, ℕ, suc, ◌+◌, ◌-◌, ◌<◌, ◌≤◌, Bool, true, false, not, ◌&&◌, nat_eq, nat_lt, List, [], ◌∷◌, map, length, refl, sym, ap, ap₂, ◌∙◌, subst, arith}
+use Rattle.std.proofs.Common.{◌≡◌, ◌≢◌, ◌⊎◌, ℕ, suc, ◌+◌, ◌-◌, ◌<◌, ◌≤◌, Bool, true, false, not, ◌&&◌, nat_eq, nat_lt, List, [], ◌∷◌, map, length, refl, sym, ap, ◌∙◌, subst, arith}
 use Rattle.std.specs.Prelude.{slice_index, if◌then◌else◌}
 use Rattle.std.specs.List.{AllByRecursion, list_any, filter}
 use Rattle.std.proofs.lemmas.Bool.{cases_Bool, cases_eq, cases_lt, both_ways, false≢true, cond-true, eq-eqb, lt-ltb, and_parts, and_from, or_parts, not_from_false}
@@ -9,8 +9,10 @@ use Rattle.list_laws.specs.Lists.{only_if}
 use Rattle.list_laws.proofs.JoinedLists.{total_within}
 use Rattle.circuit_model.specs.Circuits.{is_product}
 use Rattle.secret_sharing.specs.Schemes.{has_pair}
-use Rattle.job_session.specs.Sessions.{Session, Slot, gate, is_direct, is_prepared, mask_wire, product_wire, product_in, session_slots}
-use Rattle.job_session.specs.Sessions.Slot.{Input, At_gate, Output, Mask, Mask_product, Masked}
+use Rattle.job_session.specs.declared.source.Source.{Source}
+use Rattle.job_session.specs.declared.source.Source.TheVariants.{Given, Carried}
+use Rattle.job_session.specs.Sessions.{Session, Slot, given_by, readers, source, gate, is_direct, is_prepared, mask_wire, product_wire, product_in, session_slots}
+use Rattle.job_session.specs.Sessions.Slot.{Input, At_gate, Output, Mask, Mask_product, Masked, Kept}
 use Rattle.job_session.specs.declared.side.Side.{Side}
 use Rattle.job_session.specs.declared.side.Side.TheVariants.{First, Second}
 use Rattle.job_session.specs.KeptWires.{IsInOrder, IsRowTable, is_read, slot_sets, slot_reads, sets_in}
@@ -18,24 +20,26 @@ use Rattle.job_session.specs.SlotNumbers.{first_of_gate, session_slot_number, Sl
 use Rattle.job_session.specs.SoundSessions.{Inside}
 use Rattle.job_session.proofs.KeptRows.{some_found, some_at, sets_one}
 use Rattle.job_session.proofs.SessionSlots.{slots_are_numbered}
-use Rattle.job_plan.specs.Plans.{Plan, scheme, session, slot, slots, holds, least_holder, least_held, words_in, deals_in, giver}
+use Rattle.job_plan.specs.Plans.{Plan, scheme, session, slot, slots, holds, least_holder, least_held, words_in, deals_in}
 use Rattle.job_plan.specs.Firsts.{numbers}
-use Rattle.job_plan.specs.Messages.{slot_messages}
+use Rattle.job_plan.specs.Messages.{slot_messages, input_messages}
 use Rattle.job_plan.specs.Numbers.{message, deals_before}
 use Rattle.job_plan.specs.Sound.{IsSound}
 use Rattle.job_plan.proofs.SlotMessages.{keys_are, every_filter}
 use Rattle.job_session.specs.Batches.{batch, completes, slot_completes, is_join, sets_early, reads_early}
 use Rattle.party_program.specs.declared.program.Instruction.{Instruction}
 use Rattle.party_program.specs.declared.program.Instruction.TheVariants.{Draw, Deal, Post, Take, Linear, Own, Sum, Open, Join, Deliver, End}
-use Rattle.party_program.specs.Programs.{program, at, to, take_of, opening, closing, posts, takes}
+use Rattle.party_program.specs.Programs.{program, at, to, take_of, input_taken, opening, closing, posts, taken, taken_in, takes}
 use Rattle.program_laws.specs.WordsRead.{gate_at, Deals, Takes, SetsSummand, ReadsSummand, IsSet, IsToRead}
 use Rattle.job_session.proofs.BatchOrder.{batch_within, no_wait, rising}
+use Rattle.program_laws.proofs.CarriedSlots.{carried_has}
 use Rattle.program_laws.proofs.ContainedInstructions.{Contains, contains_left, contains_right}
 use Rattle.program_laws.proofs.FreeSlots.{none_passes, early_reads, product_completes}
-use Rattle.program_laws.proofs.ProgramParts.{Multiplied, fits, in_slot, head_in, tail_in}
+use Rattle.program_laws.proofs.ProgramParts.{Multiplied, fits, is_plan, taken_in_slot, head_in, tail_in}
 use Rattle.program_laws.proofs.Ranks.{part_at, step_at, past, rank, ranks_rise, few}
 use Rattle.program_laws.proofs.SlotTakes.{Has}
 use Rattle.program_laws.proofs.SlotTallies.{Any, any_number, deal_any, row_any}
+use Rattle.program_laws.proofs.TakenMessages.{IsTakenIn}
 use Rattle.program_laws.proofs.TouchedWires.{Sets, ReadsLate, ReadsThere, ReadsOwn, OwnIn, Reading, all_sets, sets_of, reads_at, own_sets, joined_there}
 use Rattle.share_world.proofs.Settled.{is_one, of_one}
 pub use Rattle.program_laws.proofs.Ranks.{named}
@@ -126,6 +130,7 @@ module _ (plan : Plan) (sound : IsSound plan) (s p : ℕ) (ls : s < length plan.
   deal_there j v (Output o) lj here e d = absurd d
   deal_there j v (Mask t side) lj here e d = absurd d
   deal_there j v (Masked t side) lj here e d = absurd d
+  deal_there j v (Kept u) lj here e d = absurd d
 
   -- who is the least holder of a summand draws in the slot of a mask
   draw_there : (j t i : ℕ) (side : Side) → i < m → j < slots plan s → slot plan s j ≡ Mask t side → least_holder plan i ≡ p → Contains es (Draw j)
@@ -135,11 +140,7 @@ module _ (plan : Plan) (sound : IsSound plan) (s p : ℕ) (ls : s < length plan.
       let within : least_held plan p i + mine i ≤ least_held plan p m = total_within m i mine li in
       opened j (Draw j) (Mask t side) lj here (only (nat_lt 0 (words_in plan s p (Mask t side))) (Draw j) (lt-ltb 0 (least_held plan p m) (omega arith)))
 
-  -- a message of slot j
-  abbrev Here : ℕ → ℕ → Type 0
-  Here j n = ((message plan n).slot ≡ j) × ((message plan n).session ≡ s)
-
-  has_take : (i j : ℕ) (ns : List ℕ) → AllByRecursion (Here j) ns → Has plan i ns → (n : ℕ) × Contains (map (take_of plan) ns) (take_of plan n) × ((message plan n).share ≡ i) × Here j n
+  has_take : (i j : ℕ) (ns : List ℕ) → AllByRecursion (IsTakenIn plan s j) ns → Has plan i ns → (n : ℕ) × Contains (map (take_of plan) ns) (take_of plan n) × ((message plan n).share ≡ i) × IsTakenIn plan s j n
   has_take i j [] all h = absurd h
   has_take i j (n ∷ ns) all (inl e) = (n, (0, omega arith, refl), e, all.0)
   has_take i j (n ∷ ns) all (inr more) =
@@ -147,18 +148,23 @@ module _ (plan : Plan) (sound : IsSound plan) (s p : ℕ) (ls : s < length plan.
       (rest.0, contains_right (take_of plan n ∷ []) (map (take_of plan) ns) (take_of plan rest.0) rest.1, rest.2, rest.3)
 
   -- what comes to the party is taken
-  taken : (v i j : ℕ) (z : Slot) → j < slots plan s → slot plan s j ≡ z → Takes x z v → slot_completes x j v ≡ true → Any p i (slot_messages plan s j z) → Setter j v i
-  taken v i j z lj here takes_in complete any =
-      let all = subst (Any p i) (sym (keys_are plan s j ls lj)) (subst (λ z. Any p i (slot_messages plan s j z)) (sym here) any) in
-      let of_slot = every_filter _ (Here j) (to plan p) (numbers plan s j) (in_slot plan sound s p ls j lj) (λ n f t. (f.1.0, f.1.2)) in
-      let one = has_take i j (filter (to plan p) (numbers plan s j)) of_slot (any_number plan p i (numbers plan s j) all) in
+  takes_it : (v i j : ℕ) (z : Slot) → j < slots plan s → slot plan s j ≡ z → Takes x z v → slot_completes x j v ≡ true → Has plan i (filter (to plan p) (taken plan s j)) → Setter j v i
+  takes_it v i j z lj here takes_in complete has =
+      let one = has_take i j (filter (to plan p) (taken plan s j)) (every_filter _ (IsTakenIn plan s j) (to plan p) (taken plan s j) (taken_in_slot plan sound s p ls j lj) (λ n it e. it)) has in
       record {
         instruction = take_of plan one.0;
         stands = tail_in plan s p j (take_of plan one.0) lj (contains_left (takes plan p s j) _ (take_of plan one.0) one.1);
-        sets = (subst (λ y. Takes x y v) (sym (ap₂ (slot plan) one.3.1 one.3.0 ∙ here)) takes_in, sym one.2);
-        named = one.3.0;
+        sets = (subst (λ y. Takes x y v) (sym (one.3.same ∙ here)) takes_in, sym one.2);
+        named = ap (λ (at : ℕ × ℕ). at.1) one.3.to;
         late = λ e. complete;
       }
+
+  -- where the messages of the slot are taken in it
+  taken_there : (v i j : ℕ) (z : Slot) → j < slots plan s → slot plan s j ≡ z → taken_in plan s j z ≡ numbers plan s j → Takes x z v → slot_completes x j v ≡ true → Any p i (slot_messages plan s j z) → Setter j v i
+  taken_there v i j z lj here own takes_in complete any =
+      takes_it v i j z lj here takes_in complete
+      (subst (λ ns. Has plan i (filter (to plan p) ns)) (sym (ap (taken_in plan s j) here ∙ own))
+      (any_number plan p i (numbers plan s j) (subst (Any p i) (sym (keys_are plan s j ls lj)) (subst (λ z. Any p i (slot_messages plan s j z)) (sym here) any))))
 
   -- a product that is dealt is set by its sum
   summed : (v i j : ℕ) (z : Slot) → slot plan s j ≡ z → Multiplied x z → v ≡ (product_in x z).output → Contains es (Sum j) → Setter j v i
@@ -202,20 +208,23 @@ module _ (plan : Plan) (sound : IsSound plan) (s p : ℕ) (ls : s < length plan.
       neither true product a b = b
       neither false product a b = a
 
+  input_setter : (v i j u : ℕ) (from : Source) → i < m → holds plan p i ≡ true → j < slots plan s → slot plan s j ≡ Input u → source x u ≡ from → v ≡ u → Setter j v i
+  input_setter v i j u (Given o) li has lj here is same = elim (cases_eq o p) [
+    | inl own ↦ record {
+      instruction = Deal j (deals_before plan p s j);
+      stands = deal_there j v (Input u) lj here (ap (given_by p) is ∙ eq-eqb o p own) same;
+      sets = subst (λ y. Deals x y v) (sym here) same;
+      named = refl;
+      late = λ e. never e;
+    }
+    | inr other ↦ taken_there v i j (Input u) lj here (ap (input_taken plan s j u) is) same (ap (λ z. list_any (nat_eq v) (completes x z)) here ∙ is_one u v same)
+        (subst (Any p i) (sym (ap (input_messages plan s j) is)) (deal_any plan s j o p i lp li (λ z. other (sym z)) has))
+  ]
+  input_setter v i j u (Carried r c n) li has lj here is same =
+      takes_it v i j (Input u) lj here same (ap (λ z. list_any (nat_eq v) (completes x z)) here ∙ is_one u v same) (carried_has plan (is_plan plan sound s p ls) s u r c n j is here p i lp li has)
+
   setter : (v i : ℕ) → i < m → holds plan p i ≡ true → (j : ℕ) (z : Slot) → j < slots plan s → slot plan s j ≡ z → list_any (nat_eq v) (sets_in x z) ≡ true → Setter j v i
-  setter v i li has j (Input u) lj here h =
-      let same : v ≡ u = of_one u v h in
-      let o : ℕ = giver plan s u in
-      elim (cases_eq o p) [
-        | inl own ↦ record {
-          instruction = Deal j (deals_before plan p s j);
-          stands = deal_there j v (Input u) lj here (eq-eqb o p own) same;
-          sets = subst (λ y. Deals x y v) (sym here) same;
-          named = refl;
-          late = λ e. never e;
-        }
-        | inr other ↦ taken v i j (Input u) lj here same (ap (λ z. list_any (nat_eq v) (completes x z)) here ∙ is_one u v same) (deal_any plan s j o p i lp li (λ z. other (sym z)) has)
-      ]
+  setter v i li has j (Input u) lj here h = input_setter v i j u (source x u) li has lj here refl (of_one u v h)
   setter v i li has j (Mask t side) lj here h =
       let mask : ℕ = mask_wire x t side in
       let same : v ≡ mask = of_one mask v h in
@@ -227,12 +236,13 @@ module _ (plan : Plan) (sound : IsSound plan) (s p : ℕ) (ls : s < length plan.
           named = refl;
           late = λ e. never e;
         }
-        | inr other ↦ taken v i j (Mask t side) lj here same (ap (λ z. list_any (nat_eq v) (completes x z)) here ∙ is_one mask v same) (row_any plan s j (least_holder plan) p i lp li (λ z. other (sym z)) has)
+        | inr other ↦ taken_there v i j (Mask t side) lj here refl same (ap (λ z. list_any (nat_eq v) (completes x z)) here ∙ is_one mask v same) (row_any plan s j (least_holder plan) p i lp li (λ z. other (sym z)) has)
       ]
   setter v i li has j (At_gate t) lj here h = gate_setter v i j t lj here (of_one (gate x t).output v h)
   setter v i li has j (Mask_product t) lj here h = summed v i j (Mask_product t) here tt (of_one (product_wire x t) v h) (closed j (Sum j) (Mask_product t) lj here (0, omega arith, refl))
   setter v i li has j (Output o) lj here h = absurd (false≢true h)
   setter v i li has j (Masked t side) lj here h = absurd (false≢true h)
+  setter v i li has j (Kept u) lj here h = absurd (false≢true h)
 
   -- ---- what comes before
 
@@ -334,6 +344,7 @@ module _ (plan : Plan) (sound : IsSound plan) (s p : ℕ) (ls : s < length plan.
         of (Output o) here own = dealt (Output o) here own.0 own.1
         of (Mask_product t) here own = dealt (Mask_product t) here own.0 own.1
         of (Masked t side) here own = dealt (Masked t side) here own.0 own.1
+        of (Kept u) here own = dealt (Kept u) here own.0 own.1
 
     -- an instruction before sets what an instruction reads
     pub reads_are_set : (q v i : ℕ) → i < m → ReadsSummand plan p s (at es q) v i → IsSet plan p s q v i
@@ -371,8 +382,16 @@ module _ (plan : Plan) (sound : IsSound plan) (s p : ℕ) (ls : s < length plan.
         let u : ℕ = j - first in
         let at_j : first + u ≡ j = omega arith in
         let count = numbered.count in
-        let here : slot plan s j ≡ Output u = sym (ap (slot plan s) at_j) ∙ (numbered.there (Output u) (omega arith)).1 in
-        false≢true (sym (ap (λ z. list_any (nat_eq v) (sets_in x z)) here) ∙ h)
+        elim (cases_lt u (length (readers x))) [
+          | inl l ↦
+              let here : slot plan s j ≡ Output u = sym (ap (slot plan s) at_j) ∙ (numbered.there (Output u) l).1 in
+              false≢true (sym (ap (λ z. list_any (nat_eq v) (sets_in x z)) here) ∙ h)
+          | inr past ↦
+              let i : ℕ = u - length (readers x) in
+              let at_i : first + length (readers x) + i ≡ j = omega (arith, past, at_j) in
+              let here : slot plan s j ≡ Kept i = sym (ap (slot plan s) at_i) ∙ (numbered.there (Kept i) (omega (arith, at_i, lj, count))).1 in
+              false≢true (sym (ap (λ z. list_any (nat_eq v) (sets_in x z)) here) ∙ h)
+        ]
 
     -- behind what is opened of a prepared product none of the batch does so in its head
     masked_last : (o k t w : ℕ) (side : Side) → slot plan s o ≡ Masked t side → o < k → k < slots plan s → slot_sets x k w ≡ true → is_join x (slot plan s k) ≡ false → batch x k ≡ batch x o → ⊥
@@ -410,6 +429,7 @@ module _ (plan : Plan) (sound : IsSound plan) (s p : ℕ) (ls : s < length plan.
     late_last o k w (Input u) e late less lk sets unjoined same = absurd late
     late_last o k w (Mask t side) e late less lk sets unjoined same = absurd late
     late_last o k w (Mask_product t) e late less lk sets unjoined same = absurd late
+    late_last o k w (Kept u) e late less lk sets unjoined same = absurd late
 
     -- a slot that sets a wire and reads in its tail joins
     late_joins : (z : Slot) (w : ℕ) → ReadsLate x z → list_any (nat_eq w) (sets_in x z) ≡ true → is_join x z ≡ true
@@ -419,6 +439,7 @@ module _ (plan : Plan) (sound : IsSound plan) (s p : ℕ) (ls : s < length plan.
     late_joins (Input u) w late sets = absurd late
     late_joins (Mask t side) w late sets = absurd late
     late_joins (Mask_product t) w late sets = absurd late
+    late_joins (Kept u) w late sets = absurd late
 
     -- a slot reads nothing of a wire after another was set there
     same_slot : (e g : Instruction) (v w i : ℕ) → Sets plan sound s p ls lp e w → ReadsThere plan sound s p ls lp g v i → named plan g ≡ named plan e → ranks e + past e ≤ ranks g → ⊥

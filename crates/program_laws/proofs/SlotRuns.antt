@@ -21,12 +21,14 @@ use Rattle.job_plan.proofs.SlotMessages.{each_number, every_filter}
 use Rattle.share_world.specs.Worlds.{World, tape_word}
 use Rattle.share_world.specs.Locals.{local_word, local_word_in}
 use Rattle.party_program.specs.declared.program.Instruction.{Instruction}
-use Rattle.party_program.specs.Programs.{from, to, post, take_of, opening, closing, posts, takes, slot_program}
-use Rattle.party_program.specs.States.{Given, State, next, after_all, slot_of, word_after}
-use Rattle.party_program.specs.Proper.{IsSessionMessage}
+use Rattle.party_program.specs.Programs.{from, to, post, take_of, opening, closing, posts, taken, taken_as, taken_in, takes, slot_program}
+use Rattle.party_program.specs.States.{Given, State, next, after_all, slot_of, taking_slot, word_after}
+use Rattle.party_program.specs.Proper.{IsSessionMessage, IsTakenMessage}
 use Rattle.party_program.specs.Along.{AllAlong}
 use Rattle.party_program.proofs.InstructionLists.{Leaves, leaves_append, along_posts, after_posts}
 use Rattle.program_laws.specs.Meets.{local_given, RightAt, Goes, SmallTape}
+use Rattle.program_laws.proofs.SentMessages.{givers}
+use Rattle.program_laws.proofs.TakenMessages.{all_taken, taken_message}
 
 -- party p runs session s of a plan within the limits, with tape words of the ring
 pub record Runs (w : World) (s p : ℕ) : Type 0 where
@@ -89,6 +91,10 @@ module _ (w : World) (got : Key → ℕ) (s p : ℕ) (h : Runs w s p) where
 
   pub ready_at : (k j count : ℕ) (σ : State) → k ≡ j → Ready k count σ → Ready j count σ
   ready_at k j count σ e r = subst (λ z. Ready z count σ) e r
+
+  -- a slot in which p draws nothing leaves it so
+  pub idle : (k count : ℕ) (z : Slot) (σ : State) → slot w.plan s k ≡ z → words_in w.plan s p z ≡ 0 → Ready k count σ → Ready (suc k) count σ
+  idle k count z σ at none r = record { sums = r.sums; drawn = r.drawn ∙ sym (more_words k z at ∙ omega (arith, none)); given = r.given }
 
   -- only this row is another one, and has these summands of those that p holds
   pub record Rowed (row : ℕ) (value : ℕ → ℕ) (k count : ℕ) (σ τ : State) : Type 0 where
@@ -158,7 +164,7 @@ module _ (w : World) (got : Key → ℕ) (s p : ℕ) (h : Runs w s p) where
   none_taken [] σ h = refl
   none_taken (n ∷ ns) σ h = absurd h.0
 
-  along_takes : (ns : List ℕ) (σ : State) → AllByRecursion (λ n. IsSessionMessage w.plan s n (message w.plan n).share) ns → AllAlong good l (map (take_of w.plan) ns) σ
+  along_takes : (ns : List ℕ) (σ : State) → AllByRecursion (λ n. IsTakenMessage w.plan s n (message w.plan n).share) ns → AllAlong good l (map (take_of w.plan) ns) σ
   along_takes [] σ h = tt
   along_takes (n ∷ ns) σ h = ((h.0, tt), along_takes ns (next l (take_of plan n) σ) h.1)
 
@@ -173,11 +179,13 @@ module _ (w : World) (got : Key → ℕ) (s p : ℕ) (h : Runs w s p) where
       let ts : List Instruction = takes plan p s k in
       let start : List Instruction = opening plan p s k z in
       let end : List Instruction = closing plan p s k z in
-      let proper : (test : ℕ → Bool) → AllByRecursion (λ n. IsSessionMessage plan s n (message plan n).share) (filter test (numbers plan s k)) =
-      λ test. every_filter _ _ test (numbers plan s k) (all_sent k lk) (λ n f e. message_is k n lk f) in
+      let sent : AllByRecursion (λ n. IsSessionMessage plan s n (message plan n).share) (filter (from plan p) (numbers plan s k)) =
+      every_filter _ _ (from plan p) (numbers plan s k) (all_sent k lk) (λ n f e. message_is k n lk f) in
+      let got' : AllByRecursion (λ n. IsTakenMessage plan s n (message plan n).share) (filter (to plan p) (taken plan s k)) =
+      every_filter _ _ (to plan p) (taken plan s k) (all_taken plan valid (givers plan h.sound) s k h.session_there lk) (λ n it e. taken_message plan s k n lk it) in
       let goes : AllByRecursion (λ n. good (post plan n) σ1) (filter (from plan p) (numbers plan s k)) =
-      every_both _ _ _ (filter (from plan p) (numbers plan s k)) (λ n a b. (a, b)) (proper (from plan p)) sends in
-      let taking : Leaves good l (ts ++ end) R σ1 = leaves_append good l ts end Q R σ1 (along_takes (filter (to plan p) (numbers plan s k)) σ1 (proper (to plan p)), took) close in
+      every_both _ _ _ (filter (from plan p) (numbers plan s k)) (λ n a b. (a, b)) sent sends in
+      let taking : Leaves good l (ts ++ end) R σ1 = leaves_append good l ts end Q R σ1 (along_takes (filter (to plan p) (taken plan s k)) σ1 got', took) close in
       let posting : Leaves good l (ps ++ (ts ++ end)) R σ1 =
       leaves_append good l ps (ts ++ end) (λ τ. τ ≡ σ1) R σ1
       (along_posts good l (filter (from plan p) (numbers plan s k)) σ1 goes, after_posts l (filter (from plan p) (numbers plan s k)) σ1)
@@ -185,3 +193,26 @@ module _ (w : World) (got : Key → ℕ) (s p : ℕ) (h : Runs w s p) where
       subst (λ y. Leaves good l ((opening plan p s k y ++ ps) ++ (ts ++ closing plan p s k y)) R σ) (sym at)
       (subst (λ xs. Leaves good l xs R σ) (sym (append_assoc start ps (ts ++ end)))
       (leaves_append good l start (ps ++ (ts ++ end)) (λ τ. τ ≡ σ1) R σ opens (λ τ e. subst (λ y. Leaves good l (ps ++ (ts ++ end)) R y) (sym e) posting)))
+
+  -- ---- slots whose messages are taken in them
+
+  pub record TakesOwn (z : Slot) : Type 0 where
+    pub all : (k : ℕ) → taken_in w.plan s k z ≡ numbers w.plan s k
+    pub same : taken_as (session w.plan s) z ≡ z
+
+  -- the takes there
+  abbrev pub own_takes : ℕ → List Instruction
+  own_takes k = map (take_of w.plan) (filter (to w.plan p) (numbers w.plan s k))
+
+  pub taking_is : (k : ℕ) (z : Slot) (n i a b : ℕ) → TakesOwn z → slot w.plan s k ≡ z → message w.plan n ≡ key k i a b → taking_slot w.plan n ≡ z
+  taking_is k z n i a b own at e = ap (λ (y : Key). taken_as (session plan y.session) (slot plan y.session y.slot)) e ∙ ap (taken_as x) at ∙ own.same
+
+  pub own_leaves : (k : ℕ) (z : Slot) → TakesOwn z → slot w.plan s k ≡ z → k < slots w.plan s → (σ σ1 : State) (Q R : State → Type 0)
+      → Leaves (Goes w got s p) (local_given w got s p) (opening w.plan p s k z) (λ τ. τ ≡ σ1) σ
+      → AllByRecursion (λ n. RightAt w got s p (post w.plan n) σ1) (filter (from w.plan p) (numbers w.plan s k))
+      → Q (after_all (local_given w got s p) (own_takes k) σ1)
+      → ((τ : State) → Q τ → Leaves (Goes w got s p) (local_given w got s p) (closing w.plan p s k z) R τ)
+      → Leaves (Goes w got s p) (local_given w got s p) (slot_program w.plan p s k) R σ
+  own_leaves k z own at lk σ σ1 Q R opens sends took close =
+      slot_leaves k z at lk σ σ1 Q R opens sends
+      (subst (λ ns. Q (after_all l (map (take_of plan) (filter (to plan p) ns)) σ1)) (sym (ap (taken_in plan s k) at ∙ own.all k)) took) close

@@ -10,7 +10,7 @@ use Rattle.job_plan.specs.Plans.{Plan}
 use Rattle.job_session.specs.Sessions.Slot.{Input, Mask}
 use Rattle.job_plan.specs.Numbers.{message}
 use Rattle.party_program.specs.Programs.{take_of}
-use Rattle.party_program.specs.States.{Given, State, next, after_all, took_in, with_summand, slot_of}
+use Rattle.party_program.specs.States.{Given, State, next, after_all, took_in, with_summand, taking_slot}
 use Rattle.circuit_model.proofs.SetAt.{set_here, set_there}
 
 -- the words of such a slot are added up
@@ -41,7 +41,7 @@ pub record SumsOf (m q : ℕ) (σ τ : State) (x : ℕ → ℕ) : Type 0 where
   pub excess : τ.excess ≡ σ.excess
   pub sums : (i : ℕ) → i < m → τ.sums i ≡ x i % q
 
-pub takes_sums : (l : Given) (m : ℕ) (z : Slot) (ns : List ℕ) (σ : State) (x : ℕ → ℕ) → Adds z → AllByRecursion (λ n. slot_of l.plan n ≡ z) ns → ((i : ℕ) → i < m → σ.sums i ≡ x i % 2 ^ l.plan.bits)
+pub takes_sums : (l : Given) (m : ℕ) (z : Slot) (ns : List ℕ) (σ : State) (x : ℕ → ℕ) → Adds z → AllByRecursion (λ n. taking_slot l.plan n ≡ z) ns → ((i : ℕ) → i < m → σ.sums i ≡ x i % 2 ^ l.plan.bits)
     → SumsOf m (2 ^ l.plan.bits) σ (after_all l (map (take_of l.plan) ns) σ) (λ i. x i + tally l i ns)
 takes_sums l m z [] σ x o all h = record { rows = refl; drawn = refl; given = refl; outputs = refl; excess = refl; sums = λ i li. h i li ∙ (let same : x i ≡ x i + 0 = omega arith in ap (λ y. y % 2 ^ l.plan.bits) same) }
 takes_sums l m z (n ∷ ns) σ x o all h =
@@ -88,7 +88,7 @@ pub record RowOf (l : Given) (v : ℕ) (ns : List ℕ) (g : ℕ → ℕ) (σ τ 
 abbrev pub Writes : Given → Slot → ℕ → Type 0
 Writes l z v = (i w : ℕ) (σ : State) → took_in l.plan l.session z i w σ ≡ with_summand v i w σ
 
-pub takes_row : (l : Given) (z : Slot) (v : ℕ) (ns : List ℕ) (g : ℕ → ℕ) (σ : State) → Writes l z v → AllByRecursion (λ n. (slot_of l.plan n ≡ z) × (l.got n ≡ g (message l.plan n).share)) ns
+pub takes_row : (l : Given) (z : Slot) (v : ℕ) (ns : List ℕ) (g : ℕ → ℕ) (σ : State) → Writes l z v → AllByRecursion (λ n. (taking_slot l.plan n ≡ z) × (l.got n ≡ g (message l.plan n).share)) ns
     → RowOf l v ns g σ (after_all l (map (take_of l.plan) ns) σ)
 takes_row l z v [] g σ writes all = record { others = λ u i ne. refl; kept = λ i h. h; has = λ i h. absurd h; sums = refl; drawn = refl; given = refl; outputs = refl; excess = refl }
 takes_row l z v (n ∷ ns) g σ writes all =

@@ -1,24 +1,19 @@
 -- What wires an instruction sets and reads.
-use Rattle.std.proofs.Common.{◌≡◌, ◌≢◌, ◌⊎◌, ℕ, ◌+◌, ◌*◌, ◌<◌, ◌≤◌, true, false, not, ◌&&◌, nat_eq, List, [], ◌∷◌, length, refl, sym, ap, ◌∙◌, subst, arith}
-use Rattle.std.specs.List.{AllByRecursion, list_any}
+use Rattle.std.proofs.Common.{◌≡◌, ◌≢◌, ◌⊎◌, ℕ, ◌+◌, ◌*◌, ◌<◌, ◌≤◌, true, false, nat_eq, List, [], ◌∷◌, length, refl, sym, ap, ◌∙◌, subst, arith}
+use Rattle.std.specs.List.{list_any}
 use Rattle.std.proofs.lemmas.Bool.{and_parts, both_ways, eq-eqb, false≢true}
 use mathlib.Core.Logic.{inl, inr}
-use Rattle.list_laws.specs.Lists.{joined}
-use Rattle.list_laws.proofs.JoinedLists.{every_joined, every_only_if}
 use Rattle.circuit_model.specs.Circuits.{is_product}
 use Rattle.secret_sharing.specs.Schemes.{has_pair}
-use Rattle.job_session.specs.Sessions.{Session, Slot, gate, is_direct, is_prepared, operand, output_wire, mask_wire, product_wire, product_in}
-use Rattle.job_session.specs.Sessions.Slot.{Input, At_gate, Output, Mask, Mask_product, Masked}
+use Rattle.job_session.specs.Sessions.{Session, Slot, given_by, gate, is_direct, is_prepared, kept_wire, operand, output_wire, mask_wire, product_wire, product_in}
+use Rattle.job_session.specs.Sessions.Slot.{Input, At_gate, Output, Mask, Mask_product, Masked, Kept}
 use Rattle.job_session.specs.KeptWires.{is_read, slot_sets, slot_reads, sets_in, reads_in}
 use Rattle.job_session.specs.Batches.{completes, slot_completes, is_join}
 use Rattle.job_session.proofs.KeptRows.{sets_one}
-use Rattle.job_plan.specs.Plans.{Plan, IsPlan, scheme, session, slot, slots, holds, least_holder, deals_in, opens_to, giver}
+use Rattle.job_plan.specs.Plans.{Plan, IsPlan, scheme, session, slot, slots, holds, least_holder, deals_in}
 use Rattle.job_plan.specs.declared.key.Key.{Key}
-use Rattle.job_plan.specs.Messages.{slot_messages, product_messages, deal_message, open_messages}
-use Rattle.job_plan.specs.Numbers.{message, no_key}
+use Rattle.job_plan.specs.Numbers.{message}
 use Rattle.job_plan.specs.Sound.{IsSound}
-use Rattle.job_plan.proofs.DistinctMessages.{every_place}
-use Rattle.job_plan.proofs.MessageSlots.{IsThere}
 use Rattle.job_plan.proofs.PlanSchemes.{least_holds}
 use Rattle.party_program.specs.declared.program.Instruction.{Instruction}
 use Rattle.party_program.specs.declared.program.Instruction.TheVariants.{Draw, Deal, Post, Take, Linear, Own, Sum, Open, Join, Deliver, End}
@@ -27,9 +22,10 @@ use Rattle.party_program.specs.Proper.{IsMasked, IsOutput}
 use Rattle.party_program.specs.States.{slot_of}
 use Rattle.program_laws.specs.WordsRead.{gate_at, Deals, Takes, Carries, SetsSummand, ReadsSummand}
 use Rattle.program_laws.proofs.FreeSlots.{completes_sets, joined_completes, product_completes, direct_unprepared, no_product}
-use Rattle.program_laws.proofs.OnceInSlots.{there}
 use Rattle.program_laws.proofs.ProgramParts.{Multiplied, Fits, Names, dealing, fits, is_plan}
+use Rattle.program_laws.proofs.SentMessages.{going}
 use Rattle.program_laws.proofs.Ranks.{named, part_at, step_at, past}
+use Rattle.share_world.proofs.GoingMessages.{Goes}
 use Rattle.share_world.proofs.Settled.{is_one, is_first, is_second}
 
 -- ---- slots in which something is dealt or taken
@@ -43,6 +39,7 @@ module _ (x : Session) where
   deal_sets (Output o) v e = absurd e
   deal_sets (Mask t side) v e = absurd e
   deal_sets (Masked t side) v e = absurd e
+  deal_sets (Kept j) v e = absurd e
 
   -- and so is what is taken there, by which the wire is complete, and of which the slot reads nothing
   pub record TakesThere (z : Slot) (v : ℕ) : Type 0 where
@@ -57,6 +54,7 @@ module _ (x : Session) where
   takes_there (Output o) v e = absurd e
   takes_there (Mask_product t) v e = absurd e
   takes_there (Masked t side) v e = absurd e
+  takes_there (Kept j) v e = absurd e
 
   -- the wire of a product that is dealt is that of the deal
   deals_output : (z : Slot) (v : ℕ) → Multiplied x z → v ≡ (product_in x z).output → Deals x z v
@@ -66,6 +64,7 @@ module _ (x : Session) where
   deals_output (Output o) v is e = absurd is
   deals_output (Mask t side) v is e = absurd is
   deals_output (Masked t side) v is e = absurd is
+  deals_output (Kept j) v is e = absurd is
 
   -- no such product is joined
   multiplied_apart : (z : Slot) → Multiplied x z → is_join x z ≡ false
@@ -75,6 +74,7 @@ module _ (x : Session) where
   multiplied_apart (Output o) is = absurd is
   multiplied_apart (Mask t side) is = absurd is
   multiplied_apart (Masked t side) is = absurd is
+  multiplied_apart (Kept j) is = absurd is
 
   -- a slot that reads in its tail: a product that is joined, or what is opened
   abbrev pub ReadsLate : Slot → Type 0
@@ -90,6 +90,7 @@ module _ (x : Session) where
   late_output (Mask t side) is = absurd is
   late_output (Mask_product t) is = absurd is
   late_output (Masked t side) is = absurd is
+  late_output (Kept j) is = absurd is
 
   late_masked : (z : Slot) → IsMasked z → ReadsLate z
   late_masked (Masked t side) is = tt
@@ -98,37 +99,29 @@ module _ (x : Session) where
   late_masked (Output o) is = absurd is
   late_masked (Mask t side) is = absurd is
   late_masked (Mask_product t) is = absurd is
+  late_masked (Kept j) is = absurd is
 
--- ---- who sends a message of a slot deals there, draws the summand of a mask, or holds what is opened
+-- ---- who sends a message of a slot deals there, draws the summand of a mask, or holds what is opened or kept
 
 abbrev Sends : Plan → ℕ → ℕ → Slot → ℕ → Type 0
 Sends plan s p (Output o) i = holds plan p i ≡ true
 Sends plan s p (Masked t side) i = holds plan p i ≡ true
 Sends plan s p (Mask t side) i = least_holder plan i ≡ p
+Sends plan s p (Kept j) i = holds plan p i ≡ true
 Sends plan s p z i = deals_in plan s p z ≡ true
 
-module _ (plan : Plan) (h : IsPlan plan) (s k : ℕ) where
-  sent_by : (sender : ℕ → ℕ) (P : Key → Type 0) → ((i r : ℕ) → P (record { session = s; slot = k; share = i; sender = sender i; receiver = r }))
-      → AllByRecursion P (joined (length plan.groups) (λ i. joined plan.parties (deal_message plan s k (sender i) i)))
-  sent_by sender P each = every_joined P (length plan.groups) _ (λ i li. every_joined P plan.parties _ (λ r lr. every_only_if P (not (nat_eq r (sender i)) && holds plan r i) _ (λ e. (each i r, tt))))
+module _ (plan : Plan) (h : IsPlan plan) (s : ℕ) where
+  least_of : (i q : ℕ) → i < length plan.groups → least_holder plan i ≡ q → holds plan q i ≡ true
+  least_of i q li least = subst (λ r. holds plan r i ≡ true) least (least_holds plan h i li)
 
-  sent_product : (z : Slot) → AllByRecursion (λ y. deals_in plan s y.sender z ≡ true) (product_messages plan s k z)
-  sent_product z =
-      let P : Key → Type 0 = λ y. deals_in plan s y.sender z ≡ true in
-      every_joined P plan.parties _ (λ d ld. every_only_if P (deals_in plan s d z) _ (λ e. sent_by (λ i. d) P (λ i r. e)))
-
-  sent_opening : (r : ℕ) → AllByRecursion (λ y. holds plan y.sender y.share ≡ true) (open_messages plan s k r)
-  sent_opening r =
-      let P : Key → Type 0 = λ y. holds plan y.sender y.share ≡ true in
-      every_joined P (length plan.groups) _ (λ i li. every_only_if P (not (holds plan r i)) _ (λ e. (least_holds plan h i li, tt)))
-
-  sent : (z : Slot) → AllByRecursion (λ y. Sends plan s y.sender z y.share) (slot_messages plan s k z)
-  sent (Input v) = let o : ℕ = giver plan s v in sent_by (λ i. o) (λ y. deals_in plan s y.sender (Input v) ≡ true) (λ i r. eq-eqb o o refl)
-  sent (At_gate t) = sent_product (At_gate t)
-  sent (Output o) = let P : Key → Type 0 = λ y. holds plan y.sender y.share ≡ true in every_joined P plan.parties _ (λ r lr. every_only_if P (opens_to plan s r (Output o)) _ (λ e. sent_opening r))
-  sent (Mask t side) = sent_by (least_holder plan) (λ y. least_holder plan y.share ≡ y.sender) (λ i r. refl)
-  sent (Mask_product t) = sent_product (Mask_product t)
-  sent (Masked t side) = every_joined (λ y. holds plan y.sender y.share ≡ true) plan.parties _ (λ r lr. sent_opening r)
+  goes_sends : (z : Slot) (i q p : ℕ) → i < length plan.groups → Goes plan s z i q p → Sends plan s q z i
+  goes_sends (Input v) i q p li goes = ap (given_by q) goes.0 ∙ eq-eqb q q refl
+  goes_sends (At_gate t) i q p li goes = goes.1
+  goes_sends (Output o) i q p li goes = least_of i q li goes.1.0
+  goes_sends (Mask t side) i q p li goes = goes.0
+  goes_sends (Mask_product t) i q p li goes = goes.1
+  goes_sends (Masked t side) i q p li goes = least_of i q li goes.0
+  goes_sends (Kept j) i q p li goes = subst (λ r. holds plan r i ≡ true) (sym goes.1) goes.2
 
 module _ (plan : Plan) (sound : IsSound plan) (s p : ℕ) (ls : s < length plan.sessions) (lp : p < plan.parties) where
   abbrev x : Session
@@ -147,9 +140,8 @@ module _ (plan : Plan) (sound : IsSound plan) (s p : ℕ) (ls : s < length plan.
   sends_own : (n i : ℕ) → Names plan s n i → (message plan n).sender ≡ p → Sends plan s p (slot_of plan n) i
   sends_own n i it by =
       let key : Key = message plan n in
-      let here : IsThere plan key key.session key.slot = there plan n it.number in
-      let all = every_place (λ y. Sends plan key.session y.sender (slot plan key.session key.slot) y.share) _ here.place no_key (sent plan (is_plan plan sound s p ls) key.session key.slot (slot plan key.session key.slot)) here.place_within in
-      let of_key : Sends plan key.session key.sender (slot plan key.session key.slot) key.share = subst (λ y. Sends plan key.session y.sender (slot plan key.session key.slot) y.share) here.is all in
+      let here = going plan n it.number in
+      let of_key : Sends plan key.session key.sender (slot plan key.session key.slot) key.share = goes_sends plan (is_plan plan sound s p ls) key.session (slot plan key.session key.slot) key.share key.sender key.receiver here.share here.goes in
       subst (Sends plan s p (slot plan key.session key.slot)) (sym it.share) (subst (λ z. Sends plan z p (slot plan key.session key.slot) key.share) it.session (subst (λ z. Sends plan key.session z (slot plan key.session key.slot) key.share) by of_key))
 
   -- a message of the session has its slot there
@@ -192,6 +184,7 @@ module _ (plan : Plan) (sound : IsSound plan) (s p : ℕ) (ls : s < length plan.
   dealt_apart (Output o) v h e = absurd h
   dealt_apart (Mask t side) v h e = absurd h
   dealt_apart (Masked t side) v h e = absurd h
+  dealt_apart (Kept j) v h e = absurd h
 
   -- a product that is dealt is complete by its sum
   summed_there : (k v : ℕ) → Multiplied x (slot plan s k) → v ≡ (gate_at plan s k).output → slot_completes x k v ≡ true
@@ -215,7 +208,7 @@ module _ (plan : Plan) (sound : IsSound plan) (s p : ℕ) (ls : s < length plan.
         beyond = λ u r. omega arith;
         joins = unless (slot plan s k) (dealt_apart (slot plan s k) v h it.1);
       }
-  sets_of q (Take n j) is v i h = let it = fit q (Take n j) is (λ e. cc) in sets_taken (Take n j) v it.slot (subst (λ z. Takes x z v) (own_slot n j it) h.0)
+  sets_of q (Take n j) is v i h = let it = fit q (Take n j) is (λ e. cc) in sets_taken (Take n j) v it.slot (subst (λ z. Takes x z v) it.taken.same h.0)
   sets_of q (Linear k) is v i h =
       let it = fit q (Linear k) is (λ e. cc) in
       let t : ℕ = it.1.0 in record {
@@ -281,6 +274,7 @@ module _ (plan : Plan) (sound : IsSound plan) (s p : ℕ) (ls : s < length plan.
   own_sets (Output o) v i h = absurd h.1
   own_sets (Mask_product t) v i h = deal_sets x (Mask_product t) v h.1
   own_sets (Masked t side) v i h = absurd h.1
+  own_sets (Kept j) v i h = absurd h.1
 
   -- it comes after what p sets of the wire in the head of that slot: a post of that, or the sum of a product that is read
   pub record ReadsOwn (e : Instruction) (v i : ℕ) : Type 0 where
@@ -310,6 +304,7 @@ module _ (plan : Plan) (sound : IsSound plan) (s p : ℕ) (ls : s < length plan.
   post_reads n j v i (Mask_product t) e c same by = inr (posts_own n j v i (Mask_product t) e (by, c))
   post_reads n j v i (Mask t side) e c same by = inr (posts_own n j v i (Mask t side) e (c, ap (least_holder plan) same ∙ by))
   post_reads n j v i (Output o) e c same by = inl (posts_open n j v i (Output o) e refl refl (is_one (output_wire x o) v c) (ap (holds plan p) same ∙ by))
+  post_reads n j v i (Kept u) e c same by = inl (posts_open n j v i (Kept u) e refl refl (is_one (kept_wire x u) v c) (ap (holds plan p) same ∙ by))
   post_reads n j v i (Masked t side) e c same by =
       let a : ℕ = operand (gate x t) side in
       let b : ℕ = mask_wire x t side in
@@ -353,6 +348,7 @@ module _ (plan : Plan) (sound : IsSound plan) (s p : ℕ) (ls : s < length plan.
       own_product (Output o) is e d = absurd is
       own_product (Mask t side) is e d = absurd is
       own_product (Masked t side) is e d = absurd is
+      own_product (Kept j) is e d = absurd is
   reads_of q (Open k) is v i h = let it = fit q (Open k) is (λ e. cc) in (it.0, inl (reads_last (Open k) v i refl (late_masked x (slot plan s k) it.1) h.0 h.1))
   reads_of q (Join k) is v i h = let it = fit q (Join k) is (λ e. cc) in (it.0, inl (reads_last (Join k) v i refl (subst (ReadsLate x) (sym it.1.1) it.1.2) h.0 h.1))
   reads_of q (Deliver k) is v i h = let it = fit q (Deliver k) is (λ e. cc) in (it.0, inl (reads_last (Deliver k) v i refl (late_output x (slot plan s k) it.1) h.0 h.1))

@@ -3,14 +3,14 @@ use Rattle.std.specs.Prelude.{◌≡◌, ◌≢◌, ℕ, ◌+◌, ◌<◌, ◌�
 use Rattle.std.specs.List.{list_any}
 use Rattle.circuit_model.specs.declared.gate.Gate.{Gate}
 use Rattle.secret_sharing.specs.Schemes.{has_pair}
-use Rattle.job_session.specs.Sessions.{Session, Slot, gate, operand, output_wire, mask_wire, product_wire, product_in}
-use Rattle.job_session.specs.Sessions.Slot.{Input, At_gate, Output, Mask, Mask_product, Masked}
+use Rattle.job_session.specs.Sessions.{Session, Slot, gate, kept_wire, operand, output_wire, mask_wire, product_wire, product_in}
+use Rattle.job_session.specs.Sessions.Slot.{Input, At_gate, Output, Mask, Mask_product, Masked, Kept}
 use Rattle.job_session.specs.KeptWires.{is_read, reads_in}
 use Rattle.job_plan.specs.Plans.{Plan, holds, least_holder, scheme, session, slot}
 use Rattle.party_program.specs.declared.program.Instruction.{Instruction}
 use Rattle.party_program.specs.declared.program.Instruction.TheVariants.{Draw, Deal, Post, Take, Linear, Own, Sum, Open, Join, Deliver}
 use Rattle.party_program.specs.Programs.{program, at}
-use Rattle.party_program.specs.States.{slot_of}
+use Rattle.party_program.specs.States.{slot_of, taking_slot}
 
 -- the gate of slot k, or the product of masks that is dealt there
 abbrev pub gate_at : Plan → ℕ → ℕ → Gate
@@ -23,7 +23,7 @@ Deals s (At_gate t) v = v ≡ (gate s t).output
 Deals s (Mask_product t) v = v ≡ product_wire s t
 Deals s _ v = ⊥
 
--- the wire into whose summands the words of a slot are taken
+-- the wire into whose summands the words that are taken in a slot are put
 abbrev pub Takes : Session → Slot → ℕ → Type 0
 Takes s (Input u) v = v ≡ u
 Takes s (Mask t side) v = v ≡ mask_wire s t side
@@ -41,12 +41,13 @@ Carries s (Output o) v = v ≡ output_wire s o
 Carries s (Mask t side) v = v ≡ mask_wire s t side
 Carries s (Mask_product t) v = v ≡ product_wire s t
 Carries s (Masked t side) v = (v ≡ operand (gate s t) side) ⊎ (v ≡ mask_wire s t side)
+Carries s (Kept j) v = v ≡ kept_wire s j
 
 -- the instruction of party p sets summand i of wire v, or what the party has of it before it takes the rest
 abbrev pub SetsSummand : Plan → ℕ → ℕ → Instruction → ℕ → ℕ → Type 0
 SetsSummand plan p s (Draw k) v i = Takes (session plan s) (slot plan s k) v × (least_holder plan i ≡ p)
 SetsSummand plan p s (Deal k d) v i = Deals (session plan s) (slot plan s k) v
-SetsSummand plan p s (Take n j) v i = Takes (session plan s) (slot_of plan n) v × (i ≡ j)
+SetsSummand plan p s (Take n j) v i = Takes (session plan s) (taking_slot plan n) v × (i ≡ j)
 SetsSummand plan p s (Linear k) v i = v ≡ (gate_at plan s k).output
 SetsSummand plan p s (Sum k) v i = v ≡ (gate_at plan s k).output
 SetsSummand plan p s (Join k) v i = v ≡ (gate_at plan s k).output

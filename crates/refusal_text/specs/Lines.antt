@@ -111,7 +111,7 @@ plan_line names (plan.TooManyWords party count) =
     line (codes "plan") 2 (codes "TooManyWords") (words_keys (slice_index_or names party []) count)
 plan_line names plan.Memory = []
 
--- the counts of a session that differ
+-- two counts of a session that differ, the number of a value that is missing and how many there are, or two widths
 abbrev pub part_keys : ℕ → PartFault → List ℕ
 part_keys session f =
     number_key (codes "session") (Some session)

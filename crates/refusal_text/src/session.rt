@@ -7,7 +7,7 @@ use plan_faults::PartFault;
 use std::alloc::{AllocError, Global};
 use text_parts::push_number_key;
 
-/// The line of counts of owners or readers that differ from a session's circuit.
+/// The line of what is wrong with a session: its counts of owners or readers, or a value that it carries.
 #[tactic(auto, unfolding(crate::specs::Lines::session_line))]
 pub fn session_line(alloc: Global, session: u32, fault: PartFault) -> Result<Vec<u8>, AllocError>
     ensures { IfOk result (λ line. line.items ≡ session_line session fault) }

@@ -1,3 +1,4 @@
+pub mod OneSession
 pub mod SampleGates
 pub mod SampleCircuit
 pub mod SampleLimits

@@ -1,6 +1,5 @@
 -- A sample is within the limits: each gate has at most 12 messages, and a party draws at most two words there.
 use Rattle.std.proofs.Common.{◌≡◌, ℕ, zero, suc, ◌+◌, ◌*◌, ◌<◌, ◌≤◌, Bool, true, false, if◌then◌else◌, length, refl, subst, ◌∙◌, arith}
-use Rattle.std.specs.Prelude.{slice_index}
 use Rattle.std.proofs.lemmas.List.Sums.{count_by-le-length}
 use Rattle.list_laws.specs.Lists.{total, listed}
 use Rattle.list_laws.proofs.JoinedLists.{length-listed}
@@ -8,11 +7,12 @@ use Rattle.circuit_model.specs.declared.gate.Gate.{Gate}
 use Rattle.circuit_model.specs.Circuits.{is_product}
 use Rattle.secret_sharing.specs.Schemes.{has_pair}
 use Rattle.job_session.specs.Counts.{owned, products}
-use Rattle.job_session.specs.Sessions.{owners}
+use Rattle.job_session.specs.Sessions.{owners, source}
+use Rattle.job_session.specs.declared.source.Source.TheVariants.{Given}
 use Rattle.job_plan.specs.Plans.{Plan, scheme, session, least_held}
 use Rattle.job_plan.specs.Messages.{messages}
 use Rattle.job_plan.specs.Numbers.{deals}
-use Rattle.job_plan.specs.Tallies.{party_messages, masks_messages, tape_length}
+use Rattle.job_plan.specs.Tallies.{keeping_messages, party_messages, masks_messages, tape_length}
 use Rattle.job_plan.specs.Limits.{IsPlanRefusal}
 use Rattle.job_plan.proofs.TallyLaws.{deals_is, messages_by_party, tape_length_is}
 use Rattle.plan_faults.specs.declared.plan_fault.PlanFault.TheVariants.{TooManyMessages, TooManyWords}
@@ -28,14 +28,17 @@ few_deals n p =
     at_most true k = omega arith
     at_most false k = omega arith
 
--- the owners are a and b
-owners_are_parties : (n s v : ℕ) → s < 1 → v < length (owners (session (sample_plan n) s)) → slice_index (owners (session (sample_plan n) s)) v < 3
-owners_are_parties n zero zero ls lv = omega arith
-owners_are_parties n zero (suc zero) ls lv = omega arith
-owners_are_parties n zero (suc (suc zero)) ls lv = omega arith
-owners_are_parties n zero (suc (suc (suc zero))) ls lv = omega arith
-owners_are_parties n zero (suc (suc (suc (suc v)))) ls lv = absurd (omega arith)
-owners_are_parties n (suc s) v ls lv = absurd (omega arith)
+given_below : (q p : ℕ) → q < 3 → Given q ≡ Given p → p < 3
+given_below q p l e = let same : q ≡ p = cc in omega (arith, l, same)
+
+-- the inputs are given by a and b
+owners_are_parties : (n s v p : ℕ) → s < 1 → v < length (owners (session (sample_plan n) s)) → source (session (sample_plan n) s) v ≡ Given p → p < 3
+owners_are_parties n zero zero p ls lv e = given_below 0 p (omega arith) e
+owners_are_parties n zero (suc zero) p ls lv e = given_below 0 p (omega arith) e
+owners_are_parties n zero (suc (suc zero)) p ls lv e = given_below 1 p (omega arith) e
+owners_are_parties n zero (suc (suc (suc zero))) p ls lv e = given_below 1 p (omega arith) e
+owners_are_parties n zero (suc (suc (suc (suc v)))) p ls lv e = absurd (omega arith)
+owners_are_parties n (suc s) v p ls lv e = absurd (omega arith)
 
 -- a deal has four messages, and an opening one
 by_deals : (n : ℕ) → total 3 (party_messages (sample_plan n))
@@ -46,14 +49,18 @@ by_deals n = refl
 no_masks : (n : ℕ) → masks_messages (sample_plan n) ≡ 0
 no_masks n = refl
 
+-- and nothing is kept
+nothing_kept : (n : ℕ) → keeping_messages (sample_plan n) ≡ 0
+nothing_kept n = refl
+
 -- four for each of four inputs, three openings, and twelve at each product
 pub length-messages : (n : ℕ) → length (messages (sample_plan n)) ≤ 19 + 12 * n
 length-messages n =
-    let is : length (messages (sample_plan n)) ≡ total 3 (party_messages (sample_plan n)) + masks_messages (sample_plan n) = messages_by_party (sample_plan n) (owners_are_parties n) in
+    let is : length (messages (sample_plan n)) ≡ total 3 (party_messages (sample_plan n)) + masks_messages (sample_plan n) + keeping_messages (sample_plan n) = messages_by_party (sample_plan n) (owners_are_parties n) in
     let first : deals (sample_plan n) 0 0 ≤ 2 + n = few_deals n 0 in
     let second : deals (sample_plan n) 1 0 ≤ 2 + n = few_deals n 1 in
     let third : deals (sample_plan n) 2 0 ≤ 0 + n = few_deals n 2 in
-    omega (arith, is, by_deals n, no_masks n, first, second, third)
+    omega (arith, is, by_deals n, no_masks n, nothing_kept n, first, second, third)
 
 -- so the plan isn't refused for its messages
 pub few_messages : (n count : ℕ) (plan : Plan) → n ≤ 65536 → plan ≡ sample_plan n → IsPlanRefusal plan (TooManyMessages count) → ⊥

@@ -6,6 +6,7 @@ use Rattle.circuit_model.specs.declared.gate.Gate.{Gate}
 use Rattle.circuit_model.specs.declared.gate.Operation.{Operation}
 use Rattle.circuit_model.specs.declared.gate.Operation.TheVariants.{Mul, Add, Sub, Neg}
 use Rattle.circuit_model.specs.Netlists.{arity}
+use Rattle.job_session.specs.declared.values.Owner.TheVariants.{Party}
 use Rattle.job_session.specs.Sessions.{Session}
 use Rattle.job_plan.specs.Multiply.{three_parties}
 use Rattle.job_plan.specs.Plans.{Plan, plan_of, words}
@@ -44,9 +45,10 @@ abbrev pub sample_session : ℕ → Session
 sample_session n = record {
   gates = listed n (sample_gate n);
   wires = 4 + n;
-  inputs = record { width = 2; owner = 0 } ∷ record { width = 2; owner = 1 } ∷ [];
+  inputs = record { width = 2; owner = Party 0 } ∷ record { width = 2; owner = Party 1 } ∷ [];
   outputs = record { width = 1; readers = record { parties = 3; mask = 7 } } ∷ [];
   prepared = false;
+  kept = [];
 }
 
 -- the plan, in the ring of 32 bits

@@ -1,12 +1,13 @@
 //! The plan of a sample.
-ghost use Rattle.std.specs.Prelude.{◌≡◌, ◌<◌, ◌≤◌, IfOk};
+ghost use Rattle.std.specs.Prelude.{◌≡◌, ◌<◌, ◌≤◌, [], IfOk};
 ghost use Rattle.party_set.specs.Parties.{IsQ2};
 ghost use Rattle.job_plan.specs.Multiply.{three_parties};
+ghost use Rattle.job_session.specs.Parts.{CarriesFit};
 ghost use Rattle.job_session.specs.SoundSessions.{IsSoundSession};
 ghost use Rattle.sample_maker.specs.Samples.{sample_plan, sample_session};
 
 use crate::circuit::{sample_circuit, sample_ring};
-use job_plan::{Plan, SessionPart};
+use job_plan::{Owner, Plan, SessionPart};
 use party_set::{Group, Groups};
 use plan_faults::{PartFault, PlanFault};
 use product_duty::Duty;
@@ -51,16 +52,19 @@ fn sample_part(alloc: Global, count: u32) -> Result<SessionPart, AllocError>
     requires { (0 < count) × (count ≤ 65536) }
     ensures is { IfOk result (λ part. part ≡ sample_session count) }
     ensures sound { IfOk result (IsSoundSession 3) }
+    ensures fit { IfOk result (CarriesFit []) }
 {
-    let owners = vec![in alloc; 0, 1]?;
+    let owners = vec![in alloc; Owner::Party(0), Owner::Party(1)]?;
     let readers = vec![in alloc; group(7)]?;
     let Ok(circuit) = sample_circuit(alloc, count) else {
         return Err(AllocError);
     };
-    match SessionPart::make(alloc, circuit, owners, readers) {
+    match SessionPart::make(alloc, circuit, owners, readers, &[]) {
         Ok(part) => Ok(part),
         Err(PartFault::Memory) => Err(AllocError),
         Err(PartFault::OwnersDiffer { .. }) => unreachable!(),
         Err(PartFault::ReadersDiffer { .. }) => unreachable!(),
+        Err(PartFault::CarryMissing { .. }) => unreachable!(),
+        Err(PartFault::CarryWidth { .. }) => unreachable!(),
     }
 }

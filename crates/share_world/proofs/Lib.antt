@@ -1,3 +1,4 @@
+pub mod CarriedWires
 pub mod WireSums
 pub mod SlotOrder
 pub mod GoingMessages
@@ -8,4 +9,5 @@ pub mod Settled
 pub mod Solutions
 pub mod JoinedLocals
 pub mod WorkedProduct
+pub mod WorkedCarries
 pub mod MadeSessions

@@ -11,17 +11,21 @@ use Rattle.secret_sharing.specs.Prepared.{masked, sum_of, joined_summand}
 use Rattle.secret_sharing.proofs.Agreement.{own_same, gate_agrees, gates_agree, product_agrees}
 use Rattle.job_session.specs.declared.side.Side.{Side}
 use Rattle.job_session.specs.declared.side.Side.TheVariants.{First, Second}
-use Rattle.job_session.specs.Sessions.{Session, Slot, owners, gate, operand}
-use Rattle.job_session.specs.Sessions.Slot.{Input, At_gate, Mask, Mask_product, Masked}
+use Rattle.job_session.specs.declared.source.Source.{Source}
+use Rattle.job_session.specs.declared.source.Source.TheVariants.{Given, Carried}
+use Rattle.job_session.specs.Sessions.{Session, Slot, owners, source, gate, operand}
+use Rattle.job_session.specs.Sessions.Slot.{Input, At_gate, Mask, Mask_product, Masked, Kept}
+use Rattle.job_session.specs.Carries.{kept_place}
 use Rattle.job_session.specs.SoundSessions.{Inside}
 use Rattle.job_session.specs.SlotNumbers.{first_of_gate}
 use Rattle.job_session.proofs.SessionSlots.{slot_there, product_within}
 use Rattle.job_plan.specs.declared.key.Key.{Key}
-use Rattle.job_plan.specs.Plans.{Plan, scheme, session, holds, least_holder, giver, slot_number, IsPlan}
+use Rattle.job_plan.specs.Plans.{Plan, scheme, session, holds, least_holder, slot_number, IsPlan, CarriesEarlier}
 use Rattle.job_plan.proofs.PlanSchemes.{duty_is}
-use Rattle.share_world.specs.Worlds.{World, run_of, word, word_in, input_of, tape_word, mask, mask_product, product_of}
-use Rattle.share_world.specs.Locals.{key_at, local_deal, local_mask, local_opened, local_excess, local_mask_product, local_product, local_run, ReadsBefore}
+use Rattle.share_world.specs.Worlds.{World, run_of, end_summands, summands_before, source_summands, carried_wire, word, word_in, input_of, tape_word, mask, mask_product, product_of}
+use Rattle.share_world.specs.Locals.{key_at, kept_key, local_deal, local_source, local_mask, local_opened, local_excess, local_mask_product, local_product, local_run, ReadsBefore}
 use Rattle.share_world.specs.Laws.{HeldAreDealt}
+use Rattle.share_world.proofs.CarriedWires.{ended_summands, kept_there}
 use Rattle.share_world.proofs.SlotOrder.{mask_first, mask_product_first, input_first, masked_behind, masked_first, gate_first}
 use Rattle.share_world.proofs.GoingMessages.{Goes}
 
@@ -40,11 +44,12 @@ pub joined_same : (q i : ℕ) {d d' e e' a a' b b' c c' : ℕ} → d ≡ d' → 
 joined_same q i ed ee ea eb ec =
     ap₂ (λ y z. (y + z) % q) (ap₂ (λ y z. y + z) (ap₂ (λ y z. y + z) ec (ap₂ (λ y z. y * z) ed eb)) (ap₂ (λ y z. y * z) ee ea)) (ap₂ (λ y z. if nat_eq i 0 then y * z else 0) ed ee)
 
--- all that p gets in session s before slot k is as the equations have it
-abbrev pub GotRight : World → (Key → ℕ) → ℕ → ℕ → ℕ → Type 0
-GotRight w got p s k =
-    (z : Slot) (i q : ℕ) → Inside (session w.plan s) z → slot_number w.plan s z < k → i < length w.plan.groups → Goes w.plan s z i q p
-    → got (key_at w.plan s z i q p) ≡ word w (key_at w.plan s z i q p)
+-- all that p gets in session s before slot k, and all that it kept for this session, is as the equations have it
+pub record GotRight (w : World) (got : Key → ℕ) (p s k : ℕ) : Type 0 where
+  pub slots : (z : Slot) (i q : ℕ) → Inside (session w.plan s) z → slot_number w.plan s z < k → i < length w.plan.groups → Goes w.plan s z i q p
+      → got (key_at w.plan s z i q p) ≡ word w (key_at w.plan s z i q p)
+  pub kept : (v r c at i : ℕ) → source (session w.plan s) v ≡ Carried r c at → i < length w.plan.groups → holds w.plan p i ≡ true
+      → got (kept_key w.plan r s v i p) ≡ word w (kept_key w.plan r s v i p)
 
 -- the word of a message of a slot
 pub word_at : (w : World) (s : ℕ) (z : Slot) (i q p : ℕ) → Inside (session w.plan s) z → word w (key_at w.plan s z i q p) ≡ word_in w (key_at w.plan s z i q p) z
@@ -60,7 +65,7 @@ module _ (w : World) (h : IsPlan w.plan) (got : Key → ℕ) (p s : ℕ) where
 
   got_in : (k : ℕ) (z : Slot) (i q : ℕ) → GotRight w got p s k → Inside x z → slot_number w.plan s z < k → i < length w.plan.groups → Goes w.plan s z i q p
       → got (key_at w.plan s z i q p) ≡ word_in w (key_at w.plan s z i q p) z
-  got_in k z i q right inside less li goes = right z i q inside less li goes ∙ word_at w s z i q p inside
+  got_in k z i q right inside less li goes = right.slots z i q inside less li goes ∙ word_at w s z i q p inside
 
   -- a deal of q, where p has the same to deal
   deal_right : (z : Slot) (q v v' i : ℕ) → (q ≡ p → v ≡ v') → (p ≢ q → got (key_at w.plan s z i q p) ≡ dealt (scheme w.plan) v' (tape_word w s z q) i) → local_deal w got p s z q v i ≡ dealt (scheme w.plan) v' (tape_word w s z q) i
@@ -69,12 +74,23 @@ module _ (w : World) (h : IsPlan w.plan) (got : Key → ℕ) (p s : ℕ) where
     | inr ne ↦ cond-false (nat_eq q p) _ _ (ne_eqb q p ne) ∙ is (λ e. ne (sym e))
   ]
 
+  source_right : (k v i : ℕ) (from : Source) → source x v ≡ from → v < length (owners x) → first_of_gate x 0 ≤ k → GotRight w got p s k → i < length w.plan.groups → holds w.plan p i ≡ true
+      → local_source w got p s v from i ≡ source_summands w (summands_before w s) s v from i
+  source_right k v i (Given q) from lv le right li has =
+      deal_right (Input v) q _ (input_of w s v) i (λ e. refl) (λ ne. got_in k (Input v) i q right lv (omega (arith, input_first x v 0 lv, le)) li (from, (ne, has)))
+  source_right k v i (Carried r c at) from lv le right li has =
+      let there = kept_there w.plan h.kept s v r c at from in
+      right.kept v r c at i from li has
+      ∙ word_at w r (Kept (kept_place w.plan.sessions s v)) i p p there.0
+      ∙ ap (λ u. end_summands w r u i) there.1
+      ∙ ap (λ (f : ℕ → ℕ → ℕ). f (carried_wire w.plan r c at) i) (sym (ended_summands w s r (h.earlier s v r c at from)))
+
   start_right : (k : ℕ) → first_of_gate x 0 ≤ k → GotRight w got p s k → RunRight 0
   start_right k le right v i li has =
       let many = length (owners x) in
       elim (cases_lt v many) [
         | inl lv ↦ cond-true (nat_lt v many) _ 0 (lt-ltb v many lv)
-            ∙ deal_right (Input v) (giver w.plan s v) _ (input_of w s v) i (λ e. refl) (λ ne. got_in k (Input v) i (giver w.plan s v) right lv (omega (arith, input_first x v 0 lv, le)) li (refl, (ne, has)))
+            ∙ source_right k v i (source x v) refl lv le right li has
             ∙ sym (cond-true (nat_lt v many) _ 0 (lt-ltb v many lv))
         | inr past ↦ cond-false (nat_lt v many) _ 0 (le-ltb v many past) ∙ sym (cond-false (nat_lt v many) _ 0 (le-ltb v many past))
       ]
@@ -180,13 +196,17 @@ module _ (w : World) (h : IsPlan w.plan) (got : Key → ℕ) (p s : ℕ) where
       gate_agrees (run_of w s) (local_run w got p s).start (local_run w got p s).product (λ i. holds w.plan p i ≡ true) t run
       (λ product i li has. product_right k t i product right run le li has) v i li has
 
--- with the words of the equations
+-- the words of the equations are right
+pub all_right : (w : World) (p s k : ℕ) → GotRight w (word w) p s k
+all_right w p s k = record { slots = λ z i q inside less li goes. refl; kept = λ v r c at i from li has. refl }
+
 pub held_are_dealt : (w : World) → IsPlan w.plan → HeldAreDealt w
-held_are_dealt w h p s t v i li has = run_right w h (word w) p s (first_of_gate (session w.plan s) t) t (omega arith) (λ z i q inside less li goes. refl) v i li has
+held_are_dealt w h p s t v i li has = run_right w h (word w) p s (first_of_gate (session w.plan s) t) t (omega arith) (all_right w p s (first_of_gate (session w.plan s) t)) v i li has
 
 -- ---- what a run reads
 
-module _ (w : World) (p s n : ℕ) (got later : Key → ℕ) (le : n ≤ length (session w.plan s).gates)
+module _ (w : World) (carries : CarriesEarlier w.plan) (p s n : ℕ) (got later : Key → ℕ) (le : n ≤ length (session w.plan s).gates)
+    (past : (key : Key) → key.session < s → got key ≡ later key)
     (same : (key : Key) → key.session ≡ s → key.slot < first_of_gate (session w.plan s) n → got key ≡ later key) where
   abbrev y : Session
   y = session w.plan s
@@ -195,12 +215,16 @@ module _ (w : World) (p s n : ℕ) (got later : Key → ℕ) (le : n ≤ length 
   deal_same : (z : Slot) (q v v' i : ℕ) → v ≡ v' → slot_number w.plan s z < first_of_gate y n → local_deal w got p s z q v i ≡ local_deal w later p s z q v' i
   deal_same z q v v' i e less = ap₂ (λ a b. if nat_eq q p then dealt (scheme w.plan) a (tape_word w s z p) i else b) e (same (key_at w.plan s z i q p) refl less)
 
+  source_same : (v i : ℕ) (from : Source) → source y v ≡ from → v < length (owners y) → local_source w got p s v from i ≡ local_source w later p s v from i
+  source_same v i (Given q) from lv = deal_same (Input v) q _ _ i refl (input_first y v n lv)
+  source_same v i (Carried r c at) from lv = past (kept_key w.plan r s v i p) (carries s v r c at from)
+
   start_same : (v i : ℕ) → (local_run w got p s).start v i ≡ (local_run w later p s).start v i
   start_same v i =
       let many = length (owners y) in
       elim (cases_lt v many) [
-        | inl l ↦ ap (λ a. if nat_lt v many then a else 0) (deal_same (Input v) (giver w.plan s v) _ _ i refl (input_first y v n l))
-        | inr past ↦ cond-false (nat_lt v many) _ 0 (le-ltb v many past) ∙ sym (cond-false (nat_lt v many) _ 0 (le-ltb v many past))
+        | inl l ↦ ap (λ a. if nat_lt v many then a else 0) (source_same v i (source y v) refl l)
+        | inr over ↦ cond-false (nat_lt v many) _ 0 (le-ltb v many over) ∙ sym (cond-false (nat_lt v many) _ 0 (le-ltb v many over))
       ]
 
   mask_same : (t : ℕ) (side : Side) (i : ℕ) → Inside y (Mask t side) → local_mask w got p s t side i ≡ local_mask w later p s t side i
@@ -240,5 +264,5 @@ module _ (w : World) (p s n : ℕ) (got later : Key → ℕ) (le : n ≤ length 
       (λ t l ih product i li u. product_same t i _ _ _ _ l product (λ i li. ih (gate y t).first i li tt) (λ i li. ih (gate y t).second i li tt))
       v i li tt
 
-pub reads_before : (w : World) → ReadsBefore w
-reads_before w p s n got later le same v i li = run_same w p s n got later le same v i li
+pub reads_before : (w : World) → CarriesEarlier w.plan → ReadsBefore w
+reads_before w carries p s n got later le past same v i li = run_same w carries p s n got later le past same v i li

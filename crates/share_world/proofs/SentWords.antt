@@ -3,8 +3,8 @@ use Rattle.std.proofs.Common.{◌≡◌, ℕ, ◌<◌, true, length, refl, sym, 
 use Rattle.std.specs.List.{AllByRecursion}
 use Rattle.list_laws.proofs.JoinedLists.{every_joined}
 use Rattle.secret_sharing.specs.Schemes.{dealt, summands}
-use Rattle.job_session.specs.Sessions.{Session, Slot, output_wire}
-use Rattle.job_session.specs.Sessions.Slot.{Input, At_gate, Output, Mask, Mask_product, Masked}
+use Rattle.job_session.specs.Sessions.{Session, Slot, output_wire, kept_wire}
+use Rattle.job_session.specs.Sessions.Slot.{Input, At_gate, Output, Mask, Mask_product, Masked, Kept}
 use Rattle.job_session.specs.SoundSessions.{Inside}
 use Rattle.job_session.proofs.SessionSlots.{slot_there, slot_kinds}
 use Rattle.job_plan.specs.declared.key.Key.{Key}
@@ -19,7 +19,7 @@ use Rattle.share_world.specs.Laws.{IsWorld, SentAreWords, OpenedArePlain}
 use Rattle.share_world.proofs.WireSums.{world_sums}
 use Rattle.share_world.proofs.SlotOrder.{masked_behind}
 use Rattle.share_world.proofs.GoingMessages.{Goes, every_going}
-use Rattle.share_world.proofs.LocalWords.{GotRight, held_are_dealt, run_right, own_right, own_mask, own_masks_right, masked_right, opened_right, word_at}
+use Rattle.share_world.proofs.LocalWords.{GotRight, all_right, held_are_dealt, run_right, own_right, own_mask, own_masks_right, masked_right, opened_right, word_at}
 
 -- what holds of each message of a slot holds of all messages
 pub every_message : (P : Key → Type 0) (plan : Plan)
@@ -57,6 +57,9 @@ module _ (w : World) (h : IsPlan w.plan) (got : Key → ℕ) (p s : ℕ) where
   sent_right (Output o) i r inside li goes right =
       let own = least i li goes.1.0 in
       run_right w h got p s (slot_number w.plan s (Output o)) (length x.gates) (omega arith) (right own.0) (output_wire x o) i li own.1
+  sent_right (Kept j) i r inside li goes right =
+      let has : holds w.plan p i ≡ true = subst (λ q. holds w.plan q i ≡ true) (sym goes.1) goes.2 in
+      run_right w h got p s (slot_number w.plan s (Kept j)) (length x.gates) (omega arith) (right goes.0) (kept_wire x j) i li has
 
   pub word_right : (z : Slot) (i r : ℕ) → Inside x z → i < length w.plan.groups → Goes w.plan s z i p r → RightBefore z → local_word w got p (key_at w.plan s z i p r) ≡ word w (key_at w.plan s z i p r)
   word_right z i r inside li goes right =
@@ -68,7 +71,7 @@ pub sent_are_words : (w : World) → IsPlan w.plan → SentAreWords w
 sent_are_words w h n ln =
     let Sends : Key → Type 0 = λ key. local_word w (word w) key.sender key ≡ word w key in
     every_place Sends (messages w.plan) n no_key
-    (every_message Sends w.plan (λ s z i q p ls inside li lp goes. word_right w h (word w) q s z i p inside li goes (λ lq z i q inside less li goes. refl))) ln
+    (every_message Sends w.plan (λ s z i q p ls inside li lp goes. word_right w h (word w) q s z i p inside li goes (λ lq. all_right w q s (slot_number w.plan s z)))) ln
 
 pub opened_are_plain : (w : World) → IsWorld w → OpenedArePlain w
 opened_are_plain w h p s o lo =

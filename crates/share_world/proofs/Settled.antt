@@ -10,13 +10,15 @@ use Rattle.circuit_model.specs.Netlists.{arity, inputs_read, read_by}
 use Rattle.job_session.specs.declared.side.Side.{Side}
 use Rattle.job_session.specs.declared.side.Side.TheVariants.{First, Second}
 use Rattle.job_session.specs.Sessions.{Session, Slot, owners, gate, is_prepared, operand, mask_wire, session_slots}
-use Rattle.job_session.specs.Sessions.Slot.{Input, At_gate, Output, Mask, Mask_product, Masked}
+use Rattle.job_session.specs.Sessions.Slot.{Input, At_gate, Output, Mask, Mask_product, Masked, Kept}
 use Rattle.job_session.specs.SoundSessions.{Inside, IsWired}
 use Rattle.job_session.specs.SlotNumbers.{first_of_gate, session_slot_number}
 use Rattle.job_session.specs.KeptWires.{slot_sets, sets_in, reads_in}
+use Rattle.job_plan.specs.Plans.{Plan, session}
+use Rattle.job_plan.specs.Sound.{IsSound}
 use Rattle.list_laws.proofs.Tests.{or_true}
 use Rattle.job_session.proofs.SessionSlots.{slot_there, slot_kinds, number_within}
-use Rattle.share_world.specs.Solutions.{SetBefore, GatesInOrder, reads_first, reads_second}
+use Rattle.share_world.specs.Solutions.{SetBefore, GatesInOrder, IsOrdered, reads_first, reads_second}
 use Rattle.share_world.proofs.SlotOrder.{input_first, masked_first, gate_first, earlier_gate}
 
 -- ---- whether a wire is one of these
@@ -80,6 +82,7 @@ module _ (x : Session) (wired : IsWired x) where
       each (Mask u Second) i h l = absurd (not_behind w _ lw (omega arith) h)
       each (Mask_product u) i h l = absurd (not_behind w _ lw (omega arith) h)
       each (Masked u side) i h l = absurd (both_ways false refl h)
+      each (Kept j) lj h l = absurd (both_ways false refl h)
 
   -- a slot sets it that stands before those of the gate
   pub setter : (t w : ℕ) → t ≤ length x.gates → SetBefore x t w → (j : ℕ) × (j < first_of_gate x t) × (slot_sets x j w ≡ true)
@@ -122,6 +125,10 @@ module _ (x : Session) (wired : IsWired x) where
         both_ways (slot_sets x k w) (wired.order.once by.0 k w (omega (arith, less)) (number_within x (At_gate t) l) by.2)
         (ap (λ z. list_any (nat_eq w) (sets_in x z)) (slot_there x (At_gate t) l) ∙ is_one w w refl);
   }
+
+-- in a plan within the limits each session is so, and carries from earlier ones
+pub plan_in_order : (plan : Plan) → IsSound plan → IsOrdered plan
+plan_in_order plan sound = record { gates = λ s ls. in_order (session plan s) (sound.sessions s ls).wired; carried = sound.earlier }
 
 -- a product reads both its wires
 pub product_reads : (op : Operation) → is_product op ≡ true → (reads_first op ≡ true) × (reads_second op ≡ true)

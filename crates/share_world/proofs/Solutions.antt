@@ -1,4 +1,4 @@
--- The equations have one solution.
+-- The equations of all sessions have one solution.
 use Rattle.std.proofs.Common.{◌≡◌, ℕ, zero, suc, ◌+◌, ◌%◌, ◌<◌, ◌≤◌, ◌≢◌, ◌⊎◌, true, false, not, nat_eq, nat_lt, if◌then◌else◌, length, refl, sym, ap, ap₂, ◌∙◌, subst, arith}
 use Rattle.std.proofs.lemmas.Bool.{cases_eq, cases_lt, cases_Bool, cond-true, cond-false, eq-eqb, eqb-true, ne_eqb, lt-ltb, le-ltb, and_parts, and_from, not-true, not_from_false, both_ways}
 use mathlib.Core.Logic.{inl, inr}
@@ -8,15 +8,18 @@ use Rattle.circuit_model.specs.declared.gate.Operation.TheVariants.{Add, Sub, Ne
 use Rattle.secret_sharing.specs.Schemes.{dealt, local, own_product, own_value, has_pair, gate_summands, summands}
 use Rattle.secret_sharing.specs.Prepared.{masked, sum_of, prepared_summand}
 use Rattle.job_session.specs.declared.side.Side.TheVariants.{First, Second}
-use Rattle.job_session.specs.Sessions.{owners, Session, Slot, gate, is_direct, is_prepared}
+use Rattle.job_session.specs.declared.source.Source.{Source}
+use Rattle.job_session.specs.declared.source.Source.TheVariants.{Given, Carried}
+use Rattle.job_session.specs.Sessions.{owners, source, given_by, Session, Slot, gate, is_direct, is_prepared}
 use Rattle.job_session.specs.SoundSessions.{Inside}
-use Rattle.job_plan.specs.Plans.{scheme, session, deals_in}
-use Rattle.job_session.specs.Sessions.Slot.{Input, At_gate, Output, Mask, Mask_product, Masked}
-use Rattle.share_world.specs.Worlds.{World, run_of, tape_word, mask, mask_product, product_of, deal_of}
-use Rattle.share_world.specs.Solutions.{reads_first, reads_second, SetBefore, GatesInOrder, dealt_sum, SummandsSolve, OnlySolution, IsSolution}
+use Rattle.job_plan.specs.Plans.{scheme, session, deals_in, CarriesEarlier}
+use Rattle.job_session.specs.Sessions.Slot.{Input, At_gate, Output, Mask, Mask_product, Masked, Kept}
+use Rattle.share_world.specs.Worlds.{World, run_of, source_summands, summands_before, end_summands, source_value, values_before, value_before, carried_wire, tape_word, mask, mask_product, product_of, deal_of}
+use Rattle.share_world.specs.Solutions.{reads_first, reads_second, SetBefore, GatesInOrder, IsOrdered, dealt_sum, SummandsSolve, AllSolve, AreSummands, OnlySolution, IsSolution, CarriedArePlain}
 use Rattle.list_laws.specs.Lists.{total}
 use Rattle.mpc_ring.specs.Differences.{difference}
 use Rattle.list_laws.proofs.Totals.{total_eq}
+use Rattle.share_world.proofs.CarriedWires.{carrier_there, carried_within, ended_summands, ended_values}
 use Rattle.share_world.proofs.LocalWords.{own_alike, joined_same}
 use Rattle.share_world.proofs.Settled.{product_reads, settled}
 
@@ -70,33 +73,43 @@ unset_zero w s (suc t) v i no' =
     ap (λ f. f i) (cond-false (nat_eq v g.output) _ (summands (run_of w s) t v) (ne_eqb v g.output (λ e. no' (inr (t, omega arith, sym e)))))
     ∙ unset_zero w s t v i (λ b. no' (set_later (session w.plan s) t v b))
 
-module _ (w : World) (s : ℕ) (c : GatesInOrder (session w.plan s)) (sh : ℕ → ℕ → ℕ) (dl : ℕ → Slot → ℕ → ℕ) (h : SummandsSolve w s sh dl) where
+-- who gives a wire is its source
+giver_is : (p : ℕ) (from : Source) → given_by p from ≡ true → from ≡ Given p
+giver_is p (Given q) e = ap (λ n. Given n) (eqb-true q p e)
+giver_is p (Carried r c at) e = absurd (both_ways false refl e)
+
+-- the wires of the sessions before s have their summands
+abbrev Earlier : World → (ℕ → ℕ → ℕ → ℕ) → ℕ → Type 0
+Earlier w sh s = (r v i : ℕ) → r < s → i < length w.plan.groups → sh r v i ≡ end_summands w r v i
+
+module _ (w : World) (s : ℕ) (c : GatesInOrder (session w.plan s)) (carries : CarriesEarlier w.plan) (sh : ℕ → ℕ → ℕ → ℕ) (dl : ℕ → ℕ → Slot → ℕ → ℕ)
+    (h : SummandsSolve w s sh dl) (before : Earlier w sh s) where
   abbrev x : Session
   x = session w.plan s
 
   -- the wires that are set before gate t have their summands
   abbrev Known : ℕ → Type 0
-  Known t = (v i : ℕ) → SetBefore x t v → i < length w.plan.groups → sh v i ≡ summands (run_of w s) t v i
+  Known t = (v i : ℕ) → SetBefore x t v → i < length w.plan.groups → sh s v i ≡ summands (run_of w s) t v i
 
   -- the wires that a product reads
-  first_known : (t : ℕ) → t < length x.gates → is_product (gate x t).operation ≡ true → Known t → (i : ℕ) → i < length w.plan.groups → sh (gate x t).first i ≡ summands (run_of w s) t (gate x t).first i
+  first_known : (t : ℕ) → t < length x.gates → is_product (gate x t).operation ≡ true → Known t → (i : ℕ) → i < length w.plan.groups → sh s (gate x t).first i ≡ summands (run_of w s) t (gate x t).first i
   first_known t l product known i li = known (gate x t).first i (c.first t l (product_reads (gate x t).operation product).0) li
 
-  second_known : (t : ℕ) → t < length x.gates → is_product (gate x t).operation ≡ true → Known t → (i : ℕ) → i < length w.plan.groups → sh (gate x t).second i ≡ summands (run_of w s) t (gate x t).second i
+  second_known : (t : ℕ) → t < length x.gates → is_product (gate x t).operation ≡ true → Known t → (i : ℕ) → i < length w.plan.groups → sh s (gate x t).second i ≡ summands (run_of w s) t (gate x t).second i
   second_known t l product known i li = known (gate x t).second i (c.second t l (product_reads (gate x t).operation product).1) li
 
   -- what is dealt of a product
-  gate_deal : (t p i : ℕ) → t < length x.gates → is_direct x t ≡ true → Known t → dl p (At_gate t) i ≡ deal_of w s p (At_gate t) i
+  gate_deal : (t p i : ℕ) → t < length x.gates → is_direct x t ≡ true → Known t → dl s p (At_gate t) i ≡ deal_of w s p (At_gate t) i
   gate_deal t p i l direct known =
       let product = (and_parts (not x.prepared) _ direct).1 in
       h.product_deals t p i l direct ∙ ap (λ z. dealt (scheme w.plan) z (tape_word w s (At_gate t) p) i) (own_alike w.plan p _ _ _ _ (first_known t l product known) (second_known t l product known))
 
-  deals_alike : (z : Slot) (f : ℕ → ℕ) (i : ℕ) → ((p : ℕ) → dl p z i ≡ dealt (scheme w.plan) (f p) (tape_word w s z p) i)
-      → dealt_sum w.plan dl z i ≡ total w.plan.parties (λ p. if has_pair (scheme w.plan) p then dealt (scheme w.plan) (f p) (tape_word w s z p) i else 0) % (scheme w.plan).modulus
+  deals_alike : (z : Slot) (f : ℕ → ℕ) (i : ℕ) → ((p : ℕ) → dl s p z i ≡ dealt (scheme w.plan) (f p) (tape_word w s z p) i)
+      → dealt_sum w.plan (dl s) z i ≡ total w.plan.parties (λ p. if has_pair (scheme w.plan) p then dealt (scheme w.plan) (f p) (tape_word w s z p) i else 0) % (scheme w.plan).modulus
   deals_alike z f i e = ap (λ n. n % (scheme w.plan).modulus) (total_eq w.plan.parties _ _ (λ p lp. ap (λ n. if has_pair (scheme w.plan) p then n else 0) (e p)))
 
   abbrev ProductIs : ℕ → ℕ → Type 0
-  ProductIs t i = sh (gate x t).output i ≡ product_of w s t (summands (run_of w s) t (gate x t).first) (summands (run_of w s) t (gate x t).second) i
+  ProductIs t i = sh s (gate x t).output i ≡ product_of w s t (summands (run_of w s) t (gate x t).first) (summands (run_of w s) t (gate x t).second) i
 
   prepared_is : (t i : ℕ) → t < length x.gates → x.prepared ≡ true → is_product (gate x t).operation ≡ true → Known t → ProductIs t i
   prepared_is t i l yes' product known =
@@ -107,8 +120,8 @@ module _ (w : World) (s : ℕ) (c : GatesInOrder (session w.plan s)) (sh : ℕ �
       let prepared : is_prepared x t ≡ true = and_from x.prepared _ yes' product in
       h.prepared t i l prepared
       ∙ joined_same q i
-      (excess_alike (sh (gate x t).first) (summands r t (gate x t).first) a (first_known t l product known))
-      (excess_alike (sh (gate x t).second) (summands r t (gate x t).second) b (second_known t l product known))
+      (excess_alike (sh s (gate x t).first) (summands r t (gate x t).first) a (first_known t l product known))
+      (excess_alike (sh s (gate x t).second) (summands r t (gate x t).second) b (second_known t l product known))
       refl refl (deals_alike (Mask_product t) (λ p. own_product (scheme w.plan) p a b) i (λ p. h.mask_deals t p i l prepared))
       ∙ sym (ap (λ (f : ℕ → ℕ). f i) (cond-true x.prepared _ _ yes'))
     where
@@ -123,7 +136,7 @@ module _ (w : World) (s : ℕ) (c : GatesInOrder (session w.plan s)) (sh : ℕ �
       ∙ sym (ap (λ (f : ℕ → ℕ). f i) (cond-false x.prepared _ _ no'))
 
   gate_is : (t i : ℕ) → t < length x.gates → Known t → i < length w.plan.groups
-      → sh (gate x t).output i ≡ gate_summands (run_of w s) t (summands (run_of w s) t (gate x t).first) (summands (run_of w s) t (gate x t).second) i
+      → sh s (gate x t).output i ≡ gate_summands (run_of w s) t (summands (run_of w s) t (gate x t).first) (summands (run_of w s) t (gate x t).second) i
   gate_is t i l known li =
       let g = gate x t in
       elim (cases_Bool (is_product g.operation)) [
@@ -136,54 +149,75 @@ module _ (w : World) (s : ℕ) (c : GatesInOrder (session w.plan s)) (sh : ℕ �
             ∙ sym (cond-false (is_product g.operation) _ _ linear)
       ]
 
+  source_is : (v i : ℕ) (from : Source) → v < length (owners x) → source x v ≡ from → i < length w.plan.groups → sh s v i ≡ source_summands w (summands_before w s) s v from i
+  source_is v i (Given p) lv from li = h.given v p i lv from ∙ h.input_deals v p i lv from
+  source_is v i (Carried r k at) lv from li =
+      let less = carries s v r k at from in
+      h.carried v r k at i from ∙ before r (carried_wire w.plan r k at) i less li
+      ∙ ap (λ (f : ℕ → ℕ → ℕ). f (carried_wire w.plan r k at) i) (sym (ended_summands w s r less))
+
   solved : (t : ℕ) → t ≤ length x.gates → Known t
-  solved zero le v i (inl l) li = h.inputs v i l ∙ h.input_deals v i l ∙ sym (cond-true (nat_lt v (length (owners x))) _ 0 (lt-ltb v (length (owners x)) l))
+  solved zero le v i (inl l) li = source_is v i (source x v) l refl li ∙ sym (cond-true (nat_lt v (length (owners x))) _ 0 (lt-ltb v (length (owners x)) l))
   solved zero le v i (inr u) li = absurd (omega (arith, u.1))
   solved (suc t) le v i set li =
       let g = gate x t in
       let r = run_of w s in
       let known : Known t = solved t (omega arith) in
       elim (set_now x t v set) [
-        | inl e ↦ subst (λ z. sh z i ≡ summands r (suc t) z i) e (gate_is t i (omega arith) known li ∙ sym (ap (λ f. f i) (cond-true (nat_eq g.output g.output) _ (summands r t g.output) (eq-eqb g.output g.output refl))))
+        | inl e ↦ subst (λ z. sh s z i ≡ summands r (suc t) z i) e (gate_is t i (omega arith) known li ∙ sym (ap (λ f. f i) (cond-true (nat_eq g.output g.output) _ (summands r t g.output) (eq-eqb g.output g.output refl))))
         | inr b ↦
             let apart : v ≢ g.output = λ e. c.output t (omega arith) (subst (SetBefore x t) e b) in
             known v i b li ∙ sym (ap (λ f. f i) (cond-false (nat_eq v g.output) _ (summands r t v) (ne_eqb v g.output apart)))
       ]
 
-  wires_are : (v i : ℕ) → i < length w.plan.groups → sh v i ≡ summands (run_of w s) (length x.gates) v i
+  wires_are : (v i : ℕ) → i < length w.plan.groups → sh s v i ≡ end_summands w s v i
   wires_are v i li = elim (decide_set x (length x.gates) v) [
     | inl yes' ↦ solved (length x.gates) (omega arith) v i yes' li
     | inr no' ↦ h.unset v i no' ∙ sym (unset_zero w s (length x.gates) v i no')
   ]
 
-  deals_are : (p : ℕ) (z : Slot) (i : ℕ) → Inside x z → deals_in w.plan s p z ≡ true → dl p z i ≡ deal_of w s p z i
-  deals_are p (Input v) i lv owns = subst (λ z. dl z (Input v) i ≡ deal_of w s z (Input v) i) (eqb-true _ _ owns) (h.input_deals v i lv)
+  deals_are : (p : ℕ) (z : Slot) (i : ℕ) → Inside x z → deals_in w.plan s p z ≡ true → dl s p z i ≡ deal_of w s p z i
+  deals_are p (Input v) i lv gives = h.input_deals v p i lv (giver_is p (source x v) gives)
   deals_are p (At_gate t) i lt deals = gate_deal t p i lt (and_parts (is_direct x t) _ deals).0 (solved t (omega arith))
   deals_are p (Mask_product t) i inside deals = h.mask_deals t p i inside.0 inside.1
   deals_are p (Output o) i lo none = absurd (both_ways false refl none)
   deals_are p (Mask t side) i inside none = absurd (both_ways false refl none)
   deals_are p (Masked t side) i inside none = absurd (both_ways false refl none)
+  deals_are p (Kept j) i lj none = absurd (both_ways false refl none)
 
-pub only_solution : (w : World) (s : ℕ) → OnlySolution w s
-only_solution w s c sh dl h = record {
-  wires = wires_are w s c sh dl h;
-  deals = λ p z i inside deals. deals_are w s c sh dl h p z i inside deals;
-}
+  are_summands : AreSummands w s sh dl
+  are_summands = record { wires = wires_are; deals = deals_are }
+
+-- session by session
+module _ (w : World) (order : IsOrdered w.plan) (sh : ℕ → ℕ → ℕ → ℕ) (dl : ℕ → ℕ → Slot → ℕ → ℕ) (solve : AllSolve w sh dl) where
+  earlier_are : (n : ℕ) → n ≤ length w.plan.sessions → Earlier w sh n
+  earlier_are zero le r v i lr li = absurd (omega (arith, lr))
+  earlier_are (suc n) le r v i lr li = elim (cases_eq r n) [
+    | inl e ↦ subst (λ z. sh z v i ≡ end_summands w z v i) (sym e) (wires_are w n (order.gates n (omega (arith, le))) order.carried sh dl (solve n (omega (arith, le))) (earlier_are n (omega (arith, le))) v i li)
+    | inr ne ↦ earlier_are n (omega (arith, le)) r v i (omega (arith, lr, ne)) li
+  ]
+
+pub only_solution : (w : World) → OnlySolution w
+only_solution w order sh dl solve s ls =
+    are_summands w s (order.gates s ls) order.carried sh dl (solve s ls) (earlier_are w order sh dl solve s (omega (arith, ls)))
 
 -- ---- the summands at the end solve the equations
 
 -- a wire that is set keeps its summands
-at_end : (w : World) (s : ℕ) → GatesInOrder (session w.plan s) → (t v : ℕ) → t ≤ length (session w.plan s).gates → SetBefore (session w.plan s) t v → summands (run_of w s) (length (session w.plan s).gates) v ≡ summands (run_of w s) t v
+at_end : (w : World) (s : ℕ) → GatesInOrder (session w.plan s) → (t v : ℕ) → t ≤ length (session w.plan s).gates → SetBefore (session w.plan s) t v → end_summands w s v ≡ summands (run_of w s) t v
 at_end w s c t v le b =
     settled (session w.plan s) c (summands (run_of w s)) (λ t v apart. cond-false (nat_eq v (gate (session w.plan s) t).output) _ (summands (run_of w s) t v) (ne_eqb v (gate (session w.plan s) t).output apart)) t v le b
 
-pub is_solution : (w : World) (s : ℕ) → IsSolution w s
-is_solution w s c = record {
-  input_deals = λ v i l. refl;
+solution : (w : World) (s : ℕ) → GatesInOrder (session w.plan s) → CarriesEarlier w.plan → SummandsSolve w s (end_summands w) (deal_of w)
+solution w s c carries = record {
+  input_deals = λ v p i l from. refl;
   product_deals = λ t p i l e. ap (λ z. dealt (scheme w.plan) z (tape_word w s (At_gate t) p) i)
       (let ends = ends_as t l (and_parts (not (session w.plan s).prepared) _ e).1 in ap₂ (own_product (scheme w.plan) p) ends.0 ends.1);
   mask_deals = λ t p i l e. refl;
-  inputs = λ v i l. ap (λ f. f i) (at_end w s c 0 v (omega arith) (inl l)) ∙ cond-true (nat_lt v (length (owners (session w.plan s)))) _ 0 (lt-ltb v (length (owners (session w.plan s))) l);
+  given = λ v p i l from. start v i (Given p) l from;
+  carried = λ v r k at i from.
+      start v i (Carried r k at) (carried_within (session w.plan s) v r k at from) from
+      ∙ ap (λ (f : ℕ → ℕ → ℕ). f (carried_wire w.plan r k at) i) (ended_summands w s r (carries s v r k at from));
   linear = λ t i l e.
       let g = gate (session w.plan s) t in
       output t i l ∙ cond-false (is_product g.operation) _ _ e
@@ -202,7 +236,13 @@ is_solution w s c = record {
   unset = λ v i no'. unset_zero w s (length (session w.plan s).gates) v i no';
 }
   where
-    output : (t i : ℕ) → t < length (session w.plan s).gates → summands (run_of w s) (length (session w.plan s).gates) (gate (session w.plan s) t).output i
+    start : (v i : ℕ) (from : Source) → v < length (owners (session w.plan s)) → source (session w.plan s) v ≡ from → end_summands w s v i ≡ source_summands w (summands_before w s) s v from i
+    start v i from l is =
+        let many = length (owners (session w.plan s)) in
+        ap (λ f. f i) (at_end w s c 0 v (omega arith) (inl l)) ∙ cond-true (nat_lt v many) _ 0 (lt-ltb v many l)
+        ∙ ap (λ (z : Source). source_summands w (summands_before w s) s v z i) is
+
+    output : (t i : ℕ) → t < length (session w.plan s).gates → end_summands w s (gate (session w.plan s) t).output i
         ≡ gate_summands (run_of w s) t (summands (run_of w s) t (gate (session w.plan s) t).first) (summands (run_of w s) t (gate (session w.plan s) t).second) i
     output t i l =
         let g = gate (session w.plan s) t in
@@ -211,9 +251,24 @@ is_solution w s c = record {
 
     -- the wires that a product reads stay to the end
     ends_as : (t : ℕ) → t < length (session w.plan s).gates → is_product (gate (session w.plan s) t).operation ≡ true
-        → (summands (run_of w s) t (gate (session w.plan s) t).first ≡ summands (run_of w s) (length (session w.plan s).gates) (gate (session w.plan s) t).first)
-        × (summands (run_of w s) t (gate (session w.plan s) t).second ≡ summands (run_of w s) (length (session w.plan s).gates) (gate (session w.plan s) t).second)
+        → (summands (run_of w s) t (gate (session w.plan s) t).first ≡ end_summands w s (gate (session w.plan s) t).first)
+        × (summands (run_of w s) t (gate (session w.plan s) t).second ≡ end_summands w s (gate (session w.plan s) t).second)
     ends_as t l e =
         let g = gate (session w.plan s) t in
         let reads = product_reads g.operation e in
         (sym (at_end w s c t g.first (omega arith) (c.first t l reads.0)), sym (at_end w s c t g.second (omega arith) (c.second t l reads.1)))
+
+pub is_solution : (w : World) → IsSolution w
+is_solution w order s ls = solution w s (order.gates s ls) order.carried
+
+-- ---- values of carried wires
+
+pub carried_are_plain : (w : World) → CarriedArePlain w
+carried_are_plain w order s v r k at from =
+    let x : Session = session w.plan s in
+    let many = length (owners x) in
+    let within : v < many = carried_within x v r k at from in
+    settled x (order.gates s (carrier_there w.plan s v r k at from)) (value_before w s) (λ t u apart. cond-false (nat_eq u (gate x t).output) _ (value_before w s t u) (ne_eqb u (gate x t).output apart)) 0 v (omega arith) (inl within)
+    ∙ cond-true (nat_lt v many) _ 0 (lt-ltb v many within)
+    ∙ ap (λ (z : Source). source_value w (values_before w s) s v z) from
+    ∙ ap (λ (f : ℕ → ℕ). f (carried_wire w.plan r k at)) (ended_values w s r (order.carried s v r k at from))

@@ -9,7 +9,7 @@ use Rattle.job_plan.specs.Messages.{messages}
 use Rattle.job_plan.specs.Numbers.{message}
 use Rattle.job_plan.specs.Tallies.{tape_length}
 use Rattle.job_plan.specs.InputWords.{AreInputs}
-use Rattle.share_world.specs.Worlds.{World, run_of, plain, word}
+use Rattle.share_world.specs.Worlds.{World, run_of, end_summands, plain, word}
 use Rattle.share_world.specs.Locals.{local_run, local_word, local_output}
 
 -- ---- worlds
@@ -36,8 +36,7 @@ pub record IsWhole (w : World) : Type 0 where
 -- the summands of each wire add up to its value
 abbrev pub SumIsPlain : World → Type 0
 SumIsPlain w =
-    (s v : ℕ) → total (length w.plan.groups)
-    (summands (run_of w s) (length (session w.plan s).gates) v) % 2 ^ w.plan.bits ≡ plain w s v
+    (s v : ℕ) → total (length w.plan.groups) (end_summands w s v) % 2 ^ w.plan.bits ≡ plain w s v
 
 -- ---- local runs over the words of the equations
 

@@ -4,3 +4,4 @@ pub mod Laws
 pub mod Solutions
 pub mod Made
 pub mod Multiply
+pub mod CarriedProduct

@@ -5,19 +5,25 @@ use Rattle.list_laws.specs.Lists.{total}
 use Rattle.secret_sharing.specs.Schemes.{Run, dealt, own_product, product_summand, own_value, summands}
 use Rattle.secret_sharing.specs.Prepared.{masked, joined_summand}
 use Rattle.job_plan.specs.declared.key.Key.{Key}
-use Rattle.job_session.specs.Sessions.{owners, gate, operand, Slot}
+use Rattle.job_session.specs.declared.source.Source.{Source}
+use Rattle.job_session.specs.declared.source.Source.TheVariants.{Given, Carried}
+use Rattle.job_session.specs.Sessions.{owners, source, gate, operand, output_wire, kept_wire, Slot}
+use Rattle.job_session.specs.Carries.{kept_place}
 use Rattle.job_session.specs.declared.side.Side.{Side}
 use Rattle.job_session.specs.declared.side.Side.TheVariants.{First, Second}
 use Rattle.job_session.specs.SlotNumbers.{first_of_gate}
-use Rattle.job_plan.specs.Plans.{Plan, holds, least_holder, scheme, session, slot, slot_number, giver}
+use Rattle.job_plan.specs.Plans.{Plan, holds, least_holder, scheme, session, slot, slot_number}
 use Rattle.job_plan.specs.Messages.{messages}
-use Rattle.job_session.specs.Sessions.Slot.{Input, At_gate, Output, Mask, Mask_product, Masked}
+use Rattle.job_session.specs.Sessions.Slot.{Input, At_gate, Output, Mask, Mask_product, Masked, Kept}
 use Rattle.share_world.specs.Worlds.{World, input_of, tape_word, mask, word}
-use Rattle.job_session.specs.Sessions.{output_wire}
 
 -- the message of summand i that p sends q in a slot
 abbrev pub key_at : Plan → ℕ → Slot → ℕ → ℕ → ℕ → Key
 key_at plan s kind i p q = record { session = s; slot = slot_number plan s kind; share = i; sender = p; receiver = q }
+
+-- the message by which p keeps, in session r, summand i of the wire that input wire v of session s carries
+abbrev pub kept_key : Plan → ℕ → ℕ → ℕ → ℕ → ℕ → Key
+kept_key plan r s v i p = key_at plan r (Kept (kept_place plan.sessions s v)) i p p
 
 -- summand i of what q deals in a slot, as p has it: where p is q, it deals v
 abbrev pub local_deal : World → (Key → ℕ) → ℕ → ℕ → Slot → ℕ → ℕ → ℕ → ℕ
@@ -57,15 +63,24 @@ local_product w got p s t x y =
     (local_mask w got p s t First) (local_mask w got p s t Second) (local_mask_product w got p s t)
     else product_summand (scheme w.plan) (local_deal w got p s (At_gate t)) x y
 
+-- summand i of input wire v, with this source: its giver's deal, or what p kept of the wire that it carries
+abbrev pub local_source : World → (Key → ℕ) → ℕ → ℕ → ℕ → Source → ℕ → ℕ
+local_source w got p s v (Given q) i = local_deal w got p s (Input v) q (input_of w s v) i
+local_source w got p s v (Carried r c at) i = got (kept_key w.plan r s v i p)
+
+-- summand i of the input wires, and 0 for any other wire
+abbrev pub local_start : World → (Key → ℕ) → ℕ → ℕ → ℕ → ℕ → ℕ
+local_start w got p s v i =
+    if nat_lt v (length (owners (session w.plan s)))
+    then local_source w got p s v (source (session w.plan s) v) i
+    else 0
+
 -- the gates of session s as party p runs them: of w it reads its own inputs and tape alone
 abbrev pub local_run : World → (Key → ℕ) → ℕ → ℕ → Run
 local_run w got p s = record {
   scheme = scheme w.plan;
   gates = gate (session w.plan s);
-  start = λ v i.
-      if nat_lt v (length (owners (session w.plan s)))
-      then local_deal w got p s (Input v) (giver w.plan s v) (input_of w s v) i
-      else 0;
+  start = local_start w got p s;
   product = local_product w got p s;
 }
 
@@ -87,6 +102,9 @@ local_word_in w got p key (Masked t side) =
     masked (scheme w.plan)
     (summands (local_run w got p key.session) t (operand (gate (session w.plan key.session) t) side))
     (local_mask w got p key.session t side) key.share
+local_word_in w got p key (Kept j) =
+    summands (local_run w got p key.session) (length (session w.plan key.session).gates)
+    (kept_wire (session w.plan key.session) j) key.share
 local_word_in w got p key kind =
     dealt (scheme w.plan) (local_value w got p key.session kind) (tape_word w key.session kind p) key.share
 
@@ -107,10 +125,11 @@ LocalsJoin w =
     (messages w.plan)
     → AllByRecursion (λ key. got key.receiver key ≡ word w key) (messages w.plan)
 
--- the first n gates read what was got in the slots before those of gate n
+-- the first n gates read what was got in the sessions before, and in the slots before those of gate n
 abbrev pub ReadsBefore : World → Type 0
 ReadsBefore w =
     (p s n : ℕ) (got later : Key → ℕ) → n ≤ length (session w.plan s).gates
+    → ((key : Key) → key.session < s → got key ≡ later key)
     → ((key : Key) → key.session ≡ s → key.slot < first_of_gate (session w.plan s) n → got key ≡ later key)
     → (v i : ℕ) → i < length w.plan.groups
     → summands (local_run w got p s) n v i ≡ summands (local_run w later p s) n v i

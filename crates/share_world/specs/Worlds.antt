@@ -1,16 +1,18 @@
 -- A world: a plan, the inputs of all parties, and their tapes. Its words, and what a group sees.
-use Rattle.std.specs.Prelude.{ℕ, ◌+◌, ◌^◌, Bool, ◌||◌, nat_lt, if◌then◌else◌, List, [], map, length, slice_index, slice_index_or, filter}
-use Rattle.circuit_model.specs.Circuits.{values}
+use Rattle.std.specs.Prelude.{ℕ, zero, suc, ◌+◌, ◌^◌, Bool, ◌||◌, nat_lt, if◌then◌else◌, List, [], map, length, slice_index, slice_index_or, filter}
+use Rattle.circuit_model.specs.Circuits.{set_at, values}
 use Rattle.secret_sharing.specs.Schemes.{Run, dealt, own_product, product_summand, own_value, summands}
 use Rattle.secret_sharing.specs.Prepared.{masked, prepared_summand}
-use Rattle.job_session.specs.Sessions.{owners, output_wire, operand, Slot, gate}
+use Rattle.job_session.specs.declared.source.Source.{Source}
+use Rattle.job_session.specs.declared.source.Source.TheVariants.{Given, Carried}
+use Rattle.job_session.specs.Sessions.{owners, source, output_wire, carried_output, kept_wire, operand, Slot, gate}
 use Rattle.job_session.specs.declared.side.Side.{Side}
 use Rattle.job_session.specs.declared.side.Side.TheVariants.{First, Second}
-use Rattle.job_plan.specs.Plans.{Plan, scheme, session, slot, slot_number, place, giver, given_before, least_holder, least_held}
+use Rattle.job_plan.specs.Plans.{Plan, scheme, session, slot, slot_number, place, given_before, least_holder, least_held}
 use Rattle.job_plan.specs.declared.key.Key.{Key}
 use Rattle.job_plan.specs.Messages.{messages}
 use Rattle.party_set.specs.Parties.{has_party}
-use Rattle.job_session.specs.Sessions.Slot.{Input, At_gate, Output, Mask, Mask_product, Masked}
+use Rattle.job_session.specs.Sessions.Slot.{Input, At_gate, Output, Mask, Mask_product, Masked, Kept}
 
 -- a plan, with the inputs and the tapes of all parties
 pub record World : Type 0 where
@@ -18,26 +20,21 @@ pub record World : Type 0 where
   pub inputs : List (List (List ℕ))  -- by party, session, position
   pub tapes : List (List ℕ)  -- by party
 
--- the input of wire v, which is the next of its owner's inputs
-abbrev pub input_of : World → ℕ → ℕ → ℕ
-input_of w s v =
-    let p = giver w.plan s v in
+-- the input of a wire with this source: the next of its giver's inputs; a carried wire has none
+abbrev pub source_input : World → ℕ → ℕ → Source → ℕ
+source_input w s v (Given p) =
     slice_index (slice_index_or (slice_index_or w.inputs p []) s []) (given_before w.plan p s v)
+source_input w s v (Carried r c i) = 0
+
+-- the input of wire v
+abbrev pub input_of : World → ℕ → ℕ → ℕ
+input_of w s v = source_input w s v (source (session w.plan s) v)
 
 -- word i of those that party p draws in a slot of session s
 abbrev pub tape_word : World → ℕ → Slot → ℕ → ℕ → ℕ
 tape_word w s kind p i = slice_index (slice_index_or w.tapes p []) (place w.plan p s (slot_number w.plan s kind) + i)
 
--- the values of the input wires, and 0 for any other wire
-abbrev pub first_values : World → ℕ → ℕ → ℕ
-first_values w s v = if nat_lt v (length (owners (session w.plan s))) then input_of w s v else 0
-
--- the summands of the input wires, as their owners deal them
-abbrev pub first_summands : World → ℕ → ℕ → ℕ → ℕ
-first_summands w s v i =
-    if nat_lt v (length (owners (session w.plan s)))
-    then dealt (scheme w.plan) (input_of w s v) (tape_word w s (Input v) (giver w.plan s v)) i
-    else 0
+-- ---- products
 
 -- summand i of a mask is a word of its least holder
 abbrev pub mask : World → ℕ → ℕ → Side → ℕ → ℕ
@@ -60,18 +57,75 @@ product_of w s t x y =
     then prepared_summand (scheme w.plan) (mask w s t First) (mask w s t Second) (mask_product w s t) x y
     else dealt_product w s (At_gate t) x y
 
--- the gates of session s
-abbrev pub run_of : World → ℕ → Run
-run_of w s = record {
+-- ---- one session, from what the wires of earlier sessions ended with
+
+-- the wire of session r that is wire i of its output value c
+abbrev pub carried_wire : Plan → ℕ → ℕ → ℕ → ℕ
+carried_wire plan r c i = output_wire (session plan r) (carried_output (session plan r) (Carried r c i))
+
+-- the summands of an input wire with this source: its giver's deal, or what the wire that it carries ended with
+abbrev pub source_summands : World → (ℕ → ℕ → ℕ → ℕ) → ℕ → ℕ → Source → ℕ → ℕ
+source_summands w before s v (Given p) = dealt (scheme w.plan) (input_of w s v) (tape_word w s (Input v) p)
+source_summands w before s v (Carried r c i) = before r (carried_wire w.plan r c i)
+
+-- the summands of the input wires, and 0 for any other wire
+abbrev pub first_summands : World → (ℕ → ℕ → ℕ → ℕ) → ℕ → ℕ → ℕ → ℕ
+first_summands w before s v i =
+    if nat_lt v (length (owners (session w.plan s)))
+    then source_summands w before s v (source (session w.plan s) v) i
+    else 0
+
+-- the gates of session s, where the wires of earlier sessions ended with these summands
+abbrev pub run_after : World → (ℕ → ℕ → ℕ → ℕ) → ℕ → Run
+run_after w before s = record {
   scheme = scheme w.plan;
   gates = gate (session w.plan s);
-  start = first_summands w s;
+  start = first_summands w before s;
   product = product_of w s;
 }
 
+-- the value of an input wire with this source: its input, or what the wire that it carries ended with
+abbrev pub source_value : World → (ℕ → ℕ → ℕ) → ℕ → ℕ → Source → ℕ
+source_value w before s v (Given p) = input_of w s v
+source_value w before s v (Carried r c i) = before r (carried_wire w.plan r c i)
+
+-- the values of the input wires, and 0 for any other wire
+abbrev pub first_values : World → (ℕ → ℕ → ℕ) → ℕ → ℕ → ℕ
+first_values w before s v =
+    if nat_lt v (length (owners (session w.plan s)))
+    then source_value w before s v (source (session w.plan s) v)
+    else 0
+
+-- the value of each wire before gate t of session s
+abbrev pub values_after : World → (ℕ → ℕ → ℕ) → ℕ → ℕ → ℕ → ℕ
+values_after w before s = values (2 ^ w.plan.bits) (gate (session w.plan s)) (first_values w before s)
+
+-- ---- all sessions, one after another
+
+-- the summands with which the wires of the first n sessions end, by session and wire, and 0 for any other session
+abbrev pub summands_before : World → ℕ → ℕ → ℕ → ℕ → ℕ
+summands_before w zero = λ r v i. 0
+summands_before w (suc n) =
+    set_at (summands_before w n) n
+    (summands (run_after w (summands_before w n) n) (length (session w.plan n).gates))
+
+-- the gates of session s, behind all sessions before it
+abbrev pub run_of : World → ℕ → Run
+run_of w s = run_after w (summands_before w s) s
+
+-- the summands with which the wires of session s end
+abbrev pub end_summands : World → ℕ → ℕ → ℕ → ℕ
+end_summands w s = summands (run_of w s) (length (session w.plan s).gates)
+
+-- the values with which the wires of the first n sessions end, by session and wire, and 0 for any other session
+abbrev pub values_before : World → ℕ → ℕ → ℕ → ℕ
+values_before w zero = λ r v. 0
+values_before w (suc n) =
+    set_at (values_before w n) n (values_after w (values_before w n) n (length (session w.plan n).gates))
+
 -- the value of wire v before gate t, and at the end
 abbrev pub value_before : World → ℕ → ℕ → ℕ → ℕ
-value_before w s t v = values (2 ^ w.plan.bits) (gate (session w.plan s)) (first_values w s) t v
+value_before w s t v = values_after w (values_before w s) s t v
 
 -- the value of wire v in the clear
 abbrev pub plain : World → ℕ → ℕ → ℕ
@@ -97,13 +151,13 @@ abbrev pub masked_summand : World → ℕ → ℕ → Side → ℕ → ℕ
 masked_summand w s t side =
     masked (scheme w.plan) (summands (run_of w s) t (operand (gate (session w.plan s) t) side)) (mask w s t side)
 
--- a summand of the sender's deal, of a mask, or of what is opened: a wire, or what one has more than its mask
+-- a summand of the sender's deal, of a mask, of a kept wire, or of what is opened: a wire, or what one has more than its
+-- mask
 abbrev pub word_in : World → Key → Slot → ℕ
-word_in w key (Output o) =
-    summands (run_of w key.session) (length (session w.plan key.session).gates)
-    (output_wire (session w.plan key.session) o) key.share
+word_in w key (Output o) = end_summands w key.session (output_wire (session w.plan key.session) o) key.share
 word_in w key (Mask t side) = mask w key.session t side key.share
 word_in w key (Masked t side) = masked_summand w key.session t side key.share
+word_in w key (Kept j) = end_summands w key.session (kept_wire (session w.plan key.session) j) key.share
 word_in w key kind = deal_of w key.session key.sender kind key.share
 
 -- the word of a message

@@ -1,11 +1,11 @@
 -- The tables of a session make the change of its tapes.
-use Rattle.std.proofs.Common.{◌≡◌, ℕ, ◌+◌, ◌-◌, ◌%◌, ◌^◌, ◌<◌, true, nat_eq, nat_lt, All, List, [], length, sym, ap, ap₂, ◌∙◌, subst, arith, inl, inr, pow_pos}
+use Rattle.std.proofs.Common.{◌≡◌, ℕ, ◌+◌, ◌-◌, ◌%◌, ◌^◌, ◌<◌, true, false, nat_eq, nat_lt, All, List, [], length, refl, sym, ap, ap₂, ◌∙◌, subst, arith, inl, inr, pow_pos}
 use Rattle.std.specs.Prelude.{slice_index, slice_index_or}
 use Rattle.std.specs.Global.{Vec}
 use Rattle.std.proofs.lemmas.List.{length-map, get_or_default}
 use Rattle.std.proofs.Math.Nat.{mod-eq_of_lt, mod-lt}
 use Rattle.std.proofs.Math.ListN.{get_or-eq_default}
-use Rattle.std.proofs.lemmas.Bool.{cases_Bool, cases_lt, cond-true, cond-false, lt-ltb, and_parts}
+use Rattle.std.proofs.lemmas.Bool.{cases_Bool, cases_lt, cond-true, cond-false, lt-ltb, and_parts, both_ways, eqb-true}
 use Rattle.list_laws.specs.Lists.{total, joined, listed}
 use Rattle.list_laws.proofs.Totals.{total_eq}
 use Rattle.list_laws.proofs.JoinedLists.{length-joined, length-listed, listed_at, listed_eq, joined_eq}
@@ -16,20 +16,23 @@ use Rattle.secret_sharing.specs.Schemes.{summands}
 use Rattle.party_set.specs.Parties.{has_party}
 use Rattle.job_session.specs.declared.side.Side.{Side}
 use Rattle.job_session.specs.declared.side.Side.TheVariants.{First, Second}
-use Rattle.job_session.specs.Sessions.{Session, Slot, owners, gate, operand, is_direct, is_prepared, mask_wire}
-use Rattle.job_session.specs.Sessions.Slot.{Input, At_gate, Output, Mask, Mask_product, Masked}
+use Rattle.job_session.specs.declared.source.Source.{Source}
+use Rattle.job_session.specs.declared.source.Source.TheVariants.{Given, Carried}
+use Rattle.job_session.specs.Sessions.{Session, Slot, given_by, owners, source, gate, operand, is_direct, is_prepared, mask_wire}
+use Rattle.job_session.specs.Sessions.Slot.{Input, At_gate, Output, Mask, Mask_product, Masked, Kept}
 use Rattle.job_session.specs.SoundSessions.{Inside}
 use Rattle.job_session.proofs.SessionSlots.{slots_are_numbered}
 use Rattle.job_plan.specs.Plans.{Plan, session, slot, slots, words, words_in, place, deals_in}
 use Rattle.job_plan.specs.InputWords.{AreInputs, session_words}
+use Rattle.job_plan.specs.Sound.{IsSound}
 use Rattle.job_plan.proofs.Slots.{at_its_number}
-use Rattle.share_world.specs.Laws.{IsWorld, IsWhole}
+use Rattle.share_world.specs.Laws.{IsWhole}
 use Rattle.share_world.specs.Solutions.{GatesInOrder}
-use Rattle.share_world.specs.Worlds.{World, input_of, tape_word, run_of, value_before, plain, mask}
+use Rattle.share_world.specs.Worlds.{World, input_of, source_value, tape_word, run_of, value_before, values_before, plain, mask}
 use Rattle.share_world.proofs.SmallWords.{small_words}
-use Rattle.share_world.proofs.WireSums.{world_sums}
 use Rattle.share_world.proofs.Settled.{in_order, settled, product_settled}
-use Rattle.wire_tables.specs.WireTables.{summand_rows}
+use Rattle.wire_tables.specs.WireTables.{summand_rows, value_list}
+use Rattle.wire_tables.proofs.ValueLists.{small_plain}
 use Rattle.wire_tables.specs.Steps.{IsRow}
 use Rattle.share_world.proofs.LocalWords.{own_alike}
 use Rattle.wire_tables.proofs.TableRows.{rows_named, wire_last, mask_last, wire_whole, mask_whole}
@@ -73,6 +76,27 @@ moved_mask_at plan s g more rows side t l e =
     ap (λ xs. slice_index_or xs t []) (cond-true x.prepared (listed (length x.gates) (grown_mask plan s g more rows side)) [] both.0)
     ∙ listed_at (length x.gates) (grown_mask plan s g more rows side) t [] l
     ∙ cond-true (is_product (gate x t).operation) _ [] both.1
+
+-- the tables as they were made, with what is known of their parts
+pub made_table : (plan : Plan) (s g : ℕ) (more : List ℕ) (rows : List (List ℕ)) (c : Change) → c.session ≡ s → c.hidden ≡ g → c.growths.items ≡ more → c.rows ≡ rows
+    → session_words c.moved.items ≡ grown_rows plan s c.hidden c.growths.items c.rows
+    → session_words c.first_masks.items ≡ grown_masks plan s c.hidden c.growths.items c.rows First
+    → session_words c.second_masks.items ≡ grown_masks plan s c.hidden c.growths.items c.rows Second → IsTable plan s g more rows c
+made_table plan s g more rows c at hidden_is grown table moved_is first second = record {
+  at = at;
+  hidden_summand = hidden_is;
+  growths = grown;
+  rows = table;
+  moved = moved_is ∙ ap₂ (grown_rows plan s c.hidden) grown table ∙ ap (λ n. grown_rows plan s n more rows) hidden_is;
+  masks = masks;
+}
+  where
+    with_known : (side : Side) → grown_masks plan s c.hidden c.growths.items c.rows side ≡ grown_masks plan s g more rows side
+    with_known side = ap₂ (λ more rows. grown_masks plan s c.hidden more rows side) grown table ∙ ap (λ n. grown_masks plan s n more rows side) hidden_is
+
+    masks : (side : Side) → masks_of c side ≡ grown_masks plan s g more rows side
+    masks First = first ∙ with_known First
+    masks Second = second ∙ with_known Second
 
 -- by its own tables
 own_tables : (plan : Plan) (s g : ℕ) (more : List ℕ) (rows : List (List ℕ)) (c : Change) → IsTable plan s g more rows c
@@ -125,16 +149,35 @@ pushed_like tape n n' q q' g g' d d' a a' en eq eg ed ea =
 
 -- ---- the tables of a world
 
-pub small_plain : (w : World) → IsWorld w → (s v : ℕ) → plain w s v < 2 ^ w.plan.bits
-small_plain w h s v = subst (λ z. z < 2 ^ w.plan.bits) (world_sums w h s v) (mod-lt _ (pow_pos w.plan.bits))
+-- the source of a wire that party p gives
+pub given_is : (p : ℕ) (from : Source) → given_by p from ≡ true → from ≡ Given p
+given_is p (Given q) e = ap (λ (n : ℕ). Given n) (eqb-true q p e)
+given_is p (Carried r c i) e = absurd (both_ways false refl e)
+
+-- numbers of the ring, one for each wire
+pub listed_fit : (plan : Plan) (s : ℕ) (f : ℕ → ℕ) → ((v : ℕ) → f v < 2 ^ plan.bits) → AreGrowths plan s (listed (session plan s).wires f)
+listed_fit plan s f h = record {
+  wires = length-listed (session plan s).wires f;
+  below = listed_below (session plan s).wires (2 ^ plan.bits) f (pow_pos plan.bits) h;
+}
+
+pub differences_fit : (plan : Plan) (s : ℕ) (first second : ℕ → ℕ) → AreGrowths plan s (listed (session plan s).wires (λ v. difference (2 ^ plan.bits) (second v) (first v)))
+differences_fit plan s first second = listed_fit plan s _ (λ v. mod-lt _ (pow_pos plan.bits))
 
 pub growths_fit : (w : World) (other : List (List (List ℕ))) (s : ℕ) → AreGrowths w.plan s (growths w other s)
-growths_fit w other s =
-    let q = 2 ^ w.plan.bits in
-    record {
-      wires = length-listed (session w.plan s).wires _;
-      below = listed_below (session w.plan s).wires q _ (pow_pos w.plan.bits) (λ v. mod-lt _ (pow_pos w.plan.bits));
-    }
+growths_fit w other s = listed_fit w.plan s _ (λ v. mod-lt _ (pow_pos w.plan.bits))
+
+pub values_fit : (w : World) (s : ℕ) (list : List ℕ) → IsSound w.plan → AreInputs w.plan w.inputs → list ≡ value_list w s → AreGrowths w.plan s list
+values_fit w s list sound inputs is = subst (AreGrowths w.plan s) (sym is) (listed_fit w.plan s (plain w s) (small_plain w sound inputs s))
+
+-- the wires grow from their values to those with the other inputs
+pub all_grown : (w : World) (other : List (List (List ℕ))) (s : ℕ) (first second : List ℕ) → first ≡ value_list w s → second ≡ value_list (with_inputs w other) s
+    → listed (session w.plan s).wires (λ v. difference (2 ^ w.plan.bits) (slice_index second v) (slice_index first v)) ≡ growths w other s
+all_grown w other s first second ef es =
+    let wires = (session w.plan s).wires in
+    listed_eq wires _ (delta w other s (length (session w.plan s).gates)) (λ v l. ap₂ (difference (2 ^ w.plan.bits))
+    (ap (λ xs. slice_index xs v) es ∙ listed_at wires (plain (with_inputs w other) s) v 0 l)
+    (ap (λ xs. slice_index xs v) ef ∙ listed_at wires (plain w s) v 0 l))
 
 pub rows_fit : (w : World) (s : ℕ) → IsWhole w → AreNamedRows w.plan s (summand_rows w s)
 rows_fit w s whole = record {
@@ -179,11 +222,12 @@ module _ (w : World) (other : List (List (List ℕ))) (group : ℕ) (whole : IsW
 
   -- ---- what is dealt
 
-  -- an input wire has at the end what is given on it
-  input_at_end : (u : World) (v : ℕ) → GatesInOrder (session u.plan s) → v < length (owners (session u.plan s)) → plain u s v ≡ input_of u s v
-  input_at_end u v o l =
+  -- an input wire that a party gives has at the end what is given on it
+  input_at_end : (u : World) (v p : ℕ) → GatesInOrder (session u.plan s) → v < length (owners (session u.plan s)) → source (session u.plan s) v ≡ Given p → plain u s v ≡ input_of u s v
+  input_at_end u v p o l from =
       settled (session u.plan s) o (value_before u s) (λ t v ne. set_there (value_before u s t) (gate (session u.plan s) t).output v _ ne) 0 v (omega arith) (inl l)
-      ∙ cond-true (nat_lt v (length (owners (session u.plan s)))) (input_of u s v) 0 (lt-ltb v (length (owners (session u.plan s))) l)
+      ∙ cond-true (nat_lt v (length (owners (session u.plan s)))) _ 0 (lt-ltb v (length (owners (session u.plan s))) l)
+      ∙ ap (source_value u (values_before u s) s v) from
 
   growth_at : (v : ℕ) → v < x.wires → slice_index c.growths.items v ≡ delta w other s count v
   growth_at v l = ap (λ xs. slice_index xs v) h.growths ∙ listed_at x.wires (delta w other s count) v 0 l
@@ -265,7 +309,14 @@ module _ (w : World) (other : List (List (List ℕ))) (group : ℕ) (whole : IsW
   growth_is : (p : ℕ) (z : Slot) → Inside x z → 0 < words_in w.plan s p z → growth_in w.plan c p z ≡ growth w other group s p z
   growth_is p (Input v) inside some =
       let within : v < x.wires = omega (arith, inside, (whole.sound.sessions s ls).wired.input_wires) in
-      growth_at v within ∙ ap₂ (difference q) (input_at_end after v ordered inside) (input_at_end w v ordered inside)
+      let from = given_is p (source x v) (gives_here p v some) in
+      growth_at v within ∙ ap₂ (difference q) (input_at_end after v p ordered inside from) (input_at_end w v p ordered inside from)
+    where
+      gives_here : (p v : ℕ) → 0 < words_in w.plan s p (Input v) → given_by p (source x v) ≡ true
+      gives_here p v some = elim (cases_Bool (deals_in w.plan s p (Input v))) [
+        | inl gives ↦ gives
+        | inr none ↦ absurd (let no_words = cond-false (deals_in w.plan s p (Input v)) (m - 1) 0 none in omega (arith, some, no_words))
+      ]
   growth_is p (Mask t side) inside some = growth_before t side inside.0 (and_parts x.prepared (is_product (gate x t).operation) inside.1).1
   growth_is p (At_gate t) inside some =
       let product = direct_product p t some in
@@ -284,6 +335,7 @@ module _ (w : World) (other : List (List (List ℕ))) (group : ℕ) (whole : IsW
       (own_alike w.plan p _ _ _ _ (λ i li. mask_before t i First inside.0 inside.1 li) (λ i li. mask_before t i Second inside.0 inside.1 li))
   growth_is p (Output o) inside some = absurd (omega (arith, some))
   growth_is p (Masked t side) inside some = absurd (omega (arith, some))
+  growth_is p (Kept j) inside some = absurd (omega (arith, some))
 
   -- ---- words
 

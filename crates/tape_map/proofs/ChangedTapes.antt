@@ -13,17 +13,18 @@ use Rattle.party_set.proofs.EveryNumber.{every_at as below_at, every_not, implie
 use Rattle.maximal_groups.specs.Families.{LiesWithin}
 use Rattle.job_plan.specs.InputWords.{AreInputs}
 use Rattle.job_plan.specs.Tallies.{tape_length}
-use Rattle.job_session.specs.Sessions.{Slot, owners}
+use Rattle.job_session.specs.Sessions.{Slot, output_wire, owners, source}
 use Rattle.job_session.specs.SoundSessions.{Inside}
 use Rattle.job_session.proofs.SessionSlots.{slots_are_numbered}
-use Rattle.job_plan.specs.Plans.{Plan, structure, holds, session, slot, slots, slot_number, words_in, words, place, giver}
+use Rattle.job_plan.specs.Plans.{Plan, structure, holds, session, slot, slots, slot_number, words_in, words, place}
 use Rattle.job_plan.proofs.Slots.{at_its_number}
 use Rattle.share_world.specs.Worlds.{World, input_of, tape_word}
 use Rattle.share_world.specs.Laws.{IsWhole, AreTapes}
 use Rattle.share_world.proofs.SmallWords.{small_words}
-use Rattle.tape_map.specs.TapeMaps.{hidden, hidden_word, growth, with_inputs, with_tapes, tape_of, raised, moved_words, tape_map, changed_tapes, second_world}
+use Rattle.tape_map.specs.TapeMaps.{member_gives, hidden, hidden_word, growth, with_inputs, with_tapes, tape_of, raised, moved_words, tape_map, changed_tapes, second_world}
 use Rattle.tape_map.specs.Laws.{IsFirstLacked, CanHide, CanGoBack, WordsMove, InputsChange, SecondIsWhole, AgreesBack}
 use Rattle.tape_map.proofs.RaisedDeals.{raised_small}
+use Rattle.tape_map.proofs.SameValues.{plain_stays}
 
 -- other inputs that can take the place of the first, where the outputs may change: all that the laws need but for what
 -- the group sees opened
@@ -32,7 +33,7 @@ pub record CanMove (w : World) (other : List (List (List ℕ))) (group : ℕ) : 
   pub others : AreInputs w.plan other
   pub tolerated : LiesWithin (structure w.plan) group
   pub inputs : (s v : ℕ) → v < length (owners (session w.plan s))
-      → has_party group (giver w.plan s v) ≡ true
+      → member_gives group (source (session w.plan s) v) ≡ true
       → input_of (with_inputs w other) s v ≡ input_of w s v
 
 pub can_move : (w : World) (other : List (List (List ℕ))) (group : ℕ) → CanHide w other group → CanMove w other group
@@ -148,7 +149,9 @@ second_whole w other group whole others =
 pub agrees_back : (w : World) (other : List (List (List ℕ))) (group : ℕ) → AgreesBack w other group
 agrees_back w other group tapes h = record {
   inputs = λ s v lv member. sym (h.inputs s v lv member);
-  outputs = λ s o r lo lr member reads. sym (h.outputs s o r lo lr member reads);
+  outputs = λ s o r lo lr member reads.
+      let wire = output_wire (session w.plan s) o in
+      plain_stays w tapes s wire ∙ sym (h.outputs s o r lo lr member reads) ∙ sym (plain_stays (with_inputs w other) tapes s wire);
 }
 
 pub can_go_back : (w : World) (other : List (List (List ℕ))) (group : ℕ) → CanHide w other group → CanGoBack w other group

@@ -1,5 +1,5 @@
 -- In the second world all summands but the hidden one stay, and so does what is opened of the wires of prepared products.
-use Rattle.std.proofs.Common.{◌≡◌, ℕ, ◌+◌, ◌-◌, ◌*◌, ◌%◌, ◌^◌, ◌<◌, ◌≢◌, ◌⊎◌, true, false, not, nat_eq, nat_lt, if◌then◌else◌, List, length, refl, sym, ap, ap₂, ◌∙◌, subst, arith}
+use Rattle.std.proofs.Common.{◌≡◌, ℕ, zero, suc, ◌+◌, ◌-◌, ◌*◌, ◌%◌, ◌^◌, ◌<◌, ◌≤◌, ◌≢◌, ◌⊎◌, true, false, not, nat_eq, nat_lt, if◌then◌else◌, List, length, refl, sym, ap, ap₂, ◌∙◌, subst, arith}
 use Rattle.std.proofs.lemmas.Bool.{cases_eq, cases_Bool, cond-true, cond-false, and_from, both_ways, eq-eqb, ne_eqb, ltb-true}
 use Rattle.std.proofs.lemmas.Nat.{pow_pos}
 use mathlib.Core.Logic.{inl, inr}
@@ -15,26 +15,30 @@ use Rattle.secret_sharing.proofs.Agreement.{own_same, runs_agree, product_agrees
 use Rattle.party_set.specs.Parties.{has_party}
 use Rattle.job_session.specs.declared.side.Side.{Side}
 use Rattle.job_session.specs.declared.side.Side.TheVariants.{First, Second}
-use Rattle.job_session.specs.Sessions.{Slot, owners, gate, operand, is_direct}
-use Rattle.job_session.specs.Sessions.Slot.{Input, At_gate, Output, Mask, Mask_product, Masked}
+use Rattle.job_session.specs.declared.source.Source.{Source}
+use Rattle.job_session.specs.declared.source.Source.TheVariants.{Given, Carried}
+use Rattle.job_session.specs.Sessions.{Slot, given_by, owners, source, gate, operand, is_direct}
+use Rattle.job_session.specs.Sessions.Slot.{Input, At_gate, Output, Mask, Mask_product, Masked, Kept}
 use Rattle.job_session.specs.SoundSessions.{Inside}
 use Rattle.job_session.proofs.SessionSlots.{slots_are_numbered, product_within}
-use Rattle.job_plan.specs.Plans.{Plan, scheme, session, slot, holds, least_holder, least_held, giver, deals_in, words_in}
+use Rattle.job_plan.specs.Plans.{Plan, scheme, session, slot, holds, least_holder, least_held, deals_in, words_in}
 use Rattle.job_plan.proofs.PlanSchemes.{scheme_is, least_holds, least_within}
 use Rattle.job_plan.proofs.TapePlaces.{masks_have_words}
-use Rattle.share_world.specs.Worlds.{World, run_of, first_summands, first_values, value_before, tape_word, mask, mask_product, dealt_value, deal_of, masked_summand}
+use Rattle.share_world.specs.Worlds.{World, carried_wire, end_summands, run_of, source_summands, first_summands, first_values, summands_before, values_before, value_before, tape_word, mask, mask_product, dealt_value, deal_of, masked_summand}
 use Rattle.share_world.specs.Laws.{IsWorld}
+use Rattle.share_world.proofs.CarriedWires.{ended_summands}
 use Rattle.share_world.proofs.WireSums.{run_of_is, starts_add_up}
 use Rattle.share_world.proofs.SmallWords.{is_plan, is_world, small_run}
-use Rattle.tape_map.specs.TapeMaps.{hidden, hidden_word, growth, with_inputs, with_tapes, delta, raised, moved_summands, moved_mask, moved_value, moved_words, second_world}
+use Rattle.tape_map.specs.TapeMaps.{member_gives, hidden, hidden_word, growth, with_inputs, with_tapes, delta, raised, moved_summands, moved_mask, moved_value, moved_words, second_world}
 use Rattle.tape_map.specs.Laws.{SummandsMove, ValuesMove, MasksMove, ExcessStays}
 use Rattle.tape_map.proofs.RaisedDeals.{SameBut, small_same, raised_here, raised_other, raised_small, raised_deal, member_own, hidden_differs, grown_alike, raised_same}
+use Rattle.tape_map.proofs.SameValues.{value_stays}
 use Rattle.tape_map.proofs.ChangedTapes.{CanMove, hidden_within, not_held, word_moves, second_whole}
 
 -- ---- the sums, before any gate
 
 sums : (w : World) → IsWorld w → (s t : ℕ) → AddUp (scheme w.plan) (summands (run_of w s) t) (value_before w s t)
-sums w h s t = sum_is_plain (run_of w s) (run_of_is w s h.plan) (first_values w s) (starts_add_up w s h) t
+sums w h s t = sum_is_plain (run_of w s) (run_of_is w s h.plan) (first_values w (values_before w s) s) (starts_add_up w s h) t
 
 sums_same : (w : World) → IsWorld w → (s t v : ℕ)
     → Same (2 ^ w.plan.bits) (total (length w.plan.groups) (summands (run_of w s) t v)) (value_before w s t v)
@@ -45,6 +49,11 @@ sums_same w h s t = adds_same (scheme w.plan) (summands (run_of w s) t) (value_b
 abbrev pub beside : World → List (List (List ℕ)) → List (List ℕ) → World
 beside w other tapes = with_tapes (with_inputs w other) tapes
 
+sums_beside : (w : World) (other : List (List (List ℕ))) (tapes : List (List ℕ)) → IsWorld (beside w other tapes) → (s t v : ℕ)
+    → Same (2 ^ w.plan.bits) (total (length w.plan.groups) (summands (run_of (beside w other tapes) s) t v)) (value_before (with_inputs w other) s t v)
+sums_beside w other tapes h s t v =
+    same_trans (sums_same (beside w other tapes) h s t v) (same_refl (2 ^ w.plan.bits) _ _ (value_stays (with_inputs w other) tapes s t v))
+
 -- where all summands of a wire but the hidden one agree, the moved ones are those of the world beside
 moved_same : (w : World) (other : List (List (List ℕ))) (tapes : List (List ℕ)) (group s t v : ℕ) → IsWorld w → IsWorld (beside w other tapes)
     → hidden w.plan group < length w.plan.groups
@@ -54,7 +63,7 @@ moved_same : (w : World) (other : List (List (List ℕ))) (tapes : List (List �
 moved_same w other tapes group s t v h h2 lg others =
     raised_same (2 ^ w.plan.bits) (length w.plan.groups) (hidden w.plan group) (value_before w s t v) (value_before (with_inputs w other) s t v)
     (summands (run_of w s) t v) (summands (run_of (beside w other tapes) s) t v) (pow_pos w.plan.bits) lg others
-    (sums_same w h s t v) (sums_same (beside w other tapes) h2 s t v)
+    (sums_same w h s t v) (sums_beside w other tapes h2 s t v)
 
 -- and what p multiplies there is what it is to deal
 pub own_moved : (w : World) (other : List (List (List ℕ))) (tapes : List (List ℕ)) (group s t p : ℕ) → IsWorld w → IsWorld (beside w other tapes)
@@ -87,6 +96,7 @@ deal_is w other group s p (Mask_product t) e =
 deal_is w other group s p (Output o) e = absurd (both_ways false refl e)
 deal_is w other group s p (Mask t side) e = absurd (both_ways false refl e)
 deal_is w other group s p (Masked t side) e = absurd (both_ways false refl e)
+deal_is w other group s p (Kept j) e = absurd (both_ways false refl e)
 
 -- in a mask the hidden word is that of the hidden summand
 hidden_of_mask : (plan : Plan) (group t i : ℕ) (side : Side) → i ≡ hidden plan group
@@ -222,24 +232,37 @@ module _ (w : World) (other : List (List (List ℕ))) (group : ℕ) (h : CanMove
             (elim which [ inl ne ↦ ne | inr yes' ↦ λ e. both_ways (has_party group p) no' yes' ])
       ]
 
-  pub input_alike : (s v i : ℕ) → s < length w.plan.sessions → v < length (owners (session w.plan s)) → i < m
-      → Stays (giver w.plan s v) i → deal_of second s (giver w.plan s v) (Input v) i ≡ deal_of w s (giver w.plan s v) (Input v) i
-  input_alike s v i ls lv li which =
-      let p = giver w.plan s v in
-      deal_alike s p i (Input v) ls lv ((h.whole.sound.sessions s ls).owned v lv) li which
-      (eq-eqb p p refl) ((λ member. h.inputs s v lv member), (λ stranger. refl))
+  pub input_alike : (s v p i : ℕ) → s < length w.plan.sessions → v < length (owners (session w.plan s)) → source (session w.plan s) v ≡ Given p → i < m
+      → Stays p i → deal_of second s p (Input v) i ≡ deal_of w s p (Input v) i
+  input_alike s v p i ls lv from li which =
+      deal_alike s p i (Input v) ls lv ((h.whole.sound.sessions s ls).owned v p lv from) li which
+      (ap (given_by p) from ∙ eq-eqb p p refl) ((λ member. h.inputs s v lv (ap (member_gives group) from ∙ member)), (λ stranger. refl))
 
-  starts_alike : (s v i : ℕ) → s < length w.plan.sessions → i < m → i ≢ g → first_summands second s v i ≡ first_summands w s v i
-  starts_alike s v i ls li ne =
+  -- the wires of the sessions before s end with the summands that they had, but for the hidden one
+  abbrev Earlier : ℕ → Type 0
+  Earlier s = (r v i : ℕ) → r < s → i < m → i ≢ g → end_summands second r v i ≡ end_summands w r v i
+
+  source_alike : (s v i : ℕ) (from : Source) → Earlier s → s < length w.plan.sessions → v < length (owners (session w.plan s)) → source (session w.plan s) v ≡ from
+      → i < m → i ≢ g → source_summands second (summands_before second s) s v from i ≡ source_summands w (summands_before w s) s v from i
+  source_alike s v i (Given p) before ls lv from li ne = input_alike s v p i ls lv from li (inl ne)
+  source_alike s v i (Carried r c at) before ls lv from li ne =
+      let wire = carried_wire w.plan r c at in
+      let less = h.whole.sound.earlier s v r c at from in
+      ap (λ (f : ℕ → ℕ → ℕ). f wire i) (ended_summands second s r less) ∙ before r wire i less li ne
+      ∙ ap (λ (f : ℕ → ℕ → ℕ). f wire i) (sym (ended_summands w s r less))
+
+  starts_alike : (s v i : ℕ) → Earlier s → s < length w.plan.sessions → i < m → i ≢ g
+      → first_summands second (summands_before second s) s v i ≡ first_summands w (summands_before w s) s v i
+  starts_alike s v i before ls li ne =
       let own = owners (session w.plan s) in
       elim (cases_Bool (nat_lt v (length own))) [
         | inl yes' ↦ cond-true (nat_lt v (length own)) _ 0 yes'
-            ∙ input_alike s v i ls (ltb-true v (length own) yes') li (inl ne)
+            ∙ source_alike s v i (source (session w.plan s) v) before ls (ltb-true v (length own) yes') refl li ne
             ∙ sym (cond-true (nat_lt v (length own)) _ 0 yes')
         | inr no' ↦ cond-false (nat_lt v (length own)) _ 0 no' ∙ sym (cond-false (nat_lt v (length own)) _ 0 no')
       ]
 
-  -- ---- the induction over the gates
+  -- ---- the induction over the sessions and their gates
 
   abbrev Others : ℕ → ℕ → Type 0
   Others s t = (v i : ℕ) → i < m → i ≢ g → summands (run_of second s) t v i ≡ summands (run_of w s) t v i
@@ -298,7 +321,7 @@ module _ (w : World) (other : List (List (List ℕ))) (group : ℕ) (h : CanMove
             subst (λ j. difference q (wire' j) (a' j) ≡ difference q (wire j) (a j)) (sym e)
             (grown_alike q d (wire g) (a g) (wire' g) (a' g) positive
             (hidden_differs q m g (value_before w s t v) (value_before (with_inputs w other) s t v) wire wire' positive lg (others v)
-            (sums_same w first_is s t v) (sums_same second second_is s t v)) grown)
+            (sums_same w first_is s t v) (sums_beside w other second.tapes second_is s t v)) grown)
         | inr ne ↦ ap₂ (difference q) (others v i li ne) (mask_stays s t i side ls inside li ne)
       ]
 
@@ -343,12 +366,23 @@ module _ (w : World) (other : List (List (List ℕ))) (group : ℕ) (h : CanMove
             ∙ sym (ap (λ (f : ℕ → ℕ). f i) (cond-false x.prepared _ _ no'))
       ]
 
-  pub others_stay : (s t v i : ℕ) → s < length w.plan.sessions → i < m → i ≢ g → summands (run_of second s) t v i ≡ summands (run_of w s) t v i
-  others_stay s t v i ls li ne =
-      runs_agree (run_of w s) (first_summands second s) (run_of second s).product (λ i. i ≢ g)
-      (λ v i li ne. starts_alike s v i ls li ne)
+  session_alike : (s : ℕ) → Earlier s → s < length w.plan.sessions → (t : ℕ) → Others s t
+  session_alike s before ls t v i li ne =
+      runs_agree (run_of w s) (first_summands second (summands_before second s) s) (run_of second s).product (λ i. i ≢ g)
+      (λ v i li ne. starts_alike s v i before ls li ne)
       (λ t others product i li ne. product_alike s t i others ls product li ne)
       t v i li ne
+
+  earlier_alike : (n : ℕ) → n ≤ length w.plan.sessions → Earlier n
+  earlier_alike zero le r v i l li ne = absurd (omega (arith, l))
+  earlier_alike (suc n) le r v i l li ne = elim (cases_eq r n) [
+    | inl e ↦ subst (λ z. end_summands second z v i ≡ end_summands w z v i) (sym e)
+        (session_alike n (earlier_alike n (omega (arith, le))) (omega (arith, le)) (length (session w.plan n).gates) v i li ne)
+    | inr apart ↦ earlier_alike n (omega (arith, le)) r v i (omega (arith, l, apart)) li ne
+  ]
+
+  pub others_stay : (s t v i : ℕ) → s < length w.plan.sessions → i < m → i ≢ g → summands (run_of second s) t v i ≡ summands (run_of w s) t v i
+  others_stay s t v i ls li ne = session_alike s (earlier_alike s (omega (arith, ls))) ls t v i li ne
 
   pub gate_alike : (s t p i : ℕ) → s < length w.plan.sessions → t < length (session w.plan s).gates → p < w.plan.parties
       → deals_in w.plan s p (At_gate t) ≡ true → i < m → Stays p i → deal_of second s p (At_gate t) i ≡ deal_of w s p (At_gate t) i
@@ -377,6 +411,7 @@ module _ (w : World) (other : List (List (List ℕ))) (group : ℕ) (h : CanMove
   value_moves s p (Mask t side) ls inside = refl
   value_moves s p (Mask_product t) ls inside = masks_product s t p ls inside
   value_moves s p (Masked t side) ls inside = refl
+  value_moves s p (Kept j) ls inside = refl
 
   pub values_move : ValuesMove w other group
   values_move s k p ls lk = value_moves s p (slot w.plan s k) ls ((slots_are_numbered (session w.plan s)).inside k lk)
@@ -389,7 +424,7 @@ module _ (w : World) (other : List (List (List ℕ))) (group : ℕ) (h : CanMove
       let y = summands (run_of second s) t v in
       let one : total m y + x g ≡ total m x + y g = total_one m g y x lg (λ i li ne. others_stay s t v i ls li ne) in
       let sum : Same q (total m y) (total m x) =
-      same_trans (sums_same second second_is s t v) (same_trans (same_refl q _ _ e) (same_sym (sums_same w first_is s t v))) in
+      same_trans (sums_beside w other second.tapes second_is s t v) (same_trans (same_refl q _ _ e) (same_sym (sums_same w first_is s t v))) in
       let here : Same q (y g) (x g) =
       same_cancel (total m x)
       (same_trans (same_refl q _ (total m y + x g) (omega (arith, one)))

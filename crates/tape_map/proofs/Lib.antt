@@ -1,3 +1,4 @@
+pub mod SameValues
 pub mod RaisedDeals
 pub mod ChangedTapes
 pub mod HiddenSummands

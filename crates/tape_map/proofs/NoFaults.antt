@@ -1,7 +1,7 @@
 -- There is no fault exactly where the other inputs can be hidden.
 use Rattle.std.proofs.Common.{◌≡◌, ℕ, ◌<◌, ◌≤◌, Bool, true, false, ◌&&◌, not, nat_eq, List, [], ◌∷◌, ◌++◌, Option, Some, None, length, refl, sym, ap, ap₂, ◌∙◌, subst, arith, inl, inr}
-use Rattle.std.specs.Prelude.{◌↔◌, SomeIff, slice_index}
-use Rattle.list_laws.proofs.JoinedLists.{joined_eq, listed_at}
+use Rattle.std.specs.Prelude.{◌↔◌, SomeIff, slice_index, slice_index_or}
+use Rattle.list_laws.proofs.JoinedLists.{joined_eq, length-listed, listed_at}
 use Rattle.std.specs.List.{position_or_len}
 use Rattle.std.proofs.lemmas.Bool.{cases_Bool, cases_lt, both_ways, eqb-true, eq-eqb}
 use Rattle.std.proofs.lemmas.List.{get_or_past}
@@ -12,13 +12,15 @@ use Rattle.list_laws.specs.Checks.{◌answers◌, first_fault}
 use Rattle.party_set.specs.Parties.{Structure, has_party, within}
 use Rattle.maximal_groups.specs.Families.{LiesWithin}
 use Rattle.job_plan.specs.InputWords.{AreInputs}
-use Rattle.job_session.specs.Sessions.{Session, no_session, owners, readers, output_wire}
+use Rattle.job_session.specs.Sessions.{Session, no_session, owners, source, readers, output_wire}
 use Rattle.job_plan.specs.Plans.{Plan, structure, session, reads}
+use Rattle.job_plan.specs.Sound.{IsSound}
 use Rattle.share_world.specs.Laws.{IsWhole}
 use Rattle.share_world.specs.Worlds.{World, input_of, plain}
-use Rattle.tape_map.specs.TapeMaps.{hidden, with_inputs}
+use Rattle.wire_tables.specs.WireTables.{value_at, value_list, value_lists}
+use Rattle.tape_map.specs.TapeMaps.{member_gives, hidden, with_inputs}
 use Rattle.tape_map.specs.Laws.{Agree, CanHide}
-use Rattle.tape_map.specs.MapFaults.{is_tolerated, input_check, output_check, input_checks, output_checks, value_checks, map_fault}
+use Rattle.tape_map.specs.MapFaults.{AreValues, is_tolerated, input_check, output_check, input_checks, output_checks, value_checks, map_fault}
 use Rattle.tape_map.specs.declared.fault.MapFault.{MapFault}
 use Rattle.tape_map.specs.declared.fault.MapFault.TheVariants.{NotTolerated, InputDiffers, OutputDiffers}
 use Rattle.maximal_groups.proofs.Lists.{find_any}
@@ -64,12 +66,12 @@ module _ (w : World) (other : List (List (List ℕ))) (group : ℕ) where
   abbrev outputs_pass : Type 0
   outputs_pass = first_fault (joined (length w.plan.sessions) (output_checks w other group)) ≡ None
 
-  agree_inputs : inputs_pass → (s v : ℕ) → v < length (owners (session w.plan s)) → has_party group (slice_index (owners (session w.plan s)) v) ≡ true
+  agree_inputs : inputs_pass → (s v : ℕ) → v < length (owners (session w.plan s)) → member_gives group (source (session w.plan s) v) ≡ true
       → input_of (with_inputs w other) s v ≡ input_of w s v
   agree_inputs h s v lv member = elim (cases_lt s (length w.plan.sessions)) [
     | inl ls ↦
         let one = joined-passed (length (owners (session w.plan s))) v (λ u. input_check w other group s u ∷ []) lv (joined-passed (length w.plan.sessions) s (input_checks w other group) ls h) in
-        same_where (has_party group (slice_index (owners (session w.plan s)) v)) (input_of w s v) (input_of (with_inputs w other) s v)
+        same_where (member_gives group (source (session w.plan s) v)) (input_of w s v) (input_of (with_inputs w other) s v)
         (none_failed _ (InputDiffers s v (input_of w s v) (input_of (with_inputs w other) s v)) None one).0 member
     | inr past ↦ absurd (let none = ap (λ x. length (owners x)) (no_more w.plan s past) in omega arith)
   ]
@@ -92,7 +94,7 @@ module _ (w : World) (other : List (List (List ℕ))) (group : ℕ) where
   inputs_agreed h =
       all-passed (length w.plan.sessions) (input_checks w other group) (λ s ls. all-passed (length (owners (session w.plan s))) (λ v. input_check w other group s v ∷ []) (λ v lv.
       one-passed _ (InputDiffers s v (input_of w s v) (input_of (with_inputs w other) s v))
-      (where_same (has_party group (slice_index (owners (session w.plan s)) v)) (input_of w s v) (input_of (with_inputs w other) s v) (h.inputs s v lv))))
+      (where_same (member_gives group (source (session w.plan s) v)) (input_of w s v) (input_of (with_inputs w other) s v) (h.inputs s v lv))))
 
   outputs_agreed : Agree w other group → outputs_pass
   outputs_agreed h =
@@ -197,3 +199,23 @@ values_alike plan group s first second f g outputs ef eg =
     ap₂ (λ a b. listed plan.parties (output_check plan group s a b o))
     (ap (λ xs. slice_index xs (output_wire x o)) ef ∙ listed_at x.wires f (output_wire x o) 0 there)
     (ap (λ xs. slice_index xs (output_wire x o)) eg ∙ listed_at x.wires g (output_wire x o) 0 there))
+
+-- a list of values for each session
+pub values_are : (w : World) (lists : List (List ℕ)) → lists ≡ value_lists w → AreValues w.plan lists
+values_are w lists is = record {
+  sessions = ap length is ∙ length-listed (length w.plan.sessions) (value_list w);
+  wires = λ s ls. ap (λ xs. length (slice_index_or xs s [])) is ∙ ap length (listed_at (length w.plan.sessions) (value_list w) s [] ls)
+      ∙ length-listed (session w.plan s).wires (plain w s);
+}
+
+-- the checks of the outputs read these lists
+pub outputs_read : (w : World) (other : List (List (List ℕ))) (group : ℕ) (first second : List (List ℕ)) (found : Option MapFault) → IsSound w.plan
+    → first ≡ value_lists w → second ≡ value_lists (with_inputs w other)
+    → found ≡ first_fault (joined (length w.plan.sessions) (λ s. value_checks w.plan group s (value_at first s) (value_at second s)))
+    → first_fault (joined (length w.plan.sessions) (output_checks w other group)) ≡ found
+outputs_read w other group first second found sound ef es is =
+    let count = length w.plan.sessions in
+    sym (is ∙ ap first_fault (joined_eq count _ (output_checks w other group) (λ s ls.
+    values_alike w.plan group s (slice_index_or first s []) (slice_index_or second s []) (plain w s) (plain (with_inputs w other) s) (sound.sessions s ls).wired.output_wires
+    (ap (λ xs. slice_index_or xs s []) ef ∙ listed_at count (value_list w) s [] ls)
+    (ap (λ xs. slice_index_or xs s []) es ∙ listed_at count (value_list (with_inputs w other)) s [] ls))))

@@ -7,8 +7,8 @@ use mathlib.Core.Logic.{inl, inr}
 use Rattle.list_laws.proofs.JoinedLists.{every_joined, every_weaker, map_filter_eq}
 use Rattle.party_set.specs.Parties.{has_party}
 use Rattle.job_session.specs.declared.side.Side.{Side}
-use Rattle.job_session.specs.Sessions.{Slot, readers, output_wire}
-use Rattle.job_session.specs.Sessions.Slot.{Input, At_gate, Output, Mask, Mask_product, Masked}
+use Rattle.job_session.specs.Sessions.{Slot, kept_wire, readers, output_wire}
+use Rattle.job_session.specs.Sessions.Slot.{Input, At_gate, Output, Mask, Mask_product, Masked, Kept}
 use Rattle.job_session.specs.SoundSessions.{Inside}
 use Rattle.job_session.proofs.SessionSlots.{slots_are_numbered, slot_kinds}
 use Rattle.job_plan.specs.declared.key.Key.{Key}
@@ -18,11 +18,12 @@ use Rattle.job_plan.specs.Plans.{session, holds, least_holder, slot, slots, slot
 use Rattle.job_plan.proofs.DistinctMessages.{every_place}
 use Rattle.job_plan.proofs.PlanSchemes.{least_holds, least_within}
 use Rattle.share_world.specs.Locals.{key_at}
-use Rattle.share_world.specs.Worlds.{World, word, word_in, deal_of, touches, view}
+use Rattle.share_world.specs.Worlds.{World, word, word_in, touches, view}
 use Rattle.share_world.proofs.GoingMessages.{Deals, Goes, every_going}
 use Rattle.share_world.proofs.SmallWords.{is_plan}
-use Rattle.tape_map.specs.TapeMaps.{hidden, second_world}
+use Rattle.tape_map.specs.TapeMaps.{changed_tapes, hidden, second_world, with_inputs}
 use Rattle.tape_map.specs.Laws.{CanHide, SameView, SameWords, SameOutputs}
+use Rattle.tape_map.proofs.SameValues.{plain_stays}
 use Rattle.tape_map.proofs.ChangedTapes.{CanMove, can_move, hidden_within, not_held}
 use Rattle.tape_map.proofs.HiddenSummands.{Stays, input_alike, gate_alike, mask_stays, masks_alike, excess_stays, others_stay, opens_alike}
 
@@ -45,6 +46,7 @@ pub record SeenOf (u : World) (seen : Key → Slot → ℕ) : Type 0 where
   pub masks : (key : Key) (t : ℕ) (side : Side) → seen key (Mask t side) ≡ word_in u key (Mask t side)
   pub products : (key : Key) (t : ℕ) → seen key (Mask_product t) ≡ word_in u key (Mask_product t)
   pub masked : (key : Key) (t : ℕ) (side : Side) → seen key (Masked t side) ≡ word_in u key (Masked t side)
+  pub kept : (key : Key) (j : ℕ) → seen key (Kept j) ≡ word_in u key (Kept j)
 
 -- what is seen of the second world, with outputs that are seen so, is all that the group sees of w
 module _ (w : World) (other : List (List (List ℕ))) (group : ℕ) (h : CanMove w other group) (seen : Key → Slot → ℕ)
@@ -82,9 +84,7 @@ module _ (w : World) (other : List (List (List ℕ))) (group : ℕ) (h : CanMove
   going_alike : (s : ℕ) → s < length w.plan.sessions → (z : Slot) → Inside (session w.plan s) z → (i q p : ℕ) → i < length w.plan.groups → p < w.plan.parties
       → Goes w.plan s z i q p → Seen q p → seen (key_at w.plan s z i q p) z ≡ word_in w (key_at w.plan s z i q p) z
   going_alike s ls (Input v) inside i q p li lp goes member =
-      others.inputs _ v
-      ∙ subst (λ r. Stays w other group h r i → deal_of (second_world w other group) s r (Input v) i ≡ deal_of w s r (Input v) i) goes.0
-      (input_alike w other group h s v i ls inside li) (stays i q p lp goes.1 member)
+      others.inputs _ v ∙ input_alike w other group h s v q i ls inside goes.0 li (stays i q p lp goes.1 member)
   going_alike s ls (At_gate t) inside i q p li lp goes member =
       others.gates _ t ∙ gate_alike w other group h s t q i ls inside goes.0 goes.1 li (stays i q p lp goes.2 member)
   going_alike s ls (Mask_product t) inside i q p li lp goes member =
@@ -96,6 +96,12 @@ module _ (w : World) (other : List (List (List ℕ))) (group : ℕ) (h : CanMove
       ])
   going_alike s ls (Masked t side) inside i q p li lp goes member =
       others.masked _ t side ∙ excess_stays w other group h s t i side ls inside.0 inside.1 li
+  going_alike s ls (Kept j) inside i q p li lp goes member =
+      others.kept _ j ∙ others_stay w other group h s (length (session w.plan s).gates) (kept_wire (session w.plan s) j) i ls li
+      (elim (or_cases (has_party group q) (has_party group p) member) [
+        | inl sends ↦ not_hidden p i lp (subst (λ r. has_party group r ≡ true) goes.1 sends) goes.2
+        | inr gets ↦ not_hidden p i lp gets goes.2
+      ])
   going_alike s ls (Output o) inside i q p li lp goes member =
       outputs _ o ls inside li (elim (or_cases (has_party group q) (has_party group p) member) [
         | inl sends ↦ inl (holder_not_hidden i q li goes.1.0 sends)
@@ -144,6 +150,7 @@ module _ (w : World) (other : List (List (List ℕ))) (group : ℕ) (h : CanHide
     masks = λ key t side. refl;
     products = λ key t. refl;
     masked = λ key t side. refl;
+    kept = λ key j. refl;
   }
 
   pub same_view : SameView w other group
@@ -153,4 +160,5 @@ module _ (w : World) (other : List (List (List ℕ))) (group : ℕ) (h : CanHide
   same_words n ln = every_place _ (messages w.plan) n no_key (all_alike w other group moves (word_in second) as_it_is opens) ln
 
   pub same_outputs : SameOutputs w other group
-  same_outputs = h.agree.outputs
+  same_outputs s o r lo lr member reads =
+      plain_stays (with_inputs w other) (changed_tapes w other group) s (output_wire (session w.plan s) o) ∙ h.agree.outputs s o r lo lr member reads

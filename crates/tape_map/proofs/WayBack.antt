@@ -13,7 +13,7 @@ use Rattle.std.specs.Prelude.{slice_index}
 use Rattle.job_session.specs.declared.side.Side.{Side}
 use Rattle.job_session.specs.declared.side.Side.TheVariants.{First, Second}
 use Rattle.job_session.specs.Sessions.{Slot, gate, operand}
-use Rattle.job_session.specs.Sessions.Slot.{Input, At_gate, Output, Mask, Mask_product, Masked}
+use Rattle.job_session.specs.Sessions.Slot.{Input, At_gate, Output, Mask, Mask_product, Masked, Kept}
 use Rattle.job_session.specs.SoundSessions.{Inside}
 use Rattle.job_session.proofs.SessionSlots.{slots_are_numbered}
 use Rattle.job_plan.specs.Plans.{scheme, session, slot, slots, least_holder, least_held, words_in, place}
@@ -21,9 +21,10 @@ use Rattle.job_plan.proofs.Slots.{at_its_number}
 use Rattle.share_world.specs.Worlds.{World, tape_word, mask, value_before, dealt_value}
 use Rattle.share_world.specs.Laws.{IsWhole}
 use Rattle.share_world.proofs.SmallWords.{is_world, small_words}
-use Rattle.tape_map.specs.TapeMaps.{hidden, hidden_word, growth, raised, with_inputs, with_tapes, tape_of, moved_mask, moved_value, moved_words, tape_map, changed_tapes, second_world}
+use Rattle.tape_map.specs.TapeMaps.{delta, hidden, hidden_word, growth, raised, with_inputs, with_tapes, tape_of, moved_mask, moved_value, moved_words, tape_map, changed_tapes, second_world}
 use Rattle.tape_map.specs.Laws.{GoesBack, MembersStay, OthersStay, OneToOne, Onto}
 use Rattle.tape_map.proofs.RaisedDeals.{raised_other, raised_eq, raised_back}
+use Rattle.tape_map.proofs.SameValues.{delta_back}
 use Rattle.tape_map.proofs.ChangedTapes.{CanMove, hidden_within, words_move, second_whole, len, are_tapes, with_tapes_can, can_move_back}
 use Rattle.tape_map.proofs.HiddenSummands.{own_moved, mask_moves, others_stay, value_moves}
 
@@ -82,7 +83,7 @@ module _ (w : World) (other : List (List (List ℕ))) (group : ℕ) (h : CanMove
       let new = value_before (with_inputs w other) s t v in
       let g = hidden w.plan group in
       let p = least_holder w.plan i in
-      raised_eq q g (difference q old new) (difference q old new) (mask second s t side) (raised q g (difference q new old) (mask w s t side)) i refl
+      raised_eq q g (delta second w.inputs s t v) (difference q old new) (mask second s t side) (raised q g (difference q new old) (mask w s t side)) i (delta_back w other group s t v)
       (mask_moves w other group h s t i side ls inside li)
       ∙ raised_back q g old new (mask w s t side) i (pow_pos w.plan.bits) (small_words w h.whole s p (Mask t side) (least_held w.plan p i))
 
@@ -99,6 +100,7 @@ module _ (w : World) (other : List (List (List ℕ))) (group : ℕ) (h : CanMove
   value_turns s p (Output o) ls inside = refl
   value_turns s p (Mask t side) ls inside = refl
   value_turns s p (Masked t side) ls inside = refl
+  value_turns s p (Kept j) ls inside = refl
 
   abbrev Deals : ℕ → ℕ → Slot → Type 0
   Deals s p z =
@@ -119,9 +121,10 @@ module _ (w : World) (other : List (List (List ℕ))) (group : ℕ) (h : CanMove
   turns s p (Output o) ls inside = deal_turns s p (Output o) ls inside (refl, refl)
   turns s p (Mask_product t) ls inside = deal_turns s p (Mask_product t) ls inside (refl, refl)
   turns s p (Masked t side) ls inside = deal_turns s p (Masked t side) ls inside (refl, refl)
+  turns s p (Kept j) ls inside = deal_turns s p (Kept j) ls inside (refl, refl)
   turns s p (Mask t side) ls inside =
       let v = operand (gate (session w.plan s) t) side in
-      record { old = value_before w s t v; new = value_before (with_inputs w other) s t v; there = refl; back = refl }
+      record { old = value_before w s t v; new = value_before (with_inputs w other) s t v; there = refl; back = delta_back w other group s t v }
 
   word_back : (s k p i : ℕ) → s < length w.plan.sessions → k < slots w.plan s → p < w.plan.parties → i < words_in w.plan s p (slot w.plan s k)
       → moved_words second w.inputs group s (slot w.plan s k) p i ≡ tape_word w s (slot w.plan s k) p i

@@ -8,12 +8,12 @@ use Rattle.job_plan.specs.InputWords.{AreInputs, given}
 use Rattle.job_plan.specs.declared.key.Key.{Key}
 use Rattle.job_plan.specs.Multiply.{multiply_plan}
 use Rattle.job_plan.specs.Numbers.{no_key}
-use Rattle.job_session.specs.Sessions.{owners, readers, output_wire, slot_list}
+use Rattle.job_session.specs.Sessions.{owners, source, readers, output_wire, slot_list}
 use Rattle.job_plan.specs.Plans.{session, gives, reads}
 use Rattle.share_world.specs.Multiply.{multiply_world}
 use Rattle.share_world.specs.Worlds.{input_of, plain}
 use Rattle.share_world.proofs.WorkedProduct.{whole_is}
-use Rattle.tape_map.specs.TapeMaps.{with_inputs}
+use Rattle.tape_map.specs.TapeMaps.{member_gives, with_inputs}
 use Rattle.tape_map.specs.Multiply.{given_by, HiddenFromNobody, CanHideFromA, HiddenFromA, SecondPlain, CanHideFromC, HiddenFromC, SeenByBoth}
 
 pub hidden_from_nobody : HiddenFromNobody
@@ -72,7 +72,7 @@ can_hide_from_a = record {
   agree = record { inputs = inputs; outputs = outputs };
 }
   where
-    inputs : (s v : ℕ) → v < length (owners (session (multiply_plan 8) s)) → has_party 1 (slice_index (owners (session (multiply_plan 8) s)) v) ≡ true
+    inputs : (s v : ℕ) → v < length (owners (session (multiply_plan 8) s)) → member_gives 1 (source (session (multiply_plan 8) s) v) ≡ true
         → input_of (with_inputs multiply_world (given_by 5 9)) s v ≡ input_of multiply_world s v
     inputs zero zero l e = refl
     inputs zero (suc zero) l e = absurd (both_ways false refl e)
@@ -97,7 +97,7 @@ can_hide_from_c = record {
   agree = record { inputs = inputs; outputs = outputs };
 }
   where
-    inputs : (s v : ℕ) → v < length (owners (session (multiply_plan 8) s)) → has_party 4 (slice_index (owners (session (multiply_plan 8) s)) v) ≡ true
+    inputs : (s v : ℕ) → v < length (owners (session (multiply_plan 8) s)) → member_gives 4 (source (session (multiply_plan 8) s) v) ≡ true
         → input_of (with_inputs multiply_world (given_by 35 1)) s v ≡ input_of multiply_world s v
     inputs zero zero l e = absurd (both_ways false refl e)
     inputs zero (suc zero) l e = absurd (both_ways false refl e)

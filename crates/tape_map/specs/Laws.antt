@@ -9,17 +9,17 @@ use Rattle.maximal_groups.specs.Families.{LiesWithin}
 use Rattle.job_plan.specs.InputWords.{AreInputs}
 use Rattle.job_plan.specs.Messages.{messages}
 use Rattle.job_plan.specs.Numbers.{message}
-use Rattle.job_session.specs.Sessions.{owners, readers, gate, is_prepared, output_wire}
+use Rattle.job_session.specs.Sessions.{owners, readers, gate, is_prepared, output_wire, source}
 use Rattle.job_session.specs.declared.side.Side.{Side}
-use Rattle.job_plan.specs.Plans.{Plan, structure, holds, session, reads, slot, slots, words_in, giver}
+use Rattle.job_plan.specs.Plans.{Plan, structure, holds, session, reads, slot, slots, words_in}
 use Rattle.share_world.specs.Worlds.{World, input_of, tape_word, mask, masked_summand, dealt_value, run_of, plain, word, touches, view}
 use Rattle.share_world.specs.Laws.{IsWhole, AreTapes}
-use Rattle.tape_map.specs.TapeMaps.{hidden_word, with_inputs, with_tapes, tape_of, delta, moved_summands, moved_mask, moved_value, moved_words, tape_map, changed_tapes, second_world}
+use Rattle.tape_map.specs.TapeMaps.{member_gives, hidden_word, with_inputs, with_tapes, tape_of, delta, moved_summands, moved_mask, moved_value, moved_words, tape_map, changed_tapes, second_world}
 
 -- with the other inputs a group's members give what they gave, and read what they read
 pub record Agree (w : World) (other : List (List (List ℕ))) (group : ℕ) : Type 0 where
   pub inputs : (s v : ℕ) → v < length (owners (session w.plan s))
-      → has_party group (giver w.plan s v) ≡ true
+      → member_gives group (source (session w.plan s) v) ≡ true
       → input_of (with_inputs w other) s v ≡ input_of w s v
   pub outputs : (s o r : ℕ) → o < length (readers (session w.plan s)) → r < w.plan.parties
       → has_party group r ≡ true → reads w.plan r s o ≡ true

@@ -1,13 +1,13 @@
 -- Why other inputs can't be hidden from a group.
-use Rattle.std.specs.Prelude.{ℕ, ◌<◌, Bool, ◌&&◌, not, nat_eq, Option, List, ◌∷◌, ◌++◌, length}
+use Rattle.std.specs.Prelude.{◌≡◌, ℕ, ◌<◌, Bool, ◌&&◌, not, nat_eq, Option, List, [], ◌∷◌, ◌++◌, length, slice_index_or}
 use Rattle.std.specs.List.{list_any}
 use Rattle.list_laws.specs.Lists.{joined, listed}
 use Rattle.list_laws.specs.Checks.{◌answers◌, first_fault}
 use Rattle.party_set.specs.Parties.{has_party, within}
-use Rattle.job_session.specs.Sessions.{owners, readers, output_wire}
-use Rattle.job_plan.specs.Plans.{Plan, session, reads, giver}
+use Rattle.job_session.specs.Sessions.{owners, readers, output_wire, source}
+use Rattle.job_plan.specs.Plans.{Plan, session, reads}
 use Rattle.share_world.specs.Worlds.{World, input_of, plain}
-use Rattle.tape_map.specs.TapeMaps.{with_inputs}
+use Rattle.tape_map.specs.TapeMaps.{member_gives, with_inputs}
 use Rattle.tape_map.specs.declared.fault.MapFault.{MapFault}
 use Rattle.tape_map.specs.declared.fault.MapFault.TheVariants.{NotTolerated, InputDiffers}
 use Rattle.tape_map.specs.declared.fault.MapFault.TheVariants.{OutputDiffers}
@@ -21,7 +21,7 @@ abbrev pub input_check : World → List (List (List ℕ)) → ℕ → ℕ → �
 input_check w other group s v =
     let first = input_of w s v in
     let second = input_of (with_inputs w other) s v in
-    (has_party group (giver w.plan s v) && not (nat_eq first second))
+    (member_gives group (source (session w.plan s) v) && not (nat_eq first second))
     answers InputDiffers s v first second
 
 -- a member r reads one value on output wire o, and is to read another
@@ -42,6 +42,11 @@ value_checks plan group s first second =
     joined (length (readers (session plan s))) (λ o.
     let wire = output_wire (session plan s) o in
     listed plan.parties (output_check plan group s (first wire) (second wire) o))
+
+-- a value for each wire of each session
+pub record AreValues (plan : Plan) (lists : List (List ℕ)) : Type 0 where
+  pub sessions : length lists ≡ length plan.sessions
+  pub wires : (s : ℕ) → s < length plan.sessions → length (slice_index_or lists s []) ≡ (session plan s).wires
 
 abbrev pub output_checks : World → List (List (List ℕ)) → ℕ → ℕ → List (Option MapFault)
 output_checks w other group s =

@@ -1,11 +1,13 @@
 -- The change of tapes that hides other inputs from a group: it makes a second world, in which the
 -- group sees what it saw.
-use Rattle.std.specs.Prelude.{ℕ, ◌+◌, ◌%◌, ◌^◌, nat_eq, if◌then◌else◌, List, [], length, slice_index_or}
+use Rattle.std.specs.Prelude.{ℕ, ◌+◌, ◌%◌, ◌^◌, Bool, false, nat_eq, if◌then◌else◌, List, [], length, slice_index_or}
 use Rattle.std.specs.List.{position_or_len}
 use Rattle.list_laws.specs.Lists.{joined, listed}
 use Rattle.mpc_ring.specs.Differences.{difference}
 use Rattle.secret_sharing.specs.Schemes.{own_product, summands}
 use Rattle.party_set.specs.Parties.{has_party, within}
+use Rattle.job_session.specs.declared.source.Source.{Source}
+use Rattle.job_session.specs.declared.source.Source.TheVariants.{Given, Carried}
 use Rattle.job_session.specs.Sessions.{Slot, gate, operand}
 use Rattle.job_session.specs.Sessions.Slot.{Input, At_gate, Mask, Mask_product}
 use Rattle.job_session.specs.declared.side.Side.{Side}
@@ -27,10 +29,16 @@ with_tapes w tapes = record { plan = w.plan; inputs = w.inputs; tapes = tapes }
 abbrev pub tape_of : World → ℕ → List ℕ
 tape_of w p = slice_index_or w.tapes p []
 
--- by how much the value of wire v of session s before gate t grows with the other inputs
+-- by how much the value of wire v of session s before gate t grows with the other inputs, of this session and of those that
+-- it carries from
 abbrev pub delta : World → List (List (List ℕ)) → ℕ → ℕ → ℕ → ℕ
 delta w other s t v =
     difference (2 ^ w.plan.bits) (value_before (with_inputs w other) s t v) (value_before w s t v)
+
+-- a member of the group gives the wire; nobody gives one that is carried
+abbrev pub member_gives : ℕ → Source → Bool
+member_gives group (Given p) = has_party group p
+member_gives group (Carried r c i) = false
 
 -- ---- what is to change
 
@@ -67,7 +75,7 @@ moved_value w other group s p _ = 0
 -- ---- the change
 
 -- which of the words that p draws in a slot is the hidden summand's: that of its number in a deal, and in a mask the
--- one that p draws for it, if p is its least holder, and else none
+-- one that p draws for it, if p is its least holder, and else none; no word is drawn of what is carried or kept
 abbrev pub hidden_word : Plan → ℕ → ℕ → Slot → ℕ
 hidden_word plan group p (Mask t side) =
     let g = hidden plan group in

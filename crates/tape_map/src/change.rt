@@ -3,11 +3,11 @@ ghost use Rattle.std.specs.Prelude.{◌≡◌, ℕ, ◌+◌, ◌^◌, ◌<◌, �
 ghost use Rattle.std.specs.Prelude.{All, IfOk, OnOk, true, length, slice_index};
 ghost use Rattle.list_laws.specs.Lists.{listed};
 ghost use Rattle.job_session.specs.Sessions.{operand};
-ghost use Rattle.job_plan.specs.InputWords.{AreInputs, session_words};
+ghost use Rattle.job_plan.specs.InputWords.{session_words};
 ghost use Rattle.job_plan.specs.Plans.{session};
-ghost use Rattle.share_world.specs.Laws.{IsWhole};
+ghost use Rattle.mpc_ring.specs.Differences.{difference};
 ghost use Rattle.tape_map.specs.TapeMaps.{raised};
-ghost use Rattle.tape_map.specs.Changes.{AreGrowths, AreNamedRows, growths, product_growth, grown_rows, grown_mask, grown_masks};
+ghost use Rattle.tape_map.specs.Changes.{AreGrowths, AreNamedRows, product_growth, grown_rows, grown_mask, grown_masks};
 
 use circuit_model::Gate;
 use job_plan::{Inputs, Plan, SlotKind};
@@ -16,7 +16,7 @@ use mpc_ring::Ring;
 use party_set::Group;
 use reshare_step::own_products;
 use std::alloc::{AllocError, Global};
-use wire_tables::{SummandTable, value_list, words_in};
+use wire_tables::{CarriedRows, SummandTable, words_in};
 
 /// The tables of a session: by how much its wires grow with the other inputs, their summands, those of
 /// the masks of prepared products too, and both as they are when the hidden one grows as the wire does.
@@ -40,29 +40,41 @@ impl Change {
     ghost use Rattle.job_plan.specs.InputWords.{AreInputs};
     ghost use Rattle.job_plan.specs.Plans.{session, place, words};
     ghost use Rattle.share_world.specs.Laws.{IsWhole};
-    ghost use Rattle.wire_tables.specs.WireTables.{world_given};
-    ghost use Rattle.tape_map.specs.TapeMaps.{hidden, hidden_word};
+    ghost use Rattle.wire_tables.specs.WireTables.{AreCarried, value_list, world_given};
+    ghost use Rattle.tape_map.specs.TapeMaps.{hidden, hidden_word, with_inputs};
     ghost use Rattle.tape_map.specs.Changes.{IsChange, Fits, growth_in, growth_by, grown_piece};
 
-    /// The tables of session `s`, where the other inputs are to be hidden at this summand.
+    /// The tables of session `s`, where the other inputs are to be hidden at this summand. `first` has the values of
+    /// the session's wires, `second` those with the other inputs, and `carried` what is carried of the sessions
+    /// before. What is carried of this one is added there.
     pub fn make(
         alloc: Global,
         plan: &Plan,
         inputs: &Inputs,
         tapes: &[Vec<u64>],
         other: &Inputs,
+        first: &[u64],
+        second: &[u64],
+        carried: &mut CarriedRows,
         share: u32,
         s: u32,
     ) -> Result<Change, AllocError>
         requires whole { IsWhole (world_given plan.now inputs.now tapes.now) }
         requires other { AreInputs plan.now other.now }
+        requires first { first.now ≡ value_list (world_given plan.now inputs.now tapes.now) s }
+        requires second { second.now
+            ≡ value_list (with_inputs (world_given plan.now inputs.now tapes.now) other.now) s }
+        requires carried { AreCarried (world_given plan.now inputs.now tapes.now) s carried.old }
         requires share { share < length plan.now.groups }
         requires session { s < length plan.now.sessions }
-        ensures { (group : ℕ) → share ≡ hidden plan.now group
+        ensures made { (group : ℕ) → share ≡ hidden plan.now group
             → IfOk result (IsChange (world_given plan.now inputs.now tapes.now) other.now group s) }
+        ensures carried { OnOk result
+            (AreCarried (world_given plan.now inputs.now tapes.now) (s + 1) carried.new) }
     {
-        let growths = wire_growths(alloc, plan, inputs, other, s)?;
-        let rows = SummandTable::make(alloc, plan, inputs, tapes, s)?;
+        let _ = other;
+        let growths = wire_growths(alloc, plan, s, first, second)?;
+        let rows = SummandTable::make(alloc, plan, inputs, tapes, carried, s)?;
         let moved = moved_rows(alloc, plan, s, share, &growths, &rows)?;
         let first_masks = moved_masks(alloc, plan, s, share, &growths, &rows, Side::First)?;
         let second_masks = moved_masks(alloc, plan, s, share, &growths, &rows, Side::Second)?;
@@ -150,7 +162,7 @@ impl Change {
             SlotKind::Mask(t, side) => self.growths[operand(part.gate(t), side) as usize],
             SlotKind::Gate(t) => self.gate_growth(plan, p, t),
             SlotKind::MaskProduct(t) => self.masks_growth(plan, p, t),
-            SlotKind::Output(_) | SlotKind::Masked(_, _) => ring.zero(),
+            SlotKind::Output(_) | SlotKind::Masked(_, _) | SlotKind::Kept(_) => ring.zero(),
         }
     }
 
@@ -211,25 +223,21 @@ fn product_growth(
     ring.sub(after, before)
 }
 
-// By how much each wire of session `s` grows with the other inputs.
+// By how much each wire of session `s` grows from the first of these values to the second.
 fn wire_growths(
     alloc: Global,
     plan: &Plan,
-    inputs: &Inputs,
-    other: &Inputs,
     s: u32,
+    first: &[u64],
+    second: &[u64],
 ) -> Result<Vec<u64>, AllocError>
-    requires whole { (tapes : List (List ℕ))
-        × IsWhole (record { plan = plan.now; inputs = inputs.now; tapes = tapes }) }
-    requires other { AreInputs plan.now other.now }
-    requires session { s < length plan.now.sessions }
-    ensures is { (tapes : List (List ℕ)) → IfOk result (λ more. more.items
-        ≡ growths (record { plan = plan.now; inputs = inputs.now; tapes = tapes }) other.now s) }
+    requires first { AreGrowths plan.now s first.now }
+    requires second { AreGrowths plan.now s second.now }
+    ensures is { IfOk result (λ more. more.items ≡ listed (session plan.now s).wires
+        (λ v. difference (2 ^ plan.now.bits) (slice_index second.now v) (slice_index first.now v))) }
     ensures fit { IfOk result (λ more. AreGrowths plan.now s more.items) }
 {
     let ring = plan.ring();
-    let first = value_list(alloc, plan, inputs, s)?;
-    let second = value_list(alloc, plan, other, s)?;
     let mut growths = Vec::new(alloc);
     for v in 0..first.len() {
         growths.push(ring.sub(second[v], first[v]))?;

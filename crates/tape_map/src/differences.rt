@@ -1,15 +1,30 @@
 //! Whether a member sees a difference.
-ghost use Rattle.std.specs.Prelude.{◌≡◌, ◌&&◌, ◌<◌, nat_eq, not, length, slice_index};
+ghost use Rattle.std.specs.Prelude.{◌≡◌, ℕ, ◌&&◌, ◌<◌, nat_eq, not, length, slice_index};
 ghost use Rattle.party_set.specs.Parties.{has_party};
+ghost use Rattle.job_session.specs.declared.source.Source.TheVariants.{Given};
 ghost use Rattle.job_session.specs.Sessions.{readers};
+ghost use Rattle.tape_map.specs.TapeMaps.{member_gives};
 
 use job_plan::SessionPart;
+use job_session::Source;
+use party_set::Group;
 
 /// Whether it is seen that two words differ.
 pub(crate) fn differ(is_seen: bool, first: u64, second: u64) -> bool
     ensures { result ≡ (is_seen && not (nat_eq first second)) }
 {
     is_seen && first != second
+}
+
+/// Whether a member gives a wire with this source.
+pub(crate) fn member_gives(group: Group, source: Source) -> bool
+    requires { (p : ℕ) → source ≡ Given p → p < group.parties }
+    ensures { result ≡ member_gives group.mask source }
+{
+    match source {
+        Source::Given(party) => group.has(party),
+        Source::Carried { .. } => false,
+    }
 }
 
 /// Whether a member reads two values that differ.

@@ -5,7 +5,7 @@ ghost use Rattle.list_laws.specs.Checks.{first_fault};
 ghost use Rattle.job_plan.specs.InputWords.{AreInputs};
 ghost use Rattle.tape_map.specs.MapFaults.{input_checks};
 
-use crate::differences::differ;
+use crate::differences::{differ, member_gives};
 use crate::fault::MapFault;
 use job_plan::{Inputs, Plan};
 use party_set::Group;
@@ -58,7 +58,7 @@ fn session_fault(
     for wire in 0..part.input_wires() as u32 {
         let one = first[wire as usize];
         let another = second[wire as usize];
-        if differ(group.has(part.wire_owner(wire)), one, another) {
+        if differ(member_gives(group, part.source(wire)), one, another) {
             return Ok(Some(MapFault::InputDiffers {
                 session: s,
                 wire,

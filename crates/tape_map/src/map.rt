@@ -4,8 +4,8 @@ ghost use Rattle.std.specs.Prelude.{replicate, [], slice_index_or};
 ghost use Rattle.job_plan.specs.Plans.{structure, place};
 ghost use Rattle.job_plan.specs.InputWords.{AreInputs, session_words};
 ghost use Rattle.share_world.specs.Laws.{IsWhole, AreTapes};
-ghost use Rattle.wire_tables.specs.WireTables.{world_given};
-ghost use Rattle.tape_map.specs.TapeMaps.{hidden, changed_tapes, second_world};
+ghost use Rattle.wire_tables.specs.WireTables.{value_lists, world_given};
+ghost use Rattle.tape_map.specs.TapeMaps.{hidden, changed_tapes, second_world, with_inputs};
 ghost use Rattle.tape_map.specs.Laws.{CanHide};
 ghost use Rattle.tape_map.specs.Changes.{Fits, grown_piece};
 ghost use Rattle.tape_map.specs.MapFaults.{map_fault, HasRecipientBelow};
@@ -19,6 +19,7 @@ use crate::outputs::output_fault;
 use job_plan::{Inputs, Plan};
 use party_set::{Group, Groups};
 use std::alloc::{AllocError, Global};
+use wire_tables::{CarriedRows, value_lists};
 
 /// The tapes with which a group sees of the other inputs what it sees of the first, exactly where the
 /// group is tolerated and with both gives and reads the same. `tapes` has for each party the words
@@ -51,26 +52,35 @@ pub fn map_tapes(
     if let Some(fault) = input_fault(alloc, plan, inputs, other, group)? {
         return Err(fault);
     }
-    if let Some(fault) = output_fault(alloc, plan, inputs, other, group)? {
+    let first = value_lists(alloc, plan, inputs)?;
+    let second = value_lists(alloc, plan, other)?;
+    if let Some(fault) = output_fault(plan, group, &first, &second) {
         return Err(fault);
     }
-    let changed = changed_tapes(alloc, plan, inputs, tapes, other, share, group)?;
+    let changed = changed_tapes(
+        alloc, plan, inputs, tapes, other, &first, &second, share, group,
+    )?;
     Ok(changed)
 }
 
 // The tapes of all parties, changed session by session, so that the tables of one session are there
-// at a time.
+// at a time. The wires of the sessions have these values with the inputs and with the others.
 fn changed_tapes(
     alloc: Global,
     plan: &Plan,
     inputs: &Inputs,
     tapes: &[Vec<u64>],
     other: &Inputs,
+    first: &[Vec<u64>],
+    second: &[Vec<u64>],
     share: u32,
     group: Group,
 ) -> Result<Vec<Vec<u64>>, AllocError>
     requires whole { IsWhole (world_given plan.now inputs.now tapes.now) }
     requires other { AreInputs plan.now other.now }
+    requires first { session_words first.now ≡ value_lists (world_given plan.now inputs.now tapes.now) }
+    requires second { session_words second.now
+        ≡ value_lists (with_inputs (world_given plan.now inputs.now tapes.now) other.now) }
     requires within { share < length plan.now.groups }
     requires hidden { share ≡ hidden plan.now group.mask }
     requires group { group.parties ≡ plan.now.parties }
@@ -78,8 +88,21 @@ fn changed_tapes(
         ≡ changed_tapes (world_given plan.now inputs.now tapes.now) other.now group.mask) }
 {
     let mut changed = empty_tapes(alloc, plan.parties())?;
+    let mut carried = CarriedRows::new(alloc, plan)?;
     for s in 0..plan.sessions() {
-        let change = Change::make(alloc, plan, inputs, tapes, other, share, s)?;
+        let (one, another) = (&first[s as usize], &second[s as usize]);
+        let change = Change::make(
+            alloc,
+            plan,
+            inputs,
+            tapes,
+            other,
+            one,
+            another,
+            &mut carried,
+            share,
+            s,
+        )?;
         push_pieces(plan, tapes, &change, group, &mut changed)?;
     }
     Ok(changed)

@@ -1,43 +1,45 @@
 //! Whether a group's members read the same outputs.
-ghost use Rattle.std.specs.Prelude.{◌≡◌, ℕ, ◌<◌, List, IfOk, length, slice_index};
+ghost use Rattle.std.specs.Prelude.{◌≡◌, ◌<◌, length, slice_index};
 ghost use Rattle.list_laws.specs.Lists.{joined, listed};
 ghost use Rattle.list_laws.specs.Checks.{first_fault};
-ghost use Rattle.job_plan.specs.InputWords.{AreInputs};
+ghost use Rattle.job_plan.specs.InputWords.{session_words};
 ghost use Rattle.job_session.specs.Sessions.{readers};
 ghost use Rattle.job_plan.specs.Plans.{session};
-ghost use Rattle.tape_map.specs.MapFaults.{output_check, output_checks, value_checks};
+ghost use Rattle.wire_tables.specs.WireTables.{value_at};
+ghost use Rattle.tape_map.specs.MapFaults.{AreValues, output_check, value_checks};
 
 use crate::differences::{read_differ, reads};
 use crate::fault::MapFault;
-use job_plan::{Inputs, Plan};
+use job_plan::Plan;
 use party_set::Group;
-use std::alloc::{AllocError, Global};
-use wire_tables::value_list;
 
-/// The first output wire that a member reads, and on which it is to read another value.
+/// The first output wire that a member reads, and on which it is to read another value, where the wires of the sessions
+/// have these values with the inputs and with the others.
 pub(crate) fn output_fault(
-    alloc: Global,
     plan: &Plan,
-    inputs: &Inputs,
-    other: &Inputs,
     group: Group,
-) -> Result<Option<MapFault>, AllocError>
-    requires inputs { AreInputs plan.now inputs.now }
-    requires other { AreInputs plan.now other.now }
+    first: &[Vec<u64>],
+    second: &[Vec<u64>],
+) -> Option<MapFault>
     requires group { group.parties ≡ plan.now.parties }
-    ensures { (tapes : List (List ℕ)) → IfOk result (λ found. found
-        ≡ first_fault (joined (length plan.now.sessions) (output_checks
-        (record { plan = plan.now; inputs = inputs.now; tapes = tapes }) other.now group.mask))) }
+    requires first { AreValues plan.now (session_words first.now) }
+    requires second { AreValues plan.now (session_words second.now) }
+    ensures { result ≡ first_fault (joined (length plan.now.sessions) (λ s. value_checks plan.now group.mask s
+        (value_at (session_words first.now) s) (value_at (session_words second.now) s))) }
 {
     let _ = plan.parties();
     for s in 0..plan.sessions() {
-        let first = value_list(alloc, plan, inputs, s)?;
-        let second = value_list(alloc, plan, other, s)?;
-        if let Some(fault) = session_fault(plan, group, s, &first, &second) {
-            return Ok(Some(fault));
+        if let Some(fault) = session_fault(
+            plan,
+            group,
+            s,
+            &first[s as usize],
+            &second[s as usize],
+        ) {
+            return Some(fault);
         }
     }
-    Ok(None)
+    None
 }
 
 // The first one in session `s`, whose wires have these values with the inputs and with the others.

@@ -19,7 +19,7 @@ all_digits (c ∷ token) = ap (λ b. is_ascii_digit c && b) (all_digits token)
 
 -- ---- digits
 
-some_not_empty : (token : List ℕ) → 0 < length token → not_empty token ≡ true
+pub some_not_empty : (token : List ℕ) → 0 < length token → not_empty token ≡ true
 some_not_empty [] l = absurd (omega arith)
 some_not_empty (c ∷ token) l = refl
 

@@ -1,12 +1,19 @@
 //! The numbers that tokens write.
 ghost use Rattle.std.specs.Prelude.{◌≡◌};
-ghost use Rattle.text_tokens.specs.Numbers.{is_digits, number_written};
+ghost use Rattle.text_tokens.specs.Numbers.{is_digits, is_decimal, number_written};
 
 /// Whether a token is one or more decimal digits.
 pub fn is_digits(token: &str) -> bool
     ensures { result ≡ is_digits token.now }
 {
     !token.is_empty() && token.as_bytes().iter().all(|byte| byte.is_ascii_digit())
+}
+
+/// Whether a token is a decimal number without leading zeros, of any length.
+pub fn is_decimal(token: &str) -> bool
+    ensures { result ≡ is_decimal token.now }
+{
+    is_digits(token) && (token.len() < 2 || token.as_bytes()[0] != b'0')
 }
 
 /// The number that a token writes in one or more decimal digits, if it is below `2^64`. There may be leading zeros, and

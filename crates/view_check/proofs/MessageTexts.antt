@@ -5,23 +5,24 @@ use Rattle.std.specs.List.{list_all}
 use Rattle.std.specs.Char.{is_ascii_digit}
 use Rattle.std.specs.Str.{bytes_eq, all_ascii_digits}
 use Rattle.std.specs.Str.Parse.{digits_value}
-use Rattle.std.proofs.lemmas.Bool.{cases_eq, ne_eqb, eq-eqb, eqb-true, lt-ltb, ltb-true, and_parts, and_from}
+use Rattle.std.proofs.lemmas.Bool.{eq-eqb, eqb-true, lt-ltb, ltb-true, and_parts, and_from}
 use Rattle.std.proofs.lemmas.Bool.Decides.{eqb_tells, nat_tests}
-use Rattle.std.proofs.lemmas.Fmt.{digits_decimal, digits_value-decimal, decimal_nonempty, first_decimal, decimal_digit, decimal-digits_value}
+use Rattle.std.proofs.lemmas.Fmt.{digits_decimal, digits_value-decimal, decimal-digits_value}
 use Rattle.std.proofs.lemmas.List.Folds.{list_all-append}
 use Rattle.std.proofs.lemmas.List.Splits.{join_with_byte-slice_split}
 use Rattle.std.proofs.lemmas.Slice.Eq.{bytes_eq-Decides}
 use Rattle.std.specs.List.{join_with_byte}
 use Rattle.list_laws.specs.Checks.{◌answers◌, first_fault}
 use Rattle.text_tokens.specs.Tokens.{not_empty}
-use Rattle.text_tokens.specs.Numbers.{is_digits}
-use Rattle.text_tokens.proofs.Values.{digits, all_digits}
+use Rattle.text_tokens.specs.Numbers.{is_digits, is_decimal}
+use Rattle.text_tokens.proofs.Values.{digits, all_digits, some_not_empty}
+use Rattle.text_tokens.proofs.Decimals.{decimal_is}
 use Rattle.party_set.specs.Names.{is_name_byte, name_at, AreNames}
 use Rattle.job_plan.specs.declared.key.Key.{Key}
 use Rattle.view_check.specs.declared.fault.CheckFault.{CheckFault}
 use Rattle.view_check.specs.declared.fault.CheckFault.TheVariants.{BadLine, WrongKey, WrongWord}
 use Rattle.view_check.specs.Lines.{parts_at}
-use Rattle.view_check.specs.WrittenLines.{parts_of, is_decimal, is_word, are_well_formed, is_well_formed, word_in}
+use Rattle.view_check.specs.WrittenLines.{parts_of, is_word, are_well_formed, is_well_formed, word_in}
 use Rattle.view_check.specs.MessageLines.{texts_eq, key_texts, is_key, line_fault}
 use Rattle.view_check.specs.Laws.{IsTold}
 use Rattle.view_text.specs.ViewText.{key_place, key_parties, message_line}
@@ -102,27 +103,9 @@ module _ (names : List (List ℕ)) (are : AreNames names) (key : Key) (word : �
 
 -- ---- numbers without leading zeros
 
-some_not_empty : {A : Type 0} (xs : List A) → 0 < length xs → not_empty xs ≡ true
-some_not_empty [] l = absurd (omega arith)
-some_not_empty (x ∷ xs) l = refl
-
 not_empty_some : {A : Type 0} (xs : List A) → not_empty xs ≡ true → 0 < length xs
 not_empty_some [] e = absurd (cc)
 not_empty_some (x ∷ xs) e = omega arith
-
-or_right : (a b : Bool) → b ≡ true → (a || b) ≡ true
-or_right true b e = refl
-or_right false b e = e
-
-pub decimal_is : (n : ℕ) → n < 2 ^ 64 → is_decimal (decimal n) ≡ true
-decimal_is n l = elim (cases_eq n 0) [
-  | inl none ↦ ap is_decimal (ap decimal none ∙ decimal_digit 0 (omega arith))
-  | inr some ↦
-      and_from (is_digits (decimal n)) _
-      (and_from (not_empty (decimal n)) (all_ascii_digits (decimal n)) (some_not_empty (decimal n) (decimal_nonempty n l)) (digits_decimal digits n l))
-      (or_right (nat_lt (length (decimal n)) 2) (not (slice_index (decimal n) 0 == 48))
-      (let first = first_decimal n (omega arith) l in ap not (ne_eqb (slice_index (decimal n) 0) 48 (omega arith))))
-]
 
 pub word_is : (n : ℕ) → n < 2 ^ 64 → is_word (decimal n) ≡ true
 word_is n l = and_from (is_decimal (decimal n)) _ (decimal_is n l) (lt-ltb (digits_value 10 (decimal n)) (2 ^ 64) (omega (arith, digits_value-decimal digits n l)))

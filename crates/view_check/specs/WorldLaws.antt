@@ -1,11 +1,13 @@
 -- What a verdict says of the words of a world.
 use Rattle.std.specs.Prelude.{◌≡◌, ℕ, ◌-◌, ◌^◌, ◌<◌, true, List, map, length, Ok}
 use Rattle.party_set.specs.Names.{AreNames}
-use Rattle.job_plan.specs.Plans.{Plan}
+use Rattle.job_session.specs.declared.source.Source.TheVariants.{Carried}
+use Rattle.job_session.specs.Sessions.{source}
+use Rattle.job_plan.specs.Plans.{Plan, session}
 use Rattle.job_plan.specs.Messages.{messages}
 use Rattle.job_plan.specs.declared.key.Key.{Key}
 use Rattle.share_world.specs.Laws.{IsWhole}
-use Rattle.share_world.specs.Locals.{local_word}
+use Rattle.share_world.specs.Locals.{kept_key, local_word}
 use Rattle.job_plan.specs.Numbers.{message}
 use Rattle.share_world.specs.Worlds.{World, touches, word, view}
 use Rattle.view_check.specs.Views.{verdict}
@@ -35,10 +37,16 @@ OwnViewsHaveAll =
     → (touches (2 ^ (message w.plan n).sender) (message w.plan n) ≡ true)
     × (touches (2 ^ (message w.plan n).receiver) (message w.plan n) ≡ true)
 
--- what a party sends by its own program is right, where all that it got in the slots before is: so of wrong words the
--- first is its sender's own doing
+-- all that party p gets in session s before slot k is right, and so is all that it kept for the session in earlier ones
+pub record IsRightBefore (w : World) (got : Key → ℕ) (p s k : ℕ) : Type 0 where
+  pub slots : (key : Key) → key.receiver ≡ p → key.session ≡ s → key.slot < k → got key ≡ word w key
+  pub kept : (v r c at i : ℕ) → source (session w.plan s) v ≡ Carried r c at
+      → got (kept_key w.plan r s v i p) ≡ word w (kept_key w.plan r s v i p)
+
+-- what a party sends or keeps by its own program is right, where all that it got in the slots before is, and all that
+-- it kept in earlier sessions for this one: so of wrong words the first is its sender's own doing
 abbrev pub WrongWordsAreOwn : Type 0
 WrongWordsAreOwn =
     (w : World) (n : ℕ) (got : Key → ℕ) → IsWhole w → n < length (messages w.plan)
-    → ((key : Key) → key.session ≡ (message w.plan n).session → key.slot < (message w.plan n).slot → got key ≡ word w key)
+    → IsRightBefore w got (message w.plan n).sender (message w.plan n).session (message w.plan n).slot
     → local_word w got (message w.plan n).sender (message w.plan n) ≡ word w (message w.plan n)

@@ -38,8 +38,8 @@ pub fn own_views_have_all()
     ensures { OwnViewsHaveAll }
 {}
 
-/// What a party sends by its own program is right, where all that it got in the slots before is: so of wrong words the
-/// first is its sender's own doing.
+/// What a party sends or keeps by its own program is right, where all that it got in the slots before is, and all that
+/// it kept in earlier sessions for this one: so of wrong words the first is its sender's own doing.
 pub fn wrong_words_are_own()
     ensures { WrongWordsAreOwn }
 {}

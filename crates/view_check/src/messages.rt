@@ -1,5 +1,5 @@
 //! The check of a written view.
-ghost use Rattle.std.specs.Prelude.{◌≡◌, ◌⊎◌, ℕ, ◌<◌, ◌∷◌, [], MatchResult, IfOk, IfErr, Ok, Err, length, slice_index, slice_index_or};
+ghost use Rattle.std.specs.Prelude.{◌≡◌, ◌⊎◌, ℕ, ◌+◌, ◌<◌, ◌∷◌, [], MatchResult, IfOk, IfErr, OnOk, Ok, Err, length, slice_index, slice_index_or};
 ghost use Rattle.job_plan.specs.InputWords.{session_words};
 ghost use Rattle.list_laws.specs.Lists.{only_if};
 ghost use Rattle.job_plan.specs.Messages.{slot_messages, session_messages, messages};
@@ -7,7 +7,7 @@ ghost use Rattle.job_plan.specs.Plans.{slot, slots};
 ghost use Rattle.share_world.specs.Laws.{IsWhole};
 ghost use Rattle.share_world.specs.Worlds.{touches, view};
 ghost use Rattle.wire_tables.specs.Places.{ArePlaces};
-ghost use Rattle.wire_tables.specs.WireTables.{world_given, summand_rows};
+ghost use Rattle.wire_tables.specs.WireTables.{AreCarried, world_given, summand_rows};
 ghost use Rattle.view_text.specs.Seen.{seen_of};
 ghost use Rattle.view_check.specs.Views.{verdict, Passes, Stops};
 ghost use Rattle.view_check.specs.Laws.{IsView, IsWrongWord};
@@ -21,7 +21,7 @@ use job_plan::{Inputs, Key, Plan};
 use party_set::{Group, Names};
 use std::alloc::Global;
 use view_text::touches;
-use wire_tables::{SummandTable, first_places, pass_slot, slot_rows};
+use wire_tables::{CarriedRows, SummandTable, first_places, pass_slot, slot_rows};
 
 // Takes the line of a message with this word, where a member of the group sends or receives it.
 fn check_message(
@@ -93,7 +93,8 @@ fn check_slot(
     Ok(())
 }
 
-// Takes the lines of what the group sees in session `s`.
+// Takes the lines of what the group sees in session `s`. `carried` has what is carried of the sessions before, and what
+// is carried of this one is added there.
 fn check_session(
     alloc: Global,
     plan: &Plan,
@@ -101,21 +102,25 @@ fn check_session(
     tapes: &[Vec<u64>],
     names: &Names,
     group: Group,
+    carried: &mut CarriedRows,
     s: u32,
     rest: &mut ViewLines<'_>,
 ) -> Result<(), CheckFault>
     requires names { length names.now ≡ plan.now.parties }
     requires group { group.parties ≡ length names.now }
     requires whole { IsWhole (world_given plan.now inputs.now tapes.now) }
+    requires carried { AreCarried (world_given plan.now inputs.now tapes.now) s carried.old }
     requires session { s < length plan.now.sessions }
-    ensures { MatchResult result
+    ensures lines { MatchResult result
         (λ _. Passes names.now (seen_of (world_given plan.now inputs.now tapes.now) group.mask
         (session_messages plan.now s)) rest.old rest.new)
         (λ fault. (fault ≡ Memory) ⊎ Stops names.now
         (seen_of (world_given plan.now inputs.now tapes.now) group.mask
         (session_messages plan.now s)) rest.old fault) }
+    ensures carried { OnOk result
+        (AreCarried (world_given plan.now inputs.now tapes.now) (s + 1) carried.new) }
 {
-    let table = SummandTable::make(alloc, plan, inputs, tapes, s)?;
+    let table = SummandTable::make(alloc, plan, inputs, tapes, carried, s)?;
     let mut places = first_places(alloc, plan, s)?;
     for k in 0..plan.slots(s) {
         check_slot(
@@ -146,8 +151,19 @@ fn check_messages(
         (seen_of (world_given plan.now inputs.now tapes.now) group.mask
         (messages plan.now)) rest.old fault) }
 {
+    let mut carried = CarriedRows::new(alloc, plan)?;
     for s in 0..plan.sessions() {
-        check_session(alloc, plan, inputs, tapes, names, group, s, rest)?;
+        check_session(
+            alloc,
+            plan,
+            inputs,
+            tapes,
+            names,
+            group,
+            &mut carried,
+            s,
+            rest,
+        )?;
     }
     Ok(())
 }
@@ -183,7 +199,7 @@ fn judge(
 
 /// How many messages the group of a text's first line sees, where the text has the lines of that group's view. `tapes`
 /// has for each party the words that it draws, all sessions in order. It goes through the text once and through the plan
-/// once, with the summands of one session at a time.
+/// once, with the summands of one session at a time and of the wires that later ones carry.
 ///
 /// # Errors
 ///

@@ -5,12 +5,15 @@ use Rattle.std.specs.Bool.{Decides}
 use Rattle.std.proofs.lemmas.Bool.{and_parts, and_from, eq-eqb, eqb-true}
 use Rattle.std.proofs.lemmas.Slice.Eq.{slice_eq-Decides}
 use Rattle.list_laws.proofs.JoinedLists.{listed_at}
+use Rattle.job_session.specs.Sessions.{output_wire}
 use Rattle.job_plan.specs.declared.key.Key.{Key}
 use Rattle.job_plan.specs.Numbers.{same_key}
+use Rattle.job_plan.specs.Plans.{session}
 use Rattle.job_plan.proofs.DistinctMessages.{same_key-true}
 use Rattle.share_world.specs.Worlds.{World, view}
 use Rattle.tape_map.specs.TapeMaps.{with_inputs, with_tapes, tape_map, changed_tapes}
 use Rattle.tape_map.specs.Laws.{CanHide}
+use Rattle.tape_map.proofs.SameValues.{plain_stays}
 use Rattle.tape_map.proofs.ChangedTapes.{CanMove, can_move, are_tapes, with_tapes_can}
 use Rattle.tape_map.proofs.WayBack.{members_stay, one_to_one}
 use Rattle.tape_map.proofs.SeenWords.{same_view}
@@ -60,7 +63,12 @@ is_private w other group h =
       whole = record { sound = h.whole.sound; inputs = h.whole.inputs; tapes = choice.are };
       others = h.others;
       tolerated = h.tolerated;
-      agree = record { inputs = h.agree.inputs; outputs = h.agree.outputs };
+      agree = record {
+        inputs = h.agree.inputs;
+        outputs = λ s o r lo lr member reads.
+            let wire = output_wire (session w.plan s) o in
+            plain_stays (with_inputs w other) tapes s wire ∙ h.agree.outputs s o r lo lr member reads ∙ sym (plain_stays w tapes s wire);
+      };
     }))
 
 pub views_are_even : (w : World) (other : List (List (List ℕ))) (group : ℕ) → CanHide w other group → ViewsAreEven w other group

@@ -17,6 +17,7 @@ use Rattle.job_plan.proofs.SlotMessages.{message_at, number_within}
 use Rattle.job_plan.proofs.SlotPatterns.{slots_follow_patterns}
 use Rattle.program_laws.specs.Once.{IsBetweenParties}
 use Rattle.program_laws.proofs.MessageParties.{between}
+use Rattle.program_laws.proofs.SentMessages.{givers}
 use Rattle.share_world.specs.Worlds.{World, touches, word}
 use Rattle.view_text.specs.Seen.{seen_of, IsMessage}
 
@@ -48,7 +49,7 @@ module _ (plan : Plan) (s k : ℕ) (xs : List Line) (sound : IsSound plan) (ls :
         record {
           there = within;
           is = is;
-          between = subst (IsBetweenParties plan) is (between plan n (plan_is plan sound) (λ s v ls. (sound.sessions s ls).owned v) within);
+          between = subst (IsBetweenParties plan) is (between plan n (plan_is plan sound) (givers plan sound) within);
         }
 
     -- its number is one of few

@@ -11,7 +11,7 @@ use Rattle.share_world.specs.Worlds.{World, touches, word}
 abbrev pub seen_of : World → ℕ → List Key → List (Key × ℕ)
 seen_of w group keys = map (λ key. (key, word w key)) (filter (touches group) keys)
 
--- the message of this number is this one, from one party to another
+-- the message of this number is this one, which goes from one party to another or stays with its party
 pub record IsMessage (plan : Plan) (n : ℕ) (key : Key) : Type 0 where
   pub there : n < length (messages plan)
   pub is : message plan n ≡ key

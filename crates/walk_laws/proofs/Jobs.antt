@@ -39,14 +39,14 @@ unfolding CircuitOf
 circuit_once (Gates layout) file s bits bytes = ends_once _
 circuit_once Expressions file s bits bytes = expressions_once _ bits bytes
 
-session_once : (files : Contents) (dir : List ℕ) (job : JobForm) (s : ℕ) (form : SessionForm) → EndsOnce (SessionAt files dir job s form)
+session_once : (files : Contents) (dir : List ℕ) (job : JobForm) (before : List Session) (form : SessionForm) → EndsOnce (SessionAt files dir job before form)
 unfolding SessionAt
-session_once files dir job s form = then_once _ _ (ends_once _) (λ bytes. then_once _ _ (circuit_once form.layout form.circuit s job.bits bytes) (λ circuit. ends_once _))
+session_once files dir job before form = then_once _ _ (ends_once _) (λ bytes. then_once _ _ (circuit_once form.layout form.circuit (length before) job.bits bytes) (λ circuit. ends_once _))
 
 pub sessions_once : (files : Contents) (dir : List ℕ) (job : JobForm) (before : List Session) (forms : List SessionForm) → EndsOnce (SessionsAfter files dir job before forms)
 unfolding SessionsAfter
 sessions_once files dir job before [] = ends_once _
-sessions_once files dir job before (form ∷ forms) = then_once _ _ (session_once files dir job (length before) form) (λ s. sessions_once files dir job (before ++ s ∷ []) forms)
+sessions_once files dir job before (form ∷ forms) = then_once _ _ (session_once files dir job before form) (λ s. sessions_once files dir job (before ++ s ∷ []) forms)
 
 planned_once : (files : Contents) (dir : List ℕ) (job : JobForm) (group : Option Members) (s : Structure) → EndsOnce (PlannedOf files dir job group s)
 unfolding PlannedOf

@@ -15,6 +15,7 @@ use Rattle.party_set.specs.Names.{party_named}
 use Rattle.party_set.proofs.NameFaults.{number_at}
 use Rattle.job_session.specs.Sessions.{Session}
 use Rattle.job_plan.specs.Plans.{Plan, plan_of}
+use Rattle.job_plan.specs.Keeping.{keeping}
 use Rattle.job_plan.specs.Sound.{IsSound}
 use Rattle.job_file.specs.Forms.{JobForm, SessionForm, job_form}
 use Rattle.job_file.specs.Faults.{job_in}
@@ -56,16 +57,16 @@ record IsNode (files : Contents) (dir name : List ℕ) (node : NodeForm) : Type 
   structure_is : StructureOf job (accepted groups)
   sessions : List Session
   read : SessionsAfter files dir job [] job.sessions (accepted sessions)
-  plan_is : PlanOf job (plan_of job.bits groups sessions) (accepted (plan_of job.bits groups sessions))
+  plan_is : PlanOf job (plan_of job.bits groups (keeping sessions)) (accepted (plan_of job.bits groups (keeping sessions)))
   given : PartyForm
-  party : PartyAt files dir (plan_of job.bits groups sessions) me name (accepted given)
+  party : PartyAt files dir (plan_of job.bits groups (keeping sessions)) me name (accepted given)
   is : node
       ≡ record {
         names = job.names;
         hosts = job.hosts;
         port = job.port;
         me = me;
-        plan = plan_of job.bits groups sessions;
+        plan = plan_of job.bits groups (keeping sessions);
         given = given;
         digest = job_digest files dir job;
       }
@@ -103,7 +104,7 @@ node_read files dir name node (job, text, (me, m, (s, found, (sessions, read, (p
 
 module _ (files : Contents) (dir name : List ℕ) (node : NodeForm) (of : IsNode files dir name node) where
   abbrev its_plan : Plan
-  its_plan = plan_of of.job.bits of.groups of.sessions
+  its_plan = plan_of of.job.bits of.groups (keeping of.sessions)
 
   form_is_good : IsJobForm true of.job
   unfolding JobText Then
@@ -199,13 +200,13 @@ record IsMade (files : Contents) (dir : List ℕ) (job : WholeJob) : Type 0 wher
   sessions : List Session
   read : SessionsAfter files dir form [] form.sessions (accepted sessions)
   forms : List PartyForm
-  parties : PartiesAfter files dir (plan_of form.bits groups sessions) [] form.names (accepted forms)
-  is : job.world ≡ world_of (plan_of form.bits groups sessions) forms
+  parties : PartiesAfter files dir (plan_of form.bits groups (keeping sessions)) [] form.names (accepted forms)
+  is : job.world ≡ world_of (plan_of form.bits groups (keeping sessions)) forms
 
 made : (files : Contents) (dir : List ℕ) (asked : Option (List ℕ)) (job : WholeJob) → JobAt files dir asked (accepted job) → IsMade files dir job
 unfolding JobAt PlanAt PlannedOf PlanOf Then
 made files dir asked job (planned, (form, text, (group, g, (s, found, (sessions, read, (plan, (same, within), e))))), (forms, parties, last)) =
-    let of : planned ≡ record { names = form.names; group = group; plan = plan_of form.bits s sessions } =
+    let of : planned ≡ record { names = form.names; group = group; plan = plan_of form.bits s (keeping sessions) } =
     accepted_is planned _ e ∙ ap (λ (plan : Plan). record { names = form.names; group = group; plan = plan }) same in
     record {
       form = form;
@@ -232,10 +233,10 @@ module _ (files : Contents) (dir name : List ℕ) (node : NodeForm) (job : Whole
       (sessions_once files dir m.form [] m.form.sessions (accepted of.sessions) (accepted m.sessions) (subst (λ (j : JobForm). SessionsAfter files dir j [] j.sessions (accepted of.sessions)) form_is of.read) m.read)
 
   abbrev made_plan : Plan
-  made_plan = plan_of m.form.bits m.groups m.sessions
+  made_plan = plan_of m.form.bits m.groups (keeping m.sessions)
 
-  plans_are : plan_of of.job.bits of.groups of.sessions ≡ made_plan
-  plans_are = ap (λ (j : JobForm). plan_of j.bits of.groups of.sessions) form_is ∙ ap₂ (λ s x. plan_of m.form.bits s x) groups_are sessions_are
+  plans_are : plan_of of.job.bits of.groups (keeping of.sessions) ≡ made_plan
+  plans_are = ap (λ (j : JobForm). plan_of j.bits of.groups (keeping of.sessions)) form_is ∙ ap₂ (λ s x. plan_of m.form.bits s (keeping x)) groups_are sessions_are
 
   named : party_named m.form.names name ≡ Some of.me
   named = ap (λ (j : JobForm). party_named j.names name) (sym form_is) ∙ of.named
@@ -285,15 +286,15 @@ module _ (files files' : Contents) (dir dir' : List ℕ) where
   same_text job same (bytes, there, e) = (bytes, there ∙ sym (same_file file_names.job_file same), e)
 
   module _ (job : JobForm) where
-    same_session : (s : ℕ) (form : SessionForm) (x : Session) → Same form.circuit → SessionAt files' dir' job s form (accepted x) → SessionAt files dir job s form (accepted x)
+    same_session : (before : List Session) (form : SessionForm) (x : Session) → Same form.circuit → SessionAt files' dir' job before form (accepted x) → SessionAt files dir job before form (accepted x)
     unfolding SessionAt Then
-    same_session s form x same (bytes, there, rest) = (bytes, there ∙ sym (same_file form.circuit same), rest)
+    same_session before form x same (bytes, there, rest) = (bytes, there ∙ sym (same_file form.circuit same), rest)
 
     same_sessions : (before : List Session) (forms : List SessionForm) (sessions : List Session) → AllByRecursion Same (map (λ (session : SessionForm). session.circuit) forms)
         → SessionsAfter files' dir' job before forms (accepted sessions) → SessionsAfter files dir job before forms (accepted sessions)
     unfolding SessionsAfter Then
     same_sessions before [] sessions same e = e
-    same_sessions before (form ∷ forms) sessions same (x, at, rest) = (x, same_session (length before) form x same.0 at, same_sessions (before ++ x ∷ []) forms sessions same.1 rest)
+    same_sessions before (form ∷ forms) sessions same (x, at, rest) = (x, same_session before form x same.0 at, same_sessions (before ++ x ∷ []) forms sessions same.1 rest)
 
   same_bytes : (names : List (List ℕ)) → AllByRecursion Same names → all_bytes_at files dir names ≡ all_bytes_at files' dir' names
   same_bytes [] same = refl
@@ -320,8 +321,8 @@ module _ (files files' : Contents) (dir dir' name name' : List ℕ) (job : JobFo
       (same_sessions files files' dir dir' job [] job.sessions of'.sessions same.1 (subst (λ (j : JobForm). SessionsAfter files' dir' j [] j.sessions (accepted of'.sessions)) other_job of'.read))
       (subst (λ (j : JobForm). SessionsAfter files dir j [] j.sessions (accepted of.sessions)) its_job of.read))
 
-  same_plan : plan_of of'.job.bits of'.groups of'.sessions ≡ plan_of of.job.bits of.groups of.sessions
-  same_plan = ap (λ (j : JobForm). plan_of j.bits of'.groups of'.sessions) (other_job ∙ sym its_job) ∙ ap₂ (λ s x. plan_of of.job.bits s x) same_groups sessions_stay
+  same_plan : plan_of of'.job.bits of'.groups (keeping of'.sessions) ≡ plan_of of.job.bits of.groups (keeping of.sessions)
+  same_plan = ap (λ (j : JobForm). plan_of j.bits of'.groups (keeping of'.sessions)) (other_job ∙ sym its_job) ∙ ap₂ (λ s x. plan_of of.job.bits s (keeping x)) same_groups sessions_stay
 
   same_digest : job_digest files' dir' of'.job ≡ job_digest files dir of.job
   same_digest =

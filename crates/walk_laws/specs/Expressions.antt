@@ -6,7 +6,7 @@ use Rattle.job_file.specs.Forms.{JobForm, SessionForm}
 use Rattle.job_file.specs.declared.layout.SessionLayout.TheVariants.{Expressions}
 use Rattle.expr_circuit.specs.Programs.{Statement, program_value}
 use Rattle.expr_circuit.specs.Laws.{IsProgram}
-use Rattle.share_world.specs.Worlds.{World, input_of}
+use Rattle.share_world.specs.Worlds.{World, first_values, plain}
 use Rattle.output_text.specs.OutText.{value_words}
 use Rattle.job_walk.specs.Names.{path_of}
 use Rattle.job_walk.specs.Verdict.{accepted}
@@ -26,11 +26,12 @@ pub record WritesValues (w : World) (s : ℕ) (values : List ℕ) : Type 0 where
   pub words : (v : ℕ) → v < length values → value_words w s v ≡ slice_index values v ∷ []
 
 -- Of a job whose files are accepted, each session of expressions has a program for its file, and the words that a run
--- writes are the values of the program's output lines at the inputs of the files.
+-- writes are the values of the program's output lines at those of its input wires: the inputs of the files, or the values
+-- of the wires that it carries.
 abbrev pub RunsWriteValues : Type 0
 RunsWriteValues =
     (files : Contents) (dir : List ℕ) (asked : Option (List ℕ)) (job : JobForm) (whole : WholeJob)
     → JobText false files dir (accepted job) → JobAt files dir asked (accepted whole)
     → (s : ℕ) (form : SessionForm) → slice_get job.sessions s ≡ Some form → form.layout ≡ Expressions
     → (p : List Statement) × IsProgramOf files dir job.bits form p
-    × WritesValues whole.world s (program_value (2 ^ job.bits) p (input_of whole.world s))
+    × WritesValues whole.world s (program_value (2 ^ job.bits) p (first_values whole.world (plain whole.world) s))

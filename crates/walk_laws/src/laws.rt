@@ -77,7 +77,8 @@ pub fn accepted_jobs_are_right_and_private()
     ensures { JobsKeepTheHeadline }
 {}
 
-/// What a run writes for a session of expressions is the values of its output lines at the inputs of the files.
+/// What a run writes for a session of expressions is the values of its output lines at the inputs of the files, and at the
+/// values that it carries from earlier sessions.
 pub fn a_run_writes_the_value_of_expressions()
     ensures { RunsWriteValues }
 {}

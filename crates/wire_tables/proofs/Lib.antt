@@ -8,3 +8,5 @@ pub mod SlotWords
 pub mod MadeRows
 pub mod MessageSenders
 pub mod SentRows
+pub mod HandedOn
+pub mod ValueLists

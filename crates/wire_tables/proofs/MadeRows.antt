@@ -14,23 +14,24 @@ use Rattle.mpc_ring.specs.Differences.{difference}
 use Rattle.circuit_model.specs.declared.gate.Gate.{Gate}
 use Rattle.circuit_model.specs.Circuits.{is_product}
 use Rattle.circuit_model.specs.Netlists.{read_by}
-use Rattle.secret_sharing.specs.Schemes.{has_pair, local, product_summand, summands}
+use Rattle.secret_sharing.specs.Schemes.{has_pair, local, product_summand}
 use Rattle.secret_sharing.specs.Prepared.{masked, sum_of, prepared_summand}
 use Rattle.job_session.specs.declared.side.Side.{Side}
 use Rattle.job_session.specs.declared.side.Side.TheVariants.{First, Second}
-use Rattle.job_session.specs.Sessions.{Session, owners, gate, is_prepared, is_direct, operand, mask_wire, product_wire, row_names}
+use Rattle.job_session.specs.declared.source.Source.TheVariants.{Given, Carried}
+use Rattle.job_session.specs.Sessions.{Session, owners, source, gate, is_prepared, is_direct, operand, mask_wire, product_wire, row_names}
 use Rattle.job_session.specs.Sessions.Slot.{Input, At_gate, Mask, Mask_product, Masked}
 use Rattle.job_session.specs.SoundSessions.{IsWired}
 use Rattle.job_session.specs.SlotNumbers.{session_slot_number}
 use Rattle.job_session.specs.KeptWires.{reads_in, sets_in, slot_sets}
 use Rattle.job_session.proofs.RowNames.{wires_named, mask_within, product_named}
-use Rattle.job_plan.specs.Plans.{scheme, session, slot, slots, giver}
+use Rattle.job_plan.specs.Plans.{scheme, session, slot, slots}
 use Rattle.job_plan.specs.InputWords.{session_words}
 use Rattle.share_world.specs.Laws.{IsWhole}
 use Rattle.share_world.specs.Solutions.{SummandsSolve, reads_first, reads_second}
-use Rattle.share_world.specs.Worlds.{World, run_of, input_of, mask, deal_of}
+use Rattle.share_world.specs.Worlds.{World, carried_wire, end_summands, input_of, mask, deal_of}
 use Rattle.share_world.proofs.LocalWords.{joined_same}
-use Rattle.share_world.proofs.Settled.{in_order, is_first, is_second, first_read, second_read, product_reads}
+use Rattle.share_world.proofs.Settled.{plan_in_order, is_first, is_second, first_read, second_read, product_reads}
 use Rattle.share_world.proofs.SlotOrder.{masked_first}
 use Rattle.share_world.proofs.SmallWords.{positive}
 use Rattle.share_world.proofs.Solutions.{is_solution, local_reads}
@@ -58,13 +59,13 @@ module _ (w : World) (whole : IsWhole w) (s k : ℕ) (ls : s < length w.plan.ses
   m = length w.plan.groups
 
   abbrev ends : ℕ → ℕ → ℕ
-  ends = summands (run_of w s) (length x.gates)
+  ends = end_summands w s
 
   pub wired : IsWired x
   wired = (whole.sound.sessions s ls).wired
 
-  solved : SummandsSolve w s ends (λ p kind. deal_of w s p kind)
-  solved = is_solution w s (in_order x wired)
+  solved : SummandsSolve w s (end_summands w) (deal_of w)
+  solved = is_solution w (plan_in_order w.plan whole.sound) s ls
 
   -- the row of a wire
   of_wire : (v : ℕ) (row : List ℕ) (f : ℕ → ℕ) → v < x.wires → row ≡ listed m f → ((i : ℕ) → i < m → f i ≡ ends v i) → row ≡ last_row w s v
@@ -72,20 +73,28 @@ module _ (w : World) (whole : IsWhole w) (s k : ℕ) (ls : s < length w.plan.ses
 
   -- ---- inputs and masks
 
+  input_named : (v : ℕ) → slot w.plan s k ≡ Input v → (v < length (owners x)) × (v < x.wires)
+  input_named v z = let lv = inside_here w s k lk (Input v) z in (lv, omega (arith, lv, wired.input_wires))
+
+  -- what is carried of an earlier session
+  pub carried_made : (v r c at : ℕ) (row : List ℕ) → slot w.plan s k ≡ Input v → source x v ≡ Carried r c at → row ≡ summand_row w r (carried_wire w.plan r c at) → SetsRow w s k v row
+  carried_made v r c at row z from is = let l = input_named v z in record {
+    sets = ap (sets_in x) z;
+    named = omega (arith, l.1, wires_named x);
+    are = of_wire v row (end_summands w r (carried_wire w.plan r c at)) l.1 is (λ i li. sym (solved.carried v r c at i from));
+  }
+
   module _ (places : List ℕ) (h : ArePlaces w.plan s k places) where
-    pub input_made : (v p value : ℕ) (row : List ℕ) → slot w.plan s k ≡ Input v → p ≡ giver w.plan s v → value ≡ input_of w s v
+    pub given_made : (v p value : ℕ) (row : List ℕ) → slot w.plan s k ≡ Input v → source x v ≡ Given p → value ≡ input_of w s v
         → row ≡ listed m (dealt_at (scheme w.plan) w.tapes places p value) → SetsRow w s k v row
-    input_made v p value row z gives given is =
-        let lv : v < length (owners x) = inside_here w s k lk (Input v) z in
-        let lw : v < x.wires = omega (arith, lv, wired.input_wires) in
-        let party : giver w.plan s v < w.plan.parties = (whole.sound.sessions s ls).owned v lv in record {
-          sets = ap (sets_in x) z;
-          named = omega (arith, lw, wires_named x);
-          are = of_wire v row (dealt_at (scheme w.plan) w.tapes places p value) lw is (λ i li.
-              ap₂ (λ q u. dealt_at (scheme w.plan) w.tapes places q u i) gives given
-              ∙ dealt_here w s k lk (Input v) z places h (giver w.plan s v) (input_of w s v) i party
-              ∙ sym (solved.inputs v i lv ∙ solved.input_deals v i lv));
-        }
+    given_made v p value row z from given is = let l = input_named v z in record {
+      sets = ap (sets_in x) z;
+      named = omega (arith, l.1, wires_named x);
+      are = of_wire v row (dealt_at (scheme w.plan) w.tapes places p value) l.1 is (λ i li.
+          ap (λ u. dealt_at (scheme w.plan) w.tapes places p u i) given
+          ∙ dealt_here w s k lk (Input v) z places h p (input_of w s v) i ((whole.sound.sessions s ls).owned v p l.0 from)
+          ∙ sym (solved.given v p i l.0 from ∙ solved.input_deals v p i l.0 from));
+    }
 
     pub mask_made : (t : ℕ) (side : Side) (row : List ℕ) → slot w.plan s k ≡ Mask t side → row ≡ listed m (mask_at w.plan w.tapes places) → SetsRow w s k (mask_wire x t side) row
     mask_made t side row z is =

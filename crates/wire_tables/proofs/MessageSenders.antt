@@ -1,11 +1,11 @@
 -- Who sends a message.
 use Rattle.std.proofs.Common.{◌≡◌, ℕ, ◌<◌, true, length, refl, sym, ap, ◌∙◌, subst}
 use Rattle.std.proofs.lemmas.Bool.{eq-eqb}
-use Rattle.job_session.specs.Sessions.{Slot}
-use Rattle.job_session.specs.Sessions.Slot.{Input, At_gate, Output, Mask, Mask_product, Masked}
+use Rattle.job_session.specs.Sessions.{Slot, given_by}
+use Rattle.job_session.specs.Sessions.Slot.{Input, At_gate, Output, Mask, Mask_product, Masked, Kept}
 use Rattle.job_session.specs.SoundSessions.{Inside}
 use Rattle.job_session.proofs.SessionSlots.{slot_there, number_within}
-use Rattle.job_plan.specs.Plans.{Plan, session, slot, slots, giver}
+use Rattle.job_plan.specs.Plans.{Plan, session, slot, slots}
 use Rattle.job_plan.specs.declared.key.Key.{Key}
 use Rattle.job_plan.specs.Messages.{messages}
 use Rattle.job_plan.specs.Numbers.{message, no_key}
@@ -31,12 +31,13 @@ module _ (w : World) (whole : IsWhole w) where
   sends_in : (s : ℕ) (z : Slot) (i q p : ℕ) → s < length w.plan.sessions → Inside (session w.plan s) z → i < length w.plan.groups → Goes w.plan s z i q p
       → (q < w.plan.parties) × (may_send w.plan s q z ≡ true)
   sends_in s (Input v) i q p ls inside li goes =
-      (subst (λ r. r < w.plan.parties) goes.0 ((whole.sound.sessions s ls).owned v inside), eq-eqb (giver w.plan s v) q goes.0)
+      ((whole.sound.sessions s ls).owned v q inside goes.0, ap (given_by q) goes.0 ∙ eq-eqb q q refl)
   sends_in s (At_gate t) i q p ls inside li goes = (goes.0, goes.1)
   sends_in s (Mask_product t) i q p ls inside li goes = (goes.0, goes.1)
   sends_in s (Output o) i q p ls inside li goes = (subst (λ r. r < w.plan.parties) goes.1.0 (least_within w.plan (is_plan w whole) i li), refl)
   sends_in s (Mask t side) i q p ls inside li goes = (subst (λ r. r < w.plan.parties) goes.0 (least_within w.plan (is_plan w whole) i li), refl)
   sends_in s (Masked t side) i q p ls inside li goes = (subst (λ r. r < w.plan.parties) goes.0 (least_within w.plan (is_plan w whole) i li), refl)
+  sends_in s (Kept j) i q p ls inside li goes = (goes.0, refl)
 
   stands : (n : ℕ) → n < length (messages w.plan) → Stands w.plan (message w.plan n)
   stands n l = every_place (Stands w.plan) (messages w.plan) n no_key (every_message (Stands w.plan) w.plan (λ s z i q p ls inside li lp goes.
@@ -60,3 +61,4 @@ to_anyone w key (Output o) = refl
 to_anyone w key (Mask t side) = refl
 to_anyone w key (Mask_product t) = refl
 to_anyone w key (Masked t side) = refl
+to_anyone w key (Kept j) = refl

@@ -4,7 +4,7 @@ use Rattle.std.proofs.lemmas.Bool.{cond-true, both_ways}
 use Rattle.list_laws.proofs.Totals.{total_more}
 use Rattle.list_laws.proofs.JoinedLists.{total_within}
 use Rattle.job_session.specs.Sessions.{Slot}
-use Rattle.job_session.specs.Sessions.Slot.{Input, At_gate, Output, Mask, Mask_product, Masked}
+use Rattle.job_session.specs.Sessions.Slot.{Input, At_gate, Output, Mask, Mask_product, Masked, Kept}
 use Rattle.job_session.specs.declared.side.Side.{Side}
 use Rattle.job_plan.specs.Plans.{Plan, slot, slots, words, words_in, place, deals_in, least_held}
 use Rattle.job_plan.specs.Tallies.{tape_length}
@@ -34,6 +34,7 @@ module _ (plan : Plan) (s p : ℕ) where
   dealt_words (Output o) e = absurd (both_ways false refl e)
   dealt_words (Mask t side) e = absurd (both_ways false refl e)
   dealt_words (Masked t side) e = absurd (both_ways false refl e)
+  dealt_words (Kept j) e = absurd (both_ways false refl e)
 
   pub dealt_within : (k : ℕ) → s < length plan.sessions → k < slots plan s → deals_in plan s p (slot plan s k) ≡ true → place plan p s k + (length plan.groups - 1) ≤ tape_length plan p
   dealt_within k ls lk e = (let within = place_within k ls lk in let many = dealt_words (slot plan s k) e in omega arith)

@@ -1,10 +1,10 @@
 -- The rows of a table, slot by slot.
-use Rattle.std.proofs.Common.{◌≡◌, ◌≢◌, ℕ, zero, suc, ◌+◌, ◌*◌, ◌<◌, ◌≤◌, Bool, true, false, ◌||◌, nat_eq, nat_lt, if◌then◌else◌, List, [], ◌∷◌, length, set, replicate, sym, ap, ◌∙◌, arith, inl, inr, get_or-set_other, get_or-set_same, length-set}
+use Rattle.std.proofs.Common.{◌≡◌, ◌≢◌, ℕ, zero, suc, ◌+◌, ◌*◌, ◌<◌, ◌≤◌, Bool, true, false, ◌||◌, nat_eq, nat_lt, if◌then◌else◌, List, [], ◌∷◌, length, set, replicate, sym, ap, ◌∙◌, arith, inl, inr, length-set}
 use Rattle.std.specs.Prelude.{slice_index_or}
 use Rattle.std.specs.Global.{Vec}
 use Rattle.std.specs.List.{list_any}
-use Rattle.std.proofs.lemmas.Bool.{cases_Bool, cases_eq, cond-true, cond-false, both_ways, lt-ltb, le-ltb, ltb-true, ltb-false, ne_eqb}
-use Rattle.std.proofs.lemmas.List.{map-set, length-map, ext_get_or}
+use Rattle.std.proofs.lemmas.Bool.{cases_Bool, cases_eq, cond-true, cond-false, both_ways, lt-ltb, le-ltb, ltb-true, ltb-false, eq-eqb, ne_eqb}
+use Rattle.std.proofs.lemmas.List.{length-map, ext_get_or}
 use Rattle.list_laws.specs.Lists.{some_below}
 use Rattle.list_laws.proofs.Tests.{or_false}
 use Rattle.job_session.specs.declared.side.Side.TheVariants.{First, Second}
@@ -20,11 +20,12 @@ use Rattle.job_plan.specs.InputWords.{session_words}
 use Rattle.share_world.specs.Laws.{IsWhole}
 use Rattle.share_world.specs.Solutions.{SetBefore}
 use Rattle.share_world.specs.Worlds.{World}
-use Rattle.share_world.proofs.Settled.{in_order, is_one, setter}
+use Rattle.share_world.proofs.Settled.{plan_in_order, is_one, setter}
 use Rattle.share_world.proofs.Solutions.{is_solution}
 use Rattle.wire_tables.specs.WireTables.{summand_rows}
 use Rattle.wire_tables.specs.Steps.{AreRows, SetsRow, last_row, row_before}
 use Rattle.wire_tables.proofs.DealtRows.{zeros_listed}
+use Rattle.wire_tables.proofs.ListedRows.{row_set}
 use Rattle.wire_tables.proofs.TableRows.{split_name, rows_named, wire_last, none_last}
 
 -- no other name is set
@@ -71,17 +72,14 @@ module _ (w : World) (s : ℕ) where
 
   -- one that sets a row makes it whole
   module _ (k name : ℕ) (rows : List (Vec ℕ)) (row : Vec ℕ) (h : AreRows w s k rows) (made : SetsRow w s k name row.items) where
-    words_set : session_words (set rows name row) ≡ set (session_words rows) name row.items
-    words_set = map-set (λ (r : Vec ℕ). r.items) rows name row
+    within : name < length rows
+    within = omega (arith, h.names, made.named)
 
     here : (v : ℕ) → v ≡ name → slice_index_or (session_words (set rows name row)) v [] ≡ row.items
-    here v e =
-        let within : name < length (session_words rows) = omega (arith, length-map rows (λ (r : Vec ℕ). r.items), h.names, made.named) in
-        ap (λ rs. slice_index_or rs v []) words_set ∙ ap (λ n. slice_index_or (set (session_words rows) name row.items) n []) e
-        ∙ get_or-set_same (session_words rows) name row.items [] within
+    here v e = row_set rows name row within v ∙ cond-true (nat_eq v name) row.items _ (eq-eqb v name e)
 
     there : (v : ℕ) → v ≢ name → slice_index_or (session_words (set rows name row)) v [] ≡ slice_index_or (session_words rows) v []
-    there v ne = ap (λ rs. slice_index_or rs v []) words_set ∙ get_or-set_other (session_words rows) name v row.items [] ne
+    there v ne = row_set rows name row within v ∙ cond-false (nat_eq v name) row.items _ (ne_eqb v name ne)
 
     pub rows_set : AreRows w s (k + 1) (set rows name row)
     rows_set = record {
@@ -139,7 +137,7 @@ module _ (w : World) (s : ℕ) where
           let by = setter x wired (length x.gates) name (omega arith) set in
           both_ways (is_set (slots w.plan s) name) none (some_at (slots w.plan s) (λ j. slot_sets x j name) by.0 (omega (arith, by.1, slot_count x)) by.2) in
           cond-true (nat_lt name x.wires) _ [] (lt-ltb name x.wires lw)
-          ∙ zeros_listed (length w.plan.groups) _ (λ i. (is_solution w s (in_order x wired)).unset name i unset_wire)
+          ∙ zeros_listed (length w.plan.groups) _ (λ i. (is_solution w (plan_in_order w.plan whole.sound) s ls).unset name i unset_wire)
           ∙ sym (wire_last w s name lw)
       | inr at ↦
           let not_prepared : is_prepared x at.at ≡ false = not_so (is_prepared x at.at) (λ e.

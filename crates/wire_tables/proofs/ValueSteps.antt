@@ -1,16 +1,19 @@
 -- The values of the wires, gate by gate.
-use Rattle.std.proofs.Common.{◌≡◌, ◌≢◌, ℕ, zero, suc, ◌+◌, ◌-◌, ◌<◌, ◌≤◌, List, ◌++◌, nat_lt, if◌then◌else◌, length, set, replicate, nat_eq, refl, sym, ap, ap₂, ◌∙◌, subst, arith, inl, inr, get_or-set_other, get_or-set_same}
+use Rattle.std.proofs.Common.{◌≡◌, ◌≢◌, ℕ, zero, suc, ◌+◌, ◌-◌, ◌<◌, ◌≤◌, List, ◌++◌, if◌then◌else◌, length, set, replicate, nat_eq, refl, sym, ap, ap₂, ◌∙◌, arith, inl, inr, get_or-set_other, get_or-set_same}
 use Rattle.std.specs.Prelude.{slice_index}
 use Rattle.std.proofs.Math.ListN.{get_or-append, get_or-eq_default}
 use Rattle.std.proofs.Math.Seq.{get_or-append_right}
 use Rattle.std.proofs.lemmas.List.{get_or-replicate, length-replicate}
-use Rattle.std.proofs.lemmas.Bool.{cases_eq, cases_lt, cond-true, cond-false, cond_both, eq-eqb, ne_eqb, lt-ltb, le-ltb}
-use Rattle.list_laws.specs.Lists.{total, listed}
+use Rattle.std.proofs.lemmas.Bool.{cases_eq, cases_lt, cond-true, cond-false, cond_both, eq-eqb, ne_eqb}
+use Rattle.list_laws.specs.Lists.{total}
 use Rattle.list_laws.proofs.Totals.{total_more}
-use Rattle.list_laws.proofs.JoinedLists.{length-listed, listed_at, total_within}
+use Rattle.list_laws.proofs.JoinedLists.{total_within}
 use Rattle.circuit_model.specs.declared.gate.Gate.{Gate}
 use Rattle.circuit_model.specs.Circuits.{operate, set_at, values}
 use Rattle.circuit_model.proofs.SetAt.{set_here, set_there}
+use Rattle.job_session.specs.declared.source.Source.{Source}
+use Rattle.job_session.specs.declared.source.Source.TheVariants.{Given, Carried}
+use Rattle.job_session.specs.Sessions.{given_by}
 
 zeros : (m k : ℕ) → slice_index (replicate m 0) k ≡ 0
 zeros m k = elim (cases_lt k m) [
@@ -18,11 +21,11 @@ zeros m k = elim (cases_lt k m) [
   | inr past ↦ get_or-eq_default (replicate m 0) 0 (omega (arith, past, length-replicate {A = ℕ} m 0))
 ]
 
--- the words that are given, and 0 on all further wires
-pub given_first : (n m : ℕ) (f : ℕ → ℕ) (v : ℕ) → slice_index (listed n f ++ replicate m 0) v ≡ (if nat_lt v n then f v else 0)
-given_first n m f v = elim (cases_lt v n) [
-  | inl less ↦ get_or-append (listed n f) (replicate m 0) 0 v (omega (arith, length-listed n f)) ∙ listed_at n f v 0 less ∙ sym (cond-true (nat_lt v n) (f v) 0 (lt-ltb v n less))
-  | inr past ↦ get_or-append_right (listed n f) (replicate m 0) v 0 (omega (arith, length-listed n f)) ∙ zeros m (v - length (listed n f)) ∙ sym (cond-false (nat_lt v n) (f v) 0 (le-ltb v n past))
+-- 0 on all further wires
+pub padded : (xs : List ℕ) (m v : ℕ) → slice_index (xs ++ replicate m 0) v ≡ slice_index xs v
+padded xs m v = elim (cases_lt v (length xs)) [
+  | inl less ↦ get_or-append xs (replicate m 0) 0 v less
+  | inr past ↦ get_or-append_right xs (replicate m 0) v 0 past ∙ zeros m (v - length xs) ∙ sym (get_or-eq_default xs 0 past)
 ]
 
 -- one gate more
@@ -39,41 +42,44 @@ value_next q t gates start xs ys h new v =
 
 -- ---- how many words each party has given
 
--- 1 where party p gives wire u
-abbrev pub gives_one : (ℕ → ℕ) → ℕ → ℕ → ℕ
-gives_one owner p u = if nat_eq (owner u) p then 1 else 0
+-- 1 where party p gives the wire
+abbrev pub gives_one : ℕ → Source → ℕ
+gives_one p from = if given_by p from then 1 else 0
 
-gives_own : (owner : ℕ → ℕ) (p v : ℕ) → p ≡ owner v → total (v + 1) (gives_one owner p) ≡ total v (gives_one owner p) + 1
-gives_own owner p v e = total_more v (gives_one owner p) ∙ ap (λ z. total v (gives_one owner p) + z) (cond-true (nat_eq (owner v) p) 1 0 (eq-eqb (owner v) p (sym e)))
+-- a wire that it gives counts, and no other one
+pub one_given : (p q : ℕ) (from : Source) → from ≡ Given q → p ≡ q → gives_one p from ≡ 1
+one_given p q from is e = ap (gives_one p) is ∙ cond-true (nat_eq q p) 1 0 (eq-eqb q p (sym e))
 
-gives_other : (owner : ℕ → ℕ) (p v : ℕ) → p ≢ owner v → total (v + 1) (gives_one owner p) ≡ total v (gives_one owner p)
-gives_other owner p v ne =
-    let none : gives_one owner p v ≡ 0 = cond-false (nat_eq (owner v) p) 1 0 (ne_eqb (owner v) p (λ z. ne (sym z))) in
-    let same : total v (gives_one owner p) + 0 ≡ total v (gives_one owner p) = omega arith in
-    total_more v (gives_one owner p) ∙ ap (λ z. total v (gives_one owner p) + z) none ∙ same
+pub none_given : (p q : ℕ) (from : Source) → from ≡ Given q → p ≢ q → gives_one p from ≡ 0
+none_given p q from is ne = ap (gives_one p) is ∙ cond-false (nat_eq q p) 1 0 (ne_eqb q p (λ e. ne (sym e)))
 
-pub given_next : (owner : ℕ → ℕ) (given : List ℕ) (v n : ℕ) → length given ≡ n → owner v < n → ((p : ℕ) → p < n → slice_index given p ≡ total v (gives_one owner p))
-    → (p : ℕ) → p < n → slice_index (set given (owner v) (slice_index given (owner v) + 1)) p ≡ total (v + 1) (gives_one owner p)
-given_next owner given v n long party h p lp = elim (cases_eq p (owner v)) [
-  | inl e ↦
-      let within : owner v < length given = omega arith in
-      let before : slice_index given (owner v) ≡ total v (gives_one owner p) = ap (slice_index given) (sym e) ∙ h p lp in
-      ap (slice_index (set given (owner v) (slice_index given (owner v) + 1))) e
-      ∙ get_or-set_same given (owner v) (slice_index given (owner v) + 1) 0 within
-      ∙ ap (λ z. z + 1) before ∙ sym (gives_own owner p v e)
-  | inr ne ↦ get_or-set_other given (owner v) p (slice_index given (owner v) + 1) 0 ne ∙ h p lp ∙ sym (gives_other owner p v ne)
-]
+-- one more that party q gives
+pub given_next : (f : ℕ → Source) (counts : List ℕ) (v q n : ℕ) → length counts ≡ n → q < n → f v ≡ Given q
+    → ((p : ℕ) → p < n → slice_index counts p ≡ total v (λ u. gives_one p (f u)))
+    → (p : ℕ) → p < n → slice_index (set counts q (slice_index counts q + 1)) p ≡ total (v + 1) (λ u. gives_one p (f u))
+given_next f counts v q n long lq is h p lp =
+    let more = total_more v (λ u. gives_one p (f u)) in
+    elim (cases_eq p q) [
+      | inl e ↦
+          ap (slice_index (set counts q (slice_index counts q + 1))) e ∙ get_or-set_same counts q (slice_index counts q + 1) 0 (omega (arith, lq, long))
+          ∙ ap (λ k. slice_index counts k + 1) (sym e) ∙ omega (arith, h p lp, more, one_given p q (f v) is e)
+      | inr ne ↦ get_or-set_other counts q p (slice_index counts q + 1) 0 ne ∙ omega (arith, h p lp, more, none_given p q (f v) is ne)
+    ]
+
+-- a carried wire gives no word
+pub carried_next : (f : ℕ → Source) (v p : ℕ) → ((q : ℕ) → f v ≡ Given q → ⊥) → total (v + 1) (λ u. gives_one p (f u)) ≡ total v (λ u. gives_one p (f u))
+carried_next f v p none = (let more = total_more v (λ u. gives_one p (f u)) in omega (arith, more, of (f v) refl))
+  where
+    of : (from : Source) → f v ≡ from → gives_one p (f v) ≡ 0
+    of (Given q) is = absurd (none q is)
+    of (Carried r c i) is = ap (gives_one p) is
 
 -- a party's next word is there
-pub given_within : (owner : ℕ → ℕ) (v n : ℕ) → v < n → total v (gives_one owner (owner v)) < total n (gives_one owner (owner v))
-given_within owner v n l =
-    let one : gives_one owner (owner v) v ≡ 1 = cond-true (nat_eq (owner v) (owner v)) 1 0 (eq-eqb (owner v) (owner v) refl) in
-    let within : total v (gives_one owner (owner v)) + 1 ≤ total n (gives_one owner (owner v)) = subst (λ z. total v (gives_one owner (owner v)) + z ≤ total n (gives_one owner (owner v))) one (total_within n v (gives_one owner (owner v)) l) in
-    omega arith
+pub given_within : (f : ℕ → Source) (v q n : ℕ) → v < n → f v ≡ Given q → total v (λ u. gives_one q (f u)) < total n (λ u. gives_one q (f u))
+given_within f v q n l is = omega (arith, one_given q q (f v) is refl, total_within n v (λ u. gives_one q (f u)) l)
 
-pub given_few : (owner : ℕ → ℕ) (p v : ℕ) → total v (gives_one owner p) ≤ v
-given_few owner p zero = omega arith
-given_few owner p (suc v) =
-    let before = given_few owner p v in
-    let here : gives_one owner p v ≤ 1 = cond_both (nat_eq (owner v) p) 1 0 (λ z. z ≤ 1) (λ e. omega arith) (λ e. omega arith) in
-    omega arith
+pub given_few : (f : ℕ → Source) (p v : ℕ) → total v (λ u. gives_one p (f u)) ≤ v
+given_few f p zero = omega arith
+given_few f p (suc v) =
+    let here : gives_one p (f v) ≤ 1 = cond_both (given_by p (f v)) 1 0 (λ z. z ≤ 1) (λ e. omega arith) (λ e. omega arith) in
+    omega (arith, here, given_few f p v)

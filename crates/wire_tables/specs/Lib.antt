@@ -1,4 +1,5 @@
 pub mod WireTables
+pub mod HandedOn
 pub mod Places
 pub mod Steps
 pub mod SlotRows

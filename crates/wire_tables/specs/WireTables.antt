@@ -1,21 +1,21 @@
 -- Tables of a session's wires: what is given on them, their values, and their summands.
-use Rattle.std.specs.Prelude.{ℕ, if◌then◌else◌, List, [], ◌∷◌, ◌++◌, length}
+use Rattle.std.specs.Prelude.{◌≡◌, ℕ, ◌<◌, if◌then◌else◌, List, [], ◌∷◌, ◌++◌, length, slice_index, slice_index_or}
 use Rattle.std.specs.Global.{Vec}
 use Rattle.list_laws.specs.Lists.{joined, listed}
-use Rattle.secret_sharing.specs.Schemes.{summands}
-use Rattle.job_session.specs.Sessions.{owners, is_prepared}
+use Rattle.job_session.specs.Sessions.{owners, source, is_prepared}
+use Rattle.job_session.specs.declared.source.Source.TheVariants.{Carried}
 use Rattle.job_session.specs.declared.side.Side.{Side}
 use Rattle.job_session.specs.declared.side.Side.TheVariants.{First, Second}
 use Rattle.job_plan.specs.Plans.{Plan, session}
 use Rattle.job_plan.specs.InputWords.{session_words}
-use Rattle.share_world.specs.Worlds.{World, input_of, mask, mask_product, plain, run_of}
+use Rattle.share_world.specs.Worlds.{World, carried_wire, end_summands, input_of, mask, mask_product, plain}
 
 -- the world of a plan, the inputs of all parties, and a tape for each party
 abbrev pub world_given : Plan → List (List (List ℕ)) → List (Vec ℕ) → World
 world_given plan inputs tapes =
     record { plan = plan; inputs = inputs; tapes = session_words tapes }
 
--- the word on each input wire of session s
+-- the word that is given on each input wire of session s; 0 on one that is carried
 abbrev pub input_list : World → ℕ → List ℕ
 input_list w s = listed (length (owners (session w.plan s))) (input_of w s)
 
@@ -23,10 +23,13 @@ input_list w s = listed (length (owners (session w.plan s))) (input_of w s)
 abbrev pub value_list : World → ℕ → List ℕ
 value_list w s = listed (session w.plan s).wires (plain w s)
 
+-- so of each session
+abbrev pub value_lists : World → List (List ℕ)
+value_lists w = listed (length w.plan.sessions) (value_list w)
+
 -- the summands of wire v, after all gates
 abbrev pub summand_row : World → ℕ → ℕ → List ℕ
-summand_row w s v =
-    listed (length w.plan.groups) (summands (run_of w s) (length (session w.plan s).gates) v)
+summand_row w s v = listed (length w.plan.groups) (end_summands w s v)
 
 -- the summands of the mask of the wire that gate t reads on this side
 abbrev pub mask_row : World → ℕ → ℕ → Side → List ℕ
@@ -48,3 +51,18 @@ abbrev pub summand_rows : World → ℕ → List (List ℕ)
 summand_rows w s =
     listed (session w.plan s).wires (summand_row w s)
     ++ (if (session w.plan s).prepared then joined (length (session w.plan s).gates) (prepared_rows w s) else [])
+
+-- ---- tables of several sessions
+
+-- what stands there for wire v of session s: a value, or a row of summands
+abbrev pub value_at : List (List ℕ) → ℕ → ℕ → ℕ
+value_at lists s v = slice_index (slice_index_or lists s []) v
+
+abbrev pub row_at : List (List (List ℕ)) → ℕ → ℕ → List ℕ
+row_at rows s v = slice_index_or (slice_index_or rows s []) v []
+
+-- by session and input wire, the summands of each wire that is carried from one of the first n sessions
+pub record AreCarried (w : World) (n : ℕ) (rows : List (List (List ℕ))) : Type 0 where
+  pub sessions : length rows ≡ length w.plan.sessions
+  pub are : (s v r c i : ℕ) → source (session w.plan s) v ≡ Carried r c i → r < n
+      → row_at rows s v ≡ summand_row w r (carried_wire w.plan r c i)

@@ -15,12 +15,13 @@ pub fn deals_in(plan: &Plan, s: u32, p: u32, kind: SlotKind) -> bool
 {
     let part = plan.part(s);
     match kind {
-        SlotKind::Input(v) => part.wire_owner(v) == p,
+        SlotKind::Input(v) => part.source(v).is_given_by(p),
         SlotKind::Gate(t) => {
             !part.is_prepared() && part.gate(t).operation.is_product() && plan.multiplies(p)
         }
         SlotKind::MaskProduct(_) => plan.multiplies(p),
-        SlotKind::Output(_) | SlotKind::Mask(_, _) | SlotKind::Masked(_, _) => false,
+        SlotKind::Output(_) | SlotKind::Mask(_, _) | SlotKind::Masked(_, _) | SlotKind::Kept(_) =>
+            false,
     }
 }
 

@@ -1,7 +1,9 @@
 //! Tables of the wires of a session: what is given on them, their values in the clear, and their
-//! summands as the sharing equations have them. And the word of one message, by definition.
+//! summands as the sharing equations have them, which later sessions may carry. And the word of one
+//! message, by definition.
 #![tactic(auto)]
 
+mod carried;
 mod deals;
 mod places;
 mod rows;
@@ -10,9 +12,10 @@ mod summands;
 mod values;
 mod word;
 
+pub use carried::CarriedRows;
 pub use deals::{deals_in, words_in};
 pub use places::{first_places, pass_slot};
 pub use sent_rows::slot_rows;
 pub use summands::SummandTable;
-pub use values::{input_list, value_list};
+pub use values::{input_list, value_lists};
 pub use word::word_of;

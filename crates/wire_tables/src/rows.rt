@@ -23,6 +23,14 @@ pub(crate) fn zeros(alloc: Global, shares: usize) -> Result<Vec<u64>, AllocError
     vec![in alloc; 0; shares]
 }
 
+/// Sets `row` to these words.
+pub(crate) fn copy_into(words: &[u64], row: &mut Vec<u64>) -> Result<(), AllocError>
+    ensures { OnOk result (row.new.items ≡ words.now) }
+{
+    row.clear();
+    row.extend_from_slice(words)
+}
+
 // So many words of a tape, from a place on.
 fn words_at(tape: &[u64], at: usize, count: usize) -> &[u64]
     requires { at + count ≤ length tape.now }

@@ -1,19 +1,20 @@
 //! The summands of all wires of a session, and of the masks of its prepared products.
 ghost use Rattle.std.specs.Prelude.{◌≡◌, ◌<◌, IfOk, OnOk, length};
 ghost use Rattle.job_session.specs.Sessions.{gate};
-ghost use Rattle.job_session.specs.Sessions.Slot.{At_gate};
+ghost use Rattle.job_session.specs.Sessions.Slot.{At_gate, Input};
 ghost use Rattle.job_plan.specs.Plans.{session, slot, slots};
 ghost use Rattle.share_world.specs.Laws.{IsWhole};
 ghost use Rattle.share_world.specs.Worlds.{World};
 ghost use Rattle.wire_tables.specs.Places.{ArePlaces};
-ghost use Rattle.wire_tables.specs.WireTables.{input_list, world_given};
+ghost use Rattle.wire_tables.specs.WireTables.{AreCarried, input_list, world_given};
 ghost use Rattle.wire_tables.specs.Steps.{AreRows, Sets, SetsRow};
 
+use crate::carried::CarriedRows;
 use crate::places::{first_places, pass_slot};
-use crate::rows::{deal_into, joined_into, linear_into, mask_into, product_into, zeros};
+use crate::rows::{copy_into, deal_into, joined_into, linear_into, mask_into, product_into, zeros};
 use crate::values::input_list;
 use job_plan::{Inputs, Plan, SlotKind};
-use job_session::Side;
+use job_session::{Side, Source};
 use std::alloc::{AllocError, Global};
 use std::marker::Model;
 use std::mem::swap;
@@ -35,23 +36,28 @@ impl Model for SummandTable {
 }
 
 impl SummandTable {
-    ghost use Rattle.std.specs.Prelude.{◌≡◌, ◌<◌, [], IfOk, length, slice_index_or};
+    ghost use Rattle.std.specs.Prelude.{◌≡◌, ◌+◌, ◌<◌, [], IfOk, OnOk, length, slice_index_or};
     ghost use Rattle.share_world.specs.Laws.{IsWhole};
-    ghost use Rattle.wire_tables.specs.WireTables.{world_given, summand_rows};
+    ghost use Rattle.wire_tables.specs.WireTables.{AreCarried, world_given, summand_rows};
 
     /// The summands of the wires and masks of session `s`, as the sharing equations have them. `tapes` has for each
-    /// party the words that it draws, all sessions in order.
+    /// party the words that it draws, all sessions in order, and `carried` what is carried of the sessions before. What
+    /// is carried of this one is added there.
     pub fn make(
         alloc: Global,
         plan: &Plan,
         inputs: &Inputs,
         tapes: &[Vec<u64>],
+        carried: &mut CarriedRows,
         s: u32,
     ) -> Result<SummandTable, AllocError>
         requires whole { IsWhole (world_given plan.now inputs.now tapes.now) }
         requires session { s < length plan.now.sessions }
-        ensures { IfOk result (λ table.
+        requires carried { AreCarried (world_given plan.now inputs.now tapes.now) s carried.old }
+        ensures table { IfOk result (λ table.
             table ≡ summand_rows (world_given plan.now inputs.now tapes.now) s) }
+        ensures carried { OnOk result
+            (AreCarried (world_given plan.now inputs.now tapes.now) (s + 1) carried.new) }
     {
         let given = input_list(alloc, plan, inputs, s)?;
         let mut places = first_places(alloc, plan, s)?;
@@ -60,13 +66,14 @@ impl SummandTable {
         let mut row = Vec::new(alloc);
         for k in 0..plan.slots(s) {
             let name = slot_row(
-                plan, inputs, &given, tapes, &places, &rows, s, k, &mut dealt, &mut row,
+                plan, inputs, &given, tapes, carried, &places, &rows, s, k, &mut dealt, &mut row,
             )?;
             if let Some(name) = name {
                 swap(&mut rows[name as usize], &mut row);
             }
             pass_slot(plan, s, k, &mut places);
         }
+        carried.hand_on(alloc, plan, s, &rows)?;
         Ok(SummandTable { rows })
     }
 
@@ -102,6 +109,7 @@ fn slot_row(
     inputs: &Inputs,
     given: &[u64],
     tapes: &[Vec<u64>],
+    carried: &CarriedRows,
     places: &[u32],
     rows: &[Vec<u64>],
     s: u32,
@@ -113,6 +121,7 @@ fn slot_row(
     requires session { s < length plan.now.sessions }
     requires slot { k < slots plan.now s }
     requires given { given.now ≡ input_list (world_given plan.now inputs.now tapes.now) s }
+    requires carried { AreCarried (world_given plan.now inputs.now tapes.now) s carried.now }
     requires places { ArePlaces plan.now s k places.now }
     requires rows { AreRows (world_given plan.now inputs.now tapes.now) s k rows.now }
     ensures { IfOk result (λ name.
@@ -121,14 +130,7 @@ fn slot_row(
     let part = plan.part(s);
     match part.slot_kind(k) {
         SlotKind::Input(v) => {
-            deal_into(
-                plan,
-                tapes,
-                places,
-                part.wire_owner(v),
-                given[v as usize],
-                row,
-            )?;
+            input_row(plan, inputs, given, tapes, carried, places, s, k, v, row)?;
             Ok(Some(v))
         }
         SlotKind::Mask(t, side) => {
@@ -145,7 +147,37 @@ fn slot_row(
             gate_row(plan, inputs, tapes, places, rows, s, k, t, dealt, row)?;
             Ok(Some(part.gate(t).output))
         }
-        SlotKind::Masked(_, _) | SlotKind::Output(_) => Ok(None),
+        SlotKind::Masked(_, _) | SlotKind::Output(_) | SlotKind::Kept(_) => Ok(None),
+    }
+}
+
+// Sets `row` to the summands of input wire `v`, whose slot is `k`: as its giver deals them, or those of the wire that it
+// carries.
+fn input_row(
+    plan: &Plan,
+    inputs: &Inputs,
+    given: &[u64],
+    tapes: &[Vec<u64>],
+    carried: &CarriedRows,
+    places: &[u32],
+    s: u32,
+    k: u32,
+    v: u32,
+    row: &mut Vec<u64>,
+) -> Result<(), AllocError>
+    requires whole { IsWhole (world_given plan.now inputs.now tapes.now) }
+    requires session { s < length plan.now.sessions }
+    requires slot { k < slots plan.now s }
+    requires input { slot plan.now s k ≡ Input v }
+    requires given { given.now ≡ input_list (world_given plan.now inputs.now tapes.now) s }
+    requires carried { AreCarried (world_given plan.now inputs.now tapes.now) s carried.now }
+    requires places { ArePlaces plan.now s k places.now }
+    ensures { OnOk result (SetsRow (world_given plan.now inputs.now tapes.now) s k v row.new.items) }
+{
+    let _ = inputs;
+    match plan.part(s).source(v) {
+        Source::Given(party) => deal_into(plan, tapes, places, party, given[v as usize], row),
+        Source::Carried { .. } => copy_into(carried.row(s, v), row),
     }
 }
 

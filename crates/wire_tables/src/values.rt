@@ -1,15 +1,21 @@
 //! What is given on the input wires of a session, and the values of all its wires in the clear.
-ghost use Rattle.std.specs.Prelude.{◌≡◌, ℕ, ◌-◌, ◌^◌, ◌<◌, ◌≤◌, ◌++◌, List, All, IfOk, OnOk, length, replicate, slice_index};
-ghost use Rattle.circuit_model.specs.Circuits.{operate, set_at};
-ghost use Rattle.job_plan.specs.InputWords.{AreInputs};
-ghost use Rattle.wire_tables.specs.WireTables.{input_list, value_list};
+ghost use Rattle.std.specs.Prelude.{◌≡◌, ℕ, ◌+◌, ◌-◌, ◌^◌, ◌<◌, ◌≤◌, ◌++◌, List, [], All, IfOk, OnOk, length, replicate, set, slice_index, slice_index_or};
+ghost use Rattle.list_laws.specs.Lists.{listed};
+ghost use Rattle.circuit_model.specs.Circuits.{operate, set_at, values};
+ghost use Rattle.job_session.specs.Sessions.{gate, owners};
+ghost use Rattle.job_plan.specs.Plans.{session};
+ghost use Rattle.job_plan.specs.InputWords.{AreInputs, given, session_words};
+ghost use Rattle.wire_tables.specs.HandedOn.{IsHandedOn};
+ghost use Rattle.wire_tables.specs.WireTables.{input_list, value_at, value_lists};
 
+use crate::carried::output_wire;
 use circuit_model::Gate;
 use job_plan::{Inputs, Plan};
+use job_session::Source;
 use mpc_ring::Ring;
 use std::alloc::{AllocError, Global};
 
-/// The word on each input wire of session `s`, in the order of the wires.
+/// The word that is given on each input wire of session `s`, in the order of the wires; 0 on one that is carried.
 pub fn input_list(
     alloc: Global,
     plan: &Plan,
@@ -25,34 +31,85 @@ pub fn input_list(
     let mut given = vec![in alloc; 0; plan.parties() as usize]?;
     let mut list = Vec::new(alloc);
     for v in 0..part.input_wires() as u32 {
-        let owner = part.wire_owner(v);
-        let at = given[owner as usize];
-        list.push(inputs.of(owner, s)[at])?;
-        given[owner as usize] = at + 1;
+        let word = match part.source(v) {
+            Source::Given(party) => next_input(inputs, s, party, &mut given),
+            Source::Carried { .. } => 0,
+        };
+        list.push(word)?;
     }
     Ok(list)
 }
 
-/// The value of each wire of session `s`; 0 for a wire that is never set.
-pub fn value_list(
-    alloc: Global,
-    plan: &Plan,
-    inputs: &Inputs,
-    s: u32,
-) -> Result<Vec<u64>, AllocError>
+// The next input of a party in session `s`, and one more that it has given.
+fn next_input(inputs: &Inputs, s: u32, party: u32, counts: &mut [usize]) -> u64
+    requires party { party < length inputs.now }
+    requires session { s < length (slice_index_or inputs.now party []) }
+    requires count { party < length counts.old }
+    requires enough { slice_index counts.old party < length (given inputs.now party s) }
+    ensures word { result ≡ slice_index (given inputs.now party s) (slice_index counts.old party) }
+    ensures count { counts.new ≡ set counts.old party (slice_index counts.old party + 1) }
+{
+    let at = counts[party as usize];
+    let word = inputs.of(party, s)[at];
+    counts[party as usize] = at + 1;
+    word
+}
+
+/// The value of each wire of each session, session by session; 0 for a wire that is never set.
+pub fn value_lists(alloc: Global, plan: &Plan, inputs: &Inputs) -> Result<Vec<Vec<u64>>, AllocError>
     requires inputs { AreInputs plan.now inputs.now }
+    ensures { (tapes : List (List ℕ)) → IfOk result (λ lists. session_words lists.items
+        ≡ value_lists (record { plan = plan.now; inputs = inputs.now; tapes = tapes })) }
+{
+    let _ = plan.parties();
+    let mut lists = Vec::with_capacity(alloc, plan.sessions() as usize)?;
+    for s in 0..plan.sessions() {
+        lists.push(input_list(alloc, plan, inputs, s)?)?;
+    }
+    for s in 0..plan.sessions() {
+        run_gates(plan, s, &mut lists[s as usize])?;
+        hand_on(plan, s, &mut lists);
+    }
+    Ok(lists)
+}
+
+// Makes the values of all wires of session `s` of those of its input wires.
+fn run_gates(plan: &Plan, s: u32, list: &mut Vec<u64>) -> Result<(), AllocError>
     requires session { s < length plan.now.sessions }
-    ensures { (tapes : List (List ℕ)) → IfOk result (λ list. list.items
-        ≡ value_list (record { plan = plan.now; inputs = inputs.now; tapes = tapes }) s) }
+    requires inputs { length list.old.items ≡ length (owners (session plan.now s)) }
+    requires words { All (λ word. word < 2 ^ plan.now.bits) list.old.items }
+    ensures { OnOk result (list.new.items ≡ listed (session plan.now s).wires
+        (values (2 ^ plan.now.bits) (gate (session plan.now s)) (slice_index list.old.items)
+        (length (session plan.now s).gates))) }
 {
     let part = plan.part(s);
     let ring = plan.ring();
-    let mut values = input_list(alloc, plan, inputs, s)?;
-    pad(part.wires() as usize, &mut values)?;
+    pad(part.wires() as usize, list)?;
     for t in 0..part.gates().len() as u32 {
-        set_wire(ring, part.gate(t), &mut values);
+        set_wire(ring, part.gate(t), list);
     }
-    Ok(values)
+    Ok(())
+}
+
+// Hands the values that later sessions carry of session `s` on to them.
+fn hand_on(plan: &Plan, s: u32, lists: &mut [Vec<u64>])
+    requires session { s < length plan.now.sessions }
+    requires sessions { length lists.old ≡ length plan.now.sessions }
+    requires wires { length (slice_index_or (session_words lists.old) s []) ≡ (session plan.now s).wires }
+    requires inputs { (u : ℕ) → s < u → u < length plan.now.sessions
+        → length (slice_index_or (session_words lists.old) u []) ≡ length (owners (session plan.now u)) }
+    ensures sessions { length lists.new ≡ length plan.now.sessions }
+    ensures lengths { (u : ℕ) → length (slice_index_or (session_words lists.new) u [])
+        ≡ length (slice_index_or (session_words lists.old) u []) }
+    ensures handed_on { IsHandedOn plan.now s (value_at (session_words lists.old) s)
+        (value_at (session_words lists.old)) (value_at (session_words lists.new)) }
+{
+    let _ = plan.parties();
+    let part = plan.part(s);
+    for kept in part.kept() {
+        let value = lists[s as usize][output_wire(part, kept.output) as usize];
+        lists[kept.session as usize][kept.wire as usize] = value;
+    }
 }
 
 // Puts 0 on all further wires.

@@ -7,6 +7,7 @@ use Rattle.circuit_model.specs.declared.fault.CircuitFault.TheVariants.{Memory}
 use Rattle.circuit_model.specs.DraftSteps.{Draft, start_of, header_checks, no_gates_yet, after_gate, next_gate, gate_checks, answer_of, Becomes, circuit_of}
 use Rattle.circuit_model.specs.Netlists.{Netlist}
 use Rattle.job_plan.specs.Multiply.{multiply_session}
+use Rattle.job_session.specs.declared.values.Owner.TheVariants.{Party}
 use Rattle.job_session.specs.Parts.{session_of}
 
 abbrev pub empty_draft : ℕ → Draft
@@ -47,7 +48,7 @@ added bits d e is (inr refused) answered = absurd (no_answer (answered ∙ ap an
     no_answer e = cc
 
 pub finished : (bits : ℕ) (d : Draft) (r : Result Netlist CircuitFault) → d ≡ product_draft bits → r ≡ circuit_of d
-    → IfOk r (λ circuit. session_of circuit (0 ∷ 1 ∷ []) (record { parties = 3; mask = 4 } ∷ []) ≡ multiply_session)
+    → IfOk r (λ circuit. session_of circuit (Party 0 ∷ Party 1 ∷ []) (record { parties = 3; mask = 4 } ∷ []) ≡ multiply_session)
 finished bits d r is e =
-    subst (λ (z : Result Netlist CircuitFault). IfOk z (λ circuit. session_of circuit (0 ∷ 1 ∷ []) (record { parties = 3; mask = 4 } ∷ []) ≡ multiply_session))
+    subst (λ (z : Result Netlist CircuitFault). IfOk z (λ circuit. session_of circuit (Party 0 ∷ Party 1 ∷ []) (record { parties = 3; mask = 4 } ∷ []) ≡ multiply_session))
     (sym (e ∙ ap circuit_of is ∙ circuit_is bits)) refl

@@ -1,6 +1,6 @@
 //! Files of jobs that are read. The faults of others are rows of `tests/job_files.py`.
 use circuit_model::CircuitLayout;
-use job_file::{Adversary, Job, SessionLayout, read_job};
+use job_file::{Adversary, Job, JobOwner, SessionLayout, read_job};
 use party_set::Group;
 use std::alloc::Global;
 use std::process::Abort;
@@ -48,7 +48,8 @@ fn expect_session(rt: &impl Abort, job: &Job) {
     for session in &job.sessions {
         expect_same!(rt; session.circuit.as_str(), "mul.txt");
         assert!(rt; session.layout == SessionLayout::Gates(CircuitLayout::Ring));
-        expect_same!(rt; session.owners.as_slice(), [0, 1].as_slice());
+        let owners = [JobOwner::Party(0), JobOwner::Party(1)];
+        expect_same!(rt; session.owners.as_slice(), owners.as_slice());
         expect_masks(rt, &session.readers, &[4, 0]);
     }
 }

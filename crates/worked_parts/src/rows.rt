@@ -1,6 +1,6 @@
 //! Rows of the wires of a session.
 use circuit_model::{Builder, Operation};
-use job_session::SessionPart;
+use job_session::{Owner, SessionPart};
 use mpc_ring::Ring;
 use party_set::Group;
 use std::alloc::{AllocError, Global};
@@ -26,9 +26,9 @@ fn products(
         }
     }
     let circuit = builder.finish()?;
-    let owners = vec![in alloc; 0; inputs]?;
+    let owners = vec![in alloc; Owner::Party(0); inputs]?;
     let readers = vec![in alloc; Group::empty(1)]?;
-    match SessionPart::make(alloc, circuit, owners, readers) {
+    match SessionPart::make(alloc, circuit, owners, readers, &[]) {
         Ok(part) => Ok(part),
         Err(_) => Err(Fail::from("no session")),
     }

@@ -1,6 +1,6 @@
 //! Sessions of circuits.
 use circuit_model::{Builder, Circuit, CircuitFault, Operation};
-use job_session::{InputValue, SessionPart};
+use job_session::{InputValue, Owner, SessionPart};
 use mpc_ring::Ring;
 use party_set::Group;
 use plan_faults::PartFault;
@@ -27,9 +27,9 @@ fn session(
 ) -> Result<Result<SessionPart, PartFault>, Fail> {
     let ring = Ring::new(8).ok_or("no ring")?;
     let circuit = product(alloc, ring)?;
-    let owners = vec![in alloc; 1; owners]?;
+    let owners = vec![in alloc; Owner::Party(1); owners]?;
     let readers = vec![in alloc; Group::empty(3); groups]?;
-    Ok(SessionPart::make(alloc, circuit, owners, readers))
+    Ok(SessionPart::make(alloc, circuit, owners, readers, &[]))
 }
 
 fn expect_product(rt: &impl Abort, part: &SessionPart) {
@@ -37,7 +37,10 @@ fn expect_product(rt: &impl Abort, part: &SessionPart) {
     expect_same!(rt; (part.input_wires(), part.output_wires()), (2, 1));
     expect_same!(rt;
         part.inputs().get(1).copied(),
-        Some(InputValue { width: 1, owner: 1 })
+        Some(InputValue {
+            width: 1,
+            owner: Owner::Party(1)
+        })
     );
 }
 

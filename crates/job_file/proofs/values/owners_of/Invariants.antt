@@ -1,13 +1,13 @@
-use Rattle.std.proofs.Common.{◌≡◌, ◌<◌, map, take, length}
+use Rattle.std.proofs.Common.{◌≡◌, map, take, length}
 use Rattle.std.specs.Prelude.{All}
-use Rattle.toml.specs.View.{view}
 use Rattle.toml.specs.declared.value.Value.{Value}
-use Rattle.toml_fields.specs.Fields.{text_of}
-use Rattle.job_file.specs.Forms.{party_of}
+use Rattle.job_file.specs.Owners.{IsOwner}
+use Rattle.job_file.specs.Forms.{owner_of}
+use Rattle.job_file.proofs.Readers.{text_in}
 use Rattle.job_file.proofs.values.owners_of.Given as goal
 
 abbrev pub invariant-loop-owner : goal.invariant-loop-owner
 invariant-loop-owner l = record {
-  is : l.parties.items ≡ map (λ (v : Value). party_of l.names (text_of (view v))) (take l.owner-index l.owners);
-  within : All (λ owner. owner < length l.names) l.parties.items;
+  is : l.told.items ≡ map (λ (v : Value). owner_of l.version_two l.names l.session (text_in v)) (take l.owner-index l.owners);
+  within : All (IsOwner (length l.names) l.session) l.told.items;
 }

@@ -1,4 +1,5 @@
-use Rattle.std.proofs.Common.{◌≡◌, ℕ, ◌<◌, ◌≤◌, subst, below_more, arith}
+use Rattle.std.proofs.Common.{◌≡◌, ℕ, ◌<◌, ◌≤◌, sym, ◌∙◌, subst, below_more, arith}
+use Rattle.job_plan.proofs.KeptSessions.{tape_length_same}
 use Rattle.job_plan.proofs.plan.check_words.Goals as goal
 
 reaches : (p end parties at : ℕ) → p < parties → end ≡ parties → end ≤ at → p < at
@@ -9,7 +10,7 @@ returns-then-words-gt-LIMIT c = (
   c.requires,
   record {
     there = subst (λ n. c.loop-party.party < n) c.parties-party-end.ensures.is c.loop-party-test.true;
-    is = c.word_count-words.ensures;
+    is = c.word_count-words.ensures ∙ sym (tape_length_same c.args.outline.now c.loop-party.party);
     over = c.if-words-gt-LIMIT.true;
     first = c.loop-party.invariant;
   },
@@ -17,7 +18,7 @@ returns-then-words-gt-LIMIT c = (
 
 pub loop-party-preserved : goal.loop-party-preserved
 loop-party-preserved c =
-    below_more _ _ c.loop-party.invariant (subst (λ n. n ≤ 1048576) c.word_count-words.ensures c.if-words-gt-LIMIT.false)
+    below_more _ _ c.loop-party.invariant (subst (λ n. n ≤ 1048576) (c.word_count-words.ensures ∙ sym (tape_length_same c.args.outline.now c.loop-party.party)) c.if-words-gt-LIMIT.false)
 
 pub returns : goal.returns
 returns c = record {

@@ -1,10 +1,11 @@
-use Rattle.job_plan.specs.Plans.{Plan}
+use Rattle.job_plan.specs.Plans.{Plan, KeepsCarried}
 use Rattle.job_plan.specs.Sound.{IsOutline, IsSound}
 use Rattle.job_plan.specs.Limits.{IsPlanWithin}
+use Rattle.job_plan.proofs.KeptSessions.{carries_earlier}
 use Rattle.job_plan.proofs.plan.tables_of.Goals as goal
 
-sound_within : (plan : Plan) → IsOutline plan → IsPlanWithin plan → IsSound plan
-sound_within plan outline within = record {
+sound_within : (plan : Plan) → IsOutline plan → KeepsCarried plan → IsPlanWithin plan → IsSound plan
+sound_within plan outline kept within = record {
   some_bits = outline.some_bits;
   bits = outline.bits;
   some_parties = outline.some_parties;
@@ -16,12 +17,14 @@ sound_within plan outline within = record {
   few_messages = within.messages;
   few_words = within.words;
   sessions = outline.sessions;
+  earlier = carries_earlier plan.sessions outline.fit;
+  kept = kept;
 }
 
-pub returns-clause-laid : goal.returns-clause-laid
-returns-clause-laid c = record {
-  sound = sound_within c.args.outline.now c.parties.ensures.outline c.in_ok-check_words.ensures;
-  counted = c.message_count-count.ensures;
+pub returns : goal.returns
+returns c = record {
+  sound = sound_within c.args.outline.now c.parties.ensures.outline c.requires.kept c.requires.within;
+  counted = c.requires.count;
   lines = c.in_ok-patterns.ensures;
   begin = c.in_ok-starts.ensures;
   drawn = c.in_ok-words.ensures;

@@ -2,7 +2,7 @@ use Rattle.std.proofs.Common.{◌≡◌, ◌+◌, ◌-◌, ◌<◌, length, ap, 
 use Rattle.job_session.specs.Sessions.{owners, readers, session_slots}
 use Rattle.job_session.specs.Wirings.{session_in}
 use Rattle.job_session.proofs.ScannedBatches.{input_slot, output_slot, gate_slot, same_slots}
-use Rattle.job_session.proofs.WiringSlots.{wiring_count}
+use Rattle.job_session.proofs.WiringSlots.{wiring_count, owners_count}
 use Rattle.job_session.proofs.batch_scan.scan_direct.Goals as goal
 
 pub step-requires-clause-slot : goal.step-requires-clause-slot
@@ -10,11 +10,11 @@ step-requires-clause-slot c = omega (arith, c.loop-v-test.true, c.len-inputs.ens
 
 pub step-requires-clause-reads : goal.step-requires-clause-reads
 step-requires-clause-reads c =
-    (input_slot (session_in c.args.wiring.now) c.requires.direct c.loop-v.v (omega (arith, c.loop-v-test.true, c.len-inputs.ensures, ap length c.requires.wiring.owned))).0
+    (input_slot (session_in c.args.wiring.now) c.requires.direct c.loop-v.v (omega (arith, c.loop-v-test.true, c.len-inputs.ensures, owners_count _ c.requires.wiring))).0
 
 pub step-requires-clause-completes : goal.step-requires-clause-completes
 step-requires-clause-completes c =
-    (input_slot (session_in c.args.wiring.now) c.requires.direct c.loop-v.v (omega (arith, c.loop-v-test.true, c.len-inputs.ensures, ap length c.requires.wiring.owned))).1
+    (input_slot (session_in c.args.wiring.now) c.requires.direct c.loop-v.v (omega (arith, c.loop-v-test.true, c.len-inputs.ensures, owners_count _ c.requires.wiring))).1
 
 pub step_gate-requires-clause-slot : goal.step_gate-requires-clause-slot
 step_gate-requires-clause-slot c = omega (arith, c.loop-t-test.true, c.len-inputs.ensures, c.len-gates.ensures, wiring_count c.args.wiring.now c.requires.wiring c.requires.direct)
@@ -27,7 +27,7 @@ step-requires-in-loop-o-clause-reads c =
     let s = session_in c.args.wiring.now in
     let k = c.len-inputs.result + c.len-gates.result + c.loop-o.o in
     let within : c.loop-o.o < length (readers s) = omega (arith, c.loop-o-test.true, c.len-o-end.ensures, ap length c.requires.wiring.read) in
-    let at : k ≡ length (owners s) + length s.gates + c.loop-o.o = omega (arith, c.len-inputs.ensures, c.len-gates.ensures, ap length c.requires.wiring.owned) in
+    let at : k ≡ length (owners s) + length s.gates + c.loop-o.o = omega (arith, c.len-inputs.ensures, c.len-gates.ensures, owners_count _ c.requires.wiring) in
     (output_slot s c.requires.direct k c.loop-o.o c.output_wire.result within at c.output_wire.ensures).0
 
 pub step-requires-in-loop-o-clause-completes : goal.step-requires-in-loop-o-clause-completes
@@ -35,14 +35,14 @@ step-requires-in-loop-o-clause-completes c =
     let s = session_in c.args.wiring.now in
     let k = c.len-inputs.result + c.len-gates.result + c.loop-o.o in
     let within : c.loop-o.o < length (readers s) = omega (arith, c.loop-o-test.true, c.len-o-end.ensures, ap length c.requires.wiring.read) in
-    let at : k ≡ length (owners s) + length s.gates + c.loop-o.o = omega (arith, c.len-inputs.ensures, c.len-gates.ensures, ap length c.requires.wiring.owned) in
+    let at : k ≡ length (owners s) + length s.gates + c.loop-o.o = omega (arith, c.len-inputs.ensures, c.len-gates.ensures, owners_count _ c.requires.wiring) in
     (output_slot s c.requires.direct k c.loop-o.o c.output_wire.result within at c.output_wire.ensures).1
 
 pub step_gate-requires-clause-gate : goal.step_gate-requires-clause-gate
 step_gate-requires-clause-gate c =
     let s = session_in c.args.wiring.now in
     let n = c.len-inputs.result in
-    let inputs : n ≡ length (owners s) = omega (arith, c.len-inputs.ensures, ap length c.requires.wiring.owned) in
+    let inputs : n ≡ length (owners s) = omega (arith, c.len-inputs.ensures, owners_count _ c.requires.wiring) in
     let within : c.loop-t.t < length s.gates = omega (arith, c.loop-t-test.true, c.len-gates.ensures) in
     gate_slot s n c.loop-t.t c.index-gate.result.now c.requires.wiring.wired c.requires.direct within inputs c.index-gate.ensures
 
@@ -75,5 +75,5 @@ pub returns : goal.returns
 returns c =
     let s = session_in c.args.wiring.now in
     let k = length c.args.wiring.now.owners.items + length s.gates + c.loop-o.o in
-    let all : k ≡ session_slots s = omega (arith, c.loop-o.auto.o-end, c.loop-o-test.false, c.len-o-end.ensures, wiring_count c.args.wiring.now c.requires.wiring c.requires.direct) in
+    let all : k ≡ session_slots s = omega (arith, c.loop-o.auto.o-end, c.loop-o-test.false, c.len-o-end.ensures, wiring_count c.args.wiring.now c.requires.wiring c.requires.direct, ap length c.requires.bare) in
     same_slots s (k - 1) _ k _ c.loop-o.scan (omega (arith, all)) all c.loop-o.invariant

@@ -1,4 +1,4 @@
-use Rattle.std.proofs.Common.{◌≡◌, ℕ, ◌+◌, length, subst, arith}
+use Rattle.std.proofs.Common.{◌≡◌, ℕ, ◌+◌, length, ap, subst, arith}
 use Rattle.job_session.specs.Sessions.{session_slots}
 use Rattle.job_session.specs.RowScans.{IsScan}
 use Rattle.job_session.specs.Wirings.{session_in}
@@ -19,5 +19,5 @@ pub returns : goal.returns
 returns c =
     let s = session_in c.args.wiring.now in
     let k = length c.args.wiring.now.owners.items + length s.gates + c.loop-o.o in
-    let all : k ≡ session_slots s = omega (arith, c.loop-o.auto.o-end, c.loop-o-test.false, c.len-o-end.ensures, wiring_count c.args.wiring.now c.requires.wiring c.requires.direct) in
+    let all : k ≡ session_slots s = omega (arith, c.loop-o.auto.o-end, c.loop-o-test.false, c.len-o-end.ensures, wiring_count c.args.wiring.now c.requires.wiring c.requires.direct, ap length c.requires.bare) in
     subst (λ (k : ℕ). IsScan s k c.loop-o.scan) all c.loop-o.invariant

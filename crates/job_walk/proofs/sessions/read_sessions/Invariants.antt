@@ -3,6 +3,7 @@ use Rattle.std.specs.declared.alloc.Global.{Global}
 use Rattle.outer_io.specs.Files.{FilesReading}
 use Rattle.job_session.specs.Sessions.{Session}
 use Rattle.job_session.specs.SoundSessions.{IsSoundSession}
+use Rattle.job_plan.specs.Keeping.{AllFit}
 use Rattle.job_file.specs.Jobs.{job_view, session_view}
 use Rattle.job_walk.specs.declared.stop.Stop.{Stop}
 use Rattle.job_walk.specs.JobOf.{SessionsAfter}
@@ -13,13 +14,14 @@ use Rattle.job_walk.proofs.Loops.{circuits}
 use Rattle.job_walk.proofs.sessions.read_sessions.Given as goal
 
 -- whatever reads the sessions that are left reads them all
-abbrev pub invariant-loop-s : goal.invariant-loop-s
-invariant-loop-s g l = record {
+abbrev pub invariant-loop-session : goal.invariant-loop-session
+invariant-loop-session g l = record {
   reads : (after : FilesReading) (result : Result (Vec Session Global) Stop)
-      → ReadsAs l.dir (circuits (drop l.s (map session_view l.job.sessions.items))) (λ (parts : Vec Session Global). parts.items) (λ m. SessionsAfter m l.dir (job_view l.job) l.parts.items (drop l.s (map session_view l.job.sessions.items))) (g.F.Files.reading l.files) after result
+      → ReadsAs l.dir (circuits (drop l.session-index (map session_view l.job.sessions.items))) (λ (parts : Vec Session Global). parts.items) (λ m. SessionsAfter m l.dir (job_view l.job) l.parts.items (drop l.session-index (map session_view l.job.sessions.items))) (g.F.Files.reading l.files) after result
       → ReadsAs l.dir (circuits (map session_view l.job.sessions.items)) (λ (parts : Vec Session Global). parts.items) (λ m. SessionsAfter m l.dir (job_view l.job) [] (map session_view l.job.sessions.items)) (g.F.Files.reading l.initial.files) after result;
-  count : length l.parts.items ≡ l.s;
+  count : length l.parts.items ≡ l.session-index;
   sound : All (IsSoundSession (length l.job.names)) l.parts.items;
+  fit : AllFit l.parts.items;
   told : (g.F.Files.reading l.files).told ≡ (g.F.Files.reading l.initial.files).told;
-  log : Logs g.L.FileLog.has (g.F.Files.reading l.initial.files).told l.dir (circuits_of (take l.s l.job.sessions.items)) l.initial.log l.log;
+  log : Logs g.L.FileLog.has (g.F.Files.reading l.initial.files).told l.dir (circuits_of (take l.session-index l.job.sessions.items)) l.initial.log l.log;
 }

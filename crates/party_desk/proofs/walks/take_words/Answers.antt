@@ -5,7 +5,7 @@ use Rattle.job_plan.specs.Plans.{Plan, session}
 use Rattle.message_board.specs.declared.steps.View.{View}
 use Rattle.message_board.specs.Pairs.{Knows}
 use Rattle.party_program.specs.declared.program.Instruction.TheVariants.{Take}
-use Rattle.party_program.specs.States.{slot_of, took_in}
+use Rattle.party_program.specs.States.{taking_slot, took_in}
 use Rattle.party_desk.specs.declared.desk.Desk.{Desk}
 use Rattle.party_desk.specs.Desks.{instruction_at}
 use Rattle.party_desk.specs.Memories.{state_of, row_of, on_rows, Alike, IsMemoryOf}
@@ -103,8 +103,8 @@ loop-next-preserved g c = (
       let fits : IsMemoryOf given.plan d.session m = subst (λ (z : Plan). IsMemoryOf z d.session m) (sym may.goes.same) c.add.ensures.fits in
       let within = product_within plan given first may.goes c.requires.product in
       let of_slot = product_taken plan given e goes within c.requires.product.1 n i w is m c.add.ensures.state in
-      let state : Alike (length given.plan.groups) (state_of (length given.plan.groups) m) (on_rows (row_of d.memory) (sets_in (session given.plan d.session) (slot_of given.plan n)) (took_in given.plan d.session (slot_of given.plan n) i w) (state_of (length given.plan.groups) d.memory)) =
-      subst (λ (z : Plan). Alike (length z.groups) (state_of (length z.groups) m) (on_rows (row_of d.memory) (sets_in (session z d.session) (slot_of z n)) (took_in z d.session (slot_of z n) i w) (state_of (length z.groups) d.memory))) (sym may.goes.same) of_slot in
+      let state : Alike (length given.plan.groups) (state_of (length given.plan.groups) m) (on_rows (row_of d.memory) (sets_in (session given.plan d.session) (taking_slot given.plan n)) (took_in given.plan d.session (taking_slot given.plan n) i w) (state_of (length given.plan.groups) d.memory)) =
+      subst (λ (z : Plan). Alike (length z.groups) (state_of (length z.groups) m) (on_rows (row_of d.memory) (sets_in (session z d.session) (taking_slot z n)) (took_in z d.session (taking_slot z n) i w) (state_of (length z.groups) d.memory))) (sym may.goes.same) of_slot in
       let next : moves + 1 ≡ c.loop-next.next + 1 - c.args.place.now.done = omega (arith, c.loop-next.invariant.0) in
       subst (λ k. Walks given c.args.seat.now first c.take.new.seat (taken_on (record d { memory = m }) k)) next
       (walks_on given c.args.seat.now c.loop-next.seat c.take.new.seat first e f so_far

@@ -10,7 +10,8 @@ use Rattle.job_session.specs.Sessions.Slot.{At_gate}
 use Rattle.job_session.specs.SlotNumbers.{session_slot_number}
 use Rattle.job_session.proofs.SessionSlots.{slot_count, slot_there}
 use Rattle.job_plan.specs.declared.pattern.Pattern.TheVariants.{Silent, Multiplied}
-use Rattle.job_plan.specs.Plans.{Plan, scheme, session, slot, slots, deals_in}
+use Rattle.job_plan.proofs.PlanSchemes.{plan_is}
+use Rattle.job_plan.specs.Plans.{IsPlan, Plan, scheme, session, slot, slots, deals_in}
 use Rattle.job_plan.specs.Patterns.{pattern}
 use Rattle.party_program.specs.declared.step.Step.{Step}
 use Rattle.party_program.specs.declared.half.Half.{Half}
@@ -79,15 +80,15 @@ module _ (plan : Plan) (p s t : ℕ) (ls : s < length plan.sessions) (alone : Ha
     product_is = ap (λ xs. is_product (slice_index_or xs t no_gate).operation) (sym (of ∙ ap (λ (x : Session). x.gates) same)) ∙ sym is_told ∙ told_is
 
     -- its halves have as many instructions as steps
-    half_count : (half : Half) → length (half_program plan p s half k) ≡ length (steps plan p half (if product then Multiplied else Silent))
-    half_count half =
-        length-half plan p s half k ls lk
+    half_count : IsPlan plan → (half : Half) → length (half_program plan p s half k) ≡ length (steps plan p half (if product then Multiplied else Silent))
+    half_count of_plan half =
+        length-half plan p s half k of_plan ls lk
         ∙ ap (λ z. length (steps plan p half (pattern plan s z))) (gate_here (session plan s) t lt alone)
         ∙ ap (λ pattern. length (steps plan p half pattern)) (direct_pattern prepared (is_product (gate (session plan s) t).operation) (none_prepared (session plan s) t lt alone))
         ∙ ap (λ b. length (steps plan p half (if b then Multiplied else Silent))) product_is
 
-    count : length (slot_program plan p s k) ≡ length (steps plan p Head (if product then Multiplied else Silent)) + length (steps plan p Tail (if product then Multiplied else Silent))
-    count = let both = length-append (head plan p s k) (tail plan p s k) in let in_head = half_count Head in let in_tail = half_count Tail in omega (arith, both, in_head, in_tail)
+    count : IsPlan plan → length (slot_program plan p s k) ≡ length (steps plan p Head (if product then Multiplied else Silent)) + length (steps plan p Tail (if product then Multiplied else Silent))
+    count of_plan = let both = length-append (head plan p s k) (tail plan p s k) in let in_head = half_count of_plan Head in let in_tail = half_count of_plan Tail in omega (arith, both, in_head, in_tail)
 
     -- and a deal where it is a product and the party has a pair to multiply
     dealt : deals_in plan s p (slot plan s k) ≡ (product && has_pair (scheme plan) p)
@@ -123,7 +124,7 @@ module _ (c : goal.Then-is_product) where
   many : length c.of_product.result.now + length c.of_product-2.result.now ≡ length (slot_program c.args.plan.now c.args.p c.args.s (length (owners (session c.args.plan.now c.args.s)) + c.loop-gate.gate-index))
   many =
       both_of c.args.plan.now c.args.p c.args.s c.args.heads.now c.args.tails.now c.requires.heads c.requires.tails c.parties.ensures.sound c.of_product.result.now c.of_product-2.result.now c.of_product.ensures c.of_product-2.ensures
-      ∙ sym (count c.args.plan.now c.args.p c.args.s c.loop-gate.gate-index c.requires.session c.requires.alone _ c.part.ensures _ c.gates-gate-items.ensures c.loop-gate-test.true _ true c.is_product.ensures c.if-is_product.true)
+      ∙ sym (count c.args.plan.now c.args.p c.args.s c.loop-gate.gate-index c.requires.session c.requires.alone _ c.part.ensures _ c.gates-gate-items.ensures c.loop-gate-test.true _ true c.is_product.ensures c.if-is_product.true (plan_is c.args.plan.now c.parties.ensures.sound))
 
 pub overflow_add-tally : goal.overflow_add-tally
 overflow_add-tally c = let all = instructions_fit c.args.plan.now c.args.p c.args.s _ c.loop-gate.list c.loop-gate.tally c.loop-gate.invariant _ c.parties.ensures.sound c.requires.session (there c) (many c) in omega (arith, all)
@@ -131,7 +132,7 @@ overflow_add-tally c = let all = instructions_fit c.args.plan.now c.args.p c.arg
 pub overflow_add-tally-else-is_product : goal.overflow_add-tally-else-is_product
 overflow_add-tally-else-is_product c =
     let there = lk c.args.plan.now c.args.p c.args.s c.loop-gate.gate-index c.requires.session c.requires.alone _ c.part.ensures _ c.gates-gate-items.ensures c.loop-gate-test.true in
-    let one = count c.args.plan.now c.args.p c.args.s c.loop-gate.gate-index c.requires.session c.requires.alone _ c.part.ensures _ c.gates-gate-items.ensures c.loop-gate-test.true _ false c.is_product.ensures c.if-is_product.false in
+    let one = count c.args.plan.now c.args.p c.args.s c.loop-gate.gate-index c.requires.session c.requires.alone _ c.part.ensures _ c.gates-gate-items.ensures c.loop-gate-test.true _ false c.is_product.ensures c.if-is_product.false (plan_is c.args.plan.now c.parties.ensures.sound) in
     let all = instructions_fit c.args.plan.now c.args.p c.args.s _ c.loop-gate.list c.loop-gate.tally c.loop-gate.invariant 1 c.parties.ensures.sound c.requires.session there (sym one) in
     omega (arith, all)
 
@@ -149,13 +150,13 @@ loop-gate-preserved c =
           let deals = c.from-deals.ensures ∙ as_number c.multiplies.result ∙ ap (λ b. if b then 1 else 0)
           (c.multiplies.ensures ∙ sym (dealt plan p s c.loop-gate.gate-index c.requires.session c.requires.alone _ c.part.ensures _ c.gates-gate-items.ensures c.loop-gate-test.true _ true c.is_product.ensures w.if-is_product.true)) in
           let count = both_of plan p s c.args.heads.now c.args.tails.now c.requires.heads c.requires.tails c.parties.ensures.sound c.of_product.result.now c.of_product-2.result.now c.of_product.ensures c.of_product-2.ensures
-          ∙ sym (count plan p s c.loop-gate.gate-index c.requires.session c.requires.alone _ c.part.ensures _ c.gates-gate-items.ensures c.loop-gate-test.true _ true c.is_product.ensures w.if-is_product.true) in
+          ∙ sym (count plan p s c.loop-gate.gate-index c.requires.session c.requires.alone _ c.part.ensures _ c.gates-gate-items.ensures c.loop-gate-test.true _ true c.is_product.ensures w.if-is_product.true (plan_is c.args.plan.now c.parties.ensures.sound)) in
           subst (AreDeals plan p s (k + 1) c.push_reserved.new.self) (sym w.tally-is)
           (grown (length c.of_product.result.now + length c.of_product-2.result.now) c.from-deals.result c.push_reserved.ensures.items c.push_reserved.ensures.capacity count deals)
       | else-is_product w ↦
           let none : 0 ≡ (if deals_in plan s p (slot plan s k) then 1 else 0) = ap (λ b. if b then 1 else 0)
           (sym (dealt plan p s c.loop-gate.gate-index c.requires.session c.requires.alone _ c.part.ensures _ c.gates-gate-items.ensures c.loop-gate-test.true _ false c.is_product.ensures w.if-is_product.false)) in
-          let count = sym (count plan p s c.loop-gate.gate-index c.requires.session c.requires.alone _ c.part.ensures _ c.gates-gate-items.ensures c.loop-gate-test.true _ false c.is_product.ensures w.if-is_product.false) in
+          let count = sym (count plan p s c.loop-gate.gate-index c.requires.session c.requires.alone _ c.part.ensures _ c.gates-gate-items.ensures c.loop-gate-test.true _ false c.is_product.ensures w.if-is_product.false (plan_is c.args.plan.now c.parties.ensures.sound)) in
           let still : c.loop-gate.tally.deals + 0 ≡ c.loop-gate.tally.deals = omega arith in
           subst (AreDeals plan p s (k + 1) c.push_reserved.new.self) (ap (λ n. record { instructions = c.loop-gate.tally.instructions + 1; deals = n }) still ∙ sym w.tally-is)
           (grown 1 0 c.push_reserved.ensures.items c.push_reserved.ensures.capacity count none)

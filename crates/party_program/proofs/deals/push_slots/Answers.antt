@@ -11,6 +11,7 @@ use Rattle.party_program.specs.declared.step.Step.{Step}
 use Rattle.party_program.specs.Programs.{head, tail, slot_program}
 use Rattle.party_program.specs.PartySteps.{deals_in_pattern, steps}
 use Rattle.party_program.specs.ProgramPlaces.{AreSteps, OccursIn}
+use Rattle.job_plan.proofs.PlanSchemes.{plan_is}
 use Rattle.party_program.proofs.OccurringPatterns.{steps_found, deals_by_pattern}
 use Rattle.party_program.proofs.ProgramPlaces.{length-half}
 use Rattle.party_program.proofs.GrownDeals.{as_number, room_left, instructions_fit, one_more}
@@ -25,8 +26,8 @@ module _ (plan : Plan) (p s k : ℕ) (heads ends : StepTable) (are_heads : AreSt
     (of_tail : (plan : Plan) (p s : ℕ) (half : Half) → AreSteps plan p s half ends → OccursIn plan s its → b ≡ steps plan p half its) where
   pub as_many : length a + length b ≡ length (slot_program plan p s k)
   as_many =
-      let in_head = ap (length {A = Step}) (steps_found plan s p k Head its heads a are_heads sound ls lk is of_head) ∙ sym (length-half plan p s Head k ls lk) in
-      let in_tail = ap (length {A = Step}) (steps_found plan s p k Tail its ends b are_tails sound ls lk is of_tail) ∙ sym (length-half plan p s Tail k ls lk) in
+      let in_head = ap (length {A = Step}) (steps_found plan s p k Head its heads a are_heads sound ls lk is of_head) ∙ sym (length-half plan p s Head k (plan_is plan sound) ls lk) in
+      let in_tail = ap (length {A = Step}) (steps_found plan s p k Tail its ends b are_tails sound ls lk is of_tail) ∙ sym (length-half plan p s Tail k (plan_is plan sound) ls lk) in
       let both = length-append (head plan p s k) (tail plan p s k) in
       omega (arith, in_head, in_tail, both)
 

@@ -1,32 +1,53 @@
-use Rattle.std.proofs.Common.{rules, ◌≡◌, ℕ, length, ap, ◌∙◌, arith}
+use Rattle.std.proofs.Common.{rules, ◌≡◌, ℕ, ◌+◌, ◌≤◌, length, ap, ◌∙◌, arith}
 use Rattle.job_session.specs.Sessions.{Session, readers}
-use Rattle.job_session.proofs.SessionSlots.{slot_count}
-use Rattle.job_plan.specs.Plans.{Plan, session}
-use Rattle.party_program.proofs.OccurringPatterns.{opened_last}
+use Rattle.job_session.specs.SlotNumbers.{first_of_gate}
+use Rattle.job_session.proofs.SessionSlots.{slots_are_numbered}
+use Rattle.job_plan.specs.Plans.{Plan, session, slots}
+use Rattle.job_plan.proofs.Slots.{few_slots}
+use Rattle.party_program.proofs.OccurringPatterns.{first_output, opened_last}
 use Rattle.party_program.proofs.step_table.openings_of_each.Goals as goal
 
--- the output wires of a session that was found
+-- the output wires of a session that was found, and where their slots begin
 outputs_are : (plan : Plan) (s n : ℕ) (part : Session) → part ≡ session plan s → n ≡ length (readers part) → n ≡ length (readers (session plan s))
 outputs_are plan s n part same is = is ∙ ap (λ (x : Session). length (readers x)) same
 
-pub overflow_cast-outputs : goal.overflow_cast-outputs
-overflow_cast-outputs c =
-    let own = (c.parties.ensures.sound.sessions c.args.s c.requires.session).wired in
-    let many = outputs_are c.args.plan.now c.args.s c.output_wires-outputs.result c.part.result.now c.part.ensures c.output_wires-outputs.ensures in
-    omega (arith, own.output_wires, own.wires, many)
+first_is : (plan : Plan) (s n : ℕ) (part : Session) → part ≡ session plan s → n ≡ first_of_gate part (length part.gates) → n ≡ first_output plan s
+first_is plan s n part same is = is ∙ ap (λ (x : Session). first_of_gate x (length x.gates)) same
 
-pub overflow_step-k : goal.overflow_step-k
-overflow_step-k c =
-    let many = outputs_are c.args.plan.now c.args.s c.output_wires-outputs.result c.part.result.now c.part.ensures c.output_wires-outputs.ensures in
-    let all = slot_count (session c.args.plan.now c.args.s) in
-    let told = c.slots-slots.ensures in
-    omega (arith, many, all, told)
+ends_within : (plan : Plan) (s : ℕ) → first_output plan s + length (readers (session plan s)) ≤ slots plan s
+ends_within plan s = omega (arith, (slots_are_numbered (session plan s)).count)
+
+pub overflow_add-k-end : goal.overflow_add-k-end
+overflow_add-k-end c =
+    let plan = c.args.plan.now in
+    let s = c.args.s in
+    let own = (c.parties.ensures.sound.sessions s c.requires.session).wired in
+    let many = outputs_are plan s c.output_wires.result c.part-part.result.now c.part-part.ensures c.output_wires.ensures in
+    let first = first_is plan s c.first_output_slot-first.result c.part-part.result.now c.part-part.ensures c.first_output_slot-first.ensures in
+    omega (arith, many, first, ends_within plan s, few_slots (session plan s) own)
 
 pub loop-k-init : goal.loop-k-init
 loop-k-init c = record {
   openings = search rules;
   there = λ k group lk is.
-      (let many = outputs_are c.args.plan.now c.args.s c.output_wires-outputs.result c.part.result.now c.part.ensures c.output_wires-outputs.ensures in
-      let told = c.slots-slots.ensures in
-      absurd (let last = opened_last c.args.plan.now c.args.s k group (omega (arith, told, lk)) is in omega (arith, many, told, last, lk)));
+      (let plan = c.args.plan.now in
+      let s = c.args.s in
+      let first = first_is plan s c.first_output_slot-first.result c.part-part.result.now c.part-part.ensures c.first_output_slot-first.ensures in
+      absurd (omega (arith, first, lk, ends_within plan s, (opened_last plan s k group (omega (arith, first, lk, ends_within plan s)) is).0)));
 }
+
+pub add_opening-requires-clause-slot : goal.add_opening-requires-clause-slot
+add_opening-requires-clause-slot c =
+    let plan = c.args.plan.now in
+    let s = c.args.s in
+    let many = outputs_are plan s c.output_wires.result c.part-part.result.now c.part-part.ensures c.output_wires.ensures in
+    let first = first_is plan s c.first_output_slot-first.result c.part-part.result.now c.part-part.ensures c.first_output_slot-first.ensures in
+    omega (arith, many, first, ends_within plan s, c.loop-k-test.true)
+
+pub returns : goal.returns
+returns c = λ k group lk is.
+    let plan = c.args.plan.now in
+    let s = c.args.s in
+    let many = outputs_are plan s c.output_wires.result c.part-part.result.now c.part-part.ensures c.output_wires.ensures in
+    let first = first_is plan s c.first_output_slot-first.result c.part-part.result.now c.part-part.ensures c.first_output_slot-first.ensures in
+    c.loop-k.invariant.there k group (omega (arith, many, first, c.loop-k-test.false, (opened_last plan s k group lk is).1)) is

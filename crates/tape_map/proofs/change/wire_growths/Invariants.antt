@@ -6,5 +6,4 @@ use Rattle.tape_map.proofs.change.wire_growths.Given as goal
 
 -- the growths so far
 abbrev pub invariant-loop-v : goal.invariant-loop-v
-invariant-loop-v l =
-    l.growths.items ≡ listed l.v (λ v. difference (2 ^ l.plan.bits) (slice_index l.second.items v) (slice_index l.first.items v))
+invariant-loop-v l = l.growths.items ≡ listed l.v (λ v. difference (2 ^ l.plan.bits) (slice_index l.second v) (slice_index l.first v))

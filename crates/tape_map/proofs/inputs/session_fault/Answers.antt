@@ -3,11 +3,10 @@ use Rattle.std.specs.Prelude.{slice_index, slice_index_or}
 use Rattle.std.proofs.lemmas.Grind.{common_steps, get_or_default_zero}
 use Rattle.list_laws.specs.Lists.{listed}
 use Rattle.list_laws.proofs.JoinedLists.{length-listed, listed_at}
-use Rattle.party_set.specs.Parties.{has_party}
-use Rattle.job_session.specs.Sessions.{Session, owners}
+use Rattle.job_session.specs.Sessions.{Session, owners, source}
 use Rattle.job_plan.specs.Plans.{session}
 use Rattle.share_world.specs.Worlds.{World, input_of}
-use Rattle.tape_map.specs.TapeMaps.{with_inputs}
+use Rattle.tape_map.specs.TapeMaps.{member_gives, with_inputs}
 use Rattle.tape_map.specs.MapFaults.{input_check}
 use Rattle.tape_map.specs.declared.fault.MapFault.TheVariants.{InputDiffers}
 use Rattle.list_laws.proofs.FirstFaults.{joined-stops, joined_more-passed, one-fails, one-passed}
@@ -42,15 +41,15 @@ index-another-requires c =
     let there : c.loop-wire.wire < length c.in_ok-second.second.items = omega (arith, c.loop-wire-test.true, c.input_wires-wire-end.ensures) in
     grind (arith, common_steps)
 
-pub has-requires : goal.has-requires
-has-requires c =
+pub member_gives-requires : goal.member_gives-requires
+member_gives-requires c p from =
     let x : Session = session c.args.plan.now c.args.s in
     let v = c.loop-wire.wire in
     let same : length (owners c.part-part.result.now) ≡ length (owners x) = ap (λ y. length (owners y)) c.part-part.ensures in
     let lv : v < length (owners x) = omega (arith, c.loop-wire-test.true, c.input_wires-wire-end.ensures) in
-    let own : c.wire_owner.result ≡ slice_index (owners x) v = c.wire_owner.ensures ∙ ap (λ y. slice_index (owners y) v) c.part-part.ensures in
-    let party = (c.parties.ensures.sound.sessions c.args.s c.requires.session).owned v lv in
-    omega (arith, c.requires.group)
+    let own : c.source.result ≡ source x v = c.source.ensures ∙ ap (λ y. source y v) c.part-part.ensures in
+    let party = (c.parties.ensures.sound.sessions c.args.s c.requires.session).owned v p lv (sym own ∙ from) in
+    omega (arith, party, c.requires.group)
 
 pub returns-then-differ : goal.returns-then-differ
 returns-then-differ c tapes =
@@ -63,14 +62,14 @@ returns-then-differ c tapes =
     let second : ℕ = input_of (with_inputs w c.args.other.now) s v in
     let same : length (owners c.part-part.result.now) ≡ length (owners x) = ap (λ y. length (owners y)) c.part-part.ensures in
     let lv : v < length (owners x) = omega (arith, c.loop-wire-test.true, c.input_wires-wire-end.ensures) in
-    let own : c.wire_owner.result ≡ slice_index (owners x) v = c.wire_owner.ensures ∙ ap (λ y. slice_index (owners y) v) c.part-part.ensures in
+    let own : c.source.result ≡ source x v = c.source.ensures ∙ ap (λ y. source y v) c.part-part.ensures in
     let one : c.index-one.result.now ≡ first = word_read (length (owners x)) v c.index-one.result.now (input_of w s) c.in_ok-first.first.items (c.in_ok-first.ensures tapes) lv c.index-one.ensures in
     let another : c.index-another.result.now ≡ second = word_read (length (owners x)) v c.index-another.result.now (input_of (with_inputs w c.args.other.now) s) c.in_ok-second.second.items (c.in_ok-second.ensures tapes) lv c.index-another.ensures in
-    let differs : (has_party mask (slice_index (owners x) v) && not (nat_eq first second)) ≡ true =
-    ap₂ (λ a b. a && b) (ap (has_party mask) (sym own) ∙ sym c.has.ensures) (ap₂ (λ a b. not (nat_eq a b)) (sym one) (sym another)) ∙ sym c.differ.ensures ∙ c.if-differ.true in
+    let differs : (member_gives mask (source x v) && not (nat_eq first second)) ≡ true =
+    ap₂ (λ a b. a && b) (ap (member_gives mask) (sym own) ∙ sym c.member_gives.ensures) (ap₂ (λ a b. not (nat_eq a b)) (sym one) (sym another)) ∙ sym c.differ.ensures ∙ c.if-differ.true in
     ap₂ (λ a b. Some (InputDiffers s v a b)) one another
     ∙ sym (joined-stops (length (owners x)) v (λ u. input_check w c.args.other.now mask s u ∷ []) (InputDiffers s v first second) lv c.loop-wire.invariant
-    (one-fails (has_party mask (slice_index (owners x) v) && not (nat_eq first second)) (InputDiffers s v first second) differs))
+    (one-fails (member_gives mask (source x v) && not (nat_eq first second)) (InputDiffers s v first second) differs))
 
 pub loop-wire-preserved : goal.loop-wire-preserved
 loop-wire-preserved c =
@@ -83,10 +82,10 @@ loop-wire-preserved c =
     let second : ℕ = input_of (with_inputs w c.args.other.now) s v in
     let same : length (owners c.part-part.result.now) ≡ length (owners x) = ap (λ y. length (owners y)) c.part-part.ensures in
     let lv : v < length (owners x) = omega (arith, c.loop-wire-test.true, c.input_wires-wire-end.ensures) in
-    let own : c.wire_owner.result ≡ slice_index (owners x) v = c.wire_owner.ensures ∙ ap (λ y. slice_index (owners y) v) c.part-part.ensures in
+    let own : c.source.result ≡ source x v = c.source.ensures ∙ ap (λ y. source y v) c.part-part.ensures in
     let one : c.index-one.result.now ≡ first = word_read (length (owners x)) v c.index-one.result.now (input_of w s) c.in_ok-first.first.items (c.in_ok-first.ensures []) lv c.index-one.ensures in
     let another : c.index-another.result.now ≡ second = word_read (length (owners x)) v c.index-another.result.now (input_of (with_inputs w c.args.other.now) s) c.in_ok-second.second.items (c.in_ok-second.ensures []) lv c.index-another.ensures in
-    let alike : (has_party mask (slice_index (owners x) v) && not (nat_eq first second)) ≡ false =
-    ap₂ (λ a b. a && b) (ap (has_party mask) (sym own) ∙ sym c.has.ensures) (ap₂ (λ a b. not (nat_eq a b)) (sym one) (sym another)) ∙ sym c.differ.ensures ∙ c.if-differ.false in
+    let alike : (member_gives mask (source x v) && not (nat_eq first second)) ≡ false =
+    ap₂ (λ a b. a && b) (ap (member_gives mask) (sym own) ∙ sym c.member_gives.ensures) (ap₂ (λ a b. not (nat_eq a b)) (sym one) (sym another)) ∙ sym c.differ.ensures ∙ c.if-differ.false in
     joined_more-passed v (λ u. input_check w c.args.other.now mask s u ∷ []) c.loop-wire.invariant
-    (one-passed (has_party mask (slice_index (owners x) v) && not (nat_eq first second)) (InputDiffers s v first second) alike)
+    (one-passed (member_gives mask (source x v) && not (nat_eq first second)) (InputDiffers s v first second) alike)

@@ -1,9 +1,12 @@
-use Rattle.std.proofs.Common.{◌≡◌, [], None}
+use Rattle.std.proofs.Common.{◌≡◌, None}
 use Rattle.list_laws.specs.Lists.{joined}
 use Rattle.list_laws.specs.Checks.{first_fault}
-use Rattle.tape_map.specs.MapFaults.{output_checks}
+use Rattle.job_plan.specs.InputWords.{session_words}
+use Rattle.wire_tables.specs.WireTables.{value_at}
+use Rattle.tape_map.specs.MapFaults.{value_checks}
 use Rattle.tape_map.proofs.outputs.output_fault.Given as goal
 
 -- all checks so far pass
 abbrev pub invariant-loop-s : goal.invariant-loop-s
-invariant-loop-s l = first_fault (joined l.s (output_checks (record { plan = l.plan; inputs = l.inputs; tapes = [] }) l.other l.group.mask)) ≡ None
+invariant-loop-s l =
+    first_fault (joined l.s (λ s. value_checks l.plan l.group.mask s (value_at (session_words l.first) s) (value_at (session_words l.second) s))) ≡ None

@@ -13,8 +13,8 @@ use Rattle.view_check.proofs.Walks.{handed_on}
 use Rattle.view_check.proofs.SlotLines.{pass_part, stop_part}
 use Rattle.view_check.proofs.messages.check_session.Goals as goal
 
-pub returns-in_err-check_slot : goal.returns-in_err-check_slot
-returns-in_err-check_slot c =
+pub returns-in_err-check_slot-clause-lines : goal.returns-in_err-check_slot-clause-lines
+returns-in_err-check_slot-clause-lines c =
     let plan = c.args.plan.now in
     let w : World = world_given plan c.args.inputs.now c.args.tapes.now in
     let f : ℕ → List Key = λ k. slot_messages plan c.args.s k (slot plan c.args.s k) in
@@ -31,8 +31,8 @@ loop-k-preserved c =
       passed = pass_part w c.args.group.mask c.args.names.now f c.loop-k.k c.args.rest.now c.loop-k.rest c.check_slot.new.rest c.loop-k.invariant.passed c.in_ok-check_slot.ensures;
     }
 
-pub returns : goal.returns
-returns c =
+pub returns-clause-lines : goal.returns-clause-lines
+returns-clause-lines c =
     let plan = c.args.plan.now in
     let w : World = world_given plan c.args.inputs.now c.args.tapes.now in
     let f : ℕ → List Key = λ k. slot_messages plan c.args.s k (slot plan c.args.s k) in

@@ -1,13 +1,13 @@
-use Rattle.std.proofs.Common.{◌≡◌, ℕ, ◌+◌, ◌-◌, ◌^◌, true, List, length, refl, sym, ap, ap₂, ◌∙◌, arith}
-use Rattle.std.specs.Prelude.{slice_index}
+use Rattle.std.proofs.Common.{◌≡◌, ℕ, ◌^◌, ◌<◌, true, List, length, refl, sym, ap, ap₂, ◌∙◌, subst, arith}
+use Rattle.std.specs.Prelude.{slice_index, slice_index_or}
 use Rattle.std.specs.Global.{Vec}
 use Rattle.std.proofs.lemmas.Result.{IfOk-weaker}
 use Rattle.list_laws.specs.Lists.{listed}
 use Rattle.mpc_ring.specs.Differences.{difference}
 use Rattle.secret_sharing.specs.Schemes.{own_product}
 use Rattle.job_session.specs.declared.side.Side.TheVariants.{First, Second}
-use Rattle.job_session.specs.Sessions.{Session, output_wire, readers}
-use Rattle.job_session.specs.Sessions.Slot.{Input, At_gate, Output, Mask, Mask_product, Masked}
+use Rattle.job_session.specs.Sessions.{no_kept}
+use Rattle.job_session.specs.Sessions.Slot.{Input, At_gate, Output, Mask, Mask_product, Masked, Kept}
 use Rattle.job_session.specs.SoundSessions.{slot_of_kind}
 use Rattle.job_plan.specs.Plans.{scheme, session, slot, deals_in}
 use Rattle.job_plan.specs.InputWords.{session_words}
@@ -18,7 +18,7 @@ use Rattle.wire_tables.specs.SlotRows.{may_send, sent}
 use Rattle.wire_tables.specs.WireTables.{world_given}
 use Rattle.wire_tables.proofs.NextPlaces.{has_words}
 use Rattle.wire_tables.proofs.SlotWords.{inside_here}
-use Rattle.wire_tables.proofs.SentRows.{input_sent, output_sent, mask_sent, masked_sent, gate_sent, mask_product_sent, row_read, wire_named, gate_there, operand_within, operand_named, operand_read, operand_whole, mask_named, mask_read, mask_is_row}
+use Rattle.wire_tables.proofs.SentRows.{input_sent, output_sent, kept_sent, kept_there, kept_same, kept_within, mask_sent, masked_sent, gate_sent, mask_product_sent, row_read, wire_named, gate_there, operand_within, operand_named, operand_read, operand_whole, mask_named, mask_read, mask_is_row, few_outputs, output_there, output_within, output_named, output_read}
 use Rattle.wire_tables.proofs.TableRows.{row_small}
 use Rattle.wire_tables.proofs.sent_rows.kind_row.Goals as goal
 
@@ -31,29 +31,26 @@ row-requires c =
     let few = (c.requires.whole.sound.sessions c.args.s c.requires.session).wired.input_wires in
     wire_named w c.requires.whole c.args.s c.requires.session c.args.table.now c.requires.table c.part-part.result.now c.part-part.ensures c.in-Input.v (omega arith)
 
-pub overflow_add-wire : goal.overflow_add-wire
-overflow_add-wire c =
+pub output_wire-requires-clause-wires : goal.output_wire-requires-clause-wires
+output_wire-requires-clause-wires c =
+    let w : World = world_given c.args.plan.now c.args.inputs.now c.args.tapes.now in
+    few_outputs w c.requires.whole c.args.s c.requires.session c.args.table.now c.requires.table c.part-part.result.now c.part-part.ensures
+
+pub output_wire-requires-clause-within : goal.output_wire-requires-clause-within
+output_wire-requires-clause-within c =
     let plan = c.args.plan.now in
     let w : World = world_given plan c.args.inputs.now c.args.tapes.now in
     let is : slot plan c.args.s c.args.k ≡ Output c.in-Output.o = c.requires.kind ∙ ap slot_of_kind c.in-Output.is in
-    let lo = inside_here w c.args.s c.args.k c.requires.slot (Output c.in-Output.o) is in
-    let few = (c.requires.whole.sound.sessions c.args.s c.requires.session).wired.output_wires in
-    let x : Session = session plan c.args.s in
-    let wire : c.wires.result - c.output_wires.result + c.in-Output.o ≡ output_wire x c.in-Output.o =
-    ap₂ (λ a b. a - b + c.in-Output.o) (c.wires.ensures ∙ ap (λ (y : Session). y.wires) c.part-part.ensures) (c.output_wires.ensures ∙ ap (λ y. length (readers y)) c.part-part.ensures) in
-    omega (arith, wire, few, lo, c.wires.ensures, ap (λ (y : Session). y.wires) c.part-part.ensures, c.wires.type_inv)
+    let there = inside_here w c.args.s c.args.k c.requires.slot (Output c.in-Output.o) is in
+    output_there w c.requires.whole c.args.s c.requires.session c.args.table.now c.requires.table c.part-part.result.now c.part-part.ensures c.in-Output.o there
 
 pub row-requires-in-Output : goal.row-requires-in-Output
 row-requires-in-Output c =
     let plan = c.args.plan.now in
     let w : World = world_given plan c.args.inputs.now c.args.tapes.now in
     let is : slot plan c.args.s c.args.k ≡ Output c.in-Output.o = c.requires.kind ∙ ap slot_of_kind c.in-Output.is in
-    let lo = inside_here w c.args.s c.args.k c.requires.slot (Output c.in-Output.o) is in
-    let few = (c.requires.whole.sound.sessions c.args.s c.requires.session).wired.output_wires in
-    let x : Session = session plan c.args.s in
-    let wire : c.wires.result - c.output_wires.result + c.in-Output.o ≡ output_wire x c.in-Output.o =
-    ap₂ (λ a b. a - b + c.in-Output.o) (c.wires.ensures ∙ ap (λ (y : Session). y.wires) c.part-part.ensures) (c.output_wires.ensures ∙ ap (λ y. length (readers y)) c.part-part.ensures) in
-    wire_named w c.requires.whole c.args.s c.requires.session c.args.table.now c.requires.table c.part-part.result.now c.part-part.ensures _ (omega (arith, wire, few, lo))
+    let there = inside_here w c.args.s c.args.k c.requires.slot (Output c.in-Output.o) is in
+    output_named w c.requires.whole c.args.s c.requires.session c.args.table.now c.requires.table c.part-part.result.now c.part-part.ensures c.in-Output.o there c.output_wire.result c.output_wire.ensures
 
 pub mask_wire-requires : goal.mask_wire-requires
 mask_wire-requires c =
@@ -265,13 +262,10 @@ returns-in-Output c =
     let plan = c.args.plan.now in
     let w : World = world_given plan c.args.inputs.now c.args.tapes.now in
     let is : slot plan c.args.s c.args.k ≡ Output c.in-Output.o = c.requires.kind ∙ ap slot_of_kind c.in-Output.is in
-    let lo = inside_here w c.args.s c.args.k c.requires.slot (Output c.in-Output.o) is in
-    let few = (c.requires.whole.sound.sessions c.args.s c.requires.session).wired.output_wires in
-    let x : Session = session plan c.args.s in
-    let wire : c.wires.result - c.output_wires.result + c.in-Output.o ≡ output_wire x c.in-Output.o =
-    ap₂ (λ a b. a - b + c.in-Output.o) (c.wires.ensures ∙ ap (λ (y : Session). y.wires) c.part-part.ensures) (c.output_wires.ensures ∙ ap (λ y. length (readers y)) c.part-part.ensures) in
+    let there = inside_here w c.args.s c.args.k c.requires.slot (Output c.in-Output.o) is in
     IfOk-weaker c.from_slice-in-Output.result (λ (row : Vec ℕ). row.items ≡ c.row-in-Output.result.now) (λ (row : Vec ℕ). row.items ≡ listed (length plan.groups) (sent w c.args.s c.args.k c.args.p)) (λ row e.
-    output_sent w c.requires.whole c.args.s c.args.k c.args.p c.requires.session c.requires.slot c.in-Output.o row.items is (omega (arith, few, lo)) (e ∙ row_read w c.requires.whole c.args.s c.requires.session c.args.table.now c.requires.table c.part-part.result.now c.part-part.ensures _ c.row-in-Output.result.now c.row-in-Output.ensures ∙ ap (last_row w c.args.s) wire)) c.from_slice-in-Output.ensures.items
+    output_sent w c.requires.whole c.args.s c.args.k c.args.p c.requires.session c.requires.slot c.in-Output.o row.items is (output_within w c.requires.whole c.args.s c.requires.session c.args.table.now c.requires.table c.part-part.result.now c.part-part.ensures c.in-Output.o there)
+    (e ∙ output_read w c.requires.whole c.args.s c.requires.session c.args.table.now c.requires.table c.part-part.result.now c.part-part.ensures c.in-Output.o there c.output_wire.result c.output_wire.ensures c.row-in-Output.result.now c.row-in-Output.ensures)) c.from_slice-in-Output.ensures.items
 
 pub returns-in-Mask : goal.returns-in-Mask
 returns-in-Mask c =
@@ -318,3 +312,48 @@ returns-in-MaskProduct c =
     let b = mask_read w c.requires.whole c.args.s c.requires.session c.args.table.now c.requires.table c.part-part.result.now c.part-part.ensures c.in-MaskProduct.t inside.0 inside.1 Second c.mask_wire-in-MaskProduct-2.result c.row-y-in-MaskProduct.result.now c.mask_wire-in-MaskProduct-2.ensures c.row-y-in-MaskProduct.ensures in
     IfOk-weaker c.part_row-in-MaskProduct.result (λ (row : Vec ℕ). row.items ≡ listed (length plan.groups) (dealt_at (scheme plan) (session_words c.args.tapes.now) c.args.places.now c.args.p (own_product (scheme plan) c.args.p (slice_index c.row-x-in-MaskProduct.result.now) (slice_index c.row-y-in-MaskProduct.result.now)))) (λ (row : Vec ℕ). row.items ≡ listed (length plan.groups) (sent w c.args.s c.args.k c.args.p)) (λ row e.
     mask_product_sent w c.requires.whole c.args.s c.args.k c.args.p c.requires.session c.requires.slot c.args.places.now c.requires.places c.requires.party c.row-x-in-MaskProduct.result.now c.row-y-in-MaskProduct.result.now row.items c.in-MaskProduct.t is a b e) c.part_row-in-MaskProduct.ensures
+
+pub bounds-kept-j : goal.bounds-kept-j
+bounds-kept-j c =
+    let plan = c.args.plan.now in
+    let w : World = world_given plan c.args.inputs.now c.args.tapes.now in
+    let j = c.in-Kept.j in
+    let is : slot plan c.args.s c.args.k ≡ Kept j = c.requires.kind ∙ ap slot_of_kind c.in-Kept.is in
+    let there = inside_here w c.args.s c.args.k c.requires.slot (Kept j) is in
+    kept_there w c.requires.whole c.args.s c.requires.session c.args.table.now c.requires.table c.part-part.result.now c.part-part.ensures j there c.kept.result.now c.kept.ensures
+
+pub output_wire-requires-in-Kept-clause-within : goal.output_wire-requires-in-Kept-clause-within
+output_wire-requires-in-Kept-clause-within c =
+    let plan = c.args.plan.now in
+    let w : World = world_given plan c.args.inputs.now c.args.tapes.now in
+    let j = c.in-Kept.j in
+    let is : slot plan c.args.s c.args.k ≡ Kept j = c.requires.kind ∙ ap slot_of_kind c.in-Kept.is in
+    let there = inside_here w c.args.s c.args.k c.requires.slot (Kept j) is in
+    let output : ℕ = (slice_index_or c.kept.result.now j no_kept).output in
+    let within = kept_within w c.requires.whole c.args.s c.requires.session c.args.table.now c.requires.table c.part-part.result.now c.part-part.ensures j there c.kept.result.now c.kept.ensures in
+    output_there w c.requires.whole c.args.s c.requires.session c.args.table.now c.requires.table c.part-part.result.now c.part-part.ensures output within
+
+pub row-requires-in-Kept : goal.row-requires-in-Kept
+row-requires-in-Kept c =
+    let plan = c.args.plan.now in
+    let w : World = world_given plan c.args.inputs.now c.args.tapes.now in
+    let j = c.in-Kept.j in
+    let is : slot plan c.args.s c.args.k ≡ Kept j = c.requires.kind ∙ ap slot_of_kind c.in-Kept.is in
+    let there = inside_here w c.args.s c.args.k c.requires.slot (Kept j) is in
+    let output : ℕ = (slice_index_or c.kept.result.now j no_kept).output in
+    let within = kept_within w c.requires.whole c.args.s c.requires.session c.args.table.now c.requires.table c.part-part.result.now c.part-part.ensures j there c.kept.result.now c.kept.ensures in
+    output_named w c.requires.whole c.args.s c.requires.session c.args.table.now c.requires.table c.part-part.result.now c.part-part.ensures output within c.output_wire-in-Kept.result c.output_wire-in-Kept.ensures
+
+pub returns-in-Kept : goal.returns-in-Kept
+returns-in-Kept c =
+    let plan = c.args.plan.now in
+    let w : World = world_given plan c.args.inputs.now c.args.tapes.now in
+    let j = c.in-Kept.j in
+    let is : slot plan c.args.s c.args.k ≡ Kept j = c.requires.kind ∙ ap slot_of_kind c.in-Kept.is in
+    let there = inside_here w c.args.s c.args.k c.requires.slot (Kept j) is in
+    let output : ℕ = (slice_index_or c.kept.result.now j no_kept).output in
+    let within = kept_within w c.requires.whole c.args.s c.requires.session c.args.table.now c.requires.table c.part-part.result.now c.part-part.ensures j there c.kept.result.now c.kept.ensures in
+    let same = kept_same w c.requires.whole c.args.s c.requires.session c.args.table.now c.requires.table c.part-part.result.now c.part-part.ensures j there c.kept.result.now c.kept.ensures in
+    IfOk-weaker c.from_slice-in-Kept.result (λ (row : Vec ℕ). row.items ≡ c.row-in-Kept.result.now) (λ (row : Vec ℕ). row.items ≡ listed (length plan.groups) (sent w c.args.s c.args.k c.args.p)) (λ row e.
+    kept_sent w c.requires.whole c.args.s c.args.k c.args.p c.requires.session c.requires.slot j row.items is (subst (λ v. v < (session plan c.args.s).wires) same (output_within w c.requires.whole c.args.s c.requires.session c.args.table.now c.requires.table c.part-part.result.now c.part-part.ensures output within))
+    (e ∙ output_read w c.requires.whole c.args.s c.requires.session c.args.table.now c.requires.table c.part-part.result.now c.part-part.ensures output within c.output_wire-in-Kept.result c.output_wire-in-Kept.ensures c.row-in-Kept.result.now c.row-in-Kept.ensures ∙ ap (last_row w c.args.s) same)) c.from_slice-in-Kept.ensures.items

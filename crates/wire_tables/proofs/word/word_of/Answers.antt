@@ -10,6 +10,11 @@ use Rattle.wire_tables.specs.WireTables.{world_given}
 use Rattle.wire_tables.proofs.MessageSenders.{stands_so, to_anyone}
 use Rattle.wire_tables.proofs.word.word_of.Goals as goal
 
+pub carried_before-requires-clause-session : goal.carried_before-requires-clause-session
+carried_before-requires-clause-session c =
+    let st = stands_so (world_given c.args.plan.now c.args.inputs.now c.args.tapes.now) c.requires.whole c.args.number c.requires.number c.message-key.ensures.is in
+    st.in_session
+
 pub make-requires-clause-session : goal.make-requires-clause-session
 make-requires-clause-session c =
     let st = stands_so (world_given c.args.plan.now c.args.inputs.now c.args.tapes.now) c.requires.whole c.args.number c.requires.number c.message-key.ensures.is in

@@ -1,9 +1,10 @@
-use Rattle.std.proofs.Common.{length, ap, arith}
+use Rattle.std.proofs.Common.{length, arith}
 use Rattle.job_session.specs.Wirings.{session_in}
 use Rattle.job_session.proofs.SessionSlots.{few_before}
+use Rattle.job_session.proofs.WiringSlots.{owners_count}
 use Rattle.job_session.proofs.wiring.Wiring.first_gate.Goals as goal
 
 pub overflow_add-result : goal.overflow_add-result
 overflow_add-result c =
     let few = few_before (session_in c.args.self.now) (length c.args.self.now.gates.items) in
-    omega (arith, few, c.first_input.ensures, c.len.ensures, c.requires.wired.gates, c.requires.wired.wires, c.requires.wired.input_wires, ap length c.requires.owned)
+    omega (arith, few, c.first_input.ensures, c.len.ensures, c.requires.wired.gates, c.requires.wired.wires, c.requires.wired.input_wires, owners_count _ c.requires)

@@ -1,11 +1,10 @@
-use Rattle.std.proofs.Common.{ap}
 use Rattle.std.specs.Prelude.{length}
 use Rattle.job_session.specs.Wirings.{session_in}
-use Rattle.job_session.proofs.WiringSlots.{gate_is_touched}
+use Rattle.job_session.proofs.WiringSlots.{gate_is_touched, owners_count}
 use Rattle.job_session.proofs.wiring.Wiring.gate_touched.Goals as goal
 
 pub returns : goal.returns
 returns c =
     let w = c.args.self.now in
     let touched = c.touched_by.ensures in
-    gate_is_touched (session_in w) (length w.owners.items) c.args.t c.index.result.now c.touched_by.result c.requires.wiring.wired c.requires.direct c.requires.within (ap length c.requires.wiring.owned) c.index.ensures touched.sets touched.fields touched.apart touched.third
+    gate_is_touched (session_in w) (length w.owners.items) c.args.t c.index.result.now c.touched_by.result c.requires.wiring.wired c.requires.direct c.requires.within (owners_count _ c.requires.wiring) c.index.ensures touched.sets touched.fields touched.apart touched.third

@@ -1,14 +1,16 @@
+use Rattle.std.proofs.Common.{true}
 use Rattle.job_session.specs.Wirings.{session_in}
-use Rattle.job_session.proofs.CircuitSessions.{wired_prepared}
+use Rattle.job_session.proofs.CircuitSessions.{wired_with}
 use Rattle.job_session.proofs.wiring.Wiring.prepare.Goals as goal
 
 pub returns-clause-tables : goal.returns-clause-tables
 returns-clause-tables c =
-    let before = c.requires.wiring in
+    let before = c.requires in
     record {
       owned = before.owned;
+      sources = before.sources;
       read = before.read;
       products = before.products;
-      wired = wired_prepared (session_in c.args.self) c.requires.direct before.wired;
+      wired = wired_with (session_in c.args.self) true (session_in c.args.self).kept before.wired before.wired.kept;
       kinds = λ e. c.in_ok-kinds.ensures;
     }

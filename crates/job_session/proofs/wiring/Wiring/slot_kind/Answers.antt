@@ -1,38 +1,34 @@
-use Rattle.std.proofs.Common.{◌≡◌, ◌+◌, ◌-◌, ◌<◌, length, sym, ap, ◌∙◌, subst, arith}
-use Rattle.job_session.specs.Sessions.{owners, readers, session_slot}
+use Rattle.std.proofs.Common.{◌≡◌, ◌+◌, ◌-◌, length, sym, ap, ◌∙◌, subst, arith}
+use Rattle.job_session.specs.Sessions.{owners, session_slot}
 use Rattle.job_session.specs.SoundSessions.{Inside}
 use Rattle.job_session.specs.Wirings.{session_in}
-use Rattle.job_session.proofs.SessionSlots.{slot_input, slot_gate, slot_output, slots_are_numbered}
-use Rattle.job_session.proofs.WiringSlots.{wiring_count, kind_listed}
+use Rattle.job_session.proofs.SessionSlots.{slot_input, slot_gate, slots_are_numbered}
+use Rattle.job_session.proofs.WiringSlots.{wiring_count, kind_listed, owners_count}
 use Rattle.job_session.proofs.wiring.Wiring.slot_kind.Goals as goal
 
 pub returns-then-k-inputs-clause-is : goal.returns-then-k-inputs-clause-is
 returns-then-k-inputs-clause-is c =
     let s = session_in c.args.self.now in
     let wiring = c.requires.wiring in
-    sym (slot_input s c.if-self.false c.args.k (omega (arith, c.if-k-inputs.true, c.len-inputs.ensures, ap length wiring.owned)))
+    sym (slot_input s c.if-self.false c.args.k (omega (arith, c.if-k-inputs.true, c.len-inputs.ensures, owners_count _ wiring)))
 
 pub returns-then-k-inputs-2-clause-is : goal.returns-then-k-inputs-2-clause-is
 returns-then-k-inputs-2-clause-is c =
     let s = session_in c.args.self.now in
     let wiring = c.requires.wiring in
     let t = c.args.k - c.len-inputs.result in
-    let here : length (owners s) + t ≡ c.args.k = omega (arith, c.if-k-inputs.false, c.len-inputs.ensures, ap length wiring.owned) in
+    let here : length (owners s) + t ≡ c.args.k = omega (arith, c.if-k-inputs.false, c.len-inputs.ensures, owners_count _ wiring) in
     sym (ap (session_slot s) (sym here) ∙ slot_gate s c.if-self.false t (omega (arith, c.if-k-inputs.false, c.if-k-inputs-2.true, c.len-gates.ensures)))
+
+pub kind_behind-requires-clause-within : goal.kind_behind-requires-clause-within
+kind_behind-requires-clause-within c =
+    omega (arith, c.if-k-inputs.false, c.if-k-inputs-2.false, c.len-inputs.ensures, c.len-gates.ensures, c.requires.within, wiring_count c.args.self.now c.requires.wiring c.if-self.false)
 
 pub returns-else-k-inputs-2-clause-is : goal.returns-else-k-inputs-2-clause-is
 returns-else-k-inputs-2-clause-is c =
     let s = session_in c.args.self.now in
-    let wiring = c.requires.wiring in
-    let o = c.args.k - c.len-inputs.result - c.len-gates.result in
-    let here : length (owners s) + length s.gates + o ≡ c.args.k = omega (arith, c.if-k-inputs-2.false, c.len-inputs.ensures, c.len-gates.ensures, ap length wiring.owned) in
-    let within : o < length (readers s) = omega (arith, here, c.requires.within, wiring_count c.args.self.now wiring c.if-self.false, ap length wiring.owned, ap length wiring.read) in
-    sym (ap (session_slot s) (sym here) ∙ slot_output s c.if-self.false o within)
-
-pub returns-else-k-inputs-2-clause-inside : goal.returns-else-k-inputs-2-clause-inside
-returns-else-k-inputs-2-clause-inside c =
-    let wiring = c.requires.wiring in
-    omega (arith, c.if-k-inputs-2.false, c.len-inputs.ensures, c.len-gates.ensures, c.requires.within, wiring_count c.args.self.now wiring c.if-self.false, ap length wiring.read)
+    let here : length c.args.self.now.owners.items + length s.gates + (c.args.k - c.len-inputs.result - c.len-gates.result) ≡ c.args.k = omega (arith, c.if-k-inputs.false, c.if-k-inputs-2.false, c.len-inputs.ensures, c.len-gates.ensures) in
+    c.kind_behind.ensures.is ∙ ap (session_slot s) here
 
 pub returns-then-self-clause-inside : goal.returns-then-self-clause-inside
 returns-then-self-clause-inside c =

@@ -1,4 +1,4 @@
-use Rattle.std.proofs.Common.{◌<◌, ◌^◌, ap, sym, ◌∙◌, subst, arith}
+use Rattle.std.proofs.Common.{◌<◌, ◌^◌, sym, subst, arith}
 use Rattle.job_plan.specs.declared.key.Key.{Key}
 use Rattle.frame_code.specs.Frames.{FitsFrame}
 use Rattle.node_run.specs.Mail.{Mail, MayPost}
@@ -15,7 +15,7 @@ pub invariant_of-self : goal.invariant_of-self
 invariant_of-self g c =
     let may = subst (λ (z : Mail). MayPost z c.args.number c.args.word) (sym c.self.view_is) c.requires in
     with_word _ c.self.invariant c.args.number c.args.word may.there
-    (λ to. absurd ((between_parties c.self.inside.plan.now c.self.invariant.sound c.args.number may.there).apart (may.sender ∙ sym to)))
+    (λ from. absurd (from.sender may.sender))
     c.post.new.self c.post.ensures.put.0
 
 pub frame-requires : goal.frame-requires
@@ -28,8 +28,7 @@ send-requires-clause-party g c =
     let may = subst (λ (z : Mail). MayPost z c.args.number c.args.word) (sym c.self.view_is) c.requires in
     subst (λ (z : Key). z.receiver < c.self.inside.plan.now.parties) (sym c.message-key.ensures.is) (between_parties c.self.inside.plan.now c.self.invariant.sound c.args.number may.there).receiver
 
-pub send-requires-clause-other : goal.send-requires-clause-other
-send-requires-clause-other g c = λ e.
+pub invariant_of-self-else-key-self : goal.invariant_of-self-else-key-self
+invariant_of-self-else-key-self g c =
     let may = subst (λ (z : Mail). MayPost z c.args.number c.args.word) (sym c.self.view_is) c.requires in
-    (between_parties c.self.inside.plan.now c.self.invariant.sound c.args.number may.there).apart
-    (may.sender ∙ sym (sym (ap (λ (z : Key). z.receiver) c.message-key.ensures.is) ∙ e))
+    with_word _ c.self.invariant c.args.number c.args.word may.there (λ from. absurd (from.sender may.sender)) c.post.new.self c.post.ensures.put.0

@@ -2,9 +2,9 @@ use Rattle.std.proofs.Common.{length, sym, ap₂, ◌∙◌, subst}
 use Rattle.job_session.specs.KeptWires.{sets_in}
 use Rattle.job_session.specs.Sessions.{session_slot}
 use Rattle.job_plan.specs.Plans.{session}
-use Rattle.party_program.specs.States.{slot_of, took_in}
+use Rattle.party_program.specs.States.{taking_slot, took_in}
 use Rattle.party_desk.specs.Memories.{state_of, row_of, on_rows, Alike}
-use Rattle.party_desk.proofs.NamedSlots.{named_product, same_slot}
+use Rattle.party_desk.proofs.NamedSlots.{same_taken, taken_product}
 use Rattle.party_desk.proofs.RowStates.{added_on_rows, products_add_up}
 use Rattle.party_desk.proofs.desk.Desk.take_word.Goals as goal
 
@@ -13,14 +13,14 @@ returns-in-Multiplied-clause-state c =
     let plan = c.args.plan.now in
     let d = c.args.self.now in
     let m = length plan.groups in
-    let z = slot_of plan c.args.number in
+    let z = taking_slot plan c.args.number in
     added_on_rows plan d.session (row_of d.memory) (state_of m d.memory) (state_of m c.add.new.self) c.args.share c.args.word c.add.ensures.state z
-    (products_add_up plan d.session z (named_product plan d c.requires.stands c.args.number c.args.share c.requires.proper c.requires.here (sym c.in-Multiplied.ensures)))
+    (products_add_up plan d.session z (taken_product plan d c.requires.stands c.args.number c.args.share c.requires.proper c.requires.here (sym c.in-Multiplied.ensures)))
 
 pub returns-in_default-clause-state : goal.returns-in_default-clause-state
 returns-in_default-clause-state c =
     let plan = c.args.plan.now in
     let d = c.args.self.now in
     let m = length plan.groups in
-    let is = c.slot_kind-kind.ensures.is ∙ ap₂ session_slot c.part.ensures c.slot.ensures ∙ same_slot plan d c.requires.stands c.args.number c.args.share c.requires.proper c.requires.here in
+    let is = c.slot_kind-kind.ensures.is ∙ ap₂ session_slot c.part.ensures c.slot.ensures ∙ same_taken plan d c.requires.stands c.args.number c.args.share c.requires.proper c.requires.here in
     subst (λ z. Alike m (state_of m c.take.new.self) (on_rows (row_of d.memory) (sets_in (session plan d.session) z) (took_in plan d.session z c.args.share c.args.word) (state_of m d.memory))) is c.take.ensures.state

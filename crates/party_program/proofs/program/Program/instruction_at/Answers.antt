@@ -1,7 +1,6 @@
 use Rattle.std.proofs.Common.{◌≡◌, ℕ, zero, suc, ◌<◌, ◌-◌, ◌^◌, List, length, refl, sym, ap, ◌∙◌, subst, arith}
 use Rattle.std.specs.Prelude.{slice_index_or}
 use Rattle.job_plan.specs.Plans.{Plan, slots}
-use Rattle.job_plan.specs.Firsts.{first}
 use Rattle.job_plan.specs.Numbers.{deals_before}
 use Rattle.job_plan.specs.Patterns.{pattern_at}
 use Rattle.job_plan.specs.declared.pattern.Pattern.TheVariants.{Silent}
@@ -11,7 +10,7 @@ use Rattle.party_program.specs.declared.place.Place.{Place}
 use Rattle.party_program.specs.declared.program.Program.{Program}
 use Rattle.party_program.specs.declared.step.Step.{Step}
 use Rattle.party_program.specs.declared.step.Step.TheVariants.{Draw, Linear}
-use Rattle.party_program.specs.Programs.{program, at}
+use Rattle.party_program.specs.Programs.{first_named, program, at}
 use Rattle.party_program.specs.PartySteps.{steps, placed, IsPlaced}
 use Rattle.party_program.specs.ProgramPlaces.{IsPlace, IsProgram}
 use Rattle.party_program.proofs.ProgramPlaces.{in_slot, ends_there, instruction_is}
@@ -47,7 +46,7 @@ returns-in-Silent c = λ q here.
     let within = found_within plan own c.requires.is place.half place.slot l Silent is (steps plan own.party place.half Silent) refl place.done some in
     sym (instruction_is plan own.party own.session place q here left
     ∙ sym (instruction plan own c.requires.is place.half place.slot l Silent is (steps plan own.party place.half Silent) refl place.done some)
-    ∙ ap (placed place.slot (first plan own.session place.slot) (deals_before plan own.party own.session place.slot)) (silent_step plan own.party place.half place.done within))
+    ∙ ap (placed place.slot (first_named plan own.session place.slot) (deals_before plan own.party own.session place.slot)) (silent_step plan own.party place.half place.done within))
 
 pub of-requires : goal.of-requires
 of-requires c =
@@ -96,9 +95,6 @@ bounds-of-place c =
 
 pub placed-requires-clause-slot : goal.placed-requires-clause-slot
 placed-requires-clause-slot c = there c.args.plan.now c.args.self.now c.args.place.now c.requires.is c.requires.place.0 c.requires.place.1 c.if-place.false
-
-pub placed-requires-clause-first : goal.placed-requires-clause-first
-placed-requires-clause-first c = c.requires.place.1.first
 
 pub placed-requires-clause-fits : goal.placed-requires-clause-fits
 placed-requires-clause-fits c =

@@ -37,9 +37,6 @@ bounds-of_product-at c =
 pub placed-requires-clause-slot : goal.placed-requires-clause-slot
 placed-requires-clause-slot c = there c.args.plan.now c.args.self.now c.args.place.now c.requires.place.0 c.args.at c.requires.place.1 c.requires.left c.requires.product
 
-pub placed-requires-clause-first : goal.placed-requires-clause-first
-placed-requires-clause-first c = c.requires.place.1.first
-
 pub placed-requires-clause-fits : goal.placed-requires-clause-fits
 placed-requires-clause-fits c =
     let plan = c.args.plan.now in

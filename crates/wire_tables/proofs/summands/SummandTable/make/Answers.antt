@@ -1,10 +1,14 @@
-use Rattle.std.proofs.Common.{ℕ, ◌+◌, set, sym, subst, arith}
+use Rattle.std.proofs.Common.{◌≡◌, ℕ, ◌+◌, length, set, sym, ap, ◌∙◌, subst, arith}
 use Rattle.std.specs.Global.{Vec}
 use Rattle.std.proofs.lemmas.List.{with_items_is}
+use Rattle.job_session.proofs.RowNames.{wires_named}
+use Rattle.job_plan.specs.InputWords.{session_words}
+use Rattle.job_plan.specs.Plans.{session}
 use Rattle.share_world.specs.Worlds.{World}
 use Rattle.wire_tables.specs.Places.{ArePlaces}
 use Rattle.wire_tables.specs.Steps.{AreRows, Sets}
-use Rattle.wire_tables.specs.WireTables.{world_given}
+use Rattle.wire_tables.specs.WireTables.{summand_rows, world_given}
+use Rattle.wire_tables.proofs.HandedOn.{carried_next}
 use Rattle.wire_tables.proofs.RowSteps.{rows_set, rows_kept, rows_last}
 use Rattle.wire_tables.proofs.summands.SummandTable.make.Goals as goal
 use Rattle.wire_tables.proofs.summands.SummandTable.make.Goals.{in-Some, in_default}
@@ -28,7 +32,20 @@ loop-k-preserved c =
     ] in
     record { places = places; rows = rows }
 
-pub returns : goal.returns
-returns c =
+pub hand_on-requires-clause-rows : goal.hand_on-requires-clause-rows
+hand_on-requires-clause-rows c =
+    let w : World = world_given c.args.plan.now c.args.inputs.now c.args.tapes.now in
+    omega (arith, c.loop-k.invariant.rows.names, wires_named (session w.plan c.args.s), c.deref-2.ensures.len, ap (length {A = Vec ℕ}) c.deref-2.ensures.value)
+
+pub returns-clause-table : goal.returns-clause-table
+returns-clause-table c =
     let w : World = world_given c.args.plan.now c.args.inputs.now c.args.tapes.now in
     rows_last w c.args.s c.requires.whole c.requires.session c.loop-k.k c.loop-k.rows.items (omega (arith, c.slots-k-end.ensures, c.loop-k-test.false, c.loop-k.auto.k-end)) c.loop-k.invariant.rows
+
+pub returns-clause-carried : goal.returns-clause-carried
+returns-clause-carried c =
+    let w : World = world_given c.args.plan.now c.args.inputs.now c.args.tapes.now in
+    let table : session_words c.deref-2.result.now ≡ summand_rows w c.args.s =
+    ap session_words c.deref-2.ensures.value
+    ∙ rows_last w c.args.s c.requires.whole c.requires.session c.loop-k.k c.loop-k.rows.items (omega (arith, c.slots-k-end.ensures, c.loop-k-test.false, c.loop-k.auto.k-end)) c.loop-k.invariant.rows in
+    carried_next w c.args.s (session_words c.deref-2.result.now) c.args.carried.now c.hand_on.new.self c.requires.whole.sound table c.requires.carried c.in_ok-hand_on.ensures.sessions c.in_ok-hand_on.ensures.handed_on

@@ -1,0 +1,11 @@
+use Rattle.std.proofs.Common.{◌≡◌, ◌*◌, ◌≤◌}
+use Rattle.list_laws.specs.Lists.{total}
+use Rattle.job_plan.specs.Keeping.{carried_count}
+use Rattle.job_plan.specs.Plans.{session}
+use Rattle.job_plan.proofs.counts.all_carried.Given as goal
+
+abbrev pub invariant-loop-s : goal.invariant-loop-s
+invariant-loop-s l = record {
+  is : l.count ≡ total l.s (λ s. carried_count (session l.outline s));
+  few : l.count ≤ 131072 * l.s;
+}

@@ -1,0 +1,5 @@
+use Rattle.job_session.proofs.Carries.{carried_outputs}
+use Rattle.job_session.proofs.laws.carried_wires_are_outputs.Goals as goal
+
+pub returns : goal.returns
+returns c = carried_outputs
