@@ -1,4 +1,4 @@
-//! Workers, each of which steps any desk that it finds at home: first those of its share, so that what the desks hold
+//! Workers, each of which steps any desk that it finds at home: first those of its own, so that what the desks hold
 //! stays near the processor, and the others where none of these moves.
 ghost use Rattle.std.specs.Prelude.{◌≡◌, ◌+◌, ◌<◌, ◌≤◌, ◌^◌, length, vec_len};
 ghost use Rattle.message_board.specs.Seats.{IsFreeSeatOf, slots_of};
@@ -59,8 +59,8 @@ struct Slots {
     count: u32,
 }
 
-// The slots that a worker goes round first, where each of so many workers has a share as large.
-fn share_of(worker: u64, workers: usize, slots: u32) -> Slots
+// The slots that a worker goes round first, where each of so many workers has as many of its own.
+fn own_slots(worker: u64, workers: usize, slots: u32) -> Slots
     requires { worker < 2 ^ 16 }
     ensures first { 0 < slots → result.first < slots }
     ensures count { result.count ≤ slots }
@@ -121,29 +121,29 @@ fn pass<P: Pace>(
     Visit { moves, over }
 }
 
-// Visits the slots of the worker's share, and where no desk of them moved, all slots.
+// Visits the worker's own slots, and where no desk of them moved, all slots.
 fn round<P: Pace>(
     rack: &Rack<Promised, Box<Desk>>,
     plan: &Plan,
     pace: &P,
     worker: u32,
-    share: Slots,
+    slots: Slots,
     seat: &mut BoardSeat<Promised, Box<Desk>>,
 ) -> Visit
     requires pool { IsPool plan.now rack.now }
-    requires first { 0 < slots_of rack.now.id → share.first < slots_of rack.now.id }
-    requires count { share.count ≤ slots_of rack.now.id }
+    requires first { 0 < slots_of rack.now.id → slots.first < slots_of rack.now.id }
+    requires count { slots.count ≤ slots_of rack.now.id }
     requires seat { IsFreeSeatOf rack.now seat.old }
     ensures seat { IsFreeSeatOf rack.now seat.new }
     ensures seats { seat.new.view.seats ≡ seat.old.view.seats }
     ensures moves { result.moves < 2 ^ 40 }
 {
-    let own = pass(rack, plan, pace, worker, share, seat);
+    let own = pass(rack, plan, pace, worker, slots, seat);
     if own.moves > 0 {
         return own;
     }
     let all = Slots {
-        first: share.first,
+        first: slots.first,
         count: rack.slots(),
     };
     pass(rack, plan, pace, worker, all, seat)
@@ -175,12 +175,12 @@ fn work<P: Pace>(
     ensures seat { IsFreeSeatOf rack.now seat.new }
     ensures seats { seat.new.view.seats ≡ seat.old.view.seats }
 {
-    let share = share_of(u64::from(worker), workers, rack.slots());
+    let slots = own_slots(u64::from(worker), workers, rack.slots());
     let mut idle = 0;
     let mut made = 0;
     let mut over = false;
     while !over && idle < MOST_IDLE && made < instructions {
-        let seen = round(rack, plan, pace, worker, share, seat);
+        let seen = round(rack, plan, pace, worker, slots, seat);
         made += seen.moves;
         idle = next_idle(idle, seen.moves);
         over = seen.over;

@@ -1,4 +1,4 @@
--- A share that fits its plan is that of a node of a world, and such a node has its part and its desks.
+-- A node's part that fits its plan is that of a node of a world, and such a node has what a party of it has, and its desks.
 use Rattle.std.proofs.Common.{◌≡◌, ℕ, zero, suc, ◌+◌, ◌<◌, ◌≤◌, ◌^◌, Bool, true, false, nat_eq, List, [], ◌∷◌, ◌++◌, length, take, drop, replicate, refl, sym, ap, ◌∙◌, subst, arith, Some}
 use Rattle.std.specs.Prelude.{if◌then◌else◌, slice_index, slice_index_or}
 use Rattle.std.specs.List.{slice_get, concat}
@@ -27,7 +27,7 @@ use Rattle.party_desk.specs.declared.desk.Desk.{Desk}
 use Rattle.party_desk.specs.Desks.{IsDesk, IsNew}
 use Rattle.desk_laws.proofs.Elements.{by_place}
 use Rattle.node_talk.specs.Talks.{Node}
-use Rattle.node_run.specs.Ready.{Share, IsShare, IsNodeOf, AreOpened}
+use Rattle.node_run.specs.Ready.{NodePart, IsNodePart, IsNodeOf, AreOpened}
 
 -- ---- lists one after another
 
@@ -56,7 +56,7 @@ cut_out (suc n) s f l = elim (cases_eq s n) [
       ∙ cut_out n s f (omega arith)
 ]
 
--- ---- what a party with this share has
+-- ---- what a party with this part has
 
 -- a party's part, by its inputs and its tape
 record HasPart (plan : Plan) (p : ℕ) (inputs : List (List ℕ)) (tape : List ℕ) : Type 0 where
@@ -67,61 +67,61 @@ record HasPart (plan : Plan) (p : ℕ) (inputs : List (List ℕ)) (tape : List �
   small_inputs : (s i : ℕ) → slice_index (slice_index_or inputs s []) i < 2 ^ plan.bits
   small_tape : (i : ℕ) → slice_index tape i < 2 ^ plan.bits
 
-module _ (share : Share) (h : IsShare share) where
+module _ (part : NodePart) (h : IsNodePart part) where
   abbrev piece : ℕ → List ℕ
-  piece s = slice_index_or share.given.tapes s []
+  piece s = slice_index_or part.given.tapes s []
 
   abbrev sessions : ℕ
-  sessions = length share.plan.sessions
+  sessions = length part.plan.sessions
 
-  tape_is : joined sessions piece ≡ concat share.given.tapes
-  tape_is = ap (λ n. joined n piece) (sym h.fits.tapes) ∙ joined_is_concat share.given.tapes
+  tape_is : joined sessions piece ≡ concat part.given.tapes
+  tape_is = ap (λ n. joined n piece) (sym h.fits.tapes) ∙ joined_is_concat part.given.tapes
 
-  counted : (t : ℕ) → t ≤ sessions → total t (λ s. length (piece s)) ≡ total t (words share.plan share.me)
+  counted : (t : ℕ) → t ≤ sessions → total t (λ s. length (piece s)) ≡ total t (words part.plan part.me)
   counted t lt = total_eq t _ _ (λ s ls. h.fits.lengths s (omega arith))
 
-  has_part : HasPart share.plan share.me share.given.inputs (concat share.given.tapes)
+  has_part : HasPart part.plan part.me part.given.inputs (concat part.given.tapes)
   has_part = record {
     sound = h.sound;
     party = h.party;
     counts = h.fits.counts;
     long = ap length (sym tape_is) ∙ length-joined sessions piece ∙ counted sessions (omega arith);
     small_inputs = h.fits.below;
-    small_tape = λ i. subst (λ t. slice_index t i < 2 ^ share.plan.bits) tape_is
-        (every_at (λ x. x < 2 ^ share.plan.bits) (joined sessions piece) i (pow_pos share.plan.bits)
-        (every_joined (λ x. x < 2 ^ share.plan.bits) sessions piece (λ s ls. recursion_from_All _ _ (h.fits.drawn s))));
+    small_tape = λ i. subst (λ t. slice_index t i < 2 ^ part.plan.bits) tape_is
+        (every_at (λ x. x < 2 ^ part.plan.bits) (joined sessions piece) i (pow_pos part.plan.bits)
+        (every_joined (λ x. x < 2 ^ part.plan.bits) sessions piece (λ s ls. recursion_from_All _ _ (h.fits.drawn s))));
   }
 
   -- its piece of tape in a session
-  piece_is : (s : ℕ) → s < sessions → take (words share.plan share.me s) (drop (place share.plan share.me s 0) (concat share.given.tapes)) ≡ piece s
+  piece_is : (s : ℕ) → s < sessions → take (words part.plan part.me s) (drop (place part.plan part.me s 0) (concat part.given.tapes)) ≡ piece s
   piece_is s ls =
-      let before : place share.plan share.me s 0 ≡ total s (λ j. length (piece j)) = (let e = counted s (omega arith) in omega (arith, e)) in
-      ap (λ k. take k (drop (place share.plan share.me s 0) (concat share.given.tapes))) (sym (h.fits.lengths s ls))
-      ∙ ap (λ k. take (length (piece s)) (drop k (concat share.given.tapes))) before
+      let before : place part.plan part.me s 0 ≡ total s (λ j. length (piece j)) = (let e = counted s (omega arith) in omega (arith, e)) in
+      ap (λ k. take k (drop (place part.plan part.me s 0) (concat part.given.tapes))) (sym (h.fits.lengths s ls))
+      ∙ ap (λ k. take (length (piece s)) (drop k (concat part.given.tapes))) before
       ∙ ap (λ t. take (length (piece s)) (drop (total s (λ j. length (piece j))) t)) (sym tape_is)
       ∙ cut_out sessions s piece ls
 
   -- ---- in a world
 
-  module _ (n : Node) (of : IsNodeOf share n) where
+  module _ (n : Node) (of : IsNodeOf part n) where
     abbrev inputs : List (List ℕ)
     inputs = slice_index_or n.world.inputs n.me []
 
     abbrev tape : List ℕ
     tape = slice_index_or n.world.tapes n.me []
 
-    inputs_are : inputs ≡ share.given.inputs
+    inputs_are : inputs ≡ part.given.inputs
     inputs_are = ap (λ p. slice_index_or n.world.inputs p []) of.me ∙ of.inputs
 
-    tape_are : tape ≡ concat share.given.tapes
+    tape_are : tape ≡ concat part.given.tapes
     tape_are = ap (λ p. slice_index_or n.world.tapes p []) of.me ∙ of.tape
 
     part_here : HasPart n.world.plan n.me inputs tape
     part_here =
         subst (λ plan. HasPart plan n.me inputs tape) (sym of.plan)
-        (subst (λ p. HasPart share.plan p inputs tape) (sym of.me)
-        (subst (λ xs. HasPart share.plan share.me xs tape) (sym inputs_are)
-        (subst (λ t. HasPart share.plan share.me share.given.inputs t) (sym tape_are) has_part)))
+        (subst (λ p. HasPart part.plan p inputs tape) (sym of.me)
+        (subst (λ xs. HasPart part.plan part.me xs tape) (sym inputs_are)
+        (subst (λ t. HasPart part.plan part.me part.given.inputs t) (sym tape_are) has_part)))
 
     pub is_part : IsPart n.world n.me
     is_part = record {
@@ -148,32 +148,32 @@ module _ (share : Share) (h : IsShare share) where
 
       given_is : s < sessions → local_given n.world got s n.me
           ≡ record {
-            plan = share.plan;
-            party = share.me;
+            plan = part.plan;
+            party = part.me;
             session = s;
-            inputs = slice_index_or share.given.inputs s [];
+            inputs = slice_index_or part.given.inputs s [];
             tape = piece s;
             got = λ m. got (message n.world.plan m);
           }
       given_is ls =
           ap (λ plan. given_by plan n.me inputs tape) of.plan
-          ∙ ap (λ p. given_by share.plan p inputs tape) of.me
-          ∙ ap (λ xs. given_by share.plan share.me xs tape) inputs_are
-          ∙ ap (λ t. given_by share.plan share.me share.given.inputs t) tape_are
+          ∙ ap (λ p. given_by part.plan p inputs tape) of.me
+          ∙ ap (λ xs. given_by part.plan part.me xs tape) inputs_are
+          ∙ ap (λ t. given_by part.plan part.me part.given.inputs t) tape_are
           ∙ ap (λ t. record {
-            plan = share.plan;
-            party = share.me;
+            plan = part.plan;
+            party = part.me;
             session = s;
-            inputs = slice_index_or share.given.inputs s [];
+            inputs = slice_index_or part.given.inputs s [];
             tape = t;
             got = λ m. got (message n.world.plan m);
           }) (piece_is s ls)
 
-    module _ (desks : List Desk) (opened : AreOpened share.plan share.me share.given desks) where
-      new_here : (s : ℕ) (d : Desk) → slice_get desks s ≡ Some d → IsNew share.plan share.me s (slice_index_or share.given.inputs s []) (piece s) d
+    module _ (desks : List Desk) (opened : AreOpened part.plan part.me part.given desks) where
+      new_here : (s : ℕ) (d : Desk) → slice_get desks s ≡ Some d → IsNew part.plan part.me s (slice_index_or part.given.inputs s []) (piece s) d
       new_here s d is =
-          subst (IsNew share.plan share.me s (slice_index_or share.given.inputs s []) (piece s)) (get_or_from_slice_get desks s d d is)
-          (by_place (λ s d. IsNew share.plan share.me s (slice_index_or share.given.inputs s []) (piece s) d) desks opened.each s d (slice_get_within desks s d is))
+          subst (IsNew part.plan part.me s (slice_index_or part.given.inputs s []) (piece s)) (get_or_from_slice_get desks s d d is)
+          (by_place (λ s d. IsNew part.plan part.me s (slice_index_or part.given.inputs s []) (piece s) d) desks opened.each s d (slice_get_within desks s d is))
 
       -- a desk that was opened is one of the world, at its start
       pub new_desk : (got : Key → ℕ) (s : ℕ) (d : Desk) → slice_get desks s ≡ Some d → IsDesk (local_given n.world got s n.me) d
@@ -184,7 +184,7 @@ module _ (share : Share) (h : IsShare share) where
       pub new_position : (s : ℕ) (d : Desk) → slice_get desks s ≡ Some d → d.position ≡ 0
       new_position s d is = (new_here s d is).position
 
--- ---- a world for a share
+-- ---- a world for a part
 
 chosen : {A : Type 0} (P : A → Type 0) (p me : ℕ) (x y : A) → (p ≡ me → P x) → P y → P (if nat_eq p me then x else y)
 chosen {A} P p me x y here there = go (nat_eq p me) refl
@@ -199,15 +199,15 @@ none_large n k bits = elim (cases_lt k n) [
   | inr past ↦ subst (λ w. w < 2 ^ bits) (sym (get_or_past (replicate n 0) k 0 (omega (arith, past, length-replicate {A = ℕ} n 0)))) (pow_pos bits)
 ]
 
-module _ (share : Share) (h : IsShare share) where
+module _ (part : NodePart) (h : IsNodePart part) where
   abbrev plan : Plan
-  plan = share.plan
+  plan = part.plan
 
   abbrev many : ℕ
-  many = length share.plan.sessions
+  many = length part.plan.sessions
 
   abbrev q : ℕ
-  q = 2 ^ share.plan.bits
+  q = 2 ^ part.plan.bits
 
   -- the others give zeros
   abbrev zeros_in : ℕ → ℕ → List ℕ
@@ -217,10 +217,10 @@ module _ (share : Share) (h : IsShare share) where
   zeros p = listed many (zeros_in p)
 
   abbrev inputs_by : ℕ → List (List ℕ)
-  inputs_by p = if nat_eq p share.me then share.given.inputs else zeros p
+  inputs_by p = if nat_eq p part.me then part.given.inputs else zeros p
 
   abbrev tape_by : ℕ → List ℕ
-  tape_by p = if nat_eq p share.me then concat share.given.tapes else replicate (tape_length plan p) 0
+  tape_by p = if nat_eq p part.me then concat part.given.tapes else replicate (tape_length plan p) 0
 
   abbrev some_world : World
   some_world = record { plan = plan; inputs = listed plan.parties inputs_by; tapes = listed plan.parties tape_by }
@@ -240,15 +240,15 @@ module _ (share : Share) (h : IsShare share) where
   are_inputs : AreInputs plan some_world.inputs
   are_inputs = record {
     parties = length-listed plan.parties inputs_by;
-    sessions = λ p lp. ap length (inputs_at p lp) ∙ chosen (λ xs. length xs ≡ many) p share.me share.given.inputs (zeros p) (λ e. h.fits.sessions) (length-listed many (zeros_in p));
+    sessions = λ p lp. ap length (inputs_at p lp) ∙ chosen (λ xs. length xs ≡ many) p part.me part.given.inputs (zeros p) (λ e. h.fits.sessions) (length-listed many (zeros_in p));
     counts = λ p s lp ls.
         ap (λ xs. length (slice_index_or xs s [])) (inputs_at p lp)
-        ∙ chosen (λ xs. length (slice_index_or xs s []) ≡ input_count plan p s) p share.me share.given.inputs (zeros p)
-        (λ e. subst (λ z. length (slice_index_or share.given.inputs s []) ≡ input_count plan z s) (sym e) (h.fits.counts s ls))
+        ∙ chosen (λ xs. length (slice_index_or xs s []) ≡ input_count plan p s) p part.me part.given.inputs (zeros p)
+        (λ e. subst (λ z. length (slice_index_or part.given.inputs s []) ≡ input_count plan z s) (sym e) (h.fits.counts s ls))
         (ap length (listed_at many (zeros_in p) s [] ls) ∙ length-replicate (input_count plan p s) 0);
     below = λ p s k. elim (cases_lt p plan.parties) [
       | inl lp ↦ subst (λ xs. slice_index (slice_index_or xs s []) k < q) (sym (inputs_at p lp))
-          (chosen (λ xs. slice_index (slice_index_or xs s []) k < q) p share.me share.given.inputs (zeros p) (λ e. h.fits.below s k) (zeros_below p s k))
+          (chosen (λ xs. slice_index (slice_index_or xs s []) k < q) p part.me part.given.inputs (zeros p) (λ e. h.fits.below s k) (zeros_below p s k))
       | inr past ↦ subst (λ xs. slice_index (slice_index_or xs s []) k < q) (sym (get_or_past some_world.inputs p [] (omega (arith, past, length-listed plan.parties inputs_by)))) (pow_pos plan.bits)
     ];
   }
@@ -258,25 +258,25 @@ module _ (share : Share) (h : IsShare share) where
     parties = length-listed plan.parties tape_by;
     lengths = λ p lp.
         ap length (tape_at p lp)
-        ∙ chosen (λ t. length t ≡ tape_length plan p) p share.me (concat share.given.tapes) (replicate (tape_length plan p) 0)
-        (λ e. subst (λ z. length (concat share.given.tapes) ≡ tape_length plan z) (sym e) (has_part share h).long)
+        ∙ chosen (λ t. length t ≡ tape_length plan p) p part.me (concat part.given.tapes) (replicate (tape_length plan p) 0)
+        (λ e. subst (λ z. length (concat part.given.tapes) ≡ tape_length plan z) (sym e) (has_part part h).long)
         (length-replicate (tape_length plan p) 0);
     below = λ p i. elim (cases_lt p plan.parties) [
       | inl lp ↦ subst (λ t. slice_index t i < q) (sym (tape_at p lp))
-          (chosen (λ t. slice_index t i < q) p share.me (concat share.given.tapes) (replicate (tape_length plan p) 0) (λ e. (has_part share h).small_tape i) (none_large (tape_length plan p) i plan.bits))
+          (chosen (λ t. slice_index t i < q) p part.me (concat part.given.tapes) (replicate (tape_length plan p) 0) (λ e. (has_part part h).small_tape i) (none_large (tape_length plan p) i plan.bits))
       | inr past ↦ subst (λ t. slice_index t i < q) (sym (get_or_past some_world.tapes p [] (omega (arith, past, length-listed plan.parties tape_by)))) (pow_pos plan.bits)
     ];
   }
 
-  pub some_node : (n : Node) × IsNodeOf share n × IsWhole n.world
+  pub some_node : (n : Node) × IsNodeOf part n × IsWhole n.world
   some_node =
-      let own : nat_eq share.me share.me ≡ true = eq-eqb share.me share.me refl in (
-        record { world = some_world; me = share.me; digest = share.digest },
+      let own : nat_eq part.me part.me ≡ true = eq-eqb part.me part.me refl in (
+        record { world = some_world; me = part.me; digest = part.digest },
         record {
           plan = refl;
           me = refl;
-          inputs = inputs_at share.me h.party ∙ ap (λ b. if b then share.given.inputs else zeros share.me) own;
-          tape = tape_at share.me h.party ∙ ap (λ b. if b then concat share.given.tapes else replicate (tape_length plan share.me) 0) own;
+          inputs = inputs_at part.me h.party ∙ ap (λ b. if b then part.given.inputs else zeros part.me) own;
+          tape = tape_at part.me h.party ∙ ap (λ b. if b then concat part.given.tapes else replicate (tape_length plan part.me) 0) own;
           digest = refl;
         },
         record { sound = h.sound; inputs = are_inputs; tapes = are_tapes },
