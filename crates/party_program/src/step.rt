@@ -5,7 +5,7 @@ ghost use Rattle.party_program.specs.PartySteps.{placed, IsPlaced};
 use crate::program::Instruction;
 
 /// A step of a party in a slot. It depends on the slot's pattern alone, so it names a message by its place among the
-/// lines of the pattern. It takes four bytes.
+/// transfers of the pattern. It takes four bytes.
 #[derive(Clone, Copy, Debug, PartialEq, Eq)]
 pub enum Step {
     /// Draws the party's words of a mask.
