@@ -65,7 +65,7 @@ fn next_gate(
     ensures { AddsNext layout seen lines.old builder.old result lines.new builder.new }
 {
     match scan_gate(lines, layout) {
-        Some(said) => add_gate(&said, builder),
+        Some(parsed) => add_gate(&parsed, builder),
         None => other_gate(lines, seen, layout, builder),
     }
 }
@@ -84,8 +84,8 @@ fn other_gate(
     ensures { AddsNext layout seen lines.old builder.old result lines.new builder.new }
 {
     let row = next_row(lines, seen)?;
-    let said = read_gate(&row, layout)?;
-    add_gate(&said, builder)
+    let parsed = read_gate(&row, layout)?;
+    add_gate(&parsed, builder)
 }
 
 /// Adds the gates of so many lines.

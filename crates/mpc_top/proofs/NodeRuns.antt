@@ -30,7 +30,7 @@ use Rattle.std.specs.Global.{Vec}
 use Rattle.node_run.specs.Ready.{NodePart, given_words, IsNodeOf}
 use Rattle.mpc_top.specs.NodeTalks.{NodeAsked, node_part, lines_of, Talks, HearsAllQuietly}
 use Rattle.mpc_top.specs.LinkTalks.{Written, TalkedOver}
-use Rattle.mpc_top.specs.Stops.{RunsWords}
+use Rattle.mpc_top.specs.Outcomes.{RunsWords}
 use Rattle.mpc_top.proofs.Runs.{spawner_kept}
 
 abbrev pub asked_of : NodeJob → Bool → NodeAsked

@@ -6,7 +6,7 @@ ghost use Rattle.command_words.specs.Commands.{node};
 ghost use Rattle.node_run.specs.Ready.{IsNodePart};
 ghost use Rattle.mpc_top.specs.LinkTalks.{TalkedOver};
 ghost use Rattle.mpc_top.specs.Outside.{outside_of};
-ghost use Rattle.mpc_top.specs.Stops.{RunsWords};
+ghost use Rattle.mpc_top.specs.Outcomes.{RunsWords};
 
 use job_plan::Plan;
 use job_walk::{NodeJob, Stop, read_node};

@@ -7,7 +7,7 @@ ghost use Rattle.job_walk.specs.JobReads.{ReadsPlan};
 ghost use Rattle.job_walk.specs.Seen.{text_view};
 ghost use Rattle.mpc_top.specs.Due.{IsAlone};
 ghost use Rattle.mpc_top.specs.Outside.{outside_of};
-ghost use Rattle.mpc_top.specs.Stops.{RunsWords, RunsAlone};
+ghost use Rattle.mpc_top.specs.Outcomes.{RunsWords, RunsAlone};
 
 use crate::audit::audit_job;
 use crate::node::run_node;

@@ -1,7 +1,7 @@
-//! What `err` is told of a stop.
+//! The text of a stop, for `err`.
 ghost use Rattle.std.specs.Prelude.{◌≡◌, IsOk};
 ghost use Rattle.outer_io.specs.Sink.{Writes};
-ghost use Rattle.mpc_top.specs.Stops.{text_of};
+ghost use Rattle.mpc_top.specs.Outcomes.{text_of};
 
 use fault_text::write_fault;
 use job_walk::Stop;

@@ -2,9 +2,9 @@ use Rattle.std.proofs.Common.{◌∷◌, [], sym, subst}
 use Rattle.std.specs.Prelude.{codes}
 use Rattle.std.specs.List.{concat}
 use Rattle.outer_io.specs.Sink.{Writes}
-use Rattle.mpc_top.specs.Stops.{text_of}
+use Rattle.mpc_top.specs.Outcomes.{text_of}
 use Rattle.mpc_top.specs.Texts.{files_fault_line, usage_text}
-use Rattle.mpc_top.proofs.told.write_stop.Goals as goal
+use Rattle.mpc_top.proofs.stop_text.write_stop.Goals as goal
 
 pub returns-in-Words-clause-text : goal.returns-in-Words-clause-text
 unfolding usage_text
