@@ -53,7 +53,7 @@ Begins bits rows (Ok b) rest =
     × (b.1.refused ≡ None) × (b.0 ≤ 65536)
 Begins bits rows (Err f) rest = Fails f (header_in bits rows)
 
--- the draft has the gates of so many lines, or one of them has the first fault
+-- the draft has the gates of the next n lines, or one of them has the first fault
 abbrev pub AddsAll : CircuitLayout → ℕ → List Row → Draft → Result (Unit {0}) CircuitFault → List Row → Draft → Type 0
 AddsAll layout n rows old (Ok done) rest new =
     (gates_in layout n 3 old.circuit rows ≡ Ok (new.circuit, rest)) × (new.refused ≡ None)

@@ -14,7 +14,7 @@ use crate::tokens::{after, all_numbers, number_in};
 use circuit_model::{Builder, CircuitFault, CircuitLayout, Operation, check};
 use gate_lines::Line;
 
-/// What the tokens of a gate line are: so many input wires, other wires, and the operation.
+/// What the tokens of a gate line are: the operation, behind `wires` wires, of which the first `inputs` are inputs.
 #[derive(Clone, Copy)]
 pub(crate) struct Form {
     pub operation: Operation,
@@ -80,7 +80,7 @@ pub(crate) fn read_form(row: &Line<'_>, layout: CircuitLayout) -> Result<Form, C
     })
 }
 
-/// The numbers of the wires of a gate line, so many.
+/// The numbers of the first `count` wires of a gate line.
 fn read_wires(row: &Line<'_>, count: usize) -> [u64; 3]
     requires few { count ≤ 3 }
     requires long { count + 2 ≤ length row.now.tokens }

@@ -52,14 +52,14 @@ fn look_in<P: Pace>(
     Visit { moves, over }
 }
 
-// Slots that a worker goes round: so many from this one on.
+// Slots that a worker goes round: `count` of them, from `first` on.
 #[derive(Clone, Copy)]
 struct Slots {
     first: u32,
     count: u32,
 }
 
-// The slots that a worker goes round first, where each of so many workers has as many of its own.
+// The slots that a worker goes round first, where each of `workers` has as many of its own.
 fn own_slots(worker: u64, workers: usize, slots: u32) -> Slots
     requires { worker < 2 ^ 16 }
     ensures first { 0 < slots → result.first < slots }
@@ -157,8 +157,8 @@ fn next_idle(idle: u32, moves: u64) -> u32
     if moves == 0 { idle + 1 } else { 0 }
 }
 
-// Steps desks until all were found at home and at their end, or so many rounds in a row moved none, or the worker has
-// made as many moves as there are instructions.
+// Steps desks until all were found at home and at their end, or `MOST_IDLE` rounds in a row moved none, or the worker
+// has made as many moves as there are instructions.
 fn work<P: Pace>(
     rack: &Rack<Promised, Box<Desk>>,
     plan: &Plan,

@@ -48,7 +48,7 @@ impl Values {
         self.bits.pop().unwrap_or(false)
     }
 
-    /// Takes off the last values, so many, and tells how many of them are true.
+    /// Takes off the last `count` values, and tells how many of them are true.
     fn pop_many(&mut self, count: usize) -> usize
         ensures is { result ≡ how_many (take count self.old) }
         ensures rest { self.new ≡ drop count self.old }

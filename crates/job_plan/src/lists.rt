@@ -11,7 +11,7 @@ use crate::patterns::Patterns;
 use crate::starts::Starts;
 use std::alloc::{AllocError, Global};
 
-// Where the messages of each slot of session s begin, after so many before the session.
+// Where the messages of each slot of session s begin, after the `before` messages of earlier sessions.
 fn list_starts_of(
     alloc: Global,
     outline: &Outline,

@@ -20,7 +20,7 @@ use tape_words::Tape;
 
 const WORKERS: u32 = 4;
 
-/// Makes a job of so many gates, 1 to 65,536, and runs it by four workers. It reads no file.
+/// Makes a job of `count` gates, 1 to 65,536, and runs it by four workers. It reads no file.
 pub(crate) fn run_sample<F: Files, O: Sink, P: Pace, R: Threads + Sync>(
     rt: &R,
     alloc: Global,

@@ -74,8 +74,8 @@ abbrev pub steps : Plan → ℕ → Half → Pattern → List Step
 steps plan p Head pattern = steps_before plan p pattern ++ post_steps plan p pattern
 steps plan p Tail pattern = take_steps plan p pattern ++ steps_after p pattern
 
--- the instruction of a step in slot k, in which the first message that is posted or taken has this number, where p has made
--- so many deals before
+-- the instruction of a step in slot k, in which the first message that is posted or taken has this number, where p has
+-- made `deals` deals before
 abbrev pub placed : ℕ → ℕ → ℕ → Step → Instruction
 placed k first deals Draw = instruction.Draw k
 placed k first deals Deal = instruction.Deal k deals
@@ -88,7 +88,7 @@ placed k first deals Open = instruction.Open k
 placed k first deals Join = instruction.Join k
 placed k first deals Deliver = instruction.Deliver k
 
--- a message that the step names is one of so many
+-- a message that the step names is one of `count`
 abbrev pub IsPlaced : ℕ → Step → Type 0
 IsPlaced count (Post share place) = place < count
 IsPlaced count (Take share place) = place < count

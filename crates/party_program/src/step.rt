@@ -32,7 +32,7 @@ pub enum Step {
 
 impl Step {
     /// The instruction of the step in a slot, in which the first message that is posted or taken has this number, where
-    /// the party has made so many deals before.
+    /// the party has made `deals` deals before.
     #[inline(always)]
     pub(crate) fn placed(self, slot: u32, first: u32, deals: u32) -> Instruction
         requires { IsPlaced (2 ^ 32 - first) self }

@@ -47,7 +47,7 @@ pub struct Receiver {
     in_vain: InVain,
 }
 
-/// Both ends of a pipe that has room for so many bytes, with this flaw.
+/// Both ends of a pipe that has room for `room` bytes, with this flaw.
 pub fn make_pipe(
     alloc: Global,
     room: usize,
@@ -69,7 +69,7 @@ pub fn make_pipe(
     Ok((sender, receiver))
 }
 
-// A byte as the pipe takes it after so many others.
+// A byte as the pipe takes it after `sent` others.
 fn flawed(flaw: Flaw, sent: u64, byte: u8) -> Result<u8, Failed> {
     match flaw {
         Flaw::FailsAfter(most) if sent >= most => Err(Failed),
@@ -127,7 +127,7 @@ impl Receiver {
         self.at_gate = AtGate::Behind(gate);
     }
 
-    /// Opens this gate once so many bytes more are received.
+    /// Opens this gate once `bytes` bytes more are received.
     pub fn open_after(&mut self, bytes: u64, gate: Gate) {
         self.at_gate = AtGate::Opens(gate, bytes);
     }
