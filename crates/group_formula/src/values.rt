@@ -82,7 +82,7 @@ impl Values {
                 let first = self.pop();
                 first || second
             }
-            Node::AtLeast(count, parts) => count <= self.pop_many(parts),
+            Node::AtLeast { number, parts } => number <= self.pop_many(parts),
         };
         self.push(value);
     }

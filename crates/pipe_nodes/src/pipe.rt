@@ -26,8 +26,8 @@ enum AtGate {
     Free,
     /// It waits at the gate before it receives.
     Behind(Gate),
-    /// It opens the gate once it has received so many bytes more.
-    Opens(Gate, u64),
+    /// It opens the gate once it has received `bytes` bytes more.
+    Opens { gate: Gate, bytes: u64 },
 }
 
 /// The end of a pipe that sends. To drop it is to close it.
@@ -112,11 +112,14 @@ fn wait_at(gate: &Gate, in_vain: &InVain) -> Result<(), Failed> {
 // What is left to do with a gate once a byte more is received.
 fn after_a_byte(at_gate: AtGate) -> AtGate {
     match at_gate {
-        AtGate::Opens(gate, left) if left <= 1 => {
+        AtGate::Opens { gate, bytes } if bytes <= 1 => {
             gate.store(true, Ordering::SeqCst);
             AtGate::Free
         }
-        AtGate::Opens(gate, left) => AtGate::Opens(gate, left - 1),
+        AtGate::Opens { gate, bytes } => AtGate::Opens {
+            gate,
+            bytes: bytes - 1,
+        },
         other => other,
     }
 }
@@ -129,7 +132,7 @@ impl Receiver {
 
     /// Opens this gate once `bytes` bytes more are received.
     pub fn open_after(&mut self, bytes: u64, gate: Gate) {
-        self.at_gate = AtGate::Opens(gate, bytes);
+        self.at_gate = AtGate::Opens { gate, bytes };
     }
 
     /// The next byte once it is there, or None where the sender was dropped and no byte is left.

@@ -14,11 +14,11 @@ use std::test::Fail;
 use std::thread::Threads;
 
 /// The lines that let the parties of the product be nodes.
-pub const PLACES: Change<'static> = Change::Edit(
-    "job.toml",
-    "[[session]]\n",
-    "hosts = [\"first.example\", \"second.example\", \"third.example\"]\nport = 4000\n[[session]]\n",
-);
+pub const PLACES: Change<'static> = Change::Edit {
+    file: "job.toml",
+    old: "[[session]]\n",
+    new: "hosts = [\"first.example\", \"second.example\", \"third.example\"]\nport = 4000\n[[session]]\n",
+};
 
 /// The hosts of these lines.
 const HOSTS: [&str; 3] = ["first.example", "second.example", "third.example"];

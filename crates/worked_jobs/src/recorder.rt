@@ -26,7 +26,9 @@ use tape_words::Tape;
 /// What was asked of a recorder.
 #[derive(Clone, Copy, PartialEq, Eq)]
 enum Call {
-    Post(u32, u64),
+    /// That message `number` be posted with this word.
+    Post { number: u32, word: u64 },
+    /// That the message of this number be taken.
     Take(u32),
 }
 
@@ -38,10 +40,22 @@ const CALLS: [Call; 13] = [
     Call::Take(2),
     Call::Take(4),
     Call::Take(6),
-    Call::Post(16, 5),
-    Call::Post(17, 6),
-    Call::Post(18, 221),
-    Call::Post(19, 221),
+    Call::Post {
+        number: 16,
+        word: 5,
+    },
+    Call::Post {
+        number: 17,
+        word: 6,
+    },
+    Call::Post {
+        number: 18,
+        word: 221,
+    },
+    Call::Post {
+        number: 19,
+        word: 221,
+    },
     Call::Take(9),
     Call::Take(10),
     Call::Take(12),
@@ -97,7 +111,7 @@ impl Cells for Recorder {
     ghost below = { λ c k. All (λ w. w < 2 ^ k) c };
 
     fn post(&mut self, number: u32, word: u64) -> Posted {
-        self.keep(Call::Post(number, word));
+        self.keep(Call::Post { number, word });
         Posted::Done
     }
 
