@@ -209,6 +209,8 @@ fn fan_out<P: Pace, R: Threads + Sync>(
         requires { IsPool plan.now rack.now × IsFreeSeatOf rack.now seat.old × (instructions < 2 ^ 40) }
         ensures { IsFreeSeatOf rack.entry.now seat.new × (seat.new.view.seats ≡ seat.old.view.seats) }
     {
+        // The remainder is `i`, since there are at most 16 seats. No clause tells the closure so, and the product of a
+        // worker's number and of how many slots it has is to fit in 64 bits.
         work(
             rack,
             plan,

@@ -24,7 +24,9 @@ pub(crate) struct Patterns {
     handed_out: Transfers,
     opened_to_all: Transfers,
     held: Transfers,
+    // By party.
     deals: Vec<Transfers>,
+    // By the readers' mask.
     openings: IndexMap<u32, Transfers>,
 }
 
