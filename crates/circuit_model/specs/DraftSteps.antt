@@ -40,7 +40,7 @@ start_of bits gates wires inputs outputs lines =
     or_fault (first_fault (header_checks gates wires inputs outputs lines))
     (no_gates_yet bits gates wires inputs outputs)
 
--- the checks on a gate, for words of so many bits, so many wires, and the wires that are set
+-- the checks on a gate, for words of `bits` bits, `wires` wires, and those that are set
 unfoldable pub gate_checks : ℕ → ℕ → (ℕ → Bool) → ℕ → Operation → List ℕ → List ℕ → List (Option CircuitFault)
 gate_checks bits wires set line o inputs outputs =
     (not ((length inputs == arity o) && (length outputs == 1)) answers WrongArity line)

@@ -6,7 +6,7 @@ use Rattle.circuit_model.specs.declared.gate.Operation.{Operation}
 use Rattle.circuit_model.specs.declared.gate.Operation.TheVariants.{Add, Sub, Neg, Mul, Xor, And, Inv, Eq, Eqw}
 use Rattle.circuit_model.specs.Circuits.{values}
 
--- gates over so many wires, for words of so many bits, and how many wires each input and output value has
+-- gates over `wires` wires, for words of `bits` bits, and how many wires each input and output value has
 pub record Netlist : Type 0 where
   pub bits : ℕ
   pub gates : List Gate
@@ -55,7 +55,7 @@ inputs_read o taken = if is_constant o then [] else taken
 abbrev pub read_by : Gate → List ℕ
 read_by g = inputs_read g.operation (take (arity g.operation) (g.first ∷ g.second ∷ []))
 
--- the wire is one of so many input wires, or one of the gates sets it
+-- the wire is one of the `inputs` input wires, or one of the gates sets it
 abbrev pub is_set : ℕ → List Gate → ℕ → Bool
 is_set inputs gates w = nat_lt w inputs || list_any (λ (g : Gate). g.output == w) gates
 

@@ -8,7 +8,7 @@ use text_tokens::number;
 /// What a command line asks for. The texts are those of its words.
 #[derive(Clone, Copy, Debug, PartialEq, Eq)]
 pub enum Command<'w> {
-    /// `run DIR [--workers W] [--view GROUP]`: runs the job of the folder by so many workers, 1 to 16, and tells what
+    /// `run DIR [--workers W] [--view GROUP]`: runs the job of the folder by W workers, 1 to 16, and tells what
     /// the group sees, where one is given.
     Run {
         dir: &'w str,
@@ -32,7 +32,7 @@ pub enum Command<'w> {
         name: &'w str,
         view: bool,
     },
-    /// `sample N`: makes a job of so many gates, 1 to 65,536, and runs it.
+    /// `sample N`: makes a job of N gates, 1 to 65,536, and runs it.
     Sample {
         count: u32,
     },

@@ -31,8 +31,8 @@ pub struct Ready {
     last: Vec<BoardSeat<Promised, Box<Desk>>>,
 }
 
-/// Makes ready the world of these inputs and pieces of tape for so many workers. The pieces stand in the order of the
-/// desks' numbers: that of party p in session s is `s * parties + p`.
+/// Makes ready the world of these inputs and pieces of tape for this number of workers. The pieces stand in the order
+/// of the desks' numbers: that of party p in session s is `s * parties + p`.
 pub fn prepare(
     alloc: Global,
     plan: &Plan,

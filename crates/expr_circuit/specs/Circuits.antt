@@ -71,7 +71,7 @@ no_lines = record { of = λ x. None; gates = []; inputs = 0; outputs = [] }
 unfoldable pub draft_of : List Statement → Draft
 draft_of p = after_statements no_lines p
 
--- the number of a wire, where there are so many inputs
+-- the number of a wire, behind `inputs` inputs
 abbrev pub number_of : ℕ → Wire → ℕ
 number_of inputs (wires.Input i) = i
 number_of inputs (wires.Gate g) = inputs + g
@@ -84,7 +84,7 @@ copy w = record { operation = Eqw; first = w; second = no_wire; constant = 0 }
 abbrev pub all_gates : Draft → List Step
 all_gates d = d.gates ++ map copy d.outputs
 
--- gate number g, where there are so many inputs: it sets the next wire
+-- gate number g, behind `inputs` inputs: it sets the next wire
 abbrev pub gate_of : ℕ → ℕ → Step → Gate
 gate_of inputs g s =
     record {
@@ -99,7 +99,7 @@ abbrev pub gates_from : ℕ → ℕ → List Step → List Gate
 gates_from inputs g [] = []
 gates_from inputs g (s ∷ ss) = gate_of inputs g s ∷ gates_from inputs (g + 1) ss
 
--- the circuit of these gates over so many inputs and so many outputs, each of which is a value of width 1
+-- the circuit of these gates over `inputs` inputs and `outputs` outputs, each of which is a value of width 1
 abbrev pub assembled : ℕ → ℕ → List Step → ℕ → Netlist
 assembled bits inputs gates outputs =
     record {
@@ -120,6 +120,6 @@ is_large c =
     (nat_lt 65536 (length c.gates) || nat_lt 131072 c.wires)
     || (nat_lt 1024 (length c.inputs) || nat_lt 1024 (length c.outputs))
 
--- the circuit of a program over words of so many bits
+-- the circuit of a program over words of `bits` bits
 abbrev pub circuit : ℕ → List Statement → Netlist
 circuit bits p = netlist bits (draft_of p)

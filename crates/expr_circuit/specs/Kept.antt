@@ -34,7 +34,7 @@ Shows view (Err fault) wanted = Fails fault wanted
 abbrev pub Gives : {A : Type 0} → Result A ExprFault → Result A ExprFault → Type 0
 Gives result wanted = Shows (λ a. a) result wanted
 
--- the wires of gate number g, where there are so many inputs, fit in 32 bits
+-- the wires of gate number g, behind `inputs` inputs, fit in 32 bits
 pub record IsNarrow (inputs g : ℕ) (s : Step) : Type 0 where
   pub first : number_of inputs s.first < 2 ^ 32
   pub second : number_of inputs s.second < 2 ^ 32

@@ -26,7 +26,7 @@ fn expect_fault(rt: &impl Abort, alloc: Global, bits: u32, text: &[u8], wanted: 
     }
 }
 
-/// A text with so many copies of a piece in it.
+/// A text with `count` copies of a piece in it.
 fn repeated(alloc: Global, front: &[u8], piece: &[u8], count: u32) -> Result<Vec<u8>, AllocError> {
     let mut text = Vec::from_slice(alloc, front)?;
     for at in 0..count {

@@ -45,7 +45,7 @@ after_nodes (n ∷ ns) s = after_nodes ns (after_node n s)
 unfoldable pub tree_of : List Node → Tree
 tree_of ns = last (after_nodes ns [])
 
--- the nodes write a formula over so many parties, with at most 256 nodes
+-- the nodes write a formula over `parties` parties, with at most 256 nodes
 pub record WritesFormula (parties : ℕ) (nodes : List Node) : Type 0 where
   pub some : 1 ≤ parties
   pub few : parties ≤ 12

@@ -48,7 +48,7 @@ impl Values {
         self.bits.pop().unwrap_or(false)
     }
 
-    /// Takes off the last values, so many, and tells how many of them are true.
+    /// Takes off the last `count` values, and tells how many of them are true.
     fn pop_many(&mut self, count: usize) -> usize
         ensures is { result ≡ how_many (take count self.old) }
         ensures rest { self.new ≡ drop count self.old }
@@ -82,7 +82,7 @@ impl Values {
                 let first = self.pop();
                 first || second
             }
-            Node::AtLeast(count, parts) => count <= self.pop_many(parts),
+            Node::AtLeast { number, parts } => number <= self.pop_many(parts),
         };
         self.push(value);
     }

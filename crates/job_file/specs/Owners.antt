@@ -32,7 +32,7 @@ owner_in version_two names session text =
     if is_carry version_two text then carry_in session (drop 1 text)
     else option_map (λ party. Party party) (party_named names text)
 
--- an owner in the session of this number, among so many parties: one of them, or such a value of an earlier session
+-- an owner in the session of this number, among `parties` parties: one of them, or such a value of an earlier session
 abbrev pub IsOwner : ℕ → ℕ → JobOwner → Type 0
 IsOwner parties session (Party party) = party < parties
 IsOwner parties session (Carried earlier value) = (earlier < session) × (value < 1024)

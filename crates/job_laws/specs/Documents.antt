@@ -127,7 +127,7 @@ abbrev pub HasOwner : AdversaryForm → JobOwner → Type 0
 HasOwner (by_formula text) (Carried session value) = ⊥
 HasOwner _ _ = Unit {0}
 
--- the session of this number among so many parties
+-- the session of this number among n parties
 pub record IsSessionForm (n : ℕ) (adversary : AdversaryForm) (number : ℕ) (s : SessionForm) : Type 0 where
   pub circuit : is_file_name s.circuit ≡ true
   pub layout : HasLayout adversary s.layout
@@ -141,7 +141,7 @@ abbrev pub AreSessionForms : ℕ → AdversaryForm → ℕ → List SessionForm 
 AreSessionForms n adversary number sessions =
     AllByRecursion (λ session. IsSessionForm n adversary session.0 session.1) (enumerate_from number sessions)
 
--- at most 4,096 listed groups, of so many parties
+-- at most 4,096 listed groups, of n parties
 abbrev pub HasGroups : ℕ → AdversaryForm → Type 0
 HasGroups n (by_formula text) = Unit {0}
 HasGroups n (by_list masks) = (length masks ≤ 4096) × AllByRecursion (λ mask. mask < 2 ^ n) masks

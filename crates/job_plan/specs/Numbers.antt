@@ -7,8 +7,8 @@ use Rattle.job_session.specs.Sessions.{Slot}
 use Rattle.job_session.specs.Sessions.Slot.{Mask}
 use Rattle.job_plan.specs.Plans.{Plan, slot, slots, least_holder, least_held, words_in, place, deals_in}
 use Rattle.job_plan.specs.declared.key.Key.{Key}
-use Rattle.job_plan.specs.declared.pattern.LineOrder.{LineOrder}
-use Rattle.job_plan.specs.declared.pattern.LineOrder.TheVariants.{BySender, BySummand, ByReceiver}
+use Rattle.job_plan.specs.declared.pattern.TransferOrder.{TransferOrder}
+use Rattle.job_plan.specs.declared.pattern.TransferOrder.TheVariants.{BySender, BySummand, ByReceiver}
 use Rattle.job_plan.specs.Messages.{messages}
 
 -- two keys name the same message
@@ -31,7 +31,7 @@ number plan key = position_or_len (same_key key) (messages plan)
 
 -- what rises along messages that stand in this order: by sender, summand and receiver, by summand and receiver, or by
 -- receiver and summand
-abbrev pub rank : LineOrder → Key → ℕ
+abbrev pub rank : TransferOrder → Key → ℕ
 rank BySender key = (key.sender * 64 + key.share) * 12 + key.receiver
 rank BySummand key = key.share * 12 + key.receiver
 rank ByReceiver key = key.receiver * 64 + key.share

@@ -6,7 +6,7 @@ use Rattle.job_plan.specs.Plans.{Plan, session, words, Q2, CarriesEarlier, Keeps
 use Rattle.job_plan.specs.Keeping.{AllFit}
 use Rattle.job_plan.specs.declared.patterns.Patterns.{Patterns}
 use Rattle.job_plan.specs.Messages.{messages}
-use Rattle.job_plan.specs.Tables.{AreLines}
+use Rattle.job_plan.specs.Tables.{AreTransfers}
 use Rattle.job_plan.specs.Firsts.{starts_of, word_starts_of}
 
 -- a sharing in which products can be computed, sessions whose carried values fit those before them, and all is within the
@@ -40,11 +40,11 @@ pub record IsSound (plan : Plan) : Type 0 where
   pub earlier : CarriesEarlier plan
   pub kept : KeepsCarried plan
 
--- a plan's tables: how many messages there are, the lines of its patterns, where the messages of each slot begin, and
--- each party's words before each session
+-- a plan's tables: how many messages there are, the transfers of its patterns, where the messages of each slot begin,
+-- and each party's words before each session
 pub record IsLaid (plan : Plan) (count : ℕ) (patterns : Patterns) (starts words : List (List ℕ)) : Type 0 where
   pub sound : IsSound plan
   pub counted : count ≡ length (messages plan)
-  pub lines : AreLines plan patterns
+  pub transfers : AreTransfers plan patterns
   pub begin : starts ≡ starts_of plan
   pub drawn : words ≡ word_starts_of plan

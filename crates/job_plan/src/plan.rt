@@ -10,7 +10,7 @@ use crate::counts::{deal_count, least_held, message_count, prepared_products, wo
 use crate::key::Key;
 use crate::lists::{list_starts, list_words};
 use crate::outline::Outline;
-use crate::pattern::{Line, Pattern};
+use crate::pattern::{Pattern, Transfer};
 use crate::patterns::Patterns;
 use crate::ranks::search;
 use crate::starts::Starts;
@@ -23,8 +23,8 @@ use std::alloc::{AllocError, Global};
 use std::marker::Model;
 use std::sync::Arc;
 
-/// A ring, a structure of parties and the sessions, with the lines of each pattern that occurs and tables of where each
-/// slot and each session begins. A message and its number are found by a binary search, all else in constant time.
+/// A ring, a structure of parties and the sessions, with the transfers of each pattern that occurs and tables of where
+/// each slot and each session begins. A message and its number are found by a binary search, all else in constant time.
 /// Contracts see a plan of the definitions.
 #[derive(Drop)]
 pub struct Plan {
@@ -55,7 +55,7 @@ impl Plan {
     ghost use Rattle.job_plan.specs.Plans.{words, place, random_place, least_held};
     ghost use Rattle.secret_sharing.specs.Schemes.{has_pair};
     ghost use Rattle.job_plan.specs.Messages.{messages, slot_messages};
-    ghost use Rattle.job_plan.specs.Patterns.{named, lines, pattern_at, Occurs};
+    ghost use Rattle.job_plan.specs.Patterns.{named, transfers, pattern_at, Occurs};
     ghost use Rattle.job_plan.specs.Numbers.{message, number, deals, deals_before, deal_place, deal_slot, is_mask, masks_before, DrawsSummand};
     ghost use Rattle.job_session.specs.SoundSessions.{IsSoundSession};
     ghost use Rattle.job_plan.specs.Keeping.{AllFit, keeping};
@@ -198,8 +198,8 @@ impl Plan {
     {
         let s = self.session_of(n);
         let k = self.slot_of(s, n);
-        let line = self.slot_lines(s, k)[(n - self.first(s, k)) as usize];
-        line.named(s, k)
+        let transfer = self.slot_transfers(s, k)[(n - self.first(s, k)) as usize];
+        transfer.named(s, k)
     }
 
     // The session of message n: the last that begins there or before it.
@@ -245,20 +245,20 @@ impl Plan {
         if key.session >= self.sessions() || key.slot >= self.slots(key.session) {
             return None;
         }
-        let lines = self.slot_lines(key.session, key.slot);
+        let transfers = self.slot_transfers(key.session, key.slot);
         let order = self.pattern(key.session, key.slot).order();
-        let at = search(lines, order, key)?;
+        let at = search(transfers, order, key)?;
         Some(self.first(key.session, key.slot) + at as u32)
     }
 
-    // The messages of slot k of session s, as the lines of its pattern.
-    fn slot_lines(&self, s: u32, k: u32) -> &[Line]
+    // The messages of slot k of session s, as the transfers of its pattern.
+    fn slot_transfers(&self, s: u32, k: u32) -> &[Transfer]
         requires session { s < length self.now.sessions }
         requires slot { k < slots self.now s }
         ensures is { map (named s k) result.now ≡ slot_messages self.now s k (slot self.now s k) }
         ensures sound { IsSound self.now }
     {
-        self.patterns.lines(self.pattern(s, k))
+        self.patterns.transfers(self.pattern(s, k))
     }
 
     /// How many slots session `s` has.
@@ -279,12 +279,12 @@ impl Plan {
         self.outline.pattern(s, k)
     }
 
-    /// The lines of a pattern that occurs in the plan.
-    pub fn lines(&self, pattern: Pattern) -> &[Line]
+    /// The transfers of a pattern that occurs in the plan.
+    pub fn transfers(&self, pattern: Pattern) -> &[Transfer]
         requires { Occurs self.now pattern }
-        ensures { result.now ≡ lines self.now pattern }
+        ensures { result.now ≡ transfers self.now pattern }
     {
-        self.patterns.lines(pattern)
+        self.patterns.transfers(pattern)
     }
 
     /// How many deals party `p` makes in session `s`.
@@ -409,7 +409,7 @@ impl Plan {
 // The most messages of a plan, and the most tape words of a party.
 const LIMIT: u64 = 1_048_576;
 
-// The lines of each pattern, and where each slot and each session begins.
+// The transfers of each pattern, and where each slot and each session begins.
 #[derive(Drop)]
 struct Tables {
     patterns: Patterns,

@@ -11,7 +11,7 @@ use job_plan::{Inputs, Plan};
 use party_file::PartyData;
 use std::alloc::{AllocError, Global};
 
-/// All desks of a job, ready to be run by so many workers, 1 to 16. The parties stand in the order of the plan.
+/// All desks of a job, ready to be run by `workers`, 1 to 16. The parties stand in the order of the plan.
 pub fn prepared(
     alloc: Global,
     plan: &Plan,

@@ -112,7 +112,7 @@ StructureOf job = Then (GroupsOf job.names job.adversary) (Q2Of job)
 
 -- ---- the sessions
 
--- the groups of so many parties that these masks tell
+-- the groups of `parties` parties that these masks tell
 abbrev pub groups_in : ℕ → List ℕ → List Members
 groups_in parties masks = map (λ mask. record { parties = parties; mask = mask }) masks
 

@@ -31,7 +31,7 @@ pub record Gave (bytes : List ℕ) (before after : InletReading) : Type 0 where
   pub faults : after.faults ≡ before.faults
   pub ended : after.ended ≡ before.ended
 
--- of `wanted` bytes only the first came, and then the end: so many bytes came in all, `at` of them before
+-- of `wanted` bytes only the first came, and then the end: `count` bytes came in all, `at` of them before
 pub record EndedWithin (wanted at count : ℕ) (before after : InletReading) : Type 0 where
   pub front : List ℕ
   pub short : length front < wanted

@@ -31,7 +31,7 @@ impl Model for Listed {
 }
 
 impl Listed {
-    /// The family of so many parties that these groups tell. They may stand in any order, and lie within one another.
+    /// The family of `parties` parties that these groups tell. They may stand in any order, and lie within one another.
     pub fn make(parties: u32, groups: Vec<Group>) -> Listed
         requires parties { (1 ≤ parties) × (parties ≤ 12) }
         requires groups { All (λ (m : Members). m.parties ≡ parties) groups.items }

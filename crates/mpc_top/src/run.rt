@@ -7,7 +7,7 @@ ghost use Rattle.job_walk.specs.JobReads.{ReadsPlan};
 ghost use Rattle.job_walk.specs.Seen.{text_view};
 ghost use Rattle.mpc_top.specs.Due.{IsAlone};
 ghost use Rattle.mpc_top.specs.Outside.{outside_of};
-ghost use Rattle.mpc_top.specs.Stops.{RunsWords, RunsAlone};
+ghost use Rattle.mpc_top.specs.Outcomes.{RunsWords, RunsAlone};
 
 use crate::audit::audit_job;
 use crate::node::run_node;
@@ -84,7 +84,7 @@ pub(crate) fn run_alone<F: Files, O: Sink, P: Pace, R: Threads + Sync>(
     }
 }
 
-/// Runs the job of a folder by so many workers: the outputs that its desks delivered, and what a group saw, where one
+/// Runs the job of a folder by `workers`: the outputs that its desks delivered, and what a group saw, where one
 /// is asked for.
 fn run_job<F: Files, O: Sink, P: Pace, R: Threads + Sync>(
     rt: &R,
@@ -107,7 +107,7 @@ fn run_job<F: Files, O: Sink, P: Pace, R: Threads + Sync>(
     result
 }
 
-// Runs a job that was read, by so many workers.
+// Runs a job that was read, by `workers`.
 fn run_planned<F: Files, O: Sink, P: Pace, R: Threads + Sync>(
     rt: &R,
     alloc: Global,

@@ -66,7 +66,7 @@ talk_bytes n q = 38 + 18 * length (messages_between n.world.plan n.me q)
 abbrev pub said_bytes : Node → ℕ → ℕ → ℕ
 said_bytes n q k = 38 + 18 * length (posts_to n q k)
 
--- a steady outlet that took so many bytes is steady, with room for so many less
+-- a steady outlet that took `bytes` bytes is steady, with room for as many less
 pub record KeepsRoom (bytes : ℕ) (before after : SinkReading) : Type 0 where
   pub steady : IsTrue before.steady → IsTrue after.steady
   pub room : IsTrue before.steady → after.room ≡ before.room - bytes

@@ -11,7 +11,7 @@ use Rattle.outer_io.specs.Links.{LinksReading}
 use Rattle.node_talk.specs.Talks.{Node, IsPeer, stream, expected, expected_at}
 use Rattle.node_talk.specs.PeerLinks.{in_from, out_to}
 
--- the word of a frame of this message, if the bytes are one with a word of so many bits
+-- the word of a frame of this message, if the bytes are one with a word of `bits` bits
 abbrev pub IsWordOf : List ℕ → ℕ → Key → Option ℕ → Type 0
 IsWordOf bytes bits key (Some word) = (word < 2 ^ bits) × (bytes ≡ frame key word)
 IsWordOf bytes bits key None = (word : ℕ) → word < 2 ^ bits → bytes ≢ frame key word
@@ -23,14 +23,14 @@ pub record CameAfter (n : Node) (before after : LinksReading) (q f : ℕ) (bytes
   pub told : (in_from n before q).told
       ≡ ahead (stream n.digest q n.me word (take f (expected n q))) (ahead bytes (in_from n after q).told)
 
--- so many bytes came from q, fewer than the hello has
+-- `at` bytes came from q, fewer than the hello has
 pub record EndsInHello (n : Node) (before after : LinksReading) (q at : ℕ) : Type 0 where
   pub piece : List ℕ
   pub place : at ≡ length piece
   pub short : length piece < 38
   pub told : (in_from n before q).told ≡ ahead piece (in_from n after q).told
 
--- so many bytes came from q: the hello and some expected frames, and fewer than the next expected frame has
+-- `at` bytes came from q: the hello and some expected frames, and fewer than the next expected frame has
 pub record EndsInFrame (n : Node) (before after : LinksReading) (q at : ℕ) : Type 0 where
   pub frame : ℕ
   pub within : frame < length (expected n q)
@@ -39,7 +39,7 @@ pub record EndsInFrame (n : Node) (before after : LinksReading) (q at : ℕ) : T
   pub short : length piece < 18
   pub came : CameAfter n before after q frame piece
 
--- so many bytes came from q, and then the end, within the hello or the frame that is expected next
+-- `at` bytes came from q, and then the end, within the hello or the frame that is expected next
 pub record ClosedAt (n : Node) (before after : LinksReading) (q at : ℕ) : Type 0 where
   pub within : EndsInHello n before after q at ⊎ EndsInFrame n before after q at
   pub none_left : IsAtEnd (in_from n after q).told

@@ -69,7 +69,7 @@ pub record TalkedThrough (n : Node) (got : Key → ℕ) (before after : LinksRea
 
 -- ---- where a run breaks off
 
--- message m is of the party itself, or among the first ones that came from each peer, so many of each
+-- message m is of the party itself, or among the first `came` ones of each peer
 abbrev pub HasCome : Node → (ℕ → ℕ) → ℕ → Type 0
 HasCome n came m =
     ((message n.world.plan m).sender ≡ n.me) ⊎ (place_of n m < came (message n.world.plan m).sender)

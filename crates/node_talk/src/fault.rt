@@ -7,7 +7,7 @@ pub enum NodeFault {
     Link {
         peer: u32,
     },
-    /// This peer's bytes ended after so many, with bytes missing.
+    /// This peer's bytes ended after `at` bytes, with others missing.
     Closed {
         peer: u32,
         at: u64,

@@ -13,7 +13,7 @@ use Rattle.node_talk.specs.Runs.{Results, word_kept, output_of, kept_view}
 use Rattle.view_text.specs.ViewText.{view_text}
 use Rattle.output_text.specs.OutText.{out_line, output_value, wires_before}
 
--- the words of so many output wires of session s, from this one on
+-- the words of `width` output wires of session s, from wire `first` on
 abbrev pub output_words : Results → ℕ → ℕ → ℕ → List ℕ
 output_words r s first width = listed width (λ i. unwrap_or (output_of r s (first + i)) 0)
 

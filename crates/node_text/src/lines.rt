@@ -120,7 +120,7 @@ fn gather_value<G: Gather>(
     out.push(b"\n");
 }
 
-// The words of so many output wires from this one on, each after a space.
+// The words of `width` output wires from wire `first` on, each after a space.
 fn gather_words<G: Gather>(out: &mut G, done: &NodeDone, s: u32, first: u32, width: u32)
     requires few { first + width ≤ 131072 }
     requires session { s < length done.now.outputs }

@@ -70,7 +70,7 @@ fn gather_session<G: Gather>(
     }
 }
 
-// The messages of slot k of session s: the lines of its pattern, under the numbers from its first one on.
+// The messages of slot k of session s: the transfers of its pattern, under the numbers from its first one on.
 fn gather_slot<G: Gather>(
     out: &mut G,
     names: &Names,
@@ -90,9 +90,9 @@ fn gather_slot<G: Gather>(
         (slot_seen names.now w group.mask s k) (G.gathered out.old) (G.gathered out.new)) }
 {
     let first = plan.first(s, k);
-    let lines = plan.lines(plan.pattern(s, k));
-    for i in 0..lines.len() {
-        let key = lines[i].named(s, k);
+    let transfers = plan.transfers(plan.pattern(s, k));
+    for i in 0..transfers.len() {
+        let key = transfers[i].named(s, k);
         gather_message(out, names, plan, done, group, first + i as u32, key);
     }
 }

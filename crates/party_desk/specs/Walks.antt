@@ -100,11 +100,11 @@ pub record WentOn {W : Type 0} (given : Given) (seat : Sitting W) (d : Desk) (se
   pub through : goes ≡ false → NothingToCompute given d'
   pub looked : goes ≡ false → HasLooked given seat' d'
 
--- the place so many steps on in its half of a slot
+-- the place `steps` steps on in its half of a slot
 abbrev pub further : Place → ℕ → Place
 further place steps = record place { done = place.done + steps }
 
--- the desk after so many takes there
+-- the desk after `takes` takes there
 abbrev pub taken_on : Desk → ℕ → Desk
 taken_on d takes = record d { place = further d.place takes; position = d.position + takes; taken = d.taken + takes }
 
@@ -123,7 +123,7 @@ module _ (plan : Plan) (list : List ℕ) (program : Program) (place : Place) (se
   abbrev pub MayTake : Memory → Type 0
   MayTake memory = (given : Given) × (d : Desk) × MayWalk plan list given (with_parts d program place session memory)
 
-  -- so many takes lead from one seat and memory to the others
+  -- `takes` takes lead from one seat and memory to the others
   abbrev pub TakesLead : {W : Type 0} → Sitting W → Memory → Sitting W → Memory → ℕ → Type 0
   TakesLead seat memory seat' memory' takes =
       (given : Given) (d : Desk) → MayWalk plan list given (with_parts d program place session memory)
@@ -136,7 +136,7 @@ module _ (plan : Plan) (list : List ℕ) (program : Program) (place : Place) (se
       (given : Given) (d : Desk) → MayWalk plan list given (with_parts d program place session memory)
       → HasLooked given seat' (taken_on (with_parts d program place session memory') takes)
 
-  -- after so many takes another one comes next
+  -- after `takes` takes another one comes next
   abbrev pub WaitsAfter : Memory → Memory → ℕ → Type 0
   WaitsAfter memory memory' takes =
       (given : Given) (d : Desk) → MayWalk plan list given (with_parts d program place session memory)

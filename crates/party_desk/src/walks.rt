@@ -62,7 +62,7 @@ fn take_words<W: Promise, T: SlotItem<W>>(
     next
 }
 
-// The gates from this one on, at most so many.
+// The gates from gate `first` on, at most `most`.
 #[inline(always)]
 fn gates_at(gates: &[Gate], first: usize, most: usize) -> &[Gate]
     requires { first ≤ length gates.now }
@@ -450,7 +450,7 @@ impl Desk {
     {
         let ring = plan.ring();
         let shares = plan.shares() as usize;
-        // With three summands, as with three parties of whom any two are trusted, no gate has a loop.
+        // With three summands, as with three parties and the formula `2 of` them, no gate has a loop.
         if shares == 3 {
             self.compute_each(plan, part, slot, ring, 3);
         } else {
@@ -458,7 +458,7 @@ impl Desk {
         }
     }
 
-    // The same, in the plan's ring and of so many summands as its values have.
+    // The same, in the plan's ring and of `shares` summands, as its values have.
     #[inline(always)]
     fn compute_each(
         &mut self,

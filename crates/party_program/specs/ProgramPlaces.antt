@@ -45,7 +45,7 @@ IsPatternIn plan s k pattern = k < slots plan s → pattern ≡ pattern_at plan 
 abbrev pub count_in : Plan → ℕ → ℕ → Half → ℕ → ℕ
 count_in plan p s half k = if nat_lt k (slots plan s) then length (half_program plan p s half k) else 0
 
--- position q stands at this place: so many instructions on in a half of a slot that has more, or past all
+-- position q stands at this place: `done` instructions on in a half of a slot that has more, or past all
 pub record IsPlace (plan : Plan) (p s : ℕ) (place : Place) (q : ℕ) : Type 0 where
   pub batch : IsInBatch (session plan s) place.batch place.end place.slot
   pub pattern : IsPatternIn plan s place.slot place.pattern

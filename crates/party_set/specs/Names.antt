@@ -31,7 +31,7 @@ abbrev pub first_of : Option NamesFault → Option NamesFault → Option NamesFa
 first_of (Some fault) other = Some fault
 first_of None other = other
 
--- the fault of the first of so many names that has one
+-- the fault of the first of n names that has one
 abbrev pub first_name_fault : List (List ℕ) → ℕ → Option NamesFault
 first_name_fault names zero = None
 first_name_fault names (suc n) = first_of (first_name_fault names n) (name_fault (take n names) (name_at names n) n)

@@ -6,12 +6,12 @@ use Rattle.std.specs.Int.{bit_at}
 abbrev pub has_party : ℕ → ℕ → Bool
 has_party mask p = nat_eq (bit_at mask p) 1
 
--- a group, out of so many parties
+-- a group, out of `parties` parties
 pub record Members : Type 0 where
   pub parties : ℕ
   pub mask : ℕ
 
--- a list of groups of so many parties, as masks
+-- a list of groups of `parties` parties, as masks
 pub record Structure : Type 0 where
   pub parties : ℕ
   pub groups : List ℕ

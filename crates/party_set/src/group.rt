@@ -26,7 +26,7 @@ impl Model for Group {
 }
 
 impl Group {
-    /// The group without a member, out of so many parties.
+    /// The group without a member, out of `parties` parties.
     pub fn empty(parties: u32) -> Group
         requires { (1 ≤ parties) × (parties ≤ 12) }
         ensures { result ≡ record { parties = parties; mask = 0 } }

@@ -29,7 +29,7 @@ impl Model for Groups {
 }
 
 impl Groups {
-    /// The groups, which are of so many parties.
+    /// The groups, which are of `parties` parties.
     pub fn of(parties: u32, groups: Vec<Group>) -> Groups
         requires parties { All (λ (m : Members). m.parties ≡ parties) groups.items }
         requires antichain { IsAntichain (record {

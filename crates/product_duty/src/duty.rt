@@ -121,7 +121,7 @@ fn duties_of(alloc: Global, groups: &Groups) -> Result<Vec<u32>, AllocError>
     Ok(duties)
 }
 
-// The pairs whose duty is `p`, in a table of so many rows.
+// The pairs whose duty is `p`, in a table of `shares` rows.
 fn list_of(alloc: Global, duties: &[u32], shares: u32, p: u32) -> Result<Vec<(u8, u8)>, AllocError>
     requires few { shares ≤ 64 }
     requires table { length duties.now ≡ shares * shares }

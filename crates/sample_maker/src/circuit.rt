@@ -19,7 +19,7 @@ pub(crate) fn sample_ring() -> Ring
     Ring::new(32).unwrap()
 }
 
-/// The circuit of the sample with so many gates, 1 to 65,536.
+/// The circuit of the sample with `count` gates, 1 to 65,536.
 pub(crate) fn sample_circuit(alloc: Global, count: u32) -> Result<Circuit, CircuitFault>
     requires { (0 < count) × (count ≤ 65536) }
     ensures is { IfOk result (λ circuit. circuit ≡ first_gates count count) }

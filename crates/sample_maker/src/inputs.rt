@@ -6,7 +6,7 @@ ghost use Rattle.sample_maker.specs.Samples.{sample_inputs, sample_plan, sample_
 use job_plan::{Inputs, Plan};
 use std::alloc::{AllocError, Global};
 
-/// The inputs of the sample with so many gates, at most 65,536.
+/// The inputs of the sample with `count` gates, at most 65,536.
 pub(crate) fn sample_inputs(alloc: Global, plan: &Plan, count: u32) -> Result<Inputs, AllocError>
     requires count { count ≤ 65536 }
     requires plan { plan.now ≡ sample_plan count }

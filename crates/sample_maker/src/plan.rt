@@ -14,7 +14,7 @@ use product_duty::Duty;
 use share_layout::Layout;
 use std::alloc::{AllocError, Global};
 
-/// The plan of the sample with so many gates, 1 to 65,536.
+/// The plan of the sample with `count` gates, 1 to 65,536.
 pub(crate) fn sample_plan(alloc: Global, count: u32) -> Result<Plan, AllocError>
     requires { (0 < count) × (count ≤ 65536) }
     ensures { IfOk result (λ plan. plan ≡ sample_plan count) }

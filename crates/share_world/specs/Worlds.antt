@@ -44,7 +44,7 @@ mask w s t side i =
 
 -- summand i of the product of x and y, where each party deals its part in this slot
 abbrev pub dealt_product : World → ℕ → Slot → (ℕ → ℕ) → (ℕ → ℕ) → ℕ → ℕ
-dealt_product w s kind = product_summand (scheme w.plan) (λ p v. dealt (scheme w.plan) v (tape_word w s kind p))
+dealt_product w s kind = product_summand (scheme w.plan) (λ p own. dealt (scheme w.plan) own (tape_word w s kind p))
 
 -- summand i of the product of both masks, which is made before the inputs
 abbrev pub mask_product : World → ℕ → ℕ → ℕ → ℕ

@@ -110,8 +110,8 @@ impl Tape {
         Some(TapeWord::new(word))
     }
 
-    /// Cuts the tape into consecutive pieces of so many words, and lets the rest go. Each refusal gives the whole
-    /// tape back.
+    /// Cuts the tape into consecutive pieces of these counts of words, and lets the rest go. Each refusal gives the
+    /// whole tape back.
     pub fn split_sessions(
         self,
         alloc: Global,

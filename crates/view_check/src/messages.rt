@@ -81,13 +81,13 @@ fn check_slot(
         (seen_of (world_given plan.now inputs.now tapes.now) group.mask
         (slot_messages plan.now s k (slot plan.now s k))) rest.old fault) }
 {
-    let lines = plan.lines(plan.pattern(s, k));
-    if lines.is_empty() {
+    let transfers = plan.transfers(plan.pattern(s, k));
+    if transfers.is_empty() {
         return Ok(());
     }
     let rows = slot_rows(alloc, plan, inputs, tapes, table, places, s, k)?;
-    for i in 0..lines.len() {
-        let key = lines[i].named(s, k);
+    for i in 0..transfers.len() {
+        let key = transfers[i].named(s, k);
         check_message(rest, names, group, key, word_of(&rows, key))?;
     }
     Ok(())

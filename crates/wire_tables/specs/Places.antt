@@ -8,10 +8,10 @@ pub record ArePlaces (plan : Plan) (s k : ℕ) (places : List ℕ) : Type 0 wher
   pub parties : length places ≡ plan.parties
   pub are : (p : ℕ) → p < plan.parties → slice_index places p ≡ place plan p s k
 
--- what party p deals of the value v, with the words at its place
+-- what party p deals of this value, with the words at its place
 abbrev pub dealt_at : Scheme → List (List ℕ) → List ℕ → ℕ → ℕ → ℕ → ℕ
-dealt_at scheme tapes places p v =
-    dealt scheme v (λ i. slice_index (slice_index_or tapes p []) (slice_index places p + i))
+dealt_at scheme tapes places p value =
+    dealt scheme value (λ i. slice_index (slice_index_or tapes p []) (slice_index places p + i))
 
 -- party p has the words of its next deal
 pub record HasDealWords (plan : Plan) (tapes : List (List ℕ)) (places : List ℕ) (p : ℕ) : Type 0 where

@@ -39,7 +39,7 @@ pub const WHOLE: Row<'static> = Row {
     words: [Some(7), Some(9)],
 };
 
-// An inlet that holds a row's bytes, and gives at most so many at a read. The reads of these numbers fail.
+// An inlet that holds a row's bytes, and gives at most `piece` at a read. The reads of these numbers fail.
 pub fn inlet(
     alloc: Global,
     row: &Row<'_>,

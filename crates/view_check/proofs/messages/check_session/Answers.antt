@@ -10,7 +10,7 @@ use Rattle.wire_tables.specs.WireTables.{world_given}
 use Rattle.view_text.specs.Seen.{seen_of}
 use Rattle.view_check.specs.Views.{Passes}
 use Rattle.view_check.proofs.Walks.{handed_on}
-use Rattle.view_check.proofs.SlotLines.{pass_part, stop_part}
+use Rattle.view_check.proofs.SlotTransfers.{pass_part, stop_part}
 use Rattle.view_check.proofs.messages.check_session.Goals as goal
 
 pub returns-in_err-check_slot-clause-lines : goal.returns-in_err-check_slot-clause-lines
