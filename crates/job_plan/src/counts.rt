@@ -9,6 +9,7 @@ ghost use Rattle.job_session.specs.Counts.{prepared_products};
 ghost use Rattle.job_plan.specs.Tallies.{keeping_messages, openings, party_messages, masks_messages, tape_length};
 
 use crate::outline::Outline;
+use circuit_model::{MOST_GATES, MOST_WIRES};
 
 /// Whether party `p` sends summand `i` of a deal to `q`: another party that holds it.
 pub(crate) fn sends(outline: &Outline, p: u32, q: u32, i: u32) -> bool
@@ -111,7 +112,7 @@ pub(crate) fn least_held(outline: &Outline, p: u32, end: u32) -> u32
 pub(crate) fn prepared_products(outline: &Outline, s: u32) -> u32
     requires { s < length outline.now.sessions }
     ensures is { result ≡ prepared_products (session outline.now s) }
-    ensures few { result ≤ 65536 }
+    ensures few { result ≤ MOST_GATES }
 {
     if outline.prepared(s) {
         outline.part(s).products() as u32
@@ -202,7 +203,7 @@ fn all_masks(outline: &Outline) -> u64
 fn carried_count(outline: &Outline, s: u32) -> u32
     requires { s < length outline.now.sessions }
     ensures is { result ≡ carried_count (session outline.now s) }
-    ensures few { result ≤ 131072 }
+    ensures few { result ≤ MOST_WIRES }
 {
     let part = outline.part(s);
     let mut count = 0;

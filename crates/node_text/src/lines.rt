@@ -10,6 +10,7 @@ ghost use Rattle.output_text.specs.OutText.{wires_before};
 ghost use Rattle.node_text.specs.NodeText.{node_text, outputs_text, session_lines, value_line, output_words};
 
 use crate::view::gather_view;
+use circuit_model::MOST_WIRES;
 use job_plan::Plan;
 use node_run::NodeDone;
 use outer_io::{Blocks, Failed, Gather, Sink};
@@ -122,7 +123,7 @@ fn gather_value<G: Gather>(
 
 // The words of so many output wires from this one on, each after a space.
 fn gather_words<G: Gather>(out: &mut G, done: &NodeDone, s: u32, first: u32, width: u32)
-    requires few { first + width ≤ 131072 }
+    requires few { first + width ≤ MOST_WIRES }
     requires session { s < length done.now.outputs }
     ensures { Adds (words_text (output_words done.now s first width)) (G.gathered out.old) (G.gathered out.new) }
 {
