@@ -8,6 +8,7 @@ use Rattle.job_plan.specs.declared.patterns.Patterns.{Patterns}
 use Rattle.job_plan.specs.Messages.{messages}
 use Rattle.job_plan.specs.Tables.{AreLines}
 use Rattle.job_plan.specs.Firsts.{starts_of, word_starts_of}
+use Rattle.job_plan.specs.declared.limits.TheConstants.{MOST_MESSAGES, MOST_WORDS}
 
 -- a sharing in which products can be computed, sessions whose carried values fit those before them, and all is within the
 -- limits but for the messages and the tape words; what sessions keep may be other than what later ones carry
@@ -34,8 +35,8 @@ pub record IsSound (plan : Plan) : Type 0 where
   pub groups : length plan.groups ≤ 64
   pub q2 : Q2 plan
   pub few_sessions : length plan.sessions ≤ 16
-  pub few_messages : length (messages plan) ≤ 1048576
-  pub few_words : (p : ℕ) → p < plan.parties → total (length plan.sessions) (words plan p) ≤ 1048576
+  pub few_messages : length (messages plan) ≤ MOST_MESSAGES
+  pub few_words : (p : ℕ) → p < plan.parties → total (length plan.sessions) (words plan p) ≤ MOST_WORDS
   pub sessions : (s : ℕ) → s < length plan.sessions → IsSoundSession plan.parties (session plan s)
   pub earlier : CarriesEarlier plan
   pub kept : KeepsCarried plan

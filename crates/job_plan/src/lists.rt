@@ -6,6 +6,7 @@ ghost use Rattle.job_plan.specs.Firsts.{word_starts, word_starts_of};
 ghost use Rattle.job_plan.specs.Tables.{AreLines};
 
 use crate::counts::session_words;
+use crate::limits::MOST_MESSAGES;
 use crate::outline::Outline;
 use crate::patterns::Patterns;
 use crate::starts::Starts;
@@ -21,7 +22,7 @@ fn list_starts_of(
 ) -> Result<Starts, AllocError>
     requires session { s < length outline.now.sessions }
     requires lines { AreLines outline.now patterns.now }
-    requires few { length (messages outline.now) ≤ 1048576 }
+    requires few { length (messages outline.now) ≤ MOST_MESSAGES }
     requires before { before ≡ first outline.now s 0 }
     ensures { IfOk result (λ made. made ≡ session_starts outline.now s) }
 {
@@ -43,7 +44,7 @@ pub(crate) fn list_starts(
     patterns: &Patterns,
 ) -> Result<Vec<Starts>, AllocError>
     requires lines { AreLines outline.now patterns.now }
-    requires few { length (messages outline.now) ≤ 1048576 }
+    requires few { length (messages outline.now) ≤ MOST_MESSAGES }
     ensures { IfOk result (λ made. made.items ≡ starts_of outline.now) }
 {
     let mut list = Vec::new(alloc);

@@ -8,6 +8,7 @@ ghost use Rattle.job_plan.specs.Limits.{IsPlanWithin, IsPlanRefusal};
 
 use crate::counts::{deal_count, least_held, message_count, prepared_products, word_count};
 use crate::key::Key;
+use crate::limits::{MOST_MESSAGES, MOST_WORDS};
 use crate::lists::{list_starts, list_words};
 use crate::outline::Outline;
 use crate::pattern::{Line, Pattern};
@@ -406,9 +407,6 @@ impl Plan {
     }
 }
 
-// The most messages of a plan, and the most tape words of a party.
-const LIMIT: u64 = 1_048_576;
-
 // The lines of each pattern, and where each slot and each session begins.
 #[derive(Drop)]
 struct Tables {
@@ -424,7 +422,7 @@ fn check_limits(outline: &Outline) -> Result<u32, PlanFault>
         (IsPlanRefusal (keeping_plan outline.now)) }
 {
     let count = message_count(outline);
-    if count > LIMIT {
+    if count > MOST_MESSAGES {
         return Err(PlanFault::TooManyMessages { count });
     }
     check_words(outline)?;
@@ -452,13 +450,13 @@ fn tables_of(alloc: Global, outline: &Outline, count: u32) -> Result<Tables, All
 
 // Looks for a party that draws too many tape words. What sessions keep draws none.
 fn check_words(outline: &Outline) -> Result<(), PlanFault>
-    requires { length (messages (keeping_plan outline.now)) ≤ 1048576 }
+    requires { length (messages (keeping_plan outline.now)) ≤ MOST_MESSAGES }
     ensures { MatchResult result
         (λ _. IsPlanWithin (keeping_plan outline.now)) (IsPlanRefusal (keeping_plan outline.now)) }
 {
     for party in 0..outline.parties() {
         let words = word_count(outline, party);
-        if words > LIMIT {
+        if words > MOST_WORDS {
             return Err(PlanFault::TooManyWords {
                 party,
                 count: words,

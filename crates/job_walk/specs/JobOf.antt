@@ -33,6 +33,7 @@ use Rattle.party_file.specs.Table.{PartyForm, party_in}
 use Rattle.refusal_text.specs.Lines.{too_long_line, job_line, group_line, formula_line, groups_line, covering_line, circuit_line, expressions_line, session_line, plan_line, party_line}
 use Rattle.job_walk.specs.Names as file_names
 use Rattle.job_walk.specs.Verdict.{Verdict, accepted, missing, refused, Ends, Then, verdict_of, unless}
+use Rattle.refusal_text.specs.declared.line.TheConstants.{FILE_LIMIT}
 
 -- what files hold: for each path its bytes, or none where no file is there
 abbrev pub Contents : Type 0
@@ -40,15 +41,11 @@ Contents = List ℕ → Option (List ℕ)
 
 -- ---- a file
 
--- the most bytes that a file may have
-abbrev pub file_limit : ℕ
-file_limit = 16777216
-
 -- the bytes of a file, unless it is missing or too long
 unfoldable pub bytes_of : Option (List ℕ) → List ℕ → Verdict (List ℕ)
 bytes_of None name = missing name
 bytes_of (Some bytes) name =
-    if nat_le (length bytes) file_limit then accepted bytes else refused 3 (too_long_line name)
+    if nat_le (length bytes) FILE_LIMIT then accepted bytes else refused 3 (too_long_line name)
 
 unfoldable pub file_at : Contents → List ℕ → List ℕ → Verdict (List ℕ)
 file_at files dir name = bytes_of (files (file_names.path_of dir name)) name

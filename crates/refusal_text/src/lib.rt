@@ -17,7 +17,7 @@ mod view;
 pub use circuit::circuit_line;
 pub use expressions::expressions_line;
 pub use job::job_line;
-pub use line::too_long_line;
+pub use line::{FILE_LIMIT, too_long_line};
 pub use other::other_line;
 pub use pair::pair_line;
 pub use party::party_line;

@@ -1,0 +1,7 @@
+//! The limits of a plan.
+
+/// The most messages.
+pub const MOST_MESSAGES: u64 = 1_048_576;
+
+/// The most tape words of a party, in all sessions.
+pub const MOST_WORDS: u64 = 1_048_576;
