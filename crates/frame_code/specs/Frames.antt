@@ -2,7 +2,7 @@
 use Rattle.std.specs.Prelude.{ℕ, ◌+◌, ◌*◌, ◌<◌, ◌^◌, List, ◌∷◌, ◌++◌, codes}
 use Rattle.std.specs.Int.{w16, w32, w64, to_be_bytes}
 use Rattle.job_plan.specs.declared.key.Key.{Key}
-use Rattle.frame_code.specs.declared.TheConstants.{HELLO_BYTES, FRAME_BYTES}
+use Rattle.frame_code.specs.declared.sizes.TheConstants.{HELLO_BYTES, FRAME_BYTES}
 
 -- the letters MPC1, the number of the party that speaks and of the one that it speaks to, and the digest of the job
 unfoldable pub hello : ℕ → ℕ → List ℕ → List ℕ

@@ -1,20 +1,17 @@
 //! What two parties say to one another over a pipe, in bytes: a hello, and then a frame for each message.
 #![tactic(auto)]
 
+mod sizes;
+
 ghost use Rattle.std.specs.Prelude.{◌≡◌, ◌≢◌, ◌↔◌, ◌<◌, ◌^◌, ℕ, List, IfSome, IsNone, Some, slice_index};
 ghost use Rattle.job_plan.specs.declared.key.Key.{Key as Message};
 ghost use Rattle.frame_code.specs.Frames.{hello, frame, FitsFrame};
 
 use byteorder::{BigEndian, ByteOrder};
 use job_plan::Key;
+pub use sizes::{FRAME_BYTES, HELLO_BYTES};
 
 const MAGIC: [u8; 4] = *b"MPC1";
-
-/// How many bytes a hello has.
-pub const HELLO_BYTES: usize = 38;
-
-/// How many bytes a frame has.
-pub const FRAME_BYTES: usize = 18;
 
 /// The begin of what party `from` says to party `to`, in a job with this digest.
 pub fn hello(from: u32, to: u32, digest: &[u8; 32]) -> [u8; HELLO_BYTES]

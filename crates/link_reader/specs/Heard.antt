@@ -7,7 +7,7 @@ use Rattle.node_talk.specs.declared.fault.NodeFault.{NodeFault}
 use Rattle.node_talk.specs.declared.fault.NodeFault.TheVariants.{Link, Closed, BadFrame, OtherJob, NoThread}
 use Rattle.node_talk.specs.Causes.{IsWordOf}
 use Rattle.link_reader.specs.Expected.{TalkModel, key_at}
-use Rattle.frame_code.specs.declared.TheConstants.{HELLO_BYTES, FRAME_BYTES}
+use Rattle.frame_code.specs.declared.sizes.TheConstants.{HELLO_BYTES, FRAME_BYTES}
 
 -- the hello that is expected
 abbrev pub hello_of : TalkModel → List ℕ

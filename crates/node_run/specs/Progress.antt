@@ -19,7 +19,7 @@ use Rattle.node_talk.specs.PeerLinks.{out_to}
 use Rattle.list_laws.specs.Lists.{joined}
 use Rattle.atomic_table.specs.Seated.{TableId}
 use Rattle.node_run.specs.Mail.{Mail, BoxModel, NeverComes, NothingWaits, link_to, outlet_to}
-use Rattle.frame_code.specs.declared.TheConstants.{HELLO_BYTES}
+use Rattle.frame_code.specs.declared.sizes.TheConstants.{HELLO_BYTES}
 
 -- how many instructions stand before session s
 abbrev pub before_session : Node → ℕ → ℕ

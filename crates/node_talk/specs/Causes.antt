@@ -10,7 +10,7 @@ use Rattle.node_talk.specs.declared.fault.NodeFault.TheVariants.{Link, Closed, B
 use Rattle.outer_io.specs.Links.{LinksReading}
 use Rattle.node_talk.specs.Talks.{Node, IsPeer, stream, expected, expected_at}
 use Rattle.node_talk.specs.PeerLinks.{in_from, out_to}
-use Rattle.frame_code.specs.declared.TheConstants.{HELLO_BYTES, FRAME_BYTES}
+use Rattle.frame_code.specs.declared.sizes.TheConstants.{HELLO_BYTES, FRAME_BYTES}
 
 -- the word of a frame of this message, if the bytes are one with a word of so many bits
 abbrev pub IsWordOf : List ℕ → ℕ → Key → Option ℕ → Type 0

@@ -27,7 +27,7 @@ use Rattle.tape_map.specs.declared.fault.MapFault.TheVariants as map
 use Rattle.view_check.specs.declared.fault.CheckFault.{CheckFault}
 use Rattle.view_check.specs.FaultTexts as view
 use Rattle.text_parts.specs.Parts.{refusal_head, key_text, group_text}
-use Rattle.refusal_text.specs.declared.line.TheConstants.{FILE_LIMIT}
+use Rattle.refusal_text.specs.declared.limits.TheConstants.{FILE_LIMIT}
 
 -- a line from its head and its keys
 abbrev pub line : List ℕ → ℕ → List ℕ → List ℕ → List ℕ

@@ -2,11 +2,9 @@
 ghost use Rattle.std.specs.Prelude.{◌≡◌, ◌++◌, IfOk, OnOk};
 ghost use Rattle.refusal_text.specs.Lines.{line, number_line, too_long_line, file_keys};
 
+use crate::limits::FILE_LIMIT;
 use std::alloc::{AllocError, Global};
 use text_parts::{push_head, push_number_key, push_text, push_text_key};
-
-/// The most bytes of a file.
-pub const FILE_LIMIT: u64 = 16_777_216;
 
 /// The line of a fault with these keys.
 pub(crate) fn keyed_line(
