@@ -5,7 +5,7 @@ ghost use Rattle.group_text.specs.Masks.{mask_with};
 
 use crate::fault::GroupFault;
 use crate::parts::Parts;
-use party_set::{Group, Names};
+use party_set::{Group, MOST_PARTIES, Names};
 
 /// The group that a text names: the names of its members joined by `+`, in any order, or `0` for the empty group. It
 /// takes no memory.
@@ -41,7 +41,7 @@ fn named_group(text: &str, names: &Names) -> Result<Group, GroupFault>
 }
 
 fn group_of_mask(mask: u32, parties: u32) -> Group
-    requires parties { (1 ≤ parties) × (parties ≤ 12) }
+    requires parties { (1 ≤ parties) × (parties ≤ MOST_PARTIES) }
     requires mask { mask < 2 ^ parties }
     ensures { result ≡ record { parties = parties; mask = mask } }
 {

@@ -19,7 +19,7 @@ use crate::texts::layout_of;
 use circuit_model::CircuitLayout;
 use mpc_ring::Ring;
 use outer_io::Hosts;
-use party_set::{Group, NameText, Names};
+use party_set::{Group, MOST_PARTIES, NameText, Names};
 use std::alloc::{AllocError, Global};
 use toml::{Table, Value};
 use toml_fields::{integer_at, items_at, items_of, text_at, text_of};
@@ -73,7 +73,7 @@ fn mask_of(readers: &[Value], names: &Names) -> u32
 }
 
 fn with_party(mask: u32, party: u32) -> u32
-    requires { party < 12 }
+    requires { party < MOST_PARTIES }
     ensures { result ≡ bit_or mask (2 ^ party) }
 {
     mask | 1 << party

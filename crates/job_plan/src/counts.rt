@@ -10,6 +10,7 @@ ghost use Rattle.job_plan.specs.Tallies.{keeping_messages, openings, party_messa
 
 use crate::outline::Outline;
 use circuit_model::{MOST_GATES, MOST_WIRES};
+use party_set::{MOST_GROUPS, MOST_PARTIES};
 
 /// Whether party `p` sends summand `i` of a deal to `q`: another party that holds it.
 pub(crate) fn sends(outline: &Outline, p: u32, q: u32, i: u32) -> bool
@@ -24,7 +25,7 @@ pub(crate) fn sends(outline: &Outline, p: u32, q: u32, i: u32) -> bool
 fn receivers(outline: &Outline, p: u32, i: u32) -> u32
     requires { i < length outline.now.groups }
     ensures is { (s k : ℕ) → result ≡ length (joined outline.now.parties (deal_message outline.now s k p i)) }
-    ensures few { result ≤ 12 }
+    ensures few { result ≤ MOST_PARTIES }
 {
     let mut count = 0;
     for q in 0..outline.parties() {
@@ -49,7 +50,7 @@ fn deal_size(outline: &Outline, p: u32) -> u32
 fn opening_size(outline: &Outline, r: u32) -> u32
     requires { r < outline.now.parties }
     ensures is { (s k : ℕ) → result ≡ length (open_messages outline.now s k r) }
-    ensures few { result ≤ 64 }
+    ensures few { result ≤ MOST_GROUPS }
 {
     let mut count = 0;
     for i in 0..outline.shares() {
@@ -74,7 +75,7 @@ fn mask_size(outline: &Outline) -> u32
 fn holders(outline: &Outline, i: u32) -> u32
     requires { i < length outline.now.groups }
     ensures is { (s k : ℕ) → result ≡ length (joined outline.now.parties (kept_message outline.now s k i)) }
-    ensures few { result ≤ 12 }
+    ensures few { result ≤ MOST_PARTIES }
 {
     let mut count = 0;
     for p in 0..outline.parties() {

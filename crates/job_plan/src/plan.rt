@@ -17,6 +17,7 @@ use crate::ranks::search;
 use crate::starts::Starts;
 use job_session::{RowTable, SessionPart};
 use mpc_ring::Ring;
+use party_set::MOST_GROUPS;
 use plan_faults::PlanFault;
 use product_duty::Duty;
 use share_layout::Layout;
@@ -195,7 +196,7 @@ impl Plan {
     pub fn message(&self, n: u32) -> Key
         requires { n < length (messages self.now) }
         ensures is { result ≡ message self.now n }
-        ensures few { result.share < 64 }
+        ensures few { result.share < MOST_GROUPS }
     {
         let s = self.session_of(n);
         let k = self.slot_of(s, n);

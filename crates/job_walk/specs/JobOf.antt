@@ -1,6 +1,6 @@
 -- The job that files stand for, where they tell what they hold: one walk, in which each file is judged before the next
 -- is read.
-use Rattle.std.specs.Prelude.{◌≡◌, ℕ, nat_le, Bool, if◌then◌else◌, false, List, [], ◌∷◌, ◌++◌, length, map, Option, None, Some, slice_index}
+use Rattle.std.specs.Prelude.{◌≡◌, ℕ, ◌+◌, nat_le, Bool, if◌then◌else◌, false, List, [], ◌∷◌, ◌++◌, length, map, Option, None, Some, slice_index}
 use Rattle.party_set.specs.Parties.{Structure, Members, IsQ2}
 use Rattle.group_formula.specs.Trees.{Meaning}
 use Rattle.group_formula.specs.Formulas.{IsFormula, IsFault}
@@ -34,6 +34,7 @@ use Rattle.refusal_text.specs.Lines.{too_long_line, job_line, group_line, formul
 use Rattle.job_walk.specs.Names as file_names
 use Rattle.job_walk.specs.Verdict.{Verdict, accepted, missing, refused, Ends, Then, verdict_of, unless}
 use Rattle.refusal_text.specs.declared.limits.TheConstants.{FILE_LIMIT}
+use Rattle.party_set.specs.declared.limits.TheConstants.{MOST_GROUPS}
 
 -- what files hold: for each path its bytes, or none where no file is there
 abbrev pub Contents : Type 0
@@ -80,7 +81,7 @@ FormulaOf names text (refused status line) =
 
 -- at most 64 maximal tolerated groups
 unfoldable pub few_groups : Structure → Verdict Structure
-few_groups s = if nat_le (length s.groups) 64 then accepted s else refused 3 (groups_line 65)
+few_groups s = if nat_le (length s.groups) MOST_GROUPS then accepted s else refused 3 (groups_line (MOST_GROUPS + 1))
 
 -- the maximal groups of n parties
 unfoldable pub groups_of : ℕ → (ℕ → Bool) → Verdict Structure

@@ -15,7 +15,7 @@ use job_plan::Plan;
 use node_run::NodeDone;
 use outer_io::{Blocks, Failed, Gather, Sink};
 use output_text::{gather_head, is_read, value_of};
-use party_set::Names;
+use party_set::{MOST_PARTIES, Names};
 use text_parts::gather_word;
 
 /// Writes the lines of party `me`, which is done: `out SESSION VALUE READER` and the words of the value's wires, for
@@ -82,7 +82,7 @@ fn gather_session<G: Gather>(
     s: u32,
 )
     requires sound { IsSound plan.now }
-    requires party { me < 12 }
+    requires party { me < MOST_PARTIES }
     requires done { length done.now.outputs ≡ length plan.now.sessions }
     requires session { s < length plan.now.sessions }
     ensures { Adds (session_lines reader.now plan.now me done.now s) (G.gathered out.old) (G.gathered out.new) }
@@ -106,7 +106,7 @@ fn gather_value<G: Gather>(
     first: u32,
 )
     requires sound { IsSound plan.now }
-    requires party { me < 12 }
+    requires party { me < MOST_PARTIES }
     requires done { length done.now.outputs ≡ length plan.now.sessions }
     requires session { s < length plan.now.sessions }
     requires value { v < length (session plan.now s).outputs }

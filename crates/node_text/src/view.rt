@@ -10,7 +10,7 @@ ghost use Rattle.node_text.specs.NodeText.{kept_message};
 use job_plan::Plan;
 use node_run::NodeDone;
 use outer_io::Gather;
-use party_set::{Group, Names};
+use party_set::{Group, MOST_PARTIES, Names};
 use view_text::{gather_message_line, gather_view_head, touches};
 
 /// Adds what party `me` kept of its own view: `view NAME`, and the line of each message that it sent or got, with the
@@ -35,7 +35,7 @@ pub(crate) fn gather_view<G: Gather>(
 
 // The group of one party.
 fn alone(party: u32, parties: u32) -> Group
-    requires parties { parties ≤ 12 }
+    requires parties { parties ≤ MOST_PARTIES }
     requires party { party < parties }
     ensures { result ≡ record { parties = parties; mask = 2 ^ party } }
 {
@@ -44,14 +44,14 @@ fn alone(party: u32, parties: u32) -> Group
 
 // The mask of one party.
 fn bit(party: u32) -> u32
-    requires { party < 12 }
+    requires { party < MOST_PARTIES }
     ensures { result ≡ 2 ^ party }
 {
     1 << party
 }
 
 fn group_of_mask(mask: u32, parties: u32) -> Group
-    requires parties { (1 ≤ parties) × (parties ≤ 12) }
+    requires parties { (1 ≤ parties) × (parties ≤ MOST_PARTIES) }
     requires mask { mask < 2 ^ parties }
     ensures { result ≡ record { parties = parties; mask = mask } }
 {
