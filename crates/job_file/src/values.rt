@@ -20,6 +20,7 @@ use circuit_model::CircuitLayout;
 use mpc_ring::Ring;
 use outer_io::Hosts;
 use party_set::{Group, MOST_PARTIES, NameText, Names};
+use plan_faults::MOST_SESSIONS;
 use std::alloc::{AllocError, Global};
 use toml::{Table, Value};
 use toml_fields::{integer_at, items_at, items_of, text_at, text_of};
@@ -142,7 +143,7 @@ fn sessions_of(
     version_two: bool,
     names: &Names,
 ) -> Result<Vec<JobSession>, AllocError>
-    requires { length tables.now ≤ 16 }
+    requires { length tables.now ≤ MOST_SESSIONS }
     ensures form { IfOk result (λ sessions. map session_view sessions.items
         ≡ session_forms version_two names.now (map fields_of (map view tables.now))) }
     ensures parties { IfOk result (λ sessions. AreSessions (length names.now) sessions.items) }
@@ -213,7 +214,7 @@ pub fn job_of(alloc: Global, table: &Table, names: Names) -> Result<Job, AllocEr
     requires port { port_fault (table_view table.now) ≡ None }
     requires names { names ≡ texts Parties (table_view table.now) }
     requires some { 1 ≤ length (items Session (table_view table.now)) }
-    requires few { length (items Session (table_view table.now)) ≤ 16 }
+    requires few { length (items Session (table_view table.now)) ≤ MOST_SESSIONS }
     ensures form { IfOk result (λ job. job_view job ≡ job_form (table_view table.now)) }
     ensures facts { IfOk result IsJob }
 {

@@ -6,7 +6,6 @@ mod inputs;
 mod keeping;
 mod key;
 mod laws;
-mod limits;
 mod lines;
 mod lists;
 mod outline;
@@ -23,7 +22,6 @@ pub use job_session::{
 };
 pub use key::Key;
 pub use laws::{deals_have_slots, numbers_are_inverse, places_are_apart, slots_follow_patterns};
-pub use limits::{MOST_MESSAGES, MOST_WORDS};
 pub use pattern::{Line, Pattern};
 pub use plan::Plan;
-pub use plan_faults::{PartFault, PlanFault};
+pub use plan_faults::{MOST_MESSAGES, MOST_SESSIONS, MOST_WORDS, PartFault, PlanFault};

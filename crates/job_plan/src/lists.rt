@@ -6,10 +6,10 @@ ghost use Rattle.job_plan.specs.Firsts.{word_starts, word_starts_of};
 ghost use Rattle.job_plan.specs.Tables.{AreLines};
 
 use crate::counts::session_words;
-use crate::limits::MOST_MESSAGES;
 use crate::outline::Outline;
 use crate::patterns::Patterns;
 use crate::starts::Starts;
+use plan_faults::MOST_MESSAGES;
 use std::alloc::{AllocError, Global};
 
 // Where the messages of each slot of session s begin, after so many before the session.

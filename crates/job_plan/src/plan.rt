@@ -8,7 +8,6 @@ ghost use Rattle.job_plan.specs.Limits.{IsPlanWithin, IsPlanRefusal};
 
 use crate::counts::{deal_count, least_held, message_count, prepared_products, word_count};
 use crate::key::Key;
-use crate::limits::{MOST_MESSAGES, MOST_WORDS};
 use crate::lists::{list_starts, list_words};
 use crate::outline::Outline;
 use crate::pattern::{Line, Pattern};
@@ -18,7 +17,7 @@ use crate::starts::Starts;
 use job_session::{RowTable, SessionPart};
 use mpc_ring::Ring;
 use party_set::MOST_GROUPS;
-use plan_faults::PlanFault;
+use plan_faults::{MOST_MESSAGES, MOST_SESSIONS, MOST_WORDS, PlanFault};
 use product_duty::Duty;
 use share_layout::Layout;
 use std::alloc::{AllocError, Global};
@@ -75,7 +74,7 @@ impl Plan {
         parts: Vec<SessionPart>,
     ) -> Result<Plan, PlanFault>
         requires structure { duty ≡ layout }
-        requires few { length parts.items ≤ 16 }
+        requires few { length parts.items ≤ MOST_SESSIONS }
         requires sound { All (IsSoundSession layout.parties) parts.items }
         requires fit { AllFit parts.items }
         ensures made { IfOk result (λ plan. plan ≡ plan_of ring layout (keeping parts.items)) }

@@ -1,5 +1,8 @@
 //! The limits of a plan.
 
+/// The most sessions.
+pub const MOST_SESSIONS: usize = 16;
+
 /// The most messages.
 pub const MOST_MESSAGES: u64 = 1_048_576;
 
