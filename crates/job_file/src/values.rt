@@ -1,5 +1,5 @@
 //! What a job's file gives, where it has no fault.
-ghost use Rattle.std.specs.Prelude.{◌≡◌, ◌<◌, ◌≤◌, ◌^◌, All, bit_or, IfOk, nat_abs, None, map, length};
+ghost use Rattle.std.specs.Prelude.{◌≡◌, ◌<◌, ◌≤◌, ◌^◌, All, IfOk, nat_abs, None, map, length};
 ghost use Rattle.party_set.specs.Parties.{Members};
 ghost use Rattle.toml.specs.View.{view, table_view};
 ghost use Rattle.toml_fields.specs.Fields.{text_of, texts_of, fields_of};
@@ -19,7 +19,7 @@ use crate::texts::layout_of;
 use circuit_model::CircuitLayout;
 use mpc_ring::Ring;
 use outer_io::Hosts;
-use party_set::{Group, MOST_PARTIES, NameText, Names};
+use party_set::{Group, MOST_PARTIES, NameText, Names, with_party};
 use plan_faults::MOST_SESSIONS;
 use std::alloc::{AllocError, Global};
 use toml::{Table, Value};
@@ -71,13 +71,6 @@ fn mask_of(readers: &[Value], names: &Names) -> u32
         mask = with_party(mask, party_of(names, text_of(reader)));
     }
     mask
-}
-
-fn with_party(mask: u32, party: u32) -> u32
-    requires { party < MOST_PARTIES }
-    ensures { result ≡ bit_or mask (2 ^ party) }
-{
-    mask | 1 << party
 }
 
 fn group_of(readers: &[Value], names: &Names) -> Group

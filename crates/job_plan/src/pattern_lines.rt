@@ -11,6 +11,7 @@ use crate::counts::sends;
 use crate::lines::Lines;
 use crate::outline::Outline;
 use crate::pattern::Line;
+use party_set::has_party;
 use std::alloc::{AllocError, Global};
 
 // The lines of a deal of p.
@@ -80,7 +81,7 @@ fn push_opening_to(
     requires few { r < 32 }
     ensures { OnOk result (lines.new ≡ lines.old ++ only_if (has_party readers r) (open_lines outline.now r)) }
 {
-    if readers >> r & 1 == 1 {
+    if has_party(readers, r) {
         push_opening(outline, r, lines)?;
     }
     Ok(())

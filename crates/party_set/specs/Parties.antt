@@ -1,11 +1,19 @@
 -- Groups of parties, and the structures that they make.
-use Rattle.std.specs.Prelude.{◌≡◌, ◌≢◌, ℕ, zero, suc, ◌^◌, ◌<◌, ◌≤◌, nat_eq, Bool, true, false, not, ◌&&◌, ◌||◌, List, length, slice_index}
+use Rattle.std.specs.Prelude.{◌≡◌, ◌≢◌, ℕ, zero, suc, ◌^◌, ◌<◌, ◌≤◌, nat_eq, Bool, true, false, not, ◌&&◌, ◌||◌, List, length, slice_index, bit_or}
 use Rattle.std.specs.Int.{bit_at}
 use Rattle.party_set.specs.declared.limits.TheConstants.{MOST_PARTIES, MOST_GROUPS}
 
 -- party p is in the group of this mask
 abbrev pub has_party : ℕ → ℕ → Bool
 has_party mask p = nat_eq (bit_at mask p) 1
+
+-- the mask of party p alone
+abbrev pub party_mask : ℕ → ℕ
+party_mask p = 2 ^ p
+
+-- the mask with party p too
+abbrev pub with_party : ℕ → ℕ → ℕ
+with_party mask p = bit_or mask (party_mask p)
 
 -- a group, out of so many parties
 pub record Members : Type 0 where

@@ -3,6 +3,7 @@ ghost use Rattle.std.specs.Prelude.{◌≡◌, ℕ, ◌<◌, ◌≤◌, ◌^◌,
 ghost use Rattle.party_set.specs.Parties.{has_party, within, is_all, IsUnion, IsLeastOutside};
 
 use crate::limits::MOST_PARTIES;
+use crate::mask::{has_party, with_party};
 use std::marker::Model;
 
 /// A group of 1 to 12 parties, which are numbered from 0. Contracts see how many parties there are, and the mask:
@@ -70,7 +71,7 @@ impl Group {
         requires { p < self.parties }
         ensures { result ≡ has_party self.mask p }
     {
-        self.mask >> p & 1 == 1
+        has_party(self.mask, p)
     }
 
     /// The group with this party too.
@@ -80,7 +81,7 @@ impl Group {
         ensures members { (q : ℕ) → has_party result.mask q ≡ (has_party self.mask q || nat_eq q p) }
     {
         Group {
-            mask: self.mask | 1 << p,
+            mask: with_party(self.mask, p),
             parties: self.parties,
         }
     }

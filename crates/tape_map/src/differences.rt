@@ -7,7 +7,7 @@ ghost use Rattle.tape_map.specs.TapeMaps.{member_gives};
 
 use job_plan::SessionPart;
 use job_session::Source;
-use party_set::{Group, MOST_PARTIES};
+use party_set::{Group, MOST_PARTIES, has_party};
 
 /// Whether it is seen that two words differ.
 pub(crate) fn differ(is_seen: bool, first: u64, second: u64) -> bool
@@ -40,5 +40,5 @@ pub(crate) fn reads(part: &SessionPart, o: u32, r: u32) -> bool
     requires party { r < MOST_PARTIES }
     ensures { result ≡ has_party (slice_index (readers part.now) o) r }
 {
-    part.wire_readers(o) >> r & 1 == 1
+    has_party(part.wire_readers(o), r)
 }
