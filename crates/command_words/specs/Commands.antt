@@ -61,7 +61,8 @@ run_seen dir group = if is_plain group then Some (run dir 1 (Some group)) else N
 -- a run by as many workers as one word tells, and the view of a group
 abbrev pub run_by_seen : List ℕ → List ℕ → List ℕ → Option CommandForm
 run_by_seen dir count group =
-    if is_plain group then option_map (λ workers. run dir workers (Some group)) (count_up_to MOST_WORKERS count) else None
+    if is_plain group then option_map (λ workers. run dir workers (Some group)) (count_up_to MOST_WORKERS count)
+    else None
 
 -- a run of a folder, after which these words stand: its options, each at most once and in either order
 abbrev pub run_asked : List ℕ → List (List ℕ) → Option CommandForm

@@ -25,7 +25,8 @@ number_below bound text =
 unfoldable pub carry_in : ℕ → List ℕ → Option JobOwner
 carry_in session text =
     option_map (λ carry. Carried carry.0 carry.1)
-    (option_zip (number_below session (before_first is_point text)) (number_below MOST_VALUES (after_first is_point text)))
+    (option_zip (number_below session (before_first is_point text))
+    (number_below MOST_VALUES (after_first is_point text)))
 
 -- the owner that a text tells in that session: `@S.V` in a file of version 2, or else a party's name
 unfoldable pub owner_in : Bool → List (List ℕ) → ℕ → List ℕ → Option JobOwner

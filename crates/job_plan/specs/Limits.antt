@@ -22,5 +22,6 @@ pub record IsFirstOverdrawn (plan : Plan) (party count : ℕ) : Type 0 where
 -- when each refusal comes: too many messages, or else too many words, or else out of memory
 abbrev pub IsPlanRefusal : Plan → PlanFault → Type 0
 IsPlanRefusal plan (TooManyMessages count) = (count ≡ length (messages plan)) × (MOST_MESSAGES < count)
-IsPlanRefusal plan (TooManyWords party count) = (length (messages plan) ≤ MOST_MESSAGES) × IsFirstOverdrawn plan party count
+IsPlanRefusal plan (TooManyWords party count) =
+    (length (messages plan) ≤ MOST_MESSAGES) × IsFirstOverdrawn plan party count
 IsPlanRefusal plan Memory = IsPlanWithin plan

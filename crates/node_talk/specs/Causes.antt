@@ -46,8 +46,8 @@ pub record ClosedAt (n : Node) (before after : LinksReading) (q at : ℕ) : Type
   pub none_left : IsAtEnd (in_from n after q).told
   pub ended : IsTrue (in_from n after q).ended
 
--- after the hello and the frames before it, at the place of an expected frame came as many bytes as a frame has, which are not
--- that frame with a word of the ring
+-- after the hello and the frames before it, at the place of an expected frame came as many bytes as a frame has,
+-- which are not that frame with a word of the ring
 pub record BadAt (n : Node) (before after : LinksReading) (q at : ℕ) (bytes : List ℕ) : Type 0 where
   pub frame : ℕ
   pub within : frame < length (expected n q)
