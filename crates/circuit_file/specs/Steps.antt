@@ -13,6 +13,7 @@ use Rattle.circuit_file.specs.CircuitFiles.{gate_in, gates_in, header_in}
 use Rattle.circuit_file.specs.Grammar.{Write}
 use Rattle.circuit_file.specs.declared.gate_line.ParsedGate.{ParsedGate}
 use Rattle.circuit_model.specs.declared.layout.CircuitLayout.{CircuitLayout}
+use Rattle.circuit_model.specs.declared.limits.TheConstants.{MOST_GATES}
 
 -- the next tokens write these numbers
 pub record Takes (old : Place) (numbers : List ℕ) (new : Place) : Type 0 where
@@ -50,7 +51,7 @@ AddsNext layout seen rows old (Err f) rest new = (n : ℕ) → Fails f (gates_in
 abbrev pub Begins : ℕ → List Row → Result (ℕ × Draft) CircuitFault → List Row → Type 0
 Begins bits rows (Ok b) rest =
     (header_in bits rows ≡ Ok (b.0, b.1.circuit, rest)) × (b.1.circuit.gates ≡ []) × (b.1.announced ≡ b.0)
-    × (b.1.refused ≡ None) × (b.0 ≤ 65536)
+    × (b.1.refused ≡ None) × (b.0 ≤ MOST_GATES)
 Begins bits rows (Err f) rest = Fails f (header_in bits rows)
 
 -- the draft has the gates of the next n lines, or one of them has the first fault

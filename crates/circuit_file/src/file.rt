@@ -10,7 +10,7 @@ use crate::gate_line::{add_gate, read_gate};
 use crate::header::{read_counts, read_widths};
 use crate::layout::is_bristol;
 use crate::scan::scan_gate;
-use circuit_model::{Builder, Circuit, CircuitFault, CircuitLayout};
+use circuit_model::{Builder, Circuit, CircuitFault, CircuitLayout, MOST_GATES};
 use gate_lines::{Line, Lines};
 use mpc_ring::Ring;
 use std::alloc::Global;
@@ -95,7 +95,7 @@ fn read_gates(
     gates: u64,
     builder: &mut Builder,
 ) -> Result<(), CircuitFault>
-    requires few { gates ≤ 65536 }
+    requires few { gates ≤ MOST_GATES }
     requires announced { builder.old.announced ≡ gates }
     requires first { builder.old.circuit.gates ≡ [] }
     requires going { builder.old.refused ≡ None }

@@ -5,6 +5,7 @@ use Rattle.circuit_model.specs.declared.gate.Gate.{Gate}
 use Rattle.circuit_model.specs.declared.gate.Operation.{Operation}
 use Rattle.circuit_model.specs.declared.gate.Operation.TheVariants.{Add, Sub, Neg, Mul, Xor, And, Inv, Eq, Eqw}
 use Rattle.circuit_model.specs.Circuits.{values}
+use Rattle.circuit_model.specs.declared.limits.TheConstants.{MOST_GATES, MOST_WIRES, MOST_VALUES}
 
 -- gates over `wires` wires, for words of `bits` bits, and how many wires each input and output value has
 pub record Netlist : Type 0 where
@@ -86,10 +87,10 @@ AllGatesFit c = (t : ℕ) → t < length c.gates → GateFits c (take t c.gates)
 pub record IsWithin (c : Netlist) : Type 0 where
   pub some_bits : 0 < c.bits
   pub bits : c.bits ≤ 64
-  pub gates : length c.gates ≤ 65536
-  pub wires : c.wires ≤ 131072
-  pub inputs : length c.inputs ≤ 1024
-  pub outputs : length c.outputs ≤ 1024
+  pub gates : length c.gates ≤ MOST_GATES
+  pub wires : c.wires ≤ MOST_WIRES
+  pub inputs : length c.inputs ≤ MOST_VALUES
+  pub outputs : length c.outputs ≤ MOST_VALUES
   pub input_wires : input_wires c ≤ c.wires
   pub output_wires : output_wires c ≤ c.wires
 

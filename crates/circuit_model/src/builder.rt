@@ -7,6 +7,7 @@ use crate::checks::{check_gate, check_header};
 use crate::circuit::{Circuit, count_wires};
 use crate::fault::CircuitFault;
 use crate::gate::{Gate, Operation};
+use crate::limits::MOST_WIRES;
 use mpc_ring::Ring;
 use std::alloc::{AllocError, Global};
 use std::marker::Model;
@@ -162,7 +163,7 @@ fn start_set(alloc: Global, wires: usize, inputs: u32) -> Result<Vec<bool>, Allo
 // The first of the last `outputs` wires that isn't set.
 fn first_unset(set: &[bool], outputs: u32) -> Option<u32>
     requires within { outputs ≤ length set.now }
-    requires few { length set.now ≤ 131072 }
+    requires few { length set.now ≤ MOST_WIRES }
     ensures { result ≡ find (λ w. not (slice_index_or set.now w false))
         (range_with_len (length set.now - outputs) outputs) }
 {

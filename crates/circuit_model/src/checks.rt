@@ -7,6 +7,7 @@ ghost use Rattle.circuit_model.specs.DraftSteps.{header_checks, gate_checks, gat
 
 use crate::fault::CircuitFault;
 use crate::gate::{Gate, Operation};
+use crate::limits::{MOST_GATES, MOST_VALUES, MOST_WIRES};
 use mpc_ring::Ring;
 
 /// The fault, where a check failed.
@@ -32,15 +33,15 @@ pub fn exceeds(widths: &[u64], wires: u64) -> bool
 
 /// Whether these are more gates or wires than a circuit may have.
 pub fn are_large(gates: u64, wires: u64) -> bool
-    ensures { result ≡ (nat_lt 65536 gates || nat_lt 131072 wires) }
+    ensures { result ≡ (nat_lt MOST_GATES gates || nat_lt MOST_WIRES wires) }
 {
-    gates > 65_536 || wires > 131_072
+    gates > MOST_GATES || wires > MOST_WIRES
 }
 
 fn is_long(widths: &[u64]) -> bool
-    ensures { result ≡ nat_lt 1024 (length widths.now) }
+    ensures { result ≡ nat_lt MOST_VALUES (length widths.now) }
 {
-    widths.len() > 1024
+    widths.len() as u64 > MOST_VALUES
 }
 
 /// The first fault of the counts in a header, whose three lines have these numbers.
@@ -152,7 +153,7 @@ pub(crate) fn check_gate(
     inputs: &[u64],
     outputs: &[u64],
 ) -> Result<Gate, CircuitFault>
-    requires { length set.now ≤ 131072 }
+    requires { length set.now ≤ MOST_WIRES }
     ensures { result ≡ or_fault (first_fault (gate_checks ring (length set.now)
         (λ w. slice_index_or set.now w false) line operation inputs.now outputs.now))
         (gate_of operation inputs.now outputs.now) }

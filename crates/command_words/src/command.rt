@@ -3,6 +3,7 @@ ghost use Rattle.std.specs.Prelude.{◌≡◌, map, Some, None, IfOk, IfSome, On
 ghost use Rattle.command_words.specs.Commands.{is_plain, count_up_to, is_workers, is_view, run_by, run_seen, run_by_seen};
 ghost use Rattle.command_words.specs.Commands.{run_asked, check_asked, pair_asked, named_node, node_asked, sample_asked, audit_asked, asked, command_of, form_of, IsInRange};
 
+use crate::limits::{MOST_SAMPLE, MOST_WORKERS};
 use text_tokens::number;
 
 /// What a command line asks for. The texts are those of its words.
@@ -83,7 +84,7 @@ fn run_by<'w>(dir: &'w str, count: &str) -> Option<Command<'w>>
     ensures form { option_map form_of result ≡ run_by dir.now count.now }
     ensures range { IfSome result IsInRange }
 {
-    let workers = count_up_to(count, 16)?;
+    let workers = count_up_to(count, MOST_WORKERS)?;
     Some(Command::Run {
         dir,
         workers,
@@ -114,7 +115,7 @@ fn run_by_seen<'w>(dir: &'w str, count: &str, group: &'w str) -> Option<Command<
     if !is_plain(group) {
         return None;
     }
-    let workers = count_up_to(count, 16)?;
+    let workers = count_up_to(count, MOST_WORKERS)?;
     Some(Command::Run {
         dir,
         workers,
@@ -252,7 +253,7 @@ fn sample_asked<'w>(word: &str, options: &[String]) -> Option<Command<'w>>
     if !options.is_empty() {
         return None;
     }
-    let count = count_up_to(word, 65_536)?;
+    let count = count_up_to(word, MOST_SAMPLE)?;
     Some(Command::Sample { count })
 }
 

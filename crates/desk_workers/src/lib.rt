@@ -2,6 +2,7 @@
 #![tactic(auto)]
 
 mod done;
+mod limits;
 mod pool;
 mod promised;
 mod ready;
@@ -9,4 +10,5 @@ mod rounds;
 mod steps;
 
 pub use done::Done;
+pub use limits::MOST_WORKERS;
 pub use ready::{Ready, prepare};

@@ -150,7 +150,7 @@ fn round<P: Pace>(
 }
 
 fn next_idle(idle: u32, moves: u64) -> u32
-    requires { idle < 64 }
+    requires { idle < MOST_IDLE }
     ensures none { moves ≡ 0 → result ≡ idle + 1 }
     ensures some { 0 < moves → result ≡ 0 }
 {

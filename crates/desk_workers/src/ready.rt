@@ -7,6 +7,7 @@ ghost use Rattle.desk_laws.specs.Pieces.{ArePieces, world_of_pieces};
 ghost use Rattle.desk_workers.specs.Runs.{IsReady};
 
 use crate::done::Done;
+use crate::limits::MOST_WORKERS;
 use crate::pool::work_all;
 use crate::promised::Promised;
 use crate::rounds::{finish_all, fold_all, take_all};
@@ -40,7 +41,7 @@ pub fn prepare(
     pieces: Vec<Tape>,
     workers: u32,
 ) -> Result<Ready, AllocError>
-    requires workers { (0 < workers) × (workers ≤ 16) }
+    requires workers { (0 < workers) × (workers ≤ MOST_WORKERS) }
     requires inputs { AreInputs plan.now inputs.now }
     requires pieces { ArePieces plan.now pieces.items }
     ensures whole { IsWhole (world_of_pieces plan.now inputs.now pieces.items) }

@@ -10,6 +10,7 @@ use Rattle.expr_circuit.specs.declared.wire.Step.{Step}
 use Rattle.expr_circuit.specs.Programs.{Term, Statement, bind}
 use Rattle.expr_circuit.specs.Programs.Term.{constant, variable, negative, sum, subtraction, product}
 use Rattle.expr_circuit.specs.Programs.Statement.{input, define, output}
+use Rattle.circuit_model.specs.declared.limits.TheConstants.{MOST_GATES, MOST_WIRES, MOST_VALUES}
 
 -- what stands for a wire that an operation doesn't read
 abbrev pub no_wire : Wire
@@ -117,8 +118,8 @@ netlist bits d = assembled bits d.inputs (all_gates d) (length d.outputs)
 -- the circuit would pass a limit
 abbrev pub is_large : Netlist → Bool
 is_large c =
-    (nat_lt 65536 (length c.gates) || nat_lt 131072 c.wires)
-    || (nat_lt 1024 (length c.inputs) || nat_lt 1024 (length c.outputs))
+    (nat_lt MOST_GATES (length c.gates) || nat_lt MOST_WIRES c.wires)
+    || (nat_lt MOST_VALUES (length c.inputs) || nat_lt MOST_VALUES (length c.outputs))
 
 -- the circuit of a program over words of `bits` bits
 abbrev pub circuit : ℕ → List Statement → Netlist

@@ -9,6 +9,7 @@ use Rattle.circuit_model.specs.Netlists.{IsCircuit}
 use Rattle.expr_circuit.specs.Circuits.{Draft, Built, number_of, netlist, is_large}
 use Rattle.expr_circuit.specs.Machine.{State}
 use Rattle.expr_circuit.specs.Walks.{Read, Walk}
+use Rattle.circuit_model.specs.declared.limits.TheConstants.{MOST_GATES, MOST_VALUES}
 
 -- the parser went on to the next state, or tells that there is none
 abbrev pub Advances : Option State → Bool → State → Type 0
@@ -55,10 +56,10 @@ pub record Kept : Type 0 where
 abbrev pub kept : Draft → Kept
 kept d =
     record {
-      steps = take 65536 d.gates;
+      steps = take MOST_GATES d.gates;
       gates = length d.gates;
       inputs = d.inputs;
-      outputs = take 1024 d.outputs;
+      outputs = take MOST_VALUES d.outputs;
       results = length d.outputs;
     }
 

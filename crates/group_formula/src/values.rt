@@ -7,7 +7,7 @@ ghost use Rattle.group_formula.specs.Values.{after_value, how_many, top};
 
 use crate::node::Node;
 use arrayvec::ArrayVec;
-use party_set::Group;
+use party_set::{Group, has_party};
 use std::marker::Model;
 
 /// The values of at most 256 formulas, the last one first.
@@ -96,7 +96,7 @@ fn has(mask: u32, party: usize) -> bool
     if party >= 32 {
         return false;
     }
-    mask >> party & 1 == 1
+    has_party(mask, party as u32)
 }
 
 /// Whether the formula is true where exactly the members of the group are.

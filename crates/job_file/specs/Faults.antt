@@ -16,6 +16,7 @@ use Rattle.job_file.specs.declared.fault.JobFault.TheVariants.{NotToml, Version 
 use Rattle.job_file.specs.Names.{field_text, field_kind, top_fields, session_fields, is_file_name, is_host, layout_of}
 use Rattle.job_file.specs.Owners.{is_carry, owner_in}
 use Rattle.job_file.specs.Forms.{JobForm, job_form, is_version_two, adversary_field, prepared_in, integer, text, texts, items, lists, tables}
+use Rattle.plan_faults.specs.declared.limits.TheConstants.{MOST_SESSIONS}
 
 -- ---- lists of parties' names
 
@@ -107,7 +108,7 @@ adversary_fault fields =
 
 -- 1 to 16 sessions
 unfoldable pub count_fault : ℕ → Option JobFault
-count_fault count = ((count == 0) || nat_lt 16 count) answers SessionCount count
+count_fault count = ((count == 0) || nat_lt MOST_SESSIONS count) answers SessionCount count
 
 -- one host for each party, each well formed
 unfoldable pub hosts_fault : Members → Option JobFault

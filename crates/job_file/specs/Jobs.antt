@@ -8,6 +8,7 @@ use Rattle.job_file.specs.declared.job.Adversary.{Adversary}
 use Rattle.job_file.specs.declared.job.Adversary.TheVariants.{Formula, Tolerated}
 use Rattle.job_file.specs.Owners.{IsOwner}
 use Rattle.job_file.specs.Forms.{JobForm, SessionForm, AdversaryForm, by_formula, by_list}
+use Rattle.plan_faults.specs.declared.limits.TheConstants.{MOST_SESSIONS}
 
 abbrev pub session_view : JobSession → SessionForm
 session_view session = record {
@@ -55,5 +56,5 @@ pub record IsJob (job : Job) : Type 0 where
   pub names : AreNames job.names
   pub adversary : HasParties (length job.names) job.adversary
   pub some_sessions : 1 ≤ length job.sessions.items
-  pub few_sessions : length job.sessions.items ≤ 16
+  pub few_sessions : length job.sessions.items ≤ MOST_SESSIONS
   pub sessions : AreSessions (length job.names) job.sessions.items

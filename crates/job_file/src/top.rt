@@ -19,6 +19,7 @@ use crate::field::Field;
 use crate::parties::bad_in_lists;
 use crate::texts::is_host;
 use party_set::{Names, NamesFault, read_names};
+use plan_faults::MOST_SESSIONS;
 use std::alloc::Global;
 use toml::{Table, Value};
 use toml_fields::{integer_at, items_at, text_of, texts_at};
@@ -116,10 +117,10 @@ fn check_tolerated(groups: &[Value], names: &Names) -> Result<(), JobFault>
 pub fn check_count(count: usize) -> Result<(), JobFault>
     ensures told { TellsFault result (count_fault count) }
     ensures some { OnOk result (1 ≤ count) }
-    ensures few { OnOk result (count ≤ 16) }
+    ensures few { OnOk result (count ≤ MOST_SESSIONS) }
 {
     check(
-        count == 0 || count > 16,
+        count == 0 || count > MOST_SESSIONS,
         JobFault::SessionCount {
             count: count as u64,
         },

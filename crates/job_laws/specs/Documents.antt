@@ -18,6 +18,7 @@ use Rattle.job_file.specs.Names.{field_text, is_file_name, is_host}
 use Rattle.job_file.specs.Owners.{IsOwner}
 use Rattle.job_file.specs.Forms.{JobForm, SessionForm, AdversaryForm, by_formula, by_list}
 use Rattle.job_file.specs.Faults.{job_in}
+use Rattle.plan_faults.specs.declared.limits.TheConstants.{MOST_SESSIONS}
 
 -- ---- values
 
@@ -165,7 +166,7 @@ pub record IsJobForm (node : Bool) (job : JobForm) : Type 0 where
   pub port : job.port ≤ 65392
   pub peers : node ≡ true → HasPeers job
   pub some_sessions : 1 ≤ length job.sessions
-  pub few_sessions : length job.sessions ≤ 16
+  pub few_sessions : length job.sessions ≤ MOST_SESSIONS
   pub sessions : AreSessionForms (length job.names) job.adversary 0 job.sessions
 
 -- ---- the laws

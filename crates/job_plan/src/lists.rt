@@ -9,6 +9,7 @@ use crate::counts::session_words;
 use crate::outline::Outline;
 use crate::patterns::Patterns;
 use crate::starts::Starts;
+use plan_faults::MOST_MESSAGES;
 use std::alloc::{AllocError, Global};
 
 // Where the messages of each slot of session s begin, after the `before` messages of earlier sessions.
@@ -21,7 +22,7 @@ fn list_starts_of(
 ) -> Result<Starts, AllocError>
     requires session { s < length outline.now.sessions }
     requires transfers { AreTransfers outline.now patterns.now }
-    requires few { length (messages outline.now) ≤ 1048576 }
+    requires few { length (messages outline.now) ≤ MOST_MESSAGES }
     requires before { before ≡ first outline.now s 0 }
     ensures { IfOk result (λ made. made ≡ session_starts outline.now s) }
 {
@@ -43,7 +44,7 @@ pub(crate) fn list_starts(
     patterns: &Patterns,
 ) -> Result<Vec<Starts>, AllocError>
     requires transfers { AreTransfers outline.now patterns.now }
-    requires few { length (messages outline.now) ≤ 1048576 }
+    requires few { length (messages outline.now) ≤ MOST_MESSAGES }
     ensures { IfOk result (λ made. made.items ≡ starts_of outline.now) }
 {
     let mut list = Vec::new(alloc);

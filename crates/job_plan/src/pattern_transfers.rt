@@ -11,6 +11,7 @@ use crate::counts::sends;
 use crate::outline::Outline;
 use crate::pattern::Transfer;
 use crate::transfers::Transfers;
+use party_set::has_party;
 use std::alloc::{AllocError, Global};
 
 // The transfers of a deal of p.
@@ -87,7 +88,7 @@ fn push_opening_to(
     ensures { OnOk result (transfers.new
         ≡ transfers.old ++ only_if (has_party readers r) (open_transfers outline.now r)) }
 {
-    if readers >> r & 1 == 1 {
+    if has_party(readers, r) {
         push_opening(outline, r, transfers)?;
     }
     Ok(())

@@ -16,7 +16,8 @@ use crate::ranks::search;
 use crate::starts::Starts;
 use job_session::{RowTable, SessionPart};
 use mpc_ring::Ring;
-use plan_faults::PlanFault;
+use party_set::MOST_GROUPS;
+use plan_faults::{MOST_MESSAGES, MOST_SESSIONS, MOST_WORDS, PlanFault};
 use product_duty::Duty;
 use share_layout::Layout;
 use std::alloc::{AllocError, Global};
@@ -73,7 +74,7 @@ impl Plan {
         parts: Vec<SessionPart>,
     ) -> Result<Plan, PlanFault>
         requires structure { duty ≡ layout }
-        requires few { length parts.items ≤ 16 }
+        requires few { length parts.items ≤ MOST_SESSIONS }
         requires sound { All (IsSoundSession layout.parties) parts.items }
         requires fit { AllFit parts.items }
         ensures made { IfOk result (λ plan. plan ≡ plan_of ring layout (keeping parts.items)) }
@@ -194,7 +195,7 @@ impl Plan {
     pub fn message(&self, n: u32) -> Key
         requires { n < length (messages self.now) }
         ensures is { result ≡ message self.now n }
-        ensures few { result.share < 64 }
+        ensures few { result.share < MOST_GROUPS }
     {
         let s = self.session_of(n);
         let k = self.slot_of(s, n);
@@ -406,9 +407,6 @@ impl Plan {
     }
 }
 
-// The most messages of a plan, and the most tape words of a party.
-const LIMIT: u64 = 1_048_576;
-
 // The transfers of each pattern, and where each slot and each session begins.
 #[derive(Drop)]
 struct Tables {
@@ -424,7 +422,7 @@ fn check_limits(outline: &Outline) -> Result<u32, PlanFault>
         (IsPlanRefusal (keeping_plan outline.now)) }
 {
     let count = message_count(outline);
-    if count > LIMIT {
+    if count > MOST_MESSAGES {
         return Err(PlanFault::TooManyMessages { count });
     }
     check_words(outline)?;
@@ -452,13 +450,13 @@ fn tables_of(alloc: Global, outline: &Outline, count: u32) -> Result<Tables, All
 
 // Looks for a party that draws too many tape words. What sessions keep draws none.
 fn check_words(outline: &Outline) -> Result<(), PlanFault>
-    requires { length (messages (keeping_plan outline.now)) ≤ 1048576 }
+    requires { length (messages (keeping_plan outline.now)) ≤ MOST_MESSAGES }
     ensures { MatchResult result
         (λ _. IsPlanWithin (keeping_plan outline.now)) (IsPlanRefusal (keeping_plan outline.now)) }
 {
     for party in 0..outline.parties() {
         let words = word_count(outline, party);
-        if words > LIMIT {
+        if words > MOST_WORDS {
             return Err(PlanFault::TooManyWords {
                 party,
                 count: words,

@@ -5,6 +5,7 @@ ghost use Rattle.job_plan.specs.Patterns.{named};
 
 use crate::key::Key;
 use crate::pattern::{Transfer, TransferOrder};
+use party_set::{MOST_GROUPS, MOST_PARTIES};
 
 // What rises along the messages of a slot that stand in this order.
 fn rank(order: TransferOrder, key: Key) -> u64
@@ -13,10 +14,11 @@ fn rank(order: TransferOrder, key: Key) -> u64
     let share = u64::from(key.share);
     match order {
         TransferOrder::BySender => {
-            (u64::from(key.sender) * 64 + share) * 12 + u64::from(key.receiver)
+            (u64::from(key.sender) * MOST_GROUPS as u64 + share) * MOST_PARTIES as u64
+                + u64::from(key.receiver)
         }
-        TransferOrder::BySummand => share * 12 + u64::from(key.receiver),
-        TransferOrder::ByReceiver => u64::from(key.receiver) * 64 + share,
+        TransferOrder::BySummand => share * MOST_PARTIES as u64 + u64::from(key.receiver),
+        TransferOrder::ByReceiver => u64::from(key.receiver) * MOST_GROUPS as u64 + share,
     }
 }
 

@@ -6,7 +6,7 @@ ghost use Rattle.job_run.specs.Parties.{AllFit, world_of};
 
 use crate::given::{Given, given_by};
 use crate::pieces::in_order;
-use desk_workers::{Ready, prepare};
+use desk_workers::{MOST_WORKERS, Ready, prepare};
 use job_plan::{Inputs, Plan};
 use party_file::PartyData;
 use std::alloc::{AllocError, Global};
@@ -18,7 +18,7 @@ pub fn prepared(
     parties: Vec<PartyData>,
     workers: u32,
 ) -> Result<Ready, AllocError>
-    requires workers { (0 < workers) × (workers ≤ 16) }
+    requires workers { (0 < workers) × (workers ≤ MOST_WORKERS) }
     requires count { length parties.items ≡ plan.now.parties }
     requires fit { AllFit plan.now parties.items }
     ensures ready { IfOk result (IsReady (world_of plan.now (map form_of parties.items))) }

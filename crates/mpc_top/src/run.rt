@@ -14,7 +14,7 @@ use crate::node::run_node;
 use crate::pair::run_pair;
 use crate::parties::read_parties;
 use crate::sample::run_sample;
-use command_words::Command;
+use command_words::{Command, MOST_WORKERS};
 use job_run::prepared;
 use job_walk::{Planned, Stop, read_planned};
 use link_reader::LinkReader;
@@ -96,7 +96,7 @@ fn run_job<F: Files, O: Sink, P: Pace, R: Threads + Sync>(
     workers: u32,
     view: Option<&str>,
 ) -> Result<(), Stop>
-    requires { (0 < workers) × (workers ≤ 16) }
+    requires { (0 < workers) × (workers ≤ MOST_WORKERS) }
     ensures { RunsAlone (Some (run dir.now workers (text_view view.entry))) (F.reading files.old) (F.reading files.new)
         (O.reading out.old) (O.reading out.new) result }
 {
@@ -118,7 +118,7 @@ fn run_planned<F: Files, O: Sink, P: Pace, R: Threads + Sync>(
     workers: u32,
     planned: &Planned,
 ) -> Result<(), Stop>
-    requires workers { (0 < workers) × (workers ≤ 16) }
+    requires workers { (0 < workers) × (workers ≤ MOST_WORKERS) }
     requires names { length planned.now.names ≡ planned.now.plan.parties }
     requires group { IfSome planned.now.group (λ group. group.parties ≡ length planned.now.names) }
     ensures { (view : Option (List ℕ)) (before : FilesReading)

@@ -7,6 +7,7 @@ ghost use Rattle.desk_laws.specs.Pieces.{ArePieces};
 ghost use Rattle.sample_maker.specs.Samples.{sample_names, sample_plan, sample_inputs, sample_pieces};
 ghost use Rattle.mpc_top.specs.Outcomes.{RunsAlone};
 
+use circuit_model::MOST_GATES;
 use desk_workers::prepare;
 use job_plan::{Inputs, Plan};
 use job_walk::Stop;
@@ -29,7 +30,7 @@ pub(crate) fn run_sample<F: Files, O: Sink, P: Pace, R: Threads + Sync>(
     pace: &P,
     count: u32,
 ) -> Result<(), Stop>
-    requires { (0 < count) × (count ≤ 65536) }
+    requires { (0 < count) × (count ≤ MOST_GATES) }
     ensures { RunsAlone (Some (sample count)) (F.reading files.old) (F.reading files.new)
         (O.reading out.old) (O.reading out.new) result }
 {

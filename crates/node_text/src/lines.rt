@@ -10,11 +10,12 @@ ghost use Rattle.output_text.specs.OutText.{wires_before};
 ghost use Rattle.node_text.specs.NodeText.{node_text, outputs_text, session_lines, value_line, output_words};
 
 use crate::view::gather_view;
+use circuit_model::MOST_WIRES;
 use job_plan::Plan;
 use node_run::NodeDone;
 use outer_io::{Blocks, Failed, Gather, Sink};
 use output_text::{gather_head, is_read, value_of};
-use party_set::Names;
+use party_set::{MOST_PARTIES, Names};
 use text_parts::gather_word;
 
 /// Writes the lines of party `me`, which is done: `out SESSION VALUE READER` and the words of the value's wires, for
@@ -81,7 +82,7 @@ fn gather_session<G: Gather>(
     s: u32,
 )
     requires sound { IsSound plan.now }
-    requires party { me < 12 }
+    requires party { me < MOST_PARTIES }
     requires done { length done.now.outputs ≡ length plan.now.sessions }
     requires session { s < length plan.now.sessions }
     ensures { Adds (session_lines reader.now plan.now me done.now s) (G.gathered out.old) (G.gathered out.new) }
@@ -105,7 +106,7 @@ fn gather_value<G: Gather>(
     first: u32,
 )
     requires sound { IsSound plan.now }
-    requires party { me < 12 }
+    requires party { me < MOST_PARTIES }
     requires done { length done.now.outputs ≡ length plan.now.sessions }
     requires session { s < length plan.now.sessions }
     requires value { v < length (session plan.now s).outputs }
@@ -122,7 +123,7 @@ fn gather_value<G: Gather>(
 
 // The words of `width` output wires from wire `first` on, each after a space.
 fn gather_words<G: Gather>(out: &mut G, done: &NodeDone, s: u32, first: u32, width: u32)
-    requires few { first + width ≤ 131072 }
+    requires few { first + width ≤ MOST_WIRES }
     requires session { s < length done.now.outputs }
     ensures { Adds (words_text (output_words done.now s first width)) (G.gathered out.old) (G.gathered out.new) }
 {

@@ -45,6 +45,14 @@ pub record MayWalk (plan : Plan) (list : List ℕ) (given : Given) (d : Desk) : 
   pub goes : IsDeskOfPlan plan given d
   pub promises : HasWords given list
 
+-- the desk may walk with what it was given
+abbrev pub CanWalk : Plan → List ℕ → Desk → Type 0
+CanWalk plan list d = (given : Given) × MayWalk plan list given d
+
+-- this holds of all that the desk may walk with
+abbrev pub ForWalking : Plan → List ℕ → Desk → (Given → Type 0) → Type 0
+ForWalking plan list d holds = (given : Given) → MayWalk plan list given d → holds given
+
 -- no instruction of this kind comes next, whatever slot it names
 abbrev pub NoneNext : (ℕ → Instruction) → Given → Desk → Type 0
 NoneNext kind given d = (k : ℕ) → instruction_at given d ≢ kind k

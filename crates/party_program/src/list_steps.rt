@@ -7,6 +7,7 @@ use crate::half::Half;
 use crate::step::Step;
 use crate::step_list::StepList;
 use job_plan::{Pattern, Plan, Transfer};
+use party_set::has_party;
 use std::alloc::{AllocError, Global};
 
 /// What party `p` does in this half of a slot of this pattern.
@@ -113,7 +114,7 @@ fn push_after(plan: &Plan, p: u32, pattern: Pattern, list: &mut StepList) -> Res
         Pattern::Silent | Pattern::Dealt(_) | Pattern::HandedOut => Ok(()),
         Pattern::Held | Pattern::Received => Ok(()),
         Pattern::Multiplied => list.push(Step::Sum),
-        Pattern::Opened(readers) => list.push_if(readers >> p & 1 == 1, Step::Deliver),
+        Pattern::Opened(readers) => list.push_if(has_party(readers, p), Step::Deliver),
         Pattern::OpenedToAll => list.push(Step::Open),
         Pattern::Joined => list.push(Step::Join),
     }

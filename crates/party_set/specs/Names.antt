@@ -5,6 +5,7 @@ use Rattle.std.specs.List.{list_all, list_any}
 use Rattle.std.specs.Str.{bytes_eq}
 use Rattle.party_set.specs.declared.names.NamesFault.{NamesFault}
 use Rattle.party_set.specs.declared.names.NamesFault.TheVariants.{BadName, TwiceNamed, PartyCount}
+use Rattle.party_set.specs.declared.limits.TheConstants.{MOST_PARTIES}
 
 -- a letter, a digit or `_`
 abbrev pub is_name_byte : ℕ → Bool
@@ -39,7 +40,7 @@ first_name_fault names (suc n) = first_of (first_name_fault names n) (name_fault
 -- the one fault of a list of names, if it has any: its length, or the first name that has one
 abbrev pub names_fault : List (List ℕ) → Option NamesFault
 names_fault names =
-    if nat_eq (length names) 0 || nat_lt 12 (length names) then Some (PartyCount (length names))
+    if nat_eq (length names) 0 || nat_lt MOST_PARTIES (length names) then Some (PartyCount (length names))
     else first_name_fault names (length names)
 
 -- the number of the party of this name, if there is one
@@ -49,6 +50,6 @@ party_named names name = position (λ other. bytes_eq other name) names
 -- 1 to 12 different names
 pub record AreNames (texts : List (List ℕ)) : Type 0 where
   pub some : 1 ≤ length texts
-  pub few : length texts ≤ 12
+  pub few : length texts ≤ MOST_PARTIES
   pub names : (i : ℕ) → i < length texts → is_name (name_at texts i) ≡ true
   pub different : (i j : ℕ) → i < j → j < length texts → name_at texts i ≢ name_at texts j

@@ -13,11 +13,12 @@ use Rattle.job_plan.specs.declared.key.Key.{Key}
 use Rattle.job_plan.specs.Messages.{messages}
 use Rattle.party_set.specs.Parties.{has_party}
 use Rattle.job_session.specs.Sessions.Slot.{Input, At_gate, Output, Mask, Mask_product, Masked, Kept}
+use Rattle.job_plan.specs.InputWords.{InputLists}
 
 -- a plan, with the inputs and the tapes of all parties
 pub record World : Type 0 where
   pub plan : Plan
-  pub inputs : List (List (List ℕ))  -- by party, session, position
+  pub inputs : InputLists  -- by party, session, position
   pub tapes : List (List ℕ)  -- by party
 
 -- the input of a wire with this source: the next of its giver's inputs; a carried wire has none

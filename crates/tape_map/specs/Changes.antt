@@ -11,7 +11,7 @@ use Rattle.job_session.specs.declared.side.Side.TheVariants.{First, Second}
 use Rattle.job_session.specs.Sessions.{Slot, gate, operand, is_prepared, mask_wire, row_names}
 use Rattle.job_session.specs.Sessions.Slot.{Input, At_gate, Mask, Mask_product}
 use Rattle.job_plan.specs.Plans.{Plan, scheme, session, slot, slots, words_in, place}
-use Rattle.job_plan.specs.InputWords.{session_words}
+use Rattle.job_plan.specs.InputWords.{session_words, InputLists}
 use Rattle.share_world.specs.Worlds.{World}
 use Rattle.wire_tables.specs.WireTables.{summand_rows}
 use Rattle.wire_tables.specs.Steps.{IsRow}
@@ -21,7 +21,7 @@ use Rattle.tape_map.specs.declared.change.Change.{Change}
 -- ---- what a change has
 
 -- by how much each wire of session s grows, after all gates
-abbrev pub growths : World → List (List (List ℕ)) → ℕ → List ℕ
+abbrev pub growths : World → InputLists → ℕ → List ℕ
 growths w other s = listed (session w.plan s).wires (delta w other s (length (session w.plan s).gates))
 
 -- a row, where summand g grows by d
@@ -61,7 +61,7 @@ pub record IsTable (plan : Plan) (s g : ℕ) (more : List ℕ) (table : List (Li
   pub masks : (side : Side) → masks_of c side ≡ grown_masks plan s g more table side
 
 -- the tables are those of session s of a world and of other inputs
-abbrev pub IsChange : World → List (List (List ℕ)) → ℕ → ℕ → Change → Type 0
+abbrev pub IsChange : World → InputLists → ℕ → ℕ → Change → Type 0
 IsChange w other group s c = IsTable w.plan s (hidden w.plan group) (growths w other s) (summand_rows w s) c
 
 -- ---- tables of the right size

@@ -87,7 +87,7 @@ fn reader_fault(
 {
     let parties = plan.parties();
     let part = plan.part(s);
-    let wire = part.wires() - part.output_wires() as u32 + o;
+    let wire = part.output_wire(o);
     for recipient in 0..parties {
         let reads = reads(part, o, recipient);
         if read_differ(group.has(recipient), reads, first, second) {

@@ -8,6 +8,7 @@ use crate::buffers::short_words;
 use crate::word::TapeWord;
 use crate::word_pairs::long_words;
 use mpc_ring::Ring;
+use plan_faults::MOST_SESSIONS;
 use rand_chacha::ChaCha20Rng;
 use rand_core::SeedableRng;
 use std::alloc::{AllocError, Global};
@@ -117,7 +118,7 @@ impl Tape {
         alloc: Global,
         counts: &[u32],
     ) -> Result<Vec<Tape>, (SplitFault, Tape)>
-        requires { length counts.now ≤ 16 }
+        requires { length counts.now ≤ MOST_SESSIONS }
         ensures enough { OnOk result (sum counts.now ≤ length self) }
         ensures pieces { IfOk result (λ pieces. pieces.items ≡ cut counts.now self) }
         ensures refused { IfErr result (λ fault. IsSplitRefusal counts.now self fault.0) }

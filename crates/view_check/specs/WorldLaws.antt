@@ -12,6 +12,7 @@ use Rattle.job_plan.specs.Numbers.{message}
 use Rattle.share_world.specs.Worlds.{World, touches, word, view}
 use Rattle.view_check.specs.Views.{verdict}
 use Rattle.view_text.specs.ViewText.{view_text}
+use Rattle.party_set.specs.Parties.{party_mask}
 
 -- the mask of the group of all parties
 abbrev pub all_parties : Plan → ℕ
@@ -34,8 +35,8 @@ AllSeeAll =
 abbrev pub OwnViewsHaveAll : Type 0
 OwnViewsHaveAll =
     (w : World) (n : ℕ) → IsWhole w → n < length (messages w.plan)
-    → (touches (2 ^ (message w.plan n).sender) (message w.plan n) ≡ true)
-    × (touches (2 ^ (message w.plan n).receiver) (message w.plan n) ≡ true)
+    → (touches (party_mask (message w.plan n).sender) (message w.plan n) ≡ true)
+    × (touches (party_mask (message w.plan n).receiver) (message w.plan n) ≡ true)
 
 -- all that party p gets in session s before slot k is right, and so is all that it kept for the session in earlier ones
 pub record IsRightBefore (w : World) (got : Key → ℕ) (p s k : ℕ) : Type 0 where

@@ -7,11 +7,11 @@ use Rattle.job_session.specs.declared.source.Source.TheVariants.{Carried}
 use Rattle.job_session.specs.declared.side.Side.{Side}
 use Rattle.job_session.specs.declared.side.Side.TheVariants.{First, Second}
 use Rattle.job_plan.specs.Plans.{Plan, session}
-use Rattle.job_plan.specs.InputWords.{session_words}
+use Rattle.job_plan.specs.InputWords.{session_words, InputLists}
 use Rattle.share_world.specs.Worlds.{World, carried_wire, end_summands, input_of, mask, mask_product, plain}
 
 -- the world of a plan, the inputs of all parties, and a tape for each party
-abbrev pub world_given : Plan → List (List (List ℕ)) → List (Vec ℕ) → World
+abbrev pub world_given : Plan → InputLists → List (Vec ℕ) → World
 world_given plan inputs tapes =
     record { plan = plan; inputs = inputs; tapes = session_words tapes }
 

@@ -18,7 +18,7 @@ use Rattle.wire_tables.specs.SlotRows.{may_send, sent}
 use Rattle.wire_tables.specs.WireTables.{world_given}
 use Rattle.wire_tables.proofs.NextPlaces.{has_words}
 use Rattle.wire_tables.proofs.SlotWords.{inside_here}
-use Rattle.wire_tables.proofs.SentRows.{input_sent, output_sent, kept_sent, kept_there, kept_same, kept_within, mask_sent, masked_sent, gate_sent, mask_product_sent, row_read, wire_named, gate_there, operand_within, operand_named, operand_read, operand_whole, mask_named, mask_read, mask_is_row, few_outputs, output_there, output_within, output_named, output_read}
+use Rattle.wire_tables.proofs.SentRows.{input_sent, output_sent, kept_sent, kept_there, kept_same, kept_within, mask_sent, masked_sent, gate_sent, mask_product_sent, row_read, wire_named, gate_there, operand_within, operand_named, operand_read, operand_whole, mask_named, mask_read, mask_is_row, output_there, output_within, output_named, output_read}
 use Rattle.wire_tables.proofs.TableRows.{row_small}
 use Rattle.wire_tables.proofs.sent_rows.kind_row.Goals as goal
 
@@ -31,13 +31,8 @@ row-requires c =
     let few = (c.requires.whole.sound.sessions c.args.s c.requires.session).wired.input_wires in
     wire_named w c.requires.whole c.args.s c.requires.session c.args.table.now c.requires.table c.part-part.result.now c.part-part.ensures c.in-Input.v (omega arith)
 
-pub output_wire-requires-clause-wires : goal.output_wire-requires-clause-wires
-output_wire-requires-clause-wires c =
-    let w : World = world_given c.args.plan.now c.args.inputs.now c.args.tapes.now in
-    few_outputs w c.requires.whole c.args.s c.requires.session c.args.table.now c.requires.table c.part-part.result.now c.part-part.ensures
-
-pub output_wire-requires-clause-within : goal.output_wire-requires-clause-within
-output_wire-requires-clause-within c =
+pub output_wire-requires : goal.output_wire-requires
+output_wire-requires c =
     let plan = c.args.plan.now in
     let w : World = world_given plan c.args.inputs.now c.args.tapes.now in
     let is : slot plan c.args.s c.args.k ≡ Output c.in-Output.o = c.requires.kind ∙ ap slot_of_kind c.in-Output.is in
@@ -322,8 +317,8 @@ bounds-kept-j c =
     let there = inside_here w c.args.s c.args.k c.requires.slot (Kept j) is in
     kept_there w c.requires.whole c.args.s c.requires.session c.args.table.now c.requires.table c.part-part.result.now c.part-part.ensures j there c.kept.result.now c.kept.ensures
 
-pub output_wire-requires-in-Kept-clause-within : goal.output_wire-requires-in-Kept-clause-within
-output_wire-requires-in-Kept-clause-within c =
+pub output_wire-requires-in-Kept : goal.output_wire-requires-in-Kept
+output_wire-requires-in-Kept c =
     let plan = c.args.plan.now in
     let w : World = world_given plan c.args.inputs.now c.args.tapes.now in
     let j = c.in-Kept.j in
