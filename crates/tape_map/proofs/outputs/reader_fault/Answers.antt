@@ -1,4 +1,4 @@
-use Rattle.std.proofs.Common.{◌≡◌, ◌&&◌, not, nat_eq, true, false, [], ◌∷◌, Some, length, sym, ap, ap₂, ◌∙◌, arith}
+use Rattle.std.proofs.Common.{◌≡◌, ◌&&◌, not, nat_eq, true, false, [], ◌∷◌, Some, sym, ap, ap₂, ◌∙◌, arith}
 use Rattle.std.specs.Prelude.{slice_index}
 use Rattle.party_set.specs.Parties.{has_party}
 use Rattle.job_session.specs.Sessions.{Session, readers, output_wire}
