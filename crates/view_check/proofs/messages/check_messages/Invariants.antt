@@ -8,6 +8,6 @@ use Rattle.view_check.proofs.messages.check_messages.Given as goal
 -- the messages of the first sessions are passed, and what is carried of these is there
 abbrev pub invariant-loop-s : goal.invariant-loop-s
 invariant-loop-s l = record {
-  carried : AreCarried (world_given l.plan l.inputs l.tapes) l.s l.carried;
-  passed : Passes l.names (seen_of (world_given l.plan l.inputs l.tapes) l.group.mask (joined l.s (session_messages l.plan))) l.fn.rest l.rest;
+  carried : AreCarried (world_given l.run.plan.now l.run.inputs.now l.run.tapes.now) l.s l.carried;
+  passed : Passes l.run.names.now (seen_of (world_given l.run.plan.now l.run.inputs.now l.run.tapes.now) l.run.group.mask (joined l.s (session_messages l.run.plan.now))) l.fn.rest l.rest;
 }

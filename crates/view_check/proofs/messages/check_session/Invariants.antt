@@ -10,6 +10,6 @@ use Rattle.view_check.proofs.messages.check_session.Given as goal
 -- the messages of the first slots are passed, and the places are those of the next
 abbrev pub invariant-loop-k : goal.invariant-loop-k
 invariant-loop-k l = record {
-  places : ArePlaces l.plan l.s l.k l.places.items;
-  passed : Passes l.names (seen_of (world_given l.plan l.inputs l.tapes) l.group.mask (joined l.k (λ k. slot_messages l.plan l.s k (slot l.plan l.s k)))) l.fn.rest l.rest;
+  places : ArePlaces l.run.plan.now l.s l.k l.places.items;
+  passed : Passes l.run.names.now (seen_of (world_given l.run.plan.now l.run.inputs.now l.run.tapes.now) l.run.group.mask (joined l.k (λ k. slot_messages l.run.plan.now l.s k (slot l.run.plan.now l.s k)))) l.fn.rest l.rest;
 }

@@ -8,4 +8,4 @@ use Rattle.view_check.proofs.messages.check_slot.Given as goal
 -- the messages of the first lines are passed
 abbrev pub invariant-loop-i : goal.invariant-loop-i
 invariant-loop-i l =
-    Passes l.names (seen_of (world_given l.plan l.inputs l.tapes) l.group.mask (map (named l.s l.k) (take l.i l.lines))) l.fn.rest l.rest
+    Passes l.run.names.now (seen_of (world_given l.run.plan.now l.run.inputs.now l.run.tapes.now) l.run.group.mask (map (named l.s l.k) (take l.i l.lines))) l.fn.rest l.rest
