@@ -1,5 +1,5 @@
 //! The summands of the wires that sessions carry of those before them.
-ghost use Rattle.std.specs.Prelude.{◌≡◌, ℕ, ◌+◌, ◌-◌, ◌<◌, ◌≤◌, IfOk, OnOk, [], if◌then◌else◌, length, nat_eq, slice_index_or};
+ghost use Rattle.std.specs.Prelude.{◌≡◌, ℕ, OnOk, [], if◌then◌else◌, nat_eq, slice_index_or};
 ghost use Rattle.job_plan.specs.InputWords.{session_words};
 
 use job_plan::Plan;
