@@ -66,26 +66,26 @@ fn word_of(rows: &[Vec<u64>], key: Key) -> u64
 // Takes the lines of what the group sees in slot `k` of session `s`.
 fn check_slot(
     alloc: Global,
-    run: Audited<'_>,
+    run: &Audited<'_>,
     table: &SummandTable,
     places: &[u32],
     s: u32,
     k: u32,
     rest: &mut ViewLines<'_>,
 ) -> Result<(), CheckFault>
-    requires names { length run.names.now ≡ run.plan.now.parties }
-    requires group { run.group.parties ≡ length run.names.now }
-    requires whole { IsWhole (world_given run.plan.now run.inputs.now run.tapes.now) }
-    requires session { s < length run.plan.now.sessions }
-    requires slot { k < slots run.plan.now s }
-    requires table { table.now ≡ summand_rows (world_given run.plan.now run.inputs.now run.tapes.now) s }
-    requires places { ArePlaces run.plan.now s k places.now }
+    requires names { length run.now.names.now ≡ run.now.plan.now.parties }
+    requires group { run.now.group.parties ≡ length run.now.names.now }
+    requires whole { IsWhole (world_given run.now.plan.now run.now.inputs.now run.now.tapes.now) }
+    requires session { s < length run.now.plan.now.sessions }
+    requires slot { k < slots run.now.plan.now s }
+    requires table { table.now ≡ summand_rows (world_given run.now.plan.now run.now.inputs.now run.now.tapes.now) s }
+    requires places { ArePlaces run.now.plan.now s k places.now }
     ensures { MatchResult result
-        (λ _. Passes run.names.now (seen_of (world_given run.plan.now run.inputs.now run.tapes.now) run.group.mask
-        (slot_messages run.plan.now s k (slot run.plan.now s k))) rest.old rest.new)
-        (λ fault. (fault ≡ Memory) ⊎ Stops run.names.now
-        (seen_of (world_given run.plan.now run.inputs.now run.tapes.now) run.group.mask
-        (slot_messages run.plan.now s k (slot run.plan.now s k))) rest.old fault) }
+        (λ _. Passes run.now.names.now (seen_of (world_given run.now.plan.now run.now.inputs.now run.now.tapes.now) run.now.group.mask
+        (slot_messages run.now.plan.now s k (slot run.now.plan.now s k))) rest.old rest.new)
+        (λ fault. (fault ≡ Memory) ⊎ Stops run.now.names.now
+        (seen_of (world_given run.now.plan.now run.now.inputs.now run.now.tapes.now) run.now.group.mask
+        (slot_messages run.now.plan.now s k (slot run.now.plan.now s k))) rest.old fault) }
 {
     let plan = run.plan;
     let lines = plan.lines(plan.pattern(s, k));
@@ -104,24 +104,24 @@ fn check_slot(
 // is carried of this one is added there.
 fn check_session(
     alloc: Global,
-    run: Audited<'_>,
+    run: &Audited<'_>,
     carried: &mut CarriedRows,
     s: u32,
     rest: &mut ViewLines<'_>,
 ) -> Result<(), CheckFault>
-    requires names { length run.names.now ≡ run.plan.now.parties }
-    requires group { run.group.parties ≡ length run.names.now }
-    requires whole { IsWhole (world_given run.plan.now run.inputs.now run.tapes.now) }
-    requires carried { AreCarried (world_given run.plan.now run.inputs.now run.tapes.now) s carried.old }
-    requires session { s < length run.plan.now.sessions }
+    requires names { length run.now.names.now ≡ run.now.plan.now.parties }
+    requires group { run.now.group.parties ≡ length run.now.names.now }
+    requires whole { IsWhole (world_given run.now.plan.now run.now.inputs.now run.now.tapes.now) }
+    requires carried { AreCarried (world_given run.now.plan.now run.now.inputs.now run.now.tapes.now) s carried.old }
+    requires session { s < length run.now.plan.now.sessions }
     ensures lines { MatchResult result
-        (λ _. Passes run.names.now (seen_of (world_given run.plan.now run.inputs.now run.tapes.now) run.group.mask
-        (session_messages run.plan.now s)) rest.old rest.new)
-        (λ fault. (fault ≡ Memory) ⊎ Stops run.names.now
-        (seen_of (world_given run.plan.now run.inputs.now run.tapes.now) run.group.mask
-        (session_messages run.plan.now s)) rest.old fault) }
+        (λ _. Passes run.now.names.now (seen_of (world_given run.now.plan.now run.now.inputs.now run.now.tapes.now) run.now.group.mask
+        (session_messages run.now.plan.now s)) rest.old rest.new)
+        (λ fault. (fault ≡ Memory) ⊎ Stops run.now.names.now
+        (seen_of (world_given run.now.plan.now run.now.inputs.now run.now.tapes.now) run.now.group.mask
+        (session_messages run.now.plan.now s)) rest.old fault) }
     ensures carried { OnOk result
-        (AreCarried (world_given run.plan.now run.inputs.now run.tapes.now) (s + 1) carried.new) }
+        (AreCarried (world_given run.now.plan.now run.now.inputs.now run.now.tapes.now) (s + 1) carried.new) }
 {
     let plan = run.plan;
     let table = SummandTable::make(alloc, plan, run.inputs, run.tapes, carried, s)?;
@@ -136,18 +136,18 @@ fn check_session(
 // Takes the lines of all that the group sees.
 fn check_messages(
     alloc: Global,
-    run: Audited<'_>,
+    run: &Audited<'_>,
     rest: &mut ViewLines<'_>,
 ) -> Result<(), CheckFault>
-    requires names { length run.names.now ≡ run.plan.now.parties }
-    requires group { run.group.parties ≡ length run.names.now }
-    requires whole { IsWhole (world_given run.plan.now run.inputs.now run.tapes.now) }
+    requires names { length run.now.names.now ≡ run.now.plan.now.parties }
+    requires group { run.now.group.parties ≡ length run.now.names.now }
+    requires whole { IsWhole (world_given run.now.plan.now run.now.inputs.now run.now.tapes.now) }
     ensures { MatchResult result
-        (λ _. Passes run.names.now (seen_of (world_given run.plan.now run.inputs.now run.tapes.now) run.group.mask
-        (messages run.plan.now)) rest.old rest.new)
-        (λ fault. (fault ≡ Memory) ⊎ Stops run.names.now
-        (seen_of (world_given run.plan.now run.inputs.now run.tapes.now) run.group.mask
-        (messages run.plan.now)) rest.old fault) }
+        (λ _. Passes run.now.names.now (seen_of (world_given run.now.plan.now run.now.inputs.now run.now.tapes.now) run.now.group.mask
+        (messages run.now.plan.now)) rest.old rest.new)
+        (λ fault. (fault ≡ Memory) ⊎ Stops run.now.names.now
+        (seen_of (world_given run.now.plan.now run.now.inputs.now run.now.tapes.now) run.now.group.mask
+        (messages run.now.plan.now)) rest.old fault) }
 {
     let mut carried = CarriedRows::new(alloc, run.plan)?;
     for s in 0..run.plan.sessions() {
@@ -187,7 +187,7 @@ fn judge(
         names,
         group,
     };
-    check_messages(alloc, run, &mut rest)?;
+    check_messages(alloc, &run, &mut rest)?;
     let found = rest.finish()?;
     Ok(found as u32)
 }
