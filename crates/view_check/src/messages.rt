@@ -9,6 +9,7 @@ ghost use Rattle.share_world.specs.Worlds.{touches, view};
 ghost use Rattle.wire_tables.specs.Places.{ArePlaces};
 ghost use Rattle.wire_tables.specs.WireTables.{AreCarried, world_given, summand_rows};
 ghost use Rattle.view_text.specs.Seen.{seen_of};
+ghost use Rattle.view_check.specs.Audits.{audited_world};
 ghost use Rattle.view_check.specs.Views.{verdict, Passes, Stops};
 ghost use Rattle.view_check.specs.Laws.{IsView, IsWrongWord};
 ghost use Rattle.view_check.specs.declared.fault.CheckFault.TheVariants.{Memory, WrongWord};
@@ -75,16 +76,16 @@ fn check_slot(
 ) -> Result<(), CheckFault>
     requires names { length run.now.names.now ≡ run.now.plan.now.parties }
     requires group { run.now.group.parties ≡ length run.now.names.now }
-    requires whole { IsWhole (world_given run.now.plan.now run.now.inputs.now run.now.tapes.now) }
+    requires whole { IsWhole (audited_world run.now) }
     requires session { s < length run.now.plan.now.sessions }
     requires slot { k < slots run.now.plan.now s }
-    requires table { table.now ≡ summand_rows (world_given run.now.plan.now run.now.inputs.now run.now.tapes.now) s }
+    requires table { table.now ≡ summand_rows (audited_world run.now) s }
     requires places { ArePlaces run.now.plan.now s k places.now }
     ensures { MatchResult result
-        (λ _. Passes run.now.names.now (seen_of (world_given run.now.plan.now run.now.inputs.now run.now.tapes.now) run.now.group.mask
+        (λ _. Passes run.now.names.now (seen_of (audited_world run.now) run.now.group.mask
         (slot_messages run.now.plan.now s k (slot run.now.plan.now s k))) rest.old rest.new)
         (λ fault. (fault ≡ Memory) ⊎ Stops run.now.names.now
-        (seen_of (world_given run.now.plan.now run.now.inputs.now run.now.tapes.now) run.now.group.mask
+        (seen_of (audited_world run.now) run.now.group.mask
         (slot_messages run.now.plan.now s k (slot run.now.plan.now s k))) rest.old fault) }
 {
     let plan = run.plan;
@@ -111,17 +112,17 @@ fn check_session(
 ) -> Result<(), CheckFault>
     requires names { length run.now.names.now ≡ run.now.plan.now.parties }
     requires group { run.now.group.parties ≡ length run.now.names.now }
-    requires whole { IsWhole (world_given run.now.plan.now run.now.inputs.now run.now.tapes.now) }
-    requires carried { AreCarried (world_given run.now.plan.now run.now.inputs.now run.now.tapes.now) s carried.old }
+    requires whole { IsWhole (audited_world run.now) }
+    requires carried { AreCarried (audited_world run.now) s carried.old }
     requires session { s < length run.now.plan.now.sessions }
     ensures lines { MatchResult result
-        (λ _. Passes run.now.names.now (seen_of (world_given run.now.plan.now run.now.inputs.now run.now.tapes.now) run.now.group.mask
+        (λ _. Passes run.now.names.now (seen_of (audited_world run.now) run.now.group.mask
         (session_messages run.now.plan.now s)) rest.old rest.new)
         (λ fault. (fault ≡ Memory) ⊎ Stops run.now.names.now
-        (seen_of (world_given run.now.plan.now run.now.inputs.now run.now.tapes.now) run.now.group.mask
+        (seen_of (audited_world run.now) run.now.group.mask
         (session_messages run.now.plan.now s)) rest.old fault) }
     ensures carried { OnOk result
-        (AreCarried (world_given run.now.plan.now run.now.inputs.now run.now.tapes.now) (s + 1) carried.new) }
+        (AreCarried (audited_world run.now) (s + 1) carried.new) }
 {
     let plan = run.plan;
     let table = SummandTable::make(alloc, plan, run.inputs, run.tapes, carried, s)?;
@@ -141,12 +142,12 @@ fn check_messages(
 ) -> Result<(), CheckFault>
     requires names { length run.now.names.now ≡ run.now.plan.now.parties }
     requires group { run.now.group.parties ≡ length run.now.names.now }
-    requires whole { IsWhole (world_given run.now.plan.now run.now.inputs.now run.now.tapes.now) }
+    requires whole { IsWhole (audited_world run.now) }
     ensures { MatchResult result
-        (λ _. Passes run.now.names.now (seen_of (world_given run.now.plan.now run.now.inputs.now run.now.tapes.now) run.now.group.mask
+        (λ _. Passes run.now.names.now (seen_of (audited_world run.now) run.now.group.mask
         (messages run.now.plan.now)) rest.old rest.new)
         (λ fault. (fault ≡ Memory) ⊎ Stops run.now.names.now
-        (seen_of (world_given run.now.plan.now run.now.inputs.now run.now.tapes.now) run.now.group.mask
+        (seen_of (audited_world run.now) run.now.group.mask
         (messages run.now.plan.now)) rest.old fault) }
 {
     let mut carried = CarriedRows::new(alloc, run.plan)?;

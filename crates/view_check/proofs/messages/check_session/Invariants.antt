@@ -2,7 +2,7 @@ use Rattle.list_laws.specs.Lists.{joined}
 use Rattle.job_plan.specs.Messages.{slot_messages}
 use Rattle.job_plan.specs.Plans.{slot}
 use Rattle.wire_tables.specs.Places.{ArePlaces}
-use Rattle.wire_tables.specs.WireTables.{world_given}
+use Rattle.view_check.specs.Audits.{audited_world}
 use Rattle.view_text.specs.Seen.{seen_of}
 use Rattle.view_check.specs.Views.{Passes}
 use Rattle.view_check.proofs.messages.check_session.Given as goal
@@ -11,5 +11,5 @@ use Rattle.view_check.proofs.messages.check_session.Given as goal
 abbrev pub invariant-loop-k : goal.invariant-loop-k
 invariant-loop-k l = record {
   places : ArePlaces l.run.plan.now l.s l.k l.places.items;
-  passed : Passes l.run.names.now (seen_of (world_given l.run.plan.now l.run.inputs.now l.run.tapes.now) l.run.group.mask (joined l.k (λ k. slot_messages l.run.plan.now l.s k (slot l.run.plan.now l.s k)))) l.fn.rest l.rest;
+  passed : Passes l.run.names.now (seen_of (audited_world l.run) l.run.group.mask (joined l.k (λ k. slot_messages l.run.plan.now l.s k (slot l.run.plan.now l.s k)))) l.fn.rest l.rest;
 }
