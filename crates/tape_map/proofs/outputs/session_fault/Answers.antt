@@ -21,7 +21,7 @@ returns-in-Some c =
     let wire : c.output_wire-wire.result ≡ output_wire x o = c.output_wire-wire.ensures ∙ ap (λ (y : Session). output_wire y o) c.part-part.ensures in
     let here : first_fault (checks (output_wire x o)) ≡ Some c.in-Some.fault = ap (λ v. first_fault (checks v)) (sym wire) ∙ sym c.reader_fault.ensures ∙ c.in-Some.is in
     sym (joined-stops (length (readers x)) o (λ o. listed plan.parties (output_check plan mask s (slice_index c.args.first.now (output_wire x o)) (slice_index c.args.second.now (output_wire x o)) o)) c.in-Some.fault
-    (omega (arith, c.loop-o-test.true, c.output_wires-o-end.ensures, c.loop-o.auto.o-end, same)) c.loop-o.invariant here)
+    (omega (arith, c.loop-o-test.true, c.output_wires-o-end.ensures, same)) c.loop-o.invariant here)
 
 pub loop-o-preserved : goal.loop-o-preserved
 loop-o-preserved c =
