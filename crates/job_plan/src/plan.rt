@@ -337,7 +337,8 @@ impl Plan {
         requires party { p < self.now.parties }
         requires session { s < length self.now.sessions }
         requires deal { deal ≤ deals self.now p s }
-        ensures { result ≡ least_held self.now p (length self.now.groups) * masks_before self.now s (deal_slot self.now p s deal) }
+        ensures { result
+            ≡ least_held self.now p (length self.now.groups) * masks_before self.now s (deal_slot self.now p s deal) }
     {
         let products = prepared_products(&self.outline, s);
         if products == 0 {

@@ -45,7 +45,8 @@ are_fresh links = list_all is_fresh_inlet links.inlets && list_all is_fresh_outl
 
 -- whether none of the coming calls at these links is one that fails by itself
 abbrev pub are_steady : LinksReading → Bool
-are_steady links = list_all (λ inlet. inlet.steady) links.inlets && list_all (λ outlet. outlet.sink.steady) links.outlets
+are_steady links =
+    list_all (λ inlet. inlet.steady) links.inlets && list_all (λ outlet. outlet.sink.steady) links.outlets
 
 -- whether all of these links are closed
 abbrev pub are_closed : LinksReading → Bool

@@ -2,16 +2,14 @@
 ghost use Rattle.std.specs.Prelude.{◌≡◌, ℕ, ◌+◌, ◌^◌, ◌<◌, ◌≤◌, ◌++◌, ◌%◌, if◌then◌else◌, List};
 ghost use Rattle.std.specs.Prelude.{All, IfOk, OnOk, true, length, slice_index};
 ghost use Rattle.list_laws.specs.Lists.{listed};
-ghost use Rattle.job_session.specs.Sessions.{operand};
 ghost use Rattle.job_plan.specs.InputWords.{session_words};
 ghost use Rattle.job_plan.specs.Plans.{session};
 ghost use Rattle.mpc_ring.specs.Differences.{difference};
 ghost use Rattle.tape_map.specs.TapeMaps.{raised};
 ghost use Rattle.tape_map.specs.Changes.{AreGrowths, AreNamedRows, product_growth, grown_rows, grown_mask, grown_masks};
 
-use circuit_model::Gate;
 use job_plan::{Inputs, Plan, SlotKind};
-use job_session::Side;
+use job_session::{Side, operand};
 use mpc_ring::Ring;
 use party_set::Group;
 use reshare_step::own_products;
@@ -381,15 +379,5 @@ fn grown(ring: Ring, word: u64, growth: u64, is_hidden: bool) -> u64
         ring.add(word, growth)
     } else {
         word
-    }
-}
-
-// The wire that a gate reads on this side.
-fn operand(gate: Gate, side: Side) -> u32
-    ensures { result ≡ operand gate side }
-{
-    match side {
-        Side::First => gate.first,
-        Side::Second => gate.second,
     }
 }

@@ -59,10 +59,8 @@ fn session_fault(
 {
     let _ = plan.parties();
     let part = plan.part(s);
-    let outputs = part.output_wires() as u32;
-    let first_output = part.wires() - outputs;
-    for o in 0..outputs {
-        let wire = (first_output + o) as usize;
+    for o in 0..part.output_wires() as u32 {
+        let wire = part.output_wire(o) as usize;
         if let Some(fault) = reader_fault(plan, group, s, o, first[wire], second[wire]) {
             return Some(fault);
         }

@@ -9,6 +9,7 @@ ghost use Rattle.share_world.specs.Worlds.{touches, view};
 ghost use Rattle.wire_tables.specs.Places.{ArePlaces};
 ghost use Rattle.wire_tables.specs.WireTables.{AreCarried, world_given, summand_rows};
 ghost use Rattle.view_text.specs.Seen.{seen_of};
+ghost use Rattle.view_check.specs.Audits.{audited_world};
 ghost use Rattle.view_check.specs.Views.{verdict, Passes, Stops};
 ghost use Rattle.view_check.specs.Laws.{IsView, IsWrongWord};
 ghost use Rattle.view_check.specs.declared.fault.CheckFault.TheVariants.{Memory, WrongWord};
@@ -44,6 +45,16 @@ fn check_message(
     rest.check_message(names, key, word)
 }
 
+// A run that is audited: its plan, its inputs and tapes, the names of its parties, and the group whose view is checked.
+#[derive(Clone, Copy)]
+struct Audited<'a> {
+    plan: &'a Plan,
+    inputs: &'a Inputs,
+    tapes: &'a [Vec<u64>],
+    names: &'a Names,
+    group: Group,
+}
+
 // The word of a message: of its summand, in its sender's row.
 fn word_of(rows: &[Vec<u64>], key: Key) -> u64
     requires sender { key.sender < length rows.now }
@@ -56,39 +67,36 @@ fn word_of(rows: &[Vec<u64>], key: Key) -> u64
 // Takes the lines of what the group sees in slot `k` of session `s`.
 fn check_slot(
     alloc: Global,
-    plan: &Plan,
-    inputs: &Inputs,
-    tapes: &[Vec<u64>],
-    names: &Names,
-    group: Group,
+    run: &Audited<'_>,
     table: &SummandTable,
     places: &[u32],
     s: u32,
     k: u32,
     rest: &mut ViewLines<'_>,
 ) -> Result<(), CheckFault>
-    requires names { length names.now ≡ plan.now.parties }
-    requires group { group.parties ≡ length names.now }
-    requires whole { IsWhole (world_given plan.now inputs.now tapes.now) }
-    requires session { s < length plan.now.sessions }
-    requires slot { k < slots plan.now s }
-    requires table { table.now ≡ summand_rows (world_given plan.now inputs.now tapes.now) s }
-    requires places { ArePlaces plan.now s k places.now }
+    requires names { length run.now.names.now ≡ run.now.plan.now.parties }
+    requires group { run.now.group.parties ≡ length run.now.names.now }
+    requires whole { IsWhole (audited_world run.now) }
+    requires session { s < length run.now.plan.now.sessions }
+    requires slot { k < slots run.now.plan.now s }
+    requires table { table.now ≡ summand_rows (audited_world run.now) s }
+    requires places { ArePlaces run.now.plan.now s k places.now }
     ensures { MatchResult result
-        (λ _. Passes names.now (seen_of (world_given plan.now inputs.now tapes.now) group.mask
-        (slot_messages plan.now s k (slot plan.now s k))) rest.old rest.new)
-        (λ fault. (fault ≡ Memory) ⊎ Stops names.now
-        (seen_of (world_given plan.now inputs.now tapes.now) group.mask
-        (slot_messages plan.now s k (slot plan.now s k))) rest.old fault) }
+        (λ _. Passes run.now.names.now (seen_of (audited_world run.now) run.now.group.mask
+        (slot_messages run.now.plan.now s k (slot run.now.plan.now s k))) rest.old rest.new)
+        (λ fault. (fault ≡ Memory) ⊎ Stops run.now.names.now
+        (seen_of (audited_world run.now) run.now.group.mask
+        (slot_messages run.now.plan.now s k (slot run.now.plan.now s k))) rest.old fault) }
 {
+    let plan = run.plan;
     let transfers = plan.transfers(plan.pattern(s, k));
     if transfers.is_empty() {
         return Ok(());
     }
-    let rows = slot_rows(alloc, plan, inputs, tapes, table, places, s, k)?;
+    let rows = slot_rows(alloc, plan, run.inputs, run.tapes, table, places, s, k)?;
     for i in 0..transfers.len() {
         let key = transfers[i].named(s, k);
-        check_message(rest, names, group, key, word_of(&rows, key))?;
+        check_message(rest, run.names, run.group, key, word_of(&rows, key))?;
     }
     Ok(())
 }
@@ -97,35 +105,30 @@ fn check_slot(
 // is carried of this one is added there.
 fn check_session(
     alloc: Global,
-    plan: &Plan,
-    inputs: &Inputs,
-    tapes: &[Vec<u64>],
-    names: &Names,
-    group: Group,
+    run: &Audited<'_>,
     carried: &mut CarriedRows,
     s: u32,
     rest: &mut ViewLines<'_>,
 ) -> Result<(), CheckFault>
-    requires names { length names.now ≡ plan.now.parties }
-    requires group { group.parties ≡ length names.now }
-    requires whole { IsWhole (world_given plan.now inputs.now tapes.now) }
-    requires carried { AreCarried (world_given plan.now inputs.now tapes.now) s carried.old }
-    requires session { s < length plan.now.sessions }
+    requires names { length run.now.names.now ≡ run.now.plan.now.parties }
+    requires group { run.now.group.parties ≡ length run.now.names.now }
+    requires whole { IsWhole (audited_world run.now) }
+    requires carried { AreCarried (audited_world run.now) s carried.old }
+    requires session { s < length run.now.plan.now.sessions }
     ensures lines { MatchResult result
-        (λ _. Passes names.now (seen_of (world_given plan.now inputs.now tapes.now) group.mask
-        (session_messages plan.now s)) rest.old rest.new)
-        (λ fault. (fault ≡ Memory) ⊎ Stops names.now
-        (seen_of (world_given plan.now inputs.now tapes.now) group.mask
-        (session_messages plan.now s)) rest.old fault) }
+        (λ _. Passes run.now.names.now (seen_of (audited_world run.now) run.now.group.mask
+        (session_messages run.now.plan.now s)) rest.old rest.new)
+        (λ fault. (fault ≡ Memory) ⊎ Stops run.now.names.now
+        (seen_of (audited_world run.now) run.now.group.mask
+        (session_messages run.now.plan.now s)) rest.old fault) }
     ensures carried { OnOk result
-        (AreCarried (world_given plan.now inputs.now tapes.now) (s + 1) carried.new) }
+        (AreCarried (audited_world run.now) (s + 1) carried.new) }
 {
-    let table = SummandTable::make(alloc, plan, inputs, tapes, carried, s)?;
+    let plan = run.plan;
+    let table = SummandTable::make(alloc, plan, run.inputs, run.tapes, carried, s)?;
     let mut places = first_places(alloc, plan, s)?;
     for k in 0..plan.slots(s) {
-        check_slot(
-            alloc, plan, inputs, tapes, names, group, &table, &places, s, k, rest,
-        )?;
+        check_slot(alloc, run, &table, &places, s, k, rest)?;
         pass_slot(plan, s, k, &mut places);
     }
     Ok(())
@@ -134,36 +137,22 @@ fn check_session(
 // Takes the lines of all that the group sees.
 fn check_messages(
     alloc: Global,
-    plan: &Plan,
-    inputs: &Inputs,
-    tapes: &[Vec<u64>],
-    names: &Names,
-    group: Group,
+    run: &Audited<'_>,
     rest: &mut ViewLines<'_>,
 ) -> Result<(), CheckFault>
-    requires names { length names.now ≡ plan.now.parties }
-    requires group { group.parties ≡ length names.now }
-    requires whole { IsWhole (world_given plan.now inputs.now tapes.now) }
+    requires names { length run.now.names.now ≡ run.now.plan.now.parties }
+    requires group { run.now.group.parties ≡ length run.now.names.now }
+    requires whole { IsWhole (audited_world run.now) }
     ensures { MatchResult result
-        (λ _. Passes names.now (seen_of (world_given plan.now inputs.now tapes.now) group.mask
-        (messages plan.now)) rest.old rest.new)
-        (λ fault. (fault ≡ Memory) ⊎ Stops names.now
-        (seen_of (world_given plan.now inputs.now tapes.now) group.mask
-        (messages plan.now)) rest.old fault) }
+        (λ _. Passes run.now.names.now (seen_of (audited_world run.now) run.now.group.mask
+        (messages run.now.plan.now)) rest.old rest.new)
+        (λ fault. (fault ≡ Memory) ⊎ Stops run.now.names.now
+        (seen_of (audited_world run.now) run.now.group.mask
+        (messages run.now.plan.now)) rest.old fault) }
 {
-    let mut carried = CarriedRows::new(alloc, plan)?;
-    for s in 0..plan.sessions() {
-        check_session(
-            alloc,
-            plan,
-            inputs,
-            tapes,
-            names,
-            group,
-            &mut carried,
-            s,
-            rest,
-        )?;
+    let mut carried = CarriedRows::new(alloc, run.plan)?;
+    for s in 0..run.plan.sessions() {
+        check_session(alloc, run, &mut carried, s, rest)?;
     }
     Ok(())
 }
@@ -192,7 +181,14 @@ fn judge(
         return Err(CheckFault::BadHead);
     };
     let mut rest = ViewLines::of(lines);
-    check_messages(alloc, plan, inputs, tapes, names, group, &mut rest)?;
+    let run = Audited {
+        plan,
+        inputs,
+        tapes,
+        names,
+        group,
+    };
+    check_messages(alloc, &run, &mut rest)?;
     let found = rest.finish()?;
     Ok(found as u32)
 }

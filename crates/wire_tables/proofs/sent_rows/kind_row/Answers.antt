@@ -308,25 +308,14 @@ returns-in-MaskProduct c =
     IfOk-weaker c.part_row-in-MaskProduct.result (λ (row : Vec ℕ). row.items ≡ listed (length plan.groups) (dealt_at (scheme plan) (session_words c.args.tapes.now) c.args.places.now c.args.p (own_product (scheme plan) c.args.p (slice_index c.row-x-in-MaskProduct.result.now) (slice_index c.row-y-in-MaskProduct.result.now)))) (λ (row : Vec ℕ). row.items ≡ listed (length plan.groups) (sent w c.args.s c.args.k c.args.p)) (λ row e.
     mask_product_sent w c.requires.whole c.args.s c.args.k c.args.p c.requires.session c.requires.slot c.args.places.now c.requires.places c.requires.party c.row-x-in-MaskProduct.result.now c.row-y-in-MaskProduct.result.now row.items c.in-MaskProduct.t is a b e) c.part_row-in-MaskProduct.ensures
 
-pub bounds-kept-j : goal.bounds-kept-j
-bounds-kept-j c =
+pub kept_wire-requires : goal.kept_wire-requires
+kept_wire-requires c =
     let plan = c.args.plan.now in
     let w : World = world_given plan c.args.inputs.now c.args.tapes.now in
     let j = c.in-Kept.j in
     let is : slot plan c.args.s c.args.k ≡ Kept j = c.requires.kind ∙ ap slot_of_kind c.in-Kept.is in
     let there = inside_here w c.args.s c.args.k c.requires.slot (Kept j) is in
-    kept_there w c.requires.whole c.args.s c.requires.session c.args.table.now c.requires.table c.part-part.result.now c.part-part.ensures j there c.kept.result.now c.kept.ensures
-
-pub output_wire-requires-in-Kept : goal.output_wire-requires-in-Kept
-output_wire-requires-in-Kept c =
-    let plan = c.args.plan.now in
-    let w : World = world_given plan c.args.inputs.now c.args.tapes.now in
-    let j = c.in-Kept.j in
-    let is : slot plan c.args.s c.args.k ≡ Kept j = c.requires.kind ∙ ap slot_of_kind c.in-Kept.is in
-    let there = inside_here w c.args.s c.args.k c.requires.slot (Kept j) is in
-    let output : ℕ = (slice_index_or c.kept.result.now j no_kept).output in
-    let within = kept_within w c.requires.whole c.args.s c.requires.session c.args.table.now c.requires.table c.part-part.result.now c.part-part.ensures j there c.kept.result.now c.kept.ensures in
-    output_there w c.requires.whole c.args.s c.requires.session c.args.table.now c.requires.table c.part-part.result.now c.part-part.ensures output within
+    kept_there w c.requires.whole c.args.s c.requires.session c.args.table.now c.requires.table c.part-part.result.now c.part-part.ensures j there
 
 pub row-requires-in-Kept : goal.row-requires-in-Kept
 row-requires-in-Kept c =
@@ -335,9 +324,9 @@ row-requires-in-Kept c =
     let j = c.in-Kept.j in
     let is : slot plan c.args.s c.args.k ≡ Kept j = c.requires.kind ∙ ap slot_of_kind c.in-Kept.is in
     let there = inside_here w c.args.s c.args.k c.requires.slot (Kept j) is in
-    let output : ℕ = (slice_index_or c.kept.result.now j no_kept).output in
-    let within = kept_within w c.requires.whole c.args.s c.requires.session c.args.table.now c.requires.table c.part-part.result.now c.part-part.ensures j there c.kept.result.now c.kept.ensures in
-    output_named w c.requires.whole c.args.s c.requires.session c.args.table.now c.requires.table c.part-part.result.now c.part-part.ensures output within c.output_wire-in-Kept.result c.output_wire-in-Kept.ensures
+    let output : ℕ = (slice_index_or c.part-part.result.now.kept j no_kept).output in
+    let within = kept_within w c.requires.whole c.args.s c.requires.session c.args.table.now c.requires.table c.part-part.result.now c.part-part.ensures j there in
+    output_named w c.requires.whole c.args.s c.requires.session c.args.table.now c.requires.table c.part-part.result.now c.part-part.ensures output within c.kept_wire.result c.kept_wire.ensures
 
 pub returns-in-Kept : goal.returns-in-Kept
 returns-in-Kept c =
@@ -346,9 +335,9 @@ returns-in-Kept c =
     let j = c.in-Kept.j in
     let is : slot plan c.args.s c.args.k ≡ Kept j = c.requires.kind ∙ ap slot_of_kind c.in-Kept.is in
     let there = inside_here w c.args.s c.args.k c.requires.slot (Kept j) is in
-    let output : ℕ = (slice_index_or c.kept.result.now j no_kept).output in
-    let within = kept_within w c.requires.whole c.args.s c.requires.session c.args.table.now c.requires.table c.part-part.result.now c.part-part.ensures j there c.kept.result.now c.kept.ensures in
-    let same = kept_same w c.requires.whole c.args.s c.requires.session c.args.table.now c.requires.table c.part-part.result.now c.part-part.ensures j there c.kept.result.now c.kept.ensures in
+    let output : ℕ = (slice_index_or c.part-part.result.now.kept j no_kept).output in
+    let within = kept_within w c.requires.whole c.args.s c.requires.session c.args.table.now c.requires.table c.part-part.result.now c.part-part.ensures j there in
+    let same = kept_same w c.requires.whole c.args.s c.requires.session c.args.table.now c.requires.table c.part-part.result.now c.part-part.ensures j there in
     IfOk-weaker c.from_slice-in-Kept.result (λ (row : Vec ℕ). row.items ≡ c.row-in-Kept.result.now) (λ (row : Vec ℕ). row.items ≡ listed (length plan.groups) (sent w c.args.s c.args.k c.args.p)) (λ row e.
     kept_sent w c.requires.whole c.args.s c.args.k c.args.p c.requires.session c.requires.slot j row.items is (subst (λ v. v < (session plan c.args.s).wires) same (output_within w c.requires.whole c.args.s c.requires.session c.args.table.now c.requires.table c.part-part.result.now c.part-part.ensures output within))
-    (e ∙ output_read w c.requires.whole c.args.s c.requires.session c.args.table.now c.requires.table c.part-part.result.now c.part-part.ensures output within c.output_wire-in-Kept.result c.output_wire-in-Kept.ensures c.row-in-Kept.result.now c.row-in-Kept.ensures ∙ ap (last_row w c.args.s) same)) c.from_slice-in-Kept.ensures.items
+    (e ∙ output_read w c.requires.whole c.args.s c.requires.session c.args.table.now c.requires.table c.part-part.result.now c.part-part.ensures output within c.kept_wire.result c.kept_wire.ensures c.row-in-Kept.result.now c.row-in-Kept.ensures ∙ ap (last_row w c.args.s) same)) c.from_slice-in-Kept.ensures.items
