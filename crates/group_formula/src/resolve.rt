@@ -55,8 +55,11 @@ fn resolve_node(text: &[u8], names: &Names, node: Node) -> Result<Node, FormulaF
             Some(party) => Ok(Node::Name(party)),
             None => Err(FormulaFault::UnknownName { at: at as u64 }),
         },
-        Node::AtLeast(at, parts) => match count_at(text, at, parts) {
-            Some(count) => Ok(Node::AtLeast(count, parts)),
+        Node::AtLeast { number: at, parts } => match count_at(text, at, parts) {
+            Some(count) => Ok(Node::AtLeast {
+                number: count,
+                parts,
+            }),
             None => Err(FormulaFault::BadCount { at: at as u64 }),
         },
         Node::And => Ok(Node::And),

@@ -1,6 +1,6 @@
 //! The wires of a slot of each kind.
 
-use crate::side::Side;
+use crate::side::{Side, operand};
 use crate::slot_kind::SlotKind;
 use crate::touched::{Reads, Touched, completed, read_wires, touched_of};
 use crate::wiring::Wiring;
@@ -62,11 +62,7 @@ impl Wiring {
         requires { t < length self.now.gates.items }
         ensures { result ≡ operand (gate (session_in self.now) t) side }
     {
-        let gate = self.gates[t as usize];
-        match side {
-            Side::First => gate.first,
-            Side::Second => gate.second,
-        }
+        operand(self.gates[t as usize], side)
     }
 
     /// The wires that a slot reads before it takes anything.

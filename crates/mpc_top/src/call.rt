@@ -6,11 +6,11 @@ ghost use Rattle.outer_io.specs.Sink.{SinkReading};
 ghost use Rattle.command_words.specs.Commands.{command_of};
 ghost use Rattle.mpc_top.specs.Due.{words_view, AsksForNode};
 ghost use Rattle.mpc_top.specs.Outside.{Outside, outside_of};
-ghost use Rattle.mpc_top.specs.Stops.{RunsWords};
+ghost use Rattle.mpc_top.specs.Outcomes.{RunsWords};
 ghost use Rattle.mpc_top.specs.Command.{Answers};
 
 use crate::run::{run_alone, run_command};
-use crate::told::write_stop;
+use crate::stop_text::write_stop;
 use command_words::{Command, read_command};
 use job_walk::Stop;
 use link_reader::LinkReader;

@@ -9,7 +9,7 @@ mod pair;
 mod parties;
 mod run;
 mod sample;
-mod told;
+mod stop_text;
 
 pub use call::{command, command_alone};
 pub use job_walk::Stop;

@@ -3,15 +3,15 @@ ghost use Rattle.std.specs.Prelude.{◌≡◌, ◌-◌, Some, length};
 ghost use Rattle.outer_io.specs.Links.{HasPeers, links_reading};
 ghost use Rattle.outer_io.specs.Sink.{SinkReading};
 ghost use Rattle.command_words.specs.Commands.{node};
-ghost use Rattle.node_run.specs.Ready.{IsShare};
+ghost use Rattle.node_run.specs.Ready.{IsNodePart};
 ghost use Rattle.mpc_top.specs.LinkTalks.{TalkedOver};
 ghost use Rattle.mpc_top.specs.Outside.{outside_of};
-ghost use Rattle.mpc_top.specs.Stops.{RunsWords};
+ghost use Rattle.mpc_top.specs.Outcomes.{RunsWords};
 
 use job_plan::Plan;
 use job_walk::{NodeJob, Stop, read_node};
 use link_reader::LinkReader;
-use node_run::{NodeReady, every_share_is_of_a_world};
+use node_run::{NodeReady, every_node_part_is_of_a_world};
 use node_text::write_node;
 use outer_io::{Files, Links, Net, NetRefusal, Sink, Spawner};
 use party_file::PartyData;
@@ -34,7 +34,7 @@ fn talk<O: Sink, N: Net, W: Spawner<LinkReader<N::In>>, R: Wait>(
 ) -> Result<(), Stop>
 where
     N::In: Drop,
-    requires share { IsShare ready }
+    requires part { IsNodePart ready }
     requires plan { plan.now ≡ ready.plan }
     requires me { me ≡ ready.me }
     requires names { length names ≡ ready.plan.parties }
@@ -43,7 +43,7 @@ where
         (N.reading net.old) (N.reading net.new) (W.reading spawner.old) (W.reading spawner.new)
         (O.reading out.old) (O.reading out.new) result }
 {
-    every_share_is_of_a_world();
+    every_node_part_is_of_a_world();
     let (result, links) = ready.run(rt, plan, links, spawner);
     net.back(links);
     match result {

@@ -17,7 +17,7 @@ ghost use Rattle.job_walk.specs.JobReads.{ReadsPlan};
 ghost use Rattle.job_walk.specs.Reads.{WalksAs, StopsBy};
 ghost use Rattle.job_walk.specs.Seen.{planned_view};
 ghost use Rattle.mpc_top.specs.Seen.{parties_view};
-ghost use Rattle.mpc_top.specs.Stops.{RunsAlone};
+ghost use Rattle.mpc_top.specs.Outcomes.{RunsAlone};
 
 use crate::other::read_other_inputs;
 use crate::parties::read_parties;

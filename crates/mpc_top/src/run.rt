@@ -7,7 +7,7 @@ ghost use Rattle.job_walk.specs.JobReads.{ReadsPlan};
 ghost use Rattle.job_walk.specs.Seen.{text_view};
 ghost use Rattle.mpc_top.specs.Due.{IsAlone};
 ghost use Rattle.mpc_top.specs.Outside.{outside_of};
-ghost use Rattle.mpc_top.specs.Stops.{RunsWords, RunsAlone};
+ghost use Rattle.mpc_top.specs.Outcomes.{RunsWords, RunsAlone};
 
 use crate::audit::audit_job;
 use crate::node::run_node;
@@ -20,6 +20,7 @@ use job_walk::{Planned, Stop, read_planned};
 use link_reader::LinkReader;
 use outer_io::{Files, Net, Pace, Sink, Spawner};
 use output_text::{write_check, write_run};
+use plan_faults::MOST_WORKERS;
 use std::alloc::Global;
 use std::sync::Wait;
 use std::thread::Threads;
@@ -84,7 +85,7 @@ pub(crate) fn run_alone<F: Files, O: Sink, P: Pace, R: Threads + Sync>(
     }
 }
 
-/// Runs the job of a folder by so many workers: the outputs that its desks delivered, and what a group saw, where one
+/// Runs the job of a folder by `workers`: the outputs that its desks delivered, and what a group saw, where one
 /// is asked for.
 fn run_job<F: Files, O: Sink, P: Pace, R: Threads + Sync>(
     rt: &R,
@@ -96,7 +97,7 @@ fn run_job<F: Files, O: Sink, P: Pace, R: Threads + Sync>(
     workers: u32,
     view: Option<&str>,
 ) -> Result<(), Stop>
-    requires { (0 < workers) × (workers ≤ 16) }
+    requires { (0 < workers) × (workers ≤ MOST_WORKERS) }
     ensures { RunsAlone (Some (run dir.now workers (text_view view.entry))) (F.reading files.old) (F.reading files.new)
         (O.reading out.old) (O.reading out.new) result }
 {
@@ -107,7 +108,7 @@ fn run_job<F: Files, O: Sink, P: Pace, R: Threads + Sync>(
     result
 }
 
-// Runs a job that was read, by so many workers.
+// Runs a job that was read, by `workers`.
 fn run_planned<F: Files, O: Sink, P: Pace, R: Threads + Sync>(
     rt: &R,
     alloc: Global,
@@ -118,7 +119,7 @@ fn run_planned<F: Files, O: Sink, P: Pace, R: Threads + Sync>(
     workers: u32,
     planned: &Planned,
 ) -> Result<(), Stop>
-    requires workers { (0 < workers) × (workers ≤ 16) }
+    requires workers { (0 < workers) × (workers ≤ MOST_WORKERS) }
     requires names { length planned.now.names ≡ planned.now.plan.parties }
     requires group { IfSome planned.now.group (λ group. group.parties ≡ length planned.now.names) }
     ensures { (view : Option (List ℕ)) (before : FilesReading)

@@ -5,8 +5,9 @@ ghost use Rattle.command_words.specs.Commands.{sample};
 ghost use Rattle.job_plan.specs.InputWords.{AreInputs};
 ghost use Rattle.desk_laws.specs.Pieces.{ArePieces};
 ghost use Rattle.sample_maker.specs.Samples.{sample_names, sample_plan, sample_inputs, sample_pieces};
-ghost use Rattle.mpc_top.specs.Stops.{RunsAlone};
+ghost use Rattle.mpc_top.specs.Outcomes.{RunsAlone};
 
+use circuit_model::MOST_GATES;
 use desk_workers::prepare;
 use job_plan::{Inputs, Plan};
 use job_walk::Stop;
@@ -20,7 +21,7 @@ use tape_words::Tape;
 
 const WORKERS: u32 = 4;
 
-/// Makes a job of so many gates, 1 to 65,536, and runs it by four workers. It reads no file.
+/// Makes a job of `count` gates, 1 to 65,536, and runs it by four workers. It reads no file.
 pub(crate) fn run_sample<F: Files, O: Sink, P: Pace, R: Threads + Sync>(
     rt: &R,
     alloc: Global,
@@ -29,7 +30,7 @@ pub(crate) fn run_sample<F: Files, O: Sink, P: Pace, R: Threads + Sync>(
     pace: &P,
     count: u32,
 ) -> Result<(), Stop>
-    requires { (0 < count) × (count ≤ 65536) }
+    requires { (0 < count) × (count ≤ MOST_GATES) }
     ensures { RunsAlone (Some (sample count)) (F.reading files.old) (F.reading files.new)
         (O.reading out.old) (O.reading out.new) result }
 {

@@ -31,8 +31,8 @@ impl PipeNet {
     ghost use Rattle.std.specs.Prelude.{◌&&◌};
     ghost use Rattle.std.specs.Option.{option_map};
 
-    /// A net that expects party `me` of so many to ask for its links, with these hosts and this port. The calls of the
-    /// numbers in `failing` fail, counted from 0.
+    /// A net that expects party `me` of `parties` to ask for its links, with these hosts and this port. The calls of
+    /// the numbers in `failing` fail, counted from 0.
     pub fn new(
         hosts: Hosts,
         port: u16,

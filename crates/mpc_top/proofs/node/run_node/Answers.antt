@@ -2,7 +2,7 @@ use Rattle.std.proofs.Common.{Err, refl, ap}
 use Rattle.outer_io.specs.Links.{links_reading}
 use Rattle.command_words.specs.Commands.{node}
 use Rattle.job_walk.proofs.JobFiles.{of_job}
-use Rattle.mpc_top.proofs.NodeRuns.{as_talk, node_stops, memory_is_no_fault, meets_nobody, meets_no_memory, talked, ready_share}
+use Rattle.mpc_top.proofs.NodeRuns.{as_talk, node_stops, memory_is_no_fault, meets_nobody, meets_no_memory, talked, ready_part}
 use Rattle.mpc_top.proofs.Runs.{runs_stop, runs_memory}
 use Rattle.mpc_top.proofs.node.run_node.Goals as goal
 
@@ -33,4 +33,4 @@ pub returns : goal.returns
 returns g c = λ err err'.
     let p = of_job _ _ _ _ _ _ _ c.in_ok-job.ensures.reads in
     talked c.args.dir.now c.args.name.now c.args.view _ _ c.in_ok-job.job p.3 (p.0, p.1, p.3.asks_all) err err' _ c.parties.ensures.is
-    (links_reading g.N.In.Inlet.reading g.N.Out.Outlet.reading) _ _ _ _ _ _ c.in-Ok-links.ensures _ _ _ (ready_share c.in_ok-job.job _ _ c.in-Ok.ensures c.deref.ensures.value) _ c.talk-result.ensures
+    (links_reading g.N.In.Inlet.reading g.N.Out.Outlet.reading) _ _ _ _ _ _ c.in-Ok-links.ensures _ _ _ (ready_part c.in_ok-job.job _ _ c.in-Ok.ensures c.deref.ensures.value) _ c.talk-result.ensures
