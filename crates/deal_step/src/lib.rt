@@ -2,7 +2,7 @@
 //! (Ito, Saito, Nishizeki 1987; Maurer 2006).
 #![tactic(auto)]
 
-ghost use Rattle.std.specs.Prelude.{◌≡◌, ℕ, ◌+◌, ◌-◌, ◌^◌, ◌<◌, ◌≤◌, All, length, slice_index, drop};
+ghost use Rattle.std.specs.Prelude.{◌≡◌, ◌+◌, ◌-◌, ◌^◌, ◌<◌, ◌≤◌, All, length, slice_index, drop};
 ghost use Rattle.secret_sharing.specs.Schemes.{Scheme};
 ghost use Rattle.deal_step.specs.Deals.{IsDealt};
 

@@ -1,5 +1,5 @@
 //! The gates, inputs and outputs of a circuit of which some lines were read.
-ghost use Rattle.std.specs.Prelude.{◌≡◌, ℕ, ◌+◌, ◌^◌, ◌∷◌, ◌++◌, [], nat_lt, drop, OnOk, MatchResult, if◌then◌else◌};
+ghost use Rattle.std.specs.Prelude.{◌≡◌, ◌+◌, ◌^◌, ◌∷◌, ◌++◌, [], nat_lt, drop, OnOk, MatchResult, if◌then◌else◌};
 ghost use Rattle.expr_circuit.specs.declared.fault.ExprFault.TheVariants.{Memory};
 ghost use Rattle.expr_circuit.specs.Circuits.{Draft, add, no_wire, no_lines};
 ghost use Rattle.expr_circuit.specs.Walks.{top, node_in, expression_in, netlist_in};

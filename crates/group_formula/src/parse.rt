@@ -1,7 +1,5 @@
 //! The first pass over a text.
-ghost use Rattle.std.specs.Prelude.{◌≡◌, MatchResult, ◌≤◌, length};
-ghost use Rattle.group_formula.specs.Grammar.{Expr, shape};
-ghost use Rattle.group_formula.specs.Faults.{Parses, IsFirstFault};
+ghost use Rattle.std.specs.Prelude.{◌≡◌, MatchResult, ◌≤◌};
 ghost use Rattle.group_formula.specs.Parsed.{IsParsed, StopsParsing};
 
 use crate::fault::FormulaFault;

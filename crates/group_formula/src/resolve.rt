@@ -1,5 +1,5 @@
 //! The second pass: what the names and the numbers mean.
-ghost use Rattle.std.specs.Prelude.{◌≡◌, ℕ, ◌≤◌, ◌+◌, ◌*◌, ◌^◌, ◌&&◌, nat_le, nat_lt, length, map, MatchOption, MatchResult, Option, Some, None, if◌then◌else◌};
+ghost use Rattle.std.specs.Prelude.{◌≡◌, ◌≤◌, ◌+◌, ◌*◌, ◌^◌, ◌&&◌, nat_lt, map, MatchResult, Option, Some, None, if◌then◌else◌};
 ghost use Rattle.group_formula.specs.Formulas.{number_in_text, reading, IsFormula, IsSecondFault};
 ghost use Rattle.group_formula.specs.Resolved.{good_count, meaning, earlier, least, resolved_node};
 ghost use Rattle.group_formula.specs.Parsed.{IsParsed};

@@ -3,7 +3,7 @@ ghost use Rattle.std.specs.Prelude.{◌≡◌, ◌≢◌, ◌≤◌, ◌==◌, O
 ghost use Rattle.std.specs.Option.{option_map};
 ghost use Rattle.toml.specs.View.{view, table_view};
 ghost use Rattle.toml_fields.specs.Fields.{text_of, texts_of};
-ghost use Rattle.job_file.specs.Answers.{TellsFault, TellsOrMemory};
+ghost use Rattle.job_file.specs.Answers.{TellsFault};
 ghost use Rattle.job_file.specs.Names.{is_host};
 ghost use Rattle.job_file.specs.Forms.{texts};
 ghost use Rattle.list_laws.specs.Checks.{◌answers◌};

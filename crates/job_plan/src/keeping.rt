@@ -1,5 +1,5 @@
 //! What sessions keep for later ones.
-ghost use Rattle.std.specs.Prelude.{◌≡◌, ℕ, ◌<◌, ◌≤◌, ◌++◌, All, IfOk, OnOk, [], length, map, slice_index_or};
+ghost use Rattle.std.specs.Prelude.{◌≡◌, ℕ, ◌<◌, ◌≤◌, ◌++◌, All, IfOk, OnOk, [], length, map};
 ghost use Rattle.std.specs.Global.{Vec};
 ghost use Rattle.list_laws.specs.Lists.{joined, listed};
 ghost use Rattle.job_session.specs.declared.values.KeptWire.{KeptWire};

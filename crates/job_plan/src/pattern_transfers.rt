@@ -1,6 +1,6 @@
 //! Lists the transfers of patterns.
 ghost use Rattle.std.specs.Prelude.{◌≡◌, ◌<◌, ◌++◌, OnOk, IfOk, length};
-ghost use Rattle.list_laws.specs.Lists.{joined, listed, only_if};
+ghost use Rattle.list_laws.specs.Lists.{joined, only_if};
 ghost use Rattle.secret_sharing.specs.Schemes.{has_pair};
 ghost use Rattle.party_set.specs.Parties.{has_party};
 ghost use Rattle.job_plan.specs.declared.pattern.Pattern.TheVariants.{Multiplied, Opened, HandedOut, OpenedToAll, Held};

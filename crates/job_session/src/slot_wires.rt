@@ -8,7 +8,7 @@ use crate::wiring::Wiring;
 impl Wiring {
     ghost use Rattle.std.specs.Prelude.{◌≡◌, ℕ, ◌<◌, nat_eq, length, ◌||◌};
     ghost use Rattle.std.specs.List.{list_any};
-    ghost use Rattle.job_session.specs.Sessions.{gate, is_prepared, mask_wire, operand, product_wire, row_names, session_slot, session_slots};
+    ghost use Rattle.job_session.specs.Sessions.{gate, is_prepared, mask_wire, operand, product_wire, row_names, session_slots};
     ghost use Rattle.job_session.specs.Sessions.Slot.{At_gate};
     ghost use Rattle.job_session.specs.SoundSessions.{slot_of_kind, Inside};
     ghost use Rattle.job_session.specs.KeptWires.{sets_in};

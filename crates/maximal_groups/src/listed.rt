@@ -1,5 +1,5 @@
 //! Families that are told by a list of groups.
-ghost use Rattle.std.specs.Prelude.{◌≡◌, ◌≤◌, ℕ, Bool, List, true, All, map};
+ghost use Rattle.std.specs.Prelude.{◌≡◌, ◌≤◌, ℕ, Bool, List, All, map};
 ghost use Rattle.std.specs.List.{list_any};
 ghost use Rattle.party_set.specs.Parties.{within, Members};
 ghost use Rattle.maximal_groups.specs.Families.{maximal_structure, listed_structure, IsFamily, IsCoveredBy};

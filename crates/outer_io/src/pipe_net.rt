@@ -25,7 +25,7 @@ pub struct PipeNet {
 }
 
 impl PipeNet {
-    ghost use Rattle.outer_io.specs.PipeNets.{pipe_reading, meeting_of, offered};
+    ghost use Rattle.outer_io.specs.PipeNets.{pipe_reading, meeting_of};
     ghost use Rattle.outer_io.specs.Memory.{all_past};
     ghost use Rattle.outer_io.specs.Links.{are_steady};
     ghost use Rattle.std.specs.Prelude.{◌&&◌};

@@ -1,5 +1,5 @@
 //! How many deals stand before each slot.
-ghost use Rattle.std.specs.Prelude.{◌≡◌, ℕ, ◌+◌, ◌<◌, ◌≤◌, IfOk, length};
+ghost use Rattle.std.specs.Prelude.{◌≡◌, ◌+◌, ◌<◌, ◌≤◌, IfOk, length};
 ghost use Rattle.secret_sharing.specs.Schemes.{has_pair};
 ghost use Rattle.job_plan.specs.Plans as plans;
 ghost use Rattle.job_session.specs.Sessions.{owners};

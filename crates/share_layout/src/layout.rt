@@ -1,5 +1,5 @@
 //! The layout of the summands.
-ghost use Rattle.std.specs.Prelude.{◌≡◌, ℕ, ◌<◌, ◌≤◌, IfOk, length, true};
+ghost use Rattle.std.specs.Prelude.{◌≡◌, ◌<◌, ◌≤◌, IfOk, length, true};
 ghost use Rattle.party_set.specs.Parties.{IsAntichain, IsQ2, Structure};
 ghost use Rattle.share_layout.specs.Layouts.{holds, least_holder, EachIsHeld};
 

@@ -1,5 +1,5 @@
 //! How the tapes of one session change.
-ghost use Rattle.std.specs.Prelude.{◌≡◌, ℕ, ◌+◌, ◌^◌, ◌<◌, ◌≤◌, ◌++◌, ◌%◌, if◌then◌else◌, List};
+ghost use Rattle.std.specs.Prelude.{◌≡◌, ℕ, ◌+◌, ◌^◌, ◌<◌, ◌≤◌, ◌++◌, ◌%◌, if◌then◌else◌};
 ghost use Rattle.std.specs.Prelude.{All, IfOk, OnOk, length, slice_index};
 ghost use Rattle.list_laws.specs.Lists.{listed};
 ghost use Rattle.job_plan.specs.Plans.{session};
@@ -30,7 +30,6 @@ pub struct Change {
 
 impl Change {
     ghost use Rattle.std.specs.Prelude.{◌≡◌, ℕ, ◌+◌, ◌^◌, ◌<◌, ◌≤◌, ◌++◌, IfOk, OnOk, All, true, length};
-    ghost use Rattle.party_set.specs.Parties.{has_party};
     ghost use Rattle.job_session.specs.Sessions.{is_prepared};
     ghost use Rattle.job_session.specs.Sessions.Slot.{At_gate, Mask_product};
     ghost use Rattle.job_session.specs.SoundSessions.{Inside, slot_of_kind};
