@@ -187,7 +187,7 @@ module _ (dir name : List ℕ) (view : Bool) (files files' : FilesReading) (job 
 
   of_talk : (kept : LinksReading) (outcome : Result Results NodeFault) (result : Result Unit Stop) → net' ≡ record mid { kept = Some kept }
       → ((n : Node) × IsNodeOf (node_part (node_view job)) n) → ((n : Node) → IsNodeOf (node_part (node_view job)) n → node_runs.Runs n (shown links) kept spawner spawner' outcome)
-      → Written job.names (node_part (node_view job)) view outcome out out' result → RunsWords (Some (node dir name view)) before_talk after_talk result
+      → Written job.names job.plan job.me view outcome out out' result → RunsWords (Some (node dir name view)) before_talk after_talk result
   of_talk kept (Ok results) (Ok u) back someone run written =
       talk_done dir name view files files' job read all before_talk after_talk refl refl
       (net_keeps dir name view files files' job read all err err' parties same shown links net mid net' spawner spawner' kept c quiet_net back (Ok results) someone run out out')
@@ -207,8 +207,8 @@ module _ (dir name : List ℕ) (view : Bool) (files files' : FilesReading) (job 
       (spawner_keeps dir name view files files' job read all err err' parties same shown links net mid net' spawner spawner' kept c quiet_net back (Err fault) someone run out out')
       fault (talks dir name view files files' job read all err err' parties same shown links net mid net' spawner spawner' kept c quiet_net back (Err fault) someone run out out') written.1)
 
-  pub talked : (part : NodePart) → part ≡ node_part (node_view job) → (result : Result Unit Stop) → TalkedOver part job.names view (shown links) mid net' spawner spawner' out out' result
-      → RunsWords (Some (node dir name view)) before_talk after_talk result
-  talked part is result t =
-      let own = subst (λ s. TalkedOver s job.names view (shown links) mid net' spawner spawner' out out' result) is t in
-      of_talk own.kept own.outcome result own.has_back own.someone own.run own.written
+  pub talked : (part : NodePart) → part ≡ node_part (node_view job) → (outcome : Result Results NodeFault) → TalkedOver part (shown links) mid net' spawner spawner' outcome
+      → (result : Result Unit Stop) → Written job.names job.plan job.me view outcome out out' result → RunsWords (Some (node dir name view)) before_talk after_talk result
+  talked part is outcome t result written =
+      let own = subst (λ s. TalkedOver s (shown links) mid net' spawner spawner' outcome) is t in
+      of_talk own.kept outcome result own.has_back own.someone own.run written

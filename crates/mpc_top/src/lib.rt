@@ -3,6 +3,7 @@
 
 mod audit;
 mod call;
+mod means;
 mod node;
 mod other;
 mod pair;

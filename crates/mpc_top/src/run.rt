@@ -10,7 +10,8 @@ ghost use Rattle.mpc_top.specs.Outside.{outside_of};
 ghost use Rattle.mpc_top.specs.Outcomes.{RunsWords, RunsAlone};
 
 use crate::audit::audit_job;
-use crate::node::run_node;
+use crate::means::Means;
+use crate::node::{NodeCall, run_node};
 use crate::pair::run_pair;
 use crate::parties::read_parties;
 use crate::sample::run_sample;
@@ -34,13 +35,11 @@ pub(crate) fn run_command<
     P: Pace,
     R: Threads + Wait + Sync,
 >(
-    rt: &R,
-    alloc: Global,
+    means: &Means<'_, P, R>,
     files: &mut F,
     out: &mut O,
     net: &mut N,
     spawner: &mut W,
-    pace: &P,
     command: Command<'_>,
 ) -> Result<(), Stop>
 where
@@ -52,19 +51,18 @@ where
 {
     match command {
         Command::Node { dir, name, view } => {
-            run_node(rt, alloc, files, out, net, spawner, dir, name, view)
+            let asked = NodeCall { dir, name, view };
+            run_node(means, files, out, net, spawner, &asked)
         }
-        alone => run_alone(rt, alloc, files, out, pace, alone),
+        alone => run_alone(means, files, out, alone),
     }
 }
 
 /// Does the same for a command that is no node's: nothing in it waits for others.
 pub(crate) fn run_alone<F: Files, O: Sink, P: Pace, R: Threads + Sync>(
-    rt: &R,
-    alloc: Global,
+    means: &Means<'_, P, R>,
     files: &mut F,
     out: &mut O,
-    pace: &P,
     command: Command<'_>,
 ) -> Result<(), Stop>
     requires range { IsInRange command }
@@ -74,13 +72,11 @@ pub(crate) fn run_alone<F: Files, O: Sink, P: Pace, R: Threads + Sync>(
         (O.reading out.old) (O.reading out.new) result }
 {
     match command {
-        Command::Run { dir, workers, view } => {
-            run_job(rt, alloc, files, out, pace, dir, workers, view)
-        }
-        Command::Check { dir } => check_job(alloc, files, out, dir),
-        Command::Pair { dir, group } => run_pair(rt, alloc, files, out, pace, dir, group),
-        Command::Sample { count } => run_sample(rt, alloc, files, out, pace, count),
-        Command::Audit { dir } => audit_job(alloc, files, out, dir),
+        Command::Run { dir, workers, view } => run_job(means, files, out, dir, workers, view),
+        Command::Check { dir } => check_job(means.alloc, files, out, dir),
+        Command::Pair { dir, group } => run_pair(means, files, out, dir, group),
+        Command::Sample { count } => run_sample(means, files, out, count),
+        Command::Audit { dir } => audit_job(means.alloc, files, out, dir),
         Command::Node { .. } => unreachable!(),
     }
 }
@@ -88,11 +84,9 @@ pub(crate) fn run_alone<F: Files, O: Sink, P: Pace, R: Threads + Sync>(
 /// Runs the job of a folder by `workers`: the outputs that its desks delivered, and what a group saw, where one
 /// is asked for.
 fn run_job<F: Files, O: Sink, P: Pace, R: Threads + Sync>(
-    rt: &R,
-    alloc: Global,
+    means: &Means<'_, P, R>,
     files: &mut F,
     out: &mut O,
-    pace: &P,
     dir: &str,
     workers: u32,
     view: Option<&str>,
@@ -101,8 +95,8 @@ fn run_job<F: Files, O: Sink, P: Pace, R: Threads + Sync>(
     ensures { RunsAlone (Some (run dir.now workers (text_view view.entry))) (F.reading files.old) (F.reading files.new)
         (O.reading out.old) (O.reading out.new) result }
 {
-    let planned = read_planned(alloc, files, dir, view)?;
-    let result = run_planned(rt, alloc, files, out, pace, dir, workers, &planned);
+    let planned = read_planned(means.alloc, files, dir, view)?;
+    let result = run_planned(means, files, out, dir, workers, &planned);
     // By a call, which is one step of the proof.
     drop(planned);
     result
@@ -110,11 +104,9 @@ fn run_job<F: Files, O: Sink, P: Pace, R: Threads + Sync>(
 
 // Runs a job that was read, by `workers`.
 fn run_planned<F: Files, O: Sink, P: Pace, R: Threads + Sync>(
-    rt: &R,
-    alloc: Global,
+    means: &Means<'_, P, R>,
     files: &mut F,
     out: &mut O,
-    pace: &P,
     dir: &str,
     workers: u32,
     planned: &Planned,
@@ -127,9 +119,9 @@ fn run_planned<F: Files, O: Sink, P: Pace, R: Threads + Sync>(
         → RunsAlone (Some (run dir.now workers view)) before (F.reading files.new)
         (O.reading out.old) (O.reading out.new) result }
 {
-    let parties = read_parties(alloc, files, dir, &planned.names, &planned.plan)?;
-    let ready = prepared(alloc, &planned.plan, parties, workers)?;
-    let done = ready.run(rt, &planned.plan, pace);
+    let parties = read_parties(means.alloc, files, dir, &planned.names, &planned.plan)?;
+    let ready = prepared(means.alloc, &planned.plan, parties, workers)?;
+    let done = ready.run(means.threads, &planned.plan, means.pace);
     Ok(write_run(out, &planned.names, &planned.plan, &done, planned.group)?)
 }
 

@@ -10,5 +10,5 @@ pub record IsFinished (run : FinishedRun) : Type 0 where
   pub over : IsRunOver run.plan.now run.done.now
 
 -- what holds of each world of which it is the run
-abbrev pub OfWorldOf : FinishedRun → (World → Type 0) → Type 0
-OfWorldOf run holds = OfItsWorld run.plan.now run.done.now holds
+abbrev pub OfRunsWorld : FinishedRun → (World → Type 0) → Type 0
+OfRunsWorld run holds = OfItsWorld run.plan.now run.done.now holds

@@ -5,7 +5,7 @@ ghost use Rattle.outer_io.specs.Blocks.{Adds};
 ghost use Rattle.job_plan.specs.InputWords.{session_words};
 ghost use Rattle.desk_workers.specs.Runs.{IsRunOver, OfItsWorld};
 ghost use Rattle.text_parts.specs.Parts.{words_text};
-ghost use Rattle.output_text.specs.Finished.{IsFinished, OfWorldOf};
+ghost use Rattle.output_text.specs.Finished.{IsFinished, OfRunsWorld};
 ghost use Rattle.output_text.specs.PairText.{pair_text, tapes_text, tape_line};
 
 use crate::finished_run::FinishedRun;
@@ -60,7 +60,7 @@ fn gather_pair<G: Gather>(
     requires first { IsFinished first.now }
     requires second { IsRunOver first.now.plan.now second.now }
     requires tapes { length tapes.now ≡ length first.now.names.now }
-    ensures { OfWorldOf first.now (λ w. OfItsWorld first.now.plan.now second.now
+    ensures { OfRunsWorld first.now (λ w. OfItsWorld first.now.plan.now second.now
         (λ v. session_words tapes.now ≡ v.tapes
         → Adds (pair_text first.now.names.now w v group.mask) (G.gathered out.old) (G.gathered out.new))) }
 {

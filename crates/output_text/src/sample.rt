@@ -3,7 +3,7 @@ ghost use Rattle.std.specs.Prelude.{◌≡◌, ◌<◌, length};
 ghost use Rattle.outer_io.specs.Sink.{Writes};
 ghost use Rattle.outer_io.specs.Blocks.{Adds};
 ghost use Rattle.desk_workers.specs.Runs.{IsRunOver, OfItsWorld};
-ghost use Rattle.output_text.specs.Finished.{IsFinished, OfWorldOf};
+ghost use Rattle.output_text.specs.Finished.{IsFinished, OfRunsWorld};
 ghost use Rattle.output_text.specs.SampleText.{sample_text};
 
 use crate::check::{gather_count, gather_tapes};
@@ -38,7 +38,7 @@ pub fn write_sample<S: Sink>(
 fn gather_sample<G: Gather>(out: &mut G, run: &FinishedRun<'_>, count: u32)
     requires session { 0 < length run.now.plan.now.sessions }
     requires run { IsFinished run.now }
-    ensures { OfWorldOf run.now
+    ensures { OfRunsWorld run.now
         (λ w. Adds (sample_text run.now.names.now w count) (G.gathered out.old) (G.gathered out.new)) }
 {
     gather_count(out, "sample", count as u64);

@@ -7,7 +7,7 @@ ghost use Rattle.job_plan.specs.Sound.{IsSound};
 ghost use Rattle.share_world.specs.Worlds.{view};
 ghost use Rattle.view_text.specs.ViewText.{view_text};
 ghost use Rattle.view_text.specs.Seen.{IsMessage};
-ghost use Rattle.output_text.specs.Finished.{IsFinished, OfWorldOf};
+ghost use Rattle.output_text.specs.Finished.{IsFinished, OfRunsWorld};
 ghost use Rattle.output_text.specs.Seen.{seen_lines, slot_seen, session_seen};
 
 use crate::finished_run::FinishedRun;
@@ -23,7 +23,7 @@ use view_text::{gather_message_line, gather_view_head, touches};
 pub(crate) fn gather_view<G: Gather>(out: &mut G, run: &FinishedRun<'_>, group: Group)
     requires group { group.parties ≡ length run.now.names.now }
     requires run { IsFinished run.now }
-    ensures { OfWorldOf run.now (λ w. Adds
+    ensures { OfRunsWorld run.now (λ w. Adds
         (view_text run.now.names.now group.mask (view w group.mask)) (G.gathered out.old) (G.gathered out.new)) }
 {
     gather_view_head(out, run.names, group);
@@ -33,7 +33,7 @@ pub(crate) fn gather_view<G: Gather>(out: &mut G, run: &FinishedRun<'_>, group: 
 fn gather_messages<G: Gather>(out: &mut G, run: &FinishedRun<'_>, group: Group)
     requires group { group.parties ≡ length run.now.names.now }
     requires run { IsFinished run.now }
-    ensures { OfWorldOf run.now (λ w. Adds
+    ensures { OfRunsWorld run.now (λ w. Adds
         (seen_lines run.now.names.now w group.mask (messages w.plan)) (G.gathered out.old) (G.gathered out.new)) }
 {
     let _ = run.plan.parties();
@@ -47,7 +47,7 @@ fn gather_session<G: Gather>(out: &mut G, run: &FinishedRun<'_>, group: Group, s
     requires sound { IsSound run.now.plan.now }
     requires run { IsFinished run.now }
     requires session { s < length run.now.plan.now.sessions }
-    ensures { OfWorldOf run.now (λ w. Adds
+    ensures { OfRunsWorld run.now (λ w. Adds
         (session_seen run.now.names.now w group.mask s) (G.gathered out.old) (G.gathered out.new)) }
 {
     for k in 0..run.plan.slots(s) {
@@ -62,7 +62,7 @@ fn gather_slot<G: Gather>(out: &mut G, run: &FinishedRun<'_>, group: Group, s: u
     requires run { IsFinished run.now }
     requires session { s < length run.now.plan.now.sessions }
     requires slot { k < slots run.now.plan.now s }
-    ensures { OfWorldOf run.now (λ w. Adds
+    ensures { OfRunsWorld run.now (λ w. Adds
         (slot_seen run.now.names.now w group.mask s k) (G.gathered out.old) (G.gathered out.new)) }
 {
     let first = run.plan.first(s, k);
@@ -78,7 +78,7 @@ fn gather_message<G: Gather>(out: &mut G, run: &FinishedRun<'_>, group: Group, n
     requires group { group.parties ≡ length run.now.names.now }
     requires run { IsFinished run.now }
     requires message { IsMessage run.now.plan.now n key }
-    ensures { OfWorldOf run.now (λ w. Adds
+    ensures { OfRunsWorld run.now (λ w. Adds
         (seen_lines run.now.names.now w group.mask (key ∷ [])) (G.gathered out.old) (G.gathered out.new)) }
 {
     if touches(group, key) {
