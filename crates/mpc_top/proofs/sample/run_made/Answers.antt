@@ -32,14 +32,14 @@ due_text count names w before after result n same written = subst (λ t. Writes 
 pub returns-in_err-ready : goal.returns-in_err-ready
 returns-in_err-ready g c = λ files. runs_memory (sample c.args.count) _ _ _ _ _ c.from_residual.ensures.1 refl refl (keeps_now _) refl
 
-pub write_sample-requires-clause-names : goal.write_sample-requires-clause-names
-write_sample-requires-clause-names g c = ap length c.requires.names ∙ sym (ap (λ (p : Plan). p.parties) c.requires.plan)
+pub write_sample-written-requires-clause-names : goal.write_sample-written-requires-clause-names
+write_sample-written-requires-clause-names g c = ap length c.requires.names ∙ sym (ap (λ (p : Plan). p.parties) c.requires.plan)
 
-pub write_sample-requires-clause-session : goal.write_sample-requires-clause-session
-write_sample-requires-clause-session g c = subst (λ (p : Plan). 0 < length p.sessions) (sym c.requires.plan) (omega arith)
+pub write_sample-written-requires-clause-session : goal.write_sample-written-requires-clause-session
+write_sample-written-requires-clause-session g c = subst (λ (p : Plan). 0 < length p.sessions) (sym c.requires.plan) (omega arith)
 
-pub write_sample-requires-clause-over : goal.write_sample-requires-clause-over
-write_sample-requires-clause-over g c =
+pub write_sample-written-requires-clause-over : goal.write_sample-written-requires-clause-over
+write_sample-written-requires-clause-over g c =
     let w = world_of_pieces c.args.made.plan c.args.made.inputs c.args.made.tapes.items in
     (w, refl, c.run-done.ensures w refl c.in_ok-ready.ensures.ready)
 
