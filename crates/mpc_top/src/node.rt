@@ -48,9 +48,9 @@ where
     ensures counts { IfOk result (HasCountsOf plan.now) }
 {
     every_node_part_is_of_a_world();
-    let (outcome, links) = ready.run(rt, plan, links, spawner);
+    let (result, links) = ready.run(rt, plan, links, spawner);
     net.back(links);
-    outcome
+    result
 }
 
 // Writes what a party reads at the end of its talk, unless that ended with a fault.
