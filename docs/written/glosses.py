@@ -126,7 +126,7 @@ HEADINGS = {
     ('node_text', 'NodeText'): 'The text of a node that is done',
     ('job_walk', 'Reads'): 'What a walk leaves of the files',
     ('mpc_top', 'Due'): 'What words are due over files',
-    ('mpc_top', 'Stops'): 'How a call ends: done, or with a cause',
+    ('mpc_top', 'Outcomes'): 'How a call ends: done, or with a cause',
     ('mpc_top', 'HiddenInputs'): 'What a written view hides',
     ('job_plan', 'Firsts'): 'The numbers of a slot\'s messages',
     ('job_plan', 'Limits'): 'Limits of a plan, and its refusals',
@@ -320,8 +320,8 @@ OWN = {
     ('node_talk', 'PeerLinks', 'no_outlet'): 'what stands for an outlet that isn\'t there',
     ('job_walk', 'Stops', 'status_of'): 'the exit status of each cause',
     ('mpc_top', 'Outside', 'Outside'): 'what the outside of a call shows at one moment',
-    ('mpc_top', 'Stops', 'text_of'): 'the text for `err` of each cause',
-    ('mpc_top', 'Stops', 'HasCause'): 'why a call stopped: what is true of words, files and outside at each cause',
+    ('mpc_top', 'Outcomes', 'text_of'): 'the text for `err` of each cause',
+    ('mpc_top', 'Outcomes', 'HasCause'): 'why a call stopped: what is true of words, files and outside at each cause',
     ('walk_laws', 'Statuses', 'StatusSays'): 'what follows from the answer of `command` for each status by itself',
 }
 

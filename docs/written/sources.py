@@ -26,7 +26,7 @@ class Item:
     crate: str
     module: str  # Lists, or key for src/key.rt
     name: str
-    kind: str  # definition, type, trait, function
+    kind: str  # definition, type, trait, function, constant
     text: str  # as it is quoted, with its comment
     line: int
     names: tuple = ()
@@ -148,12 +148,12 @@ def comment_start(lines, n):
 
 
 def types_and_laws(crate, path, module, lines):
-    """The types and traits of a file, and its functions at the top level, with their comments."""
+    """The types, traits and constants of a file, and its functions at the top level, with their comments."""
     for n, line in enumerate(lines):
-        found = re.match(r'(?:pub(?:\(crate\))? )?(struct|enum|trait|fn) (\w+)', line)
-        if not found:
+        found = re.match(r'(?:pub(?:\(crate\))? )?(struct|enum|trait|const|fn) (\w+)', line)
+        if not found or (found[1] == 'const' and not line.endswith(';')):
             continue
-        kind = {'struct': 'type', 'enum': 'type', 'trait': 'trait', 'fn': 'function'}[found[1]]
+        kind = {'struct': 'type', 'enum': 'type', 'trait': 'trait', 'const': 'constant', 'fn': 'function'}[found[1]]
         end = contract_end(lines, n) - 1 if kind == 'function' else closing(lines, n)
         comment = [row for row in lines[comment_start(lines, n):n] if not row.startswith('#[')]
         text = '\n'.join(comment + lines[n:end + 1]) + model_of(lines, found[2])
@@ -210,7 +210,7 @@ class Sources:
         self.types = {}
         for module in self.code.values():
             for item in module.items:
-                if item.kind in ('type', 'trait'):
+                if item.kind in ('type', 'trait', 'constant'):
                     self.types.setdefault((item.crate, item.name), item)
 
     def module_of(self, item):
@@ -225,7 +225,7 @@ class Sources:
             return path
         crate, rest = parts[1], parts[3:]
         if rest[0] == 'declared':
-            rest = [part for part in rest[1:] if part not in ('TheVariants', 'Ghosts')]
+            rest = [part for part in rest[1:] if part not in ('TheVariants', 'TheConstants', 'Ghosts')]
             return next(self.types[crate, part] for part in rest if (crate, part) in self.types)
         return self.items.get((crate, rest[0], rest[-1])) or self.items.get((crate, rest[0], rest[1]))
 

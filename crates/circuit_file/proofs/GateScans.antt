@@ -18,10 +18,10 @@ use Rattle.circuit_file.specs.Tokens.{token, tokens_after, number_in, all_number
 use Rattle.circuit_file.specs.GateLines.{operation_of, form_checks, form_of, gate_line_of, wires_in}
 use Rattle.circuit_file.specs.CircuitFiles.{gate_in, gates_in}
 use Rattle.circuit_file.specs.Grammar.{Write}
-use Rattle.circuit_file.specs.Steps.{Takes, IsSaid, Says, AddsGate, AddsNext}
+use Rattle.circuit_file.specs.Steps.{Takes, IsParsedGate, IsFirstGate, AddsGate, AddsNext}
 use Rattle.circuit_model.specs.declared.layout.CircuitLayout.{CircuitLayout}
 use Rattle.circuit_file.specs.declared.gate_line.Form.{Form}
-use Rattle.circuit_file.specs.declared.gate_line.Said.{Said}
+use Rattle.circuit_file.specs.declared.gate_line.ParsedGate.{ParsedGate}
 use Rattle.list_laws.proofs.FirstFaults.{or_fault-ok}
 use Rattle.circuit_file.proofs.WrittenNumbers.{write_some, written_long, written_all, written_are}
 use Rattle.circuit_file.proofs.GateLaws.{IsFormed, formed}
@@ -78,7 +78,7 @@ line_form layout n t0 t1 name ts inputs outputs o v0 v1 all long op =
 pub scanned : (layout : CircuitLayout) (p q r s e : Place) (rest : List Row) (line inputs outputs : ℕ) (wires name : List ℕ) (o : Operation)
     → line ≡ p.number → Takes p (inputs ∷ []) q → Takes q (outputs ∷ []) r → Takes r (take (inputs + outputs) wires) s → s ≡ record e { tokens = name ∷ e.tokens } → e.tokens ≡ [] → rest ≡ e.rows → Some o ≡ operation_of layout name
     → inputs + outputs ≤ 3 → 3 ≡ length wires
-    → Says layout (rows_at p) (record { line = line; form = record { operation = o; inputs = inputs; wires = inputs + outputs }; wires = wires }) rest
+    → IsFirstGate layout (rows_at p) (record { line = line; form = record { operation = o; inputs = inputs; wires = inputs + outputs }; wires = wires }) rest
 scanned layout p q r s e rest line inputs outputs wires name o at ins outs ws last none after op few three =
     let all : Takes p (inputs ∷ outputs ∷ take (inputs + outputs) wires) s = takes_then p q s (inputs ∷ []) (outputs ∷ take (inputs + outputs) wires) ins (takes_then q r s (outputs ∷ []) (take (inputs + outputs) wires) outs ws) in
     let a = write_some all.tokens inputs (outputs ∷ take (inputs + outputs) wires) all.write in
@@ -143,9 +143,9 @@ wrong_arity layout c row form f l =
 
 -- ---- the next line
 
-pub added_next : (layout : CircuitLayout) (seen : ℕ) (rows rest : List Row) (said : Said) (old new : Draft) (r : Result (Unit {0}) CircuitFault) → Says layout rows said rest
-    → ((k : CircuitLayout) (row : Row) → IsSaid k row said → AddsGate k row old r new) → AddsNext layout seen rows old r rest new
-added_next layout seen rows rest said old new (Ok done) says adds = (says.row, says.first, adds layout says.row says.is)
-added_next layout seen rows rest said old new (Err f) says adds = λ n.
+pub added_next : (layout : CircuitLayout) (seen : ℕ) (rows rest : List Row) (parsed : ParsedGate) (old new : Draft) (r : Result (Unit {0}) CircuitFault) → IsFirstGate layout rows parsed rest
+    → ((k : CircuitLayout) (row : Row) → IsParsedGate k row parsed → AddsGate k row old r new) → AddsNext layout seen rows old r rest new
+added_next layout seen rows rest parsed old new (Ok done) says adds = (says.row, says.first, adds layout says.row says.is)
+added_next layout seen rows rest parsed old new (Err f) says adds = λ n.
     fails_so f (gate_in layout old.circuit says.row) (gates_in layout (suc n) seen old.circuit rows) (adds layout says.row says.is)
     (λ e. gate_stops layout (suc n) n seen old.circuit rows rest says.row f refl says.first e)

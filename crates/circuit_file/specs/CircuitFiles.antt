@@ -15,7 +15,7 @@ use Rattle.circuit_file.specs.GateLines.{gate_line_in}
 use Rattle.circuit_model.specs.declared.layout.CircuitLayout.{CircuitLayout}
 use Rattle.circuit_model.specs.declared.layout.CircuitLayout.TheVariants.{Bristol, Ring}
 
--- the next line with tokens and those after it, where so many came before
+-- the next line with tokens and those after it, where `seen` came before
 abbrev pub next_row : ℕ → List Row → Result (Row × List Row) CircuitFault
 next_row seen [] = Err (FewLines seen)
 next_row seen (row ∷ rows) = Ok (row, rows)
@@ -24,7 +24,7 @@ next_row seen (row ∷ rows) = Ok (row, rows)
 abbrev pub gate_in : CircuitLayout → Netlist → Row → Result Gate CircuitFault
 gate_in layout c row = gate_line_in layout row >>= (λ g. next_gate c row.number g.operation g.inputs g.outputs)
 
--- with the gates of so many lines, after lines that were seen, and the lines that are left
+-- with the gates of the next n lines, after the `seen` ones, and the lines that are left
 unfoldable pub gates_in : CircuitLayout → ℕ → ℕ → Netlist → List Row → Result (Netlist × List Row) CircuitFault
 gates_in layout zero seen c rows = Ok (c, rows)
 gates_in layout (suc n) seen c [] = Err (FewLines seen)
@@ -64,7 +64,7 @@ text_checks layout bits bytes =
     ∷ (nat_lt (utf8_valid_len bytes) (length bytes) answers NotUtf8 (utf8_valid_len bytes))
     ∷ []
 
--- the circuit of a file for words of so many bits, or the first fault
+-- the circuit of a file for words of `bits` bits, or the first fault
 unfoldable pub circuit_in : CircuitLayout → ℕ → List ℕ → Result Netlist CircuitFault
 circuit_in layout bits bytes =
     then_fault (first_fault (text_checks layout bits bytes)) (lines_in layout bits (rows_of bytes))

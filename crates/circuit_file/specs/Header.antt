@@ -6,6 +6,7 @@ use Rattle.circuit_model.specs.declared.fault.CircuitFault.{CircuitFault}
 use Rattle.circuit_model.specs.declared.fault.CircuitFault.TheVariants.{BadNumber, ShortLine, LongLine, TooLarge, HeaderWidths}
 use Rattle.circuit_file.specs.Tokens.{token, tokens_after, is_number, number_in, all_numbers, numbers_in}
 use Rattle.circuit_file.specs.declared.header.Counts.{Counts}
+use Rattle.circuit_model.specs.declared.limits.TheConstants.{MOST_GATES, MOST_WIRES, MOST_VALUES}
 
 -- line one: how many gates and how many wires
 unfoldable pub count_checks : Row → List (Option CircuitFault)
@@ -13,7 +14,7 @@ count_checks line =
     (nat_lt (length line.tokens) 2 answers ShortLine line.number)
     ∷ (nat_lt 2 (length line.tokens) answers LongLine line.number)
     ∷ (not (all_numbers (tokens_after 0 2 line)) answers BadNumber line.number)
-    ∷ ((nat_lt 65536 (number_in (token line 0)) || nat_lt 131072
+    ∷ ((nat_lt MOST_GATES (number_in (token line 0)) || nat_lt MOST_WIRES
     (number_in (token line 1))) answers TooLarge line.number)
     ∷ []
 
@@ -30,7 +31,7 @@ width_tokens line = tokens_after 1 (number_in (token line 0)) line
 unfoldable pub width_checks : ℕ → Row → List (Option CircuitFault)
 width_checks wires line =
     (not (is_number (token line 0)) answers BadNumber line.number)
-    ∷ (nat_lt 1024 (number_in (token line 0)) answers TooLarge line.number)
+    ∷ (nat_lt MOST_VALUES (number_in (token line 0)) answers TooLarge line.number)
     ∷ (nat_lt (length line.tokens) (number_in (token line 0) + 1) answers ShortLine line.number)
     ∷ (nat_lt (number_in (token line 0) + 1) (length line.tokens) answers LongLine line.number)
     ∷ (not (all_numbers (width_tokens line)) answers BadNumber line.number)

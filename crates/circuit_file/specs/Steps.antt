@@ -11,8 +11,9 @@ use Rattle.circuit_file.specs.Tokens.{tokens_after, numbers_in}
 use Rattle.circuit_file.specs.GateLines.{form_checks, form_of}
 use Rattle.circuit_file.specs.CircuitFiles.{gate_in, gates_in, header_in}
 use Rattle.circuit_file.specs.Grammar.{Write}
-use Rattle.circuit_file.specs.declared.gate_line.Said.{Said}
+use Rattle.circuit_file.specs.declared.gate_line.ParsedGate.{ParsedGate}
 use Rattle.circuit_model.specs.declared.layout.CircuitLayout.{CircuitLayout}
+use Rattle.circuit_model.specs.declared.limits.TheConstants.{MOST_GATES}
 
 -- the next tokens write these numbers
 pub record Takes (old : Place) (numbers : List ℕ) (new : Place) : Type 0 where
@@ -21,18 +22,18 @@ pub record Takes (old : Place) (numbers : List ℕ) (new : Place) : Type 0 where
   pub write : Write tokens numbers
 
 -- a gate line without a fault in its form says this, and has at most three wires
-pub record IsSaid (layout : CircuitLayout) (row : Row) (said : Said) : Type 0 where
-  pub line : said.line ≡ row.number
-  pub form : or_fault (first_fault (form_checks layout row)) (form_of layout row) ≡ Ok said.form
-  pub wires : take said.form.wires said.wires ≡ numbers_in (tokens_after 2 said.form.wires row)
-  pub inputs : said.form.inputs ≤ said.form.wires
-  pub few : said.form.wires ≤ 3
+pub record IsParsedGate (layout : CircuitLayout) (row : Row) (parsed : ParsedGate) : Type 0 where
+  pub line : parsed.line ≡ row.number
+  pub form : or_fault (first_fault (form_checks layout row)) (form_of layout row) ≡ Ok parsed.form
+  pub wires : take parsed.form.wires parsed.wires ≡ numbers_in (tokens_after 2 parsed.form.wires row)
+  pub inputs : parsed.form.inputs ≤ parsed.form.wires
+  pub few : parsed.form.wires ≤ 3
 
 -- the first line says this
-pub record Says (layout : CircuitLayout) (rows : List Row) (said : Said) (rest : List Row) : Type 0 where
+pub record IsFirstGate (layout : CircuitLayout) (rows : List Row) (parsed : ParsedGate) (rest : List Row) : Type 0 where
   pub row : Row
   pub first : rows ≡ row ∷ rest
-  pub is : IsSaid layout row said
+  pub is : IsParsedGate layout row parsed
 
 -- the draft has the gate of the line, or the line has this fault
 abbrev pub AddsGate : CircuitLayout → Row → Draft → Result (Unit {0}) CircuitFault → Draft → Type 0
@@ -50,10 +51,10 @@ AddsNext layout seen rows old (Err f) rest new = (n : ℕ) → Fails f (gates_in
 abbrev pub Begins : ℕ → List Row → Result (ℕ × Draft) CircuitFault → List Row → Type 0
 Begins bits rows (Ok b) rest =
     (header_in bits rows ≡ Ok (b.0, b.1.circuit, rest)) × (b.1.circuit.gates ≡ []) × (b.1.announced ≡ b.0)
-    × (b.1.refused ≡ None) × (b.0 ≤ 65536)
+    × (b.1.refused ≡ None) × (b.0 ≤ MOST_GATES)
 Begins bits rows (Err f) rest = Fails f (header_in bits rows)
 
--- the draft has the gates of so many lines, or one of them has the first fault
+-- the draft has the gates of the next n lines, or one of them has the first fault
 abbrev pub AddsAll : CircuitLayout → ℕ → List Row → Draft → Result (Unit {0}) CircuitFault → List Row → Draft → Type 0
 AddsAll layout n rows old (Ok done) rest new =
     (gates_in layout n 3 old.circuit rows ≡ Ok (new.circuit, rest)) × (new.refused ≡ None)

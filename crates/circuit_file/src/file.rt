@@ -10,12 +10,12 @@ use crate::gate_line::{add_gate, read_gate};
 use crate::header::{read_counts, read_widths};
 use crate::layout::is_bristol;
 use crate::scan::scan_gate;
-use circuit_model::{Builder, Circuit, CircuitFault, CircuitLayout};
+use circuit_model::{Builder, Circuit, CircuitFault, CircuitLayout, MOST_GATES};
 use gate_lines::{Line, Lines};
 use mpc_ring::Ring;
 use std::alloc::Global;
 
-/// The next line with tokens, where so many came before.
+/// The next line with tokens, where `seen` came before.
 fn next_row<'a>(lines: &mut Lines<'a>, seen: u64) -> Result<Line<'a>, CircuitFault>
     ensures { MatchResult result (λ row. next_row seen lines.old ≡ Ok (row, lines.new))
         (λ fault. next_row seen lines.old ≡ Err fault) }
@@ -53,7 +53,7 @@ fn read_header(
     Ok((counts.gates, builder))
 }
 
-/// Adds the gate of the next line, or finds the first fault there, where so many lines came before.
+/// Adds the gate of the next line, or finds the first fault there, where `seen` lines came before.
 fn next_gate(
     lines: &mut Lines<'_>,
     seen: u64,
@@ -65,7 +65,7 @@ fn next_gate(
     ensures { AddsNext layout seen lines.old builder.old result lines.new builder.new }
 {
     match scan_gate(lines, layout) {
-        Some(said) => add_gate(&said, builder),
+        Some(parsed) => add_gate(&parsed, builder),
         None => other_gate(lines, seen, layout, builder),
     }
 }
@@ -84,18 +84,18 @@ fn other_gate(
     ensures { AddsNext layout seen lines.old builder.old result lines.new builder.new }
 {
     let row = next_row(lines, seen)?;
-    let said = read_gate(&row, layout)?;
-    add_gate(&said, builder)
+    let parsed = read_gate(&row, layout)?;
+    add_gate(&parsed, builder)
 }
 
-/// Adds the gates of so many lines.
+/// Adds the gates of `gates` lines.
 fn read_gates(
     lines: &mut Lines<'_>,
     layout: CircuitLayout,
     gates: u64,
     builder: &mut Builder,
 ) -> Result<(), CircuitFault>
-    requires few { gates ≤ 65536 }
+    requires few { gates ≤ MOST_GATES }
     requires announced { builder.old.announced ≡ gates }
     requires first { builder.old.circuit.gates ≡ [] }
     requires going { builder.old.refused ≡ None }

@@ -7,14 +7,14 @@ ghost use Rattle.circuit_model.specs.Netlists.{Netlist};
 ghost use Rattle.circuit_file.specs.Tokens.{tokens_after, numbers_in};
 ghost use Rattle.circuit_file.specs.CircuitFiles.{gate_in};
 ghost use Rattle.circuit_model.specs.declared.layout.CircuitLayout.{CircuitLayout};
-ghost use Rattle.circuit_file.specs.Steps.{IsSaid, AddsGate};
+ghost use Rattle.circuit_file.specs.Steps.{IsParsedGate, AddsGate};
 
 use crate::layout::operation_of;
 use crate::tokens::{after, all_numbers, number_in};
 use circuit_model::{Builder, CircuitFault, CircuitLayout, Operation, check};
 use gate_lines::Line;
 
-/// What the tokens of a gate line are: so many input wires, other wires, and the operation.
+/// What the tokens of a gate line are: the operation, behind `wires` wires, of which the first `inputs` are inputs.
 #[derive(Clone, Copy)]
 pub(crate) struct Form {
     pub operation: Operation,
@@ -24,7 +24,7 @@ pub(crate) struct Form {
 
 /// What a gate line says: its number, its form, and the numbers of its wires.
 #[derive(Clone, Copy)]
-pub(crate) struct Said {
+pub(crate) struct ParsedGate {
     pub line: u64,
     pub form: Form,
     pub wires: [u64; 3],
@@ -80,7 +80,7 @@ pub(crate) fn read_form(row: &Line<'_>, layout: CircuitLayout) -> Result<Form, C
     })
 }
 
-/// The numbers of the wires of a gate line, so many.
+/// The numbers of the first `count` wires of a gate line.
 fn read_wires(row: &Line<'_>, count: usize) -> [u64; 3]
     requires few { count ≤ 3 }
     requires long { count + 2 ≤ length row.now.tokens }
@@ -95,14 +95,14 @@ fn read_wires(row: &Line<'_>, count: usize) -> [u64; 3]
 
 /// What a gate line says, or its first fault. A line that has more wires than any operation has none that fits.
 #[cold]
-pub(crate) fn read_gate(row: &Line<'_>, layout: CircuitLayout) -> Result<Said, CircuitFault>
-    ensures { MatchResult result (IsSaid layout row.now)
+pub(crate) fn read_gate(row: &Line<'_>, layout: CircuitLayout) -> Result<ParsedGate, CircuitFault>
+    ensures { MatchResult result (IsParsedGate layout row.now)
         (λ fault. (c : Netlist) → gate_in layout c row.now ≡ Err fault) }
 {
     let form = read_form(row, layout)?;
     let line = row.number();
     check(form.wires > 3, CircuitFault::WrongArity { line })?;
-    Ok(Said {
+    Ok(ParsedGate {
         line,
         form,
         wires: read_wires(row, form.wires),
@@ -110,13 +110,13 @@ pub(crate) fn read_gate(row: &Line<'_>, layout: CircuitLayout) -> Result<Said, C
 }
 
 /// Adds the gate that a line says, or finds why it can't be next.
-pub(crate) fn add_gate(said: &Said, builder: &mut Builder) -> Result<(), CircuitFault>
+pub(crate) fn add_gate(parsed: &ParsedGate, builder: &mut Builder) -> Result<(), CircuitFault>
     requires room { length builder.old.circuit.gates < builder.old.announced }
     requires going { builder.old.refused ≡ None }
-    requires form { (said.now.form.inputs ≤ said.now.form.wires) × (said.now.form.wires ≤ 3) }
-    ensures { (layout : CircuitLayout) (row : Row) → IsSaid layout row said.now
+    requires form { (parsed.now.form.inputs ≤ parsed.now.form.wires) × (parsed.now.form.wires ≤ 3) }
+    ensures { (layout : CircuitLayout) (row : Row) → IsParsedGate layout row parsed.now
         → AddsGate layout row builder.old result builder.new }
 {
-    let (inputs, outputs) = said.wires[..said.form.wires].split_at(said.form.inputs);
-    builder.gate(said.line, said.form.operation, inputs, outputs)
+    let (inputs, outputs) = parsed.wires[..parsed.form.wires].split_at(parsed.form.inputs);
+    builder.gate(parsed.line, parsed.form.operation, inputs, outputs)
 }

@@ -4,7 +4,7 @@ ghost use Rattle.circuit_file.specs.Answers.{Shows};
 ghost use Rattle.circuit_file.specs.Header.{counts_in, widths_in};
 
 use crate::tokens::{after, all_numbers, is_number, number_in, numbers};
-use circuit_model::{CircuitFault, are_large, check, exceeds};
+use circuit_model::{CircuitFault, MOST_VALUES, are_large, check, exceeds};
 use gate_lines::Line;
 use std::alloc::Global;
 
@@ -47,7 +47,7 @@ pub(crate) fn read_widths(
     let first = row.token(0);
     check(!is_number(first), CircuitFault::BadNumber { line })?;
     let count = number_in(first);
-    check(count > 1024, CircuitFault::TooLarge { line })?;
+    check(count > MOST_VALUES, CircuitFault::TooLarge { line })?;
     let found = row.count();
     check(found < count + 1, CircuitFault::ShortLine { line })?;
     check(found > count + 1, CircuitFault::LongLine { line })?;

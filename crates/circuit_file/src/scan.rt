@@ -1,8 +1,8 @@
 //! Gate lines, read in one go as long as nothing is wrong with them.
 ghost use Rattle.std.specs.Prelude.{◌≡◌, ◌≤◌, IfSome, MatchOption, length, take};
-ghost use Rattle.circuit_file.specs.Steps.{Takes, Says};
+ghost use Rattle.circuit_file.specs.Steps.{Takes, IsFirstGate};
 
-use crate::gate_line::{Form, Said};
+use crate::gate_line::{Form, ParsedGate};
 use crate::layout::operation_named;
 use circuit_model::CircuitLayout;
 use gate_lines::{Cursor, Lines};
@@ -25,8 +25,8 @@ fn take_wires(cursor: &mut Cursor<'_>, count: usize) -> Option<[u64; 3]>
 /// What the next line says, if it has the form of a gate line with one or two input wires and one output wire.
 /// Otherwise the lines stay.
 #[inline(never)]
-pub(crate) fn scan_gate(lines: &mut Lines<'_>, layout: CircuitLayout) -> Option<Said>
-    ensures { MatchOption result (lines.new ≡ lines.old) (λ said. Says layout lines.old said lines.new) }
+pub(crate) fn scan_gate(lines: &mut Lines<'_>, layout: CircuitLayout) -> Option<ParsedGate>
+    ensures { MatchOption result (lines.new ≡ lines.old) (λ parsed. IsFirstGate layout lines.old parsed lines.new) }
 {
     let mut cursor = lines.cursor();
     let line = cursor.line();
@@ -44,5 +44,5 @@ pub(crate) fn scan_gate(lines: &mut Lines<'_>, layout: CircuitLayout) -> Option<
         inputs: inputs as usize,
         wires: count,
     };
-    Some(Said { line, form, wires })
+    Some(ParsedGate { line, form, wires })
 }

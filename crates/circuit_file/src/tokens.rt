@@ -1,6 +1,5 @@
 //! The tokens of a line, read forward.
-ghost use Rattle.std.specs.Prelude.{◌≡◌, ℕ, take, drop, IfOk};
-ghost use Rattle.text_tokens.specs.Numbers.{number_written};
+ghost use Rattle.std.specs.Prelude.{◌≡◌, take, drop, IfOk};
 ghost use Rattle.circuit_file.specs.Tokens.{is_number, number_in, all_numbers, numbers_in};
 
 use std::alloc::{AllocError, Global};

@@ -69,14 +69,12 @@ fn push_gate_numbers(text: &mut Vec<u8>, gate: Gate) -> Result<(), AllocError>
     let first = u64::from(gate.first);
     let second = u64::from(gate.second);
     let output = u64::from(gate.output);
-    match gate.operation {
-        Operation::Add | Operation::Sub | Operation::Mul | Operation::Xor | Operation::And => {
-            push_numbers(text, 2, &[1, first, second, output])
-        }
-        Operation::Neg | Operation::Inv | Operation::Eqw => {
-            push_numbers(text, 1, &[1, first, output])
-        }
-        Operation::Eq => push_numbers(text, 1, &[1, gate.constant, output]),
+    if gate.operation.is_constant() {
+        push_numbers(text, 1, &[1, gate.constant, output])
+    } else if gate.operation.arity() == 2 {
+        push_numbers(text, 2, &[1, first, second, output])
+    } else {
+        push_numbers(text, 1, &[1, first, output])
     }
 }
 

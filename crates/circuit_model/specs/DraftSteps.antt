@@ -8,6 +8,7 @@ use Rattle.circuit_model.specs.declared.fault.CircuitFault.{CircuitFault}
 use Rattle.circuit_model.specs.declared.fault.CircuitFault.TheVariants.{TooLarge, HeaderWidths, WrongArity, BadConstant, WireOutOfRange, ReadBeforeSet, SetTwice, OutputNotSet, Memory}
 use Rattle.list_laws.specs.Checks.{◌answers◌, first_fault, or_fault, then_fault}
 use Rattle.circuit_model.specs.Netlists.{Netlist, arity, is_constant, inputs_read, output_wires, sets}
+use Rattle.circuit_model.specs.declared.limits.TheConstants.{MOST_GATES, MOST_WIRES, MOST_VALUES}
 
 -- a circuit that lacks gates: how many it will have, and the first refusal
 pub record Draft : Type 0 where
@@ -18,10 +19,10 @@ pub record Draft : Type 0 where
 -- the checks on the counts of a header, whose three lines have these numbers
 unfoldable pub header_checks : ℕ → ℕ → List ℕ → List ℕ → List ℕ → List (Option CircuitFault)
 header_checks gates wires inputs outputs lines =
-    ((nat_lt 65536 gates || nat_lt 131072 wires) answers TooLarge (slice_index lines 0))
-    ∷ (nat_lt 1024 (length inputs) answers TooLarge (slice_index lines 1))
+    ((nat_lt MOST_GATES gates || nat_lt MOST_WIRES wires) answers TooLarge (slice_index lines 0))
+    ∷ (nat_lt MOST_VALUES (length inputs) answers TooLarge (slice_index lines 1))
     ∷ (nat_lt wires (sum inputs) answers HeaderWidths (slice_index lines 1))
-    ∷ (nat_lt 1024 (length outputs) answers TooLarge (slice_index lines 2))
+    ∷ (nat_lt MOST_VALUES (length outputs) answers TooLarge (slice_index lines 2))
     ∷ (nat_lt wires (sum outputs) answers HeaderWidths (slice_index lines 2))
     ∷ []
 
@@ -40,7 +41,7 @@ start_of bits gates wires inputs outputs lines =
     or_fault (first_fault (header_checks gates wires inputs outputs lines))
     (no_gates_yet bits gates wires inputs outputs)
 
--- the checks on a gate, for words of so many bits, so many wires, and the wires that are set
+-- the checks on a gate, for words of `bits` bits, `wires` wires, and those that are set
 unfoldable pub gate_checks : ℕ → ℕ → (ℕ → Bool) → ℕ → Operation → List ℕ → List ℕ → List (Option CircuitFault)
 gate_checks bits wires set line o inputs outputs =
     (not ((length inputs == arity o) && (length outputs == 1)) answers WrongArity line)

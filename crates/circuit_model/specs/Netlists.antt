@@ -5,8 +5,9 @@ use Rattle.circuit_model.specs.declared.gate.Gate.{Gate}
 use Rattle.circuit_model.specs.declared.gate.Operation.{Operation}
 use Rattle.circuit_model.specs.declared.gate.Operation.TheVariants.{Add, Sub, Neg, Mul, Xor, And, Inv, Eq, Eqw}
 use Rattle.circuit_model.specs.Circuits.{values}
+use Rattle.circuit_model.specs.declared.limits.TheConstants.{MOST_GATES, MOST_WIRES, MOST_VALUES}
 
--- gates over so many wires, for words of so many bits, and how many wires each input and output value has
+-- gates over `wires` wires, for words of `bits` bits, and how many wires each input and output value has
 pub record Netlist : Type 0 where
   pub bits : ℕ
   pub gates : List Gate
@@ -55,7 +56,7 @@ inputs_read o taken = if is_constant o then [] else taken
 abbrev pub read_by : Gate → List ℕ
 read_by g = inputs_read g.operation (take (arity g.operation) (g.first ∷ g.second ∷ []))
 
--- the wire is one of so many input wires, or one of the gates sets it
+-- the wire is one of the `inputs` input wires, or one of the gates sets it
 abbrev pub is_set : ℕ → List Gate → ℕ → Bool
 is_set inputs gates w = nat_lt w inputs || list_any (λ (g : Gate). g.output == w) gates
 
@@ -86,10 +87,10 @@ AllGatesFit c = (t : ℕ) → t < length c.gates → GateFits c (take t c.gates)
 pub record IsWithin (c : Netlist) : Type 0 where
   pub some_bits : 0 < c.bits
   pub bits : c.bits ≤ 64
-  pub gates : length c.gates ≤ 65536
-  pub wires : c.wires ≤ 131072
-  pub inputs : length c.inputs ≤ 1024
-  pub outputs : length c.outputs ≤ 1024
+  pub gates : length c.gates ≤ MOST_GATES
+  pub wires : c.wires ≤ MOST_WIRES
+  pub inputs : length c.inputs ≤ MOST_VALUES
+  pub outputs : length c.outputs ≤ MOST_VALUES
   pub input_wires : input_wires c ≤ c.wires
   pub output_wires : output_wires c ≤ c.wires
 

@@ -7,6 +7,7 @@ use crate::checks::{check_gate, check_header};
 use crate::circuit::{Circuit, count_wires};
 use crate::fault::CircuitFault;
 use crate::gate::{Gate, Operation};
+use crate::limits::MOST_WIRES;
 use mpc_ring::Ring;
 use std::alloc::{AllocError, Global};
 use std::marker::Model;
@@ -60,7 +61,7 @@ impl Builder {
     ghost use Rattle.circuit_model.specs.Checks.{Gives};
     ghost use Rattle.circuit_model.specs.DraftSteps.{start_of, after_gate, answer_of, circuit_of, Becomes};
 
-    /// A circuit without gates yet, of so many gates to come, over so many wires, with values of these widths. `lines`
+    /// A circuit without gates yet, of `gates` gates to come, over `wires` wires, with values of these widths. `lines`
     /// has the numbers of the three header lines, for faults. Nothing is reserved for counts over the limits.
     pub fn start(
         alloc: Global,
@@ -159,10 +160,10 @@ fn start_set(alloc: Global, wires: usize, inputs: u32) -> Result<Vec<bool>, Allo
     Ok(set)
 }
 
-// The first of the last wires, so many, that isn't set.
+// The first of the last `outputs` wires that isn't set.
 fn first_unset(set: &[bool], outputs: u32) -> Option<u32>
     requires within { outputs ≤ length set.now }
-    requires few { length set.now ≤ 131072 }
+    requires few { length set.now ≤ MOST_WIRES }
     ensures { result ≡ find (λ w. not (slice_index_or set.now w false))
         (range_with_len (length set.now - outputs) outputs) }
 {

@@ -7,6 +7,7 @@ ghost use Rattle.circuit_model.specs.DraftSteps.{header_checks, gate_checks, gat
 
 use crate::fault::CircuitFault;
 use crate::gate::{Gate, Operation};
+use crate::limits::{MOST_GATES, MOST_VALUES, MOST_WIRES};
 use mpc_ring::Ring;
 
 /// The fault, where a check failed.
@@ -32,15 +33,15 @@ pub fn exceeds(widths: &[u64], wires: u64) -> bool
 
 /// Whether these are more gates or wires than a circuit may have.
 pub fn are_large(gates: u64, wires: u64) -> bool
-    ensures { result ≡ (nat_lt 65536 gates || nat_lt 131072 wires) }
+    ensures { result ≡ (nat_lt MOST_GATES gates || nat_lt MOST_WIRES wires) }
 {
-    gates > 65_536 || wires > 131_072
+    gates > MOST_GATES || wires > MOST_WIRES
 }
 
 fn is_long(widths: &[u64]) -> bool
-    ensures { result ≡ nat_lt 1024 (length widths.now) }
+    ensures { result ≡ nat_lt MOST_VALUES (length widths.now) }
 {
-    widths.len() > 1024
+    widths.len() as u64 > MOST_VALUES
 }
 
 /// The first fault of the counts in a header, whose three lines have these numbers.
@@ -74,34 +75,16 @@ pub(crate) fn check_header(
     )
 }
 
-fn arity(operation: Operation) -> usize
-    ensures { result ≡ arity operation }
-{
-    match operation {
-        Operation::Add | Operation::Sub | Operation::Mul | Operation::Xor | Operation::And => 2,
-        Operation::Neg | Operation::Inv | Operation::Eq | Operation::Eqw => 1,
-    }
-}
-
-fn is_constant(operation: Operation) -> bool
-    ensures { result ≡ is_constant operation }
-{
-    match operation {
-        Operation::Eq => true,
-        _ => false,
-    }
-}
-
 fn has_arity(operation: Operation, inputs: &[u64], outputs: &[u64]) -> bool
     ensures { result ≡ ((length inputs.now == arity operation) && (length outputs.now == 1)) }
 {
-    inputs.len() == arity(operation) && outputs.len() == 1
+    inputs.len() == operation.arity() && outputs.len() == 1
 }
 
 fn is_bad_constant(ring: Ring, operation: Operation, inputs: &[u64]) -> bool
     ensures { result ≡ (is_constant operation && not (nat_lt (slice_index inputs.now 0) (2 ^ ring))) }
 {
-    is_constant(operation) && !ring.fits(word(inputs, 0))
+    operation.is_constant() && !ring.fits(word(inputs, 0))
 }
 
 // The word at a place, 0 past the end.
@@ -115,7 +98,7 @@ fn word(words: &[u64], at: usize) -> u64
 fn inputs_read(operation: Operation, inputs: &[u64]) -> &[u64]
     ensures { result.now ≡ inputs_read operation inputs.now }
 {
-    if is_constant(operation) { &[] } else { inputs }
+    if operation.is_constant() { &[] } else { inputs }
 }
 
 fn all_below(wires: u64, read: &[u64]) -> bool
@@ -152,7 +135,7 @@ pub(crate) fn check_gate(
     inputs: &[u64],
     outputs: &[u64],
 ) -> Result<Gate, CircuitFault>
-    requires { length set.now ≤ 131072 }
+    requires { length set.now ≤ MOST_WIRES }
     ensures { result ≡ or_fault (first_fault (gate_checks ring (length set.now)
         (λ w. slice_index_or set.now w false) line operation inputs.now outputs.now))
         (gate_of operation inputs.now outputs.now) }
@@ -185,7 +168,7 @@ pub(crate) fn check_gate(
 fn constant(operation: Operation, inputs: &[u64]) -> u64
     ensures { result ≡ (if is_constant operation then slice_index inputs.now 0 else 0) }
 {
-    if is_constant(operation) {
+    if operation.is_constant() {
         word(inputs, 0)
     } else {
         0

@@ -2,6 +2,7 @@
 ghost use Rattle.std.specs.Prelude.{◌≡◌, ◌≤◌, sum};
 
 use crate::gate::Gate;
+use crate::limits::MOST_WIRES;
 use mpc_ring::Ring;
 use std::marker::Model;
 
@@ -152,7 +153,7 @@ impl Circuit {
 
 /// How many wires values of these widths have.
 pub(crate) fn count_wires(widths: &[u64]) -> u32
-    requires { sum widths.now ≤ 131072 }
+    requires { sum widths.now ≤ MOST_WIRES }
     ensures { result ≡ sum widths.now }
 {
     widths.iter().sum::<u64>() as u32

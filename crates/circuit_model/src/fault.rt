@@ -14,7 +14,7 @@ pub enum CircuitFault {
     ShortLine { line: u64 },
     /// The line has too many tokens.
     LongLine { line: u64 },
-    /// The text ends before the last gate, after so many lines with tokens.
+    /// The text ends before the last gate, after `found` lines with tokens.
     FewLines { found: u64 },
     /// A line with tokens follows the last gate.
     ExtraLine { line: u64 },

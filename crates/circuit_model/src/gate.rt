@@ -33,8 +33,32 @@ pub struct Gate {
 }
 
 impl Operation {
-    ghost use Rattle.std.specs.Prelude.{◌≡◌, ◌^◌, ◌<◌};
+    ghost use Rattle.std.specs.Prelude.{◌≡◌, ◌^◌, ◌<◌, ◌≤◌};
     ghost use Rattle.circuit_model.specs.Circuits.{is_product, operate};
+    ghost use Rattle.circuit_model.specs.Netlists.{arity, is_constant};
+
+    /// How many wires, or constants, the operation takes.
+    #[inline]
+    pub fn arity(self) -> usize
+        ensures is { result ≡ arity self }
+        ensures few { result ≤ 2 }
+    {
+        match self {
+            Operation::Add | Operation::Sub | Operation::Mul | Operation::Xor | Operation::And => 2,
+            Operation::Neg | Operation::Inv | Operation::Eq | Operation::Eqw => 1,
+        }
+    }
+
+    /// Whether the operation takes a constant.
+    #[inline]
+    pub fn is_constant(self) -> bool
+        ensures { result ≡ is_constant self }
+    {
+        match self {
+            Operation::Eq => true,
+            _ => false,
+        }
+    }
 
     /// Whether the operation multiplies, so that the parties have to talk to compute it.
     pub fn is_product(self) -> bool

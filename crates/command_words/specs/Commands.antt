@@ -4,6 +4,8 @@ use Rattle.std.specs.Str.{bytes_eq}
 use Rattle.text_tokens.specs.Numbers.{number_written}
 use Rattle.command_words.specs.declared.command.Command.{Command}
 use Rattle.command_words.specs.declared.command.Command.TheVariants.{Run, Check, Pair, Node, Sample, Audit}
+use Rattle.command_words.specs.declared.limits.TheConstants.{MOST_SAMPLE}
+use Rattle.plan_faults.specs.declared.limits.TheConstants.{MOST_WORKERS}
 
 -- a command, with the bytes of its words; a run may ask for the view of a group, and a node for its own
 pub data CommandForm : Type 0 where
@@ -24,11 +26,11 @@ form_of (Audit dir) = audit dir.now
 
 -- a run has 1 to 16 workers, and a sample 1 to 65,536 gates
 abbrev pub IsInRange : Command → Type 0
-IsInRange (Run dir workers view) = (0 < workers) × (workers ≤ 16)
+IsInRange (Run dir workers view) = (0 < workers) × (workers ≤ MOST_WORKERS)
 IsInRange (Check dir) = Unit
 IsInRange (Pair dir group) = Unit
 IsInRange (Node dir name view) = Unit
-IsInRange (Sample count) = (0 < count) × (count ≤ 65536)
+IsInRange (Sample count) = (0 < count) × (count ≤ MOST_SAMPLE)
 IsInRange (Audit dir) = Unit
 
 -- a word that can be a folder, a group or a party: not empty, and not beginning with `-`
@@ -51,7 +53,7 @@ is_view word = bytes_eq word (codes "--view")
 
 -- a run by as many workers as one word tells
 abbrev pub run_by : List ℕ → List ℕ → Option CommandForm
-run_by dir count = option_map (λ workers. run dir workers None) (count_up_to 16 count)
+run_by dir count = option_map (λ workers. run dir workers None) (count_up_to MOST_WORKERS count)
 
 -- a run by one worker, and the view of a group
 abbrev pub run_seen : List ℕ → List ℕ → Option CommandForm
@@ -60,7 +62,8 @@ run_seen dir group = if is_plain group then Some (run dir 1 (Some group)) else N
 -- a run by as many workers as one word tells, and the view of a group
 abbrev pub run_by_seen : List ℕ → List ℕ → List ℕ → Option CommandForm
 run_by_seen dir count group =
-    if is_plain group then option_map (λ workers. run dir workers (Some group)) (count_up_to 16 count) else None
+    if is_plain group then option_map (λ workers. run dir workers (Some group)) (count_up_to MOST_WORKERS count)
+    else None
 
 -- a run of a folder, after which these words stand: its options, each at most once and in either order
 abbrev pub run_asked : List ℕ → List (List ℕ) → Option CommandForm
@@ -106,7 +109,7 @@ node_asked dir options = None
 
 -- a sample of as many gates as a word tells, after which no word stands
 abbrev pub sample_asked : List ℕ → List (List ℕ) → Option CommandForm
-sample_asked word [] = option_map (λ count. sample count) (count_up_to 65536 word)
+sample_asked word [] = option_map (λ count. sample count) (count_up_to MOST_SAMPLE word)
 sample_asked word options = None
 
 -- ---- an audit

@@ -3,12 +3,14 @@ ghost use Rattle.std.specs.Prelude.{◌≡◌, map, Some, None, IfOk, IfSome, On
 ghost use Rattle.command_words.specs.Commands.{is_plain, count_up_to, is_workers, is_view, run_by, run_seen, run_by_seen};
 ghost use Rattle.command_words.specs.Commands.{run_asked, check_asked, pair_asked, named_node, node_asked, sample_asked, audit_asked, asked, command_of, form_of, IsInRange};
 
+use crate::limits::MOST_SAMPLE;
+use plan_faults::MOST_WORKERS;
 use text_tokens::number;
 
 /// What a command line asks for. The texts are those of its words.
 #[derive(Clone, Copy, Debug, PartialEq, Eq)]
 pub enum Command<'w> {
-    /// `run DIR [--workers W] [--view GROUP]`: runs the job of the folder by so many workers, 1 to 16, and tells what
+    /// `run DIR [--workers W] [--view GROUP]`: runs the job of the folder by W workers, 1 to 16, and tells what
     /// the group sees, where one is given.
     Run {
         dir: &'w str,
@@ -32,7 +34,7 @@ pub enum Command<'w> {
         name: &'w str,
         view: bool,
     },
-    /// `sample N`: makes a job of so many gates, 1 to 65,536, and runs it.
+    /// `sample N`: makes a job of N gates, 1 to 65,536, and runs it.
     Sample {
         count: u32,
     },
@@ -83,7 +85,7 @@ fn run_by<'w>(dir: &'w str, count: &str) -> Option<Command<'w>>
     ensures form { option_map form_of result ≡ run_by dir.now count.now }
     ensures range { IfSome result IsInRange }
 {
-    let workers = count_up_to(count, 16)?;
+    let workers = count_up_to(count, MOST_WORKERS)?;
     Some(Command::Run {
         dir,
         workers,
@@ -114,7 +116,7 @@ fn run_by_seen<'w>(dir: &'w str, count: &str, group: &'w str) -> Option<Command<
     if !is_plain(group) {
         return None;
     }
-    let workers = count_up_to(count, 16)?;
+    let workers = count_up_to(count, MOST_WORKERS)?;
     Some(Command::Run {
         dir,
         workers,
@@ -252,7 +254,7 @@ fn sample_asked<'w>(word: &str, options: &[String]) -> Option<Command<'w>>
     if !options.is_empty() {
         return None;
     }
-    let count = count_up_to(word, 65_536)?;
+    let count = count_up_to(word, MOST_SAMPLE)?;
     Some(Command::Sample { count })
 }
 

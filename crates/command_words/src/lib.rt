@@ -2,5 +2,7 @@
 #![tactic(auto)]
 
 mod command;
+mod limits;
 
 pub use command::{Command, Refused, read_command};
+pub use limits::MOST_SAMPLE;

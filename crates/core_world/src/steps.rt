@@ -1,5 +1,5 @@
 //! Steps of many desks on one list of cells.
-ghost use Rattle.std.specs.Prelude.{◌≡◌, ℕ, ◌+◌, ◌<◌, true, false, nat_lt, length, slice_get, Some};
+ghost use Rattle.std.specs.Prelude.{◌≡◌, ◌+◌, ◌<◌, true, false, nat_lt, length, slice_get, Some};
 ghost use Rattle.share_world.specs.Worlds.{World};
 ghost use Rattle.party_desk.specs.declared.desk.Desk.{Desk};
 ghost use Rattle.share_world.specs.Laws.{IsWhole};

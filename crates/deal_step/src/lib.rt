@@ -2,7 +2,7 @@
 //! (Ito, Saito, Nishizeki 1987; Maurer 2006).
 #![tactic(auto)]
 
-ghost use Rattle.std.specs.Prelude.{◌≡◌, ℕ, ◌+◌, ◌-◌, ◌^◌, ◌<◌, ◌≤◌, All, length, slice_index, drop};
+ghost use Rattle.std.specs.Prelude.{◌≡◌, ◌+◌, ◌-◌, ◌^◌, ◌<◌, ◌≤◌, All, length, slice_index, drop};
 ghost use Rattle.secret_sharing.specs.Schemes.{Scheme};
 ghost use Rattle.deal_step.specs.Deals.{IsDealt};
 
@@ -47,7 +47,7 @@ fn deal_each(ring: Ring, value: u64, tape: &mut Tape, out: &mut [u64])
     out[last] = ring.sub(value, sum);
 }
 
-// The same into three places, as with three parties of whom any two are trusted. A loop over so few costs more than the
+// The same into three places, as with three parties and the formula `2 of` them. A loop over so few costs more than the
 // words.
 #[inline(always)]
 fn deal_three(ring: Ring, value: u64, tape: &mut Tape, out: &mut [u64])

@@ -27,7 +27,7 @@ impl<W: Promise, T: SlotItem<W>> Rack<W, T> {
     ghost use Rattle.message_board.specs.Rule.{brings_home, others};
     ghost use Rattle.message_board.specs.Seats.{IsBoardOf, IsSeatOf, TookOut, FoundOut, AreFresh, AreNewSeats, slots_of};
 
-    /// A rack with so many empty cells and a slot for each item, and its seats. Out of memory, the items come back.
+    /// A rack with `messages` empty cells and a slot for each item, and its seats. Out of memory, the items come back.
     pub fn make(
         alloc: Global,
         words: W,

@@ -24,7 +24,7 @@ pub record StandsInWorld (w : World) (seen : List (ℕ × ℕ)) (k : ℕ) (d : D
   pub desk : IsDesk (given_to w k) d
   pub posted : HasPosts (Knows seen) w (k / w.plan.parties) (k % w.plan.parties) d.position
 
--- so many steps of desk k led from one desk and seat to another
+-- as many steps as `moves` of desk k led from one desk and seat to another
 pub record Leads (w : World) (k : ℕ) (seat : Sitting Promised) (d : Desk) (seat' : Sitting Promised) (d' : Desk)
     (moves : ℕ) : Type 0 where
   pub stands : StandsInWorld w seat'.view.seen k d'
@@ -34,12 +34,12 @@ pub record Leads (w : World) (k : ℕ) (seat : Sitting Promised) (d : Desk) (sea
   pub seats : seat'.view.seats ≡ seat.view.seats
   pub out : seat'.view.out ≡ seat.view.out
 
--- of the board's world: a desk and a seat that knows what it posted, where so many steps led, and that the desk could
+-- of the board's world: a desk and a seat that knows what it posted, where `moves` steps led, and that the desk could
 -- not move
 abbrev pub IsDeskOf : BoardModel Promised → Sitting Promised → Desk → Type 0
 IsDeskOf board seat d = (k : ℕ) × StandsInWorld (world_in board.about.world) seat.view.seen k d
 
--- so many steps led from one to the other, of whichever desk of the world it is
+-- as many steps as `moves` led from one to the other, of whichever desk of the world it is
 abbrev pub LeadsOn : BoardModel Promised → Sitting Promised → Desk → Sitting Promised → Desk → ℕ → Type 0
 LeadsOn board seat d seat' d' moves =
     (k : ℕ) → StandsInWorld (world_in board.about.world) seat.view.seen k d

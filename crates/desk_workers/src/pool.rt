@@ -1,4 +1,4 @@
-//! Workers, each of which steps any desk that it finds at home: first those of its share, so that what the desks hold
+//! Workers, each of which steps any desk that it finds at home: first those of its own, so that what the desks hold
 //! stays near the processor, and the others where none of these moves.
 ghost use Rattle.std.specs.Prelude.{◌≡◌, ◌+◌, ◌<◌, ◌≤◌, ◌^◌, length, vec_len};
 ghost use Rattle.message_board.specs.Seats.{IsFreeSeatOf, slots_of};
@@ -52,15 +52,15 @@ fn look_in<P: Pace>(
     Visit { moves, over }
 }
 
-// Slots that a worker goes round: so many from this one on.
+// Slots that a worker goes round: `count` of them, from `first` on.
 #[derive(Clone, Copy)]
 struct Slots {
     first: u32,
     count: u32,
 }
 
-// The slots that a worker goes round first, where each of so many workers has a share as large.
-fn share_of(worker: u64, workers: usize, slots: u32) -> Slots
+// The slots that a worker goes round first, where each of `workers` has as many of its own.
+fn own_slots(worker: u64, workers: usize, slots: u32) -> Slots
     requires { worker < 2 ^ 16 }
     ensures first { 0 < slots → result.first < slots }
     ensures count { result.count ≤ slots }
@@ -121,44 +121,44 @@ fn pass<P: Pace>(
     Visit { moves, over }
 }
 
-// Visits the slots of the worker's share, and where no desk of them moved, all slots.
+// Visits the worker's own slots, and where no desk of them moved, all slots.
 fn round<P: Pace>(
     rack: &Rack<Promised, Box<Desk>>,
     plan: &Plan,
     pace: &P,
     worker: u32,
-    share: Slots,
+    slots: Slots,
     seat: &mut BoardSeat<Promised, Box<Desk>>,
 ) -> Visit
     requires pool { IsPool plan.now rack.now }
-    requires first { 0 < slots_of rack.now.id → share.first < slots_of rack.now.id }
-    requires count { share.count ≤ slots_of rack.now.id }
+    requires first { 0 < slots_of rack.now.id → slots.first < slots_of rack.now.id }
+    requires count { slots.count ≤ slots_of rack.now.id }
     requires seat { IsFreeSeatOf rack.now seat.old }
     ensures seat { IsFreeSeatOf rack.now seat.new }
     ensures seats { seat.new.view.seats ≡ seat.old.view.seats }
     ensures moves { result.moves < 2 ^ 40 }
 {
-    let own = pass(rack, plan, pace, worker, share, seat);
+    let own = pass(rack, plan, pace, worker, slots, seat);
     if own.moves > 0 {
         return own;
     }
     let all = Slots {
-        first: share.first,
+        first: slots.first,
         count: rack.slots(),
     };
     pass(rack, plan, pace, worker, all, seat)
 }
 
 fn next_idle(idle: u32, moves: u64) -> u32
-    requires { idle < 64 }
+    requires { idle < MOST_IDLE }
     ensures none { moves ≡ 0 → result ≡ idle + 1 }
     ensures some { 0 < moves → result ≡ 0 }
 {
     if moves == 0 { idle + 1 } else { 0 }
 }
 
-// Steps desks until all were found at home and at their end, or so many rounds in a row moved none, or the worker has
-// made as many moves as there are instructions.
+// Steps desks until all were found at home and at their end, or `MOST_IDLE` rounds in a row moved none, or the worker
+// has made as many moves as there are instructions.
 fn work<P: Pace>(
     rack: &Rack<Promised, Box<Desk>>,
     plan: &Plan,
@@ -175,12 +175,12 @@ fn work<P: Pace>(
     ensures seat { IsFreeSeatOf rack.now seat.new }
     ensures seats { seat.new.view.seats ≡ seat.old.view.seats }
 {
-    let share = share_of(u64::from(worker), workers, rack.slots());
+    let slots = own_slots(u64::from(worker), workers, rack.slots());
     let mut idle = 0;
     let mut made = 0;
     let mut over = false;
     while !over && idle < MOST_IDLE && made < instructions {
-        let seen = round(rack, plan, pace, worker, share, seat);
+        let seen = round(rack, plan, pace, worker, slots, seat);
         made += seen.moves;
         idle = next_idle(idle, seen.moves);
         over = seen.over;
@@ -209,6 +209,8 @@ fn fan_out<P: Pace, R: Threads + Sync>(
         requires { IsPool plan.now rack.now × IsFreeSeatOf rack.now seat.old × (instructions < 2 ^ 40) }
         ensures { IsFreeSeatOf rack.entry.now seat.new × (seat.new.view.seats ≡ seat.old.view.seats) }
     {
+        // The remainder is `i`, since there are at most 16 seats. No clause tells the closure so, and the product of a
+        // worker's number and of how many slots it has is to fit in 64 bits.
         work(
             rack,
             plan,

@@ -1,5 +1,5 @@
 //! A run of workers, from its memory to its end.
-ghost use Rattle.std.specs.Prelude.{◌≡◌, ◌<◌, ◌≤◌, IfOk, length, map, vec_len};
+ghost use Rattle.std.specs.Prelude.{◌≡◌, ◌<◌, ◌≤◌, IfOk, length, map};
 ghost use Rattle.message_board.specs.Pairs.{total_over};
 ghost use Rattle.job_plan.specs.InputWords.{AreInputs};
 ghost use Rattle.share_world.specs.Laws.{IsWhole};
@@ -16,6 +16,7 @@ use job_plan::{Inputs, Plan};
 use message_board::BoardSeat;
 use outer_io::Pace;
 use party_desk::Desk;
+use plan_faults::MOST_WORKERS;
 use std::alloc::{AllocError, Global};
 use std::thread::Threads;
 use tape_words::Tape;
@@ -31,8 +32,8 @@ pub struct Ready {
     last: Vec<BoardSeat<Promised, Box<Desk>>>,
 }
 
-/// Makes ready the world of these inputs and pieces of tape for so many workers. The pieces stand in the order of the
-/// desks' numbers: that of party p in session s is `s * parties + p`.
+/// Makes ready the world of these inputs and pieces of tape for this number of workers. The pieces stand in the order
+/// of the desks' numbers: that of party p in session s is `s * parties + p`.
 pub fn prepare(
     alloc: Global,
     plan: &Plan,
@@ -40,7 +41,7 @@ pub fn prepare(
     pieces: Vec<Tape>,
     workers: u32,
 ) -> Result<Ready, AllocError>
-    requires workers { (0 < workers) × (workers ≤ 16) }
+    requires workers { (0 < workers) × (workers ≤ MOST_WORKERS) }
     requires inputs { AreInputs plan.now inputs.now }
     requires pieces { ArePieces plan.now pieces.items }
     ensures whole { IsWhole (world_of_pieces plan.now inputs.now pieces.items) }

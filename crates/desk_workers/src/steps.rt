@@ -1,5 +1,5 @@
 //! Steps of a desk on a board that other threads share.
-ghost use Rattle.std.specs.Prelude.{◌≡◌, ◌<◌, ◌^◌, false, length, if◌then◌else◌};
+ghost use Rattle.std.specs.Prelude.{◌≡◌, ◌<◌, ◌^◌, false, if◌then◌else◌};
 ghost use Rattle.message_board.specs.Seats.{IsSeatOf};
 ghost use Rattle.desk_laws.specs.Pools.{moves_of};
 ghost use Rattle.desk_workers.specs.Pools.{IsPool, IsDeskOf, LeadsOn, IsStuck};

@@ -10,6 +10,7 @@ use Rattle.expr_circuit.specs.declared.wire.Step.{Step}
 use Rattle.expr_circuit.specs.Programs.{Term, Statement, bind}
 use Rattle.expr_circuit.specs.Programs.Term.{constant, variable, negative, sum, subtraction, product}
 use Rattle.expr_circuit.specs.Programs.Statement.{input, define, output}
+use Rattle.circuit_model.specs.declared.limits.TheConstants.{MOST_GATES, MOST_WIRES, MOST_VALUES}
 
 -- what stands for a wire that an operation doesn't read
 abbrev pub no_wire : Wire
@@ -71,7 +72,7 @@ no_lines = record { of = λ x. None; gates = []; inputs = 0; outputs = [] }
 unfoldable pub draft_of : List Statement → Draft
 draft_of p = after_statements no_lines p
 
--- the number of a wire, where there are so many inputs
+-- the number of a wire, behind `inputs` inputs
 abbrev pub number_of : ℕ → Wire → ℕ
 number_of inputs (wires.Input i) = i
 number_of inputs (wires.Gate g) = inputs + g
@@ -84,7 +85,7 @@ copy w = record { operation = Eqw; first = w; second = no_wire; constant = 0 }
 abbrev pub all_gates : Draft → List Step
 all_gates d = d.gates ++ map copy d.outputs
 
--- gate number g, where there are so many inputs: it sets the next wire
+-- gate number g, behind `inputs` inputs: it sets the next wire
 abbrev pub gate_of : ℕ → ℕ → Step → Gate
 gate_of inputs g s =
     record {
@@ -99,7 +100,7 @@ abbrev pub gates_from : ℕ → ℕ → List Step → List Gate
 gates_from inputs g [] = []
 gates_from inputs g (s ∷ ss) = gate_of inputs g s ∷ gates_from inputs (g + 1) ss
 
--- the circuit of these gates over so many inputs and so many outputs, each of which is a value of width 1
+-- the circuit of these gates over `inputs` inputs and `outputs` outputs, each of which is a value of width 1
 abbrev pub assembled : ℕ → ℕ → List Step → ℕ → Netlist
 assembled bits inputs gates outputs =
     record {
@@ -117,9 +118,9 @@ netlist bits d = assembled bits d.inputs (all_gates d) (length d.outputs)
 -- the circuit would pass a limit
 abbrev pub is_large : Netlist → Bool
 is_large c =
-    (nat_lt 65536 (length c.gates) || nat_lt 131072 c.wires)
-    || (nat_lt 1024 (length c.inputs) || nat_lt 1024 (length c.outputs))
+    (nat_lt MOST_GATES (length c.gates) || nat_lt MOST_WIRES c.wires)
+    || (nat_lt MOST_VALUES (length c.inputs) || nat_lt MOST_VALUES (length c.outputs))
 
--- the circuit of a program over words of so many bits
+-- the circuit of a program over words of `bits` bits
 abbrev pub circuit : ℕ → List Statement → Netlist
 circuit bits p = netlist bits (draft_of p)

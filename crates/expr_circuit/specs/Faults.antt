@@ -17,6 +17,7 @@ use Rattle.expr_circuit.specs.Grammar.Unary.{negated, number, named, grouped}
 use Rattle.expr_circuit.specs.Grammar.Line.{input_line, let_line, output_line}
 use Rattle.expr_circuit.specs.Programs.{Statement, name_at, number_at, statement, bind}
 use Rattle.expr_circuit.specs.Programs.Statement.{input, define, output}
+use Rattle.expr_circuit.specs.declared.limits.TheConstants.{MOST_OPEN}
 
 -- a sign that is open: a parenthesis, or a minus whose operand hasn't ended
 pub data Sign : Type 0 where
@@ -53,7 +54,7 @@ open_signs ts = (after_tokens (record { wanted = true; signs = [] }) ts).signs
 
 -- at most 32 signs are open after the tokens
 abbrev pub IsShallow : List Token → Type 0
-IsShallow ts = length (open_signs ts) ≤ 32
+IsShallow ts = length (open_signs ts) ≤ MOST_OPEN
 
 -- the last of the tokens has no fault: some line begins with them, and at most 32 signs are open after them
 pub record IsFine (ts : List Token) : Type 0 where

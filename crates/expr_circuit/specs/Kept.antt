@@ -9,6 +9,7 @@ use Rattle.circuit_model.specs.Netlists.{IsCircuit}
 use Rattle.expr_circuit.specs.Circuits.{Draft, Built, number_of, netlist, is_large}
 use Rattle.expr_circuit.specs.Machine.{State}
 use Rattle.expr_circuit.specs.Walks.{Read, Walk}
+use Rattle.circuit_model.specs.declared.limits.TheConstants.{MOST_GATES, MOST_VALUES}
 
 -- the parser went on to the next state, or tells that there is none
 abbrev pub Advances : Option State → Bool → State → Type 0
@@ -34,7 +35,7 @@ Shows view (Err fault) wanted = Fails fault wanted
 abbrev pub Gives : {A : Type 0} → Result A ExprFault → Result A ExprFault → Type 0
 Gives result wanted = Shows (λ a. a) result wanted
 
--- the wires of gate number g, where there are so many inputs, fit in 32 bits
+-- the wires of gate number g, behind `inputs` inputs, fit in 32 bits
 pub record IsNarrow (inputs g : ℕ) (s : Step) : Type 0 where
   pub first : number_of inputs s.first < 2 ^ 32
   pub second : number_of inputs s.second < 2 ^ 32
@@ -55,10 +56,10 @@ pub record Kept : Type 0 where
 abbrev pub kept : Draft → Kept
 kept d =
     record {
-      steps = take 65536 d.gates;
+      steps = take MOST_GATES d.gates;
       gates = length d.gates;
       inputs = d.inputs;
-      outputs = take 1024 d.outputs;
+      outputs = take MOST_VALUES d.outputs;
       results = length d.outputs;
     }
 

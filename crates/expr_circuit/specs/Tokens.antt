@@ -4,6 +4,7 @@ use Rattle.std.specs.Str.{bytes_eq}
 use Rattle.run_tokens.specs.Tokens.{Language}
 use Rattle.expr_circuit.specs.declared.token.Token.{Token}
 use Rattle.expr_circuit.specs.declared.token.Token.TheVariants.{Input, Let, Output, Name, Number, Equals, Plus, Minus, Times, Open, Close, Unknown}
+use Rattle.expr_circuit.specs.declared.limits.TheConstants.{LONGEST_NAME}
 
 -- LF
 abbrev pub is_line_end : ℕ → Bool
@@ -30,7 +31,7 @@ word_token at run =
     if bytes_eq run (codes "input") then Input
     else if bytes_eq run (codes "let") then Let
     else if bytes_eq run (codes "output") then Output
-    else if nat_le (length run) 16 then Name at
+    else if nat_le (length run) LONGEST_NAME then Name at
     else Unknown
 
 -- the language of lines: names, numbers, `input`, `let`, `output` and = + - * ( ) between blanks

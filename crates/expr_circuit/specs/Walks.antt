@@ -24,11 +24,12 @@ use Rattle.expr_circuit.specs.Circuits.{Built, Draft, add, no_wire, no_lines, ne
 use Rattle.circuit_model.specs.Netlists.{Netlist}
 use Rattle.list_laws.specs.Answers.{◌>>=◌}
 use Rattle.expr_circuit.specs.Machine.{State, start, step, depth, with_sum}
+use Rattle.expr_circuit.specs.declared.limits.TheConstants.{MOST_OPEN}
 
 -- the state, or the fault of the token at this place
 abbrev pub stepped : ℕ → ℕ → Option State → Result State ExprFault
 stepped n at None = Err (Syntax n at)
-stepped n at (Some s) = if nat_lt 32 (depth s) then Err (TooDeep n at) else Ok s
+stepped n at (Some s) = if nat_lt MOST_OPEN (depth s) then Err (TooDeep n at) else Ok s
 
 -- the state after tokens of line n, or the first fault
 abbrev pub scan : ℕ → State → List (Placed Token) → Result State ExprFault

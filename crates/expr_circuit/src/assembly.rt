@@ -61,7 +61,7 @@ fn gates(alloc: Global, inputs: u64, steps: &[Step]) -> Result<Vec<Gate>, AllocE
     Ok(gates)
 }
 
-/// The circuit of gates over so many input values and so many output values, each of width 1.
+/// The circuit of gates over `inputs` input values and `outputs` output values, each of width 1.
 pub(crate) fn assemble(
     alloc: Global,
     ring: Ring,

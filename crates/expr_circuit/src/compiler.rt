@@ -1,5 +1,5 @@
 //! Reading a program, and writing its circuit.
-ghost use Rattle.std.specs.Prelude.{◌≡◌, ℕ, ◌+◌, ◌<◌, nat_lt, true, false, Ok, Err, length, MatchResult, if◌then◌else◌};
+ghost use Rattle.std.specs.Prelude.{◌≡◌, ℕ, ◌+◌, ◌<◌, nat_lt, false, Ok, Err, length, MatchResult, if◌then◌else◌};
 ghost use Rattle.std.specs.Str.Lossy.{utf8_valid_len};
 ghost use Rattle.expr_circuit.specs.declared.fault.ExprFault.TheVariants.{NotUtf8};
 ghost use Rattle.expr_circuit.specs.Circuits as circuits;

@@ -1,5 +1,5 @@
 //! A circuit of which some lines were read.
-ghost use Rattle.std.specs.Prelude.{◌≡◌, ℕ, ◌^◌};
+ghost use Rattle.std.specs.Prelude.{◌≡◌, ◌^◌};
 ghost use Rattle.expr_circuit.specs.Circuits as circuits;
 ghost use Rattle.expr_circuit.specs.Walks.{input_in, define_in, output_in, read_in, line_in, netlist_in};
 ghost use Rattle.expr_circuit.specs.Kept.{Gives, IsSound};

@@ -1,5 +1,5 @@
 //! The gates, inputs and outputs of a circuit of which some lines were read.
-ghost use Rattle.std.specs.Prelude.{◌≡◌, ℕ, ◌+◌, ◌^◌, ◌∷◌, ◌++◌, [], nat_lt, drop, OnOk, MatchResult, if◌then◌else◌};
+ghost use Rattle.std.specs.Prelude.{◌≡◌, ◌+◌, ◌^◌, ◌∷◌, ◌++◌, [], nat_lt, drop, OnOk, MatchResult, if◌then◌else◌};
 ghost use Rattle.expr_circuit.specs.declared.fault.ExprFault.TheVariants.{Memory};
 ghost use Rattle.expr_circuit.specs.Circuits.{Draft, add, no_wire, no_lines};
 ghost use Rattle.expr_circuit.specs.Walks.{top, node_in, expression_in, netlist_in};
@@ -12,17 +12,11 @@ use crate::line::Line;
 use crate::names::{Names, number_at};
 use crate::node::Node;
 use crate::wire::{Pending, Step, Wire};
-use circuit_model::{Circuit, Operation};
+use circuit_model::{Circuit, MOST_GATES, MOST_VALUES, Operation};
 use mpc_ring::Ring;
 use run_tokens::word_bytes;
 use std::alloc::{AllocError, Global};
 use std::marker::Model;
-
-/// How many gates a circuit may have.
-const MOST_GATES: u64 = 65536;
-
-/// How many input values and how many output values a circuit may have.
-const MOST_VALUES: u64 = 1024;
 
 /// The gates and the wires of outputs. Those that are past a limit are counted, and not kept.
 #[derive(Drop)]
@@ -89,7 +83,7 @@ impl Gates {
     /// Keeps a gate, unless there are too many.
     fn keep(&mut self, step: Step) -> Result<(), AllocError>
         ensures { OnOk result (self.new ≡ record self.old {
-          steps = if nat_lt self.old.gates 65536 then self.old.steps ++ (step ∷ []) else self.old.steps;
+          steps = if nat_lt self.old.gates MOST_GATES then self.old.steps ++ (step ∷ []) else self.old.steps;
         }) }
     {
         if self.gates < MOST_GATES {
@@ -227,7 +221,7 @@ impl Gates {
     /// Keeps an output, unless there are too many.
     fn keep_output(&mut self, wire: Wire) -> Result<(), AllocError>
         ensures { OnOk result (self.new ≡ record self.old {
-          outputs = if nat_lt self.old.results 1024 then self.old.outputs ++ (wire ∷ []) else self.old.outputs;
+          outputs = if nat_lt self.old.results MOST_VALUES then self.old.outputs ++ (wire ∷ []) else self.old.outputs;
         }) }
     {
         if self.results < MOST_VALUES {

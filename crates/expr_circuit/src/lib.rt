@@ -15,6 +15,7 @@ mod draft;
 mod fault;
 mod gates;
 mod laws;
+mod limits;
 mod line;
 mod names;
 mod node;
@@ -30,3 +31,4 @@ pub use fault::ExprFault;
 pub use laws::{
     a_compiled_circuit_has_the_value, a_compiled_text_is_read_back, each_text_has_one_answer,
 };
+pub use limits::{LONGEST_NAME, MOST_OPEN};

@@ -3,14 +3,12 @@ ghost use Rattle.expr_circuit.specs.Kept.{Shows, read_kept};
 ghost use Rattle.expr_circuit.specs.Walks.{parse_in};
 
 use crate::fault::ExprFault;
+use crate::limits::MOST_OPEN;
 use crate::line::Line;
 use crate::node::Head;
 use crate::parser::Parser;
 use crate::token::Token;
 use run_tokens::next_token;
-
-/// How many signs may be open.
-const MOST_OPEN: u32 = 32;
 
 /// The line, none where it has no tokens, or the fault of its first token that has one.
 pub(crate) fn parse_line(parser: &mut Parser, line: &Line<'_>) -> Result<Option<Head>, ExprFault>

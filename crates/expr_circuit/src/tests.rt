@@ -26,7 +26,7 @@ fn expect_fault(rt: &impl Abort, alloc: Global, bits: u32, text: &[u8], wanted: 
     }
 }
 
-/// A text with so many copies of a piece in it.
+/// A text with `count` copies of a piece in it.
 fn repeated(alloc: Global, front: &[u8], piece: &[u8], count: u32) -> Result<Vec<u8>, AllocError> {
     let mut text = Vec::from_slice(alloc, front)?;
     for at in 0..count {
@@ -50,7 +50,8 @@ fn programs_are_compiled(rt: HostRuntime) {
         alloc,
         8,
         b"let a=7\r\ninput x\r\noutput -x*--a\r\noutput x",
-        b"7 8\n1 1\n2 1 1\n1 1 7 1 EQ\n1 1 0 2 NEG\n1 1 1 3 NEG\n1 1 3 4 NEG\n2 1 2 4 5 MUL\n1 1 5 6 EQW\n1 1 0 7 EQW\n",
+        b"7 8\n1 1\n2 1 1\n1 1 7 1 EQ\n1 1 0 2 NEG\n1 1 1 3 NEG\n1 1 3 4 NEG\n\
+        2 1 2 4 5 MUL\n1 1 5 6 EQW\n1 1 0 7 EQW\n",
     );
     expect_text(
         &rt,

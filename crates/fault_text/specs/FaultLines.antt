@@ -24,7 +24,7 @@ fault_head fault peer = codes "fault " ++ (fault ++ (codes " peer=" ++ peer))
 abbrev pub short_line : List ℕ → List ℕ → List ℕ
 short_line fault peer = fault_head fault peer ++ codes "\n"
 
--- the peer's bytes ended after so many
+-- the peer's bytes ended after `at` bytes
 abbrev pub closed_line : List ℕ → ℕ → List ℕ
 closed_line peer at = fault_head (codes "closed") peer ++ (codes " at=" ++ (decimal at ++ codes "\n"))
 

@@ -5,6 +5,7 @@ ghost use Rattle.party_set.specs.Names.{name_at};
 ghost use Rattle.fault_text.specs.FaultLines.{fault_line, short_line, closed_line, frame_line, job_line, fault_head};
 
 use crate::hex::gather_hex;
+use frame_code::{FRAME_BYTES, HELLO_BYTES};
 use node_talk::NodeFault;
 use outer_io::{Blocks, Failed, Gather, Sink};
 use party_set::Names;
@@ -50,7 +51,13 @@ fn gather_closed<G: Gather>(out: &mut G, names: &Names, peer: u32, at: u64)
 }
 
 #[tactic(auto, using(outer_io::proofs::GatheredTexts::adds_then))]
-fn gather_frame<G: Gather>(out: &mut G, names: &Names, peer: u32, at: u64, bytes: &[u8; 18])
+fn gather_frame<G: Gather>(
+    out: &mut G,
+    names: &Names,
+    peer: u32,
+    at: u64,
+    bytes: &[u8; FRAME_BYTES],
+)
     ensures { Adds (frame_line (name_at names.now peer) at bytes.now) (G.gathered out.old) (G.gathered out.new) }
 {
     gather_head(out, "frame", names, peer);
@@ -62,7 +69,13 @@ fn gather_frame<G: Gather>(out: &mut G, names: &Names, peer: u32, at: u64, bytes
 }
 
 #[tactic(auto, using(outer_io::proofs::GatheredTexts::adds_then))]
-fn gather_job<G: Gather>(out: &mut G, names: &Names, peer: u32, ours: &[u8; 38], theirs: &[u8; 38])
+fn gather_job<G: Gather>(
+    out: &mut G,
+    names: &Names,
+    peer: u32,
+    ours: &[u8; HELLO_BYTES],
+    theirs: &[u8; HELLO_BYTES],
+)
     ensures { Adds (job_line (name_at names.now peer) ours.now theirs.now)
         (G.gathered out.old) (G.gathered out.new) }
 {

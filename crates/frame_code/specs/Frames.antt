@@ -1,7 +1,8 @@
 -- What parties say to one another, in bytes. All numbers are big-endian.
-use Rattle.std.specs.Prelude.{ℕ, ◌<◌, ◌^◌, List, ◌∷◌, ◌++◌, codes}
+use Rattle.std.specs.Prelude.{ℕ, ◌+◌, ◌*◌, ◌<◌, ◌^◌, List, ◌∷◌, ◌++◌, codes}
 use Rattle.std.specs.Int.{w16, w32, w64, to_be_bytes}
 use Rattle.job_plan.specs.declared.key.Key.{Key}
+use Rattle.frame_code.specs.declared.sizes.TheConstants.{HELLO_BYTES, FRAME_BYTES}
 
 -- the letters MPC1, the number of the party that speaks and of the one that it speaks to, and the digest of the job
 unfoldable pub hello : ℕ → ℕ → List ℕ → List ℕ
@@ -12,6 +13,10 @@ unfoldable pub frame : Key → ℕ → List ℕ
 frame key word =
     1 ∷ (to_be_bytes w16 key.session ++ (to_be_bytes w32 key.slot
     ++ (key.share ∷ key.sender ∷ key.receiver ∷ to_be_bytes w64 word)))
+
+-- where the frame at a place begins, behind a hello and the frames before it
+abbrev pub frame_begin : ℕ → ℕ
+frame_begin place = HELLO_BYTES + FRAME_BYTES * place
 
 -- a frame has room for the name of this message
 pub record FitsFrame (key : Key) : Type 0 where

@@ -1,22 +1,25 @@
 //! What two parties say to one another over a pipe, in bytes: a hello, and then a frame for each message.
 #![tactic(auto)]
 
+mod sizes;
+
 ghost use Rattle.std.specs.Prelude.{◌≡◌, ◌≢◌, ◌↔◌, ◌<◌, ◌^◌, ℕ, List, IfSome, IsNone, Some, slice_index};
 ghost use Rattle.job_plan.specs.declared.key.Key.{Key as Message};
 ghost use Rattle.frame_code.specs.Frames.{hello, frame, FitsFrame};
 
 use byteorder::{BigEndian, ByteOrder};
 use job_plan::Key;
+pub use sizes::{FRAME_BYTES, HELLO_BYTES};
 
 const MAGIC: [u8; 4] = *b"MPC1";
 
 /// The begin of what party `from` says to party `to`, in a job with this digest.
-pub fn hello(from: u32, to: u32, digest: &[u8; 32]) -> [u8; 38]
+pub fn hello(from: u32, to: u32, digest: &[u8; 32]) -> [u8; HELLO_BYTES]
     requires from { from < 256 }
     requires to { to < 256 }
     ensures { result ≡ hello from to digest.now }
 {
-    let mut bytes = [0; 38];
+    let mut bytes = [0; HELLO_BYTES];
     bytes[..4].copy_from_slice(&MAGIC);
     bytes[4] = from as u8;
     bytes[5] = to as u8;
@@ -25,11 +28,11 @@ pub fn hello(from: u32, to: u32, digest: &[u8; 32]) -> [u8; 38]
 }
 
 /// The frame of a message and its word.
-pub fn frame(key: &Key, word: u64) -> [u8; 18]
+pub fn frame(key: &Key, word: u64) -> [u8; FRAME_BYTES]
     requires { FitsFrame key.now }
     ensures { result ≡ frame key.now word }
 {
-    let mut bytes = [0; 18];
+    let mut bytes = [0; FRAME_BYTES];
     bytes[0] = 1;
     BigEndian::write_u16(&mut bytes[1..], key.session as u16);
     BigEndian::write_u32(&mut bytes[3..], key.slot);
@@ -41,7 +44,7 @@ pub fn frame(key: &Key, word: u64) -> [u8; 18]
 }
 
 /// The message and the word of a frame, None exactly where the first byte is not 1.
-pub fn read_frame(bytes: &[u8; 18]) -> Option<(Key, u64)>
+pub fn read_frame(bytes: &[u8; FRAME_BYTES]) -> Option<(Key, u64)>
     ensures none { IsNone result ↔ (slice_index bytes.now 0 ≢ 1) }
     ensures back { (key : Message) (word : ℕ) → FitsFrame key → word < 2 ^ 64 → bytes.now ≡ frame key word
         → result ≡ Some (key, word) }

@@ -8,6 +8,7 @@ use Rattle.group_formula.specs.declared.fault.FormulaFault.{FormulaFault}
 use Rattle.group_formula.specs.declared.fault.FormulaFault.TheVariants.{Syntax, TooDeep, TooManyNodes}
 use Rattle.group_formula.specs.Tokens.{formula_language, is_node}
 use Rattle.group_formula.specs.Grammar.{Expr, spell, IsViable}
+use Rattle.group_formula.specs.declared.limits.TheConstants.{MOST_NODES, MOST_OPEN}
 
 -- an opening parenthesis
 abbrev pub is_open : Token → Bool
@@ -21,11 +22,11 @@ is_close _ = false
 
 -- at most 32 parentheses are open at the end
 abbrev pub IsShallow : List Token → Type 0
-IsShallow ts = count_by is_open ts ≤ count_by is_close ts + 32
+IsShallow ts = count_by is_open ts ≤ count_by is_close ts + MOST_OPEN
 
 -- there are at most 256 nodes
 abbrev pub IsSmall : List Token → Type 0
-IsSmall ts = count_by is_node ts ≤ 256
+IsSmall ts = count_by is_node ts ≤ MOST_NODES
 
 -- the last of the tokens has no fault
 pub record IsFine (ts : List Token) : Type 0 where

@@ -5,6 +5,8 @@ use Rattle.group_formula.specs.declared.node.Node.TheVariants.{Name, And, Or, At
 use Rattle.group_formula.specs.Trees.{Tree, Trees, tree_count, IsSoundTree}
 use Rattle.group_formula.specs.Trees.Tree.{leaf, both, either, at_least}
 use Rattle.group_formula.specs.Trees.Trees.{one_tree, more_trees}
+use Rattle.party_set.specs.declared.limits.TheConstants.{MOST_PARTIES}
+use Rattle.group_formula.specs.declared.limits.TheConstants.{MOST_NODES}
 
 -- the nodes of a tree, each after its operands
 abbrev mutual
@@ -45,10 +47,10 @@ after_nodes (n ∷ ns) s = after_nodes ns (after_node n s)
 unfoldable pub tree_of : List Node → Tree
 tree_of ns = last (after_nodes ns [])
 
--- the nodes write a formula over so many parties, with at most 256 nodes
+-- the nodes write a formula over `parties` parties, with at most 256 nodes
 pub record WritesFormula (parties : ℕ) (nodes : List Node) : Type 0 where
   pub some : 1 ≤ parties
-  pub few : parties ≤ 12
-  pub small : length nodes ≤ 256
+  pub few : parties ≤ MOST_PARTIES
+  pub small : length nodes ≤ MOST_NODES
   pub written : postfix (tree_of nodes) ≡ nodes
   pub sound : IsSoundTree parties (tree_of nodes)

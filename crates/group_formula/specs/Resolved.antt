@@ -6,7 +6,7 @@ use Rattle.group_formula.specs.declared.fault.FormulaFault.{FormulaFault}
 use Rattle.group_formula.specs.declared.fault.FormulaFault.TheVariants.{Syntax, UnknownName, BadCount, TooDeep, TooManyNodes, Memory}
 use Rattle.group_formula.specs.Formulas.{Reading, bad_name, bad_count}
 
--- the number, if it is at least 1 and at most so many
+-- the number, if it is at least 1 and at most `parts`
 abbrev pub good_count : ℕ → ℕ → Option ℕ
 good_count number parts = if nat_le 1 number && nat_le number parts then Some number else None
 

@@ -2,7 +2,7 @@
 use Rattle.std.specs.Prelude.{ℕ, ◌+◌, ◌≤◌, ◌<◌, nat_le, Bool, not, ◌&&◌, ◌||◌, if◌then◌else◌}
 use Rattle.party_set.specs.Parties.{has_party}
 
--- a formula: a party, both of two formulas, either of them, or at least so many of some
+-- a formula: a party, both of two formulas, either of them, or at least as many of some as a number says
 mutual
   pub data Tree : Type 0 where
     leaf : ℕ → Tree
@@ -43,7 +43,7 @@ abbrev mutual
   AreSound n (one_tree t) = IsSoundTree n t
   AreSound n (more_trees ts t) = AreSound n ts × IsSoundTree n t
 
--- a formula over so many parties
+-- a formula over `parties` parties
 pub record Meaning : Type 0 where
   pub parties : ℕ
   pub tree : Tree

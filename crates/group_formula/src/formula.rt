@@ -7,7 +7,7 @@ ghost use Rattle.group_formula.specs.Postfix.{tree_of, WritesFormula};
 use crate::node::Node;
 use crate::values::evaluate;
 use maximal_groups::Family;
-use party_set::Group;
+use party_set::{Group, MOST_PARTIES};
 use std::marker::Model;
 
 /// A monotone formula over 1 to 12 parties, which tells what groups are qualified. Contracts see the number of
@@ -45,7 +45,7 @@ impl Formula {
     pub fn parties(&self) -> u32
         ensures is { result ≡ self.now.parties }
         ensures some { 1 ≤ result }
-        ensures few { result ≤ 12 }
+        ensures few { result ≤ MOST_PARTIES }
     {
         self.parties
     }

@@ -10,6 +10,7 @@
 
 mod fault;
 mod formula;
+mod limits;
 mod node;
 mod parse;
 mod parser;
@@ -20,4 +21,5 @@ mod values;
 
 pub use fault::FormulaFault;
 pub use formula::{Formula, all_parties_are_qualified};
+pub use limits::{MOST_NODES, MOST_OPEN};
 pub use read::{each_text_has_one_answer, read_formula};

@@ -7,6 +7,6 @@ pub enum Node {
     Name(usize),
     And,
     Or,
-    /// At least so many of the last parts, of which there are so many.
-    AtLeast(usize, usize),
+    /// At least `number` of the last `parts` parts.
+    AtLeast { number: usize, parts: usize },
 }

@@ -1,21 +1,14 @@
 //! The first pass over a text.
-ghost use Rattle.std.specs.Prelude.{◌≡◌, MatchResult, ◌≤◌, length};
-ghost use Rattle.group_formula.specs.Grammar.{Expr, shape};
-ghost use Rattle.group_formula.specs.Faults.{Parses, IsFirstFault};
+ghost use Rattle.std.specs.Prelude.{◌≡◌, MatchResult, ◌≤◌};
 ghost use Rattle.group_formula.specs.Parsed.{IsParsed, StopsParsing};
 
 use crate::fault::FormulaFault;
+use crate::limits::{MOST_NODES, MOST_OPEN};
 use crate::node::Node;
 use crate::parser::Parser;
 use crate::token::Token;
 use run_tokens::next_token;
 use std::alloc::Global;
-
-/// How many parentheses may be open.
-const MOST_OPEN: usize = 32;
-
-/// How many nodes a formula may have.
-const MOST_NODES: usize = 256;
 
 /// The nodes of the formula in postfix order, its names and numbers told by their places, or the fault of the first
 /// token that has one.

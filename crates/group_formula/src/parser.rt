@@ -25,8 +25,8 @@ pub enum Mode {
 #[derive(Clone, Copy)]
 pub enum Bracket {
     Group,
-    /// The list after the number at this place, of which so many parts were read.
-    List(usize, usize),
+    /// The list after the number at this place, of which `parts` parts stand before the one that is read.
+    List { at: usize, parts: usize },
 }
 
 /// An open parenthesis, and whether the left side of a `|` and of an `&` wait before it.
@@ -162,8 +162,11 @@ impl Parser {
         match self.frames.pop() {
             None => Ok(false),
             Some(frame) => {
-                if let Bracket::List(at, parts) = frame.bracket {
-                    self.out.push(Node::AtLeast(at, parts + 1))?;
+                if let Bracket::List { at, parts } = frame.bracket {
+                    self.out.push(Node::AtLeast {
+                        number: at,
+                        parts: parts + 1,
+                    })?;
                 }
                 self.or_waits = frame.or_waits;
                 self.and_waits = frame.and_waits;
@@ -182,9 +185,12 @@ impl Parser {
             None => Ok(false),
             Some(frame) => match frame.bracket {
                 Bracket::Group => Ok(false),
-                Bracket::List(at, parts) => {
+                Bracket::List { at, parts } => {
                     self.frames.push(Frame {
-                        bracket: Bracket::List(at, parts + 1),
+                        bracket: Bracket::List {
+                            at,
+                            parts: parts + 1,
+                        },
                         or_waits: frame.or_waits,
                         and_waits: frame.and_waits,
                     })?;
@@ -220,7 +226,7 @@ impl Parser {
                 _ => Ok(false),
             },
             Mode::WantOpen(at) => match token {
-                Token::Open => self.open(Bracket::List(at, 0)),
+                Token::Open => self.open(Bracket::List { at, parts: 0 }),
                 _ => Ok(false),
             },
             Mode::Have => match token {

@@ -1,5 +1,5 @@
 //! The second pass: what the names and the numbers mean.
-ghost use Rattle.std.specs.Prelude.{◌≡◌, ℕ, ◌≤◌, ◌+◌, ◌*◌, ◌^◌, ◌&&◌, nat_le, nat_lt, length, map, MatchOption, MatchResult, Option, Some, None, if◌then◌else◌};
+ghost use Rattle.std.specs.Prelude.{◌≡◌, ◌≤◌, ◌+◌, ◌*◌, ◌^◌, ◌&&◌, nat_lt, map, MatchResult, Option, Some, None, if◌then◌else◌};
 ghost use Rattle.group_formula.specs.Formulas.{number_in_text, reading, IsFormula, IsSecondFault};
 ghost use Rattle.group_formula.specs.Resolved.{good_count, meaning, earlier, least, resolved_node};
 ghost use Rattle.group_formula.specs.Parsed.{IsParsed};
@@ -55,8 +55,11 @@ fn resolve_node(text: &[u8], names: &Names, node: Node) -> Result<Node, FormulaF
             Some(party) => Ok(Node::Name(party)),
             None => Err(FormulaFault::UnknownName { at: at as u64 }),
         },
-        Node::AtLeast(at, parts) => match count_at(text, at, parts) {
-            Some(count) => Ok(Node::AtLeast(count, parts)),
+        Node::AtLeast { number: at, parts } => match count_at(text, at, parts) {
+            Some(count) => Ok(Node::AtLeast {
+                number: count,
+                parts,
+            }),
             None => Err(FormulaFault::BadCount { at: at as u64 }),
         },
         Node::And => Ok(Node::And),

@@ -5,15 +5,16 @@ ghost use Rattle.group_formula.specs.Trees.{Tree, value};
 ghost use Rattle.group_formula.specs.Postfix.{postfix};
 ghost use Rattle.group_formula.specs.Values.{after_value, how_many, top};
 
+use crate::limits::MOST_NODES;
 use crate::node::Node;
 use arrayvec::ArrayVec;
-use party_set::Group;
+use party_set::{Group, has_party};
 use std::marker::Model;
 
 /// The values of at most 256 formulas, the last one first.
 #[derive(Drop)]
 struct Values {
-    bits: ArrayVec<bool, 256>,
+    bits: ArrayVec<bool, MOST_NODES>,
 }
 
 impl Model for Values {
@@ -34,7 +35,7 @@ impl Values {
     }
 
     fn push(&mut self, value: bool)
-        requires { length self.old < 256 }
+        requires { length self.old < MOST_NODES }
         ensures { self.new ≡ value ∷ self.old }
     {
         self.bits.push(value);
@@ -48,7 +49,7 @@ impl Values {
         self.bits.pop().unwrap_or(false)
     }
 
-    /// Takes off the last values, so many, and tells how many of them are true.
+    /// Takes off the last `count` values, and tells how many of them are true.
     fn pop_many(&mut self, count: usize) -> usize
         ensures is { result ≡ how_many (take count self.old) }
         ensures rest { self.new ≡ drop count self.old }
@@ -66,7 +67,7 @@ impl Values {
 
     /// What a node makes of the values before it.
     fn take_node(&mut self, mask: u32, node: Node)
-        requires { length self.old < 256 }
+        requires { length self.old < MOST_NODES }
         ensures is { self.new ≡ after_value (has_party mask) node self.old }
         ensures long { length self.new ≤ length self.old + 1 }
     {
@@ -82,7 +83,7 @@ impl Values {
                 let first = self.pop();
                 first || second
             }
-            Node::AtLeast(count, parts) => count <= self.pop_many(parts),
+            Node::AtLeast { number, parts } => number <= self.pop_many(parts),
         };
         self.push(value);
     }
@@ -96,12 +97,12 @@ fn has(mask: u32, party: usize) -> bool
     if party >= 32 {
         return false;
     }
-    mask >> party & 1 == 1
+    has_party(mask, party as u32)
 }
 
 /// Whether the formula is true where exactly the members of the group are.
 pub fn evaluate(nodes: &[Node], group: Group) -> bool
-    requires { length nodes.now ≤ 256 }
+    requires { length nodes.now ≤ MOST_NODES }
     ensures { (t : Tree) → nodes.now ≡ postfix t → result ≡ value (has_party group.mask) t }
 {
     let mut values = Values::new();

@@ -1,11 +1,11 @@
 //! The group that a text names.
-ghost use Rattle.std.specs.Prelude.{◌≡◌, ◌<◌, ◌≤◌, ◌^◌, length, IfOk};
+ghost use Rattle.std.specs.Prelude.{◌≡◌, ◌<◌, ◌^◌, length, IfOk};
 ghost use Rattle.group_text.specs.GroupTexts.{group_in, group_of, parts_of};
 ghost use Rattle.group_text.specs.Masks.{mask_with};
 
 use crate::fault::GroupFault;
 use crate::parts::Parts;
-use party_set::{Group, Names};
+use party_set::{Group, Names, group_of_mask, has_party, with_party};
 
 /// The group that a text names: the names of its members joined by `+`, in any order, or `0` for the empty group. It
 /// takes no memory.
@@ -40,14 +40,6 @@ fn named_group(text: &str, names: &Names) -> Result<Group, GroupFault>
     Ok(group_of_mask(mask, parties))
 }
 
-fn group_of_mask(mask: u32, parties: u32) -> Group
-    requires parties { (1 ≤ parties) × (parties ≤ 12) }
-    requires mask { mask < 2 ^ parties }
-    ensures { result ≡ record { parties = parties; mask = mask } }
-{
-    Group::of_mask(mask, parties).unwrap_or(Group::empty(parties))
-}
-
 // The mask with the party of this name too; none where no party has the name, or the party is in the mask.
 fn mask_with(mask: u32, name: &str, names: &Names) -> Option<u32>
     requires { mask < 2 ^ length names.now }
@@ -55,8 +47,8 @@ fn mask_with(mask: u32, name: &str, names: &Names) -> Option<u32>
 {
     let _ = names.len();
     let party = names.number(name)?;
-    if mask >> party & 1 == 1 {
+    if has_party(mask, party) {
         return None;
     }
-    Some(mask | 1 << party)
+    Some(with_party(mask, party))
 }

@@ -18,7 +18,7 @@ abbrev pub value_in : List ℕ → ℕ → ℕ
 value_in words place = slice_index words (place + 3)
 
 -- Views.
--- a new seat's, with so many pens
+-- a new seat's, with `pens` pens
 abbrev pub newcomer : ℕ → View
 newcomer pens =
     record {

@@ -66,7 +66,7 @@ impl Inbox {
     ghost use Rattle.inbox_board.specs.Rule.{newcomer, pushes, ends, notes, folds, FitsTogether};
     ghost use Rattle.inbox_board.specs.Seats.{MayWrite, Looks};
 
-    /// An inbox of so many empty places, with the seat that writes and one that reads.
+    /// An inbox of `places` empty places, with the seat that writes and one that reads.
     pub fn make(alloc: Global, places: u32) -> Result<(Inbox, InboxSeat, InboxSeat), AllocError>
         ensures places { IfOk result (λ r. r.0.places ≡ places) }
         ensures seats { IfOk result (λ r. (r.1.id ≡ r.0.id) × (r.2.id ≡ r.0.id)) }

@@ -16,6 +16,8 @@ use Rattle.job_file.specs.declared.fault.JobFault.TheVariants.{NotToml, Version 
 use Rattle.job_file.specs.Names.{field_text, field_kind, top_fields, session_fields, is_file_name, is_host, layout_of}
 use Rattle.job_file.specs.Owners.{is_carry, owner_in}
 use Rattle.job_file.specs.Forms.{JobForm, job_form, is_version_two, adversary_field, prepared_in, integer, text, texts, items, lists, tables}
+use Rattle.job_file.specs.declared.limits.TheConstants.{LAST_PORT, MOST_TOLERATED}
+use Rattle.plan_faults.specs.declared.limits.TheConstants.{MOST_SESSIONS}
 
 -- ---- lists of parties' names
 
@@ -96,7 +98,7 @@ parties_fault fields = option_map (λ fault. Names fault) (names_fault (texts Pa
 -- at most 4,096 tolerated groups, each of different parties
 unfoldable pub groups_fault : List (List ℕ) → List (List (List ℕ)) → Option JobFault
 groups_fault names groups = first_fault
-    ((nat_lt 4096 (length groups) answers TooManyTolerated (length groups))
+    ((nat_lt MOST_TOLERATED (length groups) answers TooManyTolerated (length groups))
     ∷ option_map (λ bad. BadTolerated bad.0 bad.1) (bad_in_lists names 0 groups)
     ∷ [])
 
@@ -107,7 +109,7 @@ adversary_fault fields =
 
 -- 1 to 16 sessions
 unfoldable pub count_fault : ℕ → Option JobFault
-count_fault count = ((count == 0) || nat_lt 16 count) answers SessionCount count
+count_fault count = ((count == 0) || nat_lt MOST_SESSIONS count) answers SessionCount count
 
 -- one host for each party, each well formed
 unfoldable pub hosts_fault : Members → Option JobFault
@@ -119,7 +121,7 @@ hosts_fault fields = first_fault
 
 unfoldable pub port_fault : Members → Option JobFault
 port_fault fields =
-    (is_there Port fields && not (is_within (pos 1) (pos 65392) (integer Port fields))) answers BadPort
+    (is_there Port fields && not (is_within (pos 1) (pos LAST_PORT) (integer Port fields))) answers BadPort
     (integer Port fields)
 
 -- ---- a session

@@ -1,5 +1,5 @@
 -- What a job's file gives, where it has no fault: values are total, with a default where there is none.
-use Rattle.std.specs.Prelude.{ℕ, ◌^◌, ℤ, pos, nat_abs, bit_or, Bool, false, if◌then◌else◌, List, map, fold, Option, Some}
+use Rattle.std.specs.Prelude.{ℕ, ℤ, pos, nat_abs, Bool, false, if◌then◌else◌, List, map, fold, Option, Some}
 use Rattle.std.specs.Option.{unwrap_or}
 use Rattle.std.specs.List.{enumerate_from}
 use Rattle.std.specs.Ordering.{int_eq}
@@ -15,6 +15,7 @@ use Rattle.job_file.specs.declared.owner.JobOwner.{JobOwner}
 use Rattle.job_file.specs.declared.owner.JobOwner.TheVariants.{Party}
 use Rattle.job_file.specs.Names.{field_text, layout_of, are_prepared}
 use Rattle.job_file.specs.Owners.{owner_in}
+use Rattle.party_set.specs.Parties.{with_party}
 
 -- a session: the file of its circuit and what that has, whether its products are prepared, what gives each input value,
 -- and for each output value the mask of the parties that read it
@@ -82,7 +83,7 @@ party_of names name = unwrap_or (party_named names name) 0
 
 -- the mask of these parties: the bit of each is 1
 unfoldable pub mask_of : List (List ℕ) → List (List ℕ) → ℕ
-mask_of names group = fold (λ mask name. bit_or mask (2 ^ party_of names name)) 0 group
+mask_of names group = fold (λ mask name. with_party mask (party_of names name)) 0 group
 
 -- the owner that a text tells in the session of this number, in a file of version 2 or not
 abbrev pub owner_of : Bool → List (List ℕ) → ℕ → List ℕ → JobOwner

@@ -8,6 +8,7 @@ use Rattle.job_file.specs.declared.job.Adversary.{Adversary}
 use Rattle.job_file.specs.declared.job.Adversary.TheVariants.{Formula, Tolerated}
 use Rattle.job_file.specs.Owners.{IsOwner}
 use Rattle.job_file.specs.Forms.{JobForm, SessionForm, AdversaryForm, by_formula, by_list}
+use Rattle.plan_faults.specs.declared.limits.TheConstants.{MOST_SESSIONS}
 
 abbrev pub session_view : JobSession → SessionForm
 session_view session = record {
@@ -32,8 +33,8 @@ job_view job = record {
   sessions = map session_view job.sessions.items;
 }
 
--- the session of this number among so many parties: each owner is one of them or of an earlier session, each reader group
--- has as many
+-- the session of this number among `parties` parties: each owner is one of them or of an earlier session, and each
+-- reader group has as many
 pub record IsSession (parties : ℕ) (number : ℕ) (session : JobSession) : Type 0 where
   pub owners : All (IsOwner parties number) session.owners.items
   pub readers : All (λ (group : Members). group.parties ≡ parties) session.readers.items
@@ -43,7 +44,7 @@ abbrev pub AreSessions : ℕ → List JobSession → Type 0
 AreSessions parties sessions =
     (s : ℕ) (d : JobSession) → s < length sessions → IsSession parties s (slice_index_or sessions s d)
 
--- the listed groups, if any, are of so many parties
+-- the listed groups, if any, are of `parties` parties
 abbrev pub HasParties : ℕ → Adversary → Type 0
 HasParties parties (Formula text) = Unit {0}
 HasParties parties (Tolerated groups) =
@@ -55,5 +56,5 @@ pub record IsJob (job : Job) : Type 0 where
   pub names : AreNames job.names
   pub adversary : HasParties (length job.names) job.adversary
   pub some_sessions : 1 ≤ length job.sessions.items
-  pub few_sessions : length job.sessions.items ≤ 16
+  pub few_sessions : length job.sessions.items ≤ MOST_SESSIONS
   pub sessions : AreSessions (length job.names) job.sessions.items

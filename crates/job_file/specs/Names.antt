@@ -1,5 +1,5 @@
 -- The fields of a job's file, their kinds, and the texts that are taken.
-use Rattle.std.specs.Prelude.{ℕ, nat_lt, ◌==◌, Bool, true, false, not, ◌&&◌, ◌||◌, if◌then◌else◌, List, [], ◌∷◌, length, slice_index, codes, Option, Some, None}
+use Rattle.std.specs.Prelude.{ℕ, nat_lt, nat_le, ◌==◌, Bool, true, false, not, ◌&&◌, ◌||◌, if◌then◌else◌, List, [], ◌∷◌, length, slice_index, codes, Option, Some, None}
 use Rattle.std.specs.Char.{is_ascii_alphanumeric}
 use Rattle.std.specs.List.{list_all}
 use Rattle.std.specs.Str.{bytes_eq}
@@ -9,6 +9,7 @@ use Rattle.job_file.specs.declared.field.Field.{Field}
 use Rattle.job_file.specs.declared.field.Field.TheVariants.{Version, RingBits, Parties, Formula, Tolerated, Hosts, Port, Session, Circuit, Layout, Products, Owners, Readers}
 use Rattle.job_file.specs.declared.layout.SessionLayout.{SessionLayout}
 use Rattle.job_file.specs.declared.layout.SessionLayout.TheVariants.{Gates, Expressions}
+use Rattle.job_file.specs.declared.limits.TheConstants.{LONGEST_FILE_NAME, LONGEST_HOST}
 use Rattle.circuit_model.specs.declared.layout.CircuitLayout.TheVariants.{Bristol, Ring}
 
 -- how the file names a field
@@ -57,7 +58,7 @@ is_file_byte c = is_ascii_alphanumeric c || ((c == 46) || ((c == 95) || (c == 45
 -- 1 to 64 such bytes, of which the first is no `.`
 unfoldable pub is_file_name : List ℕ → Bool
 is_file_name name =
-    (nat_lt 0 (length name) && nat_lt (length name) 65) &&
+    (nat_lt 0 (length name) && nat_le (length name) LONGEST_FILE_NAME) &&
     (not (slice_index name 0 == 46) && list_all is_file_byte name)
 
 -- a letter, a digit, `.`, `-` or `:`
@@ -66,7 +67,7 @@ is_host_byte c = is_ascii_alphanumeric c || ((c == 46) || ((c == 45) || (c == 58
 
 -- 1 to 64 such bytes
 unfoldable pub is_host : List ℕ → Bool
-is_host host = (nat_lt 0 (length host) && nat_lt (length host) 65) && list_all is_host_byte host
+is_host host = (nat_lt 0 (length host) && nat_le (length host) LONGEST_HOST) && list_all is_host_byte host
 
 -- the layout of this name, in a file of version 2 or not
 unfoldable pub layout_of : Bool → List ℕ → Option SessionLayout

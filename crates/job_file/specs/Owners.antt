@@ -7,6 +7,7 @@ use Rattle.text_tokens.specs.Numbers.{is_decimal}
 use Rattle.party_set.specs.Names.{party_named}
 use Rattle.job_file.specs.declared.owner.JobOwner.{JobOwner}
 use Rattle.job_file.specs.declared.owner.JobOwner.TheVariants.{Party, Carried}
+use Rattle.circuit_model.specs.declared.limits.TheConstants.{MOST_VALUES}
 
 -- an owner of this text is to be carried: it begins with `@`, and the file is of version 2
 abbrev pub is_carry : Bool → List ℕ → Bool
@@ -24,7 +25,8 @@ number_below bound text =
 unfoldable pub carry_in : ℕ → List ℕ → Option JobOwner
 carry_in session text =
     option_map (λ carry. Carried carry.0 carry.1)
-    (option_zip (number_below session (before_first is_point text)) (number_below 1024 (after_first is_point text)))
+    (option_zip (number_below session (before_first is_point text))
+    (number_below MOST_VALUES (after_first is_point text)))
 
 -- the owner that a text tells in that session: `@S.V` in a file of version 2, or else a party's name
 unfoldable pub owner_in : Bool → List (List ℕ) → ℕ → List ℕ → Option JobOwner
@@ -32,7 +34,7 @@ owner_in version_two names session text =
     if is_carry version_two text then carry_in session (drop 1 text)
     else option_map (λ party. Party party) (party_named names text)
 
--- an owner in the session of this number, among so many parties: one of them, or such a value of an earlier session
+-- an owner in the session of this number, among `parties` parties: one of them, or such a value of an earlier session
 abbrev pub IsOwner : ℕ → ℕ → JobOwner → Type 0
 IsOwner parties session (Party party) = party < parties
-IsOwner parties session (Carried earlier value) = (earlier < session) × (value < 1024)
+IsOwner parties session (Carried earlier value) = (earlier < session) × (value < MOST_VALUES)

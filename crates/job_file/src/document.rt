@@ -1,5 +1,5 @@
 //! Reading a job's file.
-ghost use Rattle.std.specs.Prelude.{◌≡◌, ◌≢◌, ◌∷◌, [], IfOk, MatchResult, Some, None, Ok, Err, map, length};
+ghost use Rattle.std.specs.Prelude.{◌≡◌, ◌≢◌, ◌∷◌, [], IfOk, MatchResult, Some, None, Ok, Err, length};
 ghost use Rattle.toml.specs.View.{table_view};
 ghost use Rattle.job_file.specs.Answers.{TellsOrMemory};
 ghost use Rattle.job_file.specs.Names.{top_fields};

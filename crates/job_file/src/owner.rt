@@ -2,11 +2,9 @@
 ghost use Rattle.std.specs.Prelude.{◌≡◌, true, false, MatchOption, IfSome, drop, length};
 ghost use Rattle.job_file.specs.Owners.{is_carry, number_below, carry_in, owner_in, IsOwner};
 
+use circuit_model::MOST_VALUES;
 use party_set::Names;
 use text_tokens::{is_decimal, number};
-
-/// An output value that is carried has a number below this.
-const CARRIED_VALUES: u32 = 1024;
 
 /// What gives an input value: a party, or an output value of an earlier session.
 #[derive(Clone, Copy, Debug, PartialEq, Eq)]
@@ -56,7 +54,7 @@ fn carry_in(session: u32, text: &str) -> Option<JobOwner>
 {
     let (earlier, value) = text.split_once('.')?;
     let earlier = number_below(session, earlier)?;
-    let value = number_below(CARRIED_VALUES, value)?;
+    let value = number_below(MOST_VALUES as u32, value)?;
     Some(JobOwner::Carried {
         session: earlier,
         value,

@@ -15,6 +15,7 @@ use crate::owner::{is_carry, owner_in};
 use crate::parties::bad_in_lists;
 use crate::texts::{is_file_name, layout_of};
 use party_set::Names;
+use plan_faults::MOST_SESSIONS;
 use std::alloc::Global;
 use toml::{Table, Value};
 use toml_fields::{fields_of, items_at, text_at, text_of};
@@ -127,7 +128,7 @@ pub fn check_sessions(
     version_two: bool,
     names: &Names,
 ) -> Result<(), JobFault>
-    requires { length sessions.now ≤ 16 }
+    requires { length sessions.now ≤ MOST_SESSIONS }
     ensures { TellsOrMemory result (sessions_fault version_two names.now 0 (map fields_of (map view sessions.now))) }
 {
     let empty = Table::new(alloc);

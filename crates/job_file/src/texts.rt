@@ -4,6 +4,7 @@ ghost use Rattle.std.specs.List.{list_all};
 ghost use Rattle.job_file.specs.Names.{is_file_byte, is_file_name, is_host_byte, is_host, layout_of, are_prepared};
 
 use crate::layout::SessionLayout;
+use crate::limits::{LONGEST_FILE_NAME, LONGEST_HOST};
 use circuit_model::CircuitLayout;
 
 fn is_file_byte(byte: u8) -> bool
@@ -24,7 +25,7 @@ pub fn is_file_name(name: &str) -> bool
     ensures { result ≡ is_file_name name.now }
 {
     let bytes = name.as_bytes();
-    if bytes.is_empty() || bytes.len() > 64 {
+    if bytes.is_empty() || bytes.len() > LONGEST_FILE_NAME {
         return false;
     }
     bytes[0] != b'.' && has_file_bytes(bytes)
@@ -48,7 +49,7 @@ pub fn is_host(host: &str) -> bool
     ensures { result ≡ is_host host.now }
 {
     let bytes = host.as_bytes();
-    if bytes.is_empty() || bytes.len() > 64 {
+    if bytes.is_empty() || bytes.len() > LONGEST_HOST {
         return false;
     }
     has_host_bytes(bytes)

@@ -3,7 +3,7 @@ ghost use Rattle.std.specs.Prelude.{◌≡◌, ◌≢◌, ◌≤◌, ◌==◌, O
 ghost use Rattle.std.specs.Option.{option_map};
 ghost use Rattle.toml.specs.View.{view, table_view};
 ghost use Rattle.toml_fields.specs.Fields.{text_of, texts_of};
-ghost use Rattle.job_file.specs.Answers.{TellsFault, TellsOrMemory};
+ghost use Rattle.job_file.specs.Answers.{TellsFault};
 ghost use Rattle.job_file.specs.Names.{is_host};
 ghost use Rattle.job_file.specs.Forms.{texts};
 ghost use Rattle.list_laws.specs.Checks.{◌answers◌};
@@ -16,15 +16,14 @@ use crate::check::{
 };
 use crate::fault::JobFault;
 use crate::field::Field;
+use crate::limits::{LAST_PORT, MOST_TOLERATED};
 use crate::parties::bad_in_lists;
 use crate::texts::is_host;
 use party_set::{Names, NamesFault, read_names};
+use plan_faults::MOST_SESSIONS;
 use std::alloc::Global;
 use toml::{Table, Value};
 use toml_fields::{integer_at, items_at, text_of, texts_at};
-
-/// How many tolerated groups a file may list.
-const MOST_TOLERATED: usize = 4096;
 
 /// Checks the version: missing, no integer, or neither 1 nor 2.
 #[tactic(auto, unfolding(crate::specs::Faults::version_fault))]
@@ -116,10 +115,10 @@ fn check_tolerated(groups: &[Value], names: &Names) -> Result<(), JobFault>
 pub fn check_count(count: usize) -> Result<(), JobFault>
     ensures told { TellsFault result (count_fault count) }
     ensures some { OnOk result (1 ≤ count) }
-    ensures few { OnOk result (count ≤ 16) }
+    ensures few { OnOk result (count ≤ MOST_SESSIONS) }
 {
     check(
-        count == 0 || count > 16,
+        count == 0 || count > MOST_SESSIONS,
         JobFault::SessionCount {
             count: count as u64,
         },
@@ -171,7 +170,7 @@ pub fn check_port(table: &Table) -> Result<(), JobFault>
 {
     let port = integer_at(table, Field::Port.text());
     check(
-        is_there(table, Field::Port) && (port < 1 || port > 65392),
+        is_there(table, Field::Port) && (port < 1 || port > i64::from(LAST_PORT)),
         JobFault::BadPort { port },
     )
 }

@@ -1,5 +1,5 @@
 //! What a job's file gives, where it has no fault.
-ghost use Rattle.std.specs.Prelude.{◌≡◌, ◌<◌, ◌≤◌, ◌^◌, All, bit_or, IfOk, nat_abs, None, map, length};
+ghost use Rattle.std.specs.Prelude.{◌≡◌, ◌<◌, ◌≤◌, ◌^◌, All, IfOk, nat_abs, None, map, length};
 ghost use Rattle.party_set.specs.Parties.{Members};
 ghost use Rattle.toml.specs.View.{view, table_view};
 ghost use Rattle.toml_fields.specs.Fields.{text_of, texts_of, fields_of};
@@ -19,7 +19,8 @@ use crate::texts::layout_of;
 use circuit_model::CircuitLayout;
 use mpc_ring::Ring;
 use outer_io::Hosts;
-use party_set::{Group, NameText, Names};
+use party_set::{Group, MOST_PARTIES, NameText, Names, with_party};
+use plan_faults::MOST_SESSIONS;
 use std::alloc::{AllocError, Global};
 use toml::{Table, Value};
 use toml_fields::{integer_at, items_at, items_of, text_at, text_of};
@@ -70,13 +71,6 @@ fn mask_of(readers: &[Value], names: &Names) -> u32
         mask = with_party(mask, party_of(names, text_of(reader)));
     }
     mask
-}
-
-fn with_party(mask: u32, party: u32) -> u32
-    requires { party < 12 }
-    ensures { result ≡ bit_or mask (2 ^ party) }
-{
-    mask | 1 << party
 }
 
 fn group_of(readers: &[Value], names: &Names) -> Group
@@ -142,7 +136,7 @@ fn sessions_of(
     version_two: bool,
     names: &Names,
 ) -> Result<Vec<JobSession>, AllocError>
-    requires { length tables.now ≤ 16 }
+    requires { length tables.now ≤ MOST_SESSIONS }
     ensures form { IfOk result (λ sessions. map session_view sessions.items
         ≡ session_forms version_two names.now (map fields_of (map view tables.now))) }
     ensures parties { IfOk result (λ sessions. AreSessions (length names.now) sessions.items) }
@@ -213,7 +207,7 @@ pub fn job_of(alloc: Global, table: &Table, names: Names) -> Result<Job, AllocEr
     requires port { port_fault (table_view table.now) ≡ None }
     requires names { names ≡ texts Parties (table_view table.now) }
     requires some { 1 ≤ length (items Session (table_view table.now)) }
-    requires few { length (items Session (table_view table.now)) ≤ 16 }
+    requires few { length (items Session (table_view table.now)) ≤ MOST_SESSIONS }
     ensures form { IfOk result (λ job. job_view job ≡ job_form (table_view table.now)) }
     ensures facts { IfOk result IsJob }
 {

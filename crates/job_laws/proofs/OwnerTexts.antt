@@ -1,5 +1,5 @@
 -- The texts of owners: each is read back as its owner.
-use Rattle.std.proofs.Common.{◌≡◌, inl, inr, ℕ, ◌+◌, ◌^◌, ◌<◌, ◌≤◌, ◌==◌, nat_lt, Bool, true, false, cond, not, List, [], ◌∷◌, ◌++◌, length, map, drop, None, Some, refl, sym, ap, ap₂, ◌∙◌, append_assoc, arith}
+use Rattle.std.proofs.Common.{◌≡◌, inl, inr, ℕ, ◌+◌, ◌^◌, ◌<◌, ◌≤◌, ◌==◌, nat_lt, nat_le, Bool, true, false, cond, not, List, [], ◌∷◌, ◌++◌, length, map, drop, None, Some, refl, sym, ap, ap₂, ◌∙◌, append_assoc, arith}
 use Rattle.std.specs.Prelude.{decimal, slice_index}
 use Rattle.std.specs.Char.{is_ascii_digit, is_ascii_alphabetic}
 use Rattle.std.specs.List.{list_all, AllByRecursion, position_or_len, before_first, after_first}
@@ -13,6 +13,7 @@ use Rattle.list_laws.specs.Checks.{◌answers◌}
 use Rattle.text_tokens.specs.Numbers.{is_decimal}
 use Rattle.text_tokens.proofs.Values.{digits, all_digits}
 use Rattle.text_tokens.proofs.Decimals.{decimal_is}
+use Rattle.party_set.specs.declared.limits.TheConstants.{LONGEST_NAME}
 use Rattle.party_set.specs.Names.{is_name, name_at, party_named, AreNames}
 use Rattle.job_file.specs.declared.fault.JobFault.{JobFault}
 use Rattle.job_file.specs.declared.fault.JobFault.TheVariants.{BadCarry, BadOwner}
@@ -79,7 +80,7 @@ not_at c e = elim (eqb_tells c 64) [
 letter_first : (name : List ℕ) → is_name name ≡ true → (slice_index name 0 == 64) ≡ false
 letter_first name e =
     let some = and_parts (nat_lt 0 (length name)) _ e in
-    let few = and_parts (nat_lt (length name) 17) _ some.1 in
+    let few = and_parts (nat_le (length name) LONGEST_NAME) _ some.1 in
     not_at (slice_index name 0) (and_parts (is_ascii_alphabetic (slice_index name 0)) _ few.1).0
 
 module _ (names : List (List ℕ)) (are : AreNames names) (number : ℕ) (early : number ≤ 16) where

@@ -18,6 +18,8 @@ use Rattle.job_file.specs.Names.{field_text, is_file_name, is_host}
 use Rattle.job_file.specs.Owners.{IsOwner}
 use Rattle.job_file.specs.Forms.{JobForm, SessionForm, AdversaryForm, by_formula, by_list}
 use Rattle.job_file.specs.Faults.{job_in}
+use Rattle.job_file.specs.declared.limits.TheConstants.{LAST_PORT, MOST_TOLERATED}
+use Rattle.plan_faults.specs.declared.limits.TheConstants.{MOST_SESSIONS}
 
 -- ---- values
 
@@ -127,7 +129,7 @@ abbrev pub HasOwner : AdversaryForm → JobOwner → Type 0
 HasOwner (by_formula text) (Carried session value) = ⊥
 HasOwner _ _ = Unit {0}
 
--- the session of this number among so many parties
+-- the session of this number among n parties
 pub record IsSessionForm (n : ℕ) (adversary : AdversaryForm) (number : ℕ) (s : SessionForm) : Type 0 where
   pub circuit : is_file_name s.circuit ≡ true
   pub layout : HasLayout adversary s.layout
@@ -141,10 +143,10 @@ abbrev pub AreSessionForms : ℕ → AdversaryForm → ℕ → List SessionForm 
 AreSessionForms n adversary number sessions =
     AllByRecursion (λ session. IsSessionForm n adversary session.0 session.1) (enumerate_from number sessions)
 
--- at most 4,096 listed groups, of so many parties
+-- at most 4,096 listed groups, of n parties
 abbrev pub HasGroups : ℕ → AdversaryForm → Type 0
 HasGroups n (by_formula text) = Unit {0}
-HasGroups n (by_list masks) = (length masks ≤ 4096) × AllByRecursion (λ mask. mask < 2 ^ n) masks
+HasGroups n (by_list masks) = (length masks ≤ MOST_TOLERATED) × AllByRecursion (λ mask. mask < 2 ^ n) masks
 
 -- no hosts, or one for each party
 abbrev pub AreHosts : ℕ → List (List ℕ) → Type 0
@@ -162,10 +164,10 @@ pub record IsJobForm (node : Bool) (job : JobForm) : Type 0 where
   pub names : AreNames job.names
   pub groups : HasGroups (length job.names) job.adversary
   pub hosts : AreHosts (length job.names) job.hosts
-  pub port : job.port ≤ 65392
+  pub port : job.port ≤ LAST_PORT
   pub peers : node ≡ true → HasPeers job
   pub some_sessions : 1 ≤ length job.sessions
-  pub few_sessions : length job.sessions ≤ 16
+  pub few_sessions : length job.sessions ≤ MOST_SESSIONS
   pub sessions : AreSessionForms (length job.names) job.adversary 0 job.sessions
 
 -- ---- the laws

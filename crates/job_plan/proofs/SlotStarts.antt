@@ -11,7 +11,7 @@ use Rattle.list_laws.proofs.Totals.{total_more}
 use Rattle.list_laws.proofs.JoinedLists.{length-listed, listed_at, total_within}
 use Rattle.job_plan.specs.Plans.{Plan, slot, slots}
 use Rattle.job_plan.specs.Messages.{messages}
-use Rattle.job_plan.specs.Patterns.{named, lines, pattern_at}
+use Rattle.job_plan.specs.Patterns.{named, transfers, pattern_at}
 use Rattle.job_plan.specs.Firsts.{count, session_count, first, session_starts}
 use Rattle.job_plan.proofs.SlotMessages.{length-messages}
 use Rattle.job_plan.proofs.SlotPatterns.{slots_follow_patterns}
@@ -24,8 +24,8 @@ some_session plan l = elim (cases_eq (length plan.sessions) 0) [
 ]
 
 module _ (plan : Plan) (s : ℕ) where
-  pub pattern_count : (k : ℕ) → length (lines plan (pattern_at plan s k)) ≡ count plan s k
-  pattern_count k = sym (length-map (lines plan (pattern_at plan s k)) (named s k)) ∙ sym (ap length (slots_follow_patterns plan s k (slot plan s k)))
+  pub pattern_count : (k : ℕ) → length (transfers plan (pattern_at plan s k)) ≡ count plan s k
+  pattern_count k = sym (length-map (transfers plan (pattern_at plan s k)) (named s k)) ∙ sym (ap length (slots_follow_patterns plan s k (slot plan s k)))
 
   pub first_next : (k : ℕ) → first plan s (k + 1) ≡ first plan s k + count plan s k
   first_next k = omega (arith, total_more k (count plan s))

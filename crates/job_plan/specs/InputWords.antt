@@ -3,12 +3,16 @@ use Rattle.std.specs.Prelude.{◌≡◌, ℕ, ◌<◌, ◌^◌, List, [], map, l
 use Rattle.std.specs.Global.{Vec}
 use Rattle.job_plan.specs.Plans.{Plan, input_count}
 
--- what party p gives in session s, where inputs stand by party, session and position
-abbrev pub given : List (List (List ℕ)) → ℕ → ℕ → List ℕ
+-- inputs by party, session and position
+abbrev pub InputLists : Type 0
+InputLists = List (List (List ℕ))
+
+-- what party p gives in session s
+abbrev pub given : InputLists → ℕ → ℕ → List ℕ
 given inputs p s = slice_index_or (slice_index_or inputs p []) s []
 
 -- each party gives a word of the ring for each of its input wires
-pub record AreInputs (plan : Plan) (inputs : List (List (List ℕ))) : Type 0 where
+pub record AreInputs (plan : Plan) (inputs : InputLists) : Type 0 where
   pub parties : length inputs ≡ plan.parties
   pub sessions : (p : ℕ) → p < plan.parties → length (slice_index_or inputs p []) ≡ length plan.sessions
   pub counts : (p s : ℕ) → p < plan.parties → s < length plan.sessions
@@ -20,5 +24,5 @@ abbrev pub session_words : List (Vec ℕ) → List (List ℕ)
 session_words sessions = map (λ (words : Vec ℕ). words.items) sessions
 
 -- the words of all parties' vectors
-abbrev pub input_words : List (Vec (Vec ℕ)) → List (List (List ℕ))
+abbrev pub input_words : List (Vec (Vec ℕ)) → InputLists
 input_words inputs = map (λ (sessions : Vec (Vec ℕ)). session_words sessions.items) inputs

@@ -22,6 +22,6 @@ multiply_session = record {
   kept = [];
 }
 
--- in the ring of so many bits
+-- in the ring of `bits` bits
 abbrev pub multiply_plan : ℕ → Plan
 multiply_plan bits = plan_of bits three_parties (multiply_session ∷ [])

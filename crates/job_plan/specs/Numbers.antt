@@ -7,9 +7,10 @@ use Rattle.job_session.specs.Sessions.{Slot}
 use Rattle.job_session.specs.Sessions.Slot.{Mask}
 use Rattle.job_plan.specs.Plans.{Plan, slot, slots, least_holder, least_held, words_in, place, deals_in}
 use Rattle.job_plan.specs.declared.key.Key.{Key}
-use Rattle.job_plan.specs.declared.pattern.LineOrder.{LineOrder}
-use Rattle.job_plan.specs.declared.pattern.LineOrder.TheVariants.{BySender, BySummand, ByReceiver}
+use Rattle.job_plan.specs.declared.pattern.TransferOrder.{TransferOrder}
+use Rattle.job_plan.specs.declared.pattern.TransferOrder.TheVariants.{BySender, BySummand, ByReceiver}
 use Rattle.job_plan.specs.Messages.{messages}
+use Rattle.party_set.specs.declared.limits.TheConstants.{MOST_PARTIES, MOST_GROUPS}
 
 -- two keys name the same message
 abbrev pub same_key : Key → Key → Bool
@@ -31,10 +32,10 @@ number plan key = position_or_len (same_key key) (messages plan)
 
 -- what rises along messages that stand in this order: by sender, summand and receiver, by summand and receiver, or by
 -- receiver and summand
-abbrev pub rank : LineOrder → Key → ℕ
-rank BySender key = (key.sender * 64 + key.share) * 12 + key.receiver
-rank BySummand key = key.share * 12 + key.receiver
-rank ByReceiver key = key.receiver * 64 + key.share
+abbrev pub rank : TransferOrder → Key → ℕ
+rank BySender key = (key.sender * MOST_GROUPS + key.share) * MOST_PARTIES + key.receiver
+rank BySummand key = key.share * MOST_PARTIES + key.receiver
+rank ByReceiver key = key.receiver * MOST_GROUPS + key.share
 
 -- f rises along the keys
 abbrev pub IsRising : (Key → ℕ) → List Key → Type 0

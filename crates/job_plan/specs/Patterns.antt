@@ -4,9 +4,9 @@ use Rattle.list_laws.specs.Lists.{joined, only_if}
 use Rattle.secret_sharing.specs.Schemes.{has_pair}
 use Rattle.party_set.specs.Parties.{has_party}
 use Rattle.job_plan.specs.declared.key.Key.{Key}
-use Rattle.job_plan.specs.declared.pattern.Line.{Line}
-use Rattle.job_plan.specs.declared.pattern.LineOrder.{LineOrder}
-use Rattle.job_plan.specs.declared.pattern.LineOrder.TheVariants.{BySender, BySummand, ByReceiver}
+use Rattle.job_plan.specs.declared.pattern.Transfer.{Transfer}
+use Rattle.job_plan.specs.declared.pattern.TransferOrder.{TransferOrder}
+use Rattle.job_plan.specs.declared.pattern.TransferOrder.TheVariants.{BySender, BySummand, ByReceiver}
 use Rattle.job_plan.specs.declared.pattern.Pattern.{Pattern}
 use Rattle.job_plan.specs.declared.pattern.Pattern.TheVariants.{Silent, Dealt, Multiplied, Opened, HandedOut, OpenedToAll, Joined, Held, Received}
 use Rattle.job_session.specs.declared.source.Source.{Source}
@@ -16,48 +16,55 @@ use Rattle.job_session.specs.Sessions.Slot.{Input, At_gate, Output, Mask, Mask_p
 use Rattle.job_plan.specs.Plans.{Plan, holds, least_holder, scheme, session, slot}
 use Rattle.job_plan.specs.Messages.{slot_messages}
 
--- the message of a line, in slot k of session s
-abbrev pub named : ℕ → ℕ → Line → Key
-named s k line = record { session = s; slot = k; share = line.share; sender = line.sender; receiver = line.receiver }
+-- the message of a transfer, in slot k of session s
+abbrev pub named : ℕ → ℕ → Transfer → Key
+named s k transfer = record {
+  session = s;
+  slot = k;
+  share = transfer.share;
+  sender = transfer.sender;
+  receiver = transfer.receiver;
+}
 
--- ---- the lines of a pattern
+-- ---- the transfers of a pattern
 
 -- summand i of a deal of p, to party q
-abbrev pub deal_line : Plan → ℕ → ℕ → ℕ → List Line
-deal_line plan p i q =
+abbrev pub deal_transfer : Plan → ℕ → ℕ → ℕ → List Transfer
+deal_transfer plan p i q =
     only_if (not (nat_eq q p) && holds plan q i) (record { share = i; sender = p; receiver = q } ∷ [])
 
 -- a deal of p: each summand to each other party that holds it
-abbrev pub deal_lines : Plan → ℕ → List Line
-deal_lines plan p = joined (length plan.groups) (λ i. joined plan.parties (deal_line plan p i))
+abbrev pub deal_transfers : Plan → ℕ → List Transfer
+deal_transfers plan p = joined (length plan.groups) (λ i. joined plan.parties (deal_transfer plan p i))
 
 -- an opening to r: each summand that r lacks, from its least holder
-abbrev pub open_lines : Plan → ℕ → List Line
-open_lines plan r =
+abbrev pub open_transfers : Plan → ℕ → List Transfer
+open_transfers plan r =
     joined (length plan.groups) (λ i. only_if (not (holds plan r i))
     (record { share = i; sender = least_holder plan i; receiver = r } ∷ []))
 
 -- summand i of a kept wire, which party p holds
-abbrev pub held_line : Plan → ℕ → ℕ → List Line
-held_line plan i p = only_if (holds plan p i) (record { share = i; sender = p; receiver = p } ∷ [])
+abbrev pub held_transfer : Plan → ℕ → ℕ → List Transfer
+held_transfer plan i p = only_if (holds plan p i) (record { share = i; sender = p; receiver = p } ∷ [])
 
--- the lines of a pattern, in order: of a product each party that has a pair deals, an output is opened to each reader,
--- the summands of a mask are handed out by their least holders, and those of a kept wire stay with all their holders
-abbrev pub lines : Plan → Pattern → List Line
-lines plan Silent = []
-lines plan (Dealt p) = deal_lines plan p
-lines plan Multiplied = joined plan.parties (λ p. only_if (has_pair (scheme plan) p) (deal_lines plan p))
-lines plan (Opened readers) = joined plan.parties (λ r. only_if (has_party readers r) (open_lines plan r))
-lines plan HandedOut =
-    joined (length plan.groups) (λ i. joined plan.parties (deal_line plan (least_holder plan i) i))
-lines plan OpenedToAll = joined plan.parties (open_lines plan)
-lines plan Joined = []
-lines plan Held = joined (length plan.groups) (λ i. joined plan.parties (held_line plan i))
-lines plan Received = []
+-- the transfers of a pattern, in order: of a product each party that has a pair deals, an output is opened to each
+-- reader, the summands of a mask are handed out by their least holders, and those of a kept wire stay with all their
+-- holders
+abbrev pub transfers : Plan → Pattern → List Transfer
+transfers plan Silent = []
+transfers plan (Dealt p) = deal_transfers plan p
+transfers plan Multiplied = joined plan.parties (λ p. only_if (has_pair (scheme plan) p) (deal_transfers plan p))
+transfers plan (Opened readers) = joined plan.parties (λ r. only_if (has_party readers r) (open_transfers plan r))
+transfers plan HandedOut =
+    joined (length plan.groups) (λ i. joined plan.parties (deal_transfer plan (least_holder plan i) i))
+transfers plan OpenedToAll = joined plan.parties (open_transfers plan)
+transfers plan Joined = []
+transfers plan Held = joined (length plan.groups) (λ i. joined plan.parties (held_transfer plan i))
+transfers plan Received = []
 
--- the order in which the lines of a pattern stand: openings by their receivers, masks and kept wires by their summands, all
--- others by their senders
-abbrev pub order_of : Pattern → LineOrder
+-- the order in which the transfers of a pattern stand: openings by their receivers, masks and kept wires by their
+-- summands, all others by their senders
+abbrev pub order_of : Pattern → TransferOrder
 order_of Silent = BySender
 order_of (Dealt p) = BySender
 order_of Multiplied = BySender
@@ -104,7 +111,7 @@ Occurs plan (Dealt p) = p < plan.parties
 Occurs plan (Opened mask) = IsReadBy plan mask
 Occurs plan _ = Unit {0}
 
--- the messages of a slot are the lines of its pattern, named by the slot
+-- the messages of a slot are the transfers of its pattern, named by the slot
 abbrev pub SlotsFollowPatterns : Plan → Type 0
 SlotsFollowPatterns plan =
-    (s k : ℕ) (z : Slot) → slot_messages plan s k z ≡ map (named s k) (lines plan (pattern plan s z))
+    (s k : ℕ) (z : Slot) → slot_messages plan s k z ≡ map (named s k) (transfers plan (pattern plan s z))

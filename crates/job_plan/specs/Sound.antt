@@ -6,8 +6,10 @@ use Rattle.job_plan.specs.Plans.{Plan, session, words, Q2, CarriesEarlier, Keeps
 use Rattle.job_plan.specs.Keeping.{AllFit}
 use Rattle.job_plan.specs.declared.patterns.Patterns.{Patterns}
 use Rattle.job_plan.specs.Messages.{messages}
-use Rattle.job_plan.specs.Tables.{AreLines}
+use Rattle.job_plan.specs.Tables.{AreTransfers}
 use Rattle.job_plan.specs.Firsts.{starts_of, word_starts_of}
+use Rattle.plan_faults.specs.declared.limits.TheConstants.{MOST_MESSAGES, MOST_WORDS, MOST_SESSIONS}
+use Rattle.party_set.specs.declared.limits.TheConstants.{MOST_PARTIES, MOST_GROUPS}
 
 -- a sharing in which products can be computed, sessions whose carried values fit those before them, and all is within the
 -- limits but for the messages and the tape words; what sessions keep may be other than what later ones carry
@@ -15,11 +17,11 @@ pub record IsOutline (plan : Plan) : Type 0 where
   pub some_bits : 0 < plan.bits
   pub bits : plan.bits ≤ 64
   pub some_parties : 0 < plan.parties
-  pub parties : plan.parties ≤ 12
+  pub parties : plan.parties ≤ MOST_PARTIES
   pub some_groups : 0 < length plan.groups
-  pub groups : length plan.groups ≤ 64
+  pub groups : length plan.groups ≤ MOST_GROUPS
   pub q2 : Q2 plan
-  pub few_sessions : length plan.sessions ≤ 16
+  pub few_sessions : length plan.sessions ≤ MOST_SESSIONS
   pub sessions : (s : ℕ) → s < length plan.sessions → IsSoundSession plan.parties (session plan s)
   pub fit : AllFit plan.sessions
 
@@ -29,22 +31,22 @@ pub record IsSound (plan : Plan) : Type 0 where
   pub some_bits : 0 < plan.bits
   pub bits : plan.bits ≤ 64
   pub some_parties : 0 < plan.parties
-  pub parties : plan.parties ≤ 12
+  pub parties : plan.parties ≤ MOST_PARTIES
   pub some_groups : 0 < length plan.groups
-  pub groups : length plan.groups ≤ 64
+  pub groups : length plan.groups ≤ MOST_GROUPS
   pub q2 : Q2 plan
-  pub few_sessions : length plan.sessions ≤ 16
-  pub few_messages : length (messages plan) ≤ 1048576
-  pub few_words : (p : ℕ) → p < plan.parties → total (length plan.sessions) (words plan p) ≤ 1048576
+  pub few_sessions : length plan.sessions ≤ MOST_SESSIONS
+  pub few_messages : length (messages plan) ≤ MOST_MESSAGES
+  pub few_words : (p : ℕ) → p < plan.parties → total (length plan.sessions) (words plan p) ≤ MOST_WORDS
   pub sessions : (s : ℕ) → s < length plan.sessions → IsSoundSession plan.parties (session plan s)
   pub earlier : CarriesEarlier plan
   pub kept : KeepsCarried plan
 
--- a plan's tables: how many messages there are, the lines of its patterns, where the messages of each slot begin, and
--- each party's words before each session
+-- a plan's tables: how many messages there are, the transfers of its patterns, where the messages of each slot begin,
+-- and each party's words before each session
 pub record IsLaid (plan : Plan) (count : ℕ) (patterns : Patterns) (starts words : List (List ℕ)) : Type 0 where
   pub sound : IsSound plan
   pub counted : count ≡ length (messages plan)
-  pub lines : AreLines plan patterns
+  pub transfers : AreTransfers plan patterns
   pub begin : starts ≡ starts_of plan
   pub drawn : words ≡ word_starts_of plan

@@ -1,5 +1,5 @@
 //! How many messages and tape words a plan has, found without making a list of them.
-ghost use Rattle.std.specs.Prelude.{◌≡◌, ℕ, ◌*◌, ◌^◌, ◌<◌, ◌≤◌, ◌&&◌, nat_eq, not, length};
+ghost use Rattle.std.specs.Prelude.{◌≡◌, ℕ, ◌+◌, ◌-◌, ◌*◌, ◌^◌, ◌<◌, ◌≤◌, ◌&&◌, nat_eq, not, length};
 ghost use Rattle.list_laws.specs.Lists.{total, joined};
 ghost use Rattle.job_plan.specs.Plans.{holds, session, least_held, words};
 ghost use Rattle.job_plan.specs.Keeping.{carried_count, keeping_plan};
@@ -9,6 +9,9 @@ ghost use Rattle.job_session.specs.Counts.{prepared_products};
 ghost use Rattle.job_plan.specs.Tallies.{keeping_messages, openings, party_messages, masks_messages, tape_length};
 
 use crate::outline::Outline;
+use circuit_model::{MOST_GATES, MOST_WIRES};
+use party_set::{MOST_GROUPS, MOST_PARTIES};
+use plan_faults::MOST_SESSIONS;
 
 /// Whether party `p` sends summand `i` of a deal to `q`: another party that holds it.
 pub(crate) fn sends(outline: &Outline, p: u32, q: u32, i: u32) -> bool
@@ -23,7 +26,7 @@ pub(crate) fn sends(outline: &Outline, p: u32, q: u32, i: u32) -> bool
 fn receivers(outline: &Outline, p: u32, i: u32) -> u32
     requires { i < length outline.now.groups }
     ensures is { (s k : ℕ) → result ≡ length (joined outline.now.parties (deal_message outline.now s k p i)) }
-    ensures few { result ≤ 12 }
+    ensures few { result ≤ MOST_PARTIES }
 {
     let mut count = 0;
     for q in 0..outline.parties() {
@@ -35,7 +38,7 @@ fn receivers(outline: &Outline, p: u32, i: u32) -> u32
 // How many messages a deal of p has.
 fn deal_size(outline: &Outline, p: u32) -> u32
     ensures is { (s k : ℕ) → result ≡ length (deal_messages outline.now s k p) }
-    ensures few { result ≤ 768 }
+    ensures few { result ≤ MOST_PARTIES * MOST_GROUPS }
 {
     let mut count = 0;
     for i in 0..outline.shares() {
@@ -48,7 +51,7 @@ fn deal_size(outline: &Outline, p: u32) -> u32
 fn opening_size(outline: &Outline, r: u32) -> u32
     requires { r < outline.now.parties }
     ensures is { (s k : ℕ) → result ≡ length (open_messages outline.now s k r) }
-    ensures few { result ≤ 64 }
+    ensures few { result ≤ MOST_GROUPS }
 {
     let mut count = 0;
     for i in 0..outline.shares() {
@@ -60,7 +63,7 @@ fn opening_size(outline: &Outline, r: u32) -> u32
 // How many messages a mask has.
 fn mask_size(outline: &Outline) -> u32
     ensures is { (s k : ℕ) → result ≡ length (mask_messages outline.now s k) }
-    ensures few { result ≤ 768 }
+    ensures few { result ≤ MOST_PARTIES * MOST_GROUPS }
 {
     let mut count = 0;
     for i in 0..outline.shares() {
@@ -73,7 +76,7 @@ fn mask_size(outline: &Outline) -> u32
 fn holders(outline: &Outline, i: u32) -> u32
     requires { i < length outline.now.groups }
     ensures is { (s k : ℕ) → result ≡ length (joined outline.now.parties (kept_message outline.now s k i)) }
-    ensures few { result ≤ 12 }
+    ensures few { result ≤ MOST_PARTIES }
 {
     let mut count = 0;
     for p in 0..outline.parties() {
@@ -85,7 +88,7 @@ fn holders(outline: &Outline, i: u32) -> u32
 // How many messages a kept wire has.
 fn kept_size(outline: &Outline) -> u32
     ensures is { (s k : ℕ) → result ≡ length (kept_messages outline.now s k) }
-    ensures few { result ≤ 768 }
+    ensures few { result ≤ MOST_PARTIES * MOST_GROUPS }
 {
     let mut count = 0;
     for i in 0..outline.shares() {
@@ -111,7 +114,7 @@ pub(crate) fn least_held(outline: &Outline, p: u32, end: u32) -> u32
 pub(crate) fn prepared_products(outline: &Outline, s: u32) -> u32
     requires { s < length outline.now.sessions }
     ensures is { result ≡ prepared_products (session outline.now s) }
-    ensures few { result ≤ 65536 }
+    ensures few { result ≤ MOST_GATES }
 {
     if outline.prepared(s) {
         outline.part(s).products() as u32
@@ -125,7 +128,7 @@ pub(crate) fn deal_count(outline: &Outline, p: u32, s: u32) -> u32
     requires party { p < outline.now.parties }
     requires session { s < length outline.now.sessions }
     ensures is { result ≡ deals outline.now p s }
-    ensures few { result ≤ 196608 }
+    ensures few { result ≤ MOST_WIRES + MOST_GATES }
 {
     let part = outline.part(s);
     let products = if outline.multiplies(p) {
@@ -141,7 +144,7 @@ pub(crate) fn session_words(outline: &Outline, p: u32, s: u32) -> u32
     requires party { p < outline.now.parties }
     requires session { s < length outline.now.sessions }
     ensures is { result ≡ words outline.now p s }
-    ensures few { result ≤ 20774912 }
+    ensures few { result ≤ (MOST_GROUPS - 1) * (MOST_WIRES + MOST_GATES) + MOST_GROUPS * (2 * MOST_GATES) }
 {
     let for_deals = (outline.shares() - 1) * deal_count(outline, p, s);
     let held = least_held(outline, p, outline.shares());
@@ -152,7 +155,7 @@ pub(crate) fn session_words(outline: &Outline, p: u32, s: u32) -> u32
 fn all_deals(outline: &Outline, p: u32) -> u64
     requires { p < outline.now.parties }
     ensures is { result ≡ total (length outline.now.sessions) (deals outline.now p) }
-    ensures few { result ≤ 3145728 }
+    ensures few { result ≤ MOST_SESSIONS * (MOST_WIRES + MOST_GATES) }
 {
     let mut count = 0;
     for s in 0..outline.sessions() {
@@ -166,7 +169,7 @@ fn opening_count(outline: &Outline, r: u32, s: u32) -> u32
     requires party { r < outline.now.parties }
     requires session { s < length outline.now.sessions }
     ensures is { result ≡ openings outline.now r s }
-    ensures few { result ≤ 262144 }
+    ensures few { result ≤ MOST_WIRES + 2 * MOST_GATES }
 {
     let _parties = outline.parties();
     outline.part(s).outputs_read(r) as u32 + 2 * prepared_products(outline, s)
@@ -176,7 +179,7 @@ fn opening_count(outline: &Outline, r: u32, s: u32) -> u32
 fn all_openings(outline: &Outline, r: u32) -> u64
     requires { r < outline.now.parties }
     ensures is { result ≡ total (length outline.now.sessions) (openings outline.now r) }
-    ensures few { result ≤ 4194304 }
+    ensures few { result ≤ MOST_SESSIONS * (MOST_WIRES + 2 * MOST_GATES) }
 {
     let mut count = 0;
     for s in 0..outline.sessions() {
@@ -189,7 +192,7 @@ fn all_openings(outline: &Outline, r: u32) -> u64
 fn all_masks(outline: &Outline) -> u64
     ensures is { result ≡ total (length outline.now.sessions)
         (λ s. 2 * prepared_products (session outline.now s)) }
-    ensures few { result ≤ 2097152 }
+    ensures few { result ≤ MOST_SESSIONS * (2 * MOST_GATES) }
 {
     let mut count = 0;
     for s in 0..outline.sessions() {
@@ -202,7 +205,7 @@ fn all_masks(outline: &Outline) -> u64
 fn carried_count(outline: &Outline, s: u32) -> u32
     requires { s < length outline.now.sessions }
     ensures is { result ≡ carried_count (session outline.now s) }
-    ensures few { result ≤ 131072 }
+    ensures few { result ≤ MOST_WIRES }
 {
     let part = outline.part(s);
     let mut count = 0;
@@ -215,7 +218,7 @@ fn carried_count(outline: &Outline, s: u32) -> u32
 // How many input wires all sessions carry.
 fn all_carried(outline: &Outline) -> u64
     ensures is { result ≡ total (length outline.now.sessions) (λ s. carried_count (session outline.now s)) }
-    ensures few { result ≤ 2097152 }
+    ensures few { result ≤ MOST_SESSIONS * MOST_WIRES }
 {
     let mut count = 0;
     for s in 0..outline.sessions() {

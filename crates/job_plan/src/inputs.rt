@@ -12,10 +12,9 @@ pub struct Inputs {
 }
 
 impl Model for Inputs {
-    ghost use Rattle.std.specs.Prelude.{List, ℕ};
-    ghost use Rattle.job_plan.specs.InputWords.{input_words};
+    ghost use Rattle.job_plan.specs.InputWords.{InputLists, input_words};
 
-    ghost Value = { List (List (List ℕ)) };
+    ghost Value = { InputLists };
 
     ghost view = { λ i. input_words i.words.items };
 }

@@ -1,5 +1,5 @@
 //! What sessions keep for later ones.
-ghost use Rattle.std.specs.Prelude.{◌≡◌, ℕ, ◌<◌, ◌≤◌, ◌++◌, All, IfOk, OnOk, [], length, map, slice_index_or};
+ghost use Rattle.std.specs.Prelude.{◌≡◌, ℕ, ◌<◌, ◌≤◌, ◌++◌, All, IfOk, OnOk, [], length, map};
 ghost use Rattle.std.specs.Global.{Vec};
 ghost use Rattle.list_laws.specs.Lists.{joined, listed};
 ghost use Rattle.job_session.specs.declared.values.KeptWire.{KeptWire};
@@ -9,6 +9,7 @@ ghost use Rattle.job_session.specs.SoundSessions.{IsSoundSession, IsWired};
 ghost use Rattle.job_plan.specs.Keeping.{AllFit, first_outputs, keeping};
 
 use job_session::{KeptWire, SessionPart, Source};
+use plan_faults::MOST_SESSIONS;
 use std::alloc::{AllocError, Global};
 
 /// The same sessions, each of which keeps what those behind it carry from it, in the place of what it kept.
@@ -16,7 +17,7 @@ pub(crate) fn keep_carried(
     alloc: Global,
     parts: Vec<SessionPart>,
 ) -> Result<Vec<SessionPart>, AllocError>
-    requires few { length parts.items ≤ 16 }
+    requires few { length parts.items ≤ MOST_SESSIONS }
     requires wired { All IsWired parts.items }
     requires fit { AllFit parts.items }
     ensures made { IfOk result (λ made. made.items ≡ keeping parts.items) }
@@ -33,7 +34,7 @@ pub(crate) fn keep_carried(
 
 // What the sessions carry from each of them.
 fn carried_wires(alloc: Global, parts: &[SessionPart]) -> Result<Vec<Vec<KeptWire>>, AllocError>
-    requires few { length parts.now ≤ 16 }
+    requires few { length parts.now ≤ MOST_SESSIONS }
     requires wired { All IsWired parts.now }
     requires fit { AllFit parts.now }
     ensures { IfOk result (λ kept. map (λ (wires : Vec KeptWire). wires.items) kept.items
@@ -48,7 +49,7 @@ fn carried_wires(alloc: Global, parts: &[SessionPart]) -> Result<Vec<Vec<KeptWir
 
 // What the sessions carry from session r, which those behind it may.
 fn carried_from(alloc: Global, parts: &[SessionPart], r: u32) -> Result<Vec<KeptWire>, AllocError>
-    requires few { length parts.now ≤ 16 }
+    requires few { length parts.now ≤ MOST_SESSIONS }
     requires wired { All IsWired parts.now }
     requires fit { AllFit parts.now }
     requires session { r < length parts.now }

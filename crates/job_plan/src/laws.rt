@@ -23,7 +23,7 @@ pub fn deals_have_slots()
     ensures { (plan : Plan) (p : ℕ) → DealsHaveSlots plan p }
 {}
 
-/// The messages of a slot are the lines of its pattern, named by the slot.
+/// The messages of a slot are the transfers of its pattern, named by the slot.
 pub fn slots_follow_patterns()
     ensures { (plan : Plan) → SlotsFollowPatterns plan }
 {}

@@ -6,15 +6,15 @@ mod inputs;
 mod keeping;
 mod key;
 mod laws;
-mod lines;
 mod lists;
 mod outline;
 mod pattern;
-mod pattern_lines;
+mod pattern_transfers;
 mod patterns;
 mod plan;
 mod ranks;
 mod starts;
+mod transfers;
 
 pub use inputs::Inputs;
 pub use job_session::{
@@ -22,6 +22,6 @@ pub use job_session::{
 };
 pub use key::Key;
 pub use laws::{deals_have_slots, numbers_are_inverse, places_are_apart, slots_follow_patterns};
-pub use pattern::{Line, Pattern};
+pub use pattern::{Pattern, Transfer};
 pub use plan::Plan;
-pub use plan_faults::{PartFault, PlanFault};
+pub use plan_faults::{MOST_MESSAGES, MOST_SESSIONS, MOST_WORDS, PartFault, PlanFault};

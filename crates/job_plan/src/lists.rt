@@ -3,15 +3,16 @@ ghost use Rattle.std.specs.Prelude.{◌≡◌, ◌<◌, ◌≤◌, IfOk, length}
 ghost use Rattle.job_plan.specs.Messages.{messages};
 ghost use Rattle.job_plan.specs.Firsts.{first, session_starts, starts_of};
 ghost use Rattle.job_plan.specs.Firsts.{word_starts, word_starts_of};
-ghost use Rattle.job_plan.specs.Tables.{AreLines};
+ghost use Rattle.job_plan.specs.Tables.{AreTransfers};
 
 use crate::counts::session_words;
 use crate::outline::Outline;
 use crate::patterns::Patterns;
 use crate::starts::Starts;
+use plan_faults::MOST_MESSAGES;
 use std::alloc::{AllocError, Global};
 
-// Where the messages of each slot of session s begin, after so many before the session.
+// Where the messages of each slot of session s begin, after the `before` messages of earlier sessions.
 fn list_starts_of(
     alloc: Global,
     outline: &Outline,
@@ -20,8 +21,8 @@ fn list_starts_of(
     before: u32,
 ) -> Result<Starts, AllocError>
     requires session { s < length outline.now.sessions }
-    requires lines { AreLines outline.now patterns.now }
-    requires few { length (messages outline.now) ≤ 1048576 }
+    requires transfers { AreTransfers outline.now patterns.now }
+    requires few { length (messages outline.now) ≤ MOST_MESSAGES }
     requires before { before ≡ first outline.now s 0 }
     ensures { IfOk result (λ made. made ≡ session_starts outline.now s) }
 {
@@ -30,7 +31,7 @@ fn list_starts_of(
     let mut next = before;
     for k in 0..slots {
         starts.push(next)?;
-        next += patterns.lines(outline.pattern(s, k)).len() as u32;
+        next += patterns.transfers(outline.pattern(s, k)).len() as u32;
     }
     starts.push(next)?;
     Ok(Starts::of(starts))
@@ -42,8 +43,8 @@ pub(crate) fn list_starts(
     outline: &Outline,
     patterns: &Patterns,
 ) -> Result<Vec<Starts>, AllocError>
-    requires lines { AreLines outline.now patterns.now }
-    requires few { length (messages outline.now) ≤ 1048576 }
+    requires transfers { AreTransfers outline.now patterns.now }
+    requires few { length (messages outline.now) ≤ MOST_MESSAGES }
     ensures { IfOk result (λ made. made.items ≡ starts_of outline.now) }
 {
     let mut list = Vec::new(alloc);

@@ -6,6 +6,7 @@ use crate::keeping::keep_carried;
 use crate::pattern::Pattern;
 use job_session::{SessionPart, SlotKind, Source};
 use mpc_ring::Ring;
+use plan_faults::MOST_SESSIONS;
 use product_duty::Duty;
 use share_layout::Layout;
 use std::alloc::{AllocError, Global};
@@ -45,7 +46,7 @@ impl Outline {
 
     pub(crate) fn of(ring: Ring, layout: Layout, duty: Duty, parts: Vec<SessionPart>) -> Outline
         requires structure { duty ≡ layout }
-        requires few { length parts.items ≤ 16 }
+        requires few { length parts.items ≤ MOST_SESSIONS }
         requires sound { All (IsSoundSession layout.parties) parts.items }
         requires fit { AllFit parts.items }
         ensures { result ≡ plan_of ring layout parts.items }

@@ -4,17 +4,17 @@ use crate::key::Key;
 
 /// A message as the pattern of its slot has it: a summand, its sender and its receiver. It takes three bytes.
 #[derive(Clone, Copy, Debug, PartialEq, Eq)]
-pub struct Line {
+pub struct Transfer {
     pub share: u8,
     pub sender: u8,
     pub receiver: u8,
 }
 
-impl Line {
+impl Transfer {
     ghost use Rattle.std.specs.Prelude.{◌≡◌};
     ghost use Rattle.job_plan.specs.Patterns.{named};
 
-    /// The message of this line, in slot `slot` of session `session`.
+    /// The message of this transfer, in slot `slot` of session `session`.
     pub fn named(self, session: u32, slot: u32) -> Key
         ensures { result ≡ named session slot self }
     {
@@ -56,7 +56,7 @@ impl Pattern {
     ghost use Rattle.job_plan.specs.Patterns.{order_of};
 
     /// The order in which the messages stand.
-    pub(crate) fn order(self) -> LineOrder
+    pub(crate) fn order(self) -> TransferOrder
         ensures { result ≡ order_of self }
     {
         match self {
@@ -64,16 +64,16 @@ impl Pattern {
             | Pattern::Dealt(_)
             | Pattern::Multiplied
             | Pattern::Joined
-            | Pattern::Received => LineOrder::BySender,
-            Pattern::HandedOut | Pattern::Held => LineOrder::BySummand,
-            Pattern::Opened(_) | Pattern::OpenedToAll => LineOrder::ByReceiver,
+            | Pattern::Received => TransferOrder::BySender,
+            Pattern::HandedOut | Pattern::Held => TransferOrder::BySummand,
+            Pattern::Opened(_) | Pattern::OpenedToAll => TransferOrder::ByReceiver,
         }
     }
 }
 
 /// The order in which the messages of a slot stand.
 #[derive(Clone, Copy, Debug, PartialEq, Eq)]
-pub(crate) enum LineOrder {
+pub(crate) enum TransferOrder {
     /// By sender, then summand, then receiver.
     BySender,
     /// By summand, then receiver.

@@ -3,44 +3,47 @@ ghost use Rattle.std.specs.Prelude.{◌≡◌, ℕ, ◌<◌, IfOk, OnOk, length,
 ghost use Rattle.list_laws.specs.Lists.{listed};
 ghost use Rattle.job_session.specs.Sessions.{readers};
 ghost use Rattle.job_plan.specs.Plans.{session};
-ghost use Rattle.job_plan.specs.Patterns.{deal_lines, IsReadBy};
+ghost use Rattle.job_plan.specs.Patterns.{deal_transfers, IsReadBy};
 ghost use Rattle.job_plan.specs.Tables.{AreOpenings, HasOpening};
 
-use crate::lines::Lines;
 use crate::outline::Outline;
-use crate::pattern::{Line, Pattern};
-use crate::pattern_lines::{
-    dealt_lines, handed_out_lines, held_lines, multiplied_lines, opened_lines, opened_to_all_lines,
+use crate::pattern::{Pattern, Transfer};
+use crate::pattern_transfers::{
+    dealt_transfers, handed_out_transfers, held_transfers, multiplied_transfers,
+    opened_to_all_transfers, opened_transfers,
 };
+use crate::transfers::Transfers;
 use indexmap::IndexMap;
 use std::alloc::{AllocError, Global};
 
-/// The lines of each pattern that the slots of a plan may have: of a product, of a mask, of an opening to all, of a
+/// The transfers of each pattern that the slots of a plan may have: of a product, of a mask, of an opening to all, of a
 /// kept wire, of a deal of each party, and of an opening to each group that reads an output.
 #[derive(Drop)]
 pub(crate) struct Patterns {
-    product: Lines,
-    handed_out: Lines,
-    opened_to_all: Lines,
-    held: Lines,
-    deals: Vec<Lines>,
-    openings: IndexMap<u32, Lines>,
+    product: Transfers,
+    handed_out: Transfers,
+    opened_to_all: Transfers,
+    held: Transfers,
+    // By party.
+    deals: Vec<Transfers>,
+    // By the readers' mask.
+    openings: IndexMap<u32, Transfers>,
 }
 
 impl Patterns {
     ghost use Rattle.std.specs.Prelude.{◌≡◌, IfOk};
     ghost use Rattle.job_plan.specs.Plans.{Plan};
     ghost use Rattle.job_plan.specs.declared.pattern.Pattern.TheVariants.{Opened};
-    ghost use Rattle.job_plan.specs.Patterns.{lines, Occurs};
-    ghost use Rattle.job_plan.specs.Tables.{AreLines};
+    ghost use Rattle.job_plan.specs.Patterns.{transfers, Occurs};
+    ghost use Rattle.job_plan.specs.Tables.{AreTransfers};
 
     pub(crate) fn make(alloc: Global, outline: &Outline) -> Result<Patterns, AllocError>
-        ensures { IfOk result (AreLines outline.now) }
+        ensures { IfOk result (AreTransfers outline.now) }
     {
-        let product = multiplied_lines(alloc, outline)?;
-        let handed_out = handed_out_lines(alloc, outline)?;
-        let opened_to_all = opened_to_all_lines(alloc, outline)?;
-        let held = held_lines(alloc, outline)?;
+        let product = multiplied_transfers(alloc, outline)?;
+        let handed_out = handed_out_transfers(alloc, outline)?;
+        let opened_to_all = opened_to_all_transfers(alloc, outline)?;
+        let held = held_transfers(alloc, outline)?;
         let deals = deals_of_each(alloc, outline)?;
         let openings = openings_of_each(alloc, outline)?;
         Ok(Patterns {
@@ -53,10 +56,11 @@ impl Patterns {
         })
     }
 
-    /// The lines of a pattern of the plan that these are of.
-    pub(crate) fn lines(&self, pattern: Pattern) -> &[Line]
-        requires { (plan : Plan) × AreLines plan self.now × Occurs plan pattern }
-        ensures { (plan : Plan) → AreLines plan self.now → Occurs plan pattern → result.now ≡ lines plan pattern }
+    /// The transfers of a pattern of the plan that these are of.
+    pub(crate) fn transfers(&self, pattern: Pattern) -> &[Transfer]
+        requires { (plan : Plan) × AreTransfers plan self.now × Occurs plan pattern }
+        ensures { (plan : Plan) → AreTransfers plan self.now → Occurs plan pattern
+            → result.now ≡ transfers plan pattern }
     {
         match pattern {
             Pattern::Silent | Pattern::Joined | Pattern::Received => &[],
@@ -69,30 +73,34 @@ impl Patterns {
         }
     }
 
-    // The lines of an opening to these readers, in a function of its own since the others are found without a search.
+    // The transfers of an opening to these readers, in a function of its own since the others are found without a
+    // search.
     #[inline(never)]
-    fn opening(&self, readers: u32) -> &[Line]
-        requires { (plan : Plan) × AreLines plan self.now × Occurs plan (Opened readers) }
-        ensures { (plan : Plan) → AreLines plan self.now → Occurs plan (Opened readers)
-            → result.now ≡ lines plan (Opened readers) }
+    fn opening(&self, readers: u32) -> &[Transfer]
+        requires { (plan : Plan) × AreTransfers plan self.now × Occurs plan (Opened readers) }
+        ensures { (plan : Plan) → AreTransfers plan self.now → Occurs plan (Opened readers)
+            → result.now ≡ transfers plan (Opened readers) }
     {
         self.openings[&readers].as_slice()
     }
 }
 
-// The lines of a deal of each party.
-fn deals_of_each(alloc: Global, outline: &Outline) -> Result<Vec<Lines>, AllocError>
-    ensures { IfOk result (λ made. made.items ≡ listed outline.now.parties (deal_lines outline.now)) }
+// The transfers of a deal of each party.
+fn deals_of_each(alloc: Global, outline: &Outline) -> Result<Vec<Transfers>, AllocError>
+    ensures { IfOk result (λ made. made.items ≡ listed outline.now.parties (deal_transfers outline.now)) }
 {
     let mut list = Vec::new(alloc);
     for p in 0..outline.parties() {
-        list.push(dealt_lines(alloc, outline, p)?)?;
+        list.push(dealt_transfers(alloc, outline, p)?)?;
     }
     Ok(list)
 }
 
-// The lines of an opening to each group that reads an output.
-fn openings_of_each(alloc: Global, outline: &Outline) -> Result<IndexMap<u32, Lines>, AllocError>
+// The transfers of an opening to each group that reads an output.
+fn openings_of_each(
+    alloc: Global,
+    outline: &Outline,
+) -> Result<IndexMap<u32, Transfers>, AllocError>
     ensures { IfOk result (λ made. (mask : ℕ) → IsReadBy outline.now mask → HasOpening outline.now made mask) }
 {
     let mut openings = IndexMap::new(alloc);
@@ -107,7 +115,7 @@ fn add_openings(
     alloc: Global,
     outline: &Outline,
     s: u32,
-    openings: &mut IndexMap<u32, Lines>,
+    openings: &mut IndexMap<u32, Transfers>,
 ) -> Result<(), AllocError>
     requires session { s < length outline.now.sessions }
     requires before { AreOpenings outline.now openings.old }
@@ -129,7 +137,7 @@ fn add_opening(
     alloc: Global,
     outline: &Outline,
     readers: u32,
-    openings: &mut IndexMap<u32, Lines>,
+    openings: &mut IndexMap<u32, Transfers>,
 ) -> Result<(), AllocError>
     requires before { AreOpenings outline.now openings.old }
     ensures openings { OnOk result (AreOpenings outline.now openings.new) }
@@ -138,8 +146,8 @@ fn add_opening(
     ensures added { OnOk result (HasOpening outline.now openings.new readers) }
 {
     if !openings.contains_key(&readers) {
-        let lines = opened_lines(alloc, outline, readers)?;
-        openings.insert(readers, lines)?;
+        let transfers = opened_transfers(alloc, outline, readers)?;
+        openings.insert(readers, transfers)?;
     }
     Ok(())
 }

@@ -10,21 +10,22 @@ use crate::counts::{deal_count, least_held, message_count, prepared_products, wo
 use crate::key::Key;
 use crate::lists::{list_starts, list_words};
 use crate::outline::Outline;
-use crate::pattern::{Line, Pattern};
+use crate::pattern::{Pattern, Transfer};
 use crate::patterns::Patterns;
 use crate::ranks::search;
 use crate::starts::Starts;
 use job_session::{RowTable, SessionPart};
 use mpc_ring::Ring;
-use plan_faults::PlanFault;
+use party_set::MOST_GROUPS;
+use plan_faults::{MOST_MESSAGES, MOST_SESSIONS, MOST_WORDS, PlanFault};
 use product_duty::Duty;
 use share_layout::Layout;
 use std::alloc::{AllocError, Global};
 use std::marker::Model;
 use std::sync::Arc;
 
-/// A ring, a structure of parties and the sessions, with the lines of each pattern that occurs and tables of where each
-/// slot and each session begins. A message and its number are found by a binary search, all else in constant time.
+/// A ring, a structure of parties and the sessions, with the transfers of each pattern that occurs and tables of where
+/// each slot and each session begins. A message and its number are found by a binary search, all else in constant time.
 /// Contracts see a plan of the definitions.
 #[derive(Drop)]
 pub struct Plan {
@@ -55,7 +56,7 @@ impl Plan {
     ghost use Rattle.job_plan.specs.Plans.{words, place, random_place, least_held};
     ghost use Rattle.secret_sharing.specs.Schemes.{has_pair};
     ghost use Rattle.job_plan.specs.Messages.{messages, slot_messages};
-    ghost use Rattle.job_plan.specs.Patterns.{named, lines, pattern_at, Occurs};
+    ghost use Rattle.job_plan.specs.Patterns.{named, transfers, pattern_at, Occurs};
     ghost use Rattle.job_plan.specs.Numbers.{message, number, deals, deals_before, deal_place, deal_slot, is_mask, masks_before, DrawsSummand};
     ghost use Rattle.job_session.specs.SoundSessions.{IsSoundSession};
     ghost use Rattle.job_plan.specs.Keeping.{AllFit, keeping};
@@ -73,7 +74,7 @@ impl Plan {
         parts: Vec<SessionPart>,
     ) -> Result<Plan, PlanFault>
         requires structure { duty ≡ layout }
-        requires few { length parts.items ≤ 16 }
+        requires few { length parts.items ≤ MOST_SESSIONS }
         requires sound { All (IsSoundSession layout.parties) parts.items }
         requires fit { AllFit parts.items }
         ensures made { IfOk result (λ plan. plan ≡ plan_of ring layout (keeping parts.items)) }
@@ -194,12 +195,12 @@ impl Plan {
     pub fn message(&self, n: u32) -> Key
         requires { n < length (messages self.now) }
         ensures is { result ≡ message self.now n }
-        ensures few { result.share < 64 }
+        ensures few { result.share < MOST_GROUPS }
     {
         let s = self.session_of(n);
         let k = self.slot_of(s, n);
-        let line = self.slot_lines(s, k)[(n - self.first(s, k)) as usize];
-        line.named(s, k)
+        let transfer = self.slot_transfers(s, k)[(n - self.first(s, k)) as usize];
+        transfer.named(s, k)
     }
 
     // The session of message n: the last that begins there or before it.
@@ -245,20 +246,20 @@ impl Plan {
         if key.session >= self.sessions() || key.slot >= self.slots(key.session) {
             return None;
         }
-        let lines = self.slot_lines(key.session, key.slot);
+        let transfers = self.slot_transfers(key.session, key.slot);
         let order = self.pattern(key.session, key.slot).order();
-        let at = search(lines, order, key)?;
+        let at = search(transfers, order, key)?;
         Some(self.first(key.session, key.slot) + at as u32)
     }
 
-    // The messages of slot k of session s, as the lines of its pattern.
-    fn slot_lines(&self, s: u32, k: u32) -> &[Line]
+    // The messages of slot k of session s, as the transfers of its pattern.
+    fn slot_transfers(&self, s: u32, k: u32) -> &[Transfer]
         requires session { s < length self.now.sessions }
         requires slot { k < slots self.now s }
         ensures is { map (named s k) result.now ≡ slot_messages self.now s k (slot self.now s k) }
         ensures sound { IsSound self.now }
     {
-        self.patterns.lines(self.pattern(s, k))
+        self.patterns.transfers(self.pattern(s, k))
     }
 
     /// How many slots session `s` has.
@@ -279,12 +280,12 @@ impl Plan {
         self.outline.pattern(s, k)
     }
 
-    /// The lines of a pattern that occurs in the plan.
-    pub fn lines(&self, pattern: Pattern) -> &[Line]
+    /// The transfers of a pattern that occurs in the plan.
+    pub fn transfers(&self, pattern: Pattern) -> &[Transfer]
         requires { Occurs self.now pattern }
-        ensures { result.now ≡ lines self.now pattern }
+        ensures { result.now ≡ transfers self.now pattern }
     {
-        self.patterns.lines(pattern)
+        self.patterns.transfers(pattern)
     }
 
     /// How many deals party `p` makes in session `s`.
@@ -336,7 +337,8 @@ impl Plan {
         requires party { p < self.now.parties }
         requires session { s < length self.now.sessions }
         requires deal { deal ≤ deals self.now p s }
-        ensures { result ≡ least_held self.now p (length self.now.groups) * masks_before self.now s (deal_slot self.now p s deal) }
+        ensures { result
+            ≡ least_held self.now p (length self.now.groups) * masks_before self.now s (deal_slot self.now p s deal) }
     {
         let products = prepared_products(&self.outline, s);
         if products == 0 {
@@ -406,10 +408,7 @@ impl Plan {
     }
 }
 
-// The most messages of a plan, and the most tape words of a party.
-const LIMIT: u64 = 1_048_576;
-
-// The lines of each pattern, and where each slot and each session begins.
+// The transfers of each pattern, and where each slot and each session begins.
 #[derive(Drop)]
 struct Tables {
     patterns: Patterns,
@@ -424,7 +423,7 @@ fn check_limits(outline: &Outline) -> Result<u32, PlanFault>
         (IsPlanRefusal (keeping_plan outline.now)) }
 {
     let count = message_count(outline);
-    if count > LIMIT {
+    if count > MOST_MESSAGES {
         return Err(PlanFault::TooManyMessages { count });
     }
     check_words(outline)?;
@@ -452,13 +451,13 @@ fn tables_of(alloc: Global, outline: &Outline, count: u32) -> Result<Tables, All
 
 // Looks for a party that draws too many tape words. What sessions keep draws none.
 fn check_words(outline: &Outline) -> Result<(), PlanFault>
-    requires { length (messages (keeping_plan outline.now)) ≤ 1048576 }
+    requires { length (messages (keeping_plan outline.now)) ≤ MOST_MESSAGES }
     ensures { MatchResult result
         (λ _. IsPlanWithin (keeping_plan outline.now)) (IsPlanRefusal (keeping_plan outline.now)) }
 {
     for party in 0..outline.parties() {
         let words = word_count(outline, party);
-        if words > LIMIT {
+        if words > MOST_WORDS {
             return Err(PlanFault::TooManyWords {
                 party,
                 count: words,

@@ -4,37 +4,40 @@ ghost use Rattle.job_plan.specs.Numbers.{no_key, rank, IsRising};
 ghost use Rattle.job_plan.specs.Patterns.{named};
 
 use crate::key::Key;
-use crate::pattern::{Line, LineOrder};
+use crate::pattern::{Transfer, TransferOrder};
+use party_set::{MOST_GROUPS, MOST_PARTIES};
 
 // What rises along the messages of a slot that stand in this order.
-fn rank(order: LineOrder, key: Key) -> u64
+fn rank(order: TransferOrder, key: Key) -> u64
     ensures { result ≡ rank order key }
 {
     let share = u64::from(key.share);
     match order {
-        LineOrder::BySender => {
-            (u64::from(key.sender) * 64 + share) * 12 + u64::from(key.receiver)
+        TransferOrder::BySender => {
+            (u64::from(key.sender) * MOST_GROUPS as u64 + share) * MOST_PARTIES as u64
+                + u64::from(key.receiver)
         }
-        LineOrder::BySummand => share * 12 + u64::from(key.receiver),
-        LineOrder::ByReceiver => u64::from(key.receiver) * 64 + share,
+        TransferOrder::BySummand => share * MOST_PARTIES as u64 + u64::from(key.receiver),
+        TransferOrder::ByReceiver => u64::from(key.receiver) * MOST_GROUPS as u64 + share,
     }
 }
 
-/// Where the key stands among these lines of its slot, which stand in this order; None exactly where it isn't there.
-pub(crate) fn search(lines: &[Line], order: LineOrder, key: Key) -> Option<usize>
-    requires { IsRising (rank order) (map (named key.session key.slot) lines.now) }
-    ensures within { IfSome result (λ i. i < length lines.now) }
+/// Where the key stands among these transfers of its slot, which stand in this order; None exactly where it isn't
+/// there.
+pub(crate) fn search(transfers: &[Transfer], order: TransferOrder, key: Key) -> Option<usize>
+    requires { IsRising (rank order) (map (named key.session key.slot) transfers.now) }
+    ensures within { IfSome result (λ i. i < length transfers.now) }
     ensures found { IfSome result (λ i.
-        slice_index_or (map (named key.session key.slot) lines.now) i no_key ≡ key) }
-    ensures absent { IfNone result ((i : ℕ) → i < length lines.now
-        → slice_index_or (map (named key.session key.slot) lines.now) i no_key ≢ key) }
+        slice_index_or (map (named key.session key.slot) transfers.now) i no_key ≡ key) }
+    ensures absent { IfNone result ((i : ℕ) → i < length transfers.now
+        → slice_index_or (map (named key.session key.slot) transfers.now) i no_key ≢ key) }
 {
     let wanted = rank(order, key);
-    match lines.binary_search_by_key(
+    match transfers.binary_search_by_key(
         &wanted,
-        |line| rank(order, line.named(key.session, key.slot)),
+        |transfer| rank(order, transfer.named(key.session, key.slot)),
     ) {
-        Ok(at) if lines[at].named(key.session, key.slot) == key => Some(at),
+        Ok(at) if transfers[at].named(key.session, key.slot) == key => Some(at),
         _ => None,
     }
 }

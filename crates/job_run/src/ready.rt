@@ -9,16 +9,17 @@ use crate::pieces::in_order;
 use desk_workers::{Ready, prepare};
 use job_plan::{Inputs, Plan};
 use party_file::PartyData;
+use plan_faults::MOST_WORKERS;
 use std::alloc::{AllocError, Global};
 
-/// All desks of a job, ready to be run by so many workers, 1 to 16. The parties stand in the order of the plan.
+/// All desks of a job, ready to be run by `workers`, 1 to 16. The parties stand in the order of the plan.
 pub fn prepared(
     alloc: Global,
     plan: &Plan,
     parties: Vec<PartyData>,
     workers: u32,
 ) -> Result<Ready, AllocError>
-    requires workers { (0 < workers) × (workers ≤ 16) }
+    requires workers { (0 < workers) × (workers ≤ MOST_WORKERS) }
     requires count { length parties.items ≡ plan.now.parties }
     requires fit { AllFit plan.now parties.items }
     ensures ready { IfOk result (IsReady (world_of plan.now (map form_of parties.items))) }

@@ -40,7 +40,8 @@ pub record IsKeptAt (sessions : List Session) (r j : ℕ) (kept : KeptWire) : Ty
   pub session : kept.session < length sessions
   pub wire : kept.wire < length (owners (session_at sessions kept.session))
   pub carried : carries r (source (session_at sessions kept.session) kept.wire) ≡ true
-  pub output : kept.output ≡ carried_output (session_at sessions r) (source (session_at sessions kept.session) kept.wire)
+  pub output :
+      kept.output ≡ carried_output (session_at sessions r) (source (session_at sessions kept.session) kept.wire)
   pub place : kept_place sessions kept.session kept.wire ≡ j
 
 -- each carried wire stands at its place among those that its session keeps, each place is one wire's, and no more wires

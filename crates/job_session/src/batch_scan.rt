@@ -30,7 +30,7 @@ impl BatchScan {
     ghost use Rattle.job_session.specs.BatchScans.{AreEarlyReads, IsBatchScan, IsCompleted, IsGateSlot, has_stamp};
     ghost use Rattle.job_session.specs.Wirings.{IsWiring, is_named, session_in};
 
-    // Before the first slot, over so many wires, with room for the ends of so many slots.
+    // Before the first slot, over `wires` wires, with room for the ends of `slots` slots.
     fn start(alloc: Global, wires: usize, slots: usize) -> Result<BatchScan, AllocError>
         ensures { IfOk result (λ scan. (s : Session) → row_names s ≡ wires → IsBatchScan s 0 0 scan) }
     {

@@ -1,7 +1,7 @@
 //! What each slot of a session with prepared products is of.
-ghost use Rattle.std.specs.Prelude.{◌≡◌, ℕ, ◌<◌, ◌++◌, [], ◌∷◌, IfOk, OnOk, map, length, true};
+ghost use Rattle.std.specs.Prelude.{◌≡◌, ◌<◌, ◌++◌, [], ◌∷◌, IfOk, OnOk, map, length};
 ghost use Rattle.list_laws.specs.Lists.{listed};
-ghost use Rattle.job_session.specs.Sessions.{Slot, gate_slots, owners, prepared_slots, readers, slot_list};
+ghost use Rattle.job_session.specs.Sessions.{gate_slots, owners, prepared_slots, readers, slot_list};
 ghost use Rattle.job_session.specs.Sessions.Slot.{Input, Output, Kept};
 ghost use Rattle.job_session.specs.SoundSessions.{slot_of_kind};
 ghost use Rattle.job_session.specs.Wirings.{IsWiring, session_in, prepared_in};

@@ -1,6 +1,6 @@
 //! The wires of a slot of each kind.
 
-use crate::side::Side;
+use crate::side::{Side, operand};
 use crate::slot_kind::SlotKind;
 use crate::touched::{Reads, Touched, completed, read_wires, touched_of};
 use crate::wiring::Wiring;
@@ -8,7 +8,7 @@ use crate::wiring::Wiring;
 impl Wiring {
     ghost use Rattle.std.specs.Prelude.{◌≡◌, ℕ, ◌<◌, nat_eq, length, ◌||◌};
     ghost use Rattle.std.specs.List.{list_any};
-    ghost use Rattle.job_session.specs.Sessions.{gate, is_prepared, mask_wire, operand, product_wire, row_names, session_slot, session_slots};
+    ghost use Rattle.job_session.specs.Sessions.{gate, is_prepared, mask_wire, operand, product_wire, row_names, session_slots};
     ghost use Rattle.job_session.specs.Sessions.Slot.{At_gate};
     ghost use Rattle.job_session.specs.SoundSessions.{slot_of_kind, Inside};
     ghost use Rattle.job_session.specs.KeptWires.{sets_in};
@@ -62,11 +62,7 @@ impl Wiring {
         requires { t < length self.now.gates.items }
         ensures { result ≡ operand (gate (session_in self.now) t) side }
     {
-        let gate = self.gates[t as usize];
-        match side {
-            Side::First => gate.first,
-            Side::Second => gate.second,
-        }
+        operand(self.gates[t as usize], side)
     }
 
     /// The wires that a slot reads before it takes anything.

@@ -7,12 +7,13 @@ use Rattle.outer_io.specs.declared.files.ReadRefusal.{ReadRefusal}
 use Rattle.outer_io.specs.declared.files.ReadRefusal.TheVariants.{Failed, TooLong, Memory}
 use Rattle.outer_io.specs.Files.{FilesReading, Told, Reads, IsContent, IsLonger, IsThere}
 use Rattle.job_walk.specs.Names.{path_of}
-use Rattle.job_walk.specs.JobOf.{file_at, bytes_of, file_limit}
+use Rattle.job_walk.specs.JobOf.{file_at, bytes_of}
 use Rattle.job_walk.specs.Verdict.{accepted, missing, refused}
 use Rattle.job_walk.specs.FilesAsked.{AsksFor, AsksPart, IsLast}
 use Rattle.job_walk.specs.Reads.{KeepsFiles}
 use Rattle.job_walk.proofs.Asks.{part_all}
 use Rattle.refusal_text.specs.Lines.{too_long_line}
+use Rattle.refusal_text.specs.declared.limits.TheConstants.{FILE_LIMIT}
 
 pub read_keeps : (name : List ℕ) (limit : ℕ) (before after : FilesReading) (result : Result (Vec ℕ Global) ReadRefusal) → Reads name limit before after result → KeepsFiles before after
 read_keeps name limit before after result r = record {
@@ -22,21 +23,21 @@ read_keeps name limit before after result r = record {
   keeps_steady = r.keeps_steady;
 }
 
-bytes_of-short : (bytes name : List ℕ) → length bytes ≤ file_limit → bytes_of (Some bytes) name ≡ accepted bytes
+bytes_of-short : (bytes name : List ℕ) → length bytes ≤ FILE_LIMIT → bytes_of (Some bytes) name ≡ accepted bytes
 unfolding bytes_of
 bytes_of-short bytes name h = grind arith
 
-bytes_of-long : (bytes name : List ℕ) → file_limit < length bytes → bytes_of (Some bytes) name ≡ refused 3 (too_long_line name)
+bytes_of-long : (bytes name : List ℕ) → FILE_LIMIT < length bytes → bytes_of (Some bytes) name ≡ refused 3 (too_long_line name)
 unfolding bytes_of
 bytes_of-long bytes name h = grind arith
 
-pub file_ok : (told : Told) (dir : List ℕ) (name : List ℕ) (path bytes : List ℕ) → path ≡ path_of dir name → IsContent told path bytes → length bytes ≤ file_limit
+pub file_ok : (told : Told) (dir : List ℕ) (name : List ℕ) (path bytes : List ℕ) → path ≡ path_of dir name → IsContent told path bytes → length bytes ≤ FILE_LIMIT
     → IfSome told (λ m. accepted bytes ≡ file_at m dir name)
 unfolding file_at
 file_ok None dir name path bytes same is short = tt
 file_ok (Some m) dir name path bytes same is short = sym (ap (λ o. bytes_of o name) (ap m (sym same) ∙ is) ∙ bytes_of-short bytes name short)
 
-pub file_long : (told : Told) (dir : List ℕ) (name : List ℕ) (path : List ℕ) → path ≡ path_of dir name → IsLonger told path file_limit
+pub file_long : (told : Told) (dir : List ℕ) (name : List ℕ) (path : List ℕ) → path ≡ path_of dir name → IsLonger told path FILE_LIMIT
     → IfSome told (λ m. refused 3 (too_long_line name) ≡ file_at m dir name)
 unfolding file_at
 file_long None dir name path same is = tt

@@ -12,10 +12,11 @@ use Rattle.job_digest.specs.Digests.{HasFiles, digest_of}
 use Rattle.job_walk.specs.declared.stop.Stop.{Stop}
 use Rattle.job_walk.specs.Names.{job_file, path_of}
 use Rattle.job_walk.specs.Verdict.{Verdict, accepted, missing, refused}
-use Rattle.job_walk.specs.JobOf.{bytes_of, file_at, file_limit}
+use Rattle.job_walk.specs.JobOf.{bytes_of, file_at}
 use Rattle.job_walk.specs.FileLogs.{bytes_at, all_bytes_at, Logs}
 use Rattle.job_walk.specs.NodeOf.{NodeForm, circuit_files, job_digest}
 use Rattle.refusal_text.specs.Lines.{too_long_line}
+use Rattle.refusal_text.specs.declared.limits.TheConstants.{FILE_LIMIT}
 
 -- ---- one file
 
@@ -36,7 +37,7 @@ limited false bytes held name is = absurd (subst IsAccepted is tt)
 pub content_held : (content : Option (List ℕ)) (bytes name : List ℕ) → accepted bytes ≡ bytes_of content name → content ≡ Some bytes
 unfolding bytes_of
 content_held None bytes name is = absurd (subst IsAccepted is tt)
-content_held (Some there) bytes name is = ap Some (sym (limited (nat_le (length there) file_limit) bytes there name is))
+content_held (Some there) bytes name is = ap Some (sym (limited (nat_le (length there) FILE_LIMIT) bytes there name is))
 
 module _ {L : Type 0} (has : L → List (List ℕ) → Type 0) (dir : List ℕ) where
   -- a file that was read, and that the log was told

@@ -1,6 +1,6 @@
 -- The job that files stand for, where they tell what they hold: one walk, in which each file is judged before the next
 -- is read.
-use Rattle.std.specs.Prelude.{◌≡◌, ℕ, nat_le, Bool, if◌then◌else◌, false, List, [], ◌∷◌, ◌++◌, length, map, Option, None, Some, slice_index}
+use Rattle.std.specs.Prelude.{◌≡◌, ℕ, ◌+◌, nat_le, Bool, if◌then◌else◌, false, List, [], ◌∷◌, ◌++◌, length, map, Option, None, Some, slice_index}
 use Rattle.party_set.specs.Parties.{Structure, Members, IsQ2}
 use Rattle.group_formula.specs.Trees.{Meaning}
 use Rattle.group_formula.specs.Formulas.{IsFormula, IsFault}
@@ -33,6 +33,8 @@ use Rattle.party_file.specs.Table.{PartyForm, party_in}
 use Rattle.refusal_text.specs.Lines.{too_long_line, job_line, group_line, formula_line, groups_line, covering_line, circuit_line, expressions_line, session_line, plan_line, party_line}
 use Rattle.job_walk.specs.Names as file_names
 use Rattle.job_walk.specs.Verdict.{Verdict, accepted, missing, refused, Ends, Then, verdict_of, unless}
+use Rattle.refusal_text.specs.declared.limits.TheConstants.{FILE_LIMIT}
+use Rattle.party_set.specs.declared.limits.TheConstants.{MOST_GROUPS}
 
 -- what files hold: for each path its bytes, or none where no file is there
 abbrev pub Contents : Type 0
@@ -40,15 +42,11 @@ Contents = List ℕ → Option (List ℕ)
 
 -- ---- a file
 
--- the most bytes that a file may have
-abbrev pub file_limit : ℕ
-file_limit = 16777216
-
 -- the bytes of a file, unless it is missing or too long
 unfoldable pub bytes_of : Option (List ℕ) → List ℕ → Verdict (List ℕ)
 bytes_of None name = missing name
 bytes_of (Some bytes) name =
-    if nat_le (length bytes) file_limit then accepted bytes else refused 3 (too_long_line name)
+    if nat_le (length bytes) FILE_LIMIT then accepted bytes else refused 3 (too_long_line name)
 
 unfoldable pub file_at : Contents → List ℕ → List ℕ → Verdict (List ℕ)
 file_at files dir name = bytes_of (files (file_names.path_of dir name)) name
@@ -83,7 +81,7 @@ FormulaOf names text (refused status line) =
 
 -- at most 64 maximal tolerated groups
 unfoldable pub few_groups : Structure → Verdict Structure
-few_groups s = if nat_le (length s.groups) 64 then accepted s else refused 3 (groups_line 65)
+few_groups s = if nat_le (length s.groups) MOST_GROUPS then accepted s else refused 3 (groups_line (MOST_GROUPS + 1))
 
 -- the maximal groups of n parties
 unfoldable pub groups_of : ℕ → (ℕ → Bool) → Verdict Structure
@@ -112,7 +110,7 @@ StructureOf job = Then (GroupsOf job.names job.adversary) (Q2Of job)
 
 -- ---- the sessions
 
--- the groups of so many parties that these masks tell
+-- the groups of `parties` parties that these masks tell
 abbrev pub groups_in : ℕ → List ℕ → List Members
 groups_in parties masks = map (λ mask. record { parties = parties; mask = mask }) masks
 

@@ -8,10 +8,8 @@ ghost use Rattle.job_walk.specs.Reads.{ReadsAs};
 use crate::Stop;
 use crate::stop::refusal;
 use outer_io::{Files, ReadRefusal};
-use refusal_text::too_long_line;
+use refusal_text::{FILE_LIMIT, too_long_line};
 use std::alloc::{AllocError, Global};
-
-const FILE_LIMIT: u64 = 16_777_216;
 
 /// The path of a file of the folder.
 #[tactic(auto, unfolding(crate::specs::Names::path_of))]

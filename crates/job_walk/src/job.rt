@@ -1,5 +1,5 @@
 //! The job's file.
-ghost use Rattle.std.specs.Prelude.{◌≡◌, IfOk, OnOk, [], ◌∷◌};
+ghost use Rattle.std.specs.Prelude.{IfOk, OnOk, [], ◌∷◌};
 ghost use Rattle.job_file.specs.Jobs.{job_view, IsJob};
 ghost use Rattle.job_file.specs.Faults.{job_in};
 ghost use Rattle.refusal_text.specs.Lines.{job_line};

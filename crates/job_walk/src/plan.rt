@@ -25,7 +25,7 @@ use job_file::Job;
 use job_plan::{Plan, SessionPart};
 use outer_io::Files;
 use party_set::{Group, Groups, Names};
-use plan_faults::PlanFault;
+use plan_faults::{MOST_SESSIONS, PlanFault};
 use product_duty::Duty;
 use refusal_text::plan_line;
 use share_layout::Layout;
@@ -119,7 +119,7 @@ pub(crate) fn make_plan(
 ) -> Result<Plan, Stop>
     requires parties { groups.now.parties ≡ length job.now.names }
     requires q2 { IsQ2 groups.now }
-    requires few { length parts.items ≤ 16 }
+    requires few { length parts.items ≤ MOST_SESSIONS }
     requires sound { All (IsSoundSession (length job.now.names)) parts.items }
     requires fit { AllFit parts.items }
     ensures walks { WalksAs (λ plan. plan)

@@ -24,7 +24,7 @@ use job_plan::{Owner, SessionPart};
 use mpc_ring::Ring;
 use outer_io::Files;
 use party_set::Group;
-use plan_faults::PartFault;
+use plan_faults::{MOST_SESSIONS, PartFault};
 use refusal_text::{circuit_line, expressions_line, session_line};
 use std::alloc::{AllocError, Global};
 
@@ -41,7 +41,7 @@ pub(crate) fn read_sessions<F: Files, L: FileLog>(
         (λ contents. SessionsAfter contents dir.now (job_view job.now) []
         (job_view job.now).sessions)
         (F.reading files.old) (F.reading files.new) result }
-    ensures count { IfOk result (λ parts. length parts.items ≤ 16) }
+    ensures count { IfOk result (λ parts. length parts.items ≤ MOST_SESSIONS) }
     ensures sound { IfOk result (λ parts. All (IsSoundSession (length job.now.names)) parts.items) }
     ensures fit { IfOk result (λ parts. AllFit parts.items) }
     ensures log { OnOk result
@@ -66,7 +66,7 @@ fn read_session<F: Files, L: FileLog>(
     session: &JobSession,
 ) -> Result<SessionPart, Stop>
     requires job { IsJob job.now }
-    requires few { length before.now < 16 }
+    requires few { length before.now < MOST_SESSIONS }
     requires session { IsSession (length job.now.names) (length before.now) session.now }
     ensures reads { ReadsAs dir.now (session.now.circuit ∷ []) (λ part. part)
         (λ contents. SessionAt contents dir.now (job_view job.now) before.now (session_view session.now))
@@ -159,7 +159,7 @@ fn part_of(
     job: &Job,
     before: &[SessionPart],
 ) -> Result<SessionPart, Stop>
-    requires few { length before.now < 16 }
+    requires few { length before.now < MOST_SESSIONS }
     requires session { IsSession (length job.now.names) (length before.now) session.now }
     ensures walks { WalksAs (λ part. part)
         (Ends (part_of (session_line (length before.now)) circuit session.now.prepared session.now.owners.items

@@ -7,7 +7,7 @@ use Rattle.frame_code.specs.Frames.{FitsFrame}
 use Rattle.node_talk.specs.Talks.{Node, place_of}
 
 -- the hello of `peer` to party `me`, in a job of this digest, and then a frame for each of these messages, with words
--- of so many bits
+-- of `bits` bits
 pub record TalkModel : Type 0 where
   pub peer : ℕ
   pub me : ℕ

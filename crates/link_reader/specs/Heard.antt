@@ -1,19 +1,17 @@
 -- What is heard of a peer: its hello, a frame, or why there was none.
-use Rattle.std.specs.Prelude.{◌≡◌, ◌≢◌, ℕ, ◌+◌, ◌*◌, ◌<◌, ◌≤◌, ◌^◌, IsTrue, List, length, None, Result, Ok, Err}
+use Rattle.std.specs.Prelude.{◌≡◌, ◌≢◌, ℕ, ◌+◌, ◌<◌, ◌≤◌, ◌^◌, IsTrue, List, length, None, Result, Ok, Err}
 use Rattle.outer_io.specs.Count.{Rose}
 use Rattle.outer_io.specs.Inlet.{InletReading, ahead, IsAtEnd}
-use Rattle.frame_code.specs.Frames.{hello, frame}
+use Rattle.frame_code.specs.Frames.{hello, frame, frame_begin}
 use Rattle.node_talk.specs.declared.fault.NodeFault.{NodeFault}
 use Rattle.node_talk.specs.declared.fault.NodeFault.TheVariants.{Link, Closed, BadFrame, OtherJob, NoThread}
 use Rattle.node_talk.specs.Causes.{IsWordOf}
 use Rattle.link_reader.specs.Expected.{TalkModel, key_at}
+use Rattle.frame_code.specs.declared.sizes.TheConstants.{HELLO_BYTES, FRAME_BYTES}
 
--- the hello that is expected, and where the frame at this place begins
+-- the hello that is expected
 abbrev pub hello_of : TalkModel → List ℕ
 hello_of talk = hello talk.peer talk.me talk.digest
-
-abbrev pub frame_begin : ℕ → ℕ
-frame_begin place = 38 + 18 * place
 
 -- the count of faults never falls, and a steady inlet stays steady and doesn't fail
 pub record StaysSteady (before after : InletReading) : Type 0 where
@@ -31,7 +29,7 @@ pub record Gave (bytes : List ℕ) (before after : InletReading) : Type 0 where
   pub faults : after.faults ≡ before.faults
   pub ended : after.ended ≡ before.ended
 
--- of `wanted` bytes only the first came, and then the end: so many bytes came in all, `at` of them before
+-- of `wanted` bytes only the first came, and then the end: `count` bytes came in all, `at` of them before
 pub record EndedWithin (wanted at count : ℕ) (before after : InletReading) : Type 0 where
   pub front : List ℕ
   pub short : length front < wanted
@@ -42,13 +40,13 @@ pub record EndedWithin (wanted at count : ℕ) (before after : InletReading) : T
 
 -- these bytes came, but they are not the frame at this place with a word of the ring
 pub record GaveNoFrame (talk : TalkModel) (place : ℕ) (bytes : List ℕ) (before after : InletReading) : Type 0 where
-  pub long : length bytes ≡ 18
+  pub long : length bytes ≡ FRAME_BYTES
   pub told : before.told ≡ ahead bytes after.told
   pub no_frame : IsWordOf bytes talk.bits (key_at talk place) None
 
 -- these bytes came, but they are not the hello
 pub record GaveOtherHello (talk : TalkModel) (bytes : List ℕ) (before after : InletReading) : Type 0 where
-  pub long : length bytes ≡ 38
+  pub long : length bytes ≡ HELLO_BYTES
   pub told : before.told ≡ ahead bytes after.told
   pub differ : bytes ≢ hello_of talk
 
@@ -56,7 +54,7 @@ pub record GaveOtherHello (talk : TalkModel) (bytes : List ℕ) (before after : 
 abbrev pub NoFrame : TalkModel → ℕ → InletReading → InletReading → NodeFault → Type 0
 NoFrame talk place before after (Link peer) = (peer ≡ talk.peer) × Rose before.faults after.faults
 NoFrame talk place before after (Closed peer at) =
-    (peer ≡ talk.peer) × EndedWithin 18 (frame_begin place) at before after
+    (peer ≡ talk.peer) × EndedWithin FRAME_BYTES (frame_begin place) at before after
 NoFrame talk place before after (BadFrame peer at bytes) =
     (peer ≡ talk.peer) × (at ≡ frame_begin place) × GaveNoFrame talk place bytes before after
 NoFrame talk place before after (OtherJob peer ours theirs) = ⊥
@@ -65,7 +63,7 @@ NoFrame talk place before after (NoThread peer) = ⊥
 -- why there was no hello
 abbrev pub NoHello : TalkModel → InletReading → InletReading → NodeFault → Type 0
 NoHello talk before after (Link peer) = (peer ≡ talk.peer) × Rose before.faults after.faults
-NoHello talk before after (Closed peer at) = (peer ≡ talk.peer) × EndedWithin 38 0 at before after
+NoHello talk before after (Closed peer at) = (peer ≡ talk.peer) × EndedWithin HELLO_BYTES 0 at before after
 NoHello talk before after (BadFrame peer at bytes) = ⊥
 NoHello talk before after (OtherJob peer ours theirs) =
     (peer ≡ talk.peer) × (ours ≡ hello_of talk) × GaveOtherHello talk theirs before after

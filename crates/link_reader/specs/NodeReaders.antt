@@ -17,7 +17,8 @@ incoming n q = record { peer = q; me = n.me; digest = n.digest; bits = n.world.p
 
 -- these words were read of q, between what the links showed before and what they show after
 abbrev pub ReadsFrom : Node → ℕ → List ℕ → LinksReading → LinksReading → Result (Unit {0}) NodeFault → Type 0
-ReadsFrom n q words before after result = ReadsWords (incoming n q) words (in_from n before q) (in_from n after q) result
+ReadsFrom n q words before after result =
+    ReadsWords (incoming n q) words (in_from n before q) (in_from n after q) result
 
 -- the first messages that are expected of q have these words
 abbrev pub HasFirstWords : Node → ℕ → (Key → ℕ) → ℕ → List ℕ → Type 0

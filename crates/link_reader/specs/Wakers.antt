@@ -7,6 +7,6 @@ pub record WakerModel : Type 0 where
   pub id : TableId
   pub given : ℕ
 
--- after so many more tokens
+-- after `more` tokens more
 abbrev pub gives : WakerModel → ℕ → WakerModel
 gives waker more = record waker { given = waker.given + more }

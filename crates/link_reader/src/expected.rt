@@ -1,5 +1,5 @@
 //! The messages that a party expects of its peers, by its plan.
-ghost use Rattle.std.specs.Prelude.{◌≡◌, ◌<◌, length, IfOk};
+ghost use Rattle.std.specs.Prelude.{◌≡◌, ◌<◌, IfOk};
 ghost use Rattle.job_plan.specs.Messages.{messages};
 ghost use Rattle.node_talk.specs.Talks.{Node, messages_between};
 ghost use Rattle.link_reader.specs.Expected.{HasPlaces};

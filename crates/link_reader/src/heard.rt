@@ -5,7 +5,7 @@ ghost use Rattle.node_talk.specs.Causes.{IsWordOf};
 ghost use Rattle.link_reader.specs.Heard.{Hears, Meets, StaysSteady};
 
 use crate::incoming_talk::IncomingTalk;
-use frame_code::{hello, read_frame};
+use frame_code::{FRAME_BYTES, HELLO_BYTES, hello, read_frame};
 use job_plan::Key;
 use mpc_ring::Ring;
 use node_talk::NodeFault;
@@ -18,7 +18,7 @@ pub fn meet<I: Inlet>(inlet: &mut I, talk: &IncomingTalk) -> Result<(), NodeFaul
 {
     let peer = talk.peer;
     let ours = hello(peer, talk.me, &talk.digest);
-    let mut theirs = [0; 38];
+    let mut theirs = [0; HELLO_BYTES];
     match fill(inlet, &mut theirs) {
         Filled::Full => (),
         Filled::Short(count) => {
@@ -40,8 +40,8 @@ pub fn hear<I: Inlet>(inlet: &mut I, talk: &IncomingTalk, place: usize) -> Resul
     ensures steady { StaysSteady (I.reading inlet.old) (I.reading inlet.new) }
 {
     let peer = talk.peer;
-    let at = 38 + 18 * place as u64;
-    let mut bytes = [0; 18];
+    let at = HELLO_BYTES as u64 + FRAME_BYTES as u64 * place as u64;
+    let mut bytes = [0; FRAME_BYTES];
     match fill(inlet, &mut bytes) {
         Filled::Full => (),
         Filled::Short(count) => {
@@ -57,7 +57,7 @@ pub fn hear<I: Inlet>(inlet: &mut I, talk: &IncomingTalk, place: usize) -> Resul
 }
 
 // The word of a frame of this message, if it is one with a word of the ring.
-fn word_of(bytes: &[u8; 18], ring: Ring, key: Key) -> Option<u64>
+fn word_of(bytes: &[u8; FRAME_BYTES], ring: Ring, key: Key) -> Option<u64>
     requires key { FitsFrame key }
     requires ring { ring ≤ 64 }
     ensures { IsWordOf bytes.now ring key result }

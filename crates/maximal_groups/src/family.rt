@@ -2,7 +2,7 @@
 ghost use Rattle.std.specs.Prelude.{◌≡◌, ◌≤◌, ℕ, Bool};
 ghost use Rattle.maximal_groups.specs.Families.{IsFamily};
 
-use party_set::Group;
+use party_set::{Group, MOST_PARTIES};
 
 /// Tells for each group of 1 to 12 parties whether it is tolerated: whether its members may put together what they
 /// know, and still learn nothing (Hirt and Maurer: an adversary structure). The group of all parties may be tolerated;
@@ -18,7 +18,7 @@ pub trait Family {
     fn parties(&self) -> u32
         ensures is { result ≡ count self.now }
         ensures some { 1 ≤ result }
-        ensures few { result ≤ 12 }
+        ensures few { result ≤ MOST_PARTIES }
         ensures family { IsFamily (count self.now) (is_tolerated self.now) };
 
     /// Whether the group is tolerated.

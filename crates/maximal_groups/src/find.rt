@@ -4,11 +4,8 @@ ghost use Rattle.maximal_groups.specs.Families.{is_maximal, maximal_structure, I
 ghost use Rattle.maximal_groups.specs.Found.{Finds};
 
 use crate::family::Family;
-use party_set::{Group, Groups};
+use party_set::{Group, Groups, MOST_GROUPS, MOST_PARTIES};
 use std::alloc::{AllocError, AllocFailed, Global};
-
-/// How many groups a list has room for.
-const MOST_GROUPS: usize = 64;
 
 /// Why no list of the maximal tolerated groups was given.
 #[derive(Clone, Copy, Debug, PartialEq, Eq)]
@@ -70,7 +67,7 @@ pub fn find_groups<F: Family>(alloc: Global, family: &F) -> Result<Groups, Group
 
 /// A group is tolerated exactly where it lies within a maximal tolerated group.
 pub fn maximal_groups_tell()
-    ensures { (n : ℕ) (tolerated : ℕ → Bool) → n ≤ 12 → IsClosed n tolerated → TellsTolerated n tolerated }
+    ensures { (n : ℕ) (tolerated : ℕ → Bool) → n ≤ MOST_PARTIES → IsClosed n tolerated → TellsTolerated n tolerated }
 {}
 
 /// Where the group of all parties is tolerated, it is the only maximal group.

@@ -1,11 +1,11 @@
 //! Families that are told by a list of groups.
-ghost use Rattle.std.specs.Prelude.{◌≡◌, ◌≤◌, ℕ, Bool, List, true, All, map};
+ghost use Rattle.std.specs.Prelude.{◌≡◌, ◌≤◌, ℕ, Bool, List, All, map};
 ghost use Rattle.std.specs.List.{list_any};
 ghost use Rattle.party_set.specs.Parties.{within, Members};
 ghost use Rattle.maximal_groups.specs.Families.{maximal_structure, listed_structure, IsFamily, IsCoveredBy};
 
 use crate::family::Family;
-use party_set::Group;
+use party_set::{Group, MOST_PARTIES};
 use std::marker::Model;
 
 /// The family of the groups that lie within a group of a list, and of the empty group. Contracts see the list.
@@ -18,6 +18,7 @@ pub struct Listed {
 impl Model for Listed {
     ghost use Rattle.std.specs.Prelude.{◌≡◌, ◌≤◌, All, map};
     ghost use Rattle.party_set.specs.Parties.{Members, Structure};
+    ghost use Rattle.party_set.specs.declared.limits.TheConstants.{MOST_PARTIES};
 
     ghost Value = { Structure };
 
@@ -26,14 +27,14 @@ impl Model for Listed {
       groups = map (λ (m : Members). m.mask) l.groups.items;
     } };
 
-    ghost invariant = { λ l. (1 ≤ l.parties) × (l.parties ≤ 12)
+    ghost invariant = { λ l. (1 ≤ l.parties) × (l.parties ≤ MOST_PARTIES)
         × All (λ (m : Members). m.parties ≡ l.parties) l.groups.items };
 }
 
 impl Listed {
-    /// The family of so many parties that these groups tell. They may stand in any order, and lie within one another.
+    /// The family of `parties` parties that these groups tell. They may stand in any order, and lie within one another.
     pub fn make(parties: u32, groups: Vec<Group>) -> Listed
-        requires parties { (1 ≤ parties) × (parties ≤ 12) }
+        requires parties { (1 ≤ parties) × (parties ≤ MOST_PARTIES) }
         requires groups { All (λ (m : Members). m.parties ≡ parties) groups.items }
         ensures { result ≡ record {
           parties = parties;

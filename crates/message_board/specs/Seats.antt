@@ -61,7 +61,7 @@ module _ {W : Type 0} where
       coded_via (coded× table_id_coded (view_coded c)) (λ (s : Sitting W). (s.id, s.view))
       (λ x y e i. record { id = (e i).0; view = (e i).1 })
 
-  -- the board is about this world, with so many seats and slots
+  -- the board is about this world, with `seats` seats and `slots` slots
   abbrev pub IsBoardOf : W → ℕ → ℕ → BoardModel W → Type 0
   IsBoardOf world seats slots board =
       (board.about ≡ record { world = world; seats = seats }) × (slots_of board.id ≡ slots)
@@ -100,7 +100,7 @@ module _ {W : Type 0} where
   times_by k [] = 0
   times_by k (s ∷ ss) = times k s.view.mine + times_by k ss
 
--- a table for so many cells: the seats' word, value words, full words and turn words
+-- a table for `count` cells: the seats' word, value words, full words and turn words
 pub record IsTableFor (count : ℕ) (id : TableId) : Type 0 where
   pub words : id.words ≡ cell_words count + id.slots + 1
   pub places : id.slots ≡ apart * slots_of id

@@ -85,7 +85,7 @@ impl<W: Promise, T: SlotItem<W>> Board<W, T> {
     ghost use Rattle.message_board.specs.Seats.{TookOut, FoundOut, AreFresh, AreSeatsOf, CanClose};
     ghost use Rattle.message_board.specs.Seats.{AreNewSeats, KnownBy, times_by, HasCells};
 
-    /// A board with so many empty cells and no slots, and its seats.
+    /// A board with `messages` empty cells and no slots, and its seats.
     pub fn make(
         alloc: Global,
         words: W,
@@ -113,7 +113,7 @@ impl<W: Promise, T: SlotItem<W>> Board<W, T> {
         Ok((board, made))
     }
 
-    /// A board with so many empty cells and a slot for each item, and its seats. Out of memory, the items come back.
+    /// A board with `messages` empty cells and a slot for each item, and its seats. Out of memory, the items come back.
     pub fn with_slots(
         alloc: Global,
         words: W,

@@ -2,7 +2,7 @@
 ghost use Rattle.std.specs.Prelude.{◌≡◌};
 ghost use Rattle.message_board.specs.Words.{full_words, full_word, flag, flag_bit};
 
-/// How many full words so many cells have.
+/// How many full words `cells` cells have.
 pub fn full_words_of(cells: u32) -> usize
     ensures { result ≡ full_words cells }
 {

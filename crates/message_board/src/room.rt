@@ -17,7 +17,7 @@ pub struct Room<W, T> {
     pub slots: Vec<Option<T>>,
 }
 
-/// Reserves all that a board of so many cells, seats and slots needs but its table.
+/// Reserves all that a board of `messages` cells, `seats` seats and `slots` slots needs but its table.
 pub fn make_room<W, T: Drop>(
     alloc: Global,
     messages: u32,

@@ -27,10 +27,10 @@ use Rattle.node_talk.specs.Talks.{Node}
 use Rattle.node_talk.specs.Runs.{Results}
 use Rattle.node_run.specs.NodeRuns as node_runs
 use Rattle.std.specs.Global.{Vec}
-use Rattle.node_run.specs.Ready.{Share, given_words, IsNodeOf}
-use Rattle.mpc_top.specs.NodeTalks.{NodeAsked, share_of, lines_of, Talks, HearsAllQuietly}
+use Rattle.node_run.specs.Ready.{NodePart, given_words, IsNodeOf}
+use Rattle.mpc_top.specs.NodeTalks.{NodeAsked, node_part, lines_of, Talks, HearsAllQuietly}
 use Rattle.mpc_top.specs.LinkTalks.{Written, TalkedOver}
-use Rattle.mpc_top.specs.Stops.{RunsWords}
+use Rattle.mpc_top.specs.Outcomes.{RunsWords}
 use Rattle.mpc_top.proofs.Runs.{spawner_kept}
 
 abbrev pub asked_of : NodeJob → Bool → NodeAsked
@@ -117,7 +117,7 @@ module _ (dir name : List ℕ) (view : Bool) (files files' : FilesReading) (job 
 
   module _ {Given : Type 0} (shown : Given → LinksReading) (links : Given) (net mid net' : NetReading) (spawner spawner' : SpawnerReading) (kept : LinksReading)
       (c : Connects shown asked net mid (Ok links)) (quiet : mid.faults ≡ net.faults) (back : net' ≡ record mid { kept = Some kept }) (result : Result Results NodeFault)
-      (someone : (n : Node) × IsNodeOf (share_of form) n) (run : (n : Node) → IsNodeOf (share_of form) n → node_runs.Runs n (shown links) kept spawner spawner' result) (out out' : SinkReading) where
+      (someone : (n : Node) × IsNodeOf (node_part form) n) (run : (n : Node) → IsNodeOf (node_part form) n → node_runs.Runs n (shown links) kept spawner spawner' result) (out out' : SinkReading) where
     abbrev at_start : Outside
     at_start = record { files = files; out = out; err = err; net = net; spawner = spawner }
 
@@ -166,10 +166,10 @@ module _ (dir name : List ℕ) (view : Bool) (files files' : FilesReading) (job 
   pub talk_broke : (fault : NodeFault) → Talks (node_view job) before after (Err fault) → after.out ≡ before.out → RunsWords (Some (node dir name view)) before after (Err (Peer job.names fault))
   talk_broke fault talks out = record { ok = tt; hides = tt; stop = (asked_of job view, (found.ok, (dir, name, refl), found.quiet), refl, talks, out); asks = asks_found; asks_all = tt; keeps = found.keeps; keeps_net = net; keeps_spawner = spawner }
 
--- what is ready is the share of the node that was read
-pub ready_share : (job : NodeJob) (ready : Share) (inputs : List (Vec ℕ)) → ready ≡ record { plan = job.plan; me = job.me; given = given_words inputs job.given.tapes.items; digest = job.digest }
-    → inputs ≡ job.given.inputs.items → ready ≡ share_of (node_view job)
-ready_share job ready inputs is same = is ∙ ap (λ (i : List (Vec ℕ)). record { plan = job.plan; me = job.me; given = given_words i job.given.tapes.items; digest = job.digest }) same
+-- what is ready is the part of the node that was read
+pub ready_part : (job : NodeJob) (ready : NodePart) (inputs : List (Vec ℕ)) → ready ≡ record { plan = job.plan; me = job.me; given = given_words inputs job.given.tapes.items; digest = job.digest }
+    → inputs ≡ job.given.inputs.items → ready ≡ node_part (node_view job)
+ready_part job ready inputs is same = is ∙ ap (λ (i : List (Vec ℕ)). record { plan = job.plan; me = job.me; given = given_words i job.given.tapes.items; digest = job.digest }) same
 
 -- ---- the talk over the links that the net gave
 
@@ -186,8 +186,8 @@ module _ (dir name : List ℕ) (view : Bool) (files files' : FilesReading) (job 
   quiet_net = c.quiet (λ failed. (cc))
 
   of_talk : (kept : LinksReading) (outcome : Result Results NodeFault) (result : Result Unit Stop) → net' ≡ record mid { kept = Some kept }
-      → ((n : Node) × IsNodeOf (share_of (node_view job)) n) → ((n : Node) → IsNodeOf (share_of (node_view job)) n → node_runs.Runs n (shown links) kept spawner spawner' outcome)
-      → Written job.names (share_of (node_view job)) view outcome out out' result → RunsWords (Some (node dir name view)) before_talk after_talk result
+      → ((n : Node) × IsNodeOf (node_part (node_view job)) n) → ((n : Node) → IsNodeOf (node_part (node_view job)) n → node_runs.Runs n (shown links) kept spawner spawner' outcome)
+      → Written job.names job.plan job.me view outcome out out' result → RunsWords (Some (node dir name view)) before_talk after_talk result
   of_talk kept (Ok results) (Ok u) back someone run written =
       talk_done dir name view files files' job read all before_talk after_talk refl refl
       (net_keeps dir name view files files' job read all err err' parties same shown links net mid net' spawner spawner' kept c quiet_net back (Ok results) someone run out out')
@@ -207,8 +207,8 @@ module _ (dir name : List ℕ) (view : Bool) (files files' : FilesReading) (job 
       (spawner_keeps dir name view files files' job read all err err' parties same shown links net mid net' spawner spawner' kept c quiet_net back (Err fault) someone run out out')
       fault (talks dir name view files files' job read all err err' parties same shown links net mid net' spawner spawner' kept c quiet_net back (Err fault) someone run out out') written.1)
 
-  pub talked : (share : Share) → share ≡ share_of (node_view job) → (result : Result Unit Stop) → TalkedOver share job.names view (shown links) mid net' spawner spawner' out out' result
-      → RunsWords (Some (node dir name view)) before_talk after_talk result
-  talked share is result t =
-      let own = subst (λ s. TalkedOver s job.names view (shown links) mid net' spawner spawner' out out' result) is t in
-      of_talk own.kept own.outcome result own.has_back own.someone own.run own.written
+  pub talked : (part : NodePart) → part ≡ node_part (node_view job) → (outcome : Result Results NodeFault) → TalkedOver part (shown links) mid net' spawner spawner' outcome
+      → (result : Result Unit Stop) → Written job.names job.plan job.me view outcome out out' result → RunsWords (Some (node dir name view)) before_talk after_talk result
+  talked part is outcome t result written =
+      let own = subst (λ s. TalkedOver s (shown links) mid net' spawner spawner' outcome) is t in
+      of_talk own.kept outcome result own.has_back own.someone own.run written

@@ -27,7 +27,7 @@ use Rattle.mpc_top.specs.Outside.{Outside, KeepsNet, KeepsSpawner}
 use Rattle.mpc_top.specs.Due.{Due, text, DueOf, told_to, IsDue}
 use Rattle.mpc_top.specs.FilesDue.{asking_of, AsksForAll, AsksInOrder, AsksLast}
 use Rattle.mpc_top.specs.HiddenInputs.{CommandHides}
-use Rattle.mpc_top.specs.Stops.{HasCause, RunsWords, RunsAlone}
+use Rattle.mpc_top.specs.Outcomes.{HasCause, RunsWords, RunsAlone}
 use Rattle.job_walk.specs.FilesAsked.{IsLast, party_files}
 use Rattle.job_walk.proofs.Steps.{keeps_now, reads_stop, reads_on, reads_end}
 use Rattle.mpc_top.proofs.FilesRead.{first_of_all}

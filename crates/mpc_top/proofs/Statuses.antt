@@ -15,7 +15,7 @@ use Rattle.mpc_top.specs.Outside.{Outside}
 use Rattle.mpc_top.specs.Due.{Due, text, talk, IsDue}
 use Rattle.mpc_top.specs.NodeTalks.{lines_of}
 use Rattle.job_walk.specs.Stops.{status_of}
-use Rattle.mpc_top.specs.Stops.{text_of, Fulfils, CutShort, FailsAt, HasCause, RunsWords, Tells}
+use Rattle.mpc_top.specs.Outcomes.{text_of, Fulfils, CutShort, FailsAt, HasCause, RunsWords, Tells}
 use Rattle.mpc_top.specs.Command.{KeepsSink, HasRoom, Lets, IsGiven, Answers}
 use Rattle.mpc_top.proofs.SomeVerdict.{some_due}
 use Rattle.mpc_top.proofs.NodeRuns.{quiet_talk}

@@ -21,7 +21,7 @@ module _ (names : List (List ℕ)) (see : ℕ → List (Key × ℕ)) (text : Lis
     pub is_fault : verdict names see text ≡ Err fault
     pub wrong : (n wanted found : ℕ) → fault ≡ WrongWord n wanted found → IsWrongWord names see text n wanted found
 
-  -- The text is accepted, with a count, where its lines are those of the view of a group and the view has so many
+  -- The text is accepted, with a count, where its lines are those of the view of a group and the view has that many
   -- messages; otherwise it is refused with its first fault.
   abbrev pub Judged : Verdict ℕ → Type 0
   Judged (accepted count) = IsView names see text count

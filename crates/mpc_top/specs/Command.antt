@@ -12,7 +12,7 @@ use Rattle.mpc_top.specs.Due.{Due, text, talk, IsDue}
 use Rattle.mpc_top.specs.NodeTalks.{HearsAllQuietly, LetsTalk}
 use Rattle.mpc_top.specs.FilesDue.{asking_of, AsksForAll, AsksInOrder}
 use Rattle.mpc_top.specs.HiddenInputs.{CommandHides}
-use Rattle.mpc_top.specs.Stops.{Fulfils, HasCause, GaveDue, Tells}
+use Rattle.mpc_top.specs.Outcomes.{Fulfils, HasCause, GaveDue, Tells}
 
 -- ---- the outside of a call
 

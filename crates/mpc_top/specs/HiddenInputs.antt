@@ -5,7 +5,7 @@ use Rattle.command_words.specs.Commands.{CommandForm, run, check, pair, node, sa
 use Rattle.party_set.specs.Parties.{Members}
 use Rattle.maximal_groups.specs.Families.{LiesWithin}
 use Rattle.job_plan.specs.Plans.{structure}
-use Rattle.job_plan.specs.InputWords.{AreInputs}
+use Rattle.job_plan.specs.InputWords.{AreInputs, InputLists}
 use Rattle.share_world.specs.Worlds.{World, view}
 use Rattle.tape_map.specs.TapeMaps.{second_world}
 use Rattle.tape_map.specs.Laws.{Agree, CanHide}
@@ -15,7 +15,7 @@ use Rattle.job_walk.specs.Verdict.{accepted}
 use Rattle.mpc_top.specs.WholeJobs.{WholeJob, PairedJob, second_of, JobAt, PairAt}
 
 -- other inputs of the plan, with which the members of a tolerated group give and read what they did
-pub record AreAlike (w : World) (group : ℕ) (other : List (List (List ℕ))) : Type 0 where
+pub record AreAlike (w : World) (group : ℕ) (other : InputLists) : Type 0 where
   pub inputs : AreInputs w.plan other
   pub tolerated : LiesWithin (structure w.plan) group
   pub agree : Agree w other group
@@ -23,7 +23,7 @@ pub record AreAlike (w : World) (group : ℕ) (other : List (List (List ℕ))) :
 -- ---- the view of one run
 
 -- the outputs of a job, and then what the group sees in the second world of these inputs
-abbrev pub other_text : WholeJob → ℕ → List (List (List ℕ)) → List ℕ
+abbrev pub other_text : WholeJob → ℕ → InputLists → List ℕ
 other_text job group other =
     seen_text job.names job.world group (view (second_world job.world other group) group)
 
@@ -31,7 +31,7 @@ other_text job group other =
 -- in their second world
 abbrev pub Hides : WholeJob → (List ℕ → Type 0) → Type 0
 Hides job Written =
-    IfSome job.group (λ (group : Members). (other : List (List (List ℕ)))
+    IfSome job.group (λ (group : Members). (other : InputLists)
     → AreAlike job.world group.mask other → Written (other_text job group.mask other))
 
 -- ---- the views of a pair

@@ -7,6 +7,6 @@ pub mod Due
 pub mod FilesDue
 pub mod LinkTalks
 pub mod HiddenInputs
-pub mod Stops
+pub mod Outcomes
 pub mod Seen
 pub mod Command

@@ -9,7 +9,7 @@ use Rattle.node_talk.specs.Runs.{Results, HearsAll, NoneRose, IsDone}
 use Rattle.node_talk.specs.Talks.{Node, IsPeer}
 use Rattle.node_run.specs.NodeRuns as node_runs
 use Rattle.node_run.specs.Progress.{talk_bytes}
-use Rattle.node_run.specs.Ready.{Share, IsNodeOf}
+use Rattle.node_run.specs.Ready.{NodePart, IsNodeOf}
 use Rattle.node_text.specs.NodeText.{node_text}
 use Rattle.job_walk.specs.NodeOf.{NodeForm}
 use Rattle.mpc_top.specs.Outside.{Outside}
@@ -20,8 +20,8 @@ pub record NodeAsked : Type 0 where
   pub view : Bool
 
 -- what the party runs with
-abbrev pub share_of : NodeForm → Share
-share_of job = record { plan = job.plan; me = job.me; given = job.given; digest = job.digest }
+abbrev pub node_part : NodeForm → NodePart
+node_part job = record { plan = job.plan; me = job.me; given = job.given; digest = job.digest }
 
 -- what it asks of the net
 abbrev pub meeting_of : NodeForm → Meeting
@@ -37,7 +37,7 @@ abbrev pub lines_of : NodeAsked → Results → List ℕ
 lines_of asked results = node_text asked.job.names asked.job.plan asked.job.me asked.view results
 
 -- The net gave a fresh link to each peer, and steady ones where it is steady. Over them the run of each node with this
--- share, and there is one, comes to the result, and the net has them back.
+-- part, and there is one, comes to the result, and the net has them back.
 pub record Talks (job : NodeForm) (before after : Outside) (result : Result Results NodeFault) : Type 0 where
   pub kept : LinksReading
   pub has_back : after.net.kept ≡ Some kept
@@ -45,8 +45,8 @@ pub record Talks (job : NodeForm) (before after : Outside) (result : Result Resu
   pub peers : HasPeers (job.plan.parties - 1) (offered job before)
   pub steady : IsTrue before.net.steady → IsTrue (are_steady (offered job before))
   pub fresh : IsTrue (are_fresh (offered job before))
-  pub someone : (n : Node) × IsNodeOf (share_of job) n
-  pub run : (n : Node) → IsNodeOf (share_of job) n
+  pub someone : (n : Node) × IsNodeOf (node_part job) n
+  pub run : (n : Node) → IsNodeOf (node_part job) n
       → node_runs.Runs n (offered job before) kept before.spawner after.spawner result
 
 -- The net failed and gave no links, as a steady net does at no meeting that it expects. It has the links that it had,
@@ -63,9 +63,9 @@ pub record MeetsNobody (job : NodeForm) (before after : Outside) : Type 0 where
 pub record HearsAllQuietly (job : NodeForm) (before after : Outside) : Type 0 where
   pub net : ¬ Rose before.net.faults after.net.faults
   pub spawner : ¬ Rose before.spawner.refusals after.spawner.refusals
-  pub links : (kept : LinksReading) → after.net.kept ≡ Some kept → (n : Node) → IsNodeOf (share_of job) n
+  pub links : (kept : LinksReading) → after.net.kept ≡ Some kept → (n : Node) → IsNodeOf (node_part job) n
       → NoneRose n (offered job before) kept
-  pub hears : (n : Node) → IsNodeOf (share_of job) n → HearsAll n (offered job before)
+  pub hears : (n : Node) → IsNodeOf (node_part job) n → HearsAll n (offered job before)
 
 -- The net is steady and expects this meeting, the spawner is steady and can count one more refusal, each inlet holds
 -- all that is expected of its peer, each outlet has room for the talk, and `out` for the lines of what is read.
@@ -74,8 +74,8 @@ pub record LetsTalk (asked : NodeAsked) (before : Outside) : Type 0 where
   pub expects : before.net.expects ≡ Some (meeting_of asked.job)
   pub spawner : IsTrue before.spawner.steady
   pub few : before.spawner.refusals < last_count
-  pub hears : (n : Node) → IsNodeOf (share_of asked.job) n → HearsAll n (offered asked.job before)
-  pub room : (n : Node) → IsNodeOf (share_of asked.job) n → (q : ℕ) → IsPeer n q
+  pub hears : (n : Node) → IsNodeOf (node_part asked.job) n → HearsAll n (offered asked.job before)
+  pub room : (n : Node) → IsNodeOf (node_part asked.job) n → (q : ℕ) → IsPeer n q
       → talk_bytes n q ≤ (out_to n (offered asked.job before) q).room
-  pub lines : (n : Node) (got : Key → ℕ) (results : Results) → IsNodeOf (share_of asked.job) n → IsDone n got results
+  pub lines : (n : Node) (got : Key → ℕ) (results : Results) → IsNodeOf (node_part asked.job) n → IsDone n got results
       → length (lines_of asked results) ≤ before.out.room

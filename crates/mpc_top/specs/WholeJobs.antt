@@ -13,6 +13,7 @@ use Rattle.refusal_text.specs.Lines.{other_line, pair_line}
 use Rattle.job_walk.specs.Names as file_names
 use Rattle.job_walk.specs.Verdict.{Verdict, accepted, Ends, Then, verdict_of, unless}
 use Rattle.job_walk.specs.JobOf.{Contents, Planned, file_at, PlanAt, PartiesAfter}
+use Rattle.job_plan.specs.InputWords.{InputLists}
 
 -- the names of the parties, the group that is asked for, and the world
 pub record WholeJob : Type 0 where
@@ -35,7 +36,7 @@ JobAt files dir asked =
 
 -- the inputs that a folder gives beside those of its job
 unfoldable pub OtherAt :
-    Contents → List ℕ → Plan → List (List ℕ) → List (List (List ℕ)) → Verdict (List (List (List ℕ))) → Type 0
+    Contents → List ℕ → Plan → List (List ℕ) → InputLists → Verdict InputLists → Type 0
 OtherAt files dir plan names inputs =
     Then (Ends (file_at files dir file_names.other_file)) (λ bytes.
     Ends (verdict_of (other_line names) (other_in plan names inputs bytes)))
@@ -45,7 +46,7 @@ pub record PairedJob : Type 0 where
   pub names : List (List ℕ)
   pub group : ℕ
   pub first : World
-  pub other : List (List (List ℕ))
+  pub other : InputLists
 
 -- the world of the other inputs, in which the group sees what it saw
 abbrev pub second_of : PairedJob → World
@@ -56,12 +57,12 @@ abbrev pub mask_of : Option Members → ℕ
 mask_of None = 0
 mask_of (Some group) = group.mask
 
-abbrev pub paired_job : WholeJob → List (List (List ℕ)) → PairedJob
+abbrev pub paired_job : WholeJob → InputLists → PairedJob
 paired_job job other =
     record { names = job.names; group = mask_of job.group; first = job.world; other = other }
 
 -- these inputs, where they can be hidden from the group
-abbrev pub hidden_of : WholeJob → List (List (List ℕ)) → Verdict PairedJob
+abbrev pub hidden_of : WholeJob → InputLists → Verdict PairedJob
 hidden_of job other =
     unless (map_fault job.world other (mask_of job.group)) (pair_line job.names) (paired_job job other)
 

@@ -11,7 +11,7 @@ ghost use Rattle.job_walk.specs.Verdict.{Ends, refused};
 ghost use Rattle.job_walk.specs.JobReads.{ReadsPlan};
 ghost use Rattle.job_walk.specs.Reads.{WalksAs, StopsBy};
 ghost use Rattle.mpc_top.specs.Audits.{Judged};
-ghost use Rattle.mpc_top.specs.Stops.{RunsAlone};
+ghost use Rattle.mpc_top.specs.Outcomes.{RunsAlone};
 
 use crate::parties::read_parties;
 use job_plan::Inputs;

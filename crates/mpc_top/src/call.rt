@@ -6,11 +6,12 @@ ghost use Rattle.outer_io.specs.Sink.{SinkReading};
 ghost use Rattle.command_words.specs.Commands.{command_of};
 ghost use Rattle.mpc_top.specs.Due.{words_view, AsksForNode};
 ghost use Rattle.mpc_top.specs.Outside.{Outside, outside_of};
-ghost use Rattle.mpc_top.specs.Stops.{RunsWords};
+ghost use Rattle.mpc_top.specs.Outcomes.{RunsWords};
 ghost use Rattle.mpc_top.specs.Command.{Answers};
 
+use crate::means::Means;
 use crate::run::{run_alone, run_command};
-use crate::told::write_stop;
+use crate::stop_text::write_stop;
 use command_words::{Command, read_command};
 use job_walk::Stop;
 use link_reader::LinkReader;
@@ -21,14 +22,12 @@ use std::thread::Threads;
 
 /// Reads what the command of the words is due, and writes it.
 fn run<F: Files, O: Sink, N: Net, W: Spawner<LinkReader<N::In>>, P: Pace, R: Threads + Wait + Sync>(
-    rt: &R,
-    alloc: Global,
+    means: &Means<'_, P, R>,
     words: &[String],
     files: &mut F,
     out: &mut O,
     net: &mut N,
     spawner: &mut W,
-    pace: &P,
 ) -> Result<(), Stop>
 where
     N::In: Drop,
@@ -37,7 +36,7 @@ where
         (outside_of (F.reading files.new) (O.reading out.new) err' (N.reading net.new) (W.reading spawner.new)) result }
 {
     match read_command(words) {
-        Ok(command) => run_command(rt, alloc, files, out, net, spawner, pace, command),
+        Ok(command) => run_command(means, files, out, net, spawner, command),
         Err(_) => Err(Stop::Words),
     }
 }
@@ -90,18 +89,21 @@ where
         (N.reading net.new) (W.reading spawner.new))
         result }
 {
-    let result = run(rt, alloc, words, files, out, net, spawner, pace);
+    let means = Means {
+        threads: rt,
+        alloc,
+        pace,
+    };
+    let result = run(&means, words, files, out, net, spawner);
     tell(err, result)
 }
 
 // Runs the command of the words, unless it is a node's.
 fn run_words<F: Files, O: Sink, P: Pace, R: Threads + Sync>(
-    rt: &R,
-    alloc: Global,
+    means: &Means<'_, P, R>,
     words: &[String],
     files: &mut F,
     out: &mut O,
-    pace: &P,
 ) -> Option<Result<(), Stop>>
     ensures { MatchOption result (AsksForNode (command_of (words_view words.now))
         × (F.reading files.new ≡ F.reading files.old) × (O.reading out.new ≡ O.reading out.old))
@@ -113,7 +115,7 @@ fn run_words<F: Files, O: Sink, P: Pace, R: Threads + Sync>(
 {
     match read_command(words) {
         Ok(Command::Node { .. }) => None,
-        Ok(command) => Some(run_alone(rt, alloc, files, out, pace, command)),
+        Ok(command) => Some(run_alone(means, files, out, command)),
         Err(_) => Some(Err(Stop::Words)),
     }
 }
@@ -137,7 +139,12 @@ pub fn command_alone<F: Files, O: Sink, E: Sink, P: Pace, R: Threads + Sync>(
         (outside_of (F.reading files.old) (O.reading out.old) (E.reading err.old) net spawner)
         (outside_of (F.reading files.new) (O.reading out.new) (E.reading err.new) net spawner) status)) }
 {
-    match run_words(rt, alloc, words, files, out, pace) {
+    let means = Means {
+        threads: rt,
+        alloc,
+        pace,
+    };
+    match run_words(&means, words, files, out) {
         Some(ended) => Some(tell(err, ended)),
         None => None,
     }

@@ -3,13 +3,14 @@
 
 mod audit;
 mod call;
+mod means;
 mod node;
 mod other;
 mod pair;
 mod parties;
 mod run;
 mod sample;
-mod told;
+mod stop_text;
 
 pub use call::{command, command_alone};
 pub use job_walk::Stop;

@@ -1,77 +1,96 @@
 //! One party of a job, run by itself over links to the others.
-ghost use Rattle.std.specs.Prelude.{◌≡◌, ◌-◌, Some, length};
+ghost use Rattle.std.specs.Prelude.{◌≡◌, ◌-◌, ◌<◌, IfOk, Some, length};
 ghost use Rattle.outer_io.specs.Links.{HasPeers, links_reading};
 ghost use Rattle.outer_io.specs.Sink.{SinkReading};
 ghost use Rattle.command_words.specs.Commands.{node};
-ghost use Rattle.node_run.specs.Ready.{IsShare};
-ghost use Rattle.mpc_top.specs.LinkTalks.{TalkedOver};
+ghost use Rattle.node_run.specs.Ready.{IsNodePart};
+ghost use Rattle.mpc_top.specs.LinkTalks.{HasCountsOf, TalkedOver, Written};
 ghost use Rattle.mpc_top.specs.Outside.{outside_of};
-ghost use Rattle.mpc_top.specs.Stops.{RunsWords};
+ghost use Rattle.mpc_top.specs.Outcomes.{RunsWords};
 
+use crate::means::Means;
 use job_plan::Plan;
 use job_walk::{NodeJob, Stop, read_node};
 use link_reader::LinkReader;
-use node_run::{NodeReady, every_share_is_of_a_world};
+use node_run::{NodeDone, NodeReady, every_node_part_is_of_a_world};
+use node_talk::NodeFault;
 use node_text::write_node;
 use outer_io::{Files, Links, Net, NetRefusal, Sink, Spawner};
 use party_file::PartyData;
 use party_set::Names;
-use std::alloc::Global;
 use std::sync::Wait;
 
-// Runs a party over its links, which the net has back, and writes what it reads.
-fn talk<O: Sink, N: Net, W: Spawner<LinkReader<N::In>>, R: Wait>(
+/// What is asked of a node: to run the party of this name in the job of this folder, and to write its view as well,
+/// where `view` is true.
+#[derive(Clone, Copy)]
+pub(crate) struct NodeCall<'a> {
+    pub(crate) dir: &'a str,
+    pub(crate) name: &'a str,
+    pub(crate) view: bool,
+}
+
+// Runs a party over its links, which the net has back.
+fn talk<N: Net, W: Spawner<LinkReader<N::In>>, R: Wait>(
     rt: &R,
-    out: &mut O,
     net: &mut N,
     spawner: &mut W,
     plan: &Plan,
-    me: u32,
-    names: Names,
-    view: bool,
     ready: NodeReady,
     links: Links<N::In, N::Out>,
-) -> Result<(), Stop>
+) -> Result<NodeDone, NodeFault>
 where
     N::In: Drop,
-    requires share { IsShare ready }
+    requires part { IsNodePart ready }
     requires plan { plan.now ≡ ready.plan }
-    requires me { me ≡ ready.me }
-    requires names { length names ≡ ready.plan.parties }
     requires peers { HasPeers (ready.plan.parties - 1) (links_reading N.In.reading N.Out.reading links) }
-    ensures { TalkedOver ready names view (links_reading N.In.reading N.Out.reading links)
-        (N.reading net.old) (N.reading net.new) (W.reading spawner.old) (W.reading spawner.new)
-        (O.reading out.old) (O.reading out.new) result }
+    ensures over { TalkedOver ready (links_reading N.In.reading N.Out.reading links)
+        (N.reading net.old) (N.reading net.new) (W.reading spawner.old) (W.reading spawner.new) result }
+    ensures counts { IfOk result (HasCountsOf plan.now) }
 {
-    every_share_is_of_a_world();
+    every_node_part_is_of_a_world();
     let (result, links) = ready.run(rt, plan, links, spawner);
     net.back(links);
-    match result {
+    result
+}
+
+// Writes what a party reads at the end of its talk, unless that ended with a fault.
+fn write_outcome<O: Sink>(
+    out: &mut O,
+    names: Names,
+    plan: &Plan,
+    me: u32,
+    view: bool,
+    outcome: Result<NodeDone, NodeFault>,
+) -> Result<(), Stop>
+    requires names { length names ≡ plan.now.parties }
+    requires party { me < length names }
+    requires counts { IfOk outcome (HasCountsOf plan.now) }
+    ensures { Written names plan.now me view outcome (O.reading out.old) (O.reading out.new) result }
+{
+    match outcome {
         Ok(done) => Ok(write_node(out, &names, plan, me, view, &done)?),
         Err(fault) => Err(Stop::Peer { names, fault }),
     }
 }
 
-/// Runs the party of this name in the job of a folder, over links that the net gives and has back: the outputs that it
-/// reads, and its own view, if that is asked for. All memory is taken before the first byte goes to a peer.
-pub(crate) fn run_node<F: Files, O: Sink, N: Net, W: Spawner<LinkReader<N::In>>, R: Wait>(
-    rt: &R,
-    alloc: Global,
+/// Runs the party that is asked for, over links that the net gives and has back, and writes the outputs that it reads
+/// and, if that is asked for, its own view. All memory is taken before the first byte goes to a peer.
+pub(crate) fn run_node<F: Files, O: Sink, N: Net, W: Spawner<LinkReader<N::In>>, P, R: Wait>(
+    means: &Means<'_, P, R>,
     files: &mut F,
     out: &mut O,
     net: &mut N,
     spawner: &mut W,
-    dir: &str,
-    name: &str,
-    view: bool,
+    asked: &NodeCall<'_>,
 ) -> Result<(), Stop>
 where
     N::In: Drop,
-    ensures { (err err' : SinkReading) → RunsWords (Some (node dir.now name.now view))
+    ensures { (err err' : SinkReading) → RunsWords (Some (node asked.now.dir.now asked.now.name.now asked.now.view))
         (outside_of (F.reading files.old) (O.reading out.old) err (N.reading net.old) (W.reading spawner.old))
         (outside_of (F.reading files.new) (O.reading out.new) err' (N.reading net.new) (W.reading spawner.new)) result }
 {
-    let job = read_node(alloc, files, dir, name)?;
+    let alloc = means.alloc;
+    let job = read_node(alloc, files, asked.dir, asked.name)?;
     let NodeJob {
         names,
         hosts,
@@ -101,7 +120,8 @@ where
             return Err(Stop::Memory);
         }
     };
-    let result = talk(rt, out, net, spawner, &plan, me, names, view, ready, links);
+    let outcome = talk(means.threads, net, spawner, &plan, ready, links);
+    let result = write_outcome(out, names, &plan, me, asked.view, outcome);
     drop((inputs, plan, hosts));
     result
 }

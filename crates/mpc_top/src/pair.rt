@@ -17,8 +17,9 @@ ghost use Rattle.job_walk.specs.JobReads.{ReadsPlan};
 ghost use Rattle.job_walk.specs.Reads.{WalksAs, StopsBy};
 ghost use Rattle.job_walk.specs.Seen.{planned_view};
 ghost use Rattle.mpc_top.specs.Seen.{parties_view};
-ghost use Rattle.mpc_top.specs.Stops.{RunsAlone};
+ghost use Rattle.mpc_top.specs.Outcomes.{RunsAlone};
 
+use crate::means::Means;
 use crate::other::read_other_inputs;
 use crate::parties::read_parties;
 use job_plan::Inputs;
@@ -36,19 +37,17 @@ use tape_map::MapFault;
 /// Runs the job of a folder, and again with the other inputs of the folder and the tapes that hide them from a group.
 /// Both runs have all their memory before the first byte is written.
 pub(crate) fn run_pair<F: Files, O: Sink, P: Pace, R: Threads + Sync>(
-    rt: &R,
-    alloc: Global,
+    means: &Means<'_, P, R>,
     files: &mut F,
     out: &mut O,
-    pace: &P,
     dir: &str,
     group: &str,
 ) -> Result<(), Stop>
     ensures { RunsAlone (Some (pair dir.now group.now)) (F.reading files.old) (F.reading files.new)
         (O.reading out.old) (O.reading out.new) result }
 {
-    let planned = read_planned(alloc, files, dir, Some(group))?;
-    let result = run_planned(rt, alloc, files, out, pace, dir, &planned);
+    let planned = read_planned(means.alloc, files, dir, Some(group))?;
+    let result = run_planned(means, files, out, dir, &planned);
     // By a call, which is one step of the proof.
     drop(planned);
     result
@@ -56,11 +55,9 @@ pub(crate) fn run_pair<F: Files, O: Sink, P: Pace, R: Threads + Sync>(
 
 // Runs a job that was read, with a group that was asked for, and again with the other inputs.
 fn run_planned<F: Files, O: Sink, P: Pace, R: Threads + Sync>(
-    rt: &R,
-    alloc: Global,
+    means: &Means<'_, P, R>,
     files: &mut F,
     out: &mut O,
-    pace: &P,
     dir: &str,
     planned: &Planned,
 ) -> Result<(), Stop>
@@ -73,6 +70,7 @@ fn run_planned<F: Files, O: Sink, P: Pace, R: Threads + Sync>(
         → RunsAlone (Some (pair dir.now group)) before (F.reading files.new)
         (O.reading out.old) (O.reading out.new) result }
 {
+    let alloc = means.alloc;
     let group = group_of(planned);
     let parties = read_parties(alloc, files, dir, &planned.names, &planned.plan)?;
     let inputs = inputs_of(alloc, &planned.plan, &parties)?;
@@ -83,8 +81,8 @@ fn run_planned<F: Files, O: Sink, P: Pace, R: Threads + Sync>(
         second,
         tapes,
     } = pair;
-    let first = first.run(rt, &planned.plan, pace);
-    let second = second.run(rt, &planned.plan, pace);
+    let first = first.run(means.threads, &planned.plan, means.pace);
+    let second = second.run(means.threads, &planned.plan, means.pace);
     Ok(write_pair(
         out,
         &planned.names,

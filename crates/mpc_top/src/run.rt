@@ -7,10 +7,11 @@ ghost use Rattle.job_walk.specs.JobReads.{ReadsPlan};
 ghost use Rattle.job_walk.specs.Seen.{text_view};
 ghost use Rattle.mpc_top.specs.Due.{IsAlone};
 ghost use Rattle.mpc_top.specs.Outside.{outside_of};
-ghost use Rattle.mpc_top.specs.Stops.{RunsWords, RunsAlone};
+ghost use Rattle.mpc_top.specs.Outcomes.{RunsWords, RunsAlone};
 
 use crate::audit::audit_job;
-use crate::node::run_node;
+use crate::means::Means;
+use crate::node::{NodeCall, run_node};
 use crate::pair::run_pair;
 use crate::parties::read_parties;
 use crate::sample::run_sample;
@@ -20,6 +21,7 @@ use job_walk::{Planned, Stop, read_planned};
 use link_reader::LinkReader;
 use outer_io::{Files, Net, Pace, Sink, Spawner};
 use output_text::{write_check, write_run};
+use plan_faults::MOST_WORKERS;
 use std::alloc::Global;
 use std::sync::Wait;
 use std::thread::Threads;
@@ -33,13 +35,11 @@ pub(crate) fn run_command<
     P: Pace,
     R: Threads + Wait + Sync,
 >(
-    rt: &R,
-    alloc: Global,
+    means: &Means<'_, P, R>,
     files: &mut F,
     out: &mut O,
     net: &mut N,
     spawner: &mut W,
-    pace: &P,
     command: Command<'_>,
 ) -> Result<(), Stop>
 where
@@ -51,19 +51,18 @@ where
 {
     match command {
         Command::Node { dir, name, view } => {
-            run_node(rt, alloc, files, out, net, spawner, dir, name, view)
+            let asked = NodeCall { dir, name, view };
+            run_node(means, files, out, net, spawner, &asked)
         }
-        alone => run_alone(rt, alloc, files, out, pace, alone),
+        alone => run_alone(means, files, out, alone),
     }
 }
 
 /// Does the same for a command that is no node's: nothing in it waits for others.
 pub(crate) fn run_alone<F: Files, O: Sink, P: Pace, R: Threads + Sync>(
-    rt: &R,
-    alloc: Global,
+    means: &Means<'_, P, R>,
     files: &mut F,
     out: &mut O,
-    pace: &P,
     command: Command<'_>,
 ) -> Result<(), Stop>
     requires range { IsInRange command }
@@ -73,52 +72,46 @@ pub(crate) fn run_alone<F: Files, O: Sink, P: Pace, R: Threads + Sync>(
         (O.reading out.old) (O.reading out.new) result }
 {
     match command {
-        Command::Run { dir, workers, view } => {
-            run_job(rt, alloc, files, out, pace, dir, workers, view)
-        }
-        Command::Check { dir } => check_job(alloc, files, out, dir),
-        Command::Pair { dir, group } => run_pair(rt, alloc, files, out, pace, dir, group),
-        Command::Sample { count } => run_sample(rt, alloc, files, out, pace, count),
-        Command::Audit { dir } => audit_job(alloc, files, out, dir),
+        Command::Run { dir, workers, view } => run_job(means, files, out, dir, workers, view),
+        Command::Check { dir } => check_job(means.alloc, files, out, dir),
+        Command::Pair { dir, group } => run_pair(means, files, out, dir, group),
+        Command::Sample { count } => run_sample(means, files, out, count),
+        Command::Audit { dir } => audit_job(means.alloc, files, out, dir),
         Command::Node { .. } => unreachable!(),
     }
 }
 
-/// Runs the job of a folder by so many workers: the outputs that its desks delivered, and what a group saw, where one
+/// Runs the job of a folder by `workers`: the outputs that its desks delivered, and what a group saw, where one
 /// is asked for.
 fn run_job<F: Files, O: Sink, P: Pace, R: Threads + Sync>(
-    rt: &R,
-    alloc: Global,
+    means: &Means<'_, P, R>,
     files: &mut F,
     out: &mut O,
-    pace: &P,
     dir: &str,
     workers: u32,
     view: Option<&str>,
 ) -> Result<(), Stop>
-    requires { (0 < workers) × (workers ≤ 16) }
+    requires { (0 < workers) × (workers ≤ MOST_WORKERS) }
     ensures { RunsAlone (Some (run dir.now workers (text_view view.entry))) (F.reading files.old) (F.reading files.new)
         (O.reading out.old) (O.reading out.new) result }
 {
-    let planned = read_planned(alloc, files, dir, view)?;
-    let result = run_planned(rt, alloc, files, out, pace, dir, workers, &planned);
+    let planned = read_planned(means.alloc, files, dir, view)?;
+    let result = run_planned(means, files, out, dir, workers, &planned);
     // By a call, which is one step of the proof.
     drop(planned);
     result
 }
 
-// Runs a job that was read, by so many workers.
+// Runs a job that was read, by `workers`.
 fn run_planned<F: Files, O: Sink, P: Pace, R: Threads + Sync>(
-    rt: &R,
-    alloc: Global,
+    means: &Means<'_, P, R>,
     files: &mut F,
     out: &mut O,
-    pace: &P,
     dir: &str,
     workers: u32,
     planned: &Planned,
 ) -> Result<(), Stop>
-    requires workers { (0 < workers) × (workers ≤ 16) }
+    requires workers { (0 < workers) × (workers ≤ MOST_WORKERS) }
     requires names { length planned.now.names ≡ planned.now.plan.parties }
     requires group { IfSome planned.now.group (λ group. group.parties ≡ length planned.now.names) }
     ensures { (view : Option (List ℕ)) (before : FilesReading)
@@ -126,9 +119,9 @@ fn run_planned<F: Files, O: Sink, P: Pace, R: Threads + Sync>(
         → RunsAlone (Some (run dir.now workers view)) before (F.reading files.new)
         (O.reading out.old) (O.reading out.new) result }
 {
-    let parties = read_parties(alloc, files, dir, &planned.names, &planned.plan)?;
-    let ready = prepared(alloc, &planned.plan, parties, workers)?;
-    let done = ready.run(rt, &planned.plan, pace);
+    let parties = read_parties(means.alloc, files, dir, &planned.names, &planned.plan)?;
+    let ready = prepared(means.alloc, &planned.plan, parties, workers)?;
+    let done = ready.run(means.threads, &planned.plan, means.pace);
     Ok(write_run(out, &planned.names, &planned.plan, &done, planned.group)?)
 }
 

@@ -5,8 +5,10 @@ ghost use Rattle.command_words.specs.Commands.{sample};
 ghost use Rattle.job_plan.specs.InputWords.{AreInputs};
 ghost use Rattle.desk_laws.specs.Pieces.{ArePieces};
 ghost use Rattle.sample_maker.specs.Samples.{sample_names, sample_plan, sample_inputs, sample_pieces};
-ghost use Rattle.mpc_top.specs.Stops.{RunsAlone};
+ghost use Rattle.mpc_top.specs.Outcomes.{RunsAlone};
 
+use crate::means::Means;
+use circuit_model::MOST_GATES;
 use desk_workers::prepare;
 use job_plan::{Inputs, Plan};
 use job_walk::Stop;
@@ -20,57 +22,54 @@ use tape_words::Tape;
 
 const WORKERS: u32 = 4;
 
-/// Makes a job of so many gates, 1 to 65,536, and runs it by four workers. It reads no file.
+/// Makes a job of `count` gates, 1 to 65,536, and runs it by four workers. It reads no file.
 pub(crate) fn run_sample<F: Files, O: Sink, P: Pace, R: Threads + Sync>(
-    rt: &R,
-    alloc: Global,
+    means: &Means<'_, P, R>,
     files: &mut F,
     out: &mut O,
-    pace: &P,
     count: u32,
 ) -> Result<(), Stop>
-    requires { (0 < count) × (count ≤ 65536) }
+    requires { (0 < count) × (count ≤ MOST_GATES) }
     ensures { RunsAlone (Some (sample count)) (F.reading files.old) (F.reading files.new)
         (O.reading out.old) (O.reading out.new) result }
 {
     let _ = files;
-    let names = three_names(alloc)?;
-    let made = make_sample(alloc, count)?;
-    let Sample {
-        plan,
-        inputs,
-        tapes,
-    } = made;
-    let result = run_made(rt, alloc, out, pace, count, &names, &plan, &inputs, tapes);
+    let names = three_names(means.alloc)?;
+    let made = make_sample(means.alloc, count)?;
+    let result = run_made(means, out, count, &names, made);
     // By a call, which is one step of the proof.
-    drop((inputs, plan, names));
+    drop(names);
     result
 }
 
 // Runs the job that was made from a number.
 fn run_made<O: Sink, P: Pace, R: Threads + Sync>(
-    rt: &R,
-    alloc: Global,
+    means: &Means<'_, P, R>,
     out: &mut O,
-    pace: &P,
     count: u32,
     names: &Names,
-    plan: &Plan,
-    inputs: &Inputs,
-    tapes: Vec<Tape>,
+    made: Sample,
 ) -> Result<(), Stop>
     requires names { names.now ≡ sample_names }
-    requires plan { plan.now ≡ sample_plan count }
-    requires inputs { inputs.now ≡ sample_inputs count }
-    requires tapes { tapes.items ≡ sample_pieces count }
-    requires inputs_fit { AreInputs plan.now inputs.now }
-    requires pieces_fit { ArePieces plan.now tapes.items }
+    requires plan { made.plan ≡ sample_plan count }
+    requires inputs { made.inputs ≡ sample_inputs count }
+    requires tapes { made.tapes.items ≡ sample_pieces count }
+    requires inputs_fit { AreInputs made.plan made.inputs }
+    requires pieces_fit { ArePieces made.plan made.tapes.items }
     ensures { (files : FilesReading) → RunsAlone (Some (sample count)) files files
         (O.reading out.old) (O.reading out.new) result }
 {
-    let ready = prepare(alloc, plan, inputs, tapes, WORKERS)?;
-    let done = ready.run(rt, plan, pace);
-    Ok(write_sample(out, names, plan, &done, count)?)
+    let Sample {
+        plan,
+        inputs,
+        tapes,
+    } = made;
+    let ready = prepare(means.alloc, &plan, &inputs, tapes, WORKERS)?;
+    let done = ready.run(means.threads, &plan, means.pace);
+    let written = write_sample(out, names, &plan, &done, count);
+    // By a call, which is one step of the proof.
+    drop((inputs, plan));
+    Ok(written?)
 }
 
 // The names of the parties, if there is memory.

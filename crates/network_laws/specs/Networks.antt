@@ -1,5 +1,5 @@
 -- A network: a node for each party of one world, and a pipe from each party to each other.
-use Rattle.std.specs.Prelude.{◌≡◌, ◌≢◌, ◌⊎◌, ℕ, ◌<◌, ◌^◌, List, ◌++◌, length, Some}
+use Rattle.std.specs.Prelude.{◌≡◌, ◌≢◌, ◌⊎◌, ℕ, ◌<◌, List, ◌++◌, length, Some}
 use Rattle.job_plan.specs.Plans.{Plan}
 use Rattle.job_plan.specs.Messages.{messages}
 use Rattle.job_plan.specs.Numbers.{message}
@@ -12,6 +12,7 @@ use Rattle.node_talk.specs.declared.fault.NodeFault.{NodeFault}
 use Rattle.node_talk.specs.Talks.{Node, talk}
 use Rattle.node_talk.specs.PeerLinks.{in_from, out_to}
 use Rattle.node_talk.specs.Runs.{Results, IsDone, TalkedThrough, BrokeOff, IsOfWorld, word_kept, kept_view}
+use Rattle.party_set.specs.Parties.{party_mask}
 
 -- a world and a digest; and of each party what its links show before its run and after it, and what it has then
 pub record Network : Type 0 where
@@ -74,5 +75,5 @@ SaysWorld net =
 pub record IsRight (net : Network) (p : ℕ) : Type 0 where
   pub words : (m : ℕ) → m < length (messages (plan_of net)) → (message (plan_of net) m).receiver ≡ p
       → word_kept (net.results p) m ≡ Some (word net.world (message (plan_of net) m))
-  pub own_view : kept_view (plan_of net) p (net.results p) ≡ view net.world (2 ^ p)
+  pub own_view : kept_view (plan_of net) p (net.results p) ≡ view net.world (party_mask p)
   pub of_world : IsOfWorld (node net p) (net.results p) (net.before p) (net.after p)

@@ -95,7 +95,8 @@ abbrev pub world_results : World → ℕ → Results
 world_results w p = record {
   words =
       listed (length (messages w.plan)) (λ m.
-      if nat_eq (message w.plan m).sender p || nat_eq (message w.plan m).receiver p then Some (word w (message w.plan m))
+      if nat_eq (message w.plan m).sender p || nat_eq (message w.plan m).receiver p
+      then Some (word w (message w.plan m))
       else None);
   outputs =
       listed (length w.plan.sessions) (λ s.
@@ -113,9 +114,13 @@ whole_play w digest = record {
   world = w;
   digest = digest;
   before =
-      λ p. links_by w p (λ q. inlet_with (words_between w digest q p)) (λ q. outlet_with [] (words_between w digest p q));
+      λ p. links_by w p
+      (λ q. inlet_with (words_between w digest q p))
+      (λ q. outlet_with [] (words_between w digest p q));
   after =
-      λ p. links_by w p (λ q. shut_inlet (inlet_with [])) (λ q. shut_outlet (outlet_with (words_between w digest p q) []));
+      λ p. links_by w p
+      (λ q. shut_inlet (inlet_with []))
+      (λ q. shut_outlet (outlet_with (words_between w digest p q) []));
   spawner = λ p. idle;
   spawner_after = λ p. idle;
   answers = λ p. Ok (world_results w p);

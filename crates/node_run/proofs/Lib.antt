@@ -10,6 +10,6 @@ pub mod ReaderRuns
 mod PeerEnds
 mod NodeRuns
 mod RunBegins
-mod Shares
+mod NodeParts
 mod ReadyKept
 mod ClosedLinks

@@ -19,19 +19,19 @@ use Rattle.link_reader.specs.Expected.{HasPlaces, TalkModel}
 use Rattle.node_run.specs.Mail.{Mail, BoxModel, IsMail, no_box, outlet_to}
 use Rattle.node_run.specs.Progress.{Begin, Greeted, AllGreeted, ids_of}
 use Rattle.node_run.specs.Remains.{ReaderPartsModel, party_at, IsFor, MayRun}
-use Rattle.node_run.specs.Ready.{Share, IsNodeOf, Kept, IsNodeReady, ArePeersReady, IsPeerReady}
+use Rattle.node_run.specs.Ready.{NodePart, IsNodeOf, Kept, IsNodeReady, ArePeersReady, IsPeerReady}
 use Rattle.node_run.proofs.CellChanges.{place_within}
 use Rattle.link_reader.proofs.ExpectedMessages.{between_parties}
 use Rattle.node_run.proofs.PeerEnds.{party_there}
 use Rattle.node_run.proofs.ReaderRuns.{id_of}
-use Rattle.node_run.proofs.Shares.{is_part, new_desk, new_position}
+use Rattle.node_run.proofs.NodeParts.{is_part, new_desk, new_position}
 
 -- what is kept when a run begins, over these outlets
-abbrev pub first_mail : Share → Kept → List OutletReading → Mail
-first_mail share kept outlets =
+abbrev pub first_mail : NodePart → Kept → List OutletReading → Mail
+first_mail part kept outlets =
     record {
-      plan = share.plan;
-      me = share.me;
+      plan = part.plan;
+      me = part.me;
       outlets = outlets;
       words = kept.words;
       boxes = kept.boxes;
@@ -54,12 +54,12 @@ talk_at plan me digest k =
 talk_of : (plan plan' : Plan) (me me' : ℕ) (digest digest' : List ℕ) (k : ℕ) → plan ≡ plan' → me ≡ me' → digest ≡ digest' → talk_at plan me digest k ≡ talk_at plan' me' digest' k
 talk_of plan plan' me me' digest digest' k p q r = ap (λ z. talk_at z me digest k) p ∙ ap (λ z. talk_at plan' z digest k) q ∙ ap (λ z. talk_at plan' me' z k) r
 
-module _ (share : Share) (kept : Kept) (h : IsNodeReady share kept) where
+module _ (part : NodePart) (kept : Kept) (h : IsNodeReady part kept) where
   -- some party of the plan
   some : Node
-  some = record { world = record { plan = share.plan; inputs = []; tapes = [] }; me = share.me; digest = [] }
+  some = record { world = record { plan = part.plan; inputs = []; tapes = [] }; me = part.me; digest = [] }
 
-  pub is_mail : (outlets : List OutletReading) → length outlets ≡ share.plan.parties - 1 → IsMail (first_mail share kept outlets)
+  pub is_mail : (outlets : List OutletReading) → length outlets ≡ part.plan.parties - 1 → IsMail (first_mail part kept outlets)
   unfolding some
   is_mail outlets many =
       let party = h.fits.party in
@@ -76,15 +76,15 @@ module _ (share : Share) (kept : Kept) (h : IsNodeReady share kept) where
         room = λ m from.
             let lm = from.there in
             let to = from.receiver in
-            let b = between_parties share.plan h.fits.sound m lm in
-            let q : ℕ = (message share.plan m).sender in
-            let other : q ≢ share.me = from.sender in
-            let less : place_among share.me q < length kept.readers =
-            place_within share.me q share.plan.parties (length kept.readers) b.sender other party (let r = h.peers.reader_count in omega (arith, r, party)) in
-            let x = element_there kept.readers (place_among share.me q) less in
-            let ready = h.peers.each (place_among share.me q) x.0 x.1 in
-            let places : (slice_index_or kept.boxes (place_among share.me q) no_box).places ≡ length (messages_between share.plan q share.me) =
-            ready.places ∙ ap (λ z. length (messages_between share.plan z share.me)) (party_there share.me q other) in
+            let b = between_parties part.plan h.fits.sound m lm in
+            let q : ℕ = (message part.plan m).sender in
+            let other : q ≢ part.me = from.sender in
+            let less : place_among part.me q < length kept.readers =
+            place_within part.me q part.plan.parties (length kept.readers) b.sender other party (let r = h.peers.reader_count in omega (arith, r, party)) in
+            let x = element_there kept.readers (place_among part.me q) less in
+            let ready = h.peers.each (place_among part.me q) x.0 x.1 in
+            let places : (slice_index_or kept.boxes (place_among part.me q) no_box).places ≡ length (messages_between part.plan q part.me) =
+            ready.places ∙ ap (λ z. length (messages_between part.plan z part.me)) (party_there part.me q other) in
             let at = p.each m lm in
             let within = (placed some m lm to).0 in
             omega (arith, places, at, within);
@@ -92,24 +92,24 @@ module _ (share : Share) (kept : Kept) (h : IsNodeReady share kept) where
       }
 
   -- over an equal plan
-  pub is_mail_at : (plan : Plan) → plan ≡ share.plan → (outlets : List OutletReading) → length outlets ≡ share.plan.parties - 1
-      → IsMail (record { plan = plan; me = share.me; outlets = outlets; words = kept.words; boxes = kept.boxes; places = kept.places; failed = None })
+  pub is_mail_at : (plan : Plan) → plan ≡ part.plan → (outlets : List OutletReading) → length outlets ≡ part.plan.parties - 1
+      → IsMail (record { plan = plan; me = part.me; outlets = outlets; words = kept.words; boxes = kept.boxes; places = kept.places; failed = None })
   is_mail_at plan same outlets many =
-      subst (λ z. IsMail (record { plan = z; me = share.me; outlets = outlets; words = kept.words; boxes = kept.boxes; places = kept.places; failed = None })) (sym same) (is_mail outlets many)
+      subst (λ z. IsMail (record { plan = z; me = part.me; outlets = outlets; words = kept.words; boxes = kept.boxes; places = kept.places; failed = None })) (sym same) (is_mail outlets many)
 
-  module _ (n : Node) (of : IsNodeOf share n) (before : LinksReading) (peers : HasPeers (share.plan.parties - 1) before) where
-    part : IsPart n.world n.me
-    part = is_part share h.fits n of
+  module _ (n : Node) (of : IsNodeOf part n) (before : LinksReading) (peers : HasPeers (part.plan.parties - 1) before) where
+    own_part : IsPart n.world n.me
+    own_part = is_part part h.fits n of
 
     -- what the run begins with
     abbrev begin : Begin
     begin = record { links = before; ids = ids_of kept.boxes }
 
     -- no hello is sent yet
-    pub greeted : Greeted n 0 (record { links = before; ids = ids_of kept.boxes }) (first_mail share kept before.outlets)
+    pub greeted : Greeted n 0 (record { links = before; ids = ids_of kept.boxes }) (first_mail part kept before.outlets)
     greeted = record {
       own = record {
-        part = is_part share h.fits n of;
+        part = is_part part h.fits n of;
         digest = ap (λ z. length z) of.digest ∙ h.fits.digest;
         plan = sym of.plan;
         me = sym of.me;
@@ -124,13 +124,13 @@ module _ (share : Share) (kept : Kept) (h : IsNodeReady share kept) where
       quiet = refl;
     }
       where
-        same : (r : ℕ) → outlet_to (first_mail share kept before.outlets) r ≡ out_to n before r
+        same : (r : ℕ) → outlet_to (first_mail part kept before.outlets) r ≡ out_to n before r
         same r = ap (λ z. (slice_index_or before.outlets (place_among z r) no_outlet).sink) (sym of.me)
 
-    pub greeted_at : (plan : Plan) → plan ≡ share.plan → Greeted n 0 (record { links = before; ids = ids_of kept.boxes })
-        (record { plan = plan; me = share.me; outlets = before.outlets; words = kept.words; boxes = kept.boxes; places = kept.places; failed = None })
+    pub greeted_at : (plan : Plan) → plan ≡ part.plan → Greeted n 0 (record { links = before; ids = ids_of kept.boxes })
+        (record { plan = plan; me = part.me; outlets = before.outlets; words = kept.words; boxes = kept.boxes; places = kept.places; failed = None })
     greeted_at plan same =
-        subst (λ z. Greeted n 0 (record { links = before; ids = ids_of kept.boxes }) (record { plan = z; me = share.me; outlets = before.outlets; words = kept.words; boxes = kept.boxes; places = kept.places; failed = None })) (sym same) greeted
+        subst (λ z. Greeted n 0 (record { links = before; ids = ids_of kept.boxes }) (record { plan = z; me = part.me; outlets = before.outlets; words = kept.words; boxes = kept.boxes; places = kept.places; failed = None })) (sym same) greeted
 
     pub had_peers : HasPeers (n.world.plan.parties - 1) before
     had_peers = subst (λ z. HasPeers (z.parties - 1) before) (sym of.plan) peers
@@ -142,8 +142,8 @@ module _ (share : Share) (kept : Kept) (h : IsNodeReady share kept) where
         many = h.desks.count ∙ ap (λ z. length z.sessions) (sym of.plan);
         done = λ got ag t d l is. absurd (omega arith);
         ended = λ t d l is. absurd (omega arith);
-        new = λ got t d l is. new_desk share h.fits n of kept.desks h.desks got t d is;
-        still = λ t d l is. new_position share h.fits n of kept.desks h.desks t d is;
+        new = λ got t d l is. new_desk part h.fits n of kept.desks h.desks got t d is;
+        still = λ t d l is. new_position part h.fits n of kept.desks h.desks t d is;
         going = g.going;
       };
       empty = g.words;
@@ -159,8 +159,8 @@ module _ (share : Share) (kept : Kept) (h : IsNodeReady share kept) where
         is_for : (k : ℕ) (d : ReaderPartsModel) → slice_get kept.readers k ≡ Some d → IsFor n (record { links = before; ids = ids_of kept.boxes }) k d
         is_for k d is =
             let there = get_or_from_slice_get kept.readers k d d is in
-            let r = ready_at share.plan share.me kept.parker share.digest (share.plan.parties - 1) kept.boxes kept.readers h.peers k d (slice_get_within kept.readers k d is) in
+            let r = ready_at part.plan part.me kept.parker part.digest (part.plan.parties - 1) kept.boxes kept.readers h.peers k d (slice_get_within kept.readers k d is) in
             record {
-              talk = ap (λ (x : ReaderPartsModel). x.talk) (sym there) ∙ r.talk ∙ talk_of share.plan n.world.plan share.me n.me share.digest n.digest k (sym of.plan) (sym of.me) (sym of.digest);
+              talk = ap (λ (x : ReaderPartsModel). x.talk) (sym there) ∙ r.talk ∙ talk_of part.plan n.world.plan part.me n.me part.digest n.digest k (sym of.plan) (sym of.me) (sym of.digest);
               id = ap (λ (x : ReaderPartsModel). x.id) (sym there) ∙ r.id ∙ id_of kept.boxes k;
             }

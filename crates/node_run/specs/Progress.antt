@@ -1,5 +1,5 @@
 -- How far a node has come.
-use Rattle.std.specs.Prelude.{◌≡◌, ◌≢◌, ℕ, ◌+◌, ◌-◌, ◌*◌, ◌<◌, ◌≤◌, false, IsTrue, List, length, map, slice_get, Option, None, Some}
+use Rattle.std.specs.Prelude.{◌≡◌, ◌≢◌, ℕ, ◌+◌, ◌-◌, ◌<◌, ◌≤◌, false, IsTrue, List, length, map, slice_get, Option, None, Some}
 use Rattle.message_board.specs.Plain.{plain_cell}
 use Rattle.job_plan.specs.declared.key.Key.{Key}
 use Rattle.job_plan.specs.Messages.{messages}
@@ -13,12 +13,13 @@ use Rattle.program_laws.specs.Parts.{IsPart}
 use Rattle.outer_io.specs.Count.{Rose}
 use Rattle.outer_io.specs.Links.{LinksReading}
 use Rattle.outer_io.specs.Sink.{SinkReading, added, AddedPrefix}
-use Rattle.frame_code.specs.Frames.{hello}
+use Rattle.frame_code.specs.Frames.{hello, frame_begin}
 use Rattle.node_talk.specs.Talks.{Node, acts, IsPeer, own_word, messages_between, posts_to, said}
 use Rattle.node_talk.specs.PeerLinks.{out_to}
 use Rattle.list_laws.specs.Lists.{joined}
 use Rattle.atomic_table.specs.Seated.{TableId}
 use Rattle.node_run.specs.Mail.{Mail, BoxModel, NeverComes, NothingWaits, link_to, outlet_to}
+use Rattle.frame_code.specs.declared.sizes.TheConstants.{HELLO_BYTES}
 
 -- how many instructions stand before session s
 abbrev pub before_session : Node → ℕ → ℕ
@@ -61,12 +62,12 @@ ids_of boxes = map (λ (b : BoxModel). b.id) boxes
 
 -- how many bytes the party says to q, and by its first k instructions, whatever the words are
 abbrev pub talk_bytes : Node → ℕ → ℕ
-talk_bytes n q = 38 + 18 * length (messages_between n.world.plan n.me q)
+talk_bytes n q = frame_begin (length (messages_between n.world.plan n.me q))
 
 abbrev pub said_bytes : Node → ℕ → ℕ → ℕ
-said_bytes n q k = 38 + 18 * length (posts_to n q k)
+said_bytes n q k = frame_begin (length (posts_to n q k))
 
--- a steady outlet that took so many bytes is steady, with room for so many less
+-- a steady outlet that took `bytes` bytes is steady, with room for as many less
 pub record KeepsRoom (bytes : ℕ) (before after : SinkReading) : Type 0 where
   pub steady : IsTrue before.steady → IsTrue after.steady
   pub room : IsTrue before.steady → after.room ≡ before.room - bytes
@@ -146,7 +147,7 @@ pub record Greeted (n : Node) (q : ℕ) (start : Begin) (now : Mail) : Type 0 wh
   pub sent : (r : ℕ) → IsPeer n r → r < q
       → (outlet_to now r).told ≡ added (out_to n start.links r).told (hello n.me r n.digest)
   pub calm : (r : ℕ) → IsPeer n r → (outlet_to now r).faults ≡ (out_to n start.links r).faults
-  pub room : (r : ℕ) → IsPeer n r → r < q → KeepsRoom 38 (out_to n start.links r) (outlet_to now r)
+  pub room : (r : ℕ) → IsPeer n r → r < q → KeepsRoom HELLO_BYTES (out_to n start.links r) (outlet_to now r)
   pub others : (r : ℕ) → IsPeer n r → q ≤ r → outlet_to now r ≡ out_to n start.links r
   pub quiet : now.failed ≡ None
 

@@ -19,7 +19,7 @@ use Rattle.node_run.specs.Mail.{BoxModel, no_box}
 use Rattle.node_run.specs.Remains.{ReaderPartsModel, party_at}
 
 -- the plan, which party, its inputs and the pieces of its tape by session, and the job's digest
-pub record Share : Type 0 where
+pub record NodePart : Type 0 where
   pub plan : Plan
   pub me : ℕ
   pub given : PartyForm
@@ -36,20 +36,20 @@ given_to desks = record {
   tapes = map (λ (d : Desk). d.memory.tape) desks;
 }
 
--- a party of a world in which it has this share
-pub record IsNodeOf (share : Share) (n : Node) : Type 0 where
-  pub plan : n.world.plan ≡ share.plan
-  pub me : n.me ≡ share.me
-  pub inputs : slice_index_or n.world.inputs share.me [] ≡ share.given.inputs
-  pub tape : slice_index_or n.world.tapes share.me [] ≡ concat share.given.tapes
-  pub digest : n.digest ≡ share.digest
+-- a party of a world in which it has this part
+pub record IsNodeOf (part : NodePart) (n : Node) : Type 0 where
+  pub plan : n.world.plan ≡ part.plan
+  pub me : n.me ≡ part.me
+  pub inputs : slice_index_or n.world.inputs part.me [] ≡ part.given.inputs
+  pub tape : slice_index_or n.world.tapes part.me [] ≡ concat part.given.tapes
+  pub digest : n.digest ≡ part.digest
 
 -- a plan within the limits, a party of it, what it gives fits the plan, and a digest of 32 bytes
-pub record IsShare (share : Share) : Type 0 where
-  pub sound : IsSound share.plan
-  pub party : share.me < share.plan.parties
-  pub fits : FitsPlan share.plan share.me share.given
-  pub digest : length share.digest ≡ 32
+pub record IsNodePart (part : NodePart) : Type 0 where
+  pub sound : IsSound part.plan
+  pub party : part.me < part.plan.parties
+  pub fits : FitsPlan part.plan part.me part.given
+  pub digest : length part.digest ≡ 32
 
 -- what is kept ready: desks, cells, inboxes, where each message stands in its sender's inbox, readers, and which parker
 -- the party parks on
@@ -92,11 +92,11 @@ pub record ArePeersReady (plan : Plan) (me : ℕ) (parker : TableId) (digest : L
   pub each : (place : ℕ) (reader : ReaderPartsModel) → slice_get readers place ≡ Some reader
       → IsPeerReady plan me parker digest (party_at me place) (slice_index_or boxes place no_box) reader
 
--- all is ready for the run of this share, and nothing is done yet
-pub record IsNodeReady (share : Share) (kept : Kept) : Type 0 where
-  pub fits : IsShare share
-  pub desks : AreOpened share.plan share.me share.given kept.desks
-  pub words : AreEmptyCells share.plan kept.words
-  pub peers : ArePeersReady share.plan share.me kept.parker share.digest (share.plan.parties - 1) kept.boxes
+-- all is ready for the run of this part, and nothing is done yet
+pub record IsNodeReady (part : NodePart) (kept : Kept) : Type 0 where
+  pub fits : IsNodePart part
+  pub desks : AreOpened part.plan part.me part.given kept.desks
+  pub words : AreEmptyCells part.plan kept.words
+  pub peers : ArePeersReady part.plan part.me kept.parker part.digest (part.plan.parties - 1) kept.boxes
       kept.readers
-  pub places : (n : Node) → n.world.plan ≡ share.plan → n.me ≡ share.me → HasPlaces n kept.places
+  pub places : (n : Node) → n.world.plan ≡ part.plan → n.me ≡ part.me → HasPlaces n kept.places

@@ -1,5 +1,5 @@
 // The hellos of a node.
-ghost use Rattle.std.specs.Prelude.{◌≡◌, ◌+◌, ◌<◌, ℕ, true, false};
+ghost use Rattle.std.specs.Prelude.{◌≡◌, ◌+◌, ◌<◌, true, false};
 ghost use Rattle.node_talk.specs.Talks.{Node};
 ghost use Rattle.node_run.specs.Progress.{Begin, Greeted, AllGreeted, Ungreeted};
 

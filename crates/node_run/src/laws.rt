@@ -1,9 +1,9 @@
-//! What the share of a party is part of.
+//! The world that a node's part is of.
 ghost use Rattle.share_world.specs.Laws.{IsWhole};
 ghost use Rattle.node_talk.specs.Talks.{Node};
-ghost use Rattle.node_run.specs.Ready.{Share, IsShare, IsNodeOf};
+ghost use Rattle.node_run.specs.Ready.{NodePart, IsNodePart, IsNodeOf};
 
-/// Each share that fits its plan is that of a node of a whole world.
-pub fn every_share_is_of_a_world()
-    ensures { (share : Share) → IsShare share → (n : Node) × IsNodeOf share n × IsWhole n.world }
+/// Each node's part that fits its plan is that of some node of a whole world.
+pub fn every_node_part_is_of_a_world()
+    ensures { (part : NodePart) → IsNodePart part → (n : Node) × IsNodeOf part n × IsWhole n.world }
 {}

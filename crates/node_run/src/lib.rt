@@ -13,5 +13,5 @@ mod run;
 mod sessions;
 
 pub use done::NodeDone;
-pub use laws::every_share_is_of_a_world;
+pub use laws::every_node_part_is_of_a_world;
 pub use ready::NodeReady;

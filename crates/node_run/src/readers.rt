@@ -47,7 +47,6 @@ impl ReaderParts {
     ghost use Rattle.std.specs.Prelude.{◌≡◌, None, length};
     ghost use Rattle.std.specs.Arc.{arc_value};
     ghost use Rattle.inbox_board.specs.Rule.{newcomer};
-    ghost use Rattle.link_reader.specs.ReadWords.{ReaderModel};
 
     /// The parts of a reader that fills this inbox, with the seat that writes there.
     pub fn new(
@@ -144,7 +143,7 @@ impl<O: Outlet> Leaves for Remains<O> {
 impl<O: Outlet> Remains<O> {
     ghost use Rattle.std.specs.Prelude.{◌≡◌, ◌-◌, length, map, take, None};
     ghost use Rattle.outer_io.specs.Outlet.{shut_outlet};
-    ghost use Rattle.node_run.specs.Mail.{Mail, IsMail};
+    ghost use Rattle.node_run.specs.Mail.{IsMail};
 
     /// What these cells and desks leave, but for as many of the last inboxes as have no reader yet. The outlets are
     /// closed, so that no peer waits for more.

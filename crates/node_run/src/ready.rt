@@ -32,9 +32,9 @@ pub struct NodeReady {
 }
 
 impl Model for NodeReady {
-    ghost use Rattle.node_run.specs.Ready.{Share, IsNodeReady, given_to};
+    ghost use Rattle.node_run.specs.Ready.{NodePart, IsNodeReady, given_to};
 
-    ghost Value = { Share };
+    ghost Value = { NodePart };
 
     ghost view = { λ r. record { plan = r.plan.value; me = r.me; given = given_to r.desks.items; digest = r.digest } };
 

@@ -1,17 +1,18 @@
 -- Why a node stops.
-use Rattle.std.specs.Prelude.{◌≡◌, ◌≢◌, ◌⊎◌, ℕ, ◌+◌, ◌*◌, ◌<◌, ◌^◌, IsTrue, List, length, take, Option, None, Some}
+use Rattle.std.specs.Prelude.{◌≡◌, ◌≢◌, ◌⊎◌, ℕ, ◌+◌, ◌<◌, ◌^◌, IsTrue, List, length, take, Option, None, Some}
 use Rattle.std.specs.List.{AllByRecursion}
 use Rattle.job_plan.specs.declared.key.Key.{Key}
 use Rattle.outer_io.specs.Count.{Rose}
 use Rattle.outer_io.specs.Inlet.{ahead, IsAtEnd}
-use Rattle.frame_code.specs.Frames.{hello, frame}
+use Rattle.frame_code.specs.Frames.{hello, frame, frame_begin}
 use Rattle.node_talk.specs.declared.fault.NodeFault.{NodeFault}
 use Rattle.node_talk.specs.declared.fault.NodeFault.TheVariants.{Link, Closed, BadFrame, OtherJob, NoThread}
 use Rattle.outer_io.specs.Links.{LinksReading}
 use Rattle.node_talk.specs.Talks.{Node, IsPeer, stream, expected, expected_at}
 use Rattle.node_talk.specs.PeerLinks.{in_from, out_to}
+use Rattle.frame_code.specs.declared.sizes.TheConstants.{HELLO_BYTES, FRAME_BYTES}
 
--- the word of a frame of this message, if the bytes are one with a word of so many bits
+-- the word of a frame of this message, if the bytes are one with a word of `bits` bits
 abbrev pub IsWordOf : List ℕ → ℕ → Key → Option ℕ → Type 0
 IsWordOf bytes bits key (Some word) = (word < 2 ^ bits) × (bytes ≡ frame key word)
 IsWordOf bytes bits key None = (word : ℕ) → word < 2 ^ bits → bytes ≢ frame key word
@@ -23,42 +24,42 @@ pub record CameAfter (n : Node) (before after : LinksReading) (q f : ℕ) (bytes
   pub told : (in_from n before q).told
       ≡ ahead (stream n.digest q n.me word (take f (expected n q))) (ahead bytes (in_from n after q).told)
 
--- so many bytes came from q, fewer than the hello has
+-- `at` bytes came from q, fewer than the hello has
 pub record EndsInHello (n : Node) (before after : LinksReading) (q at : ℕ) : Type 0 where
   pub piece : List ℕ
   pub place : at ≡ length piece
-  pub short : length piece < 38
+  pub short : length piece < HELLO_BYTES
   pub told : (in_from n before q).told ≡ ahead piece (in_from n after q).told
 
--- so many bytes came from q: the hello and some expected frames, and fewer than the next expected frame has
+-- `at` bytes came from q: the hello and some expected frames, and fewer than the next expected frame has
 pub record EndsInFrame (n : Node) (before after : LinksReading) (q at : ℕ) : Type 0 where
   pub frame : ℕ
   pub within : frame < length (expected n q)
   pub piece : List ℕ
-  pub place : at ≡ 38 + 18 * frame + length piece
-  pub short : length piece < 18
+  pub place : at ≡ frame_begin frame + length piece
+  pub short : length piece < FRAME_BYTES
   pub came : CameAfter n before after q frame piece
 
--- so many bytes came from q, and then the end, within the hello or the frame that is expected next
+-- `at` bytes came from q, and then the end, within the hello or the frame that is expected next
 pub record ClosedAt (n : Node) (before after : LinksReading) (q at : ℕ) : Type 0 where
   pub within : EndsInHello n before after q at ⊎ EndsInFrame n before after q at
   pub none_left : IsAtEnd (in_from n after q).told
   pub ended : IsTrue (in_from n after q).ended
 
--- after the hello and the frames before it, at the place of an expected frame came 18 bytes that are not that frame
--- with a word of the ring
+-- after the hello and the frames before it, at the place of an expected frame came as many bytes as a frame has,
+-- which are not that frame with a word of the ring
 pub record BadAt (n : Node) (before after : LinksReading) (q at : ℕ) (bytes : List ℕ) : Type 0 where
   pub frame : ℕ
   pub within : frame < length (expected n q)
-  pub place : at ≡ 38 + 18 * frame
-  pub long : length bytes ≡ 18
+  pub place : at ≡ frame_begin frame
+  pub long : length bytes ≡ FRAME_BYTES
   pub came : CameAfter n before after q frame bytes
   pub no_frame : IsWordOf bytes n.world.plan.bits (expected_at n q frame) None
 
--- the first 38 bytes from q are not the hello that is expected
+-- the first bytes from q, as many as a hello has, are not the hello that is expected
 pub record OtherHello (n : Node) (before after : LinksReading) (q : ℕ) (ours theirs : List ℕ) : Type 0 where
   pub expected : ours ≡ hello q n.me n.digest
-  pub long : length theirs ≡ 38
+  pub long : length theirs ≡ HELLO_BYTES
   pub told : (in_from n before q).told ≡ ahead theirs (in_from n after q).told
   pub differ : theirs ≢ ours
 

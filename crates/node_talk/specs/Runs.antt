@@ -19,6 +19,7 @@ use Rattle.node_talk.specs.declared.fault.NodeFault.{NodeFault}
 use Rattle.node_talk.specs.declared.fault.NodeFault.TheVariants.{NoThread}
 use Rattle.node_talk.specs.Talks.{Node, IsPeer, own_word, talk, expected, place_of, heard, acts, said, Begins, IsRun, EndsBefore}
 use Rattle.node_talk.specs.PeerLinks.{in_from, out_to}
+use Rattle.party_set.specs.Parties.{party_mask}
 
 -- ---- what a node that is done has
 
@@ -55,7 +56,7 @@ pub record IsDone (n : Node) (got : Key → ℕ) (r : Results) : Type 0 where
 abbrev pub kept_view : Plan → ℕ → Results → List (Key × ℕ)
 kept_view plan me r =
     joined (length (messages plan)) (λ m.
-    only_if (touches (2 ^ me) (message plan m)) ((message plan m, unwrap_or (word_kept r m) 0) ∷ []))
+    only_if (touches (party_mask me) (message plan m)) ((message plan m, unwrap_or (word_kept r m) 0) ∷ []))
 
 -- ---- what was said and heard
 
@@ -69,7 +70,7 @@ pub record TalkedThrough (n : Node) (got : Key → ℕ) (before after : LinksRea
 
 -- ---- where a run breaks off
 
--- message m is of the party itself, or among the first ones that came from each peer, so many of each
+-- message m is of the party itself, or among the first `came` ones of each peer
 abbrev pub HasCome : Node → (ℕ → ℕ) → ℕ → Type 0
 HasCome n came m =
     ((message n.world.plan m).sender ≡ n.me) ⊎ (place_of n m < came (message n.world.plan m).sender)

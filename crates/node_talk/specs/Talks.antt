@@ -108,7 +108,7 @@ pub record IsRun (n : Node) (q : ℕ) (bytes : List ℕ) (f : ℕ) (word : Key �
   pub small : AllByRecursion (λ key. word key < 2 ^ n.world.plan.bits) (take f (expected n q))
   pub begins : Begins bytes (stream n.digest q n.me word (take f (expected n q)))
 
--- the bytes hold no run of so many frames
+-- the bytes hold no run of f frames
 abbrev pub EndsBefore : Node → ℕ → List ℕ → ℕ → Type 0
 EndsBefore n q bytes f = (word : Key → ℕ) → IsRun n q bytes f word → ⊥
 

@@ -1,5 +1,7 @@
 //! Why a node stopped.
 
+use frame_code::{FRAME_BYTES, HELLO_BYTES};
+
 /// The fault that ended a node's run.
 #[derive(Clone, Copy, Debug, PartialEq, Eq)]
 pub enum NodeFault {
@@ -7,7 +9,7 @@ pub enum NodeFault {
     Link {
         peer: u32,
     },
-    /// This peer's bytes ended after so many, with bytes missing.
+    /// This peer's bytes ended after `at` bytes, with others missing.
     Closed {
         peer: u32,
         at: u64,
@@ -16,13 +18,13 @@ pub enum NodeFault {
     BadFrame {
         peer: u32,
         at: u64,
-        bytes: [u8; 18],
+        bytes: [u8; FRAME_BYTES],
     },
     /// The first bytes are not the hello that is expected.
     OtherJob {
         peer: u32,
-        ours: [u8; 38],
-        theirs: [u8; 38],
+        ours: [u8; HELLO_BYTES],
+        theirs: [u8; HELLO_BYTES],
     },
     /// The reader of this peer couldn't be started.
     NoThread {

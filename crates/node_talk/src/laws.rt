@@ -1,5 +1,5 @@
 //! Laws of what a node says and hears.
-ghost use Rattle.std.specs.Prelude.{◌≡◌, ℕ, ◌<◌, ◌≤◌, ◌^◌, length};
+ghost use Rattle.std.specs.Prelude.{◌≡◌, ℕ, ◌<◌, ◌≤◌, length};
 ghost use Rattle.job_plan.specs.Messages.{messages};
 ghost use Rattle.job_plan.specs.Numbers.{message};
 ghost use Rattle.job_plan.specs.declared.key.Key.{Key};
@@ -11,6 +11,7 @@ ghost use Rattle.node_talk.specs.declared.fault.NodeFault.{NodeFault};
 ghost use Rattle.node_talk.specs.Talks.{Node, TalkIsSaid, expected, expected_at, place_of, RunsAgree, OneIsLongest};
 ghost use Rattle.node_talk.specs.Causes.{Cause};
 ghost use Rattle.node_talk.specs.Runs.{Results, IsDone, kept_view, TalkedThrough, StopsAtOnePlace, HearsAll, NoneRose, HearsWorld, GotWorld, IsOfWorld};
+ghost use Rattle.party_set.specs.Parties.{party_mask};
 
 /// All instructions of a party together say its talk: its posts to another party are the messages to it, in the order
 /// of their numbers.
@@ -61,5 +62,5 @@ pub fn nodes_among_a_world_are_of_it()
 /// A node that is done, and got the words of the world, kept its own view in the world.
 pub fn a_node_keeps_its_own_view()
     ensures { (n : Node) (got : Key → ℕ) (r : Results) → IsWhole n.world → n.me < n.world.plan.parties
-        → IsDone n got r → GotWorld n got → kept_view n.world.plan n.me r ≡ view n.world (2 ^ n.me) }
+        → IsDone n got r → GotWorld n got → kept_view n.world.plan n.me r ≡ view n.world (party_mask n.me) }
 {}

@@ -1,9 +1,9 @@
 -- The text of a node that is done: for each session and output value that its party reads, a line with the words of the
 -- value's wires; and the view of its party alone.
-use Rattle.std.specs.Prelude.{ℕ, ◌+◌, ◌^◌, Bool, List, [], ◌∷◌, ◌++◌, length}
+use Rattle.std.specs.Prelude.{ℕ, ◌+◌, Bool, List, [], ◌∷◌, ◌++◌, length}
 use Rattle.std.specs.Option.{unwrap_or}
 use Rattle.list_laws.specs.Lists.{joined, listed, only_if}
-use Rattle.party_set.specs.Parties.{has_party}
+use Rattle.party_set.specs.Parties.{has_party, party_mask}
 use Rattle.party_set.specs.Names.{name_at}
 use Rattle.job_plan.specs.Plans.{Plan, session}
 use Rattle.job_plan.specs.Numbers.{message}
@@ -13,7 +13,7 @@ use Rattle.node_talk.specs.Runs.{Results, word_kept, output_of, kept_view}
 use Rattle.view_text.specs.ViewText.{view_text}
 use Rattle.output_text.specs.OutText.{out_line, output_value, wires_before}
 
--- the words of so many output wires of session s, from this one on
+-- the words of `width` output wires of session s, from wire `first` on
 abbrev pub output_words : Results → ℕ → ℕ → ℕ → List ℕ
 output_words r s first width = listed width (λ i. unwrap_or (output_of r s (first + i)) 0)
 
@@ -41,4 +41,4 @@ outputs_text names plan me r =
 -- and then, where it is asked for, the view of its party alone, as it kept it
 unfoldable pub node_text : List (List ℕ) → Plan → ℕ → Bool → Results → List ℕ
 node_text names plan me view r =
-    outputs_text names plan me r ++ only_if view (view_text names (2 ^ me) (kept_view plan me r))
+    outputs_text names plan me r ++ only_if view (view_text names (party_mask me) (kept_view plan me r))

@@ -10,12 +10,22 @@ ghost use Rattle.output_text.specs.OutText.{wires_before};
 ghost use Rattle.node_text.specs.NodeText.{node_text, outputs_text, session_lines, value_line, output_words};
 
 use crate::view::gather_view;
+use circuit_model::MOST_WIRES;
 use job_plan::Plan;
 use node_run::NodeDone;
 use outer_io::{Blocks, Failed, Gather, Sink};
 use output_text::{gather_head, is_read, value_of};
-use party_set::Names;
+use party_set::{MOST_PARTIES, Names};
 use text_parts::gather_word;
+
+/// The party of a node that is done, which reads its outputs.
+#[derive(Clone, Copy)]
+struct Reader<'a> {
+    name: &'a str,
+    party: u32,
+    plan: &'a Plan,
+    done: &'a NodeDone,
+}
 
 /// Writes the lines of party `me`, which is done: `out SESSION VALUE READER` and the words of the value's wires, for
 /// each session and output value that it reads; and then, where `view` is true, the view of the party alone, with the
@@ -67,62 +77,60 @@ fn gather_outputs<G: Gather>(out: &mut G, names: &Names, plan: &Plan, me: u32, d
 {
     let _ = names.len();
     let _ = plan.parties();
+    let reader = Reader {
+        name: names.name(me),
+        party: me,
+        plan,
+        done,
+    };
     for s in 0..plan.sessions() {
-        gather_session(out, names.name(me), plan, me, done, s);
+        gather_session(out, &reader, s);
     }
 }
 
-fn gather_session<G: Gather>(
-    out: &mut G,
-    reader: &str,
-    plan: &Plan,
-    me: u32,
-    done: &NodeDone,
-    s: u32,
-)
-    requires sound { IsSound plan.now }
-    requires party { me < 12 }
-    requires done { length done.now.outputs ≡ length plan.now.sessions }
-    requires session { s < length plan.now.sessions }
-    ensures { Adds (session_lines reader.now plan.now me done.now s) (G.gathered out.old) (G.gathered out.new) }
+fn gather_session<G: Gather>(out: &mut G, reader: &Reader<'_>, s: u32)
+    requires sound { IsSound reader.now.plan.now }
+    requires party { reader.now.party < MOST_PARTIES }
+    requires done { length reader.now.done.now.outputs ≡ length reader.now.plan.now.sessions }
+    requires session { s < length reader.now.plan.now.sessions }
+    ensures { Adds (session_lines reader.now.name.now reader.now.plan.now reader.now.party reader.now.done.now s)
+        (G.gathered out.old) (G.gathered out.new) }
 {
     let mut first = 0;
-    for v in 0..plan.part(s).outputs().len() {
-        gather_value(out, reader, plan, me, done, s, v, first);
-        first += value_of(plan, s, v).width;
+    for v in 0..reader.plan.part(s).outputs().len() {
+        gather_value(out, reader, s, v, first);
+        first += value_of(reader.plan, s, v).width;
     }
 }
 
 // The line of value v, whose first wire this is, if the party reads the value.
-fn gather_value<G: Gather>(
-    out: &mut G,
-    reader: &str,
-    plan: &Plan,
-    me: u32,
-    done: &NodeDone,
-    s: u32,
-    v: usize,
-    first: u32,
-)
-    requires sound { IsSound plan.now }
-    requires party { me < 12 }
-    requires done { length done.now.outputs ≡ length plan.now.sessions }
-    requires session { s < length plan.now.sessions }
-    requires value { v < length (session plan.now s).outputs }
-    requires first { first ≡ wires_before (session plan.now s) v }
-    ensures { Adds (value_line reader.now plan.now me done.now s v) (G.gathered out.old) (G.gathered out.new) }
+fn gather_value<G: Gather>(out: &mut G, reader: &Reader<'_>, s: u32, v: usize, first: u32)
+    requires sound { IsSound reader.now.plan.now }
+    requires party { reader.now.party < MOST_PARTIES }
+    requires done { length reader.now.done.now.outputs ≡ length reader.now.plan.now.sessions }
+    requires session { s < length reader.now.plan.now.sessions }
+    requires value { v < length (session reader.now.plan.now s).outputs }
+    requires first { first ≡ wires_before (session reader.now.plan.now s) v }
+    ensures { Adds (value_line reader.now.name.now reader.now.plan.now reader.now.party reader.now.done.now s v)
+        (G.gathered out.old) (G.gathered out.new) }
 {
-    if !is_read(plan, s, v, me) {
+    if !is_read(reader.plan, s, v, reader.party) {
         return;
     }
-    gather_head(out, s, v, reader);
-    gather_words(out, done, s, first, value_of(plan, s, v).width);
+    gather_head(out, s, v, reader.name);
+    gather_words(
+        out,
+        reader.done,
+        s,
+        first,
+        value_of(reader.plan, s, v).width,
+    );
     out.push(b"\n");
 }
 
-// The words of so many output wires from this one on, each after a space.
+// The words of `width` output wires from wire `first` on, each after a space.
 fn gather_words<G: Gather>(out: &mut G, done: &NodeDone, s: u32, first: u32, width: u32)
-    requires few { first + width ≤ 131072 }
+    requires few { first + width ≤ MOST_WIRES }
     requires session { s < length done.now.outputs }
     ensures { Adds (words_text (output_words done.now s first width)) (G.gathered out.old) (G.gathered out.new) }
 {

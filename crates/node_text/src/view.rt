@@ -6,11 +6,12 @@ ghost use Rattle.job_plan.specs.Messages.{messages};
 ghost use Rattle.node_talk.specs.Runs.{kept_view};
 ghost use Rattle.view_text.specs.ViewText.{view_text, message_lines};
 ghost use Rattle.node_text.specs.NodeText.{kept_message};
+ghost use Rattle.party_set.specs.Parties.{party_mask};
 
 use job_plan::Plan;
 use node_run::NodeDone;
 use outer_io::Gather;
-use party_set::{Group, Names};
+use party_set::{Group, MOST_PARTIES, Names, group_of_mask, party_mask};
 use view_text::{gather_message_line, gather_view_head, touches};
 
 /// Adds what party `me` kept of its own view: `view NAME`, and the line of each message that it sent or got, with the
@@ -35,27 +36,11 @@ pub(crate) fn gather_view<G: Gather>(
 
 // The group of one party.
 fn alone(party: u32, parties: u32) -> Group
-    requires parties { parties ≤ 12 }
+    requires parties { parties ≤ MOST_PARTIES }
     requires party { party < parties }
-    ensures { result ≡ record { parties = parties; mask = 2 ^ party } }
+    ensures { result ≡ record { parties = parties; mask = party_mask party } }
 {
-    group_of_mask(bit(party), parties)
-}
-
-// The mask of one party.
-fn bit(party: u32) -> u32
-    requires { party < 12 }
-    ensures { result ≡ 2 ^ party }
-{
-    1 << party
-}
-
-fn group_of_mask(mask: u32, parties: u32) -> Group
-    requires parties { (1 ≤ parties) × (parties ≤ 12) }
-    requires mask { mask < 2 ^ parties }
-    ensures { result ≡ record { parties = parties; mask = mask } }
-{
-    Group::of_mask(mask, parties).unwrap_or(Group::empty(parties))
+    group_of_mask(party_mask(party), parties)
 }
 
 // The lines of the messages that a member of the group sent or got.

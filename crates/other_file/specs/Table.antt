@@ -16,6 +16,7 @@ use Rattle.party_file.specs.declared.fault.PartyFault.{PartyFault}
 use Rattle.party_file.specs.declared.fault.PartyFault.TheVariants.{NotToml, Missing, Unknown, WrongKind, CountDiffers}
 use Rattle.other_file.specs.declared.fault.OtherFault.{OtherFault}
 use Rattle.other_file.specs.declared.fault.OtherFault.TheVariants as other
+use Rattle.job_plan.specs.InputWords.{InputLists}
 
 -- ---- the fields
 
@@ -58,7 +59,7 @@ party_fault plan names given p =
     (first_fault (text_checks plan p (texts_at (name_at names p) given)))
 
 -- the inputs of party p: those that this table gives, or where it doesn't name p, those of the first run
-unfoldable pub party_inputs : List (List ℕ) → List (List (List ℕ)) → Members → ℕ → List (List ℕ)
+unfoldable pub party_inputs : List (List ℕ) → InputLists → Members → ℕ → List (List ℕ)
 party_inputs names inputs given p =
     if has_field (name_at names p) given then map numbers_in (texts_at (name_at names p) given)
     else slice_index_or inputs p []
@@ -71,17 +72,17 @@ other_fault plan names fields =
     option_or (option_map (λ fault. other.File fault) (first_fault (file_checks names fields)))
     (first_fault (listed plan.parties (party_fault plan names (inputs_in fields))))
 
-unfoldable pub other_inputs : Plan → List (List ℕ) → List (List (List ℕ)) → Members → List (List (List ℕ))
+unfoldable pub other_inputs : Plan → List (List ℕ) → InputLists → Members → InputLists
 other_inputs plan names inputs fields = listed plan.parties (party_inputs names inputs (inputs_in fields))
 
 -- what the fields give, or their first fault
 abbrev pub other_in_fields :
-    Plan → List (List ℕ) → List (List (List ℕ)) → Option Members → Result (List (List (List ℕ))) OtherFault
+    Plan → List (List ℕ) → InputLists → Option Members → Result InputLists OtherFault
 other_in_fields plan names inputs None = Err (other.File NotToml)
 other_in_fields plan names inputs (Some fields) =
     or_fault (other_fault plan names fields) (other_inputs plan names inputs fields)
 
 -- the inputs of all parties that the bytes of a file give beside those of a first run, or its first fault
 unfoldable pub other_in :
-    Plan → List (List ℕ) → List (List (List ℕ)) → List ℕ → Result (List (List (List ℕ))) OtherFault
+    Plan → List (List ℕ) → InputLists → List ℕ → Result InputLists OtherFault
 other_in plan names inputs bytes = other_in_fields plan names inputs (document_of bytes)

@@ -21,7 +21,7 @@ links_reading read_inlet read_outlet links =
       outlets = map read_outlet links.outlets.items;
     }
 
--- there is an inlet and an outlet for each of so many peers
+-- there is an inlet and an outlet for each of `peers` peers
 pub record HasPeers (peers : ℕ) (links : LinksReading) : Type 0 where
   pub inlets : length links.inlets ≡ peers
   pub outlets : length links.outlets ≡ peers
@@ -45,7 +45,8 @@ are_fresh links = list_all is_fresh_inlet links.inlets && list_all is_fresh_outl
 
 -- whether none of the coming calls at these links is one that fails by itself
 abbrev pub are_steady : LinksReading → Bool
-are_steady links = list_all (λ inlet. inlet.steady) links.inlets && list_all (λ outlet. outlet.sink.steady) links.outlets
+are_steady links =
+    list_all (λ inlet. inlet.steady) links.inlets && list_all (λ outlet. outlet.sink.steady) links.outlets
 
 -- whether all of these links are closed
 abbrev pub are_closed : LinksReading → Bool
@@ -70,7 +71,7 @@ pub record NetReading : Type 0 where
   pub steady : Bool
   -- the meeting for which it gives links, where it is steady
   pub expects : Option Meeting
-  -- what the links to so many peers show when it gives them
+  -- what the links to a number of peers show when it gives them
   pub offers : ℕ → LinksReading
   -- what the links showed that were handed back last
   pub kept : Option LinksReading

@@ -15,7 +15,7 @@ use Rattle.outer_io.specs.Jobs.{SpawnerReading}
 use Rattle.outer_io.specs.Outlet.{OutletReading}
 use Rattle.outer_io.specs.Sink.{SinkReading}
 
--- none of the listed calls is still to come, after so many calls
+-- none of the listed calls is still to come, after `calls` calls
 abbrev pub all_past : List ℕ → ℕ → Bool
 all_past listed calls = list_all (λ call. nat_lt call calls) listed
 

@@ -25,14 +25,14 @@ pub struct PipeNet {
 }
 
 impl PipeNet {
-    ghost use Rattle.outer_io.specs.PipeNets.{pipe_reading, meeting_of, offered};
+    ghost use Rattle.outer_io.specs.PipeNets.{pipe_reading, meeting_of};
     ghost use Rattle.outer_io.specs.Memory.{all_past};
     ghost use Rattle.outer_io.specs.Links.{are_steady};
     ghost use Rattle.std.specs.Prelude.{◌&&◌};
     ghost use Rattle.std.specs.Option.{option_map};
 
-    /// A net that expects party `me` of so many to ask for its links, with these hosts and this port. The calls of the
-    /// numbers in `failing` fail, counted from 0.
+    /// A net that expects party `me` of `parties` to ask for its links, with these hosts and this port. The calls of
+    /// the numbers in `failing` fail, counted from 0.
     pub fn new(
         hosts: Hosts,
         port: u16,

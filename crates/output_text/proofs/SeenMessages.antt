@@ -7,12 +7,12 @@ use Rattle.std.proofs.lemmas.List.Concat.{flat_map-append}
 use Rattle.list_laws.specs.Lists.{joined, listed}
 use Rattle.list_laws.proofs.JoinedLists.{length-listed, listed_at}
 use Rattle.job_plan.specs.declared.key.Key.{Key}
-use Rattle.job_plan.specs.declared.pattern.Line.{Line}
+use Rattle.job_plan.specs.declared.pattern.Transfer.{Transfer}
 use Rattle.job_plan.specs.Plans.{Plan, slot}
 use Rattle.job_plan.specs.Messages.{slot_messages}
 use Rattle.job_plan.specs.Numbers.{no_key}
-use Rattle.job_plan.specs.Patterns.{named, lines, pattern_at}
-use Rattle.job_plan.proofs.RankSearch.{no_line, named_at}
+use Rattle.job_plan.specs.Patterns.{named, transfers, pattern_at}
+use Rattle.job_plan.proofs.RankSearch.{no_transfer, named_at}
 use Rattle.share_world.specs.Worlds.{World, touches, word}
 use Rattle.view_text.specs.ViewText.{message_line, message_lines}
 use Rattle.view_text.specs.Seen.{seen_of}
@@ -41,13 +41,13 @@ module _ (names : List (List ℕ)) (w : World) (group : ℕ) where
   seen-joined zero f = seen-none
   seen-joined (suc n) f = written-append (joined n f) (f n) ∙ ap (λ xs. xs ++ seen (f n)) (seen-joined n f)
 
-  -- the lines of a slot, one by one
-  seen-lines : (s k : ℕ) (xs : List Line) → seen (map (named s k) xs) ≡ joined (length xs) (λ i. seen (named s k (slice_index_or xs i no_line) ∷ []))
-  seen-lines s k xs = ap seen one_by_one ∙ seen-joined (length xs) (λ i. named s k (slice_index_or xs i no_line) ∷ [])
+  -- the transfers of a slot, one by one
+  seen-transfers : (s k : ℕ) (xs : List Transfer) → seen (map (named s k) xs) ≡ joined (length xs) (λ i. seen (named s k (slice_index_or xs i no_transfer) ∷ []))
+  seen-transfers s k xs = ap seen one_by_one ∙ seen-joined (length xs) (λ i. named s k (slice_index_or xs i no_transfer) ∷ [])
     where
-      one_by_one : map (named s k) xs ≡ listed (length xs) (λ i. named s k (slice_index_or xs i no_line))
-      one_by_one = ext_get_or no_key _ _ (length-map xs (named s k) ∙ sym (length-listed (length xs) (λ i. named s k (slice_index_or xs i no_line))))
-          (λ i l. let within : i < length xs = omega (arith, length-map xs (named s k)) in named_at s k xs i within ∙ sym (listed_at (length xs) (λ i. named s k (slice_index_or xs i no_line)) i no_key within))
+      one_by_one : map (named s k) xs ≡ listed (length xs) (λ i. named s k (slice_index_or xs i no_transfer))
+      one_by_one = ext_get_or no_key _ _ (length-map xs (named s k) ∙ sym (length-listed (length xs) (λ i. named s k (slice_index_or xs i no_transfer))))
+          (λ i l. let within : i < length xs = omega (arith, length-map xs (named s k)) in named_at s k xs i within ∙ sym (listed_at (length xs) (λ i. named s k (slice_index_or xs i no_transfer)) i no_key within))
 
   -- a message of a member
   pub seen-own : (key : Key) → touches group key ≡ true → message_line names key (word w key) ≡ seen (key ∷ [])
@@ -61,9 +61,9 @@ module _ (names : List (List ℕ)) (w : World) (group : ℕ) where
   unfolding seen_lines
   seen-other key other = sym (ap (λ keys. message_lines names (with_words keys)) (cond-false (touches group key) (key ∷ []) [] other))
 
-  -- the messages of a slot, by the lines of its pattern
-  pub slot_is : (plan : Plan) (s k : ℕ) (xs : List Line) → w.plan ≡ plan → xs ≡ lines plan (pattern_at plan s k)
-      → joined (length xs) (λ i. seen (named s k (slice_index_or xs i no_line) ∷ [])) ≡ slot_seen names w group s k
+  -- the messages of a slot, by the transfers of its pattern
+  pub slot_is : (plan : Plan) (s k : ℕ) (xs : List Transfer) → w.plan ≡ plan → xs ≡ transfers plan (pattern_at plan s k)
+      → joined (length xs) (λ i. seen (named s k (slice_index_or xs i no_transfer) ∷ [])) ≡ slot_seen names w group s k
   slot_is plan s k xs same is =
-      sym (seen-lines s k xs)
+      sym (seen-transfers s k xs)
       ∙ ap seen (sym (slot_named plan s k xs is) ∙ ap (λ p. slot_messages p s k (slot p s k)) (sym same))

@@ -1,12 +1,14 @@
 //! The text of a pair of runs.
-ghost use Rattle.std.specs.Prelude.{◌≡◌, ◌<◌, ◌++◌, [], codes, length, slice_index_or};
+ghost use Rattle.std.specs.Prelude.{◌≡◌, ◌<◌, length};
 ghost use Rattle.outer_io.specs.Sink.{Writes};
 ghost use Rattle.outer_io.specs.Blocks.{Adds};
 ghost use Rattle.job_plan.specs.InputWords.{session_words};
 ghost use Rattle.desk_workers.specs.Runs.{IsRunOver, OfItsWorld};
 ghost use Rattle.text_parts.specs.Parts.{words_text};
+ghost use Rattle.output_text.specs.Finished.{IsFinished, OfRunsWorld};
 ghost use Rattle.output_text.specs.PairText.{pair_text, tapes_text, tape_line};
 
+use crate::finished_run::FinishedRun;
 use crate::run::gather_out;
 use crate::view::gather_view;
 use desk_workers::Done;
@@ -37,35 +39,43 @@ pub fn write_pair<S: Sink>(
         → Writes (pair_text names.now w v group.mask) (S.reading sink.old) (S.reading sink.new) result)) }
 {
     let mut blocks = Blocks::new(sink);
-    gather_pair(&mut blocks, names, plan, first, second, group, tapes);
+    let first = FinishedRun {
+        names,
+        plan,
+        done: first,
+    };
+    gather_pair(&mut blocks, &first, second, group, tapes);
     blocks.finish()
 }
 
+// The second run has the names and the plan of the first.
 fn gather_pair<G: Gather>(
     out: &mut G,
-    names: &Names,
-    plan: &Plan,
-    first: &Done,
+    first: &FinishedRun<'_>,
     second: &Done,
     group: Group,
     tapes: &[Vec<u64>],
 )
-    requires names { length names.now ≡ plan.now.parties }
-    requires group { group.parties ≡ length names.now }
-    requires first { IsRunOver plan.now first.now }
-    requires second { IsRunOver plan.now second.now }
-    requires tapes { length tapes.now ≡ length names.now }
-    ensures { OfItsWorld plan.now first.now (λ w. OfItsWorld plan.now second.now
+    requires group { group.parties ≡ length first.now.names.now }
+    requires first { IsFinished first.now }
+    requires second { IsRunOver first.now.plan.now second.now }
+    requires tapes { length tapes.now ≡ length first.now.names.now }
+    ensures { OfRunsWorld first.now (λ w. OfItsWorld first.now.plan.now second.now
         (λ v. session_words tapes.now ≡ v.tapes
-        → Adds (pair_text names.now w v group.mask) (G.gathered out.old) (G.gathered out.new))) }
+        → Adds (pair_text first.now.names.now w v group.mask) (G.gathered out.old) (G.gathered out.new))) }
 {
     out.push(b"first\n");
-    gather_out(out, names, plan, first);
-    gather_view(out, names, plan, first, group);
+    gather_out(out, first);
+    gather_view(out, first, group);
+    let second = FinishedRun {
+        names: first.names,
+        plan: first.plan,
+        done: second,
+    };
     out.push(b"second\n");
-    gather_out(out, names, plan, second);
-    gather_view(out, names, plan, second, group);
-    gather_tapes(out, names, tapes);
+    gather_out(out, &second);
+    gather_view(out, &second, group);
+    gather_tapes(out, first.names, tapes);
 }
 
 fn gather_tapes<G: Gather>(out: &mut G, names: &Names, tapes: &[Vec<u64>])

@@ -3,9 +3,11 @@ ghost use Rattle.std.specs.Prelude.{◌≡◌, ◌<◌, length};
 ghost use Rattle.outer_io.specs.Sink.{Writes};
 ghost use Rattle.outer_io.specs.Blocks.{Adds};
 ghost use Rattle.desk_workers.specs.Runs.{IsRunOver, OfItsWorld};
+ghost use Rattle.output_text.specs.Finished.{IsFinished, OfRunsWorld};
 ghost use Rattle.output_text.specs.SampleText.{sample_text};
 
 use crate::check::{gather_count, gather_tapes};
+use crate::finished_run::FinishedRun;
 use crate::run::gather_out;
 use desk_workers::Done;
 use job_plan::Plan;
@@ -28,20 +30,20 @@ pub fn write_sample<S: Sink>(
         (λ w. Writes (sample_text names.now w count) (S.reading sink.old) (S.reading sink.new) result) }
 {
     let mut blocks = Blocks::new(sink);
-    gather_sample(&mut blocks, names, plan, done, count);
+    let run = FinishedRun { names, plan, done };
+    gather_sample(&mut blocks, &run, count);
     blocks.finish()
 }
 
-fn gather_sample<G: Gather>(out: &mut G, names: &Names, plan: &Plan, done: &Done, count: u32)
-    requires names { length names.now ≡ plan.now.parties }
-    requires session { 0 < length plan.now.sessions }
-    requires over { IsRunOver plan.now done.now }
-    ensures { OfItsWorld plan.now done.now
-        (λ w. Adds (sample_text names.now w count) (G.gathered out.old) (G.gathered out.new)) }
+fn gather_sample<G: Gather>(out: &mut G, run: &FinishedRun<'_>, count: u32)
+    requires session { 0 < length run.now.plan.now.sessions }
+    requires run { IsFinished run.now }
+    ensures { OfRunsWorld run.now
+        (λ w. Adds (sample_text run.now.names.now w count) (G.gathered out.old) (G.gathered out.new)) }
 {
     gather_count(out, "sample", count as u64);
-    gather_count(out, "products", plan.part(0).products() as u64);
-    gather_count(out, "messages", plan.messages() as u64);
-    gather_tapes(out, names, plan);
-    gather_out(out, names, plan, done);
+    gather_count(out, "products", run.plan.part(0).products() as u64);
+    gather_count(out, "messages", run.plan.messages() as u64);
+    gather_tapes(out, run.names, run.plan);
+    gather_out(out, run);
 }

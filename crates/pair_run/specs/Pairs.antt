@@ -1,7 +1,7 @@
 -- The two runs of a pair, and the tapes that pieces make.
 use Rattle.std.specs.Prelude.{◌≡◌, ℕ, List, [], length}
 use Rattle.job_plan.specs.Plans.{Plan}
-use Rattle.job_plan.specs.InputWords.{session_words}
+use Rattle.job_plan.specs.InputWords.{session_words, InputLists}
 use Rattle.share_world.specs.Worlds.{World}
 use Rattle.tape_map.specs.TapeMaps.{second_world}
 use Rattle.tape_map.specs.Laws.{CanHide}
@@ -15,7 +15,7 @@ tapes_in plan pieces = (world_of_pieces plan [] pieces).tapes
 
 -- both worlds are ready, for one worker each: that of the job, and the second world of the other inputs, which are
 -- hidden from the group
-pub record IsPair (w : World) (other : List (List (List ℕ))) (group : ℕ) (pair : Pair) : Type 0 where
+pub record IsPair (w : World) (other : InputLists) (group : ℕ) (pair : Pair) : Type 0 where
   pub hides : CanHide w other group
   pub first : IsReady w pair.first
   pub second : IsReady (second_world w other group) pair.second

@@ -7,12 +7,12 @@ use Rattle.std.proofs.lemmas.Bool.{cases_lt}
 use Rattle.list_laws.specs.Lists.{only_if}
 use Rattle.list_laws.proofs.JoinedLists.{every_append, every_only_if}
 use Rattle.secret_sharing.specs.Schemes.{has_pair}
-use Rattle.job_plan.specs.declared.pattern.Line.{Line}
+use Rattle.job_plan.specs.declared.pattern.Transfer.{Transfer}
 use Rattle.job_plan.specs.declared.pattern.Pattern.{Pattern}
 use Rattle.job_plan.specs.declared.pattern.Pattern.TheVariants.{Silent, Dealt, Multiplied, Opened, HandedOut, OpenedToAll, Joined, Held, Received}
 use Rattle.job_plan.specs.Plans.{IsPlan, Plan, least_held, scheme, slots}
 use Rattle.job_plan.specs.Numbers.{deals_before}
-use Rattle.job_plan.specs.Patterns.{lines, pattern_at}
+use Rattle.job_plan.specs.Patterns.{transfers, pattern_at}
 use Rattle.job_plan.proofs.DistinctMessages.{every_place}
 use Rattle.party_program.specs.declared.half.Half.{Half}
 use Rattle.party_program.specs.declared.half.Half.TheVariants.{Head, Tail}
@@ -38,7 +38,7 @@ abbrev NotTake : Step → Type 0
 NotTake (Take share place) = ⊥
 NotTake _ = Unit {0}
 
-every_map : (P : Step → Type 0) (f : ℕ × Line → Step) (ys : List (ℕ × Line)) → ((y : ℕ × Line) → P (f y)) → AllByRecursion P (map f ys)
+every_map : (P : Step → Type 0) (f : ℕ × Transfer → Step) (ys : List (ℕ × Transfer)) → ((y : ℕ × Transfer) → P (f y)) → AllByRecursion P (map f ys)
 every_map P f [] h = tt
 every_map P f (y ∷ ys) h = (h y, every_map P f ys h)
 
@@ -58,10 +58,10 @@ before_last P (y ∷ xs) x d (suc i) h l = before_last P xs x d i h.1 (omega (ar
 
 module _ (plan : Plan) (p : ℕ) where
   every_post : (P : Step → Type 0) → ((share place : ℕ) → P (Post share place)) → (pattern : Pattern) → AllByRecursion P (post_steps plan p pattern)
-  every_post P h pattern = every_map P post_step (filter (is_from p) (enumerate_from 0 (lines plan pattern))) (λ y. h y.1.share y.0)
+  every_post P h pattern = every_map P post_step (filter (is_from p) (enumerate_from 0 (transfers plan pattern))) (λ y. h y.1.share y.0)
 
   every_take : AllByRecursion IsTake (take_steps plan p Multiplied)
-  every_take = every_map IsTake take_step (filter (is_to p) (enumerate_from 0 (lines plan Multiplied))) (λ y. tt)
+  every_take = every_map IsTake take_step (filter (is_to p) (enumerate_from 0 (transfers plan Multiplied))) (λ y. tt)
 
   head_post : has_pair (scheme plan) p ≡ true → (i : ℕ) (d : Step) → 2 ≤ i → i < length (steps plan p Head Multiplied) → IsPost (slice_index_or (steps plan p Head Multiplied) i d)
   head_post has i d =

@@ -45,6 +45,14 @@ pub record MayWalk (plan : Plan) (list : List ℕ) (given : Given) (d : Desk) : 
   pub goes : IsDeskOfPlan plan given d
   pub promises : HasWords given list
 
+-- the desk may walk with what it was given
+abbrev pub CanWalk : Plan → List ℕ → Desk → Type 0
+CanWalk plan list d = (given : Given) × MayWalk plan list given d
+
+-- this holds of all that the desk may walk with
+abbrev pub ForWalking : Plan → List ℕ → Desk → (Given → Type 0) → Type 0
+ForWalking plan list d holds = (given : Given) → MayWalk plan list given d → holds given
+
 -- no instruction of this kind comes next, whatever slot it names
 abbrev pub NoneNext : (ℕ → Instruction) → Given → Desk → Type 0
 NoneNext kind given d = (k : ℕ) → instruction_at given d ≢ kind k
@@ -93,18 +101,18 @@ pub record Walks {W : Type 0} (given : Given) (seat : Sitting W) (d : Desk) (sea
 
 -- the same, for a half of a slot: it went on where it came to the end of that, and else nothing comes next that the desk
 -- computes of a gate by itself, nor a take of a product whose word the seat knows
-pub record WentOn {W : Type 0} (given : Given) (seat : Sitting W) (d : Desk) (seat' : Sitting W) (d' : Desk) (goes : Bool)
-    : Type 0 where
+pub record WentOn {W : Type 0} (given : Given) (seat : Sitting W) (d : Desk) (seat' : Sitting W) (d' : Desk)
+    (goes : Bool) : Type 0 where
   pub walks : Walks given seat d seat' d'
   pub on : goes ≡ true → d.position < d'.position
   pub through : goes ≡ false → NothingToCompute given d'
   pub looked : goes ≡ false → HasLooked given seat' d'
 
--- the place so many steps on in its half of a slot
+-- the place `steps` steps on in its half of a slot
 abbrev pub further : Place → ℕ → Place
 further place steps = record place { done = place.done + steps }
 
--- the desk after so many takes there
+-- the desk after `takes` takes there
 abbrev pub taken_on : Desk → ℕ → Desk
 taken_on d takes = record d { place = further d.place takes; position = d.position + takes; taken = d.taken + takes }
 
@@ -123,7 +131,7 @@ module _ (plan : Plan) (list : List ℕ) (program : Program) (place : Place) (se
   abbrev pub MayTake : Memory → Type 0
   MayTake memory = (given : Given) × (d : Desk) × MayWalk plan list given (with_parts d program place session memory)
 
-  -- so many takes lead from one seat and memory to the others
+  -- `takes` takes lead from one seat and memory to the others
   abbrev pub TakesLead : {W : Type 0} → Sitting W → Memory → Sitting W → Memory → ℕ → Type 0
   TakesLead seat memory seat' memory' takes =
       (given : Given) (d : Desk) → MayWalk plan list given (with_parts d program place session memory)
@@ -136,7 +144,7 @@ module _ (plan : Plan) (list : List ℕ) (program : Program) (place : Place) (se
       (given : Given) (d : Desk) → MayWalk plan list given (with_parts d program place session memory)
       → HasLooked given seat' (taken_on (with_parts d program place session memory') takes)
 
-  -- after so many takes another one comes next
+  -- after `takes` takes another one comes next
   abbrev pub WaitsAfter : Memory → Memory → ℕ → Type 0
   WaitsAfter memory memory' takes =
       (given : Given) (d : Desk) → MayWalk plan list given (with_parts d program place session memory)

@@ -62,7 +62,7 @@ fn take_words<W: Promise, T: SlotItem<W>>(
     next
 }
 
-// The gates from this one on, at most so many.
+// The gates from gate `first` on, at most `most`.
 #[inline(always)]
 fn gates_at(gates: &[Gate], first: usize, most: usize) -> &[Gate]
     requires { first ≤ length gates.now }
@@ -123,7 +123,7 @@ impl Desk {
     ghost use Rattle.party_program.specs.States.{Given};
     ghost use Rattle.program_laws.specs.WordsRead.{gate_at};
     ghost use Rattle.party_desk.specs.Desks.{instruction_at};
-    ghost use Rattle.party_desk.specs.Walks.{IsDeskOfPlan, MayWalk, HasWords, Computes, NoPosts, Walks, Sends};
+    ghost use Rattle.party_desk.specs.Walks.{IsDeskOfPlan, CanWalk, ForWalking, HasWords, Computes, NoPosts, Walks, Sends};
     ghost use Rattle.party_desk.specs.Walks.{IsAmongGates, IsBefore, IsSending, IsAtTake};
     ghost use Rattle.party_desk.specs.Walks.{HasLooked, NothingToCompute, WentOn, DoesHead, DoesSilentHead};
 
@@ -137,17 +137,17 @@ impl Desk {
         board: &Board<W, T>,
         seat: &mut BoardSeat<W, T>,
     ) -> u32
-        requires may { (given : Given) × MayWalk plan.now (W.list board.now.about.world) given self.old }
+        requires may { CanWalk plan.now (W.list board.now.about.world) self.old }
         requires seat { IsSeatOf board.now seat.old }
         ensures seat { IsSeatOf board.now seat.new }
-        ensures walks { (given : Given) → MayWalk plan.now (W.list board.now.about.world) given self.old
-            → Walks given seat.old self.old seat.new self.new }
+        ensures walks { ForWalking plan.now (W.list board.now.about.world) self.old
+            (λ given. Walks given seat.old self.old seat.new self.new) }
         ensures moves { self.new.position ≡ self.old.position + result }
         ensures still { result ≡ 0 → self.new ≡ self.old }
-        ensures through { (given : Given) → MayWalk plan.now (W.list board.now.about.world) given self.old
-            → NothingToCompute given self.new }
-        ensures looked { (given : Given) → MayWalk plan.now (W.list board.now.about.world) given self.old
-            → HasLooked given seat.new self.new }
+        ensures through { ForWalking plan.now (W.list board.now.about.world) self.old
+            (λ given. NothingToCompute given self.new) }
+        ensures looked { ForWalking plan.now (W.list board.now.about.world) self.old
+            (λ given. HasLooked given seat.new self.new) }
     {
         let before = self.position;
         let mut goes = true;
@@ -169,12 +169,12 @@ impl Desk {
         board: &Board<W, T>,
         seat: &mut BoardSeat<W, T>,
     ) -> bool
-        requires may { (given : Given) × MayWalk plan.now (W.list board.now.about.world) given self.old }
+        requires may { CanWalk plan.now (W.list board.now.about.world) self.old }
         requires seat { IsSeatOf board.now seat.old }
         requires head { self.old.place.half ≡ Head }
         ensures seat { IsSeatOf board.now seat.new }
-        ensures went { (given : Given) → MayWalk plan.now (W.list board.now.about.world) given self.old
-            → WentOn given seat.old self.old seat.new self.new result }
+        ensures went { ForWalking plan.now (W.list board.now.about.world) self.old
+            (λ given. WentOn given seat.old self.old seat.new self.new result) }
         ensures still { self.new.position ≡ self.old.position → self.new ≡ self.old }
     {
         let slot = self.place.slot();
@@ -194,17 +194,17 @@ impl Desk {
         board: &Board<W, T>,
         seat: &mut BoardSeat<W, T>,
     ) -> bool
-        requires may { (given : Given) × MayWalk plan.now (W.list board.now.about.world) given self.old }
+        requires may { CanWalk plan.now (W.list board.now.about.world) self.old }
         requires seat { IsSeatOf board.now seat.old }
         requires head { self.old.place.half ≡ Head }
         ensures seat { IsSeatOf board.now seat.new }
         ensures does { result ≡ true
-            → (given : Given) → MayWalk plan.now (W.list board.now.about.world) given self.old
-            → DoesHead plan.now given seat.old self.old seat.new self.new }
+            → ForWalking plan.now (W.list board.now.about.world) self.old
+            (λ given. DoesHead plan.now given seat.old self.old seat.new self.new) }
         ensures still { result ≡ false → (self.new ≡ self.old) × (seat.new ≡ seat.old) }
         ensures through { result ≡ false
-            → (given : Given) → MayWalk plan.now (W.list board.now.about.world) given self.old
-            → NothingToCompute given self.new }
+            → ForWalking plan.now (W.list board.now.about.world) self.old
+            (λ given. NothingToCompute given self.new) }
     {
         match self.place.pattern() {
             Pattern::Multiplied => self.send_product(plan, board, seat),
@@ -221,12 +221,12 @@ impl Desk {
         board: &Board<W, T>,
         seat: &mut BoardSeat<W, T>,
     ) -> bool
-        requires may { (given : Given) × MayWalk plan.now (W.list board.now.about.world) given self.old }
+        requires may { CanWalk plan.now (W.list board.now.about.world) self.old }
         requires seat { IsSeatOf board.now seat.old }
         requires tail { self.old.place.half ≡ Tail }
         ensures seat { IsSeatOf board.now seat.new }
-        ensures went { (given : Given) → MayWalk plan.now (W.list board.now.about.world) given self.old
-            → WentOn given seat.old self.old seat.new self.new result }
+        ensures went { ForWalking plan.now (W.list board.now.about.world) self.old
+            (λ given. WentOn given seat.old self.old seat.new self.new result) }
         ensures still { self.new.position ≡ self.old.position → self.new ≡ self.old }
     {
         let Pattern::Multiplied = self.place.pattern() else {
@@ -251,18 +251,18 @@ impl Desk {
         board: &Board<W, T>,
         seat: &mut BoardSeat<W, T>,
     ) -> bool
-        requires may { (given : Given) × MayWalk plan.now (W.list board.now.about.world) given self.old }
+        requires may { CanWalk plan.now (W.list board.now.about.world) self.old }
         requires seat { IsSeatOf board.now seat.old }
         requires head { self.old.place.half ≡ Head }
         requires product { self.old.place.pattern ≡ Multiplied }
         ensures seat { IsSeatOf board.now seat.new }
         ensures does { result ≡ true
-            → (given : Given) → MayWalk plan.now (W.list board.now.about.world) given self.old
-            → DoesHead plan.now given seat.old self.old seat.new self.new }
+            → ForWalking plan.now (W.list board.now.about.world) self.old
+            (λ given. DoesHead plan.now given seat.old self.old seat.new self.new) }
         ensures still { result ≡ false → (self.new ≡ self.old) × (seat.new ≡ seat.old) }
         ensures through { result ≡ false
-            → (given : Given) → MayWalk plan.now (W.list board.now.about.world) given self.old
-            → NothingToCompute given self.new }
+            → ForWalking plan.now (W.list board.now.about.world) self.old
+            (λ given. NothingToCompute given self.new) }
     {
         if !self.place.is_first() || !plan.multiplies(self.party) {
             return false;
@@ -338,20 +338,20 @@ impl Desk {
         board: &Board<W, T>,
         seat: &mut BoardSeat<W, T>,
     ) -> bool
-        requires may { (given : Given) × MayWalk plan.now (W.list board.now.about.world) given self.old }
+        requires may { CanWalk plan.now (W.list board.now.about.world) self.old }
         requires seat { IsSeatOf board.now seat.old }
         requires product { InProduct Tail self.old.place }
         ensures seat { IsSeatOf board.now seat.new }
-        ensures walks { (given : Given) → MayWalk plan.now (W.list board.now.about.world) given self.old
-            → Walks given seat.old self.old seat.new self.new }
+        ensures walks { ForWalking plan.now (W.list board.now.about.world) self.old
+            (λ given. Walks given seat.old self.old seat.new self.new) }
         ensures still { self.new.position ≡ self.old.position → self.new ≡ self.old }
-        ensures looked { (given : Given) → MayWalk plan.now (W.list board.now.about.world) given self.old
-            → HasLooked given seat.new self.new }
+        ensures looked { ForWalking plan.now (W.list board.now.about.world) self.old
+            (λ given. HasLooked given seat.new self.new) }
         ensures product { InProduct Tail self.new.place }
         ensures done { result ≡ true → self.new.place.done + 1 ≡ self.new.place.count }
         ensures waits { result ≡ false
-            → (given : Given) → MayWalk plan.now (W.list board.now.about.world) given self.old
-            → IsAtTake given self.new }
+            → ForWalking plan.now (W.list board.now.about.world) self.old
+            (λ given. IsAtTake given self.new) }
     {
         let place = self.place;
         let next = take_words(
@@ -450,7 +450,7 @@ impl Desk {
     {
         let ring = plan.ring();
         let shares = plan.shares() as usize;
-        // With three summands, as with three parties of whom any two are trusted, no gate has a loop.
+        // With three summands, as with three parties and the formula `2 of` them, no gate has a loop.
         if shares == 3 {
             self.compute_each(plan, part, slot, ring, 3);
         } else {
@@ -458,7 +458,7 @@ impl Desk {
         }
     }
 
-    // The same, in the plan's ring and of so many summands as its values have.
+    // The same, in the plan's ring and of `shares` summands, as its values have.
     #[inline(always)]
     fn compute_each(
         &mut self,

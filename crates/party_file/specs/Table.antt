@@ -53,7 +53,7 @@ kind_checks fields =
     ∷ (is_misfit kind.Text (codes "seed") fields answers WrongKind field.Seed)
     ∷ []
 
--- one of tape and seed, and a text of inputs for each of so many sessions
+-- one of tape and seed, and a text of inputs for each of `sessions` sessions
 unfoldable pub count_checks : ℕ → Members → List (Option PartyFault)
 count_checks sessions fields =
     ((has_field (codes "tape") fields && has_field (codes "seed") fields) answers TapeAndSeed)
@@ -89,7 +89,7 @@ bad_words session text =
 unfoldable pub first_outside : ℕ → List ℕ → ℕ
 first_outside q words = position_or_len (λ word. not (nat_lt word q)) words
 
--- some word isn't in the ring of so many bits
+-- some word isn't in the ring of `bits` bits
 unfoldable pub out_of_ring : ℕ → Option ℕ → List ℕ → Option PartyFault
 out_of_ring bits session words =
     nat_lt (first_outside (2 ^ bits) words) (length words) answers WordOutOfRing session
@@ -97,7 +97,7 @@ out_of_ring bits session words =
 
 -- ---- inputs
 
--- the inputs of a session in which so many words are wanted
+-- the inputs of a session in which `wanted` words are wanted
 unfoldable pub session_checks : ℕ → ℕ → ℕ → List ℕ → List (Option PartyFault)
 session_checks bits wanted s text =
     bad_words (Some s) text
@@ -117,7 +117,7 @@ input_checks plan p texts =
 unfoldable pub word_counts : Plan → ℕ → List ℕ
 word_counts plan p = listed (length plan.sessions) (words plan p)
 
--- a tape of which so many words are drawn
+-- a tape of which `wanted` words are drawn
 unfoldable pub tape_checks : ℕ → ℕ → List ℕ → List (Option PartyFault)
 tape_checks bits wanted text =
     bad_words None text

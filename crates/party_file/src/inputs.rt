@@ -16,7 +16,7 @@ use std::alloc::Global;
 use toml::Value;
 use toml_fields::text_of;
 
-/// The inputs of a session in which so many words are wanted.
+/// The inputs of a session in which `wanted` words are wanted.
 #[tactic(auto, unfolding(crate::specs::Table::session_checks))]
 fn read_session(
     alloc: Global,

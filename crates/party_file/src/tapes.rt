@@ -1,5 +1,5 @@
 //! The tapes of a party: from its tape, or from its seed.
-ghost use Rattle.std.specs.Prelude.{◌≡◌, ◌⊎◌, ◌<◌, ◌^◌, [], ◌∷◌, Some, None, IfOk, IfErr, OnErr, Ok, length, sum};
+ghost use Rattle.std.specs.Prelude.{◌≡◌, ◌⊎◌, ◌<◌, ◌^◌, [], ◌∷◌, Some, None, IfOk, IfErr, Ok, length, sum};
 ghost use Rattle.list_laws.specs.Lists.{listed};
 ghost use Rattle.tape_words.specs.Cuts.{cut};
 ghost use Rattle.tape_words.specs.declared.tape.TapeFault.TheVariants.{WordOutOfRing};

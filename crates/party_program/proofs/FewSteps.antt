@@ -5,19 +5,19 @@ use Rattle.std.proofs.lemmas.Bool.{cases_Bool, cond-true, cond-false}
 use mathlib.Core.Logic.{inl, inr}
 use Rattle.list_laws.specs.Lists.{only_if}
 use Rattle.secret_sharing.specs.Schemes.{has_pair}
-use Rattle.job_plan.specs.declared.pattern.Line.{Line}
+use Rattle.job_plan.specs.declared.pattern.Transfer.{Transfer}
 use Rattle.job_plan.specs.declared.pattern.Pattern.TheVariants.{Multiplied}
 use Rattle.job_plan.specs.Plans.{Plan, scheme}
-use Rattle.job_plan.specs.Patterns.{lines}
+use Rattle.job_plan.specs.Patterns.{transfers}
 use Rattle.job_plan.specs.Sound.{IsSound}
 use Rattle.party_program.specs.declared.half.Half.TheVariants.{Head, Tail}
 use Rattle.party_program.specs.declared.step.Step.{Step}
 use Rattle.party_program.specs.declared.step.Step.TheVariants.{Own, Deal, Sum}
 use Rattle.party_program.specs.PartySteps.{steps, steps_before, post_steps, take_steps, post_step, take_step, is_from, is_to}
-use Rattle.party_program.proofs.FewLines.{few_lines}
+use Rattle.party_program.proofs.FewTransfers.{few_transfers}
 
--- what passes of a list of lines is no longer than the lines
-passing_few : (f : ℕ × Line → Step) (test : ℕ × Line → Bool) (j : ℕ) (ls : List Line) → length (map f (filter test (enumerate_from j ls))) ≤ length ls
+-- what passes of a list of transfers is no longer than the transfers
+passing_few : (f : ℕ × Transfer → Step) (test : ℕ × Transfer → Bool) (j : ℕ) (ls : List Transfer) → length (map f (filter test (enumerate_from j ls))) ≤ length ls
 passing_few f test j [] = omega arith
 passing_few f test j (l ∷ ls) =
     let rest = passing_few f test (j + 1) ls in
@@ -34,9 +34,9 @@ only_few b x y = elim (cases_Bool b) [
 
 pub product_few : (plan : Plan) (p : ℕ) → IsSound plan → length (steps plan p Head Multiplied) + length (steps plan p Tail Multiplied) < 65536
 product_few plan p sound =
-    let few = few_lines plan sound Multiplied in
-    let posts : length (post_steps plan p Multiplied) ≤ length (lines plan Multiplied) = passing_few post_step (is_from p) 0 (lines plan Multiplied) in
-    let takes : length (take_steps plan p Multiplied) ≤ length (lines plan Multiplied) = passing_few take_step (is_to p) 0 (lines plan Multiplied) in
+    let few = few_transfers plan sound Multiplied in
+    let posts : length (post_steps plan p Multiplied) ≤ length (transfers plan Multiplied) = passing_few post_step (is_from p) 0 (transfers plan Multiplied) in
+    let takes : length (take_steps plan p Multiplied) ≤ length (transfers plan Multiplied) = passing_few take_step (is_to p) 0 (transfers plan Multiplied) in
     let first = only_few (has_pair (scheme plan) p) Own Deal in
     let in_head = length-append (steps_before plan p Multiplied) (post_steps plan p Multiplied) in
     let in_tail = length-append (take_steps plan p Multiplied) (Sum ∷ []) in

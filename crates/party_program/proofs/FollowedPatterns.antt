@@ -9,7 +9,7 @@ use Rattle.list_laws.specs.Lists.{only_if}
 use Rattle.circuit_model.specs.Circuits.{is_product}
 use Rattle.secret_sharing.specs.Schemes.{has_pair}
 use Rattle.job_plan.specs.declared.key.Key.{Key}
-use Rattle.job_plan.specs.declared.pattern.Line.{Line}
+use Rattle.job_plan.specs.declared.pattern.Transfer.{Transfer}
 use Rattle.job_plan.specs.declared.pattern.Pattern.{Pattern}
 use Rattle.job_plan.specs.declared.pattern.Pattern.TheVariants.{Silent, Multiplied, Joined}
 use Rattle.job_session.specs.declared.source.Source.{Source}
@@ -19,7 +19,7 @@ use Rattle.job_plan.specs.Plans.{IsPlan, Plan, keeping_slot, scheme, session, sl
 use Rattle.job_session.specs.Sessions.Slot.{Input, At_gate, Output, Mask, Mask_product, Masked, Kept}
 use Rattle.job_plan.specs.Numbers.{message, no_key, deals_before}
 use Rattle.job_plan.specs.Firsts.{count, first, numbers}
-use Rattle.job_plan.specs.Patterns.{input_pattern, named, lines, pattern, pattern_at}
+use Rattle.job_plan.specs.Patterns.{input_pattern, named, transfers, pattern, pattern_at}
 use Rattle.job_plan.proofs.KeptPlaces.{kept_in}
 use Rattle.job_plan.proofs.SlotMessages.{message_at}
 use Rattle.job_plan.proofs.SlotPatterns.{map_only_if, slots_follow_patterns}
@@ -30,15 +30,15 @@ use Rattle.party_program.specs.declared.program.Instruction.TheVariants as instr
 use Rattle.party_program.specs.declared.step.Step.{Step}
 use Rattle.party_program.specs.declared.step.Step.TheVariants.{Draw, Deal, Own, Deliver}
 use Rattle.party_program.specs.Programs as programs
-use Rattle.party_program.specs.PartySteps.{steps_before, steps_after, post_steps, take_steps, post_step, take_step, is_from, is_to, steps, taken_lines, placed}
+use Rattle.party_program.specs.PartySteps.{steps_before, steps_after, post_steps, take_steps, post_step, take_step, is_from, is_to, steps, taken_transfers, placed}
 
 map_map : {A B C : Type 0} (f : B → C) (g : A → B) (xs : List A) → map f (map g xs) ≡ map (λ x. f (g x)) xs
 map_map f g [] = refl
 map_map f g (x ∷ xs) = ap (λ ys. f (g x) ∷ ys) (map_map f g xs)
 
--- what passes of a range of numbers is what passes of the lines that stand at them
-passing : (f : ℕ → Instruction) (test : ℕ → Bool) (g : ℕ × Line → Instruction) (check : ℕ × Line → Bool) (a j : ℕ) (ls : List Line)
-    → ((i n m : ℕ) (d : Line) → i < length ls → n ≡ a + (j + i) → m ≡ j + i → (test n ≡ check (m, slice_index_or ls i d)) × (f n ≡ g (m, slice_index_or ls i d)))
+-- what passes of a range of numbers is what passes of the transfers that stand at them
+passing : (f : ℕ → Instruction) (test : ℕ → Bool) (g : ℕ × Transfer → Instruction) (check : ℕ × Transfer → Bool) (a j : ℕ) (ls : List Transfer)
+    → ((i n m : ℕ) (d : Transfer) → i < length ls → n ≡ a + (j + i) → m ≡ j + i → (test n ≡ check (m, slice_index_or ls i d)) × (f n ≡ g (m, slice_index_or ls i d)))
     → map f (filter test (range_with_len (a + j) (length ls))) ≡ map g (filter check (enumerate_from j ls))
 passing f test g check a j [] h = refl
 passing f test g check a j (l ∷ ls) h =
@@ -119,31 +119,31 @@ module _ (plan : Plan) (p r m k deals : ℕ) (lr : r < length plan.sessions) (lm
   abbrev there : Pattern
   there = pattern_at plan r m
 
-  pub length-lines : count plan r m ≡ length (lines plan there)
-  length-lines = ap length (slots_follow_patterns plan r m (slot plan r m)) ∙ length-map (lines plan there) (named r m)
+  pub length-transfers : count plan r m ≡ length (transfers plan there)
+  length-transfers = ap length (slots_follow_patterns plan r m (slot plan r m)) ∙ length-map (transfers plan there) (named r m)
 
-  -- the message of a line
-  line_is : (i n : ℕ) (d : Line) → i < length (lines plan there) → n ≡ first plan r m + i → message plan n ≡ named r m (slice_index_or (lines plan there) i d)
-  line_is i n d l e =
+  -- the message of a transfer
+  transfer_is : (i n : ℕ) (d : Transfer) → i < length (transfers plan there) → n ≡ first plan r m + i → message plan n ≡ named r m (slice_index_or (transfers plan there) i d)
+  transfer_is i n d l e =
       ap (message plan) e
-      ∙ message_at plan r m lr lm i (let long = length-lines in omega arith)
+      ∙ message_at plan r m lr lm i (let long = length-transfers in omega arith)
       ∙ ap (λ xs. slice_index_or xs i no_key) (slots_follow_patterns plan r m (slot plan r m))
-      ∙ get_or-map (named r m) (lines plan there) i d no_key l
+      ∙ get_or-map (named r m) (transfers plan there) i d no_key l
 
-  numbers_are : (f : ℕ → Instruction) (test : ℕ → Bool) (g : ℕ × Line → Step) (check : ℕ × Line → Bool)
-      → ((n j : ℕ) (x : Line) → n ≡ first plan r m + j → message plan n ≡ named r m x → (test n ≡ check (j, x)) × (f n ≡ named_there (g (j, x))))
-      → map f (filter test (numbers plan r m)) ≡ map named_there (map g (filter check (enumerate_from 0 (lines plan there))))
+  numbers_are : (f : ℕ → Instruction) (test : ℕ → Bool) (g : ℕ × Transfer → Step) (check : ℕ × Transfer → Bool)
+      → ((n j : ℕ) (x : Transfer) → n ≡ first plan r m + j → message plan n ≡ named r m x → (test n ≡ check (j, x)) × (f n ≡ named_there (g (j, x))))
+      → map f (filter test (numbers plan r m)) ≡ map named_there (map g (filter check (enumerate_from 0 (transfers plan there))))
   numbers_are f test g check h =
       let none : first plan r m + 0 ≡ first plan r m = omega arith in
-      ap (λ z. map f (filter test (range_with_len (first plan r m) z))) length-lines
-      ∙ ap (λ z. map f (filter test (range_with_len z (length (lines plan there))))) (sym none)
-      ∙ passing f test (λ e. named_there (g e)) check (first plan r m) 0 (lines plan there) (λ i n j d l e o. h n j (slice_index_or (lines plan there) i d) (omega arith) (line_is i n d l (omega arith)))
-      ∙ sym (map_map named_there g (filter check (enumerate_from 0 (lines plan there))))
+      ap (λ z. map f (filter test (range_with_len (first plan r m) z))) length-transfers
+      ∙ ap (λ z. map f (filter test (range_with_len z (length (transfers plan there))))) (sym none)
+      ∙ passing f test (λ e. named_there (g e)) check (first plan r m) 0 (transfers plan there) (λ i n j d l e o. h n j (slice_index_or (transfers plan there) i d) (omega arith) (transfer_is i n d l (omega arith)))
+      ∙ sym (map_map named_there g (filter check (enumerate_from 0 (transfers plan there))))
 
   posts_there : map (programs.post plan) (filter (programs.from plan p) (numbers plan r m)) ≡ map named_there (post_steps plan p there)
   posts_there = numbers_are (programs.post plan) (programs.from plan p) post_step (is_from p) (λ n j x e is. (ap (λ (key : Key). nat_eq key.sender p) is, ap₂ instruction.Post e (ap (λ (key : Key). key.share) is)))
 
-  takes_there : map (programs.take_of plan) (filter (programs.to plan p) (numbers plan r m)) ≡ map named_there (map take_step (filter (is_to p) (enumerate_from 0 (lines plan there))))
+  takes_there : map (programs.take_of plan) (filter (programs.to plan p) (numbers plan r m)) ≡ map named_there (map take_step (filter (is_to p) (enumerate_from 0 (transfers plan there))))
   takes_there = numbers_are (programs.take_of plan) (programs.to plan p) take_step (is_to p) (λ n j x e is. (ap (λ (key : Key). nat_eq key.receiver p) is, ap₂ instruction.Take e (ap (λ (key : Key). key.share) is)))
 
 module _ (plan : Plan) (p s k : ℕ) (is : IsPlan plan) (ls : s < length plan.sessions) (lk : k < slots plan s) where
@@ -174,10 +174,10 @@ module _ (plan : Plan) (p s k : ℕ) (is : IsPlan plan) (ls : s < length plan.se
   posts_are (Kept j) e = posts_of (Kept j) e
 
   -- the takes of its own messages
-  takes_of : (z : Slot) → slot plan s k ≡ z → map (programs.take_of plan) (filter (programs.to plan p) (numbers plan s k)) ≡ map own (map take_step (filter (is_to p) (enumerate_from 0 (lines plan (pattern plan s z)))))
-  takes_of z e = takes_there plan p s k k deals ls lk ∙ ap (λ z. map own (map take_step (filter (is_to p) (enumerate_from 0 (lines plan (pattern plan s z)))))) e
+  takes_of : (z : Slot) → slot plan s k ≡ z → map (programs.take_of plan) (filter (programs.to plan p) (numbers plan s k)) ≡ map own (map take_step (filter (is_to p) (enumerate_from 0 (transfers plan (pattern plan s z)))))
+  takes_of z e = takes_there plan p s k k deals ls lk ∙ ap (λ z. map own (map take_step (filter (is_to p) (enumerate_from 0 (transfers plan (pattern plan s z)))))) e
 
-  gate_taken : (prepared product : Bool) → lines plan (gate_pattern prepared product) ≡ taken_lines plan (gate_pattern prepared product)
+  gate_taken : (prepared product : Bool) → transfers plan (gate_pattern prepared product) ≡ taken_transfers plan (gate_pattern prepared product)
   gate_taken true true = refl
   gate_taken true false = refl
   gate_taken false true = refl
@@ -186,12 +186,12 @@ module _ (plan : Plan) (p s k : ℕ) (is : IsPlan plan) (ls : s < length plan.se
   -- those of an input, which may be carried
   of_source : (v : ℕ) → slot plan s k ≡ Input v → (from : Source) → source (session plan s) v ≡ from
       → map (programs.take_of plan) (filter (programs.to plan p) (programs.input_taken plan s k v from)) ≡ map (placed k (programs.first_of_input plan s k v from) deals) (take_steps plan p (input_pattern from))
-  of_source v e (Given q) same = takes_of (Input v) e ∙ ap (λ from. map own (map take_step (filter (is_to p) (enumerate_from 0 (lines plan (input_pattern from)))))) same
+  of_source v e (Given q) same = takes_of (Input v) e ∙ ap (λ from. map own (map take_step (filter (is_to p) (enumerate_from 0 (transfers plan (input_pattern from)))))) same
   of_source v e (Carried r c i) same =
       let at = kept_in plan is s v r c i same in
       let m = keeping_slot plan s v r in
       takes_there plan p r m k deals (omega (arith, at.earlier, at.session_there)) at.slot_there
-      ∙ ap (λ z. map (placed k (first plan r m) deals) (map take_step (filter (is_to p) (enumerate_from 0 (lines plan (pattern plan r z)))))) at.slot_is
+      ∙ ap (λ z. map (placed k (first plan r m) deals) (map take_step (filter (is_to p) (enumerate_from 0 (transfers plan (pattern plan r z)))))) at.slot_is
 
   takes_are : (z : Slot) → slot plan s k ≡ z → map (programs.take_of plan) (filter (programs.to plan p) (programs.taken_in plan s k z)) ≡ map (placed k (programs.first_in plan s k z) deals) (take_steps plan p (pattern plan s z))
   takes_are (Input v) e = of_source v e (source (session plan s) v) refl

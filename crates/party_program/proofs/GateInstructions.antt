@@ -7,12 +7,12 @@ use Rattle.list_laws.specs.Lists.{only_if}
 use Rattle.list_laws.proofs.JoinedLists.{every_append, every_only_if}
 use Rattle.secret_sharing.specs.Schemes.{has_pair}
 use Rattle.party_set.specs.Parties.{has_party}
-use Rattle.job_plan.specs.declared.pattern.Line.{Line}
+use Rattle.job_plan.specs.declared.pattern.Transfer.{Transfer}
 use Rattle.job_plan.specs.declared.pattern.Pattern.{Pattern}
 use Rattle.job_plan.specs.declared.pattern.Pattern.TheVariants.{Silent, Dealt, Multiplied, Opened, HandedOut, OpenedToAll, Joined, Held, Received}
 use Rattle.job_plan.specs.Plans.{IsPlan, Plan, scheme, slots, least_held}
 use Rattle.job_plan.specs.Numbers.{deals_before}
-use Rattle.job_plan.specs.Patterns.{lines}
+use Rattle.job_plan.specs.Patterns.{transfers}
 use Rattle.job_plan.proofs.DistinctMessages.{every_place}
 use Rattle.party_program.specs.declared.half.Half.{Half}
 use Rattle.party_program.specs.declared.half.Half.TheVariants.{Head, Tail}
@@ -22,7 +22,7 @@ use Rattle.party_program.specs.declared.program.Instruction.TheVariants as instr
 use Rattle.party_program.specs.declared.step.Step.{Step}
 use Rattle.party_program.specs.declared.step.Step.TheVariants.{Draw, Deal, Own, Post, Take, Linear, Sum, Open, Join, Deliver}
 use Rattle.party_program.specs.Programs.{first_named, program, at}
-use Rattle.party_program.specs.PartySteps.{steps_before, steps_after, post_steps, take_steps, post_step, take_step, is_from, is_to, steps, taken_lines, placed}
+use Rattle.party_program.specs.PartySteps.{steps_before, steps_after, post_steps, take_steps, post_step, take_step, is_from, is_to, steps, taken_transfers, placed}
 use Rattle.party_program.specs.ProgramPlaces.{IsPlace}
 use Rattle.party_program.proofs.ProgramPlaces.{count_at, ends_there, in_slot, instruction_is, length-half, step_is}
 
@@ -38,7 +38,7 @@ abbrev NotSum : Step → Type 0
 NotSum Sum = ⊥
 NotSum _ = Unit {0}
 
-every_map : (P : Step → Type 0) (f : ℕ × Line → Step) (ys : List (ℕ × Line)) → ((y : ℕ × Line) → P (f y)) → AllByRecursion P (map f ys)
+every_map : (P : Step → Type 0) (f : ℕ × Transfer → Step) (ys : List (ℕ × Transfer)) → ((y : ℕ × Transfer) → P (f y)) → AllByRecursion P (map f ys)
 every_map P f [] h = tt
 every_map P f (y ∷ ys) h = (h y, every_map P f ys h)
 
@@ -52,10 +52,10 @@ module _ (plan : Plan) (p : ℕ) where
   -- what holds of posts, or of takes, holds of a half, where it does of the rest of it
   module _ (P : Step → Type 0) (of_post : (share place : ℕ) → P (Post share place)) (of_take : (share place : ℕ) → P (Take share place)) where
     every_post : (pattern : Pattern) → AllByRecursion P (post_steps plan p pattern)
-    every_post pattern = every_map P post_step (filter (is_from p) (enumerate_from 0 (lines plan pattern))) (λ y. of_post y.1.share y.0)
+    every_post pattern = every_map P post_step (filter (is_from p) (enumerate_from 0 (transfers plan pattern))) (λ y. of_post y.1.share y.0)
 
     every_take : (pattern : Pattern) → AllByRecursion P (take_steps plan p pattern)
-    every_take pattern = every_map P take_step (filter (is_to p) (enumerate_from 0 (taken_lines plan pattern))) (λ y. of_take y.1.share y.0)
+    every_take pattern = every_map P take_step (filter (is_to p) (enumerate_from 0 (taken_transfers plan pattern))) (λ y. of_take y.1.share y.0)
 
     every_step : (half : Half) (pattern : Pattern) → AllByRecursion P (steps_before plan p pattern) → AllByRecursion P (steps_after p pattern) → AllByRecursion P (steps plan p half pattern)
     every_step Head pattern h h' = every_append P (steps_before plan p pattern) (post_steps plan p pattern) h (every_post pattern)

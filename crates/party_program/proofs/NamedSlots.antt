@@ -12,15 +12,15 @@ use Rattle.job_plan.specs.declared.pattern.Pattern.TheVariants.{Received}
 use Rattle.job_plan.specs.Plans.{IsPlan, Plan, keeping_slot, session, slot, slot_number, slots}
 use Rattle.job_plan.specs.Firsts.{count, first}
 use Rattle.job_plan.specs.Messages.{messages}
-use Rattle.job_plan.specs.Patterns.{input_pattern, lines, pattern, pattern_at}
+use Rattle.job_plan.specs.Patterns.{input_pattern, transfers, pattern, pattern_at}
 use Rattle.job_plan.specs.Sound.{IsSound}
 use Rattle.job_plan.proofs.KeptPlaces.{kept_in}
 use Rattle.job_plan.proofs.SlotMessages.{first_within}
 use Rattle.job_plan.proofs.Slots.{at_its_number}
 use Rattle.party_program.specs.Programs.{first_in, first_named, first_of_input}
 use Rattle.party_program.specs.ProgramPlaces.{AreReceived}
-use Rattle.party_program.proofs.FewLines.{held_few}
-use Rattle.party_program.proofs.FollowedPatterns.{gate_pattern, length-lines}
+use Rattle.party_program.proofs.FewTransfers.{held_few}
+use Rattle.party_program.proofs.FollowedPatterns.{gate_pattern, length-transfers}
 
 module _ (plan : Plan) (is : IsPlan plan) (s k : ℕ) (ls : s < length plan.sessions) (lk : k < slots plan s) where
   -- the first message that a slot names is one of the plan, or behind the last
@@ -104,4 +104,4 @@ pub few_kept : (plan : Plan) → IsPlan plan → IsSound plan → (s v r c i : �
 few_kept plan is sound s v r c i e =
     let at = kept_in plan is s v r c i e in
     let m = keeping_slot plan s v r in
-    omega (arith, length-lines plan 0 r m 0 0 (omega (arith, at.earlier, at.session_there)) at.slot_there ∙ ap (λ z. length (lines plan (pattern plan r z))) at.slot_is, held_few plan sound)
+    omega (arith, length-transfers plan 0 r m 0 0 (omega (arith, at.earlier, at.session_there)) at.slot_there ∙ ap (λ z. length (transfers plan (pattern plan r z))) at.slot_is, held_few plan sound)

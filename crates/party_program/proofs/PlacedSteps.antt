@@ -7,19 +7,19 @@ use mathlib.Core.Logic.{inl, inr}
 use Rattle.list_laws.proofs.JoinedLists.{every_append, every_only_if}
 use Rattle.secret_sharing.specs.Schemes.{has_pair}
 use Rattle.party_set.specs.Parties.{has_party}
-use Rattle.job_plan.specs.declared.pattern.Line.{Line}
+use Rattle.job_plan.specs.declared.pattern.Transfer.{Transfer}
 use Rattle.job_plan.specs.declared.pattern.Pattern.{Pattern}
 use Rattle.job_plan.specs.declared.pattern.Pattern.TheVariants.{Silent, Dealt, Multiplied, Opened, HandedOut, OpenedToAll, Joined, Held, Received}
 use Rattle.job_plan.specs.Plans.{Plan, scheme, least_held}
-use Rattle.job_plan.specs.Patterns.{lines}
+use Rattle.job_plan.specs.Patterns.{transfers}
 use Rattle.job_plan.proofs.DistinctMessages.{every_place}
 use Rattle.party_program.specs.declared.half.Half.{Half}
 use Rattle.party_program.specs.declared.half.Half.TheVariants.{Head, Tail}
 use Rattle.party_program.specs.declared.step.Step.{Step}
 use Rattle.party_program.specs.declared.step.Step.TheVariants.{Draw, Deal, Own, Deliver}
-use Rattle.party_program.specs.PartySteps.{steps_before, steps_after, post_steps, take_steps, post_step, take_step, is_from, is_to, steps, taken_lines, IsPlaced}
+use Rattle.party_program.specs.PartySteps.{steps_before, steps_after, post_steps, take_steps, post_step, take_step, is_from, is_to, steps, taken_transfers, IsPlaced}
 
-passing_placed : (f : ℕ × Line → Step) (test : ℕ × Line → Bool) (n j : ℕ) (ls : List Line) → ((e : ℕ × Line) → e.0 < n → IsPlaced n (f e)) → j + length ls ≤ n
+passing_placed : (f : ℕ × Transfer → Step) (test : ℕ × Transfer → Bool) (n j : ℕ) (ls : List Transfer) → ((e : ℕ × Transfer) → e.0 < n → IsPlaced n (f e)) → j + length ls ≤ n
     → AllByRecursion (IsPlaced n) (map f (filter test (enumerate_from j ls)))
 passing_placed f test n j [] h b = tt
 passing_placed f test n j (l ∷ ls) h b =
@@ -52,11 +52,11 @@ module _ (plan : Plan) (p n : ℕ) where
   after_placed Held = tt
   after_placed Received = tt
 
--- where no more lines stand or are taken in a slot of the pattern
-module _ (plan : Plan) (p n : ℕ) (pattern : Pattern) (few : length (lines plan pattern) ≤ n) (few_taken : length (taken_lines plan pattern) ≤ n) where
+-- where no more transfers stand or are taken in a slot of the pattern
+module _ (plan : Plan) (p n : ℕ) (pattern : Pattern) (few : length (transfers plan pattern) ≤ n) (few_taken : length (taken_transfers plan pattern) ≤ n) where
   all_placed : (half : Half) → AllByRecursion (IsPlaced n) (steps plan p half pattern)
-  all_placed Head = every_append (IsPlaced n) (steps_before plan p pattern) (post_steps plan p pattern) (before_placed plan p n pattern) (passing_placed post_step (is_from p) n 0 (lines plan pattern) (λ e b. b) (omega (arith, few)))
-  all_placed Tail = every_append (IsPlaced n) (take_steps plan p pattern) (steps_after p pattern) (passing_placed take_step (is_to p) n 0 (taken_lines plan pattern) (λ e b. b) (omega (arith, few_taken))) (after_placed plan p n pattern)
+  all_placed Head = every_append (IsPlaced n) (steps_before plan p pattern) (post_steps plan p pattern) (before_placed plan p n pattern) (passing_placed post_step (is_from p) n 0 (transfers plan pattern) (λ e b. b) (omega (arith, few)))
+  all_placed Tail = every_append (IsPlaced n) (take_steps plan p pattern) (steps_after p pattern) (passing_placed take_step (is_to p) n 0 (taken_transfers plan pattern) (λ e b. b) (omega (arith, few_taken))) (after_placed plan p n pattern)
 
   pub steps_placed : (half : Half) (i : ℕ) (d : Step) → i < length (steps plan p half pattern) → IsPlaced n (slice_index_or (steps plan p half pattern) i d)
   steps_placed half i d = every_place (IsPlaced n) (steps plan p half pattern) i d (all_placed half)

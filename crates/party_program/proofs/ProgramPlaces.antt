@@ -27,7 +27,7 @@ use Rattle.party_program.specs.Programs.{first_named, head, tail, tails, turn, h
 use Rattle.party_program.specs.PartySteps.{steps, placed, IsPlaced}
 use Rattle.party_program.specs.ProgramPlaces.{instructions_before, halves_before, position_of, count_in, IsPlace, IsProgram}
 use Rattle.party_program.proofs.FollowedPatterns.{half_program_follows}
-use Rattle.party_program.proofs.FewLines.{few_lines, few_taken}
+use Rattle.party_program.proofs.FewTransfers.{few_transfers, few_taken}
 use Rattle.party_program.proofs.NamedSlots.{few_named}
 use Rattle.party_program.proofs.PlacedSteps.{steps_placed}
 
@@ -197,7 +197,7 @@ module _ (plan : Plan) (p s : ℕ) where
     pub step_fits : (i : ℕ) (d : Step) → IsSound plan → i < length (steps_at half k) → IsPlaced (2 ^ 32 - first_named plan s k) (slice_index_or (steps_at half k) i d)
     step_fits i d sound l =
         let early = few_named plan is sound s k ls lk in
-        placed_within _ _ (slice_index_or (steps_at half k) i d) (omega (arith, early)) (steps_placed plan p 9216 (pattern_at plan s k) (few_lines plan sound (pattern_at plan s k)) (few_taken plan sound (pattern_at plan s k)) half i d l)
+        placed_within _ _ (slice_index_or (steps_at half k) i d) (omega (arith, early)) (steps_placed plan p 9216 (pattern_at plan s k) (few_transfers plan sound (pattern_at plan s k)) (few_taken plan sound (pattern_at plan s k)) half i d l)
 
   -- how many instructions stand in a half of a slot, and behind the last one
   pub count_at : (half : Half) (k : ℕ) → k < slots plan s → count_in plan p s half k ≡ length (half_program plan p s half k)

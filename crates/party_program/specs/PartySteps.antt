@@ -4,11 +4,11 @@ use Rattle.std.specs.List.{enumerate_from}
 use Rattle.list_laws.specs.Lists.{only_if}
 use Rattle.secret_sharing.specs.Schemes.{has_pair}
 use Rattle.party_set.specs.Parties.{has_party}
-use Rattle.job_plan.specs.declared.pattern.Line.{Line}
+use Rattle.job_plan.specs.declared.pattern.Transfer.{Transfer}
 use Rattle.job_plan.specs.declared.pattern.Pattern.{Pattern}
 use Rattle.job_plan.specs.declared.pattern.Pattern.TheVariants.{Silent, Dealt, Multiplied, Opened, HandedOut, OpenedToAll, Joined, Held, Received}
 use Rattle.job_plan.specs.Plans.{Plan, scheme, least_held}
-use Rattle.job_plan.specs.Patterns.{lines}
+use Rattle.job_plan.specs.Patterns.{transfers}
 use Rattle.party_program.specs.declared.half.Half.{Half}
 use Rattle.party_program.specs.declared.half.Half.TheVariants.{Head, Tail}
 use Rattle.party_program.specs.declared.program.Instruction.{Instruction}
@@ -30,36 +30,36 @@ deals_in_pattern plan p (Dealt q) = nat_eq q p
 deals_in_pattern plan p Multiplied = has_pair (scheme plan) p
 deals_in_pattern plan p _ = false
 
--- the post of a line with its place in the pattern
-abbrev pub post_step : ℕ × Line → Step
+-- the post of a transfer with its place in the pattern
+abbrev pub post_step : ℕ × Transfer → Step
 post_step entry = Post entry.1.share entry.0
 
--- the take of a line
-abbrev pub take_step : ℕ × Line → Step
+-- the take of a transfer
+abbrev pub take_step : ℕ × Transfer → Step
 take_step entry = Take entry.1.share entry.0
 
--- whether p is the sender of the line
-abbrev pub is_from : ℕ → ℕ × Line → Bool
+-- whether p is the sender of the transfer
+abbrev pub is_from : ℕ → ℕ × Transfer → Bool
 is_from p entry = nat_eq entry.1.sender p
 
 -- whether p is its receiver
-abbrev pub is_to : ℕ → ℕ × Line → Bool
+abbrev pub is_to : ℕ → ℕ × Transfer → Bool
 is_to p entry = nat_eq entry.1.receiver p
 
 -- the posts of p in a slot of this pattern
 abbrev pub post_steps : Plan → ℕ → Pattern → List Step
-post_steps plan p pattern = map post_step (filter (is_from p) (enumerate_from 0 (lines plan pattern)))
+post_steps plan p pattern = map post_step (filter (is_from p) (enumerate_from 0 (transfers plan pattern)))
 
--- the lines that are taken in a slot of this pattern: where a wire is received, those by which it is kept, which are not
--- taken where it is kept
-abbrev pub taken_lines : Plan → Pattern → List Line
-taken_lines plan Held = []
-taken_lines plan Received = lines plan Held
-taken_lines plan pattern = lines plan pattern
+-- the transfers that are taken in a slot of this pattern: where a wire is received, those by which it is kept, which
+-- are not taken where it is kept
+abbrev pub taken_transfers : Plan → Pattern → List Transfer
+taken_transfers plan Held = []
+taken_transfers plan Received = transfers plan Held
+taken_transfers plan pattern = transfers plan pattern
 
 -- its takes there
 abbrev pub take_steps : Plan → ℕ → Pattern → List Step
-take_steps plan p pattern = map take_step (filter (is_to p) (enumerate_from 0 (taken_lines plan pattern)))
+take_steps plan p pattern = map take_step (filter (is_to p) (enumerate_from 0 (taken_transfers plan pattern)))
 
 -- what p does after its takes
 abbrev pub steps_after : ℕ → Pattern → List Step
@@ -74,8 +74,8 @@ abbrev pub steps : Plan → ℕ → Half → Pattern → List Step
 steps plan p Head pattern = steps_before plan p pattern ++ post_steps plan p pattern
 steps plan p Tail pattern = take_steps plan p pattern ++ steps_after p pattern
 
--- the instruction of a step in slot k, in which the first message that is posted or taken has this number, where p has made
--- so many deals before
+-- the instruction of a step in slot k, in which the first message that is posted or taken has this number, where p has
+-- made `deals` deals before
 abbrev pub placed : ℕ → ℕ → ℕ → Step → Instruction
 placed k first deals Draw = instruction.Draw k
 placed k first deals Deal = instruction.Deal k deals
@@ -88,7 +88,7 @@ placed k first deals Open = instruction.Open k
 placed k first deals Join = instruction.Join k
 placed k first deals Deliver = instruction.Deliver k
 
--- a message that the step names is one of so many
+-- a message that the step names is one of `count`
 abbrev pub IsPlaced : ℕ → Step → Type 0
 IsPlaced count (Post share place) = place < count
 IsPlaced count (Take share place) = place < count

@@ -18,6 +18,7 @@ use Rattle.party_program.specs.declared.half.Half.{Half}
 use Rattle.party_program.specs.declared.half.Half.TheVariants.{Head, Tail}
 use Rattle.party_program.specs.declared.program.Program.{Program}
 use Rattle.party_program.specs.declared.place.Place.{Place}
+use Rattle.party_program.specs.declared.deals.SessionSteps.{SessionSteps}
 use Rattle.party_program.specs.declared.deals.Tally.{Tally}
 use Rattle.party_program.specs.declared.step.Step.{Step}
 use Rattle.party_program.specs.declared.step_table.StepTable.{StepTable}
@@ -45,7 +46,7 @@ IsPatternIn plan s k pattern = k < slots plan s → pattern ≡ pattern_at plan 
 abbrev pub count_in : Plan → ℕ → ℕ → Half → ℕ → ℕ
 count_in plan p s half k = if nat_lt k (slots plan s) then length (half_program plan p s half k) else 0
 
--- position q stands at this place: so many instructions on in a half of a slot that has more, or past all
+-- position q stands at this place: `done` instructions on in a half of a slot that has more, or past all
 pub record IsPlace (plan : Plan) (p s : ℕ) (place : Place) (q : ℕ) : Type 0 where
   pub batch : IsInBatch (session plan s) place.batch place.end place.slot
   pub pattern : IsPatternIn plan s place.slot place.pattern
@@ -88,6 +89,17 @@ pub record AreSteps (plan : Plan) (p s : ℕ) (half : Half) (table : StepTable) 
   pub opened : (k readers : ℕ) → k < slots plan s → pattern_at plan s k ≡ Opened readers
       → HasOpening plan p half table.opened readers
 
+-- the party and the session are of the plan, and these are the party's steps there
+pub record AreSessionSteps (own : SessionSteps) : Type 0 where
+  pub party : own.party < own.plan.now.parties
+  pub session : own.session < length own.plan.now.sessions
+  pub heads : AreSteps own.plan.now own.party own.session Head own.heads.now
+  pub tails : AreSteps own.plan.now own.party own.session Tail own.tails.now
+
+-- the session of which they are
+abbrev pub session_of : SessionSteps → Session
+session_of own = session own.plan.now own.session
+
 -- the only slots are those of input wires, gates, output wires and kept wires
 abbrev pub HasNoneBeside : Session → Type 0
 HasNoneBeside x = session_slots x ≡ length (owners x) + length x.gates + length (readers x) + length x.kept
@@ -110,6 +122,10 @@ pub record AreDeals (plan : Plan) (p s k : ℕ) (list : Vec ℕ) (tally : Tally)
   pub dealt : tally.deals ≡ deals_before plan p s k
   pub few : tally.deals ≤ k
   pub room : slots plan s ≤ vec_capacity list
+
+-- the same for the party and the session of these steps
+abbrev pub AreDealsTo : SessionSteps → ℕ → Vec ℕ → Tally → Type 0
+AreDealsTo own k list tally = AreDeals own.plan.now own.party own.session k list tally
 
 -- the program of party p in session s of a plan within the limits
 pub record IsProgram (plan : Plan) (p s : ℕ) (program : Program) : Type 0 where

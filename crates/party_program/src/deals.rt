@@ -1,18 +1,27 @@
 //! How many deals stand before each slot.
-ghost use Rattle.std.specs.Prelude.{◌≡◌, ℕ, ◌+◌, ◌<◌, ◌≤◌, IfOk, length};
+ghost use Rattle.std.specs.Prelude.{◌≡◌, ◌+◌, ◌<◌, ◌≤◌, IfOk, length};
 ghost use Rattle.secret_sharing.specs.Schemes.{has_pair};
 ghost use Rattle.job_plan.specs.Plans as plans;
 ghost use Rattle.job_session.specs.Sessions.{owners};
-ghost use Rattle.job_plan.specs.Plans.{scheme, session, slots};
+ghost use Rattle.job_plan.specs.Plans.{scheme, slots};
 ghost use Rattle.party_program.specs.PartySteps.{deals_in_pattern};
-ghost use Rattle.party_program.specs.declared.half.Half.TheVariants.{Head, Tail};
-ghost use Rattle.party_program.specs.ProgramPlaces.{AreDeals, AreSteps, HasNoneBeside, instructions_before};
+ghost use Rattle.party_program.specs.ProgramPlaces.{AreDealsTo, AreSessionSteps, HasNoneBeside, instructions_before, session_of};
 ghost use Rattle.job_plan.specs.Numbers.{deals_before};
 ghost use Rattle.list_laws.specs.Lists.{listed};
 
 use crate::step_table::StepTable;
 use job_plan::{Pattern, Plan};
 use std::alloc::{AllocError, Global};
+
+/// A party's part of a session: its steps in the heads of the session's slots, and in their tails.
+#[derive(Clone, Copy)]
+pub(crate) struct SessionSteps<'a> {
+    pub(crate) plan: &'a Plan,
+    pub(crate) party: u32,
+    pub(crate) session: u32,
+    pub(crate) heads: &'a StepTable,
+    pub(crate) tails: &'a StepTable,
+}
 
 /// How many instructions and deals a party has in the first slots of a session.
 #[derive(Clone, Copy)]
@@ -21,28 +30,25 @@ pub(crate) struct Tally {
     pub(crate) deals: u32,
 }
 
-/// How many deals party `p` makes before each slot of session `s`, and how many instructions it has in all slots, where
-/// these are its steps in their heads and tails.
+/// How many deals the party makes before each slot of the session, and how many instructions it has in all slots.
 pub(crate) fn list_deals(
     alloc: Global,
-    plan: &Plan,
-    p: u32,
-    s: u32,
-    heads: &StepTable,
-    tails: &StepTable,
+    own: &SessionSteps<'_>,
 ) -> Result<(Vec<u32>, u32), AllocError>
-    requires party { p < plan.now.parties }
-    requires session { s < length plan.now.sessions }
-    requires heads { AreSteps plan.now p s Head heads.now }
-    requires tails { AreSteps plan.now p s Tail tails.now }
-    ensures deals { IfOk result (λ found. found.0.items ≡ listed (slots plan.now s) (deals_before plan.now p s)) }
-    ensures instructions { IfOk result (λ found. found.1 ≡ instructions_before plan.now p s (slots plan.now s)) }
+    requires steps { AreSessionSteps own.now }
+    ensures deals { IfOk result (λ found. found.0.items
+        ≡ listed (slots own.now.plan.now own.now.session)
+        (deals_before own.now.plan.now own.now.party own.now.session)) }
+    ensures instructions { IfOk result (λ found. found.1
+        ≡ instructions_before own.now.plan.now own.now.party own.now.session
+        (slots own.now.plan.now own.now.session)) }
 {
+    let plan = own.plan;
     let _ = plan.parties();
-    let part = plan.part(s);
+    let part = plan.part(own.session);
     let inputs = part.input_wires() as u32;
     let outputs = inputs + part.gates().len() as u32;
-    let slots = plan.slots(s);
+    let slots = plan.slots(own.session);
     let mut list = Vec::with_capacity(alloc, slots as usize)?;
     let mut tally = Tally {
         instructions: 0,
@@ -51,67 +57,45 @@ pub(crate) fn list_deals(
     let mut done = 0;
     // Without slots of prepared products, those of the gates stand together behind the inputs.
     if slots == outputs + part.output_wires() as u32 + part.kept().len() as u32 {
-        push_slots(plan, p, s, heads, tails, 0, inputs, &mut list, &mut tally);
-        push_gates(plan, p, s, heads, tails, &mut list, &mut tally);
+        push_slots(own, 0, inputs, &mut list, &mut tally);
+        push_gates(own, &mut list, &mut tally);
         done = outputs;
     }
-    push_slots(plan, p, s, heads, tails, done, slots, &mut list, &mut tally);
+    push_slots(own, done, slots, &mut list, &mut tally);
     Ok((list, tally.instructions))
 }
 
 // Adds the deals before each of the slots from this one on to that one.
-fn push_slots(
-    plan: &Plan,
-    p: u32,
-    s: u32,
-    heads: &StepTable,
-    tails: &StepTable,
-    from: u32,
-    to: u32,
-    list: &mut Vec<u32>,
-    tally: &mut Tally,
-)
-    requires party { p < plan.now.parties }
-    requires session { s < length plan.now.sessions }
-    requires heads { AreSteps plan.now p s Head heads.now }
-    requires tails { AreSteps plan.now p s Tail tails.now }
-    requires slots { (from ≤ to) × (to ≤ slots plan.now s) }
-    requires before { AreDeals plan.now p s from list.old tally.old }
-    ensures { AreDeals plan.now p s to list.new tally.new }
+fn push_slots(own: &SessionSteps<'_>, from: u32, to: u32, list: &mut Vec<u32>, tally: &mut Tally)
+    requires steps { AreSessionSteps own.now }
+    requires slots { (from ≤ to) × (to ≤ slots own.now.plan.now own.now.session) }
+    requires before { AreDealsTo own.now from list.old tally.old }
+    ensures { AreDealsTo own.now to list.new tally.new }
 {
+    let plan = own.plan;
     let _ = plan.parties();
-    let multiplies = plan.multiplies(p);
+    let multiplies = plan.multiplies(own.party);
     for k in from..to {
         list.push_reserved(tally.deals);
-        let pattern = plan.pattern(s, k);
-        tally.instructions += (heads.of(pattern).len() + tails.of(pattern).len()) as u32;
-        tally.deals += u32::from(deals_in(pattern, p, multiplies));
+        let pattern = plan.pattern(own.session, k);
+        tally.instructions += (own.heads.of(pattern).len() + own.tails.of(pattern).len()) as u32;
+        tally.deals += u32::from(deals_in(pattern, own.party, multiplies));
     }
 }
 
 // Adds those before the slots of gates, which are the most, where no others stand among them.
-fn push_gates(
-    plan: &Plan,
-    p: u32,
-    s: u32,
-    heads: &StepTable,
-    tails: &StepTable,
-    list: &mut Vec<u32>,
-    tally: &mut Tally,
-)
-    requires party { p < plan.now.parties }
-    requires session { s < length plan.now.sessions }
-    requires heads { AreSteps plan.now p s Head heads.now }
-    requires tails { AreSteps plan.now p s Tail tails.now }
-    requires alone { HasNoneBeside (session plan.now s) }
-    requires before { AreDeals plan.now p s (length (owners (session plan.now s))) list.old tally.old }
-    ensures { AreDeals plan.now p s (length (owners (session plan.now s)) + length (session plan.now s).gates)
+fn push_gates(own: &SessionSteps<'_>, list: &mut Vec<u32>, tally: &mut Tally)
+    requires steps { AreSessionSteps own.now }
+    requires alone { HasNoneBeside (session_of own.now) }
+    requires before { AreDealsTo own.now (length (owners (session_of own.now))) list.old tally.old }
+    ensures { AreDealsTo own.now (length (owners (session_of own.now)) + length (session_of own.now).gates)
         list.new tally.new }
 {
+    let plan = own.plan;
     let _ = plan.parties();
-    let deals = u32::from(plan.multiplies(p));
-    let steps = (heads.of_product().len() + tails.of_product().len()) as u32;
-    for gate in plan.part(s).gates() {
+    let deals = u32::from(plan.multiplies(own.party));
+    let steps = (own.heads.of_product().len() + own.tails.of_product().len()) as u32;
+    for gate in plan.part(own.session).gates() {
         list.push_reserved(tally.deals);
         if gate.operation.is_product() {
             tally.instructions += steps;

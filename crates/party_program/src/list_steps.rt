@@ -1,12 +1,13 @@
 //! Lists what a party does in a half of a slot of a pattern.
 ghost use Rattle.std.specs.Prelude.{◌≡◌, ◌<◌, ◌++◌, IfOk, OnOk};
 ghost use Rattle.job_plan.specs.Patterns.{Occurs};
-ghost use Rattle.party_program.specs.PartySteps.{steps_before, post_steps, taken_lines, take_steps, steps_after, steps};
+ghost use Rattle.party_program.specs.PartySteps.{steps_before, post_steps, taken_transfers, take_steps, steps_after, steps};
 
 use crate::half::Half;
 use crate::step::Step;
 use crate::step_list::StepList;
-use job_plan::{Line, Pattern, Plan};
+use job_plan::{Pattern, Plan, Transfer};
+use party_set::has_party;
 use std::alloc::{AllocError, Global};
 
 /// What party `p` does in this half of a slot of this pattern.
@@ -62,26 +63,27 @@ fn push_posts(plan: &Plan, p: u32, pattern: Pattern, list: &mut StepList) -> Res
     ensures { OnOk result (list.new ≡ list.old ++ post_steps plan.now p pattern) }
 {
     let _ = plan.parties();
-    let lines = plan.lines(pattern);
-    for (place, line) in lines.iter().enumerate() {
+    let transfers = plan.transfers(pattern);
+    for (place, transfer) in transfers.iter().enumerate() {
         let step = Step::Post {
             place: place as u16,
-            share: line.share,
+            share: transfer.share,
         };
-        list.push_if(u32::from(line.sender) == p, step)?;
+        list.push_if(u32::from(transfer.sender) == p, step)?;
     }
     Ok(())
 }
 
-// The lines that are taken: where a wire is received, those by which it is kept, which are not taken where it is kept.
-fn taken_lines(plan: &Plan, pattern: Pattern) -> &[Line]
+// The transfers that are taken: where a wire is received, those by which it is kept, which are not taken where it is
+// kept.
+fn taken_transfers(plan: &Plan, pattern: Pattern) -> &[Transfer]
     requires { Occurs plan.now pattern }
-    ensures { result.now ≡ taken_lines plan.now pattern }
+    ensures { result.now ≡ taken_transfers plan.now pattern }
 {
     match pattern {
         Pattern::Held => &[],
-        Pattern::Received => plan.lines(Pattern::Held),
-        _ => plan.lines(pattern),
+        Pattern::Received => plan.transfers(Pattern::Held),
+        _ => plan.transfers(pattern),
     }
 }
 
@@ -91,13 +93,13 @@ fn push_takes(plan: &Plan, p: u32, pattern: Pattern, list: &mut StepList) -> Res
     ensures { OnOk result (list.new ≡ list.old ++ take_steps plan.now p pattern) }
 {
     let _ = plan.parties();
-    let lines = taken_lines(plan, pattern);
-    for (place, line) in lines.iter().enumerate() {
+    let transfers = taken_transfers(plan, pattern);
+    for (place, transfer) in transfers.iter().enumerate() {
         let step = Step::Take {
             place: place as u16,
-            share: line.share,
+            share: transfer.share,
         };
-        list.push_if(u32::from(line.receiver) == p, step)?;
+        list.push_if(u32::from(transfer.receiver) == p, step)?;
     }
     Ok(())
 }
@@ -112,7 +114,7 @@ fn push_after(plan: &Plan, p: u32, pattern: Pattern, list: &mut StepList) -> Res
         Pattern::Silent | Pattern::Dealt(_) | Pattern::HandedOut => Ok(()),
         Pattern::Held | Pattern::Received => Ok(()),
         Pattern::Multiplied => list.push(Step::Sum),
-        Pattern::Opened(readers) => list.push_if(readers >> p & 1 == 1, Step::Deliver),
+        Pattern::Opened(readers) => list.push_if(has_party(readers, p), Step::Deliver),
         Pattern::OpenedToAll => list.push(Step::Open),
         Pattern::Joined => list.push(Step::Join),
     }

@@ -97,7 +97,7 @@ impl Place {
         u64::from(self.done) + 1 == u64::from(self.count)
     }
 
-    /// Moves on by so many steps of the half.
+    /// Moves on by `steps` steps of the half.
     #[inline(always)]
     pub fn skip(&mut self, steps: u32)
         requires few { self.old.done + steps < 4294967296 }

@@ -5,7 +5,7 @@ ghost use Rattle.party_program.specs.PartySteps.{placed, IsPlaced};
 use crate::program::Instruction;
 
 /// A step of a party in a slot. It depends on the slot's pattern alone, so it names a message by its place among the
-/// lines of the pattern. It takes four bytes.
+/// transfers of the pattern. It takes four bytes.
 #[derive(Clone, Copy, Debug, PartialEq, Eq)]
 pub enum Step {
     /// Draws the party's words of a mask.
@@ -32,7 +32,7 @@ pub enum Step {
 
 impl Step {
     /// The instruction of the step in a slot, in which the first message that is posted or taken has this number, where
-    /// the party has made so many deals before.
+    /// the party has made `deals` deals before.
     #[inline(always)]
     pub(crate) fn placed(self, slot: u32, first: u32, deals: u32) -> Instruction
         requires { IsPlaced (2 ^ 32 - first) self }

@@ -3,7 +3,7 @@ ghost use Rattle.std.specs.Prelude.{◌≡◌, ℕ, ◌<◌, IfOk, OnOk, length}
 ghost use Rattle.list_laws.specs.Lists.{listed};
 ghost use Rattle.job_plan.specs.declared.pattern.Pattern.TheVariants.{Dealt, Multiplied, Opened};
 ghost use Rattle.job_plan.specs.Plans.{slots};
-ghost use Rattle.job_plan.specs.Patterns.{pattern_at};
+ghost use Rattle.job_plan.specs.Patterns.{pattern_at, Occurs};
 ghost use Rattle.party_program.specs.PartySteps.{steps};
 ghost use Rattle.party_program.specs.ProgramPlaces.{AreOpenings, HasOpening};
 
@@ -174,32 +174,30 @@ fn openings_of_each(
     let first = part.first_output_slot();
     let mut openings = IndexMap::new(alloc);
     for k in first..first + part.output_wires() as u32 {
-        add_opening(alloc, plan, p, s, half, k, &mut openings)?;
+        let pattern = plan.pattern(s, k);
+        add_opening(alloc, plan, p, half, pattern, &mut openings)?;
     }
     Ok(openings)
 }
 
-// Adds what p does in slot k, if it is an opening to a group that isn't there.
+// Adds what p does in a slot of this pattern, if it is an opening to a group that isn't there.
 fn add_opening(
     alloc: Global,
     plan: &Plan,
     p: u32,
-    s: u32,
     half: Half,
-    k: u32,
+    pattern: Pattern,
     openings: &mut IndexMap<u32, StepList>,
 ) -> Result<(), AllocError>
     requires party { p < plan.now.parties }
-    requires session { s < length plan.now.sessions }
-    requires slot { k < slots plan.now s }
+    requires occurs { Occurs plan.now pattern }
     requires before { AreOpenings plan.now p half openings.old }
     ensures openings { OnOk result (AreOpenings plan.now p half openings.new) }
     ensures others { OnOk result ((readers : ℕ) → HasOpening plan.now p half openings.old readers
         → HasOpening plan.now p half openings.new readers) }
-    ensures added { OnOk result ((readers : ℕ) → pattern_at plan.now s k ≡ Opened readers
+    ensures added { OnOk result ((readers : ℕ) → pattern ≡ Opened readers
         → HasOpening plan.now p half openings.new readers) }
 {
-    let pattern = plan.pattern(s, k);
     if let Pattern::Opened(readers) = pattern {
         if !openings.contains_key(&readers) {
             let steps = list_steps(alloc, plan, p, half, pattern)?;

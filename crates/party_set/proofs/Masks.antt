@@ -9,7 +9,7 @@ use Rattle.std.proofs.Math.Pow.{pow-lt, pow_mono}
 use Rattle.std.proofs.Math.Nat.{mod-eq_of_lt}
 use Rattle.std.proofs.lemmas.Bool.{false_from_ne_true}
 use Rattle.list_laws.proofs.Tests.{or_true, or_false}
-use Rattle.party_set.specs.Parties.{has_party, within, is_all, IsLeastOutside}
+use Rattle.party_set.specs.Parties.{has_party, with_party, within, is_all, IsLeastOutside}
 use Rattle.party_set.proofs.EveryNumber.{every_from, every_at}
 
 -- `1 << n`
@@ -49,6 +49,12 @@ has_with a p q l =
           let at : (has_party a q || nat_eq q p) ≡ has_party a q = ap (λ b. has_party a q || b) other.0 ∙ or_false (has_party a q) in
           is ∙ sym at)
     ]
+
+pub with_below : (n a p : ℕ) → a < 2 ^ n → p < n → with_party a p < 2 ^ n
+with_below n a p la h = or_lt n a (2 ^ p) la (pow-lt {i = p} {j = n} h)
+
+pub has_with_party : (a p q : ℕ) → p ≤ 12 → has_party (with_party a p) q ≡ (has_party a q || nat_eq q p)
+has_with_party a p q l = ap (λ m. has_party (bit_or a m) q) (sym (power_is p l)) ∙ has_with a p q (omega (arith, l))
 
 pub within_word : (n a b : ℕ) → a < 2 ^ n → b < 2 ^ n → nat_eq (bit_or a b) b ≡ within n a b
 within_word n a b la lb =

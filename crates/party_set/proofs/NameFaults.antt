@@ -5,7 +5,7 @@ use Rattle.std.specs.List.{list_all, list_any}
 use Rattle.std.specs.Cmp.Lexicographic.{nat_list_eq_equiv}
 use Rattle.std.specs.Str.{bytes_eq}
 use Rattle.std.specs.Char.{is_ascii_alphabetic}
-use Rattle.std.proofs.lemmas.Bool.{cases_eq, cases_lt, eq-eqb, lt-ltb, le-ltb, ne_eqb, false_from_ne_true}
+use Rattle.std.proofs.lemmas.Bool.{cases_eq, cases_lt, eq-eqb, lt-ltb, le-leb, le-ltb, ne_eqb, false_from_ne_true}
 use Rattle.std.proofs.lemmas.List.{get_or_default}
 use Rattle.std.proofs.lemmas.List.Quantifiers.{position-Some}
 use Rattle.std.proofs.lemmas.List.Folds.{list_any_at, list_any_none}
@@ -13,6 +13,7 @@ use Rattle.std.proofs.lemmas.Option.{slice_get-get_or}
 use Rattle.std.proofs.lemmas.Slice.Eq.{bytes_eq-Decides}
 use Rattle.indexmap.specs.IndexSet.{insert_key}
 use Rattle.party_set.specs.declared.names.NamesFault.{NamesFault}
+use Rattle.party_set.specs.declared.limits.TheConstants.{LONGEST_NAME}
 use Rattle.party_set.specs.declared.names.NamesFault.TheVariants.{BadName, TwiceNamed, PartyCount}
 use Rattle.party_set.specs.Names.{is_name, is_name_byte, name_at, name_fault, first_of, first_name_fault, names_fault, party_named, AreNames}
 
@@ -23,9 +24,9 @@ all_true true true false d e r p q s t h = cc
 all_true true false c d e r p q s t h = cc
 all_true false b c d e r p q s t h = cc
 
-pub name_is : (name : List ℕ) (r : Bool) → 0 < length name → length name < 17 → is_ascii_alphabetic (slice_index name 0) ≡ true → list_all is_name_byte name ≡ true
+pub name_is : (name : List ℕ) (r : Bool) → 0 < length name → length name ≤ LONGEST_NAME → is_ascii_alphabetic (slice_index name 0) ≡ true → list_all is_name_byte name ≡ true
     → r ≡ not (bytes_eq name (codes "of")) → r ≡ is_name name
-name_is name r some few letter bytes e = all_true _ _ _ _ _ r (lt-ltb 0 (length name) some) (lt-ltb (length name) 17 few) letter bytes e
+name_is name r some few letter bytes e = all_true _ _ _ _ _ r (lt-ltb 0 (length name) some) (le-leb (length name) LONGEST_NAME few) letter bytes e
 
 -- ---- the first fault
 

@@ -1,17 +1,26 @@
 -- Groups of parties, and the structures that they make.
-use Rattle.std.specs.Prelude.{◌≡◌, ◌≢◌, ℕ, zero, suc, ◌^◌, ◌<◌, ◌≤◌, nat_eq, Bool, true, false, not, ◌&&◌, ◌||◌, List, length, slice_index}
+use Rattle.std.specs.Prelude.{◌≡◌, ◌≢◌, ℕ, zero, suc, ◌^◌, ◌<◌, ◌≤◌, nat_eq, Bool, true, false, not, ◌&&◌, ◌||◌, List, length, slice_index, bit_or}
 use Rattle.std.specs.Int.{bit_at}
+use Rattle.party_set.specs.declared.limits.TheConstants.{MOST_PARTIES, MOST_GROUPS}
 
 -- party p is in the group of this mask
 abbrev pub has_party : ℕ → ℕ → Bool
 has_party mask p = nat_eq (bit_at mask p) 1
 
--- a group, out of so many parties
+-- the mask of party p alone
+abbrev pub party_mask : ℕ → ℕ
+party_mask p = 2 ^ p
+
+-- the mask with party p too
+abbrev pub with_party : ℕ → ℕ → ℕ
+with_party mask p = bit_or mask (party_mask p)
+
+-- a group, out of `parties` parties
 pub record Members : Type 0 where
   pub parties : ℕ
   pub mask : ℕ
 
--- a list of groups of so many parties, as masks
+-- a list of groups of `parties` parties, as masks
 pub record Structure : Type 0 where
   pub parties : ℕ
   pub groups : List ℕ
@@ -42,9 +51,9 @@ pub record IsLeastOutside (n a p : ℕ) : Type 0 where
 -- 1 to 12 parties, and 1 to 64 groups of them, by rising mask: none lies within another
 pub record IsAntichain (s : Structure) : Type 0 where
   pub some_party : 1 ≤ s.parties
-  pub few_parties : s.parties ≤ 12
+  pub few_parties : s.parties ≤ MOST_PARTIES
   pub some_group : 1 ≤ length s.groups
-  pub few_groups : length s.groups ≤ 64
+  pub few_groups : length s.groups ≤ MOST_GROUPS
   pub masks : (i : ℕ) → i < length s.groups → slice_index s.groups i < 2 ^ s.parties
   pub rising : (i j : ℕ) → i < j → j < length s.groups → slice_index s.groups i < slice_index s.groups j
   pub apart : (i j : ℕ) → i < length s.groups → j < length s.groups → i ≢ j

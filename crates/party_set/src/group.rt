@@ -2,6 +2,8 @@
 ghost use Rattle.std.specs.Prelude.{◌≡◌, ℕ, ◌<◌, ◌≤◌, ◌^◌, ◌||◌, nat_eq, true, SomeIff, MatchOption};
 ghost use Rattle.party_set.specs.Parties.{has_party, within, is_all, IsUnion, IsLeastOutside};
 
+use crate::limits::MOST_PARTIES;
+use crate::mask::{has_party, with_party};
 use std::marker::Model;
 
 /// A group of 1 to 12 parties, which are numbered from 0. Contracts see how many parties there are, and the mask:
@@ -15,20 +17,21 @@ pub struct Group {
 impl Model for Group {
     ghost use Rattle.std.specs.Prelude.{◌<◌, ◌≤◌, ◌^◌};
     ghost use Rattle.party_set.specs.Parties.{Members};
+    ghost use Rattle.party_set.specs.declared.limits.TheConstants.{MOST_PARTIES};
 
     ghost Value = { Members };
 
     ghost view = { λ g. record { parties = g.parties; mask = g.mask } };
 
-    ghost invariant = { λ g. (1 ≤ g.parties) × (g.parties ≤ 12) × (g.mask < 2 ^ g.parties) };
+    ghost invariant = { λ g. (1 ≤ g.parties) × (g.parties ≤ MOST_PARTIES) × (g.mask < 2 ^ g.parties) };
 
     ghost inverse = { λ g. record { mask = g.mask; parties = g.parties } };
 }
 
 impl Group {
-    /// The group without a member, out of so many parties.
+    /// The group without a member, out of `parties` parties.
     pub fn empty(parties: u32) -> Group
-        requires { (1 ≤ parties) × (parties ≤ 12) }
+        requires { (1 ≤ parties) × (parties ≤ MOST_PARTIES) }
         ensures { result ≡ record { parties = parties; mask = 0 } }
     {
         Group { mask: 0, parties }
@@ -36,7 +39,7 @@ impl Group {
 
     /// The group of this mask, if each bit of it is a party's.
     pub fn of_mask(mask: u32, parties: u32) -> Option<Group>
-        requires { (1 ≤ parties) × (parties ≤ 12) }
+        requires { (1 ≤ parties) × (parties ≤ MOST_PARTIES) }
         ensures { SomeIff result (mask < 2 ^ parties) (record { parties = parties; mask = mask }) }
     {
         if mask < 1 << parties {
@@ -58,7 +61,7 @@ impl Group {
     pub fn parties(self) -> u32
         ensures is { result ≡ self.parties }
         ensures some { 1 ≤ result }
-        ensures few { result ≤ 12 }
+        ensures few { result ≤ MOST_PARTIES }
     {
         self.parties
     }
@@ -68,7 +71,7 @@ impl Group {
         requires { p < self.parties }
         ensures { result ≡ has_party self.mask p }
     {
-        self.mask >> p & 1 == 1
+        has_party(self.mask, p)
     }
 
     /// The group with this party too.
@@ -78,7 +81,7 @@ impl Group {
         ensures members { (q : ℕ) → has_party result.mask q ≡ (has_party self.mask q || nat_eq q p) }
     {
         Group {
-            mask: self.mask | 1 << p,
+            mask: with_party(self.mask, p),
             parties: self.parties,
         }
     }

@@ -3,6 +3,7 @@ ghost use Rattle.std.specs.Prelude.{◌≡◌, ◌<◌, ◌≤◌, All, length, 
 ghost use Rattle.party_set.specs.Parties.{IsAntichain, Members};
 
 use crate::group::Group;
+use crate::limits::{MOST_GROUPS, MOST_PARTIES};
 use std::marker::Model;
 
 /// The maximal groups of an adversary structure (Hirt and Maurer): 1 to 64 groups of 1 to 12 parties, by rising mask,
@@ -29,7 +30,7 @@ impl Model for Groups {
 }
 
 impl Groups {
-    /// The groups, which are of so many parties.
+    /// The groups, which are of `parties` parties.
     pub fn of(parties: u32, groups: Vec<Group>) -> Groups
         requires parties { All (λ (m : Members). m.parties ≡ parties) groups.items }
         requires antichain { IsAntichain (record {
@@ -45,7 +46,7 @@ impl Groups {
     pub fn len(&self) -> u32
         ensures is { result ≡ length self.now.groups }
         ensures some { 1 ≤ result }
-        ensures few { result ≤ 64 }
+        ensures few { result ≤ MOST_GROUPS }
     {
         self.groups.len() as u32
     }
@@ -62,7 +63,7 @@ impl Groups {
     pub fn parties(&self) -> u32
         ensures is { result ≡ self.now.parties }
         ensures some { 1 ≤ result }
-        ensures few { result ≤ 12 }
+        ensures few { result ≤ MOST_PARTIES }
         ensures antichain { IsAntichain self.now }
     {
         self.parties

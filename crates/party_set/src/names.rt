@@ -5,6 +5,7 @@ ghost use Rattle.std.specs.String.{string_bytes};
 ghost use Rattle.party_set.specs.Names.{is_name, is_name_byte, name_fault, names_fault, party_named, AreNames};
 ghost use Rattle.party_set.specs.declared.names.NamesFault.TheVariants.{Memory};
 
+use crate::limits::{LONGEST_NAME, MOST_PARTIES};
 use crate::name_text::NameText;
 use indexmap::IndexSet;
 use std::alloc::{AllocError, Global};
@@ -54,7 +55,7 @@ pub fn read_names(alloc: Global, texts: &[String]) -> Result<Names, NamesFault>
         (λ names. (names ≡ map string_bytes texts.now) × (names_fault (map string_bytes texts.now) ≡ None))
         (λ fault. (fault ≡ Memory) ⊎ (names_fault (map string_bytes texts.now) ≡ Some fault)) }
 {
-    if texts.is_empty() || texts.len() > 12 {
+    if texts.is_empty() || texts.len() > MOST_PARTIES {
         return Err(NamesFault::PartyCount {
             count: texts.len() as u64,
         });
@@ -74,7 +75,7 @@ impl Names {
     pub fn len(&self) -> u32
         ensures is { result ≡ length self.now }
         ensures some { 1 ≤ result }
-        ensures few { result ≤ 12 }
+        ensures few { result ≤ MOST_PARTIES }
         ensures names { AreNames self.now }
     {
         self.names.len() as u32
@@ -122,7 +123,7 @@ fn is_name(name: &str) -> bool
     ensures { result ≡ is_name name.now }
 {
     let bytes = name.as_bytes();
-    if bytes.is_empty() || bytes.len() > 16 || !bytes[0].is_ascii_alphabetic() {
+    if bytes.is_empty() || bytes.len() > LONGEST_NAME || !bytes[0].is_ascii_alphabetic() {
         return false;
     }
     has_name_bytes(bytes) && name != "of"

@@ -77,7 +77,7 @@ fn connect_all(
     Ok(all)
 }
 
-/// Has the party wait for its peer `from` until so many bytes have come from the peer after that.
+/// Has the party wait for its peer `from` until `bytes` bytes have come from the peer after that.
 fn hold(alloc: Global, ends: &mut PipeEnds, from: usize, bytes: u64) -> Result<(), Fail> {
     let gate: Gate = Arc::new(alloc, AtomicBool::new(false))?;
     let next = ends

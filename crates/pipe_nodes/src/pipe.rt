@@ -26,8 +26,8 @@ enum AtGate {
     Free,
     /// It waits at the gate before it receives.
     Behind(Gate),
-    /// It opens the gate once it has received so many bytes more.
-    Opens(Gate, u64),
+    /// It opens the gate once it has received `bytes` bytes more.
+    Opens { gate: Gate, bytes: u64 },
 }
 
 /// The end of a pipe that sends. To drop it is to close it.
@@ -47,7 +47,7 @@ pub struct Receiver {
     in_vain: InVain,
 }
 
-/// Both ends of a pipe that has room for so many bytes, with this flaw.
+/// Both ends of a pipe that has room for `room` bytes, with this flaw.
 pub fn make_pipe(
     alloc: Global,
     room: usize,
@@ -69,7 +69,7 @@ pub fn make_pipe(
     Ok((sender, receiver))
 }
 
-// A byte as the pipe takes it after so many others.
+// A byte as the pipe takes it after `sent` others.
 fn flawed(flaw: Flaw, sent: u64, byte: u8) -> Result<u8, Failed> {
     match flaw {
         Flaw::FailsAfter(most) if sent >= most => Err(Failed),
@@ -112,11 +112,14 @@ fn wait_at(gate: &Gate, in_vain: &InVain) -> Result<(), Failed> {
 // What is left to do with a gate once a byte more is received.
 fn after_a_byte(at_gate: AtGate) -> AtGate {
     match at_gate {
-        AtGate::Opens(gate, left) if left <= 1 => {
+        AtGate::Opens { gate, bytes } if bytes <= 1 => {
             gate.store(true, Ordering::SeqCst);
             AtGate::Free
         }
-        AtGate::Opens(gate, left) => AtGate::Opens(gate, left - 1),
+        AtGate::Opens { gate, bytes } => AtGate::Opens {
+            gate,
+            bytes: bytes - 1,
+        },
         other => other,
     }
 }
@@ -127,9 +130,9 @@ impl Receiver {
         self.at_gate = AtGate::Behind(gate);
     }
 
-    /// Opens this gate once so many bytes more are received.
+    /// Opens this gate once `bytes` bytes more are received.
     pub fn open_after(&mut self, bytes: u64, gate: Gate) {
-        self.at_gate = AtGate::Opens(gate, bytes);
+        self.at_gate = AtGate::Opens { gate, bytes };
     }
 
     /// The next byte once it is there, or None where the sender was dropped and no byte is left.

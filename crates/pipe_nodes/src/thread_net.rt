@@ -74,7 +74,7 @@ impl Net for ThreadNet {
     }
 }
 
-// Links over these ends, if they are those of party `me` of so many.
+// Links over these ends, if they are those of party `me` of `parties`.
 fn open(
     alloc: Global,
     ends: Option<PipeEnds>,

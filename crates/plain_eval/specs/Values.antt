@@ -1,4 +1,4 @@
--- The values of a circuit's wires, in a ring of so many bits.
+-- The values of a circuit's wires, in the ring of `bits` bits.
 use Rattle.std.specs.Prelude.{ℕ, List, slice_index}
 use Rattle.circuit_model.specs.Netlists.{Netlist, plain}
 

@@ -1,5 +1,5 @@
 //! The numbers that a text writes.
-ghost use Rattle.std.specs.Prelude.{◌≡◌, ◌⊎◌, ℕ, Ok, Err, IfOk, IfErr};
+ghost use Rattle.std.specs.Prelude.{◌≡◌, ◌⊎◌, Ok, Err, IfOk, IfErr};
 ghost use Rattle.plain_text.specs.Words.{number_or_fault, numbers_or_fault};
 ghost use Rattle.plain_text.specs.declared.fault.WordsFault.TheVariants.{Memory};
 

@@ -9,7 +9,7 @@ use Rattle.share_layout.specs.Layouts.{holds, least_party, IsLeastParty}
 abbrev pub duty : Structure → ℕ → ℕ → ℕ
 duty s i j = least_party s (λ p. holds s p i && holds s p j)
 
--- the sharing that a structure makes, in the ring of so many bits
+-- the sharing that a structure makes, in the ring of `bits` bits
 abbrev pub scheme_of : ℕ → Structure → Scheme
 scheme_of bits s =
     record { modulus = 2 ^ bits; parties = s.parties; shares = length s.groups; holds = holds s; duty = duty s }

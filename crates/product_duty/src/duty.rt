@@ -6,7 +6,7 @@ ghost use Rattle.share_layout.specs.Layouts.{holds};
 ghost use Rattle.product_duty.specs.Duties.{duty, pairs_of, pairs_where, scheme_of, EachIsDuty};
 
 use crate::pairs::Pairs;
-use party_set::Groups;
+use party_set::{Groups, MOST_GROUPS};
 use std::alloc::{AllocError, Global};
 use std::marker::Model;
 
@@ -59,7 +59,7 @@ impl Duty {
     pub fn shares(&self) -> u32
         ensures is { result ≡ length self.now.groups }
         ensures some { 1 ≤ result }
-        ensures few { result ≤ 64 }
+        ensures few { result ≤ MOST_GROUPS }
         ensures antichain { IsAntichain self.now }
         ensures q2 { IsQ2 self.now }
     {
@@ -121,9 +121,9 @@ fn duties_of(alloc: Global, groups: &Groups) -> Result<Vec<u32>, AllocError>
     Ok(duties)
 }
 
-// The pairs whose duty is `p`, in a table of so many rows.
+// The pairs whose duty is `p`, in a table of `shares` rows.
 fn list_of(alloc: Global, duties: &[u32], shares: u32, p: u32) -> Result<Vec<(u8, u8)>, AllocError>
-    requires few { shares ≤ 64 }
+    requires few { shares ≤ MOST_GROUPS }
     requires table { length duties.now ≡ shares * shares }
     ensures { IfOk result (λ list. list.items ≡ pairs_where (λ i j. slice_index duties.now (i * shares + j)) p shares) }
 {

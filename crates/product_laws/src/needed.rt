@@ -1,5 +1,4 @@
 //! Products need Q2.
-ghost use Rattle.std.specs.Prelude.{ℕ};
 ghost use Rattle.party_set.specs.Parties.{Structure};
 ghost use Rattle.product_laws.specs.NeededQ2.{NobodyHoldsBoth, Q2IsDuty, PairsNeedQ2, DutiesMultiply, ProductsNeedQ2};
 

@@ -27,6 +27,7 @@ use Rattle.tape_map.specs.declared.fault.MapFault.TheVariants as map
 use Rattle.view_check.specs.declared.fault.CheckFault.{CheckFault}
 use Rattle.view_check.specs.FaultTexts as view
 use Rattle.text_parts.specs.Parts.{refusal_head, key_text, group_text}
+use Rattle.refusal_text.specs.declared.limits.TheConstants.{FILE_LIMIT}
 
 -- a line from its head and its keys
 abbrev pub line : List ℕ → ℕ → List ℕ → List ℕ → List ℕ
@@ -50,7 +51,7 @@ number_line part number name key value = line part number name (number_key key (
 unfoldable pub too_long_line : List ℕ → List ℕ
 too_long_line file =
     line (codes "files") 1 (codes "TooLong")
-    (key_text (codes "file") (Some file) ++ number_key (codes "limit") (Some 16777216))
+    (key_text (codes "file") (Some file) ++ number_key (codes "limit") (Some FILE_LIMIT))
 
 unfoldable pub formula_line : FormulaFault → List ℕ
 formula_line (formula.Syntax at) = number_line (codes "formula") 1 (codes "Syntax") (codes "at") at

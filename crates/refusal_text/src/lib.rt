@@ -4,6 +4,7 @@
 mod circuit;
 mod expressions;
 mod job;
+mod limits;
 mod line;
 mod masked;
 mod other;
@@ -17,6 +18,7 @@ mod view;
 pub use circuit::circuit_line;
 pub use expressions::expressions_line;
 pub use job::job_line;
+pub use limits::FILE_LIMIT;
 pub use line::too_long_line;
 pub use other::other_line;
 pub use pair::pair_line;

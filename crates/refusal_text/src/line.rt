@@ -2,6 +2,7 @@
 ghost use Rattle.std.specs.Prelude.{◌≡◌, ◌++◌, IfOk, OnOk};
 ghost use Rattle.refusal_text.specs.Lines.{line, number_line, too_long_line, file_keys};
 
+use crate::limits::FILE_LIMIT;
 use std::alloc::{AllocError, Global};
 use text_parts::{push_head, push_number_key, push_text, push_text_key};
 
@@ -40,7 +41,7 @@ pub(crate) fn number_line(
     Ok(line)
 }
 
-/// The line of a file that is longer than 16,777,216 bytes.
+/// The line of a file that is longer than the limit.
 #[tactic(auto, unfolding(crate::specs::Lines::too_long_line))]
 pub fn too_long_line(alloc: Global, file: &str) -> Result<Vec<u8>, AllocError>
     ensures { IfOk result (λ line. line.items ≡ too_long_line file.now) }
@@ -48,7 +49,7 @@ pub fn too_long_line(alloc: Global, file: &str) -> Result<Vec<u8>, AllocError>
     let mut line = Vec::new(alloc);
     push_head(&mut line, "files", 1, "TooLong")?;
     push_text_key(&mut line, "file", file.as_bytes())?;
-    push_number_key(&mut line, "limit", Some(16_777_216))?;
+    push_number_key(&mut line, "limit", Some(FILE_LIMIT))?;
     push_text(&mut line, b"\n")?;
     Ok(line)
 }

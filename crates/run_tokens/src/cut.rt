@@ -1,6 +1,6 @@
 //! Cutting a text into tokens.
-ghost use Rattle.std.specs.Prelude.{◌≡◌, ℕ, ◌∷◌, [], ◌<◌, ◌≤◌, length, MatchOption, IfSome};
-ghost use Rattle.run_tokens.specs.Tokens.{Placed, token_at, first_length, tokens_after};
+ghost use Rattle.std.specs.Prelude.{◌≡◌, ◌∷◌, [], ◌<◌, ◌≤◌, length, MatchOption, IfSome};
+ghost use Rattle.run_tokens.specs.Tokens.{token_at, first_length, tokens_after};
 
 use crate::runs::{blank_length, number_length, word_length};
 use crate::token::RunToken;

@@ -13,6 +13,7 @@ use Rattle.job_plan.specs.Plans.{Plan, plan_of, words}
 use Rattle.tape_words.specs.Seeds.{seed_word}
 use Rattle.share_world.specs.Worlds.{World}
 use Rattle.desk_laws.specs.Pieces.{world_of_pieces}
+use Rattle.job_plan.specs.InputWords.{InputLists}
 
 -- the operation of gate j
 abbrev pub sample_operation : ℕ → ℕ → Operation
@@ -60,7 +61,7 @@ abbrev pub sample_word : ℕ → ℕ → ℕ
 sample_word n w = n * (w + 1)
 
 -- what each party gives
-abbrev pub sample_inputs : ℕ → List (List (List ℕ))
+abbrev pub sample_inputs : ℕ → InputLists
 sample_inputs n =
     ((sample_word n 0 ∷ sample_word n 1 ∷ []) ∷ [])
     ∷ ((sample_word n 2 ∷ sample_word n 3 ∷ []) ∷ [])

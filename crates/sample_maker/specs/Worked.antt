@@ -12,8 +12,8 @@ use Rattle.sample_maker.specs.Samples.{sample_plan, sample_session, sample_world
 abbrev pub gate_words : ℕ → List (List ℕ) → List ℕ
 gate_words n pieces = listed n (λ j. plain (sample_world n pieces) 0 (4 + j))
 
--- sample n has so many products and messages, its parties draw so many words each, at most so many wires are kept at
--- once, and these are the words that its gates set
+-- sample n has `multiplied` products and `sent` messages, its parties draw `drawn` words each, at most `kept` wires are
+-- kept at once, and these are the words that its gates set
 pub record IsWorked (n multiplied sent : ℕ) (drawn : List ℕ) (kept : ℕ) (found : List ℕ) : Type 0 where
   pub multiplies : products (sample_session n) ≡ multiplied
   pub sends : length (messages (sample_plan n)) ≡ sent

@@ -5,7 +5,7 @@ ghost use Rattle.circuit_model.specs.Netlists.{arity};
 ghost use Rattle.sample_maker.specs.Samples.{first_operand, second_operand, sample_operation};
 ghost use Rattle.sample_maker.specs.Drafts.{first_gates, sample_draft};
 
-use circuit_model::{Builder, Circuit, CircuitFault, Operation};
+use circuit_model::{Builder, Circuit, CircuitFault, MOST_GATES, Operation};
 use mpc_ring::Ring;
 use std::alloc::Global;
 
@@ -19,9 +19,9 @@ pub(crate) fn sample_ring() -> Ring
     Ring::new(32).unwrap()
 }
 
-/// The circuit of the sample with so many gates, 1 to 65,536.
+/// The circuit of the sample with `count` gates, 1 to 65,536.
 pub(crate) fn sample_circuit(alloc: Global, count: u32) -> Result<Circuit, CircuitFault>
-    requires { (0 < count) × (count ≤ 65536) }
+    requires { (0 < count) × (count ≤ MOST_GATES) }
     ensures is { IfOk result (λ circuit. circuit ≡ first_gates count count) }
     ensures memory { IfErr result (λ fault. fault ≡ Memory) }
 {
@@ -34,7 +34,7 @@ pub(crate) fn sample_circuit(alloc: Global, count: u32) -> Result<Circuit, Circu
 
 // The circuit with no gate yet.
 fn start(alloc: Global, count: u32) -> Result<Builder, CircuitFault>
-    requires { count ≤ 65536 }
+    requires { count ≤ MOST_GATES }
     ensures is { IfOk result (λ builder. builder ≡ sample_draft count 0) }
     ensures memory { IfErr result (λ fault. fault ≡ Memory) }
 {
@@ -55,7 +55,7 @@ fn start(alloc: Global, count: u32) -> Result<Builder, CircuitFault>
 // Adds gate j.
 fn add_gate(builder: &mut Builder, count: u32, j: u32) -> Result<(), CircuitFault>
     requires gate { j < count }
-    requires count { count ≤ 65536 }
+    requires count { count ≤ MOST_GATES }
     requires before { builder.old ≡ sample_draft count j }
     ensures after { OnOk result (builder.new ≡ sample_draft count (j + 1)) }
     ensures memory { IfErr result (λ fault. fault ≡ Memory) }
@@ -96,8 +96,5 @@ fn second_operand(j: u32) -> u64
 fn operands(operation: Operation, both: &[u64; 2]) -> &[u64]
     ensures { result.now ≡ take (arity operation) both.now }
 {
-    match operation {
-        Operation::Neg | Operation::Inv | Operation::Eq | Operation::Eqw => &both[..1],
-        _ => &both[..],
-    }
+    &both[..operation.arity()]
 }

@@ -3,12 +3,13 @@ ghost use Rattle.std.specs.Prelude.{◌≡◌, ◌+◌, ◌<◌, ◌≤◌, [], 
 ghost use Rattle.job_plan.specs.InputWords.{session_words};
 ghost use Rattle.sample_maker.specs.Samples.{sample_inputs, sample_plan, sample_word};
 
+use circuit_model::MOST_GATES;
 use job_plan::{Inputs, Plan};
 use std::alloc::{AllocError, Global};
 
-/// The inputs of the sample with so many gates, at most 65,536.
+/// The inputs of the sample with `count` gates, at most 65,536.
 pub(crate) fn sample_inputs(alloc: Global, plan: &Plan, count: u32) -> Result<Inputs, AllocError>
-    requires count { count ≤ 65536 }
+    requires count { count ≤ MOST_GATES }
     requires plan { plan.now ≡ sample_plan count }
     ensures { IfOk result (λ inputs. inputs ≡ sample_inputs count) }
 {

@@ -7,6 +7,7 @@ ghost use Rattle.job_session.specs.SoundSessions.{IsSoundSession};
 ghost use Rattle.sample_maker.specs.Samples.{sample_plan, sample_session};
 
 use crate::circuit::{sample_circuit, sample_ring};
+use circuit_model::MOST_GATES;
 use job_plan::{Owner, Plan, SessionPart};
 use party_set::{Group, Groups};
 use plan_faults::{PartFault, PlanFault};
@@ -14,9 +15,9 @@ use product_duty::Duty;
 use share_layout::Layout;
 use std::alloc::{AllocError, Global};
 
-/// The plan of the sample with so many gates, 1 to 65,536.
+/// The plan of the sample with `count` gates, 1 to 65,536.
 pub(crate) fn sample_plan(alloc: Global, count: u32) -> Result<Plan, AllocError>
-    requires { (0 < count) × (count ≤ 65536) }
+    requires { (0 < count) × (count ≤ MOST_GATES) }
     ensures { IfOk result (λ plan. plan ≡ sample_plan count) }
 {
     let groups = three_groups(alloc)?;
@@ -49,7 +50,7 @@ fn group(mask: u32) -> Group
 
 // The session: a gives a value of two wires, b another, and all three parties read the last wire.
 fn sample_part(alloc: Global, count: u32) -> Result<SessionPart, AllocError>
-    requires { (0 < count) × (count ≤ 65536) }
+    requires { (0 < count) × (count ≤ MOST_GATES) }
     ensures is { IfOk result (λ part. part ≡ sample_session count) }
     ensures sound { IfOk result (IsSoundSession 3) }
     ensures fit { IfOk result (CarriesFit []) }

@@ -7,6 +7,7 @@ ghost use Rattle.sample_maker.specs.Samples.{sample_inputs, sample_pieces, sampl
 use crate::inputs::sample_inputs;
 use crate::plan::sample_plan;
 use crate::tapes::sample_tapes;
+use circuit_model::MOST_GATES;
 use job_plan::{Inputs, Plan};
 use std::alloc::{AllocError, Global};
 use tape_words::Tape;
@@ -22,7 +23,7 @@ pub struct Sample {
 
 /// The job of this number, 1 to 65,536, which is how many gates it has. The only refusal is out of memory.
 pub fn make_sample(alloc: Global, count: u32) -> Result<Sample, AllocError>
-    requires { (0 < count) × (count ≤ 65536) }
+    requires { (0 < count) × (count ≤ MOST_GATES) }
     ensures plan { IfOk result (λ sample. sample.plan ≡ sample_plan count) }
     ensures inputs { IfOk result (λ sample. sample.inputs ≡ sample_inputs count) }
     ensures tapes { IfOk result (λ sample. sample.tapes.items ≡ sample_pieces count) }

@@ -1,9 +1,9 @@
 //! The layout of the summands.
-ghost use Rattle.std.specs.Prelude.{◌≡◌, ℕ, ◌<◌, ◌≤◌, IfOk, length, true};
+ghost use Rattle.std.specs.Prelude.{◌≡◌, ◌<◌, ◌≤◌, IfOk, length, true};
 ghost use Rattle.party_set.specs.Parties.{IsAntichain, IsQ2, Structure};
 ghost use Rattle.share_layout.specs.Layouts.{holds, least_holder, EachIsHeld};
 
-use party_set::Groups;
+use party_set::{Groups, MOST_GROUPS, MOST_PARTIES, has_party};
 use std::alloc::{AllocError, Global};
 use std::marker::Model;
 
@@ -52,7 +52,7 @@ impl Layout {
     pub fn parties(&self) -> u32
         ensures is { result ≡ self.now.parties }
         ensures some { 1 ≤ result }
-        ensures few { result ≤ 12 }
+        ensures few { result ≤ MOST_PARTIES }
         ensures antichain { IsAntichain self.now }
     {
         self.parties
@@ -62,7 +62,7 @@ impl Layout {
     pub fn shares(&self) -> u32
         ensures is { result ≡ length self.now.groups }
         ensures some { 1 ≤ result }
-        ensures few { result ≤ 64 }
+        ensures few { result ≤ MOST_GROUPS }
     {
         self.groups.len() as u32
     }
@@ -73,7 +73,7 @@ impl Layout {
         requires summand { i < length self.now.groups }
         ensures { result ≡ holds self.now p i }
     {
-        self.groups[i as usize] >> p & 1 == 0
+        !has_party(self.groups[i as usize], p)
     }
 
     /// The least party that holds summand `i`.

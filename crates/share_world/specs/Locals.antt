@@ -25,10 +25,10 @@ key_at plan s kind i p q = record { session = s; slot = slot_number plan s kind;
 abbrev pub kept_key : Plan → ℕ → ℕ → ℕ → ℕ → ℕ → Key
 kept_key plan r s v i p = key_at plan r (Kept (kept_place plan.sessions s v)) i p p
 
--- summand i of what q deals in a slot, as p has it: where p is q, it deals v
+-- summand i of what q deals in a slot, as p has it: where p is q, it deals this value
 abbrev pub local_deal : World → (Key → ℕ) → ℕ → ℕ → Slot → ℕ → ℕ → ℕ → ℕ
-local_deal w got p s kind q v i =
-    if nat_eq q p then dealt (scheme w.plan) v (tape_word w s kind p) i else got (key_at w.plan s kind i q p)
+local_deal w got p s kind q value i =
+    if nat_eq q p then dealt (scheme w.plan) value (tape_word w s kind p) i else got (key_at w.plan s kind i q p)
 
 -- summand i of a mask: a word of its own where p is the least holder, and else what it got
 abbrev pub local_mask : World → (Key → ℕ) → ℕ → ℕ → ℕ → Side → ℕ → ℕ

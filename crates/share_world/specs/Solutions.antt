@@ -1,9 +1,9 @@
 -- The equations of the protocol over the wires of valid circuits, for all sessions at once.
-use Rattle.std.specs.Prelude.{◌≡◌, ℕ, ◌%◌, ◌<◌, ◌⊎◌, Bool, true, false, if◌then◌else◌, length}
+use Rattle.std.specs.Prelude.{◌≡◌, ℕ, ◌%◌, ◌<◌, ◌⊎◌, ◌==◌, not, Bool, true, false, if◌then◌else◌, length}
 use Rattle.list_laws.specs.Lists.{total}
 use Rattle.circuit_model.specs.declared.gate.Operation.{Operation}
 use Rattle.circuit_model.specs.Circuits.{is_product}
-use Rattle.circuit_model.specs.declared.gate.Operation.TheVariants.{Neg, Inv, Eq, Eqw}
+use Rattle.circuit_model.specs.Netlists.{arity, is_constant}
 use Rattle.secret_sharing.specs.Schemes.{dealt, local, own_product, has_pair}
 use Rattle.secret_sharing.specs.Prepared.{prepared_summand}
 use Rattle.job_session.specs.declared.source.Source.TheVariants.{Given, Carried}
@@ -16,16 +16,11 @@ use Rattle.share_world.specs.Worlds.{World, input_of, tape_word, mask, carried_w
 
 -- the operation reads the first wire of its gate
 abbrev pub reads_first : Operation → Bool
-reads_first Eq = false
-reads_first _ = true
+reads_first o = not (is_constant o)
 
 -- it reads the second
 abbrev pub reads_second : Operation → Bool
-reads_second Neg = false
-reads_second Inv = false
-reads_second Eq = false
-reads_second Eqw = false
-reads_second _ = true
+reads_second o = arity o == 2
 
 -- wire v is an input wire, or the output of one of the first t gates
 abbrev pub SetBefore : Session → ℕ → ℕ → Type 0

@@ -13,11 +13,12 @@ use Rattle.job_plan.specs.declared.key.Key.{Key}
 use Rattle.job_plan.specs.Messages.{messages}
 use Rattle.party_set.specs.Parties.{has_party}
 use Rattle.job_session.specs.Sessions.Slot.{Input, At_gate, Output, Mask, Mask_product, Masked, Kept}
+use Rattle.job_plan.specs.InputWords.{InputLists}
 
 -- a plan, with the inputs and the tapes of all parties
 pub record World : Type 0 where
   pub plan : Plan
-  pub inputs : List (List (List ℕ))  -- by party, session, position
+  pub inputs : InputLists  -- by party, session, position
   pub tapes : List (List ℕ)  -- by party
 
 -- the input of a wire with this source: the next of its giver's inputs; a carried wire has none
@@ -44,7 +45,7 @@ mask w s t side i =
 
 -- summand i of the product of x and y, where each party deals its part in this slot
 abbrev pub dealt_product : World → ℕ → Slot → (ℕ → ℕ) → (ℕ → ℕ) → ℕ → ℕ
-dealt_product w s kind = product_summand (scheme w.plan) (λ p v. dealt (scheme w.plan) v (tape_word w s kind p))
+dealt_product w s kind = product_summand (scheme w.plan) (λ p own. dealt (scheme w.plan) own (tape_word w s kind p))
 
 -- summand i of the product of both masks, which is made before the inputs
 abbrev pub mask_product : World → ℕ → ℕ → ℕ → ℕ

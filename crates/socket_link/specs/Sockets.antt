@@ -35,6 +35,6 @@ unread = record { told = None; faults = 0; ended = false; steady = false; closed
 abbrev pub unsent : OutletReading
 unsent = record { sink = untold 0; holds = false; closed = false }
 
--- the links to so many peers
+-- the links to `peers` peers
 abbrev pub unused : ℕ → LinksReading
 unused peers = record { inlets = replicate peers unread; outlets = replicate peers unsent }

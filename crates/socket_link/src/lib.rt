@@ -9,7 +9,7 @@ mod tcp_net;
 mod tcp_outlet;
 mod thread_spawner;
 
-pub use addresses::pipe_address;
+pub use addresses::{PORTS_OF_RECEIVER, pipe_address};
 pub use tcp_inlet::TcpInlet;
 pub use tcp_net::TcpNet;
 pub use tcp_outlet::TcpOutlet;

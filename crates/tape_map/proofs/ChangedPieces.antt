@@ -1,13 +1,13 @@
 -- The tables of a session make the change of its tapes.
-use Rattle.std.proofs.Common.{◌≡◌, ℕ, ◌+◌, ◌-◌, ◌%◌, ◌^◌, ◌<◌, true, false, nat_eq, nat_lt, All, List, [], length, refl, sym, ap, ap₂, ◌∙◌, subst, arith, inl, inr, pow_pos}
+use Rattle.std.proofs.Common.{◌≡◌, ℕ, ◌+◌, ◌-◌, ◌%◌, ◌^◌, ◌<◌, ◌++◌, true, false, nat_eq, nat_lt, All, List, [], length, refl, sym, ap, ap₂, ◌∙◌, subst, arith, inl, inr, pow_pos}
 use Rattle.std.specs.Prelude.{slice_index, slice_index_or}
 use Rattle.std.specs.Global.{Vec}
-use Rattle.std.proofs.lemmas.List.{length-map, get_or_default}
+use Rattle.std.proofs.lemmas.List.{length-append, length-map, get_or_default}
 use Rattle.std.proofs.Math.Nat.{mod-eq_of_lt, mod-lt}
 use Rattle.std.proofs.Math.ListN.{get_or-eq_default}
 use Rattle.std.proofs.lemmas.Bool.{cases_Bool, cases_lt, cond-true, cond-false, lt-ltb, and_parts, both_ways, eqb-true}
 use Rattle.list_laws.specs.Lists.{total, joined, listed}
-use Rattle.list_laws.proofs.Totals.{total_eq}
+use Rattle.list_laws.proofs.Totals.{total_eq, total_more}
 use Rattle.list_laws.proofs.JoinedLists.{length-joined, length-listed, listed_at, listed_eq, joined_eq}
 use Rattle.mpc_ring.specs.Differences.{difference}
 use Rattle.circuit_model.specs.Circuits.{is_product}
@@ -31,13 +31,13 @@ use Rattle.share_world.specs.Solutions.{GatesInOrder}
 use Rattle.share_world.specs.Worlds.{World, input_of, source_value, tape_word, run_of, value_before, values_before, plain, mask}
 use Rattle.share_world.proofs.SmallWords.{small_words}
 use Rattle.share_world.proofs.Settled.{in_order, settled, product_settled}
-use Rattle.wire_tables.specs.WireTables.{summand_rows, value_list}
+use Rattle.wire_tables.specs.WireTables.{summand_rows, value_list, value_lists}
 use Rattle.wire_tables.proofs.ValueLists.{small_plain}
 use Rattle.wire_tables.specs.Steps.{IsRow}
 use Rattle.share_world.proofs.LocalWords.{own_alike}
 use Rattle.wire_tables.proofs.TableRows.{rows_named, wire_last, mask_last, wire_whole, mask_whole}
 use Rattle.tape_map.specs.TapeMaps.{hidden, hidden_word, growth, with_inputs, delta, raised, moved_summands, moved_mask, moved_words, piece_map, tape_of}
-use Rattle.tape_map.specs.Changes.{growths, grown_row, grown_rows, grown_mask, grown_masks, masks_of, IsTable, IsChange, AreGrowths, AreNamedRows, Fits, growth_in, growth_by, grown_words, grown_piece}
+use Rattle.tape_map.specs.Changes.{grown_row, grown_rows, grown_mask, grown_masks, masks_of, IsTable, AreGrowths, AreWireNumbers, AreNamedRows, Fits, growth_in, growth_by, grown_words, grown_piece}
 use Rattle.tape_map.specs.declared.change.Change.{Change}
 use Rattle.tape_map.proofs.RaisedDeals.{raised_eq}
 
@@ -149,6 +149,14 @@ pushed_like tape n n' q q' g g' d d' a a' en eq eg ed ea =
 
 -- ---- the tables of a world
 
+-- by how much each wire of session s grows, after all gates
+abbrev pub growths : World → List (List (List ℕ)) → ℕ → List ℕ
+growths w other s = listed (session w.plan s).wires (delta w other s (length (session w.plan s).gates))
+
+-- the tables are those of session s of a world and of other inputs
+abbrev pub IsChange : World → List (List (List ℕ)) → ℕ → ℕ → Change → Type 0
+IsChange w other group s c = IsTable w.plan s (hidden w.plan group) (growths w other s) (summand_rows w s) c
+
 -- the source of a wire that party p gives
 pub given_is : (p : ℕ) (from : Source) → given_by p from ≡ true → from ≡ Given p
 given_is p (Given q) e = ap (λ (n : ℕ). Given n) (eqb-true q p e)
@@ -164,14 +172,24 @@ listed_fit plan s f h = record {
 pub differences_fit : (plan : Plan) (s : ℕ) (first second : ℕ → ℕ) → AreGrowths plan s (listed (session plan s).wires (λ v. difference (2 ^ plan.bits) (second v) (first v)))
 differences_fit plan s first second = listed_fit plan s _ (λ v. mod-lt _ (pow_pos plan.bits))
 
-pub growths_fit : (w : World) (other : List (List (List ℕ))) (s : ℕ) → AreGrowths w.plan s (growths w other s)
+growths_fit : (w : World) (other : List (List (List ℕ))) (s : ℕ) → AreGrowths w.plan s (growths w other s)
 growths_fit w other s = listed_fit w.plan s _ (λ v. mod-lt _ (pow_pos w.plan.bits))
 
-pub values_fit : (w : World) (s : ℕ) (list : List ℕ) → IsSound w.plan → AreInputs w.plan w.inputs → list ≡ value_list w s → AreGrowths w.plan s list
+values_fit : (w : World) (s : ℕ) (list : List ℕ) → IsSound w.plan → AreInputs w.plan w.inputs → list ≡ value_list w s → AreGrowths w.plan s list
 values_fit w s list sound inputs is = subst (AreGrowths w.plan s) (sym is) (listed_fit w.plan s (plain w s) (small_plain w sound inputs s))
 
+-- so of all sessions
+pub lists_fit : (w : World) (lists : List (List ℕ)) → IsSound w.plan → AreInputs w.plan w.inputs → lists ≡ value_lists w → AreWireNumbers w.plan lists
+lists_fit w lists sound inputs are = record {
+  sessions = ap length are ∙ length-listed count (value_list w);
+  numbers = λ s ls. values_fit w s (slice_index_or lists s []) sound inputs (ap (λ xs. slice_index_or xs s []) are ∙ listed_at count (value_list w) s [] ls);
+}
+  where
+    count : ℕ
+    count = length w.plan.sessions
+
 -- the wires grow from their values to those with the other inputs
-pub all_grown : (w : World) (other : List (List (List ℕ))) (s : ℕ) (first second : List ℕ) → first ≡ value_list w s → second ≡ value_list (with_inputs w other) s
+all_grown : (w : World) (other : List (List (List ℕ))) (s : ℕ) (first second : List ℕ) → first ≡ value_list w s → second ≡ value_list (with_inputs w other) s
     → listed (session w.plan s).wires (λ v. difference (2 ^ w.plan.bits) (slice_index second v) (slice_index first v)) ≡ growths w other s
 all_grown w other s first second ef es =
     let wires = (session w.plan s).wires in
@@ -186,7 +204,25 @@ rows_fit w s whole = record {
   masks = λ t side l e. subst (IsRow w.plan) (sym (mask_last w s t side l e)) (mask_whole w whole s t side);
 }
 
-module _ (w : World) (other : List (List (List ℕ))) (group : ℕ) (whole : IsWhole w) (others : AreInputs w.plan other) (c : Change)
+-- the tables that were made fit
+pub table_fits : (w : World) (s g : ℕ) (more : List ℕ) (c : Change) → IsWhole w → s < length w.plan.sessions → AreGrowths w.plan s more
+    → IsTable w.plan s g more (summand_rows w s) c → Fits w.plan c
+table_fits w s g more c whole ls fit h = record {
+  there = subst (λ k. k < length w.plan.sessions) (sym h.at) ls;
+  growths = subst (AreGrowths w.plan c.session) (sym h.growths) (subst (λ k. AreGrowths w.plan k more) (sym h.at) fit);
+  rows = subst (AreNamedRows w.plan c.session) (sym h.rows) (subst (λ k. AreNamedRows w.plan k (summand_rows w s)) (sym h.at) (rows_fit w s whole));
+  tables = own_tables w.plan s g more (summand_rows w s) c h;
+}
+
+-- and hide the other inputs, where the wires grow with these, and the summand is the group's
+pub hides : (w : World) (other : List (List (List ℕ))) (group s g : ℕ) (more first second : List ℕ) (c : Change) → g ≡ hidden w.plan group
+    → more ≡ listed (session w.plan s).wires (λ v. difference (2 ^ w.plan.bits) (slice_index second v) (slice_index first v))
+    → first ≡ value_list w s → second ≡ value_list (with_inputs w other) s → IsTable w.plan s g more (summand_rows w s) c → IsChange w other group s c
+hides w other group s g more first second c hidden_is grown ef es h =
+    subst (λ xs. IsTable w.plan s (hidden w.plan group) xs (summand_rows w s) c) (grown ∙ all_grown w other s first second ef es)
+    (subst (λ k. IsTable w.plan s k more (summand_rows w s) c) hidden_is h)
+
+module _ (w : World) (other : List (List (List ℕ))) (group : ℕ) (whole : IsWhole w) (c : Change)
     (ls : c.session < length w.plan.sessions) (h : IsChange w other group c.session c) where
   abbrev q : ℕ
   q = 2 ^ w.plan.bits
@@ -212,13 +248,8 @@ module _ (w : World) (other : List (List (List ℕ))) (group : ℕ) (whole : IsW
   ordered : GatesInOrder x
   ordered = in_order x (whole.sound.sessions s ls).wired
 
-  pub fits : Fits w.plan c
-  fits = record {
-    there = ls;
-    growths = subst (AreGrowths w.plan s) (sym h.growths) (growths_fit w other s);
-    rows = subst (AreNamedRows w.plan s) (sym h.rows) (rows_fit w s whole);
-    tables = own_tables w.plan s g (growths w other s) (summand_rows w s) c h;
-  }
+  fits : Fits w.plan c
+  fits = table_fits w s g (growths w other s) c whole ls (growths_fit w other s) h
 
   -- ---- what is dealt
 
@@ -370,7 +401,7 @@ module _ (w : World) (other : List (List (List ℕ))) (group : ℕ) (whole : IsW
 
 -- ---- so of session s
 
-module _ (w : World) (other : List (List (List ℕ))) (group s : ℕ) (whole : IsWhole w) (others : AreInputs w.plan other) (ls : s < length w.plan.sessions)
+module _ (w : World) (other : List (List (List ℕ))) (group s : ℕ) (whole : IsWhole w) (ls : s < length w.plan.sessions)
     (c : Change) (h : IsChange w other group s c) where
   there : c.session < length w.plan.sessions
   there = subst (λ k. k < length w.plan.sessions) (sym h.at) ls
@@ -378,12 +409,9 @@ module _ (w : World) (other : List (List (List ℕ))) (group s : ℕ) (whole : I
   of_session : IsChange w other group c.session c
   of_session = subst (λ k. IsChange w other group k c) (sym h.at) h
 
-  pub change_fits : Fits w.plan c
-  change_fits = fits w other group whole others c there of_session
-
   -- the piece of a session
   pub piece_grown : (p : ℕ) → grown_piece w.plan group c (tape_of w p) p ≡ piece_map w other group p s
-  piece_grown p = own_piece w other group whole others c there of_session p ∙ ap (piece_map w other group p) h.at
+  piece_grown p = own_piece w other group whole c there of_session p ∙ ap (piece_map w other group p) h.at
 
 -- ---- lists of small words, and of rows
 
@@ -392,16 +420,14 @@ small_all q xs h k d l = subst (λ z. z < q) (sym (get_or_default xs k d 0 l)) (
 
 -- ---- lengths
 
-pub piece_long : (w : World) (other : List (List (List ℕ))) (group p s : ℕ) → length (piece_map w other group p s) ≡ words w.plan p s
-piece_long w other group p s =
-    length-joined (slots w.plan s) (λ k. listed (words_in w.plan s p (slot w.plan s k)) (moved_words w other group s (slot w.plan s k) p))
-    ∙ total_eq (slots w.plan s) _ _ (λ k lk. length-listed (words_in w.plan s p (slot w.plan s k)) (moved_words w other group s (slot w.plan s k) p))
-
-pub pieces_long : (w : World) (other : List (List (List ℕ))) (group p n : ℕ) → length (joined n (piece_map w other group p)) ≡ place w.plan p n 0
-pieces_long w other group p n =
-    let none : total n (words w.plan p) ≡ total n (words w.plan p) + 0 = omega arith in
-    length-joined n (piece_map w other group p) ∙ total_eq n _ (words w.plan p) (λ s ls. piece_long w other group p s) ∙ none
-
 pub grown_long : (plan : Plan) (group : ℕ) (c : Change) (tape : List ℕ) (p k : ℕ)
     → length (joined k (grown_words plan group c tape p)) ≡ total k (λ j. words_in plan c.session p (slot plan c.session j))
 grown_long plan group c tape p k = length-joined k (grown_words plan group c tape p) ∙ total_eq k _ _ (λ j lj. length-listed (words_in plan c.session p (slot plan c.session j)) _)
+
+-- a tape with the pieces of the sessions before goes on to the next session's place
+pub next_place : (plan : Plan) (group : ℕ) (c : Change) (front tape : List ℕ) (p s : ℕ) → c.session ≡ s → length front ≡ place plan p s 0
+    → length (front ++ grown_piece plan group c tape p) ≡ place plan p (s + 1) 0
+next_place plan group c front tape p s at before =
+    let piece = grown_long plan group c tape p (slots plan c.session) ∙ ap (words plan p) at in
+    let more = total_more s (words plan p) in
+    omega (arith, length-append front (grown_piece plan group c tape p), before, piece, more)

@@ -12,17 +12,12 @@ use Rattle.job_session.specs.Sessions.{Slot, gate, operand, is_prepared, mask_wi
 use Rattle.job_session.specs.Sessions.Slot.{Input, At_gate, Mask, Mask_product}
 use Rattle.job_plan.specs.Plans.{Plan, scheme, session, slot, slots, words_in, place}
 use Rattle.job_plan.specs.InputWords.{session_words}
-use Rattle.share_world.specs.Worlds.{World}
-use Rattle.wire_tables.specs.WireTables.{summand_rows}
 use Rattle.wire_tables.specs.Steps.{IsRow}
-use Rattle.tape_map.specs.TapeMaps.{hidden, hidden_word, delta, raised}
+use Rattle.tape_map.specs.TapeMaps.{hidden_word, raised}
 use Rattle.tape_map.specs.declared.change.Change.{Change}
+use Rattle.tape_map.specs.declared.change.Growing.{Growing}
 
 -- ---- what a change has
-
--- by how much each wire of session s grows, after all gates
-abbrev pub growths : World → List (List (List ℕ)) → ℕ → List ℕ
-growths w other s = listed (session w.plan s).wires (delta w other s (length (session w.plan s).gates))
 
 -- a row, where summand g grows by d
 abbrev pub grown_row : Plan → ℕ → ℕ → List ℕ → List ℕ
@@ -60,10 +55,6 @@ pub record IsTable (plan : Plan) (s g : ℕ) (more : List ℕ) (table : List (Li
   pub moved : session_words c.moved.items ≡ grown_rows plan s g more table
   pub masks : (side : Side) → masks_of c side ≡ grown_masks plan s g more table side
 
--- the tables are those of session s of a world and of other inputs
-abbrev pub IsChange : World → List (List (List ℕ)) → ℕ → ℕ → Change → Type 0
-IsChange w other group s c = IsTable w.plan s (hidden w.plan group) (growths w other s) (summand_rows w s) c
-
 -- ---- tables of the right size
 
 -- a number of the ring for each wire
@@ -71,12 +62,24 @@ pub record AreGrowths (plan : Plan) (s : ℕ) (more : List ℕ) : Type 0 where
   pub wires : length more ≡ (session plan s).wires
   pub below : (v : ℕ) → slice_index more v < 2 ^ plan.bits
 
+-- so of each session
+pub record AreWireNumbers (plan : Plan) (lists : List (List ℕ)) : Type 0 where
+  pub sessions : length lists ≡ length plan.sessions
+  pub numbers : (s : ℕ) → s < length plan.sessions → AreGrowths plan s (slice_index_or lists s [])
+
 -- a row for each name, whole where it is of a wire, or of the mask of a wire that a prepared product reads
 pub record AreNamedRows (plan : Plan) (s : ℕ) (rows : List (List ℕ)) : Type 0 where
   pub names : length rows ≡ row_names (session plan s)
   pub wires : (v : ℕ) → v < (session plan s).wires → IsRow plan (slice_index_or rows v [])
   pub masks : (t : ℕ) (side : Side) → t < length (session plan s).gates → is_prepared (session plan s) t ≡ true
       → IsRow plan (slice_index_or rows (mask_wire (session plan s) t side) [])
+
+-- the session and the summand are of the plan, and the growths and rows of that session
+pub record IsOfPlan (plan : Plan) (growing : Growing) : Type 0 where
+  pub there : growing.session < length plan.sessions
+  pub hidden_summand : growing.hidden < length plan.groups
+  pub growths : AreGrowths plan growing.session growing.growths.now
+  pub rows : AreNamedRows plan growing.session growing.rows.now
 
 -- the tables are of a session of the plan
 pub record Fits (plan : Plan) (c : Change) : Type 0 where

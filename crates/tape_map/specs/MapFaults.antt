@@ -11,13 +11,14 @@ use Rattle.tape_map.specs.TapeMaps.{member_gives, with_inputs}
 use Rattle.tape_map.specs.declared.fault.MapFault.{MapFault}
 use Rattle.tape_map.specs.declared.fault.MapFault.TheVariants.{NotTolerated, InputDiffers}
 use Rattle.tape_map.specs.declared.fault.MapFault.TheVariants.{OutputDiffers}
+use Rattle.job_plan.specs.InputWords.{InputLists}
 
 -- a maximal group has all parties of this one
 abbrev pub is_tolerated : Plan → ℕ → Bool
 is_tolerated plan group = list_any (within plan.parties group) plan.groups
 
 -- a member gives one word on an input wire, and is to give another
-abbrev pub input_check : World → List (List (List ℕ)) → ℕ → ℕ → ℕ → Option MapFault
+abbrev pub input_check : World → InputLists → ℕ → ℕ → ℕ → Option MapFault
 input_check w other group s v =
     let first = input_of w s v in
     let second = input_of (with_inputs w other) s v in
@@ -31,7 +32,7 @@ output_check plan group s first second o r =
     answers OutputDiffers s (output_wire (session plan s) o) r first second
 
 -- the checks of the inputs of session s, by wires
-abbrev pub input_checks : World → List (List (List ℕ)) → ℕ → ℕ → List (Option MapFault)
+abbrev pub input_checks : World → InputLists → ℕ → ℕ → List (Option MapFault)
 input_checks w other group s =
     listed (length (owners (session w.plan s))) (input_check w other group s)
 
@@ -48,19 +49,19 @@ pub record AreValues (plan : Plan) (lists : List (List ℕ)) : Type 0 where
   pub sessions : length lists ≡ length plan.sessions
   pub wires : (s : ℕ) → s < length plan.sessions → length (slice_index_or lists s []) ≡ (session plan s).wires
 
-abbrev pub output_checks : World → List (List (List ℕ)) → ℕ → ℕ → List (Option MapFault)
+abbrev pub output_checks : World → InputLists → ℕ → ℕ → List (Option MapFault)
 output_checks w other group s =
     value_checks w.plan group s (plain w s) (plain (with_inputs w other) s)
 
 -- all checks in their order: of the group, of all inputs, of all outputs
-abbrev pub map_checks : World → List (List (List ℕ)) → ℕ → List (Option MapFault)
+abbrev pub map_checks : World → InputLists → ℕ → List (Option MapFault)
 map_checks w other group =
     (not (is_tolerated w.plan group) answers NotTolerated)
     ∷ (joined (length w.plan.sessions) (input_checks w other group)
     ++ joined (length w.plan.sessions) (output_checks w other group))
 
 -- why the other inputs can't be hidden from the group: the fault of the first check that fails
-abbrev pub map_fault : World → List (List (List ℕ)) → ℕ → Option MapFault
+abbrev pub map_fault : World → InputLists → ℕ → Option MapFault
 map_fault w other group = first_fault (map_checks w other group)
 
 -- the member that reads another value, where the fault tells one, is below this number

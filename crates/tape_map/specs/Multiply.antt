@@ -5,9 +5,10 @@ use Rattle.share_world.specs.Worlds.{plain, view}
 use Rattle.share_world.specs.Multiply.{multiply_world}
 use Rattle.tape_map.specs.TapeMaps.{hidden, with_inputs, with_tapes, changed_tapes, second_world}
 use Rattle.tape_map.specs.Laws.{CanHide}
+use Rattle.job_plan.specs.InputWords.{InputLists}
 
 -- the inputs of a and b; c gives none
-abbrev pub given_by : ℕ → ℕ → List (List (List ℕ))
+abbrev pub given_by : ℕ → ℕ → InputLists
 given_by a b = ((a ∷ []) ∷ []) ∷ ((b ∷ []) ∷ []) ∷ ([] ∷ []) ∷ []
 
 -- nobody is part of each group: the first one's summand is hidden

@@ -14,11 +14,12 @@ use Rattle.job_session.specs.declared.side.Side.{Side}
 use Rattle.job_session.specs.declared.side.Side.TheVariants.{First, Second}
 use Rattle.job_plan.specs.Plans.{Plan, scheme, session, slot, slots, words_in, least_holder, least_held}
 use Rattle.share_world.specs.Worlds.{World, input_of, tape_word, value_before, mask, dealt_value, run_of}
+use Rattle.job_plan.specs.InputWords.{InputLists}
 
 -- ---- the worlds of one plan
 
 -- this world, but with other inputs
-abbrev pub with_inputs : World → List (List (List ℕ)) → World
+abbrev pub with_inputs : World → InputLists → World
 with_inputs w other = record { plan = w.plan; inputs = other; tapes = w.tapes }
 
 -- this world, but with other tapes
@@ -31,7 +32,7 @@ tape_of w p = slice_index_or w.tapes p []
 
 -- by how much the value of wire v of session s before gate t grows with the other inputs, of this session and of those that
 -- it carries from
-abbrev pub delta : World → List (List (List ℕ)) → ℕ → ℕ → ℕ → ℕ
+abbrev pub delta : World → InputLists → ℕ → ℕ → ℕ → ℕ
 delta w other s t v =
     difference (2 ^ w.plan.bits) (value_before (with_inputs w other) s t v) (value_before w s t v)
 
@@ -51,18 +52,18 @@ abbrev pub raised : ℕ → ℕ → ℕ → (ℕ → ℕ) → ℕ → ℕ
 raised q g d x i = if nat_eq i g then (x i + d) % q else x i
 
 -- the summands of wire v before gate t, where the hidden one grows as the value does
-abbrev pub moved_summands : World → List (List (List ℕ)) → ℕ → ℕ → ℕ → ℕ → ℕ → ℕ
+abbrev pub moved_summands : World → InputLists → ℕ → ℕ → ℕ → ℕ → ℕ → ℕ
 moved_summands w other group s t v =
     raised (2 ^ w.plan.bits) (hidden w.plan group) (delta w other s t v) (summands (run_of w s) t v)
 
 -- the mask of the wire that gate t reads on this side, where the hidden summand grows as the wire's value does
-abbrev pub moved_mask : World → List (List (List ℕ)) → ℕ → ℕ → ℕ → Side → ℕ → ℕ
+abbrev pub moved_mask : World → InputLists → ℕ → ℕ → ℕ → Side → ℕ → ℕ
 moved_mask w other group s t side =
     raised (2 ^ w.plan.bits) (hidden w.plan group) (delta w other s t (operand (gate (session w.plan s) t) side))
     (mask w s t side)
 
 -- what party p is to deal in a slot: its other input, or its own product of the moved summands, or of the moved masks
-abbrev pub moved_value : World → List (List (List ℕ)) → ℕ → ℕ → ℕ → Slot → ℕ
+abbrev pub moved_value : World → InputLists → ℕ → ℕ → ℕ → Slot → ℕ
 moved_value w other group s p (Input v) = input_of (with_inputs w other) s v
 moved_value w other group s p (At_gate t) =
     let moved = moved_summands w other group s t in
@@ -83,33 +84,33 @@ hidden_word plan group p (Mask t side) =
 hidden_word plan group p _ = hidden plan group
 
 -- by how much that word grows: in a mask as the masked wire's value does, in a deal as the value that p deals
-abbrev pub growth : World → List (List (List ℕ)) → ℕ → ℕ → ℕ → Slot → ℕ
+abbrev pub growth : World → InputLists → ℕ → ℕ → ℕ → Slot → ℕ
 growth w other group s p (Mask t side) = delta w other s t (operand (gate (session w.plan s) t) side)
 growth w other group s p kind =
     difference (2 ^ w.plan.bits) (moved_value w other group s p kind) (dealt_value w s p kind)
 
 -- the words that party p draws in a slot of session s: a member's stay, and of any other party's the hidden one grows
-abbrev pub moved_words : World → List (List (List ℕ)) → ℕ → ℕ → Slot → ℕ → ℕ → ℕ
+abbrev pub moved_words : World → InputLists → ℕ → ℕ → Slot → ℕ → ℕ → ℕ
 moved_words w other group s kind p =
     if has_party group p then tape_word w s kind p
     else raised (2 ^ w.plan.bits) (hidden_word w.plan group p kind) (growth w other group s p kind)
     (tape_word w s kind p)
 
 -- party p's piece of tape for session s, changed, slot by slot
-abbrev pub piece_map : World → List (List (List ℕ)) → ℕ → ℕ → ℕ → List ℕ
+abbrev pub piece_map : World → InputLists → ℕ → ℕ → ℕ → List ℕ
 piece_map w other group p s =
     joined (slots w.plan s) (λ k.
     listed (words_in w.plan s p (slot w.plan s k)) (moved_words w other group s (slot w.plan s k) p))
 
 -- party p's tape, changed, session by session
-abbrev pub tape_map : World → List (List (List ℕ)) → ℕ → ℕ → List ℕ
+abbrev pub tape_map : World → InputLists → ℕ → ℕ → List ℕ
 tape_map w other group p = joined (length w.plan.sessions) (piece_map w other group p)
 
 -- the tapes of all parties, changed
-abbrev pub changed_tapes : World → List (List (List ℕ)) → ℕ → List (List ℕ)
+abbrev pub changed_tapes : World → InputLists → ℕ → List (List ℕ)
 changed_tapes w other group = listed w.plan.parties (tape_map w other group)
 
 -- the world of the other inputs and the changed tapes
-abbrev pub second_world : World → List (List (List ℕ)) → ℕ → World
+abbrev pub second_world : World → InputLists → ℕ → World
 second_world w other group =
     record { plan = w.plan; inputs = other; tapes = changed_tapes w other group }

@@ -1,22 +1,19 @@
 //! How the tapes of one session change.
-ghost use Rattle.std.specs.Prelude.{◌≡◌, ℕ, ◌+◌, ◌^◌, ◌<◌, ◌≤◌, ◌++◌, ◌%◌, if◌then◌else◌, List};
-ghost use Rattle.std.specs.Prelude.{All, IfOk, OnOk, true, length, slice_index};
+ghost use Rattle.std.specs.Prelude.{◌≡◌, ℕ, ◌+◌, ◌^◌, ◌<◌, ◌≤◌, ◌++◌, ◌%◌, if◌then◌else◌};
+ghost use Rattle.std.specs.Prelude.{All, IfOk, OnOk, length, slice_index};
 ghost use Rattle.list_laws.specs.Lists.{listed};
-ghost use Rattle.job_session.specs.Sessions.{operand};
-ghost use Rattle.job_plan.specs.InputWords.{session_words};
 ghost use Rattle.job_plan.specs.Plans.{session};
 ghost use Rattle.mpc_ring.specs.Differences.{difference};
 ghost use Rattle.tape_map.specs.TapeMaps.{raised};
-ghost use Rattle.tape_map.specs.Changes.{AreGrowths, AreNamedRows, product_growth, grown_rows, grown_mask, grown_masks};
+ghost use Rattle.tape_map.specs.Changes.{AreGrowths, product_growth};
 
-use circuit_model::Gate;
-use job_plan::{Inputs, Plan, SlotKind};
-use job_session::Side;
+use job_plan::{Plan, SlotKind};
+use job_session::{Side, operand};
 use mpc_ring::Ring;
 use party_set::Group;
 use reshare_step::own_products;
 use std::alloc::{AllocError, Global};
-use wire_tables::{CarriedRows, SummandTable, words_in};
+use wire_tables::{CarriedRows, SummandTable, WorldData, words_in};
 
 /// The tables of a session: by how much its wires grow with the other inputs, their summands, those of
 /// the masks of prepared products too, and both as they are when the hidden one grows as the wire does.
@@ -33,51 +30,45 @@ pub struct Change {
 
 impl Change {
     ghost use Rattle.std.specs.Prelude.{◌≡◌, ℕ, ◌+◌, ◌^◌, ◌<◌, ◌≤◌, ◌++◌, IfOk, OnOk, All, true, length};
-    ghost use Rattle.party_set.specs.Parties.{has_party};
     ghost use Rattle.job_session.specs.Sessions.{is_prepared};
     ghost use Rattle.job_session.specs.Sessions.Slot.{At_gate, Mask_product};
     ghost use Rattle.job_session.specs.SoundSessions.{Inside, slot_of_kind};
-    ghost use Rattle.job_plan.specs.InputWords.{AreInputs};
     ghost use Rattle.job_plan.specs.Plans.{session, place, words};
     ghost use Rattle.share_world.specs.Laws.{IsWhole};
-    ghost use Rattle.wire_tables.specs.WireTables.{AreCarried, value_list, world_given};
-    ghost use Rattle.tape_map.specs.TapeMaps.{hidden, hidden_word, with_inputs};
-    ghost use Rattle.tape_map.specs.Changes.{IsChange, Fits, growth_in, growth_by, grown_piece};
+    ghost use Rattle.wire_tables.specs.WireTables.{AreCarried, summand_rows, world_of};
+    ghost use Rattle.tape_map.specs.TapeMaps.{hidden, hidden_word};
+    ghost use Rattle.tape_map.specs.Changes.{AreGrowths, IsTable, Fits, growth_in, growth_by, grown_piece};
 
-    /// The tables of session `s`, where the other inputs are to be hidden at this summand. `first` has the values of
-    /// the session's wires, `second` those with the other inputs, and `carried` what is carried of the sessions
-    /// before. What is carried of this one is added there.
+    /// The tables of session `s`, whose wires grow by `growths`, where this summand is the hidden one. `carried` has
+    /// what is carried of the sessions before, and what is carried of this one is added there.
     pub fn make(
         alloc: Global,
-        plan: &Plan,
-        inputs: &Inputs,
-        tapes: &[Vec<u64>],
-        other: &Inputs,
-        first: &[u64],
-        second: &[u64],
+        world: &WorldData<'_>,
+        growths: Vec<u64>,
         carried: &mut CarriedRows,
         share: u32,
         s: u32,
     ) -> Result<Change, AllocError>
-        requires whole { IsWhole (world_given plan.now inputs.now tapes.now) }
-        requires other { AreInputs plan.now other.now }
-        requires first { first.now ≡ value_list (world_given plan.now inputs.now tapes.now) s }
-        requires second { second.now
-            ≡ value_list (with_inputs (world_given plan.now inputs.now tapes.now) other.now) s }
-        requires carried { AreCarried (world_given plan.now inputs.now tapes.now) s carried.old }
-        requires share { share < length plan.now.groups }
-        requires session { s < length plan.now.sessions }
-        ensures made { (group : ℕ) → share ≡ hidden plan.now group
-            → IfOk result (IsChange (world_given plan.now inputs.now tapes.now) other.now group s) }
-        ensures carried { OnOk result
-            (AreCarried (world_given plan.now inputs.now tapes.now) (s + 1) carried.new) }
+        requires whole { IsWhole (world_of world.now) }
+        requires growths { AreGrowths world.now.plan.now s growths.items }
+        requires carried { AreCarried (world_of world.now) s carried.old }
+        requires share { share < length world.now.plan.now.groups }
+        requires session { s < length world.now.plan.now.sessions }
+        ensures made { IfOk result (IsTable world.now.plan.now s share growths.items
+            (summand_rows (world_of world.now) s)) }
+        ensures carried { OnOk result (AreCarried (world_of world.now) (s + 1) carried.new) }
     {
-        let _ = other;
-        let growths = wire_growths(alloc, plan, s, first, second)?;
-        let rows = SummandTable::make(alloc, plan, inputs, tapes, carried, s)?;
-        let moved = moved_rows(alloc, plan, s, share, &growths, &rows)?;
-        let first_masks = moved_masks(alloc, plan, s, share, &growths, &rows, Side::First)?;
-        let second_masks = moved_masks(alloc, plan, s, share, &growths, &rows, Side::Second)?;
+        let plan = world.plan;
+        let rows = SummandTable::make(alloc, world, carried, s)?;
+        let growing = Growing {
+            session: s,
+            hidden: share,
+            growths: &growths,
+            rows: &rows,
+        };
+        let moved = growing.moved_rows(alloc, plan)?;
+        let first_masks = growing.moved_masks(alloc, plan, Side::First)?;
+        let second_masks = growing.moved_masks(alloc, plan, Side::Second)?;
         Ok(Change {
             session: s,
             hidden: share,
@@ -223,8 +214,8 @@ fn product_growth(
     ring.sub(after, before)
 }
 
-// By how much each wire of session `s` grows from the first of these values to the second.
-fn wire_growths(
+/// By how much each wire of session `s` grows from the first of these values to the second.
+pub(crate) fn wire_growths(
     alloc: Global,
     plan: &Plan,
     s: u32,
@@ -245,88 +236,84 @@ fn wire_growths(
     Ok(growths)
 }
 
-// The row of each wire, where the summand to be hidden grows as the wire does.
-fn moved_rows(
-    alloc: Global,
-    plan: &Plan,
-    s: u32,
-    share: u32,
-    growths: &[u64],
-    rows: &SummandTable,
-) -> Result<Vec<Vec<u64>>, AllocError>
-    requires session { s < length plan.now.sessions }
-    requires share { share < length plan.now.groups }
-    requires growths { AreGrowths plan.now s growths.now }
-    requires rows { AreNamedRows plan.now s rows.now }
-    ensures { IfOk result (λ moved. session_words moved.items
-        ≡ grown_rows plan.now s share growths.now rows.now) }
-{
-    let ring = plan.ring();
-    let mut moved = Vec::new(alloc);
-    for v in 0..plan.part(s).wires() {
-        let growth = growths[v as usize];
-        moved.push(raised_row(alloc, ring, share, growth, rows.row(v))?)?;
-    }
-    Ok(moved)
+// A session whose wires grow: the summand that is to grow with them, by how much each wire does, and the rows of the
+// wires and masks as they are.
+#[derive(Clone, Copy)]
+struct Growing<'a> {
+    session: u32,
+    hidden: u32,
+    growths: &'a [u64],
+    rows: &'a SummandTable,
 }
 
-// The row of the mask of each wire that a prepared product reads on this side, by gates, where that summand grows as
-// the wire does.
-fn moved_masks(
-    alloc: Global,
-    plan: &Plan,
-    s: u32,
-    share: u32,
-    growths: &[u64],
-    rows: &SummandTable,
-    side: Side,
-) -> Result<Vec<Vec<u64>>, AllocError>
-    requires session { s < length plan.now.sessions }
-    requires share { share < length plan.now.groups }
-    requires growths { AreGrowths plan.now s growths.now }
-    requires rows { AreNamedRows plan.now s rows.now }
-    ensures { IfOk result (λ masks. session_words masks.items
-        ≡ grown_masks plan.now s share growths.now rows.now side) }
-{
-    let _ = plan.parties();
-    let part = plan.part(s);
-    let mut masks = Vec::new(alloc);
-    if part.is_prepared() {
-        for t in 0..part.gates().len() as u32 {
-            masks.push(moved_mask(alloc, plan, s, share, growths, rows, side, t)?)?;
+impl Growing<'_> {
+    ghost use Rattle.std.specs.Prelude.{◌≡◌, ◌<◌, IfOk, true, length};
+    ghost use Rattle.job_plan.specs.InputWords.{session_words};
+    ghost use Rattle.job_plan.specs.Plans.{session};
+    ghost use Rattle.tape_map.specs.Changes.{IsOfPlan, grown_rows, grown_mask, grown_masks};
+
+    // The row of each wire, where the hidden summand grows as the wire does.
+    fn moved_rows(&self, alloc: Global, plan: &Plan) -> Result<Vec<Vec<u64>>, AllocError>
+        requires { IsOfPlan plan.now self.now }
+        ensures { let g = self.now in IfOk result (λ moved. session_words moved.items
+            ≡ grown_rows plan.now g.session g.hidden g.growths.now g.rows.now) }
+    {
+        let ring = plan.ring();
+        let mut moved = Vec::new(alloc);
+        for v in 0..plan.part(self.session).wires() {
+            let growth = self.growths[v as usize];
+            moved.push(raised_row(alloc, ring, self.hidden, growth, self.rows.row(v))?)?;
         }
+        Ok(moved)
     }
-    Ok(masks)
-}
 
-// That of gate `t`, where it is a product, and else no words.
-fn moved_mask(
-    alloc: Global,
-    plan: &Plan,
-    s: u32,
-    share: u32,
-    growths: &[u64],
-    rows: &SummandTable,
-    side: Side,
-    t: u32,
-) -> Result<Vec<u64>, AllocError>
-    requires session { s < length plan.now.sessions }
-    requires share { share < length plan.now.groups }
-    requires growths { AreGrowths plan.now s growths.now }
-    requires rows { AreNamedRows plan.now s rows.now }
-    requires gate { t < length (session plan.now s).gates }
-    requires prepared { (session plan.now s).prepared ≡ true }
-    ensures { IfOk result (λ mask. mask.items ≡ grown_mask plan.now s share growths.now rows.now side t) }
-{
-    let ring = plan.ring();
-    let part = plan.part(s);
-    let gate = part.gate(t);
-    if !gate.operation.is_product() {
-        return Ok(Vec::new(alloc));
+    // The row of the mask of each wire that a prepared product reads on this side, by gates, where that summand grows
+    // as the wire does.
+    fn moved_masks(
+        &self,
+        alloc: Global,
+        plan: &Plan,
+        side: Side,
+    ) -> Result<Vec<Vec<u64>>, AllocError>
+        requires { IsOfPlan plan.now self.now }
+        ensures { let g = self.now in IfOk result (λ masks. session_words masks.items
+            ≡ grown_masks plan.now g.session g.hidden g.growths.now g.rows.now side) }
+    {
+        let _ = plan.parties();
+        let part = plan.part(self.session);
+        let mut masks = Vec::new(alloc);
+        if part.is_prepared() {
+            for t in 0..part.gates().len() as u32 {
+                masks.push(self.moved_mask(alloc, plan, side, t)?)?;
+            }
+        }
+        Ok(masks)
     }
-    let growth = growths[operand(gate, side) as usize];
-    let mask = rows.row(part.mask_wire(t, side));
-    raised_row(alloc, ring, share, growth, mask)
+
+    // That of gate `t`, where it is a product, and else no words.
+    fn moved_mask(
+        &self,
+        alloc: Global,
+        plan: &Plan,
+        side: Side,
+        t: u32,
+    ) -> Result<Vec<u64>, AllocError>
+        requires of_plan { IsOfPlan plan.now self.now }
+        requires gate { t < length (session plan.now self.now.session).gates }
+        requires prepared { (session plan.now self.now.session).prepared ≡ true }
+        ensures { let g = self.now in IfOk result (λ mask. mask.items
+            ≡ grown_mask plan.now g.session g.hidden g.growths.now g.rows.now side t) }
+    {
+        let ring = plan.ring();
+        let part = plan.part(self.session);
+        let gate = part.gate(t);
+        if !gate.operation.is_product() {
+            return Ok(Vec::new(alloc));
+        }
+        let growth = self.growths[operand(gate, side) as usize];
+        let mask = self.rows.row(part.mask_wire(t, side));
+        raised_row(alloc, ring, self.hidden, growth, mask)
+    }
 }
 
 // A copy of a row, of which one summand grows.
@@ -381,15 +368,5 @@ fn grown(ring: Ring, word: u64, growth: u64, is_hidden: bool) -> u64
         ring.add(word, growth)
     } else {
         word
-    }
-}
-
-// The wire that a gate reads on this side.
-fn operand(gate: Gate, side: Side) -> u32
-    ensures { result ≡ operand gate side }
-{
-    match side {
-        Side::First => gate.first,
-        Side::Second => gate.second,
     }
 }

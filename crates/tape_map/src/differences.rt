@@ -7,7 +7,7 @@ ghost use Rattle.tape_map.specs.TapeMaps.{member_gives};
 
 use job_plan::SessionPart;
 use job_session::Source;
-use party_set::Group;
+use party_set::{Group, MOST_PARTIES, has_party};
 
 /// Whether it is seen that two words differ.
 pub(crate) fn differ(is_seen: bool, first: u64, second: u64) -> bool
@@ -37,8 +37,8 @@ pub(crate) fn read_differ(is_member: bool, reads: bool, first: u64, second: u64)
 /// Whether party `r` reads output wire `o`.
 pub(crate) fn reads(part: &SessionPart, o: u32, r: u32) -> bool
     requires output { o < length (readers part.now) }
-    requires party { r < 12 }
+    requires party { r < MOST_PARTIES }
     ensures { result ≡ has_party (slice_index (readers part.now) o) r }
 {
-    part.wire_readers(o) >> r & 1 == 1
+    has_party(part.wire_readers(o), r)
 }

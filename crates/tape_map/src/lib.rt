@@ -1,7 +1,7 @@
 //! Privacy: the change of tapes that hides other inputs from a tolerated group, and its laws.
 #![tactic(auto)]
 
-ghost use Rattle.std.specs.Prelude.{ℕ, List};
+ghost use Rattle.std.specs.Prelude.{ℕ};
 ghost use Rattle.maximal_groups.specs.Families.{LiesWithin};
 ghost use Rattle.job_plan.specs.Plans.{Plan, structure};
 ghost use Rattle.job_plan.specs.Sound.{IsSound};
@@ -15,6 +15,7 @@ ghost use Rattle.tape_map.specs.Laws.{SummandsMove, ValuesMove, MasksMove, Exces
 ghost use Rattle.tape_map.specs.Laws.{AgreesBack, DeltaIsPlain};
 ghost use Rattle.tape_map.specs.Multiply.{CanHideFromA, HiddenFromA, SecondPlain, CanHideFromC};
 ghost use Rattle.tape_map.specs.Multiply.{HiddenFromNobody, HiddenFromC, SeenByBoth};
+ghost use Rattle.job_plan.specs.InputWords.{InputLists};
 
 mod change;
 mod differences;
@@ -32,36 +33,36 @@ pub use map::map_tapes;
 /// In the second world a tolerated group sees what it saw: each message that a member sends or
 /// receives has the word that it had, and each output that a member reads is what it was.
 pub fn same_view()
-    ensures view { (w : World) (other : List (List (List ℕ))) (group : ℕ)
+    ensures view { (w : World) (other : InputLists) (group : ℕ)
         → CanHide w other group → SameView w other group }
-    ensures words { (w : World) (other : List (List (List ℕ))) (group : ℕ)
+    ensures words { (w : World) (other : InputLists) (group : ℕ)
         → CanHide w other group → SameWords w other group }
-    ensures outputs { (w : World) (other : List (List (List ℕ))) (group : ℕ)
+    ensures outputs { (w : World) (other : InputLists) (group : ℕ)
         → CanHide w other group → SameOutputs w other group }
 {}
 
 /// The first inputs can be hidden in the second world in turn, and that gives the first world.
 pub fn goes_back()
-    ensures can { (w : World) (other : List (List (List ℕ))) (group : ℕ)
+    ensures can { (w : World) (other : InputLists) (group : ℕ)
         → CanHide w other group → CanGoBack w other group }
-    ensures back { (w : World) (other : List (List (List ℕ))) (group : ℕ)
+    ensures back { (w : World) (other : InputLists) (group : ℕ)
         → CanHide w other group → GoesBack w other group }
 {}
 
 /// Different tapes are changed into different ones, and all tapes of the plan are what some tapes
 /// are changed into.
 pub fn change_is_one_to_one()
-    ensures one_to_one { (w : World) (other : List (List (List ℕ))) (group : ℕ)
+    ensures one_to_one { (w : World) (other : InputLists) (group : ℕ)
         → CanHide w other group → OneToOne w other group }
-    ensures onto { (w : World) (other : List (List (List ℕ))) (group : ℕ)
+    ensures onto { (w : World) (other : InputLists) (group : ℕ)
         → CanHide w other group → Onto w other group }
 {}
 
 /// The members' tapes stay, and so does each word that isn't the hidden summand of a deal.
 pub fn members_stay()
-    ensures members { (w : World) (other : List (List (List ℕ))) (group : ℕ)
+    ensures members { (w : World) (other : InputLists) (group : ℕ)
         → IsWhole w → MembersStay w other group }
-    ensures others { (w : World) (other : List (List (List ℕ))) (group : ℕ)
+    ensures others { (w : World) (other : InputLists) (group : ℕ)
         → OthersStay w other group }
 {}
 
@@ -75,33 +76,33 @@ pub fn hidden_is_first()
 /// each wire grows as the wire's value does, and all other summands stay. The masks of a prepared
 /// product grow with its wires, so that what is opened of these stays.
 pub fn hidden_summands_move()
-    ensures words { (w : World) (other : List (List (List ℕ))) (group : ℕ)
+    ensures words { (w : World) (other : InputLists) (group : ℕ)
         → WordsMove w other group }
-    ensures summands { (w : World) (other : List (List (List ℕ))) (group : ℕ)
+    ensures summands { (w : World) (other : InputLists) (group : ℕ)
         → CanHide w other group → SummandsMove w other group }
-    ensures values { (w : World) (other : List (List (List ℕ))) (group : ℕ)
+    ensures values { (w : World) (other : InputLists) (group : ℕ)
         → CanHide w other group → ValuesMove w other group }
-    ensures masks { (w : World) (other : List (List (List ℕ))) (group : ℕ)
+    ensures masks { (w : World) (other : InputLists) (group : ℕ)
         → CanHide w other group → MasksMove w other group }
-    ensures excess { (w : World) (other : List (List (List ℕ))) (group : ℕ)
+    ensures excess { (w : World) (other : InputLists) (group : ℕ)
         → CanHide w other group → ExcessStays w other group }
 {}
 
 /// A whole world stays whole with other inputs of its plan, and so is its second world.
 pub fn worlds_stay_whole()
-    ensures inputs { (w : World) (other : List (List (List ℕ))) → IsWhole w → InputsChange w other }
-    ensures second { (w : World) (other : List (List (List ℕ))) (group : ℕ)
+    ensures inputs { (w : World) (other : InputLists) → IsWhole w → InputsChange w other }
+    ensures second { (w : World) (other : InputLists) (group : ℕ)
         → IsWhole w → SecondIsWhole w other group }
 {}
 
 /// Inputs that agree one way agree the other way, whatever the tapes are.
 pub fn agreement_is_symmetric()
-    ensures { (w : World) (other : List (List (List ℕ))) (group : ℕ) → AgreesBack w other group }
+    ensures { (w : World) (other : InputLists) (group : ℕ) → AgreesBack w other group }
 {}
 
 /// Before each gate, each wire that it reads grows as its plain value does.
 pub fn delta_is_plain()
-    ensures { (w : World) (other : List (List (List ℕ))) → IsSound w.plan → DeltaIsPlain w other }
+    ensures { (w : World) (other : InputLists) → IsSound w.plan → DeltaIsPlain w other }
 {}
 
 /// The worked job of one product: other inputs can be hidden from a and from c, by these tapes, and

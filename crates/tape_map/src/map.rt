@@ -2,16 +2,16 @@
 ghost use Rattle.std.specs.Prelude.{◌≡◌, ℕ, ◌<◌, ◌⊎◌, ◌++◌, Some, IfOk, IfErr, OnOk, length};
 ghost use Rattle.std.specs.Prelude.{replicate, [], slice_index_or};
 ghost use Rattle.job_plan.specs.Plans.{structure, place};
-ghost use Rattle.job_plan.specs.InputWords.{AreInputs, session_words};
+ghost use Rattle.job_plan.specs.InputWords.{AreInputs, InputLists, session_words};
 ghost use Rattle.share_world.specs.Laws.{IsWhole, AreTapes};
-ghost use Rattle.wire_tables.specs.WireTables.{value_lists, world_given};
+ghost use Rattle.wire_tables.specs.WireTables.{value_lists, world_given, world_of};
 ghost use Rattle.tape_map.specs.TapeMaps.{hidden, changed_tapes, second_world, with_inputs};
 ghost use Rattle.tape_map.specs.Laws.{CanHide};
-ghost use Rattle.tape_map.specs.Changes.{Fits, grown_piece};
+ghost use Rattle.tape_map.specs.Changes.{AreWireNumbers, Fits, grown_piece};
 ghost use Rattle.tape_map.specs.MapFaults.{map_fault, HasRecipientBelow};
 ghost use Rattle.tape_map.specs.declared.fault.MapFault.TheVariants.{Memory};
 
-use crate::change::Change;
+use crate::change::{Change, wire_growths};
 use crate::fault::MapFault;
 use crate::hidden_summand::hidden_summand;
 use crate::inputs::input_fault;
@@ -19,7 +19,7 @@ use crate::outputs::output_fault;
 use job_plan::{Inputs, Plan};
 use party_set::{Group, Groups};
 use std::alloc::{AllocError, Global};
-use wire_tables::{CarriedRows, value_lists};
+use wire_tables::{CarriedRows, WorldData, value_lists};
 
 /// The tapes with which a group sees of the other inputs what it sees of the first, exactly where the
 /// group is tolerated and with both gives and reads the same. `tapes` has for each party the words
@@ -57,9 +57,12 @@ pub fn map_tapes(
     if let Some(fault) = output_fault(plan, group, &first, &second) {
         return Err(fault);
     }
-    let changed = changed_tapes(
-        alloc, plan, inputs, tapes, other, &first, &second, share, group,
-    )?;
+    let world = WorldData {
+        plan,
+        inputs,
+        tapes,
+    };
+    let changed = changed_tapes(alloc, &world, &first, &second, share, group)?;
     Ok(changed)
 }
 
@@ -67,43 +70,31 @@ pub fn map_tapes(
 // at a time. The wires of the sessions have these values with the inputs and with the others.
 fn changed_tapes(
     alloc: Global,
-    plan: &Plan,
-    inputs: &Inputs,
-    tapes: &[Vec<u64>],
-    other: &Inputs,
+    world: &WorldData<'_>,
     first: &[Vec<u64>],
     second: &[Vec<u64>],
     share: u32,
     group: Group,
 ) -> Result<Vec<Vec<u64>>, AllocError>
-    requires whole { IsWhole (world_given plan.now inputs.now tapes.now) }
-    requires other { AreInputs plan.now other.now }
-    requires first { session_words first.now ≡ value_lists (world_given plan.now inputs.now tapes.now) }
-    requires second { session_words second.now
-        ≡ value_lists (with_inputs (world_given plan.now inputs.now tapes.now) other.now) }
-    requires within { share < length plan.now.groups }
-    requires hidden { share ≡ hidden plan.now group.mask }
-    requires group { group.parties ≡ plan.now.parties }
-    ensures { IfOk result (λ changed. session_words changed.items
-        ≡ changed_tapes (world_given plan.now inputs.now tapes.now) other.now group.mask) }
+    requires whole { IsWhole (world_of world.now) }
+    requires first { session_words first.now ≡ value_lists (world_of world.now) }
+    requires second { AreWireNumbers world.now.plan.now (session_words second.now) }
+    requires within { share < length world.now.plan.now.groups }
+    requires hidden { share ≡ hidden world.now.plan.now group.mask }
+    requires group { group.parties ≡ world.now.plan.now.parties }
+    ensures { (other : InputLists)
+        → session_words second.now ≡ value_lists (with_inputs (world_of world.now) other)
+        → IfOk result (λ changed. session_words changed.items
+        ≡ changed_tapes (world_of world.now) other group.mask) }
 {
+    let plan = world.plan;
     let mut changed = empty_tapes(alloc, plan.parties())?;
     let mut carried = CarriedRows::new(alloc, plan)?;
     for s in 0..plan.sessions() {
         let (one, another) = (&first[s as usize], &second[s as usize]);
-        let change = Change::make(
-            alloc,
-            plan,
-            inputs,
-            tapes,
-            other,
-            one,
-            another,
-            &mut carried,
-            share,
-            s,
-        )?;
-        push_pieces(plan, tapes, &change, group, &mut changed)?;
+        let growths = wire_growths(alloc, plan, s, one, another)?;
+        let change = Change::make(alloc, world, growths, &mut carried, share, s)?;
+        push_pieces(plan, world.tapes, &change, group, &mut changed)?;
     }
     Ok(changed)
 }

@@ -59,10 +59,8 @@ fn session_fault(
 {
     let _ = plan.parties();
     let part = plan.part(s);
-    let outputs = part.output_wires() as u32;
-    let first_output = part.wires() - outputs;
-    for o in 0..outputs {
-        let wire = (first_output + o) as usize;
+    for o in 0..part.output_wires() as u32 {
+        let wire = part.output_wire(o) as usize;
         if let Some(fault) = reader_fault(plan, group, s, o, first[wire], second[wire]) {
             return Some(fault);
         }
@@ -87,7 +85,7 @@ fn reader_fault(
 {
     let parties = plan.parties();
     let part = plan.part(s);
-    let wire = part.wires() - part.output_wires() as u32 + o;
+    let wire = part.output_wire(o);
     for recipient in 0..parties {
         let reads = reads(part, o, recipient);
         if read_differ(group.has(recipient), reads, first, second) {

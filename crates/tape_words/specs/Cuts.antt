@@ -10,7 +10,7 @@ abbrev pub IsFirstOutside : ℕ → List ℕ → TapeFault → Type 0
 IsFirstOutside q words (WordOutOfRing at) =
     (at < length words) × (q ≤ slice_index words at) × ((k : ℕ) → k < at → slice_index words k < q)
 
--- consecutive pieces of so many words
+-- consecutive pieces of these counts of words
 abbrev pub cut : List ℕ → List ℕ → List (List ℕ)
 cut [] words = []
 cut (count ∷ counts) words = take count words ∷ cut counts (drop count words)

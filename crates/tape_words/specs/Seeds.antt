@@ -10,7 +10,7 @@ short_word bits key stream place = word_at 10 key stream place % 2 ^ bits
 abbrev pub long_word : ℕ → List ℕ → ℕ → ℕ → ℕ
 long_word bits key stream place = (word_at 10 key stream place + 2 ^ 32 * word_at 10 key stream (place + 1)) % 2 ^ bits
 
--- word i of a stream, in a ring of so many bits: above 32 bits each takes two words of the stream
+-- word i of a stream, in a ring of `bits` bits: above 32 bits each takes two words of the stream
 abbrev pub stream_word : ℕ → List ℕ → ℕ → ℕ → ℕ
 stream_word bits key stream i = if nat_le bits 32 then short_word bits key stream i else long_word bits key stream (2 * i)
 

@@ -32,7 +32,7 @@ pub(crate) fn short_words(
     Ok(words)
 }
 
-// The next 64 words, each modulo the ring's modulus, from a generator that stands behind so many whole buffers.
+// The next 64 words, each modulo the ring's modulus, from a generator that stands behind `buffers` whole buffers.
 #[inline(always)]
 fn buffer_words(generator: &mut ChaCha20Rng, ring: Ring, buffers: u32) -> [[u64; 8]; 8]
     requires { generator.old.word_pos ≡ 64 * buffers }

@@ -8,6 +8,7 @@ use crate::buffers::short_words;
 use crate::word::TapeWord;
 use crate::word_pairs::long_words;
 use mpc_ring::Ring;
+use plan_faults::MOST_SESSIONS;
 use rand_chacha::ChaCha20Rng;
 use rand_core::SeedableRng;
 use std::alloc::{AllocError, Global};
@@ -110,14 +111,14 @@ impl Tape {
         Some(TapeWord::new(word))
     }
 
-    /// Cuts the tape into consecutive pieces of so many words, and lets the rest go. Each refusal gives the whole
-    /// tape back.
+    /// Cuts the tape into consecutive pieces of these counts of words, and lets the rest go. Each refusal gives the
+    /// whole tape back.
     pub fn split_sessions(
         self,
         alloc: Global,
         counts: &[u32],
     ) -> Result<Vec<Tape>, (SplitFault, Tape)>
-        requires { length counts.now ≤ 16 }
+        requires { length counts.now ≤ MOST_SESSIONS }
         ensures enough { OnOk result (sum counts.now ≤ length self) }
         ensures pieces { IfOk result (λ pieces. pieces.items ≡ cut counts.now self) }
         ensures refused { IfErr result (λ fault. IsSplitRefusal counts.now self fault.0) }

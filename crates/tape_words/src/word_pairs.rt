@@ -33,7 +33,7 @@ pub(crate) fn long_words(
     Ok(words)
 }
 
-// The next 32 words from a generator that stands behind so many whole buffers.
+// The next 32 words from a generator that stands behind `buffers` whole buffers.
 #[inline(always)]
 fn buffer_pairs(generator: &mut ChaCha20Rng, ring: Ring, buffers: u32) -> [[u64; 8]; 4]
     requires { generator.old.word_pos ≡ 64 * buffers }

@@ -6,7 +6,7 @@ ghost use Rattle.text_parts.specs.Parts.{group_text, member_text};
 
 use itoa::Buffer;
 use outer_io::Gather;
-use party_set::{Group, Names};
+use party_set::{Group, Names, party_mask};
 
 /// Adds the digits of a number.
 pub fn gather_number<G: Gather>(out: &mut G, number: u64)
@@ -47,7 +47,7 @@ fn gather_member<G: Gather>(out: &mut G, group: Group, names: &Names, party: u32
     if !group.has(party) {
         return;
     }
-    gather_plus(out, group.mask() % (1 << party) != 0);
+    gather_plus(out, group.mask() % party_mask(party) != 0);
     out.push(names.name(party).as_bytes());
 }
 

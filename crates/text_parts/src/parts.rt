@@ -4,7 +4,7 @@ ghost use Rattle.list_laws.specs.Lists.{only_if};
 ghost use Rattle.text_parts.specs.Parts.{group_text, member_text};
 
 use itoa::Buffer;
-use party_set::{Group, Names};
+use party_set::{Group, Names, party_mask};
 use std::alloc::AllocError;
 
 /// Adds these bytes.
@@ -49,7 +49,7 @@ fn push_member(
     if !group.has(party) {
         return Ok(());
     }
-    push_plus(text, group.mask() % (1 << party) != 0)?;
+    push_plus(text, group.mask() % party_mask(party) != 0)?;
     push_text(text, names.name(party).as_bytes())
 }
 

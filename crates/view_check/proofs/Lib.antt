@@ -12,7 +12,7 @@ pub mod HeadLaws
 pub mod ViewLines
 pub mod ViewLaws
 pub mod Walks
-pub mod SlotLines
+pub mod SlotTransfers
 pub mod Verdicts
 pub mod OneAnswer
 pub mod ToldViews

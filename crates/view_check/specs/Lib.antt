@@ -6,4 +6,5 @@ pub mod Heads
 pub mod Views
 pub mod Laws
 pub mod WorldLaws
+pub mod Audits
 pub mod FaultTexts

@@ -2,13 +2,12 @@
 ghost use Rattle.std.specs.Prelude.{◌≡◌, ◌⊎◌, ℕ, ◌+◌, ◌<◌, ◌∷◌, [], MatchResult, IfOk, IfErr, OnOk, Ok, Err, length, slice_index, slice_index_or};
 ghost use Rattle.job_plan.specs.InputWords.{session_words};
 ghost use Rattle.list_laws.specs.Lists.{only_if};
-ghost use Rattle.job_plan.specs.Messages.{slot_messages, session_messages, messages};
-ghost use Rattle.job_plan.specs.Plans.{slot, slots};
+ghost use Rattle.job_plan.specs.Messages.{session_messages, messages};
 ghost use Rattle.share_world.specs.Laws.{IsWhole};
 ghost use Rattle.share_world.specs.Worlds.{touches, view};
-ghost use Rattle.wire_tables.specs.Places.{ArePlaces};
-ghost use Rattle.wire_tables.specs.WireTables.{AreCarried, world_given, summand_rows};
-ghost use Rattle.view_text.specs.Seen.{seen_of};
+ghost use Rattle.wire_tables.specs.SlotRows.{IsSlotAt};
+ghost use Rattle.wire_tables.specs.WireTables.{AreCarried, world_given, world_of};
+ghost use Rattle.view_check.specs.Audits.{IsAudit, audited_world, seen_at, seen_by};
 ghost use Rattle.view_check.specs.Views.{verdict, Passes, Stops};
 ghost use Rattle.view_check.specs.Laws.{IsView, IsWrongWord};
 ghost use Rattle.view_check.specs.declared.fault.CheckFault.TheVariants.{Memory, WrongWord};
@@ -21,7 +20,9 @@ use job_plan::{Inputs, Key, Plan};
 use party_set::{Group, Names};
 use std::alloc::Global;
 use view_text::touches;
-use wire_tables::{CarriedRows, SummandTable, first_places, pass_slot, slot_rows};
+use wire_tables::{
+    CarriedRows, SlotAt, SummandTable, WorldData, first_places, pass_slot, slot_rows,
+};
 
 // Takes the line of a message with this word, where a member of the group sends or receives it.
 fn check_message(
@@ -44,6 +45,14 @@ fn check_message(
     rest.check_message(names, key, word)
 }
 
+// A run that is audited: what it goes by, the names of its parties, and the group whose view is checked.
+#[derive(Clone, Copy)]
+struct Audited<'a> {
+    world: WorldData<'a>,
+    names: &'a Names,
+    group: Group,
+}
+
 // The word of a message: of its summand, in its sender's row.
 fn word_of(rows: &[Vec<u64>], key: Key) -> u64
     requires sender { key.sender < length rows.now }
@@ -53,42 +62,30 @@ fn word_of(rows: &[Vec<u64>], key: Key) -> u64
     rows[key.sender as usize][key.share as usize]
 }
 
-// Takes the lines of what the group sees in slot `k` of session `s`.
+// Takes the lines of what the group sees in a slot.
 fn check_slot(
     alloc: Global,
-    plan: &Plan,
-    inputs: &Inputs,
-    tapes: &[Vec<u64>],
-    names: &Names,
-    group: Group,
-    table: &SummandTable,
-    places: &[u32],
-    s: u32,
-    k: u32,
+    run: &Audited<'_>,
+    at: &SlotAt<'_>,
     rest: &mut ViewLines<'_>,
 ) -> Result<(), CheckFault>
-    requires names { length names.now ≡ plan.now.parties }
-    requires group { group.parties ≡ length names.now }
-    requires whole { IsWhole (world_given plan.now inputs.now tapes.now) }
-    requires session { s < length plan.now.sessions }
-    requires slot { k < slots plan.now s }
-    requires table { table.now ≡ summand_rows (world_given plan.now inputs.now tapes.now) s }
-    requires places { ArePlaces plan.now s k places.now }
+    requires run { IsAudit run.now }
+    requires at { IsSlotAt (audited_world run.now) at.now }
     ensures { MatchResult result
-        (λ _. Passes names.now (seen_of (world_given plan.now inputs.now tapes.now) group.mask
-        (slot_messages plan.now s k (slot plan.now s k))) rest.old rest.new)
-        (λ fault. (fault ≡ Memory) ⊎ Stops names.now
-        (seen_of (world_given plan.now inputs.now tapes.now) group.mask
-        (slot_messages plan.now s k (slot plan.now s k))) rest.old fault) }
+        (λ _. Passes run.now.names.now (seen_at run.now at.now.session at.now.slot) rest.old rest.new)
+        (λ fault. (fault ≡ Memory)
+        ⊎ Stops run.now.names.now (seen_at run.now at.now.session at.now.slot) rest.old fault) }
 {
-    let lines = plan.lines(plan.pattern(s, k));
-    if lines.is_empty() {
+    let plan = run.world.plan;
+    let (s, k) = (at.session, at.slot);
+    let transfers = plan.transfers(plan.pattern(s, k));
+    if transfers.is_empty() {
         return Ok(());
     }
-    let rows = slot_rows(alloc, plan, inputs, tapes, table, places, s, k)?;
-    for i in 0..lines.len() {
-        let key = lines[i].named(s, k);
-        check_message(rest, names, group, key, word_of(&rows, key))?;
+    let rows = slot_rows(alloc, &run.world, at)?;
+    for i in 0..transfers.len() {
+        let key = transfers[i].named(s, k);
+        check_message(rest, run.names, run.group, key, word_of(&rows, key))?;
     }
     Ok(())
 }
@@ -97,35 +94,32 @@ fn check_slot(
 // is carried of this one is added there.
 fn check_session(
     alloc: Global,
-    plan: &Plan,
-    inputs: &Inputs,
-    tapes: &[Vec<u64>],
-    names: &Names,
-    group: Group,
+    run: &Audited<'_>,
     carried: &mut CarriedRows,
     s: u32,
     rest: &mut ViewLines<'_>,
 ) -> Result<(), CheckFault>
-    requires names { length names.now ≡ plan.now.parties }
-    requires group { group.parties ≡ length names.now }
-    requires whole { IsWhole (world_given plan.now inputs.now tapes.now) }
-    requires carried { AreCarried (world_given plan.now inputs.now tapes.now) s carried.old }
-    requires session { s < length plan.now.sessions }
+    requires run { IsAudit run.now }
+    requires carried { AreCarried (audited_world run.now) s carried.old }
+    requires session { s < length run.now.world.plan.now.sessions }
     ensures lines { MatchResult result
-        (λ _. Passes names.now (seen_of (world_given plan.now inputs.now tapes.now) group.mask
-        (session_messages plan.now s)) rest.old rest.new)
-        (λ fault. (fault ≡ Memory) ⊎ Stops names.now
-        (seen_of (world_given plan.now inputs.now tapes.now) group.mask
-        (session_messages plan.now s)) rest.old fault) }
-    ensures carried { OnOk result
-        (AreCarried (world_given plan.now inputs.now tapes.now) (s + 1) carried.new) }
+        (λ _. Passes run.now.names.now (seen_by run.now (session_messages run.now.world.plan.now s))
+        rest.old rest.new)
+        (λ fault. (fault ≡ Memory) ⊎ Stops run.now.names.now
+        (seen_by run.now (session_messages run.now.world.plan.now s)) rest.old fault) }
+    ensures carried { OnOk result (AreCarried (audited_world run.now) (s + 1) carried.new) }
 {
-    let table = SummandTable::make(alloc, plan, inputs, tapes, carried, s)?;
+    let plan = run.world.plan;
+    let table = SummandTable::make(alloc, &run.world, carried, s)?;
     let mut places = first_places(alloc, plan, s)?;
     for k in 0..plan.slots(s) {
-        check_slot(
-            alloc, plan, inputs, tapes, names, group, &table, &places, s, k, rest,
-        )?;
+        let at = SlotAt {
+            session: s,
+            slot: k,
+            table: &table,
+            places: &places,
+        };
+        check_slot(alloc, run, &at, rest)?;
         pass_slot(plan, s, k, &mut places);
     }
     Ok(())
@@ -134,36 +128,18 @@ fn check_session(
 // Takes the lines of all that the group sees.
 fn check_messages(
     alloc: Global,
-    plan: &Plan,
-    inputs: &Inputs,
-    tapes: &[Vec<u64>],
-    names: &Names,
-    group: Group,
+    run: &Audited<'_>,
     rest: &mut ViewLines<'_>,
 ) -> Result<(), CheckFault>
-    requires names { length names.now ≡ plan.now.parties }
-    requires group { group.parties ≡ length names.now }
-    requires whole { IsWhole (world_given plan.now inputs.now tapes.now) }
+    requires run { IsAudit run.now }
     ensures { MatchResult result
-        (λ _. Passes names.now (seen_of (world_given plan.now inputs.now tapes.now) group.mask
-        (messages plan.now)) rest.old rest.new)
-        (λ fault. (fault ≡ Memory) ⊎ Stops names.now
-        (seen_of (world_given plan.now inputs.now tapes.now) group.mask
-        (messages plan.now)) rest.old fault) }
+        (λ _. Passes run.now.names.now (seen_by run.now (messages run.now.world.plan.now)) rest.old rest.new)
+        (λ fault. (fault ≡ Memory)
+        ⊎ Stops run.now.names.now (seen_by run.now (messages run.now.world.plan.now)) rest.old fault) }
 {
-    let mut carried = CarriedRows::new(alloc, plan)?;
-    for s in 0..plan.sessions() {
-        check_session(
-            alloc,
-            plan,
-            inputs,
-            tapes,
-            names,
-            group,
-            &mut carried,
-            s,
-            rest,
-        )?;
+    let mut carried = CarriedRows::new(alloc, run.world.plan)?;
+    for s in 0..run.world.plan.sessions() {
+        check_session(alloc, run, &mut carried, s, rest)?;
     }
     Ok(())
 }
@@ -171,18 +147,15 @@ fn check_messages(
 // The verdict on a text.
 fn judge(
     alloc: Global,
-    plan: &Plan,
-    inputs: &Inputs,
-    tapes: &[Vec<u64>],
+    world: &WorldData<'_>,
     names: &Names,
     text: &[u8],
 ) -> Result<u32, CheckFault>
-    requires names { length names.now ≡ plan.now.parties }
-    requires whole { IsWhole (world_given plan.now inputs.now tapes.now) }
+    requires names { length names.now ≡ world.now.plan.now.parties }
+    requires whole { IsWhole (world_of world.now) }
     ensures { MatchResult result
-        (λ count. verdict names.now (view (world_given plan.now inputs.now tapes.now)) text.now ≡ Ok count)
-        (λ fault. (fault ≡ Memory)
-        ⊎ (verdict names.now (view (world_given plan.now inputs.now tapes.now)) text.now ≡ Err fault)) }
+        (λ count. verdict names.now (view (world_of world.now)) text.now ≡ Ok count)
+        (λ fault. (fault ≡ Memory) ⊎ (verdict names.now (view (world_of world.now)) text.now ≡ Err fault)) }
 {
     let mut lines = Lines::of(text);
     let Some(head) = lines.next_line() else {
@@ -192,7 +165,12 @@ fn judge(
         return Err(CheckFault::BadHead);
     };
     let mut rest = ViewLines::of(lines);
-    check_messages(alloc, plan, inputs, tapes, names, group, &mut rest)?;
+    let run = Audited {
+        world: *world,
+        names,
+        group,
+    };
+    check_messages(alloc, &run, &mut rest)?;
     let found = rest.finish()?;
     Ok(found as u32)
 }
@@ -227,5 +205,10 @@ pub fn check(
         → IsWrongWord names.now (view (world_given plan.now inputs.now tapes.now)) text.now line wanted found) }
 {
     let _ = names.len();
-    judge(alloc, plan, inputs, tapes, names, text)
+    let world = WorldData {
+        plan,
+        inputs,
+        tapes,
+    };
+    judge(alloc, &world, names, text)
 }

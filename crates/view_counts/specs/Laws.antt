@@ -6,7 +6,7 @@ use Rattle.list_laws.specs.Lists.{total}
 use Rattle.party_set.specs.Parties.{has_party}
 use Rattle.maximal_groups.specs.Families.{LiesWithin}
 use Rattle.job_plan.specs.declared.key.Key.{Key}
-use Rattle.job_plan.specs.InputWords.{AreInputs}
+use Rattle.job_plan.specs.InputWords.{AreInputs, InputLists}
 use Rattle.job_plan.specs.Plans.{Plan, structure}
 use Rattle.job_plan.specs.Tallies.{tape_length}
 use Rattle.share_world.specs.Worlds.{World}
@@ -19,12 +19,12 @@ use Rattle.view_counts.specs.Simulators.{known, simulated_ways}
 -- ---- other inputs
 
 -- with the other inputs the group's view passes each test for as many choices of the others' tapes
-abbrev pub IsPrivate : World → List (List (List ℕ)) → ℕ → Type 0
+abbrev pub IsPrivate : World → InputLists → ℕ → Type 0
 IsPrivate w other group =
     (test : List (Key × ℕ) → Bool) → ways (with_inputs w other) group test ≡ ways w group test
 
 -- so each view comes for as many
-abbrev pub ViewsAreEven : World → List (List (List ℕ)) → ℕ → Type 0
+abbrev pub ViewsAreEven : World → InputLists → ℕ → Type 0
 ViewsAreEven w other group =
     (v : List (Key × ℕ)) → ways (with_inputs w other) group (is_view v) ≡ ways w group (is_view v)
 
@@ -42,7 +42,7 @@ IsSimulated w group =
     → simulated_ways w.plan group (known w group) test ≡ ways w group test
 
 -- a whole world and another of its plan, with these inputs and tapes, where the group is tolerated
-pub record CanCompare (w : World) (other : List (List (List ℕ))) (tapes : List (List ℕ)) (group : ℕ)
+pub record CanCompare (w : World) (other : InputLists) (tapes : List (List ℕ)) (group : ℕ)
     : Type 0 where
   pub whole : IsWhole w
   pub inputs : AreInputs w.plan other
@@ -50,7 +50,7 @@ pub record CanCompare (w : World) (other : List (List (List ℕ))) (tapes : List
   pub tolerated : LiesWithin (structure w.plan) group
 
 -- so where the group knows the same of both, it can't tell them apart
-abbrev pub KnownDecides : World → List (List (List ℕ)) → List (List ℕ) → ℕ → Type 0
+abbrev pub KnownDecides : World → InputLists → List (List ℕ) → ℕ → Type 0
 KnownDecides w other tapes group =
     known (with_tapes (with_inputs w other) tapes) group ≡ known w group
     → (test : List (Key × ℕ) → Bool)
@@ -89,7 +89,7 @@ ChoicesDiffer w group = AllPairs (λ a b. a ≢ b) (choices w.plan group w.tapes
 
 -- another world of the plan in which the group's members give what they gave, read what they read and have the tapes
 -- that they had
-pub record IsSameFor (w : World) (other : List (List (List ℕ))) (tapes : List (List ℕ)) (group : ℕ) : Type 0 where
+pub record IsSameFor (w : World) (other : InputLists) (tapes : List (List ℕ)) (group : ℕ) : Type 0 where
   pub whole : IsWhole w
   pub inputs : AreInputs w.plan other
   pub choice : IsChoice w group tapes
@@ -98,13 +98,13 @@ pub record IsSameFor (w : World) (other : List (List (List ℕ))) (tapes : List 
 -- the group knows nothing else: of such a world it knows the same
 abbrev pub KnowsNoMore : Type 0
 KnowsNoMore =
-    (w : World) (other : List (List (List ℕ))) (tapes : List (List ℕ)) (group : ℕ)
+    (w : World) (other : InputLists) (tapes : List (List ℕ)) (group : ℕ)
     → IsSameFor w other tapes group → known (with_tapes (with_inputs w other) tapes) group ≡ known w group
 
 -- and it knows all of that: where it knows the same, the world is such
 abbrev pub KnowsNoLess : Type 0
 KnowsNoLess =
-    (w : World) (other : List (List (List ℕ))) (tapes : List (List ℕ)) (group : ℕ)
+    (w : World) (other : InputLists) (tapes : List (List ℕ)) (group : ℕ)
     → IsWhole w → AreInputs w.plan other → AreTapes w.plan tapes
     → known (with_tapes (with_inputs w other) tapes) group ≡ known w group
     → IsSameFor w other tapes group

@@ -13,12 +13,13 @@ use Rattle.job_session.specs.Sessions.Slot.{Output}
 use Rattle.share_world.specs.Worlds.{World, run_of, plain, word_in, touches}
 use Rattle.tape_map.specs.TapeMaps.{hidden, raised, tape_of}
 use Rattle.view_counts.specs.Counts.{choices}
+use Rattle.job_plan.specs.InputWords.{InputLists}
 
 -- ---- what a group knows
 
 -- what the simulator is given of a world: what a group's members give, read and draw
 pub record Known : Type 0 where
-  pub inputs : List (List (List ℕ))  -- by party, session, position; none but of members
+  pub inputs : InputLists  -- by party, session, position; none but of members
   pub outputs : List (List ℕ)  -- by session and output wire; 0 but where a member reads
   pub tapes : List (List ℕ)  -- by party; empty but of members
 
@@ -52,7 +53,7 @@ zeros plan p s =
     replicate (total (length (owners (session plan s))) (λ v. if gives plan s p v then 1 else 0)) 0
 
 -- the members' inputs, and zeros for all others
-abbrev pub simulated_inputs : Plan → ℕ → Known → List (List (List ℕ))
+abbrev pub simulated_inputs : Plan → ℕ → Known → InputLists
 simulated_inputs plan group k =
     listed plan.parties (λ p.
     if has_party group p then slice_index_or k.inputs p []

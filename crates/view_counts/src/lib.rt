@@ -14,6 +14,7 @@ ghost use Rattle.view_counts.specs.Laws.{ChoicesAreTapes, TapesAreChoices, Choic
 ghost use Rattle.view_counts.specs.Laws.{ChoicesAreMany, KnowsNoMore, KnowsNoLess};
 ghost use Rattle.view_counts.specs.Multiply.{ChoicesForA, WaysForA, WaysForC, WaysForBoth};
 ghost use Rattle.view_counts.specs.Multiply.{KnownToA, KnownToC};
+ghost use Rattle.job_plan.specs.InputWords.{InputLists};
 
 /// What a tolerated group sees passes each test for as many choices of the others' tapes as what
 /// the simulator makes of the plan, the members' inputs, the outputs that they read and their
@@ -22,7 +23,7 @@ ghost use Rattle.view_counts.specs.Multiply.{KnownToA, KnownToC};
 pub fn views_are_simulated()
     ensures simulated { (w : World) (group : ℕ)
         → IsWhole w → LiesWithin (structure w.plan) group → IsSimulated w group }
-    ensures known { (w : World) (other : List (List (List ℕ))) (tapes : List (List ℕ)) (group : ℕ)
+    ensures known { (w : World) (other : InputLists) (tapes : List (List ℕ)) (group : ℕ)
         → CanCompare w other tapes group → KnownDecides w other tapes group }
 {}
 
@@ -36,9 +37,9 @@ pub fn known_is_the_members()
 /// With other inputs that can be hidden from it, a group's view passes each test for as many
 /// choices of the others' tapes. So each view comes for as many.
 pub fn views_are_even()
-    ensures tests { (w : World) (other : List (List (List ℕ))) (group : ℕ)
+    ensures tests { (w : World) (other : InputLists) (group : ℕ)
         → CanHide w other group → IsPrivate w other group }
-    ensures views { (w : World) (other : List (List (List ℕ))) (group : ℕ)
+    ensures views { (w : World) (other : InputLists) (group : ℕ)
         → CanHide w other group → ViewsAreEven w other group }
     ensures equal { TestIsEqual }
 {}

@@ -1,18 +1,18 @@
--- What a group sees, part by part of the messages, and the messages of a slot by the lines of its pattern.
+-- What a group sees, part by part of the messages, and the messages of a slot by the transfers of its pattern.
 use Rattle.std.proofs.Common.{◌≡◌, ℕ, ◌+◌, ◌<◌, List, ◌++◌, map, length, sym, ap, ◌∙◌, subst, arith, filter}
 use Rattle.std.specs.Prelude.{slice_index_or}
 use Rattle.std.proofs.lemmas.List.{map-append, length-map}
 use Rattle.std.proofs.lemmas.List.Elements.{filter-append}
 use Rattle.job_plan.specs.declared.key.Key.{Key}
-use Rattle.job_plan.specs.declared.pattern.Line.{Line}
+use Rattle.job_plan.specs.declared.pattern.Transfer.{Transfer}
 use Rattle.job_plan.specs.Plans.{Plan, slot, slots}
 use Rattle.job_plan.specs.Sound.{IsSound}
 use Rattle.job_plan.specs.Messages.{slot_messages, messages}
 use Rattle.job_plan.specs.Numbers.{message, no_key}
 use Rattle.job_plan.specs.Firsts.{first, count}
-use Rattle.job_plan.specs.Patterns.{named, lines, pattern_at}
+use Rattle.job_plan.specs.Patterns.{named, transfers, pattern_at}
 use Rattle.job_plan.proofs.PlanSchemes.{plan_is}
-use Rattle.job_plan.proofs.RankSearch.{no_line, named_at}
+use Rattle.job_plan.proofs.RankSearch.{no_transfer, named_at}
 use Rattle.job_plan.proofs.SlotMessages.{message_at, number_within}
 use Rattle.job_plan.proofs.SlotPatterns.{slots_follow_patterns}
 use Rattle.program_laws.specs.Once.{IsBetweenParties}
@@ -29,19 +29,19 @@ seen-append w group xs ys =
     with_word : Key → Key × ℕ
     with_word key = (key, word w key)
 
--- the messages of a slot are the lines of its pattern, named
-pub slot_named : (plan : Plan) (s k : ℕ) (xs : List Line) → xs ≡ lines plan (pattern_at plan s k)
+-- the messages of a slot are the transfers of its pattern, named
+pub slot_named : (plan : Plan) (s k : ℕ) (xs : List Transfer) → xs ≡ transfers plan (pattern_at plan s k)
     → slot_messages plan s k (slot plan s k) ≡ map (named s k) xs
 slot_named plan s k xs are = slots_follow_patterns plan s k (slot plan s k) ∙ ap (map (named s k)) (sym are)
 
-module _ (plan : Plan) (s k : ℕ) (xs : List Line) (sound : IsSound plan) (ls : s < length plan.sessions) (lk : k < slots plan s) (are : xs ≡ lines plan (pattern_at plan s k)) where
+module _ (plan : Plan) (s k : ℕ) (xs : List Transfer) (sound : IsSound plan) (ls : s < length plan.sessions) (lk : k < slots plan s) (are : xs ≡ transfers plan (pattern_at plan s k)) where
   module _ (i : ℕ) (l : i < length xs) where
     here : i < count plan s k
     here = omega (arith, l, ap length (slot_named plan s k xs are), length-map xs (named s k))
 
-    -- line i of a slot is the message of this number
-    pub line_is : (n : ℕ) (key : Key) → n ≡ first plan s k + i → key ≡ named s k (slice_index_or xs i no_line) → IsMessage plan n key
-    line_is n key place told =
+    -- transfer i of a slot is the message of this number
+    pub transfer_is : (n : ℕ) (key : Key) → n ≡ first plan s k + i → key ≡ named s k (slice_index_or xs i no_transfer) → IsMessage plan n key
+    transfer_is n key place told =
         let there : first plan s k + i < length (messages plan) = number_within plan s k ls lk i here in
         let within : n < length (messages plan) = omega (arith, there, place) in
         let is : message plan n ≡ key =

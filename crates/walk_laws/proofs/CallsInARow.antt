@@ -10,7 +10,7 @@ use Rattle.job_walk.specs.JobOf.{Contents}
 use Rattle.mpc_top.specs.NodeTalks.{NodeAsked}
 use Rattle.mpc_top.specs.Outside.{Outside}
 use Rattle.mpc_top.specs.Due.{Due, text, talk, DueOf, IsDue}
-use Rattle.mpc_top.specs.Stops.{HasCause}
+use Rattle.mpc_top.specs.Outcomes.{HasCause}
 use Rattle.mpc_top.specs.Command.{AnyRose, IsSteady, IsQuiet, HasRoom, Lets, IsGiven, Answers}
 use Rattle.walk_laws.specs.InARow.{text_due, sink_due, InARow, AreDueTogether}
 use Rattle.walk_laws.proofs.Jobs.{due_once}

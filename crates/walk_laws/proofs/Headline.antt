@@ -23,7 +23,7 @@ use Rattle.job_walk.specs.Verdict.{Then, accepted}
 use Rattle.job_walk.specs.JobOf.{Contents, JobText, PlanAt, file_at}
 use Rattle.mpc_top.specs.WholeJobs.{WholeJob, JobAt}
 use Rattle.mpc_top.specs.Due.{Due, text, DueOf, IsDue}
-use Rattle.mpc_top.specs.Stops.{Fulfils}
+use Rattle.mpc_top.specs.Outcomes.{Fulfils}
 use Rattle.walk_laws.specs.Headline.{IsRightAfter, JobsKeepTheHeadline, LearnsNothing, WritesPlainOutputs, world_with}
 use Rattle.walk_laws.specs.Tolerated.{HasFields}
 use Rattle.walk_laws.proofs.Jobs.{due_once}

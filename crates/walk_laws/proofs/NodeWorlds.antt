@@ -1,4 +1,4 @@
--- What a node's files give is its share of a whole world.
+-- What a node's files give is its part of a whole world.
 use Rattle.std.proofs.Common.{◌≡◌, ℕ, zero, suc, ◌+◌, ◌<◌, Bool, true, false, List, [], ◌∷◌, ◌++◌, length, map, Option, None, Some, Result, refl, sym, ap, ap₂, ◌∙◌, subst, arith}
 use Rattle.std.specs.Prelude.{slice_index_or, unwrap_or}
 use Rattle.std.specs.List.{AllByRecursion, concat}
@@ -33,13 +33,13 @@ use Rattle.outer_io.specs.Links.{LinksReading}
 use Rattle.node_talk.specs.declared.fault.NodeFault.{NodeFault}
 use Rattle.node_talk.specs.Runs.{Results}
 use Rattle.node_run.specs.NodeRuns as node_runs
-use Rattle.node_run.specs.Ready.{IsNodeOf, IsShare}
+use Rattle.node_run.specs.Ready.{IsNodeOf, IsNodePart}
 use Rattle.network_runs.specs.Played.{ArePlayed}
 use Rattle.network_runs.proofs.PlayedRuns.{runs_make_a_network}
-use Rattle.mpc_top.specs.NodeTalks.{offered, share_of}
+use Rattle.mpc_top.specs.NodeTalks.{offered, node_part}
 use Rattle.mpc_top.specs.Outside.{Outside}
 use Rattle.mpc_top.specs.WholeJobs.{WholeJob, whole_job, JobAt}
-use Rattle.walk_laws.specs.Nodes.{HoldSame, NodesAgree, NodesAreShares, NodesShareTheirJob, SharesMakeAWorld, TalkTogether, TalksMakeANetwork, AreNodesOf, IsJoint, joint_world, node_in, played_by}
+use Rattle.walk_laws.specs.Nodes.{HoldSame, NodesAgree, NodesAreParts, NodesHaveTheirParts, PartsMakeAWorld, TalkTogether, TalksMakeANetwork, AreNodesOf, IsJoint, joint_world, node_in, played_by}
 use Rattle.walk_laws.proofs.Jobs.{party_once, sessions_once, structure_once}
 use Rattle.mpc_top.proofs.WholeWorlds.{Fitting, IsFound, accepted_is, no_form, party_fits, plan_is_sound, structure_found, was_ok, whole_world}
 use Rattle.job_laws.specs.Documents.{IsJobForm}
@@ -122,16 +122,16 @@ module _ (files : Contents) (dir name : List ℕ) (node : NodeForm) (of : IsNode
       let below : of.me < length of.job.names = (position-Some (λ other. bytes_eq other name) of.job.names of.me [] of.named).0 in
       omega (arith, below, found.parties)
 
-  is_share : IsShare (share_of node)
-  is_share = subst (λ (node : NodeForm). IsShare (share_of node)) (sym of.is) (record {
+  is_node_part : IsNodePart (node_part node)
+  is_node_part = subst (λ (node : NodeForm). IsNodePart (node_part node)) (sym of.is) (record {
     sound = plan_sound;
     party = me_below;
     fits = party_fits files dir its_plan of.me name of.given of.party;
     digest = length-sha256 (joined_files (all_bytes_at files dir (file_names.job_file ∷ circuit_files of.job)));
   })
 
-pub nodes_are_shares : NodesAreShares
-nodes_are_shares files dir name node at = is_share files dir name node (node_read files dir name node at)
+pub nodes_are_parts : NodesAreParts
+nodes_are_parts files dir name node at = is_node_part files dir name node (node_read files dir name node at)
 
 -- ---- the parties of a folder
 
@@ -257,10 +257,10 @@ module _ (files : Contents) (dir name : List ℕ) (node : NodeForm) (job : Whole
   there : of.me < length m.forms
   there = omega (arith, below, forms_count files dir made_plan [] m.form.names m.forms m.parties)
 
-  has_share : IsNodeOf (share_of node) (node_in job.world node)
-  has_share =
-      subst (λ (w : World). IsNodeOf (share_of node) (node_in w node)) (sym m.is)
-      (subst (λ (node : NodeForm). IsNodeOf (share_of node) (node_in (world_of made_plan m.forms) node)) (sym of.is) (record {
+  has_node_part : IsNodeOf (node_part node) (node_in job.world node)
+  has_node_part =
+      subst (λ (w : World). IsNodeOf (node_part node) (node_in w node)) (sym m.is)
+      (subst (λ (node : NodeForm). IsNodeOf (node_part node) (node_in (world_of made_plan m.forms) node)) (sym of.is) (record {
         plan = sym plans_are;
         me = refl;
         inputs = inputs_are made_plan m.forms of.me there ∙ ap (λ (x : PartyForm). x.inputs) (sym given_is);
@@ -268,8 +268,8 @@ module _ (files : Contents) (dir name : List ℕ) (node : NodeForm) (job : Whole
         digest = refl;
       }))
 
-pub nodes_share_their_job : NodesShareTheirJob
-nodes_share_their_job files dir name asked node job at whole = has_share files dir name node job (node_read files dir name node at) (made files dir asked job whole)
+pub nodes_have_their_parts : NodesHaveTheirParts
+nodes_have_their_parts files dir name asked node job at whole = has_node_part files dir name node job (node_read files dir name node at) (made files dir asked job whole)
 
 -- ---- folders that hold the same
 
@@ -343,8 +343,8 @@ nodes_agree files files' dir dir' name name' job node node' text same at at' =
 -- ---- all nodes of a job
 
 module _ (plan : Plan) (digest : List ℕ) (nodes : ℕ → NodeForm) (are : AreNodesOf plan digest nodes) where
-  share : (p : ℕ) → p < plan.parties → IsShare (share_of (nodes p))
-  share p l = (let r = are.read p l in nodes_are_shares r.0 r.1 r.2 (nodes p) r.3)
+  part : (p : ℕ) → p < plan.parties → IsNodePart (node_part (nodes p))
+  part p l = (let r = are.read p l in nodes_are_parts r.0 r.1 r.2 (nodes p) r.3)
 
   abbrev forms : List PartyForm
   forms = listed plan.parties (λ p. (nodes p).given)
@@ -356,18 +356,18 @@ module _ (plan : Plan) (digest : List ℕ) (nodes : ℕ → NodeForm) (are : Are
   form_is_its p l = listed_at plan.parties (λ p. (nodes p).given) p no_form l
 
   fits : (p : ℕ) → p < plan.parties → FitsPlan plan p (nodes p).given
-  fits p l = subst (λ q. FitsPlan plan q (nodes p).given) (are.parties p l) (subst (λ (plan : Plan). FitsPlan plan (nodes p).me (nodes p).given) (are.plans p l) (share p l).fits)
+  fits p l = subst (λ q. FitsPlan plan q (nodes p).given) (are.parties p l) (subst (λ (plan : Plan). FitsPlan plan (nodes p).me (nodes p).given) (are.plans p l) (part p l).fits)
 
   fitting : Fitting plan forms
   fitting p l = (let below : p < plan.parties = omega (arith, l, many) in subst (FitsPlan plan p) (sym (form_is_its p below)) (fits p below))
 
   sound : IsSound plan
-  sound = subst IsSound (are.plans 0 are.some) (share 0 are.some).sound
+  sound = subst IsSound (are.plans 0 are.some) (part 0 are.some).sound
 
   joint : IsJoint plan digest nodes
   joint = record {
     whole = whole_world plan forms many fitting sound;
-    shares = λ p l.
+    parts = λ p l.
         let there : p < length forms = omega (arith, l, many) in
         record {
           plan = sym (are.plans p l);
@@ -378,8 +378,8 @@ module _ (plan : Plan) (digest : List ℕ) (nodes : ℕ → NodeForm) (are : Are
         };
   }
 
-pub shares_make_a_world : SharesMakeAWorld
-shares_make_a_world plan digest nodes are = joint plan digest nodes are
+pub parts_make_a_world : PartsMakeAWorld
+parts_make_a_world plan digest nodes are = joint plan digest nodes are
 
 -- ---- their network
 
@@ -391,12 +391,12 @@ module _ (plan : Plan) (digest : List ℕ) (nodes : ℕ → NodeForm) (before af
   played : ArePlayed (played_by plan digest nodes before after kept answers)
   played = record {
     whole = of_all.whole;
-    digest = ap length (sym (t.are.digests 0 t.are.some)) ∙ (share plan digest nodes t.are 0 t.are.some).digest;
+    digest = ap length (sym (t.are.digests 0 t.are.some)) ∙ (part plan digest nodes t.are 0 t.are.some).digest;
     runs = λ p l.
         let talk = t.talks p l in
         let one : talk.kept ≡ kept p = (let e : Some talk.kept ≡ Some (kept p) = sym talk.has_back ∙ t.links p l in cc) in
         subst (λ (links : LinksReading). node_runs.Runs (record { world = joint_world plan nodes; me = p; digest = digest }) (offered (nodes p) (before p)) links (before p).spawner (after p).spawner (answers p)) one
-        (talk.run (record { world = joint_world plan nodes; me = p; digest = digest }) (of_all.shares p l));
+        (talk.run (record { world = joint_world plan nodes; me = p; digest = digest }) (of_all.parts p l));
     pipes = t.pipes;
   }
 

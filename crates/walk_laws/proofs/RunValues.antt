@@ -1,5 +1,5 @@
 -- What a run writes for a session of expressions.
-use Rattle.std.proofs.Common.{◌≡◌, ℕ, zero, suc, ◌+◌, ◌-◌, ◌^◌, ◌<◌, ◌≤◌, Bool, true, false, cond, if◌then◌else◌, List, [], ◌∷◌, ◌++◌, length, map, replicate, Option, None, Some, refl, sym, ap, ◌∙◌, subst, arith}
+use Rattle.std.proofs.Common.{◌≡◌, ℕ, zero, suc, ◌+◌, ◌-◌, ◌^◌, ◌<◌, ◌≤◌, Bool, true, false, cond, List, [], ◌∷◌, ◌++◌, length, map, replicate, Option, None, Some, refl, sym, ap, ◌∙◌, subst, arith}
 use Rattle.std.specs.Prelude.{slice_index, slice_index_or, slice_get, sum}
 use Rattle.std.proofs.lemmas.Option.{slice_get_within}
 use Rattle.std.proofs.lemmas.List.{get_or_append_left, get_or_push, length-append, length-replicate}
@@ -8,7 +8,7 @@ use Rattle.std.proofs.lemmas.List.FromFn.{get_or-map-range_with_len, length-map-
 use Rattle.list_laws.specs.Lists.{total, listed}
 use Rattle.party_set.specs.Parties.{Members}
 use Rattle.circuit_model.specs.Netlists as netlists
-use Rattle.circuit_model.specs.Netlists.{Netlist, input_wires, output_wires}
+use Rattle.circuit_model.specs.Netlists.{Netlist, output_wires}
 use Rattle.expr_circuit.specs.Programs.{Statement, program_value}
 use Rattle.expr_circuit.specs.Circuits.{circuit, netlist, draft_of}
 use Rattle.expr_circuit.specs.Laws.{IsCircuitOf, output_words}

@@ -11,7 +11,7 @@ use Rattle.mpc_top.specs.Texts.{usage_text}
 use Rattle.job_walk.specs.Verdict.{refused}
 use Rattle.mpc_top.specs.Outside.{Outside}
 use Rattle.mpc_top.specs.Due.{Due, text, talk, IsDue}
-use Rattle.mpc_top.specs.Stops.{Fulfils, CutShort, HasCause, Tells}
+use Rattle.mpc_top.specs.Outcomes.{Fulfils, CutShort, HasCause, Tells}
 use Rattle.mpc_top.specs.Command.{AnyRose, Lets, IsGiven, Answers}
 use Rattle.walk_laws.specs.Statuses.{SameCounts, FailsToTalk, StatusSays}
 

@@ -15,13 +15,14 @@ use Rattle.refusal_text.specs.Lines.{too_long_line, group_line}
 use Rattle.share_world.specs.Worlds.{view}
 use Rattle.job_walk.specs.Names.{path_of, view_file}
 use Rattle.job_walk.specs.Verdict.{accepted, refused, Then}
-use Rattle.job_walk.specs.JobOf.{Contents, Planned, file_limit, bytes_of, file_at, GroupOf, PlannedOf, PlanOf, PlanAt}
+use Rattle.job_walk.specs.JobOf.{Contents, Planned, bytes_of, file_at, GroupOf, PlannedOf, PlanOf, PlanAt}
 use Rattle.mpc_top.specs.WholeJobs.{WholeJob, whole_job, JobAt}
 use Rattle.mpc_top.specs.Audits.{AuditAt}
 use Rattle.mpc_top.specs.Due.{DueOf}
 use Rattle.walk_laws.specs.WrittenViews.{written_view, WrittenViewsAreAudited}
 use Rattle.mpc_top.proofs.WholeWorlds.{accepted_is, was_ok}
 use Rattle.job_laws.proofs.ReadJobs.{mask_below}
+use Rattle.refusal_text.specs.declared.limits.TheConstants.{FILE_LIMIT}
 
 -- ---- a group that a text names
 
@@ -94,10 +95,10 @@ job_small files dir asked job group (planned, is, (forms, read, e)) same =
 
 -- ---- the file
 
-file_is : (files : Contents) (dir name bytes : List ℕ) → files (path_of dir name) ≡ Some bytes → length bytes ≤ file_limit → accepted bytes ≡ file_at files dir name
+file_is : (files : Contents) (dir name bytes : List ℕ) → files (path_of dir name) ≡ Some bytes → length bytes ≤ FILE_LIMIT → accepted bytes ≡ file_at files dir name
 unfolding file_at bytes_of
 file_is files dir name bytes there short =
-    sym (ap (λ o. bytes_of o name) there ∙ ap (λ b. if b then accepted bytes else refused 3 (too_long_line name)) (le-leb (length bytes) file_limit short))
+    sym (ap (λ o. bytes_of o name) there ∙ ap (λ b. if b then accepted bytes else refused 3 (too_long_line name)) (le-leb (length bytes) FILE_LIMIT short))
 
 pub written_views_are_audited : WrittenViewsAreAudited
 unfolding DueOf AuditAt Then

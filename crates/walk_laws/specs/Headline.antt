@@ -5,7 +5,7 @@ use Rattle.toml.specs.Data.{Members as Fields}
 use Rattle.outer_io.specs.Sink.{Writes}
 use Rattle.command_words.specs.Commands.{command_of, run}
 use Rattle.job_plan.specs.Plans.{Plan}
-use Rattle.job_plan.specs.InputWords.{AreInputs}
+use Rattle.job_plan.specs.InputWords.{AreInputs, InputLists}
 use Rattle.job_plan.specs.Numbers.{PlacesDiffer}
 use Rattle.share_world.specs.Worlds.{World}
 use Rattle.share_world.specs.Laws.{AreTapes}
@@ -53,11 +53,11 @@ IsRightAfter w schedule now =
 -- ---- what a group sees
 
 -- a world of the plan
-abbrev pub world_with : Plan → List (List (List ℕ)) → List (List ℕ) → World
+abbrev pub world_with : Plan → InputLists → List (List ℕ) → World
 world_with plan inputs tapes = record { plan = plan; inputs = inputs; tapes = tapes }
 
 -- two lists of inputs, and tapes, with which the group's members give the same and read the same
-pub record AgreeFor (plan : Plan) (group : ℕ) (first second : List (List (List ℕ))) (tapes : List (List ℕ))
+pub record AgreeFor (plan : Plan) (group : ℕ) (first second : InputLists) (tapes : List (List ℕ))
     : Type 0 where
   pub first_inputs : AreInputs plan first
   pub second_inputs : AreInputs plan second
@@ -67,7 +67,7 @@ pub record AgreeFor (plan : Plan) (group : ℕ) (first second : List (List (List
 -- The change of the tapes gives tapes, and leaves the members their own. Different tapes are changed into different
 -- ones, and all tapes are what some are changed into. With the other inputs and the changed tapes each message that a
 -- member sends or receives is what it was.
-pub record IsHidden (w : World) (other : List (List (List ℕ))) (group : ℕ) : Type 0 where
+pub record IsHidden (w : World) (other : InputLists) (group : ℕ) : Type 0 where
   pub are : AreTapes w.plan (changed_tapes w other group)
   pub members : MembersStay w other group
   pub one_to_one : OneToOne w other group
@@ -77,9 +77,9 @@ pub record IsHidden (w : World) (other : List (List (List ℕ))) (group : ℕ) :
 
 -- what is said of a group that the file tolerates
 pub record LearnsNothing (plan : Plan) (group : ℕ) : Type 0 where
-  pub hidden : (first second : List (List (List ℕ))) (tapes : List (List ℕ))
+  pub hidden : (first second : InputLists) (tapes : List (List ℕ))
       → AgreeFor plan group first second tapes → IsHidden (world_with plan first tapes) second group
-  pub simulated : (inputs : List (List (List ℕ))) (tapes : List (List ℕ))
+  pub simulated : (inputs : InputLists) (tapes : List (List ℕ))
       → AreInputs plan inputs → AreTapes plan tapes → IsSimulated (world_with plan inputs tapes) group
 
 -- ---- the headline

@@ -1,4 +1,4 @@
--- That what a node's files give is its share of a whole world, and that the nodes of a job make a network.
+-- That what a node's files give is its part of a whole world, and that the nodes of a job make a network.
 use Rattle.std.specs.Prelude.{◌≡◌, ◌≢◌, ℕ, ◌<◌, true, List, ◌∷◌, Option, Some, Result}
 use Rattle.std.specs.List.{AllByRecursion}
 use Rattle.list_laws.specs.Lists.{listed}
@@ -16,30 +16,30 @@ use Rattle.node_talk.specs.declared.fault.NodeFault.{NodeFault}
 use Rattle.node_talk.specs.Runs.{Results}
 use Rattle.node_talk.specs.Talks.{Node}
 use Rattle.network_laws.specs.Networks.{IsPipe}
-use Rattle.node_run.specs.Ready.{IsNodeOf, IsShare}
+use Rattle.node_run.specs.Ready.{IsNodeOf, IsNodePart}
 use Rattle.network_runs.specs.Played.{MakeANetwork, Played, network_of}
-use Rattle.mpc_top.specs.NodeTalks.{Talks, offered, share_of}
+use Rattle.mpc_top.specs.NodeTalks.{Talks, offered, node_part}
 use Rattle.mpc_top.specs.Outside.{Outside}
 use Rattle.mpc_top.specs.WholeJobs.{WholeJob, JobAt}
 
 -- ---- one node
 
 -- the node of these files is a party of its plan, and what it gives fits the plan
-abbrev pub NodesAreShares : Type 0
-NodesAreShares =
+abbrev pub NodesAreParts : Type 0
+NodesAreParts =
     (files : Contents) (dir name : List ℕ) (node : NodeForm)
-    → NodeAt files dir name (accepted node) → IsShare (share_of node)
+    → NodeAt files dir name (accepted node) → IsNodePart (node_part node)
 
 -- the node of this form in a world
 abbrev pub node_in : World → NodeForm → Node
 node_in w node = record { world = w; me = node.me; digest = node.digest }
 
--- where a folder has the files of all parties, it is the party's share of the folder's job
-abbrev pub NodesShareTheirJob : Type 0
-NodesShareTheirJob =
+-- where a folder has the files of all parties, it is the party's part of the folder's job
+abbrev pub NodesHaveTheirParts : Type 0
+NodesHaveTheirParts =
     (files : Contents) (dir name : List ℕ) (asked : Option (List ℕ)) (node : NodeForm) (job : WholeJob)
     → NodeAt files dir name (accepted node) → JobAt files dir asked (accepted job)
-    → IsNodeOf (share_of node) (node_in job.world node)
+    → IsNodeOf (node_part node) (node_in job.world node)
 
 -- ---- all nodes of a job
 
@@ -68,14 +68,14 @@ pub record AreNodesOf (plan : Plan) (digest : List ℕ) (nodes : ℕ → NodeFor
 abbrev pub joint_world : Plan → (ℕ → NodeForm) → World
 joint_world plan nodes = world_of plan (listed plan.parties (λ p. (nodes p).given))
 
--- their world is whole, and in it each party has its own share
+-- their world is whole, and in it each party has its own part
 pub record IsJoint (plan : Plan) (digest : List ℕ) (nodes : ℕ → NodeForm) : Type 0 where
   pub whole : IsWhole (joint_world plan nodes)
-  pub shares : (p : ℕ) → p < plan.parties
-      → IsNodeOf (share_of (nodes p)) (record { world = joint_world plan nodes; me = p; digest = digest })
+  pub parts : (p : ℕ) → p < plan.parties
+      → IsNodeOf (node_part (nodes p)) (record { world = joint_world plan nodes; me = p; digest = digest })
 
-abbrev pub SharesMakeAWorld : Type 0
-SharesMakeAWorld =
+abbrev pub PartsMakeAWorld : Type 0
+PartsMakeAWorld =
     (plan : Plan) (digest : List ℕ) (nodes : ℕ → NodeForm) → AreNodesOf plan digest nodes → IsJoint plan digest nodes
 
 -- ---- their network

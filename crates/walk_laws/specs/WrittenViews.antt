@@ -7,9 +7,10 @@ use Rattle.view_text.specs.ViewText.{view_text}
 use Rattle.output_text.specs.AuditText.{yes_text}
 use Rattle.job_walk.specs.Names.{path_of, view_file}
 use Rattle.job_walk.specs.Verdict.{accepted}
-use Rattle.job_walk.specs.JobOf.{Contents, file_limit}
+use Rattle.job_walk.specs.JobOf.{Contents}
 use Rattle.mpc_top.specs.WholeJobs.{WholeJob, JobAt}
 use Rattle.mpc_top.specs.Due.{text, DueOf}
+use Rattle.refusal_text.specs.declared.limits.TheConstants.{FILE_LIMIT}
 
 -- what a run of a job writes of a view, behind the outputs
 abbrev pub written_view : WholeJob → Members → List ℕ
@@ -21,5 +22,5 @@ abbrev pub WrittenViewsAreAudited : Type 0
 WrittenViewsAreAudited =
     (files : Contents) (dir asked : List ℕ) (job : WholeJob) (group : Members)
     → JobAt files dir (Some asked) (accepted job) → job.group ≡ Some group
-    → files (path_of dir view_file) ≡ Some (written_view job group) → length (written_view job group) ≤ file_limit
+    → files (path_of dir view_file) ≡ Some (written_view job group) → length (written_view job group) ≤ FILE_LIMIT
     → DueOf (audit dir) files (accepted (text (yes_text (length (view job.world group.mask)))))

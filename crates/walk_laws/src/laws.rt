@@ -1,7 +1,7 @@
 //! The laws.
 ghost use Rattle.walk_laws.specs.Once.{AreDueOneVerdict};
 ghost use Rattle.walk_laws.specs.Whole.{JobsAreWhole, PairsCanHide};
-ghost use Rattle.walk_laws.specs.Nodes.{NodesAreShares, NodesShareTheirJob, NodesAgree, SharesMakeAWorld, TalksMakeANetwork};
+ghost use Rattle.walk_laws.specs.Nodes.{NodesAreParts, NodesHaveTheirParts, NodesAgree, PartsMakeAWorld, TalksMakeANetwork};
 ghost use Rattle.walk_laws.specs.Tolerated.{JobsTolerateAsWritten, NodesTolerateAsWritten};
 ghost use Rattle.walk_laws.specs.Headline.{JobsKeepTheHeadline};
 ghost use Rattle.walk_laws.specs.Expressions.{RunsWriteValues};
@@ -51,14 +51,14 @@ pub fn accepted_pairs_can_be_hidden()
     ensures { PairsCanHide }
 {}
 
-/// What a node's files give is a share that fits its plan, and that of its party in the folder's job. Folders with one
-/// file of the job and one set of circuits give one plan and digest. All parties' shares make a whole world, and their
+/// What a node's files give is a part that fits its plan, and that of its party in the folder's job. Folders with one
+/// file of the job and one set of circuits give one plan and digest. All parties' parts make a whole world, and their
 /// talks over pipes that invent nothing make a network, in which each party that ended well is right.
-pub fn nodes_have_shares_of_a_world()
-    ensures fits { NodesAreShares }
-    ensures own { NodesShareTheirJob }
+pub fn nodes_have_parts_of_a_world()
+    ensures fits { NodesAreParts }
+    ensures own { NodesHaveTheirParts }
     ensures agree { NodesAgree }
-    ensures whole { SharesMakeAWorld }
+    ensures whole { PartsMakeAWorld }
     ensures network { TalksMakeANetwork }
 {}
 

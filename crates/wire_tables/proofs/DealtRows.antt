@@ -17,6 +17,8 @@ use Rattle.job_plan.specs.InputWords.{session_words}
 use Rattle.job_plan.specs.Plans.{Plan, scheme, least_holder, least_held}
 use Rattle.job_plan.proofs.TapePlaces.{held_within}
 use Rattle.wire_tables.specs.Places.{HasMaskWords, mask_at}
+use Rattle.wire_tables.specs.WireTables.{world_of}
+use Rattle.wire_tables.specs.declared.world_data.WorldData.{WorldData}
 use Rattle.wire_tables.proofs.ListedRows.{listed_of, row_read}
 
 -- zeros by their places
@@ -68,10 +70,12 @@ total_passed n has f e =
 -- ---- a mask's words
 
 -- a least holder has its next word of a mask
-pub mask_word : (plan : Plan) (tapes : List (Vec ℕ)) (places : List ℕ) (i p held : ℕ) (tape : Vec ℕ) → HasMaskWords plan (session_words tapes) places → i < length plan.groups
-    → p ≡ least_holder plan i → held ≡ least_held plan p i → tape ≡ slice_index_or tapes p tape
-    → (slice_index places p + held < length tape.items) × (slice_index tape.items (slice_index places p + held) ≡ mask_at plan (session_words tapes) places i)
-mask_word plan tapes places i p held tape h li holder held_is is =
+pub mask_word : (world : WorldData) (places : List ℕ) (i p held : ℕ) (tape : Vec ℕ) → HasMaskWords (world_of world) places → i < length world.plan.now.groups
+    → p ≡ least_holder world.plan.now i → held ≡ least_held world.plan.now p i → tape ≡ slice_index_or world.tapes.now p tape
+    → (slice_index places p + held < length tape.items) × (slice_index tape.items (slice_index places p + held) ≡ mask_at (world_of world) places i)
+mask_word world places i p held tape h li holder held_is is =
+    let plan = world.plan.now in
+    let tapes = world.tapes.now in
     let m = length plan.groups in
     let there : p < length (session_words tapes) = subst (λ q. q < length (session_words tapes)) (sym holder) (h.holders i li) in
     let tape_is : tape.items ≡ slice_index_or (session_words tapes) p [] = row_read tapes p tape (omega (arith, there, length-map tapes (λ (t : Vec ℕ). t.items))) is in

@@ -86,17 +86,17 @@ module _ (w : World) (whole : IsWhole w) (s k : ℕ) (ls : s < length w.plan.ses
 
   module _ (places : List ℕ) (h : ArePlaces w.plan s k places) where
     pub given_made : (v p value : ℕ) (row : List ℕ) → slot w.plan s k ≡ Input v → source x v ≡ Given p → value ≡ input_of w s v
-        → row ≡ listed m (dealt_at (scheme w.plan) w.tapes places p value) → SetsRow w s k v row
+        → row ≡ listed m (dealt_at w places p value) → SetsRow w s k v row
     given_made v p value row z from given is = let l = input_named v z in record {
       sets = ap (sets_in x) z;
       named = omega (arith, l.1, wires_named x);
-      are = of_wire v row (dealt_at (scheme w.plan) w.tapes places p value) l.1 is (λ i li.
-          ap (λ u. dealt_at (scheme w.plan) w.tapes places p u i) given
+      are = of_wire v row (dealt_at w places p value) l.1 is (λ i li.
+          ap (λ u. dealt_at w places p u i) given
           ∙ dealt_here w s k lk (Input v) z places h p (input_of w s v) i ((whole.sound.sessions s ls).owned v p l.0 from)
           ∙ sym (solved.given v p i l.0 from ∙ solved.input_deals v p i l.0 from));
     }
 
-    pub mask_made : (t : ℕ) (side : Side) (row : List ℕ) → slot w.plan s k ≡ Mask t side → row ≡ listed m (mask_at w.plan w.tapes places) → SetsRow w s k (mask_wire x t side) row
+    pub mask_made : (t : ℕ) (side : Side) (row : List ℕ) → slot w.plan s k ≡ Mask t side → row ≡ listed m (mask_at w places) → SetsRow w s k (mask_wire x t side) row
     mask_made t side row z is =
         let inside = inside_here w s k lk (Mask t side) z in record {
           sets = ap (sets_in x) z;
@@ -105,7 +105,7 @@ module _ (w : World) (whole : IsWhole w) (s k : ℕ) (ls : s < length w.plan.ses
         }
 
     pub product_made : (t : ℕ) (a b row : List ℕ) → slot w.plan s k ≡ Mask_product t → a ≡ mask_row w s t First → b ≡ mask_row w s t Second
-        → row ≡ listed m (product_summand (scheme w.plan) (dealt_at (scheme w.plan) w.tapes places) (slice_index a) (slice_index b)) → SetsRow w s k (product_wire x t) row
+        → row ≡ listed m (product_summand (scheme w.plan) (dealt_at w places) (slice_index a) (slice_index b)) → SetsRow w s k (product_wire x t) row
     product_made t a b row z ha hb is =
         let inside = inside_here w s k lk (Mask_product t) z in record {
           sets = ap (sets_in x) z;
@@ -248,7 +248,7 @@ module _ (w : World) (whole : IsWhole w) (s k : ℕ) (ls : s < length w.plan.ses
           second_ends i li = ends_of (gate x t).second b i li hb (second_wire (product_reads (gate x t).operation product).1)
 
           pub direct_made : x.prepared ≡ false → (places : List ℕ) → ArePlaces w.plan s k places
-              → row ≡ listed m (product_summand (scheme w.plan) (dealt_at (scheme w.plan) w.tapes places) (slice_index a) (slice_index b)) → SetsRow w s k (gate x t).output row
+              → row ≡ listed m (product_summand (scheme w.plan) (dealt_at w places) (slice_index a) (slice_index b)) → SetsRow w s k (gate x t).output row
           direct_made no' places hp is =
               let direct : is_direct x t ≡ true = and_from (not x.prepared) _ (not_from_false x.prepared no') product in
               made row _ is (λ i li.

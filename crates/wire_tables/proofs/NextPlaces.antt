@@ -41,7 +41,7 @@ module _ (plan : Plan) (s p : ℕ) where
 
 module _ (w : World) (whole : IsWhole w) (s k : ℕ) (places : List ℕ) (ls : s < length w.plan.sessions) (lk : k < slots w.plan s) (h : ArePlaces w.plan s k places) where
   -- a party that deals in a slot has the words of its deal
-  pub has_words : (p : ℕ) → p < w.plan.parties → deals_in w.plan s p (slot w.plan s k) ≡ true → HasDealWords w.plan w.tapes places p
+  pub has_words : (p : ℕ) → p < w.plan.parties → deals_in w.plan s p (slot w.plan s k) ≡ true → HasDealWords w places p
   has_words p lp deals =
       let within = dealt_within w.plan s p k ls lk deals in record {
         tape = omega (arith, whole.tapes.parties);
@@ -51,7 +51,7 @@ module _ (w : World) (whole : IsWhole w) (s k : ℕ) (places : List ℕ) (ls : s
       }
 
   -- and so have the least holders those of a mask
-  pub has_mask_words : (t : ℕ) (side : Side) → slot w.plan s k ≡ Mask t side → HasMaskWords w.plan w.tapes places
+  pub has_mask_words : (t : ℕ) (side : Side) → slot w.plan s k ≡ Mask t side → HasMaskWords w places
   has_mask_words t side is = record {
     parties = omega (arith, h.parties, whole.tapes.parties);
     holders = λ i li. omega (arith, least_within w.plan (is_plan w whole) i li, whole.tapes.parties);

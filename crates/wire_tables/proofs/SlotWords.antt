@@ -31,20 +31,20 @@ module _ (w : World) (s k : ℕ) (lk : k < slots w.plan s) (z : Slot) (is : slot
     place_here p lp = h.are p lp ∙ ap (place w.plan p s) (sym number_here)
 
     -- what it deals there
-    pub dealt_here : (p v i : ℕ) → p < w.plan.parties → dealt_at (scheme w.plan) w.tapes places p v i ≡ dealt (scheme w.plan) v (tape_word w s z p) i
+    pub dealt_here : (p v i : ℕ) → p < w.plan.parties → dealt_at w places p v i ≡ dealt (scheme w.plan) v (tape_word w s z p) i
     dealt_here p v i lp = ap (λ n. dealt (scheme w.plan) v (λ j. slice_index (slice_index_or w.tapes p []) (n + j)) i) (place_here p lp)
 
     -- the product of two wires, where each party deals its part there
     pub product_here : (a b a' b' : ℕ → ℕ) → ((i : ℕ) → i < length w.plan.groups → a i ≡ a' i) → ((i : ℕ) → i < length w.plan.groups → b i ≡ b' i)
-        → (i : ℕ) → product_summand (scheme w.plan) (dealt_at (scheme w.plan) w.tapes places) a b i ≡ dealt_product w s z a' b' i
+        → (i : ℕ) → product_summand (scheme w.plan) (dealt_at w places) a b i ≡ dealt_product w s z a' b' i
     product_here a b a' b' ha hb i =
-        product_agrees (scheme w.plan) (λ p v. dealt (scheme w.plan) v (tape_word w s z p)) (dealt_at (scheme w.plan) w.tapes places) a' b' a b i (λ p lp pair.
+        product_agrees (scheme w.plan) (λ p v. dealt (scheme w.plan) v (tape_word w s z p)) (dealt_at w places) a' b' a b i (λ p lp pair.
         dealt_here p (own_product (scheme w.plan) p a b) i lp
         ∙ ap (λ v. dealt (scheme w.plan) v (tape_word w s z p) i) (own_alike w.plan p a b a' b' ha hb))
 
 -- a summand of a mask is what is drawn there
 pub drawn_here : (w : World) → IsWhole w → (s k : ℕ) → k < slots w.plan s → (t : ℕ) (side : Side) → slot w.plan s k ≡ Mask t side → (places : List ℕ) → ArePlaces w.plan s k places
-    → (i : ℕ) → i < length w.plan.groups → mask_at w.plan w.tapes places i ≡ mask w s t side i
+    → (i : ℕ) → i < length w.plan.groups → mask_at w places i ≡ mask w s t side i
 drawn_here w whole s k lk t side is places h i li =
     let p = least_holder w.plan i in
     ap (λ n. slice_index (slice_index_or w.tapes p []) (n + least_held w.plan p i))

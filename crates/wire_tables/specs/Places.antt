@@ -1,34 +1,35 @@
 -- Where the words that the parties draw next begin on their tapes.
 use Rattle.std.specs.Prelude.{◌≡◌, ℕ, ◌+◌, ◌-◌, ◌^◌, ◌<◌, ◌≤◌, List, [], length, slice_index, slice_index_or}
-use Rattle.secret_sharing.specs.Schemes.{Scheme, dealt}
-use Rattle.job_plan.specs.Plans.{Plan, place, least_holder, least_held}
+use Rattle.secret_sharing.specs.Schemes.{dealt}
+use Rattle.job_plan.specs.Plans.{Plan, scheme, place, least_holder, least_held}
+use Rattle.share_world.specs.Worlds.{World}
 
 -- each party's next words begin where those of slot k of session s do
 pub record ArePlaces (plan : Plan) (s k : ℕ) (places : List ℕ) : Type 0 where
   pub parties : length places ≡ plan.parties
   pub are : (p : ℕ) → p < plan.parties → slice_index places p ≡ place plan p s k
 
--- what party p deals of the value v, with the words at its place
-abbrev pub dealt_at : Scheme → List (List ℕ) → List ℕ → ℕ → ℕ → ℕ → ℕ
-dealt_at scheme tapes places p v =
-    dealt scheme v (λ i. slice_index (slice_index_or tapes p []) (slice_index places p + i))
+-- what party p deals of this value, with the words at its place
+abbrev pub dealt_at : World → List ℕ → ℕ → ℕ → ℕ → ℕ
+dealt_at w places p value =
+    dealt (scheme w.plan) value (λ i. slice_index (slice_index_or w.tapes p []) (slice_index places p + i))
 
 -- party p has the words of its next deal
-pub record HasDealWords (plan : Plan) (tapes : List (List ℕ)) (places : List ℕ) (p : ℕ) : Type 0 where
-  pub tape : p < length tapes
+pub record HasDealWords (w : World) (places : List ℕ) (p : ℕ) : Type 0 where
+  pub tape : p < length w.tapes
   pub place : p < length places
-  pub enough : slice_index places p + (length plan.groups - 1) ≤ length (slice_index_or tapes p [])
-  pub below : (i : ℕ) → slice_index (slice_index_or tapes p []) i < 2 ^ plan.bits
+  pub enough : slice_index places p + (length w.plan.groups - 1) ≤ length (slice_index_or w.tapes p [])
+  pub below : (i : ℕ) → slice_index (slice_index_or w.tapes p []) i < 2 ^ w.plan.bits
 
 -- summand i of a mask: a word of its least holder, which has one for each summand of which it is that
-abbrev pub mask_at : Plan → List (List ℕ) → List ℕ → ℕ → ℕ
-mask_at plan tapes places i =
-    let p = least_holder plan i in
-    slice_index (slice_index_or tapes p []) (slice_index places p + least_held plan p i)
+abbrev pub mask_at : World → List ℕ → ℕ → ℕ
+mask_at w places i =
+    let p = least_holder w.plan i in
+    slice_index (slice_index_or w.tapes p []) (slice_index places p + least_held w.plan p i)
 
 -- the least holders have the words of the next mask
-pub record HasMaskWords (plan : Plan) (tapes : List (List ℕ)) (places : List ℕ) : Type 0 where
-  pub parties : length places ≡ length tapes
-  pub holders : (i : ℕ) → i < length plan.groups → least_holder plan i < length tapes
-  pub enough : (p : ℕ) → p < length tapes
-      → slice_index places p + least_held plan p (length plan.groups) ≤ length (slice_index_or tapes p [])
+pub record HasMaskWords (w : World) (places : List ℕ) : Type 0 where
+  pub parties : length places ≡ length w.tapes
+  pub holders : (i : ℕ) → i < length w.plan.groups → least_holder w.plan i < length w.tapes
+  pub enough : (p : ℕ) → p < length w.tapes
+      → slice_index places p + least_held w.plan p (length w.plan.groups) ≤ length (slice_index_or w.tapes p [])

@@ -4,10 +4,12 @@ use Rattle.std.specs.Global.{Vec}
 use Rattle.list_laws.specs.Lists.{some_below}
 use Rattle.job_session.specs.Sessions.{row_names}
 use Rattle.job_session.specs.KeptWires.{sets_in, slot_sets}
-use Rattle.job_plan.specs.Plans.{Plan, session, slot}
+use Rattle.job_plan.specs.Plans.{Plan, session, slot, slots}
 use Rattle.job_plan.specs.InputWords.{session_words}
 use Rattle.share_world.specs.Worlds.{World}
-use Rattle.wire_tables.specs.WireTables.{summand_rows}
+use Rattle.wire_tables.specs.Places.{ArePlaces}
+use Rattle.wire_tables.specs.WireTables.{AreCarried, input_list, summand_rows}
+use Rattle.wire_tables.specs.declared.summands.BeforeSlot.{BeforeSlot}
 
 -- a word of the ring for each summand
 pub record IsRow (plan : Plan) (row : List ℕ) : Type 0 where
@@ -29,6 +31,15 @@ pub record AreRows (w : World) (s k : ℕ) (rows : List (Vec ℕ)) : Type 0 wher
   pub names : length rows ≡ row_names (session w.plan s)
   pub are : (name : ℕ) → name < row_names (session w.plan s)
       → slice_index_or (session_words rows) name [] ≡ row_before w s k name
+
+-- a slot of a session of the world, and what is there before it
+pub record IsBeforeSlot (w : World) (before : BeforeSlot) : Type 0 where
+  pub in_session : before.session < length w.plan.sessions
+  pub in_slot : before.slot < slots w.plan before.session
+  pub given : before.given.now ≡ input_list w before.session
+  pub carried : AreCarried w before.session before.carried.now
+  pub places : ArePlaces w.plan before.session before.slot before.places.now
+  pub rows : AreRows w before.session before.slot before.rows.now
 
 -- slot k sets the row of this name to these words
 pub record SetsRow (w : World) (s k name : ℕ) (words : List ℕ) : Type 0 where

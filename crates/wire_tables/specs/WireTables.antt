@@ -7,13 +7,18 @@ use Rattle.job_session.specs.declared.source.Source.TheVariants.{Carried}
 use Rattle.job_session.specs.declared.side.Side.{Side}
 use Rattle.job_session.specs.declared.side.Side.TheVariants.{First, Second}
 use Rattle.job_plan.specs.Plans.{Plan, session}
-use Rattle.job_plan.specs.InputWords.{session_words}
+use Rattle.job_plan.specs.InputWords.{session_words, InputLists}
 use Rattle.share_world.specs.Worlds.{World, carried_wire, end_summands, input_of, mask, mask_product, plain}
+use Rattle.wire_tables.specs.declared.world_data.WorldData.{WorldData}
 
 -- the world of a plan, the inputs of all parties, and a tape for each party
-abbrev pub world_given : Plan → List (List (List ℕ)) → List (Vec ℕ) → World
+abbrev pub world_given : Plan → InputLists → List (Vec ℕ) → World
 world_given plan inputs tapes =
     record { plan = plan; inputs = inputs; tapes = session_words tapes }
+
+-- the world of what a run goes by
+abbrev pub world_of : WorldData → World
+world_of world = world_given world.plan.now world.inputs.now world.tapes.now
 
 -- the word that is given on each input wire of session s; 0 on one that is carried
 abbrev pub input_list : World → ℕ → List ℕ

@@ -1,10 +1,8 @@
 //! The summands of the wires that sessions carry of those before them.
-ghost use Rattle.std.specs.Prelude.{◌≡◌, ℕ, ◌+◌, ◌-◌, ◌<◌, ◌≤◌, IfOk, OnOk, [], if◌then◌else◌, length, nat_eq, slice_index_or};
-ghost use Rattle.job_session.specs.Sessions.{output_wire, readers};
+ghost use Rattle.std.specs.Prelude.{◌≡◌, ℕ, ◌+◌, ◌<◌, ◌≤◌, IfOk, OnOk, [], if◌then◌else◌, length, nat_eq, slice_index_or};
 ghost use Rattle.job_plan.specs.InputWords.{session_words};
 
 use job_plan::Plan;
-use job_session::SessionPart;
 use std::alloc::{AllocError, Global};
 use std::marker::Model;
 
@@ -69,7 +67,7 @@ impl CarriedRows {
         let _ = plan.parties();
         let part = plan.part(s);
         for kept in part.kept() {
-            let wire = output_wire(part, kept.output);
+            let wire = part.output_wire(kept.output);
             let row = Vec::from_slice(alloc, &rows[wire as usize])?;
             put_row(alloc, &mut self.rows[kept.session as usize], kept.wire, row)?;
         }
@@ -92,13 +90,4 @@ fn put_row(
     }
     rows[place as usize] = row;
     Ok(())
-}
-
-/// The wire of output `o`, counted from the first output wire.
-pub(crate) fn output_wire(part: &SessionPart, o: u32) -> u32
-    requires wires { length (readers part.now) ≤ part.now.wires }
-    requires within { o < length (readers part.now) }
-    ensures { result ≡ output_wire part.now o }
-{
-    part.wires() - part.output_wires() as u32 + o
 }

@@ -4,12 +4,13 @@ ghost use Rattle.std.specs.Prelude.{slice_index, take, drop, replicate};
 ghost use Rattle.list_laws.specs.Lists.{listed, total};
 ghost use Rattle.secret_sharing.specs.Schemes.{has_pair, local, product_summand};
 ghost use Rattle.job_plan.specs.Plans.{scheme};
-ghost use Rattle.job_plan.specs.InputWords.{session_words};
 ghost use Rattle.secret_sharing.specs.Prepared.{prepared_summand};
 ghost use Rattle.mpc_ring.specs.Differences.{difference};
 ghost use Rattle.wire_tables.specs.Places.{HasDealWords, HasMaskWords, dealt_at, mask_at};
 ghost use Rattle.wire_tables.specs.Steps.{IsRow};
+ghost use Rattle.wire_tables.specs.WireTables.{world_of};
 
+use crate::world_data::WorldData;
 use circuit_model::Gate;
 use job_plan::Plan;
 use mpc_ring::Ring;
@@ -42,18 +43,18 @@ fn words_at(tape: &[u64], at: usize, count: usize) -> &[u64]
 /// Sets `row` to the summands of what party `p` deals of `value`, with the words at its place: the words, and last
 /// what is missing to the value (Ito, Saito, Nishizeki 1987; Maurer 2006).
 pub(crate) fn deal_into(
-    plan: &Plan,
-    tapes: &[Vec<u64>],
+    world: &WorldData<'_>,
     places: &[u32],
     p: u32,
     value: u64,
     row: &mut Vec<u64>,
 ) -> Result<(), AllocError>
-    requires value { value < 2 ^ plan.now.bits }
-    requires words { HasDealWords plan.now (session_words tapes.now) places.now p }
-    ensures { OnOk result (row.new.items ≡ listed (length plan.now.groups)
-        (dealt_at (scheme plan.now) (session_words tapes.now) places.now p value)) }
+    requires value { value < 2 ^ world.now.plan.now.bits }
+    requires words { HasDealWords (world_of world.now) places.now p }
+    ensures { OnOk result (row.new.items ≡ listed (length world.now.plan.now.groups)
+        (dealt_at (world_of world.now) places.now p value)) }
 {
+    let (plan, tapes) = (world.plan, world.tapes);
     let ring = plan.ring();
     let at = places[p as usize] as usize;
     let words = words_at(&tapes[p as usize], at, plan.shares() as usize - 1);
@@ -65,15 +66,15 @@ pub(crate) fn deal_into(
 
 /// Sets `row` to the summands of a mask, each of which is a word of its least holder.
 pub(crate) fn mask_into(
-    plan: &Plan,
-    tapes: &[Vec<u64>],
+    world: &WorldData<'_>,
     places: &[u32],
     row: &mut Vec<u64>,
 ) -> Result<(), AllocError>
-    requires { HasMaskWords plan.now (session_words tapes.now) places.now }
-    ensures { OnOk result (row.new.items ≡ listed (length plan.now.groups)
-        (mask_at plan.now (session_words tapes.now) places.now)) }
+    requires { HasMaskWords (world_of world.now) places.now }
+    ensures { OnOk result (row.new.items ≡ listed (length world.now.plan.now.groups)
+        (mask_at (world_of world.now) places.now)) }
 {
+    let (plan, tapes) = (world.plan, world.tapes);
     row.clear();
     for i in 0..plan.shares() {
         let p = plan.layout().least_holder(i);
@@ -166,30 +167,29 @@ fn add_row(ring: Ring, row: &[u64], sums: &mut [u64])
 /// Sets `sums` to the summands of the product of two wires: each party deals its own product, and what is dealt is
 /// added up. `dealt` holds what the last of them dealt.
 pub(crate) fn product_into(
-    plan: &Plan,
-    tapes: &[Vec<u64>],
+    world: &WorldData<'_>,
     places: &[u32],
     x: &[u64],
     y: &[u64],
     dealt: &mut Vec<u64>,
     sums: &mut Vec<u64>,
 ) -> Result<(), AllocError>
-    requires first { length x.now ≡ length plan.now.groups }
-    requires second { length y.now ≡ length plan.now.groups }
-    requires tapes { (p : ℕ) → p < plan.now.parties → has_pair (scheme plan.now) p ≡ true
-        → HasDealWords plan.now (session_words tapes.now) places.now p }
-    ensures { OnOk result (sums.new.items ≡ listed (length plan.now.groups)
-        (product_summand (scheme plan.now)
-        (dealt_at (scheme plan.now) (session_words tapes.now) places.now)
+    requires first { length x.now ≡ length world.now.plan.now.groups }
+    requires second { length y.now ≡ length world.now.plan.now.groups }
+    requires tapes { (p : ℕ) → p < world.now.plan.now.parties → has_pair (scheme world.now.plan.now) p ≡ true
+        → HasDealWords (world_of world.now) places.now p }
+    ensures { OnOk result (sums.new.items ≡ listed (length world.now.plan.now.groups)
+        (product_summand (scheme world.now.plan.now) (dealt_at (world_of world.now) places.now)
         (slice_index x.now) (slice_index y.now))) }
 {
+    let plan = world.plan;
     let ring = plan.ring();
     sums.clear();
     sums.resize(plan.shares() as usize, 0)?;
     for p in 0..plan.parties() {
         if plan.multiplies(p) {
             let own = own_products(ring, plan.duty(), p, x, y);
-            deal_into(plan, tapes, places, p, own, dealt)?;
+            deal_into(world, places, p, own, dealt)?;
             add_row(ring, dealt, sums);
         }
     }

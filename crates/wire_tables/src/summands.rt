@@ -2,18 +2,18 @@
 ghost use Rattle.std.specs.Prelude.{◌≡◌, ◌<◌, IfOk, OnOk, length};
 ghost use Rattle.job_session.specs.Sessions.{gate};
 ghost use Rattle.job_session.specs.Sessions.Slot.{At_gate, Input};
-ghost use Rattle.job_plan.specs.Plans.{session, slot, slots};
+ghost use Rattle.job_plan.specs.Plans.{session, slot};
 ghost use Rattle.share_world.specs.Laws.{IsWhole};
 ghost use Rattle.share_world.specs.Worlds.{World};
-ghost use Rattle.wire_tables.specs.Places.{ArePlaces};
-ghost use Rattle.wire_tables.specs.WireTables.{AreCarried, input_list, world_given};
-ghost use Rattle.wire_tables.specs.Steps.{AreRows, Sets, SetsRow};
+ghost use Rattle.wire_tables.specs.WireTables.{AreCarried, world_of};
+ghost use Rattle.wire_tables.specs.Steps.{AreRows, IsBeforeSlot, Sets, SetsRow};
 
 use crate::carried::CarriedRows;
 use crate::places::{first_places, pass_slot};
 use crate::rows::{copy_into, deal_into, joined_into, linear_into, mask_into, product_into, zeros};
 use crate::values::input_list;
-use job_plan::{Inputs, Plan, SlotKind};
+use crate::world_data::WorldData;
+use job_plan::{Plan, SlotKind};
 use job_session::{Side, Source};
 use std::alloc::{AllocError, Global};
 use std::marker::Model;
@@ -38,36 +38,38 @@ impl Model for SummandTable {
 impl SummandTable {
     ghost use Rattle.std.specs.Prelude.{◌≡◌, ◌+◌, ◌<◌, [], IfOk, OnOk, length, slice_index_or};
     ghost use Rattle.share_world.specs.Laws.{IsWhole};
-    ghost use Rattle.wire_tables.specs.WireTables.{AreCarried, world_given, summand_rows};
+    ghost use Rattle.wire_tables.specs.WireTables.{AreCarried, world_of, summand_rows};
 
-    /// The summands of the wires and masks of session `s`, as the sharing equations have them. `tapes` has for each
-    /// party the words that it draws, all sessions in order, and `carried` what is carried of the sessions before. What
-    /// is carried of this one is added there.
+    /// The summands of the wires and masks of session `s`, as the sharing equations have them. `carried` has what is
+    /// carried of the sessions before, and what is carried of this one is added there.
     pub fn make(
         alloc: Global,
-        plan: &Plan,
-        inputs: &Inputs,
-        tapes: &[Vec<u64>],
+        world: &WorldData<'_>,
         carried: &mut CarriedRows,
         s: u32,
     ) -> Result<SummandTable, AllocError>
-        requires whole { IsWhole (world_given plan.now inputs.now tapes.now) }
-        requires session { s < length plan.now.sessions }
-        requires carried { AreCarried (world_given plan.now inputs.now tapes.now) s carried.old }
-        ensures table { IfOk result (λ table.
-            table ≡ summand_rows (world_given plan.now inputs.now tapes.now) s) }
-        ensures carried { OnOk result
-            (AreCarried (world_given plan.now inputs.now tapes.now) (s + 1) carried.new) }
+        requires whole { IsWhole (world_of world.now) }
+        requires session { s < length world.now.plan.now.sessions }
+        requires carried { AreCarried (world_of world.now) s carried.old }
+        ensures table { IfOk result (λ table. table ≡ summand_rows (world_of world.now) s) }
+        ensures carried { OnOk result (AreCarried (world_of world.now) (s + 1) carried.new) }
     {
-        let given = input_list(alloc, plan, inputs, s)?;
+        let plan = world.plan;
+        let given = input_list(alloc, plan, world.inputs, s)?;
         let mut places = first_places(alloc, plan, s)?;
         let mut rows = unset_rows(alloc, plan, s)?;
         let mut dealt = Vec::new(alloc);
         let mut row = Vec::new(alloc);
         for k in 0..plan.slots(s) {
-            let name = slot_row(
-                plan, inputs, &given, tapes, carried, &places, &rows, s, k, &mut dealt, &mut row,
-            )?;
+            let before = BeforeSlot {
+                session: s,
+                slot: k,
+                given: &given,
+                carried,
+                places: &places,
+                rows: &rows,
+            };
+            let name = slot_row(world, &before, &mut dealt, &mut row)?;
             if let Some(name) = name {
                 swap(&mut rows[name as usize], &mut row);
             }
@@ -103,108 +105,93 @@ fn unset_rows(alloc: Global, plan: &Plan, s: u32) -> Result<Vec<Vec<u64>>, Alloc
     Ok(rows)
 }
 
-// Sets `row` to the summands of what slot `k` sets, and gives the name of its row, where it sets one.
+// A slot of a session, and what is there before it: what is given on the session's inputs, what is carried of the sessions
+// before, where the parties' next words begin on their tapes, and the rows that the slots before have set.
+#[derive(Clone, Copy)]
+struct BeforeSlot<'a> {
+    session: u32,
+    slot: u32,
+    given: &'a [u64],
+    carried: &'a CarriedRows,
+    places: &'a [u32],
+    rows: &'a [Vec<u64>],
+}
+
+// Sets `row` to the summands of what a slot sets, and gives the name of its row, where it sets one.
 fn slot_row(
-    plan: &Plan,
-    inputs: &Inputs,
-    given: &[u64],
-    tapes: &[Vec<u64>],
-    carried: &CarriedRows,
-    places: &[u32],
-    rows: &[Vec<u64>],
-    s: u32,
-    k: u32,
+    world: &WorldData<'_>,
+    before: &BeforeSlot<'_>,
     dealt: &mut Vec<u64>,
     row: &mut Vec<u64>,
 ) -> Result<Option<u32>, AllocError>
-    requires whole { IsWhole (world_given plan.now inputs.now tapes.now) }
-    requires session { s < length plan.now.sessions }
-    requires slot { k < slots plan.now s }
-    requires given { given.now ≡ input_list (world_given plan.now inputs.now tapes.now) s }
-    requires carried { AreCarried (world_given plan.now inputs.now tapes.now) s carried.now }
-    requires places { ArePlaces plan.now s k places.now }
-    requires rows { AreRows (world_given plan.now inputs.now tapes.now) s k rows.now }
+    requires whole { IsWhole (world_of world.now) }
+    requires before { IsBeforeSlot (world_of world.now) before.now }
     ensures { IfOk result (λ name.
-        Sets (world_given plan.now inputs.now tapes.now) s k name row.new.items) }
+        Sets (world_of world.now) before.now.session before.now.slot name row.new.items) }
 {
-    let part = plan.part(s);
-    match part.slot_kind(k) {
+    let (places, rows) = (before.places, before.rows);
+    let part = world.plan.part(before.session);
+    match part.slot_kind(before.slot) {
         SlotKind::Input(v) => {
-            input_row(plan, inputs, given, tapes, carried, places, s, k, v, row)?;
+            input_row(world, before, v, row)?;
             Ok(Some(v))
         }
         SlotKind::Mask(t, side) => {
-            mask_into(plan, tapes, places, row)?;
+            mask_into(world, places, row)?;
             Ok(Some(part.mask_wire(t, side)))
         }
         SlotKind::MaskProduct(t) => {
             let first = &rows[part.mask_wire(t, Side::First) as usize];
             let second = &rows[part.mask_wire(t, Side::Second) as usize];
-            product_into(plan, tapes, places, first, second, dealt, row)?;
+            product_into(world, places, first, second, dealt, row)?;
             Ok(Some(part.product_wire(t)))
         }
         SlotKind::Gate(t) => {
-            gate_row(plan, inputs, tapes, places, rows, s, k, t, dealt, row)?;
+            gate_row(world, before, t, dealt, row)?;
             Ok(Some(part.gate(t).output))
         }
         SlotKind::Masked(_, _) | SlotKind::Output(_) | SlotKind::Kept(_) => Ok(None),
     }
 }
 
-// Sets `row` to the summands of input wire `v`, whose slot is `k`: as its giver deals them, or those of the wire that it
+// Sets `row` to the summands of input wire `v`, whose slot this is: as its giver deals them, or those of the wire that it
 // carries.
 fn input_row(
-    plan: &Plan,
-    inputs: &Inputs,
-    given: &[u64],
-    tapes: &[Vec<u64>],
-    carried: &CarriedRows,
-    places: &[u32],
-    s: u32,
-    k: u32,
+    world: &WorldData<'_>,
+    before: &BeforeSlot<'_>,
     v: u32,
     row: &mut Vec<u64>,
 ) -> Result<(), AllocError>
-    requires whole { IsWhole (world_given plan.now inputs.now tapes.now) }
-    requires session { s < length plan.now.sessions }
-    requires slot { k < slots plan.now s }
-    requires input { slot plan.now s k ≡ Input v }
-    requires given { given.now ≡ input_list (world_given plan.now inputs.now tapes.now) s }
-    requires carried { AreCarried (world_given plan.now inputs.now tapes.now) s carried.now }
-    requires places { ArePlaces plan.now s k places.now }
-    ensures { OnOk result (SetsRow (world_given plan.now inputs.now tapes.now) s k v row.new.items) }
+    requires whole { IsWhole (world_of world.now) }
+    requires before { IsBeforeSlot (world_of world.now) before.now }
+    requires input { slot world.now.plan.now before.now.session before.now.slot ≡ Input v }
+    ensures { OnOk result
+        (SetsRow (world_of world.now) before.now.session before.now.slot v row.new.items) }
 {
-    let _ = inputs;
-    match plan.part(s).source(v) {
-        Source::Given(party) => deal_into(plan, tapes, places, party, given[v as usize], row),
-        Source::Carried { .. } => copy_into(carried.row(s, v), row),
+    match world.plan.part(before.session).source(v) {
+        Source::Given(party) => {
+            deal_into(world, before.places, party, before.given[v as usize], row)
+        }
+        Source::Carried { .. } => copy_into(before.carried.row(before.session, v), row),
     }
 }
 
-// Sets `row` to the summands of what gate `t` makes, whose slot is `k`.
+// Sets `row` to the summands of what gate `t` makes, whose slot this is.
 fn gate_row(
-    plan: &Plan,
-    inputs: &Inputs,
-    tapes: &[Vec<u64>],
-    places: &[u32],
-    rows: &[Vec<u64>],
-    s: u32,
-    k: u32,
+    world: &WorldData<'_>,
+    before: &BeforeSlot<'_>,
     t: u32,
     dealt: &mut Vec<u64>,
     row: &mut Vec<u64>,
 ) -> Result<(), AllocError>
-    requires whole { IsWhole (world_given plan.now inputs.now tapes.now) }
-    requires session { s < length plan.now.sessions }
-    requires slot { k < slots plan.now s }
-    requires gate { slot plan.now s k ≡ At_gate t }
-    requires places { ArePlaces plan.now s k places.now }
-    requires rows { AreRows (world_given plan.now inputs.now tapes.now) s k rows.now }
-    ensures { OnOk result (SetsRow (world_given plan.now inputs.now tapes.now) s k
-        (gate (session plan.now s) t).output row.new.items) }
+    requires whole { IsWhole (world_of world.now) }
+    requires before { IsBeforeSlot (world_of world.now) before.now }
+    requires gate { slot world.now.plan.now before.now.session before.now.slot ≡ At_gate t }
+    ensures { OnOk result (SetsRow (world_of world.now) before.now.session before.now.slot
+        (gate (session world.now.plan.now before.now.session) t).output row.new.items) }
 {
-    let _ = inputs;
-    let part = plan.part(s);
+    let (plan, rows) = (world.plan, before.rows);
+    let part = plan.part(before.session);
     let gate = part.gate(t);
     let x = &rows[gate.first as usize];
     let y = &rows[gate.second as usize];
@@ -212,7 +199,7 @@ fn gate_row(
         return linear_into(plan.ring(), gate, x, y, row);
     }
     if !part.is_prepared() {
-        return product_into(plan, tapes, places, x, y, dealt, row);
+        return product_into(world, before.places, x, y, dealt, row);
     }
     let first = &rows[part.mask_wire(t, Side::First) as usize];
     let second = &rows[part.mask_wire(t, Side::Second) as usize];

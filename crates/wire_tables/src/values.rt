@@ -8,7 +8,6 @@ ghost use Rattle.job_plan.specs.InputWords.{AreInputs, given, session_words};
 ghost use Rattle.wire_tables.specs.HandedOn.{IsHandedOn};
 ghost use Rattle.wire_tables.specs.WireTables.{input_list, value_at, value_lists};
 
-use crate::carried::output_wire;
 use circuit_model::Gate;
 use job_plan::{Inputs, Plan};
 use job_session::Source;
@@ -107,7 +106,7 @@ fn hand_on(plan: &Plan, s: u32, lists: &mut [Vec<u64>])
     let _ = plan.parties();
     let part = plan.part(s);
     for kept in part.kept() {
-        let value = lists[s as usize][output_wire(part, kept.output) as usize];
+        let value = lists[s as usize][part.output_wire(kept.output) as usize];
         lists[kept.session as usize][kept.wire as usize] = value;
     }
 }

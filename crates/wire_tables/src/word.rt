@@ -4,12 +4,14 @@ ghost use Rattle.job_plan.specs.Messages.{messages};
 ghost use Rattle.job_plan.specs.Numbers.{message};
 ghost use Rattle.share_world.specs.Laws.{IsWhole};
 ghost use Rattle.share_world.specs.Worlds.{word};
-ghost use Rattle.wire_tables.specs.WireTables.{AreCarried, world_given};
+ghost use Rattle.wire_tables.specs.WireTables.{AreCarried, world_given, world_of};
 
 use crate::carried::CarriedRows;
 use crate::places::places_before;
 use crate::sent_rows::sent_row;
+use crate::slot_at::SlotAt;
 use crate::summands::SummandTable;
+use crate::world_data::WorldData;
 use job_plan::{Inputs, Plan};
 use std::alloc::{AllocError, Global};
 
@@ -27,33 +29,35 @@ pub fn word_of(
     ensures { IfOk result (λ found. found
         ≡ word (world_given plan.now inputs.now tapes.now) (message plan.now number)) }
 {
+    let world = WorldData {
+        plan,
+        inputs,
+        tapes,
+    };
     let key = plan.message(number);
-    let (s, k) = (key.session, key.slot);
-    let mut carried = carried_before(alloc, plan, inputs, tapes, s)?;
-    let table = SummandTable::make(alloc, plan, inputs, tapes, &mut carried, s)?;
-    let places = places_before(alloc, plan, s, k)?;
-    let row = sent_row(
-        alloc, plan, inputs, tapes, &table, &places, s, k, key.sender,
-    )?;
+    let mut carried = carried_before(alloc, &world, key.session)?;
+    let table = SummandTable::make(alloc, &world, &mut carried, key.session)?;
+    let places = places_before(alloc, plan, key.session, key.slot)?;
+    let at = SlotAt {
+        session: key.session,
+        slot: key.slot,
+        table: &table,
+        places: &places,
+    };
+    let row = sent_row(alloc, &world, &at, key.sender)?;
     Ok(row[key.share as usize])
 }
 
 // What is carried of the sessions before session `s`, of which those that keep nothing need no table.
-fn carried_before(
-    alloc: Global,
-    plan: &Plan,
-    inputs: &Inputs,
-    tapes: &[Vec<u64>],
-    s: u32,
-) -> Result<CarriedRows, AllocError>
-    requires whole { IsWhole (world_given plan.now inputs.now tapes.now) }
-    requires session { s < length plan.now.sessions }
-    ensures { IfOk result (AreCarried (world_given plan.now inputs.now tapes.now) s) }
+fn carried_before(alloc: Global, world: &WorldData<'_>, s: u32) -> Result<CarriedRows, AllocError>
+    requires whole { IsWhole (world_of world.now) }
+    requires session { s < length world.now.plan.now.sessions }
+    ensures { IfOk result (AreCarried (world_of world.now) s) }
 {
-    let mut carried = CarriedRows::new(alloc, plan)?;
+    let mut carried = CarriedRows::new(alloc, world.plan)?;
     for r in 0..s {
-        if !plan.part(r).kept().is_empty() {
-            let _ = SummandTable::make(alloc, plan, inputs, tapes, &mut carried, r)?;
+        if !world.plan.part(r).kept().is_empty() {
+            let _ = SummandTable::make(alloc, world, &mut carried, r)?;
         }
     }
     Ok(carried)

@@ -75,7 +75,7 @@ const READS: [Reads; 4] = [
     },
 ];
 
-/// That c tells of each of so many reads from the faulty peer that fails.
+/// That c tells of each of the first `count` reads from the faulty peer that fails.
 fn expect_failed_reads<R: Abort + Threads + Wait + Sync>(
     rt: &R,
     alloc: Global,

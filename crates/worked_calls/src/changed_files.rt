@@ -9,8 +9,12 @@ use std::test::Fail;
 /// A change of the files of the product.
 #[derive(Clone, Copy)]
 pub enum Change<'a> {
-    /// In the file of this name, the second text stands in place of the first.
-    Edit(&'a str, &'a str, &'a str),
+    /// In this file, the text `new` stands in place of `old`.
+    Edit {
+        file: &'a str,
+        old: &'a str,
+        new: &'a str,
+    },
     /// There is no file of this name.
     Without(&'a str),
 }
@@ -25,7 +29,7 @@ fn changed(
     let mut text = String::from_str(alloc, text)?;
     for change in changes {
         match *change {
-            Change::Edit(of, old, new) if of == file => {
+            Change::Edit { file: of, old, new } if of == file => {
                 if !text.contains(old) {
                     return Err("an edit of a text that is not there".into());
                 }

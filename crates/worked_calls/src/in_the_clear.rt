@@ -40,21 +40,57 @@ const JOBS: [Circuits; 3] = [
     Circuits {
         bits: 8,
         text: SUMS,
-        changes: &[Change::Edit("mul.txt", MUL, SUMS)],
+        changes: &[Change::Edit {
+            file: "mul.txt",
+            old: MUL,
+            new: SUMS,
+        }],
         inputs: [5, 7],
     },
     Circuits {
         bits: 1,
         text: BITS,
         changes: &[
-            Change::Edit("mul.txt", MUL, BITS),
-            Change::Edit("job.toml", "ring_bits = 8", "ring_bits = 1"),
-            Change::Edit("job.toml", "\"ring\"", "\"bristol\""),
-            Change::Edit("party_a.toml", "\"5\"", "\"1\""),
-            Change::Edit("party_a.toml", "10 20 1 2", "1 0 1 1"),
-            Change::Edit("party_b.toml", "\"7\"", "\"0\""),
-            Change::Edit("party_b.toml", "30 40 3 4", "0 1 0 1"),
-            Change::Edit("party_c.toml", "5 6", "1 1"),
+            Change::Edit {
+                file: "mul.txt",
+                old: MUL,
+                new: BITS,
+            },
+            Change::Edit {
+                file: "job.toml",
+                old: "ring_bits = 8",
+                new: "ring_bits = 1",
+            },
+            Change::Edit {
+                file: "job.toml",
+                old: "\"ring\"",
+                new: "\"bristol\"",
+            },
+            Change::Edit {
+                file: "party_a.toml",
+                old: "\"5\"",
+                new: "\"1\"",
+            },
+            Change::Edit {
+                file: "party_a.toml",
+                old: "10 20 1 2",
+                new: "1 0 1 1",
+            },
+            Change::Edit {
+                file: "party_b.toml",
+                old: "\"7\"",
+                new: "\"0\"",
+            },
+            Change::Edit {
+                file: "party_b.toml",
+                old: "30 40 3 4",
+                new: "0 1 0 1",
+            },
+            Change::Edit {
+                file: "party_c.toml",
+                old: "5 6",
+                new: "1 1",
+            },
         ],
         inputs: [1, 0],
     },

@@ -14,11 +14,11 @@ use std::test::Fail;
 use std::thread::Threads;
 
 /// The lines that let the parties of the product be nodes.
-pub const PLACES: Change<'static> = Change::Edit(
-    "job.toml",
-    "[[session]]\n",
-    "hosts = [\"first.example\", \"second.example\", \"third.example\"]\nport = 4000\n[[session]]\n",
-);
+pub const PLACES: Change<'static> = Change::Edit {
+    file: "job.toml",
+    old: "[[session]]\n",
+    new: "hosts = [\"first.example\", \"second.example\", \"third.example\"]\nport = 4000\n[[session]]\n",
+};
 
 /// The hosts of these lines.
 const HOSTS: [&str; 3] = ["first.example", "second.example", "third.example"];
@@ -77,7 +77,7 @@ pub struct Answer {
     pub net: PipeNet,
 }
 
-/// A link over which this comes in pieces of so many bytes, and nothing fails.
+/// A link over which this comes in pieces of `piece` bytes, and nothing fails.
 pub fn whole_link(alloc: Global, says: &[u8], piece: usize) -> Result<Link, AllocError> {
     Ok(Link {
         says: Vec::from_slice(alloc, says)?,
@@ -170,7 +170,7 @@ fn net_of(
     Ok(PipeNet::new(hosts, PORT, number, 3, links, failing))
 }
 
-/// A sink that takes so many bytes, of which this write fails.
+/// A sink that takes `room` bytes, of which this write fails.
 fn sink(alloc: Global, room: usize, failing: Option<u64>) -> Result<VecSink, AllocError> {
     let bytes = Vec::with_capacity(alloc, room)?;
     Ok(VecSink::new(bytes, room, listed(alloc, failing)?))

@@ -78,7 +78,7 @@ impl Sides {
         node(alloc, "c", 2, first, second)
     }
 
-    /// That c over this link of the faulty peer stops with this line, where the peers took so many bytes.
+    /// That c over this link of the faulty peer stops with this line, where the peers took this many bytes each.
     pub fn expect_stop<R: Abort + Threads + Wait + Sync>(
         &self,
         rt: &R,

@@ -52,11 +52,39 @@ const TWO_SESSIONS: &str = "[[session]]\n\
 
 /// The changes that make of the product of 5 and 7 a second session with that of 2 and 3.
 pub const PRODUCTS_OF_TWO_SESSIONS: [Change<'static>; 7] = [
-    Change::Edit("job.toml", SESSION, TWO_SESSIONS),
-    Change::Edit("party_a.toml", "[\"5\"]", "[\"5\", \"2\"]"),
-    Change::Edit("party_a.toml", "10 20 1 2", "10 20 1 2 11 21 3 4"),
-    Change::Edit("party_b.toml", "[\"7\"]", "[\"7\", \"3\"]"),
-    Change::Edit("party_b.toml", "30 40 3 4", "30 40 3 4 31 41 5 6"),
-    Change::Edit("party_c.toml", "[\"\"]", "[\"\", \"\"]"),
-    Change::Edit("party_c.toml", "5 6", "5 6 7 8"),
+    Change::Edit {
+        file: "job.toml",
+        old: SESSION,
+        new: TWO_SESSIONS,
+    },
+    Change::Edit {
+        file: "party_a.toml",
+        old: "[\"5\"]",
+        new: "[\"5\", \"2\"]",
+    },
+    Change::Edit {
+        file: "party_a.toml",
+        old: "10 20 1 2",
+        new: "10 20 1 2 11 21 3 4",
+    },
+    Change::Edit {
+        file: "party_b.toml",
+        old: "[\"7\"]",
+        new: "[\"7\", \"3\"]",
+    },
+    Change::Edit {
+        file: "party_b.toml",
+        old: "30 40 3 4",
+        new: "30 40 3 4 31 41 5 6",
+    },
+    Change::Edit {
+        file: "party_c.toml",
+        old: "[\"\"]",
+        new: "[\"\", \"\"]",
+    },
+    Change::Edit {
+        file: "party_c.toml",
+        old: "5 6",
+        new: "5 6 7 8",
+    },
 ];

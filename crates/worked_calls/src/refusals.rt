@@ -38,7 +38,11 @@ const OTHER_PLACES: [(&str, &str); 3] = [
 fn a_job_without_places_is_refused(rt: HostRuntime) -> Result<(), Fail> {
     let alloc = rt.alloc();
     for (lines, refusal) in &OTHER_PLACES {
-        let change = Change::Edit("job.toml", "[[session]]\n", lines);
+        let change = Change::Edit {
+            file: "job.toml",
+            old: "[[session]]\n",
+            new: lines,
+        };
         let mut outside = whole_c(alloc)?;
         outside.changes = Vec::from_slice(alloc, &[change])?;
         expect_silence(&rt, alloc, outside, 3, refusal)?;

@@ -1,5 +1,5 @@
 //! A reader of a peer that says its hello and two messages: the words 7 and 9, of a ring of eight bits.
-ghost use Rattle.std.specs.Prelude.{◌≡◌, [], ◌∷◌, length, IfOk};
+ghost use Rattle.std.specs.Prelude.{◌≡◌, [], length, IfOk};
 ghost use Rattle.std.specs.Arc.{arc_value};
 
 use inbox_board::{Inbox, InboxSeat};
@@ -39,7 +39,7 @@ pub const WHOLE: Row<'static> = Row {
     words: [Some(7), Some(9)],
 };
 
-// An inlet that holds a row's bytes, and gives at most so many at a read. The reads of these numbers fail.
+// An inlet that holds a row's bytes, and gives at most `piece` at a read. The reads of these numbers fail.
 pub fn inlet(
     alloc: Global,
     row: &Row<'_>,

@@ -16,7 +16,7 @@ enum Given<'a> {
     Refusal(ReadRefusal),
 }
 
-/// That the file of this name gives this, where it may have so many bytes.
+/// That the file of this name gives this, where it may have `limit` bytes.
 fn expect_read<F: Files>(
     rt: &impl Abort,
     alloc: Global,
@@ -113,7 +113,7 @@ fn a_file_as_a_sink(rt: HostRuntime) -> Result<(), Fail> {
     Ok(())
 }
 
-/// A sink with room for so many bytes, whose calls of these numbers fail.
+/// A sink with room for `room` bytes, whose calls of these numbers fail.
 fn sink(alloc: Global, room: usize, failing: &[u64]) -> Result<VecSink, AllocError> {
     Ok(VecSink::new(
         Vec::with_capacity(alloc, room)?,
@@ -140,7 +140,7 @@ fn tens(alloc: Global, count: u64) -> Result<Vec<u8>, AllocError> {
     Ok(bytes)
 }
 
-/// Gathers so many pieces of ten bytes before the sink.
+/// Gathers `count` pieces of ten bytes before the sink.
 fn gather_tens(sink: &mut VecSink, count: u64) -> Result<(), Failed> {
     let mut blocks = Blocks::new(sink);
     for _ in 0..count {
@@ -175,7 +175,8 @@ fn pieces_of_all_sizes_are_one_text(rt: HostRuntime) -> Result<(), Fail> {
     Ok(())
 }
 
-/// That of a thousand pieces of ten bytes so many come to a sink with so much room, whose calls of these numbers fail.
+/// That of a thousand pieces of ten bytes `count` come to a sink with room for `room` bytes, whose calls of these
+/// numbers fail.
 fn expect_tens(
     rt: &impl Abort,
     alloc: Global,

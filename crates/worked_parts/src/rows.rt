@@ -7,7 +7,7 @@ use std::alloc::{AllocError, Global};
 use std::process::Abort;
 use std::test::Fail;
 
-// Products over so many wires: each reads two wires and sets a third. The first wires are given, and the last one
+// Products over `wires` wires: each reads two wires and sets a third. The first wires are given, and the last one
 // is opened.
 fn products(
     alloc: Global,
@@ -43,7 +43,7 @@ fn squares(alloc: Global) -> Result<Vec<[u64; 3]>, AllocError> {
     Ok(squares)
 }
 
-// That the wires of the session have so many rows.
+// That the wires of the session have `count` rows.
 fn expect_rows(rt: &impl Abort, part: &SessionPart, count: u32) {
     let rows = part.rows();
     expect_same!(rt; rows.count(), count);

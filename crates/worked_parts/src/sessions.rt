@@ -19,7 +19,7 @@ fn product(alloc: Global, ring: Ring) -> Result<Circuit, CircuitFault> {
     builder.finish()
 }
 
-// The session of this product with so many owners and so many groups of readers.
+// The session of this product with `owners` owners and `groups` groups of readers.
 fn session(
     alloc: Global,
     owners: usize,

@@ -24,7 +24,7 @@ const BIT_GATES: [Line; 3] = [
     (Operation::Inv, &[3], &[4]),
 ];
 
-/// A circuit of these gates over so many wires, of which two are inputs and two outputs.
+/// A circuit of these gates over `wires` wires, of which two are inputs and two outputs.
 fn circuit(alloc: Global, ring: Ring, wires: u64, gates: &[Line]) -> Result<Circuit, CircuitFault> {
     let inputs = vec![in alloc; 1; 2]?;
     let outputs = vec![in alloc; 2; 1]?;

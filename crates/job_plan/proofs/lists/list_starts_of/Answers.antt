@@ -1,6 +1,6 @@
 use Rattle.std.proofs.Common.{◌≡◌, ◌+◌, length, ap, ◌∙◌, arith}
 use Rattle.job_session.specs.Sessions.{session_slots}
-use Rattle.job_plan.specs.Patterns.{lines}
+use Rattle.job_plan.specs.Patterns.{transfers}
 use Rattle.job_plan.specs.Firsts.{first, count}
 use Rattle.job_plan.proofs.SlotMessages.{first_within}
 use Rattle.job_plan.proofs.SlotStarts.{pattern_count, first_next}
@@ -12,7 +12,7 @@ overflow_cast-next c =
     let plan = c.args.outline.now in
     let s = c.args.s in
     let k = c.loop-k.k in
-    let long : length c.lines.result.now ≡ count plan s k = ap length (c.lines.ensures plan c.requires.lines c.pattern.ensures.occurs ∙ ap (lines plan) c.pattern.ensures.is) ∙ pattern_count plan s k in
+    let long : length c.transfers.result.now ≡ count plan s k = ap length (c.transfers.ensures plan c.requires.transfers c.pattern.ensures.occurs ∙ ap (transfers plan) c.pattern.ensures.is) ∙ pattern_count plan s k in
     let within = first_within plan s (k + 1) c.requires.session (omega (arith, c.slots-slots.ensures, ap session_slots c.part.ensures.is)) in
     omega (arith, first_next plan s k)
 
@@ -21,7 +21,7 @@ overflow_add-next c =
     let plan = c.args.outline.now in
     let s = c.args.s in
     let k = c.loop-k.k in
-    let long : length c.lines.result.now ≡ count plan s k = ap length (c.lines.ensures plan c.requires.lines c.pattern.ensures.occurs ∙ ap (lines plan) c.pattern.ensures.is) ∙ pattern_count plan s k in
+    let long : length c.transfers.result.now ≡ count plan s k = ap length (c.transfers.ensures plan c.requires.transfers c.pattern.ensures.occurs ∙ ap (transfers plan) c.pattern.ensures.is) ∙ pattern_count plan s k in
     let within = first_within plan s (k + 1) c.requires.session (omega (arith, c.slots-slots.ensures, ap session_slots c.part.ensures.is)) in
     omega (arith, first_next plan s k, c.loop-k.invariant.next)
 
@@ -30,7 +30,7 @@ loop-k-preserved c =
     let plan = c.args.outline.now in
     let s = c.args.s in
     let k = c.loop-k.k in
-    let long : length c.lines.result.now ≡ count plan s k = ap length (c.lines.ensures plan c.requires.lines c.pattern.ensures.occurs ∙ ap (lines plan) c.pattern.ensures.is) ∙ pattern_count plan s k in
+    let long : length c.transfers.result.now ≡ count plan s k = ap length (c.transfers.ensures plan c.requires.transfers c.pattern.ensures.occurs ∙ ap (transfers plan) c.pattern.ensures.is) ∙ pattern_count plan s k in
     record {
       starts = c.in_ok-push.ensures.items ∙ listed_push k (first plan s) c.loop-k.starts.items c.loop-k.next c.loop-k.invariant.starts c.loop-k.invariant.next;
       next = omega (arith, first_next plan s k, c.loop-k.invariant.next);

@@ -5,20 +5,20 @@ use Rattle.job_plan.proofs.plan.check_words.Goals as goal
 reaches : (p end parties at : ℕ) → p < parties → end ≡ parties → end ≤ at → p < at
 reaches p end parties at below same far = omega arith
 
-pub returns-then-words-gt-LIMIT : goal.returns-then-words-gt-LIMIT
-returns-then-words-gt-LIMIT c = (
+pub returns-then-words-gt-MOST_WORDS : goal.returns-then-words-gt-MOST_WORDS
+returns-then-words-gt-MOST_WORDS c = (
   c.requires,
   record {
     there = subst (λ n. c.loop-party.party < n) c.parties-party-end.ensures.is c.loop-party-test.true;
     is = c.word_count-words.ensures ∙ sym (tape_length_same c.args.outline.now c.loop-party.party);
-    over = c.if-words-gt-LIMIT.true;
+    over = c.if-words-gt-MOST_WORDS.true;
     first = c.loop-party.invariant;
   },
 )
 
 pub loop-party-preserved : goal.loop-party-preserved
 loop-party-preserved c =
-    below_more _ _ c.loop-party.invariant (subst (λ n. n ≤ 1048576) (c.word_count-words.ensures ∙ sym (tape_length_same c.args.outline.now c.loop-party.party)) c.if-words-gt-LIMIT.false)
+    below_more _ _ c.loop-party.invariant (subst (λ n. n ≤ 1048576) (c.word_count-words.ensures ∙ sym (tape_length_same c.args.outline.now c.loop-party.party)) c.if-words-gt-MOST_WORDS.false)
 
 pub returns : goal.returns
 returns c = record {

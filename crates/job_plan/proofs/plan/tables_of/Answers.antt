@@ -25,7 +25,7 @@ pub returns : goal.returns
 returns c = record {
   sound = sound_within c.args.outline.now c.parties.ensures.outline c.requires.kept c.requires.within;
   counted = c.requires.count;
-  lines = c.in_ok-patterns.ensures;
+  transfers = c.in_ok-patterns.ensures;
   begin = c.in_ok-starts.ensures;
   drawn = c.in_ok-words.ensures;
 }

@@ -14,9 +14,9 @@ returns-in_default-clause-absent c =
     let k = c.args.key.slot in
     let f = rank c.args.order in
     let by_key = c.in-Ok.ensures.position (λ held. f (named s k held)) (always_returns_same _ _ _ (λ a r g called. (search rules, search rules))) in
-    absent_beside s k c.args.lines.now f c.requires c.args.key c.in-Ok.at c.in-Ok.ensures.bound
-    (subst (λ w. IsBinarySearchResult (λ held. nat_cmp (f (named s k held)) w) c.args.lines.now (Ok c.in-Ok.at)) c.rank-wanted.ensures by_key)
-    (λ e. unequal _ c.args.key c.if-eq.ensures (c.named.ensures ∙ sym (named_at s k c.args.lines.now c.in-Ok.at c.in-Ok.ensures.bound) ∙ e))
+    absent_beside s k c.args.transfers.now f c.requires c.args.key c.in-Ok.at c.in-Ok.ensures.bound
+    (subst (λ w. IsBinarySearchResult (λ held. nat_cmp (f (named s k held)) w) c.args.transfers.now (Ok c.in-Ok.at)) c.rank-wanted.ensures by_key)
+    (λ e. unequal _ c.args.key c.if-eq.ensures (c.named.ensures ∙ sym (named_at s k c.args.transfers.now c.in-Ok.at c.in-Ok.ensures.bound) ∙ e))
 
 pub returns-in_default-2-clause-absent : goal.returns-in_default-2-clause-absent
 returns-in_default-2-clause-absent c =
@@ -24,5 +24,5 @@ returns-in_default-2-clause-absent c =
     let k = c.args.key.slot in
     let f = rank c.args.order in
     let by_key = c.binary_search_by_key.ensures.position (λ held. f (named s k held)) (always_returns_same _ _ _ (λ a r g called. (search rules, search rules))) in
-    let found = subst (λ w. IsBinarySearchResult (λ held. nat_cmp (f (named s k held)) w) c.args.lines.now c.binary_search_by_key.result) c.rank-wanted.ensures by_key in
-    absent_in_gap s k c.args.lines.now f c.requires c.args.key c.in_default.field-0 (subst (IsBinarySearchResult (λ held. nat_cmp (f (named s k held)) (f c.args.key)) c.args.lines.now) c.in_default.is found)
+    let found = subst (λ w. IsBinarySearchResult (λ held. nat_cmp (f (named s k held)) w) c.args.transfers.now c.binary_search_by_key.result) c.rank-wanted.ensures by_key in
+    absent_in_gap s k c.args.transfers.now f c.requires c.args.key c.in_default.field-0 (subst (IsBinarySearchResult (λ held. nat_cmp (f (named s k held)) (f c.args.key)) c.args.transfers.now) c.in_default.is found)

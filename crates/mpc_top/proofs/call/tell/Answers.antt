@@ -1,7 +1,7 @@
-use Rattle.std.proofs.Common.{sym, subst, refl}
+use Rattle.std.proofs.Common.{subst, refl}
 use Rattle.std.proofs.lemmas.Bool.{false≢true}
 use Rattle.command_words.specs.Commands.{command_of}
-use Rattle.mpc_top.specs.Stops.{RunsWords}
+use Rattle.mpc_top.specs.Outcomes.{RunsWords}
 use Rattle.mpc_top.proofs.Statuses.{done, told, failed}
 use Rattle.mpc_top.proofs.call.tell.Goals as goal
 

@@ -32,28 +32,28 @@ due_text count names w before after result n same written = subst (λ t. Writes 
 pub returns-in_err-ready : goal.returns-in_err-ready
 returns-in_err-ready g c = λ files. runs_memory (sample c.args.count) _ _ _ _ _ c.from_residual.ensures.1 refl refl (keeps_now _) refl
 
-pub write_sample-requires-clause-names : goal.write_sample-requires-clause-names
-write_sample-requires-clause-names g c = ap length c.requires.names ∙ sym (ap (λ (p : Plan). p.parties) c.requires.plan)
+pub write_sample-written-requires-clause-names : goal.write_sample-written-requires-clause-names
+write_sample-written-requires-clause-names g c = ap length c.requires.names ∙ sym (ap (λ (p : Plan). p.parties) c.requires.plan)
 
-pub write_sample-requires-clause-session : goal.write_sample-requires-clause-session
-write_sample-requires-clause-session g c = subst (λ (p : Plan). 0 < length p.sessions) (sym c.requires.plan) (omega arith)
+pub write_sample-written-requires-clause-session : goal.write_sample-written-requires-clause-session
+write_sample-written-requires-clause-session g c = subst (λ (p : Plan). 0 < length p.sessions) (sym c.requires.plan) (omega arith)
 
-pub write_sample-requires-clause-over : goal.write_sample-requires-clause-over
-write_sample-requires-clause-over g c =
-    let w = world_of_pieces c.args.plan.now c.args.inputs.now c.args.tapes.items in
+pub write_sample-written-requires-clause-over : goal.write_sample-written-requires-clause-over
+write_sample-written-requires-clause-over g c =
+    let w = world_of_pieces c.args.made.plan c.args.made.inputs c.args.made.tapes.items in
     (w, refl, c.run-done.ensures w refl c.in_ok-ready.ensures.ready)
 
-pub returns-in_err-write_sample : goal.returns-in_err-write_sample
-returns-in_err-write_sample g c = λ files.
-    let w = world_of_pieces c.args.plan.now c.args.inputs.now c.args.tapes.items in
-    let same = is_job c.args.count c.args.plan.now c.args.inputs.now c.args.tapes.items c.requires.plan c.requires.inputs c.requires.tapes in
-    cuts_due (sample c.args.count) _ _ _ _ _ _ _ c.from_residual-in_err-write_sample.ensures.1 (is_due c.args.count files.told) refl (keeps_now _) refl
-    (due_text c.args.count _ w _ _ _ c.requires.names same (c.in_err-write_sample.ensures w refl (c.run-done.ensures w refl c.in_ok-ready.ensures.ready)))
+pub returns-in_err-written : goal.returns-in_err-written
+returns-in_err-written g c = λ files.
+    let w = world_of_pieces c.args.made.plan c.args.made.inputs c.args.made.tapes.items in
+    let same = is_job c.args.count c.args.made.plan c.args.made.inputs c.args.made.tapes.items c.requires.plan c.requires.inputs c.requires.tapes in
+    cuts_due (sample c.args.count) _ _ _ _ _ _ _ c.from_residual-in_err-written.ensures.1 (is_due c.args.count files.told) refl (keeps_now _) refl
+    (due_text c.args.count _ w _ _ _ c.requires.names same (c.in_err-written.ensures w refl (c.run-done.ensures w refl c.in_ok-ready.ensures.ready)))
 
 pub returns : goal.returns
 returns g c = λ files.
-    let w = world_of_pieces c.args.plan.now c.args.inputs.now c.args.tapes.items in
-    let same = is_job c.args.count c.args.plan.now c.args.inputs.now c.args.tapes.items c.requires.plan c.requires.inputs c.requires.tapes in
+    let w = world_of_pieces c.args.made.plan c.args.made.inputs c.args.made.tapes.items in
+    let same = is_job c.args.count c.args.made.plan c.args.made.inputs c.args.made.tapes.items c.requires.plan c.requires.inputs c.requires.tapes in
     writes_due (sample c.args.count) _ _ _ _ _ _ (is_due c.args.count files.told) refl (keeps_now _) refl
-    (due_text c.args.count _ w _ _ _ c.requires.names same (c.in_ok-write_sample.ensures w refl (c.run-done.ensures w refl c.in_ok-ready.ensures.ready)))
+    (due_text c.args.count _ w _ _ _ c.requires.names same (c.in_ok-written.ensures w refl (c.run-done.ensures w refl c.in_ok-ready.ensures.ready)))
     tt

@@ -14,7 +14,7 @@ pub overflow_add-first : goal.overflow_add-first
 overflow_add-first g c =
     let wide = ap (λ (v : OutputValue). v.width) c.value_of-first.ensures in
     let count = ap length (c.outputs-v-end.ensures ∙ ap (λ (p : Session). p.outputs) c.part.ensures) in
-    omega (arith, wide, c.loop-v.invariant.first, few_wires c.args.plan.now c.args.s c.loop-v.v c.requires.sound c.requires.session (omega (arith, count)))
+    omega (arith, wide, c.loop-v.invariant.first, few_wires c.args.reader.now.plan.now c.args.s c.loop-v.v c.requires.sound c.requires.session (omega (arith, count)))
 
 pub loop-v-init : goal.loop-v-init
 loop-v-init g c = record { first = refl; text = adds_nothing _ }
@@ -23,6 +23,6 @@ pub loop-v-preserved : goal.loop-v-preserved
 loop-v-preserved g c = record {
   first =
       let wide = ap (λ (v : OutputValue). v.width) c.value_of-first.ensures in
-      ap₂ (λ n m. n + m) c.loop-v.invariant.first wide ∙ sym (total_more c.loop-v.v (λ u. (output_value (session c.args.plan.now c.args.s) u).width));
-  text = adds_more c.loop-v.v (value_line c.args.reader.now c.args.plan.now c.args.me c.args.done.now c.args.s) _ _ _ _ refl c.loop-v.invariant.text c.gather_value.ensures;
+      ap₂ (λ n m. n + m) c.loop-v.invariant.first wide ∙ sym (total_more c.loop-v.v (λ u. (output_value (session c.args.reader.now.plan.now c.args.s) u).width));
+  text = adds_more c.loop-v.v (value_line c.args.reader.now.name.now c.args.reader.now.plan.now c.args.reader.now.party c.args.reader.now.done.now c.args.s) _ _ _ _ refl c.loop-v.invariant.text c.gather_value.ensures;
 }

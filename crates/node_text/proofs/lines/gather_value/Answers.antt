@@ -13,17 +13,17 @@ use Rattle.node_text.proofs.lines.gather_value.Goals as goal
 pub gather_words-requires-clause-few : goal.gather_words-requires-clause-few
 gather_words-requires-clause-few g c =
     let wide = ap (λ (v : OutputValue). v.width) c.value_of.ensures in
-    omega (arith, wide, c.requires.first, few_wires c.args.plan.now c.args.s c.args.v c.requires.sound c.requires.session c.requires.value)
+    omega (arith, wide, c.requires.first, few_wires c.args.reader.now.plan.now c.args.s c.args.v c.requires.sound c.requires.session c.requires.value)
 
 pub returns-then-not-is_read : goal.returns-then-not-is_read
 returns-then-not-is_read g c =
-    let reads : has_party (output_value (session c.args.plan.now c.args.s) c.args.v).readers.mask c.args.me ≡ false = sym c.is_read.ensures ∙ c.if-not-is_read.true in
-    adds_same _ _ _ _ (sym (cond-false (has_party (output_value (session c.args.plan.now c.args.s) c.args.v).readers.mask c.args.me) _ [] reads)) (adds_nothing _)
+    let reads : has_party (output_value (session c.args.reader.now.plan.now c.args.s) c.args.v).readers.mask c.args.reader.now.party ≡ false = sym c.is_read.ensures ∙ c.if-not-is_read.true in
+    adds_same _ _ _ _ (sym (cond-false (has_party (output_value (session c.args.reader.now.plan.now c.args.s) c.args.v).readers.mask c.args.reader.now.party) _ [] reads)) (adds_nothing _)
 
 pub returns : goal.returns
 returns g c =
-    let reads : has_party (output_value (session c.args.plan.now c.args.s) c.args.v).readers.mask c.args.me ≡ true = sym c.is_read.ensures ∙ c.if-not-is_read.false in
+    let reads : has_party (output_value (session c.args.reader.now.plan.now c.args.s) c.args.v).readers.mask c.args.reader.now.party ≡ true = sym c.is_read.ensures ∙ c.if-not-is_read.false in
     let wide = ap (λ (v : OutputValue). v.width) c.value_of.ensures in
-    let line = λ (n : ℕ) (m : ℕ). out_line c.args.s c.args.v c.args.reader.now (output_words c.args.done.now c.args.s n m) in
-    adds_same _ _ _ _ (ap₂ line c.requires.first wide ∙ sym (cond-true (has_party (output_value (session c.args.plan.now c.args.s) c.args.v).readers.mask c.args.me) _ [] reads))
+    let line = λ (n : ℕ) (m : ℕ). out_line c.args.s c.args.v c.args.reader.now.name.now (output_words c.args.reader.now.done.now c.args.s n m) in
+    adds_same _ _ _ _ (ap₂ line c.requires.first wide ∙ sym (cond-true (has_party (output_value (session c.args.reader.now.plan.now c.args.s) c.args.v).readers.mask c.args.reader.now.party) _ [] reads))
     (adds_then _ _ _ _ _ c.gather_head.ensures (adds_then _ _ _ _ _ c.gather_words.ensures c.push.ensures))

@@ -13,8 +13,8 @@ use Rattle.output_text.proofs.sample.gather_sample.Goals as goal
 pub returns : goal.returns
 unfolding sample_text
 returns g c = λ w same f.
-    let plan = c.args.plan.now in
+    let plan = c.args.run.now.plan.now in
     let multiplied = adds_same _ _ _ _ (ap (count_line (codes "products")) (c.products.ensures ∙ ap products c.part.ensures ∙ ap (λ (p : Plan). products (session p 0)) (sym same))) c.gather_count-2.ensures in
     let sent = adds_same _ _ _ _ (ap (count_line (codes "messages")) (c.messages.ensures ∙ ap (λ (p : Plan). length (messages p)) (sym same))) c.gather_count-3.ensures in
-    let drawn = adds_same _ _ _ _ (ap (λ (p : Plan). joined p.parties (words_line c.args.names.now p)) (sym same)) c.gather_tapes.ensures in
+    let drawn = adds_same _ _ _ _ (ap (λ (p : Plan). joined p.parties (words_line c.args.run.now.names.now p)) (sym same)) c.gather_tapes.ensures in
     adds_then _ _ _ _ _ c.gather_count.ensures (adds_then _ _ _ _ _ multiplied (adds_then _ _ _ _ _ sent (adds_then _ _ _ _ _ drawn (c.gather_out.ensures w same f))))

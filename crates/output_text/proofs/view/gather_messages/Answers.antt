@@ -12,11 +12,11 @@ loop-s-init g c = λ w same f. adds_nothing _
 
 pub loop-s-preserved : goal.loop-s-preserved
 loop-s-preserved g c = λ w same f.
-    adds_more c.loop-s.s (session_seen c.args.names.now w c.args.group.mask) _ _ _ _ refl (c.loop-s.invariant w same f) (c.gather_session.ensures w same f)
+    adds_more c.loop-s.s (session_seen c.args.run.now.names.now w c.args.group.mask) _ _ _ _ refl (c.loop-s.invariant w same f) (c.gather_session.ensures w same f)
 
 pub returns : goal.returns
 returns g c = λ w same f.
     let all : c.loop-s.s ≡ length w.plan.sessions = omega (arith, c.sessions-s-end.ensures, ap (λ p. length p.sessions) same) in
     adds_same _ _ _ _
-    (ap (λ n. joined n (session_seen c.args.names.now w c.args.group.mask)) all ∙ sym (seen-joined c.args.names.now w c.args.group.mask (length w.plan.sessions) (session_messages w.plan)))
+    (ap (λ n. joined n (session_seen c.args.run.now.names.now w c.args.group.mask)) all ∙ sym (seen-joined c.args.run.now.names.now w c.args.group.mask (length w.plan.sessions) (session_messages w.plan)))
     (c.loop-s.invariant w same f)

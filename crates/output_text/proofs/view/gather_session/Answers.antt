@@ -13,12 +13,12 @@ loop-k-init g c = λ w same f. adds_nothing _
 
 pub loop-k-preserved : goal.loop-k-preserved
 loop-k-preserved g c = λ w same f.
-    adds_more c.loop-k.k (slot_seen c.args.names.now w c.args.group.mask c.args.s) _ _ _ _ refl (c.loop-k.invariant w same f) (c.gather_slot.ensures w same f)
+    adds_more c.loop-k.k (slot_seen c.args.run.now.names.now w c.args.group.mask c.args.s) _ _ _ _ refl (c.loop-k.invariant w same f) (c.gather_slot.ensures w same f)
 
 pub returns : goal.returns
 returns g c = λ w same f.
     let all : c.loop-k.k ≡ slots w.plan c.args.s = omega (arith, c.slots-k-end.ensures, ap (λ p. slots p c.args.s) same) in
     adds_same _ _ _ _
-    (ap (λ n. joined n (slot_seen c.args.names.now w c.args.group.mask c.args.s)) all
-    ∙ sym (seen-joined c.args.names.now w c.args.group.mask (slots w.plan c.args.s) (λ k. slot_messages w.plan c.args.s k (slot w.plan c.args.s k))))
+    (ap (λ n. joined n (slot_seen c.args.run.now.names.now w c.args.group.mask c.args.s)) all
+    ∙ sym (seen-joined c.args.run.now.names.now w c.args.group.mask (slots w.plan c.args.s) (λ k. slot_messages w.plan c.args.s k (slot w.plan c.args.s k))))
     (c.loop-k.invariant w same f)

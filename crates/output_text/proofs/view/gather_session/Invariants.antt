@@ -8,5 +8,5 @@ use Rattle.output_text.proofs.view.gather_session.Given as goal
 
 abbrev pub invariant-loop-k : goal.invariant-loop-k
 invariant-loop-k g l =
-    (w : World) → w.plan ≡ l.plan → IsOver w l.done
-    → Adds (joined l.k (slot_seen l.names w l.group.mask l.s)) (g.G.Gather.gathered l.fn.out) (g.G.Gather.gathered l.out)
+    (w : World) → w.plan ≡ l.run.plan.now → IsOver w l.run.done.now
+    → Adds (joined l.k (slot_seen l.run.names.now w l.group.mask l.s)) (g.G.Gather.gathered l.fn.out) (g.G.Gather.gathered l.out)

@@ -3,7 +3,7 @@ use Rattle.std.specs.Prelude.{slice_index_or}
 use Rattle.list_laws.specs.Lists.{joined}
 use Rattle.outer_io.specs.Blocks.{Adds}
 use Rattle.job_plan.specs.Patterns.{named}
-use Rattle.job_plan.proofs.RankSearch.{no_line}
+use Rattle.job_plan.proofs.RankSearch.{no_transfer}
 use Rattle.share_world.specs.Worlds.{World}
 use Rattle.desk_workers.specs.Runs.{IsOver}
 use Rattle.output_text.specs.Seen.{seen_lines}
@@ -11,5 +11,5 @@ use Rattle.output_text.proofs.view.gather_slot.Given as goal
 
 abbrev pub invariant-loop-i : goal.invariant-loop-i
 invariant-loop-i g l =
-    (w : World) → w.plan ≡ l.plan → IsOver w l.done
-    → Adds (joined l.i (λ i. seen_lines l.names w l.group.mask (named l.s l.k (slice_index_or l.lines i no_line) ∷ []))) (g.G.Gather.gathered l.fn.out) (g.G.Gather.gathered l.out)
+    (w : World) → w.plan ≡ l.run.plan.now → IsOver w l.run.done.now
+    → Adds (joined l.i (λ i. seen_lines l.run.names.now w l.group.mask (named l.s l.k (slice_index_or l.transfers i no_transfer) ∷ []))) (g.G.Gather.gathered l.fn.out) (g.G.Gather.gathered l.out)

@@ -27,4 +27,4 @@ returns-clause-filled c =
     let long = length-set table (gate.output * m) x in
     let still_long = length-set (set table (gate.output * m) x) (gate.output * m + 1) y in
     let all = fill_step m _ before gate.output new 2 c.local_summand-third.result two (omega arith) (omega (arith, c.requires.rows.2)) (c.local_summand-third.ensures.is 2 refl) in
-    λ v i l. all v i l ∙ fill_end m before gate.output new v i l
+    λ number i l. all number i l ∙ fill_end m before gate.output new number i l

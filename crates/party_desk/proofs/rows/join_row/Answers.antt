@@ -20,9 +20,9 @@ loop-i-preserved c =
     let e : ℕ = c.args.excess.1 in
     let new : ℕ → ℕ = joined_summand q d e (f g.first) (f g.second) (f g.output) in
     let h = c.loop-i.invariant.rows in record {
-      small = All-set (λ y. y < q) c.loop-i.table (c.args.v * m + i) c.joined.result c.joined.ensures.below c.loop-i.invariant.small;
-      rows = fill_step m c.loop-i.table f c.args.v new i _ h (omega arith) (omega arith)
+      small = All-set (λ y. y < q) c.loop-i.table (c.args.number * m + i) c.joined.result c.joined.ensures.below c.loop-i.invariant.small;
+      rows = fill_step m c.loop-i.table f c.args.number new i _ h (omega arith) (omega arith)
           (c.joined.ensures.is
           ∙ same_summand q d e i _ _ _ (f g.first i) (f g.second i) (f g.output i)
-          (h g.first i (omega arith) ∙ fill_unread f c.args.v new i g.first) (h g.second i (omega arith) ∙ fill_unread f c.args.v new i g.second) (h g.output i (omega arith) ∙ fill_unread f c.args.v new i g.output));
+          (h g.first i (omega arith) ∙ fill_unread f c.args.number new i g.first) (h g.second i (omega arith) ∙ fill_unread f c.args.number new i g.second) (h g.output i (omega arith) ∙ fill_unread f c.args.number new i g.output));
     }

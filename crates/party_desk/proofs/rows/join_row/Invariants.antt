@@ -7,5 +7,5 @@ use Rattle.party_desk.proofs.rows.join_row.Given as goal
 abbrev pub invariant-loop-i : goal.invariant-loop-i
 invariant-loop-i l = record {
   small : All (λ x. x < 2 ^ l.ring) l.table;
-  rows : SameRows l.shares (row l.shares l.table) (filled_to (row l.shares l.fn.table) l.v (joined_summand (2 ^ l.ring) l.excess.0 l.excess.1 (row l.shares l.fn.table l.masks.first) (row l.shares l.fn.table l.masks.second) (row l.shares l.fn.table l.masks.output)) l.i);
+  rows : SameRows l.shares (row l.shares l.table) (filled_to (row l.shares l.fn.table) l.number (joined_summand (2 ^ l.ring) l.excess.0 l.excess.1 (row l.shares l.fn.table l.masks.first) (row l.shares l.fn.table l.masks.second) (row l.shares l.fn.table l.masks.output)) l.i);
 }

@@ -98,8 +98,8 @@ module _ (plan : Plan) (p s t : ℕ) (ls : s < length plan.sessions) (alone : Ha
 
 pub push_reserved-requires : goal.push_reserved-requires
 push_reserved-requires c =
-    let there = lk c.args.plan.now c.args.p c.args.s c.loop-gate.gate-index c.requires.session c.requires.alone _ c.part.ensures _ c.gates-gate-items.ensures c.loop-gate-test.true in
-    room_left c.args.plan.now c.args.p c.args.s _ c.loop-gate.list c.loop-gate.tally c.loop-gate.invariant (omega (arith, there))
+    let there = lk c.args.own.now.plan.now c.args.own.now.party c.args.own.now.session c.loop-gate.gate-index c.requires.steps.session c.requires.alone _ c.part.ensures _ c.gates-gate-items.ensures c.loop-gate-test.true in
+    room_left c.args.own.now.plan.now c.args.own.now.party c.args.own.now.session _ c.loop-gate.list c.loop-gate.tally c.loop-gate.invariant (omega (arith, there))
 
 -- a product has few steps
 module _ (plan : Plan) (p s : ℕ) (heads ends : StepTable) (are_heads : AreSteps plan p s Head heads) (are_tails : AreSteps plan p s Tail ends) (sound : IsSound plan) (a b : List Step)
@@ -111,36 +111,36 @@ module _ (plan : Plan) (p s : ℕ) (heads ends : StepTable) (are_heads : AreStep
   few = let all = both_of in let short = product_few plan p sound in omega (arith, all, short)
 
 pub overflow_add-steps : goal.overflow_add-steps
-overflow_add-steps c = let all = few c.args.plan.now c.args.p c.args.s c.args.heads.now c.args.tails.now c.requires.heads c.requires.tails c.parties.ensures.sound c.of_product.result.now c.of_product-2.result.now c.of_product.ensures c.of_product-2.ensures in omega (arith, all)
+overflow_add-steps c = let all = few c.args.own.now.plan.now c.args.own.now.party c.args.own.now.session c.args.own.now.heads.now c.args.own.now.tails.now c.requires.steps.heads c.requires.steps.tails c.parties.ensures.sound c.of_product.result.now c.of_product-2.result.now c.of_product.ensures c.of_product-2.ensures in omega (arith, all)
 
 pub overflow_cast-steps : goal.overflow_cast-steps
-overflow_cast-steps c = let all = few c.args.plan.now c.args.p c.args.s c.args.heads.now c.args.tails.now c.requires.heads c.requires.tails c.parties.ensures.sound c.of_product.result.now c.of_product-2.result.now c.of_product.ensures c.of_product-2.ensures in omega (arith, all)
+overflow_cast-steps c = let all = few c.args.own.now.plan.now c.args.own.now.party c.args.own.now.session c.args.own.now.heads.now c.args.own.now.tails.now c.requires.steps.heads c.requires.steps.tails c.parties.ensures.sound c.of_product.result.now c.of_product-2.result.now c.of_product.ensures c.of_product-2.ensures in omega (arith, all)
 
 -- a product has as many instructions as were added
 module _ (c : goal.Then-is_product) where
-  there : length (owners (session c.args.plan.now c.args.s)) + c.loop-gate.gate-index < slots c.args.plan.now c.args.s
-  there = lk c.args.plan.now c.args.p c.args.s c.loop-gate.gate-index c.requires.session c.requires.alone _ c.part.ensures _ c.gates-gate-items.ensures c.loop-gate-test.true
+  there : length (owners (session c.args.own.now.plan.now c.args.own.now.session)) + c.loop-gate.gate-index < slots c.args.own.now.plan.now c.args.own.now.session
+  there = lk c.args.own.now.plan.now c.args.own.now.party c.args.own.now.session c.loop-gate.gate-index c.requires.steps.session c.requires.alone _ c.part.ensures _ c.gates-gate-items.ensures c.loop-gate-test.true
 
-  many : length c.of_product.result.now + length c.of_product-2.result.now ≡ length (slot_program c.args.plan.now c.args.p c.args.s (length (owners (session c.args.plan.now c.args.s)) + c.loop-gate.gate-index))
+  many : length c.of_product.result.now + length c.of_product-2.result.now ≡ length (slot_program c.args.own.now.plan.now c.args.own.now.party c.args.own.now.session (length (owners (session c.args.own.now.plan.now c.args.own.now.session)) + c.loop-gate.gate-index))
   many =
-      both_of c.args.plan.now c.args.p c.args.s c.args.heads.now c.args.tails.now c.requires.heads c.requires.tails c.parties.ensures.sound c.of_product.result.now c.of_product-2.result.now c.of_product.ensures c.of_product-2.ensures
-      ∙ sym (count c.args.plan.now c.args.p c.args.s c.loop-gate.gate-index c.requires.session c.requires.alone _ c.part.ensures _ c.gates-gate-items.ensures c.loop-gate-test.true _ true c.is_product.ensures c.if-is_product.true (plan_is c.args.plan.now c.parties.ensures.sound))
+      both_of c.args.own.now.plan.now c.args.own.now.party c.args.own.now.session c.args.own.now.heads.now c.args.own.now.tails.now c.requires.steps.heads c.requires.steps.tails c.parties.ensures.sound c.of_product.result.now c.of_product-2.result.now c.of_product.ensures c.of_product-2.ensures
+      ∙ sym (count c.args.own.now.plan.now c.args.own.now.party c.args.own.now.session c.loop-gate.gate-index c.requires.steps.session c.requires.alone _ c.part.ensures _ c.gates-gate-items.ensures c.loop-gate-test.true _ true c.is_product.ensures c.if-is_product.true (plan_is c.args.own.now.plan.now c.parties.ensures.sound))
 
 pub overflow_add-tally : goal.overflow_add-tally
-overflow_add-tally c = let all = instructions_fit c.args.plan.now c.args.p c.args.s _ c.loop-gate.list c.loop-gate.tally c.loop-gate.invariant _ c.parties.ensures.sound c.requires.session (there c) (many c) in omega (arith, all)
+overflow_add-tally c = let all = instructions_fit c.args.own.now.plan.now c.args.own.now.party c.args.own.now.session _ c.loop-gate.list c.loop-gate.tally c.loop-gate.invariant _ c.parties.ensures.sound c.requires.steps.session (there c) (many c) in omega (arith, all)
 
 pub overflow_add-tally-else-is_product : goal.overflow_add-tally-else-is_product
 overflow_add-tally-else-is_product c =
-    let there = lk c.args.plan.now c.args.p c.args.s c.loop-gate.gate-index c.requires.session c.requires.alone _ c.part.ensures _ c.gates-gate-items.ensures c.loop-gate-test.true in
-    let one = count c.args.plan.now c.args.p c.args.s c.loop-gate.gate-index c.requires.session c.requires.alone _ c.part.ensures _ c.gates-gate-items.ensures c.loop-gate-test.true _ false c.is_product.ensures c.if-is_product.false (plan_is c.args.plan.now c.parties.ensures.sound) in
-    let all = instructions_fit c.args.plan.now c.args.p c.args.s _ c.loop-gate.list c.loop-gate.tally c.loop-gate.invariant 1 c.parties.ensures.sound c.requires.session there (sym one) in
+    let there = lk c.args.own.now.plan.now c.args.own.now.party c.args.own.now.session c.loop-gate.gate-index c.requires.steps.session c.requires.alone _ c.part.ensures _ c.gates-gate-items.ensures c.loop-gate-test.true in
+    let one = count c.args.own.now.plan.now c.args.own.now.party c.args.own.now.session c.loop-gate.gate-index c.requires.steps.session c.requires.alone _ c.part.ensures _ c.gates-gate-items.ensures c.loop-gate-test.true _ false c.is_product.ensures c.if-is_product.false (plan_is c.args.own.now.plan.now c.parties.ensures.sound) in
+    let all = instructions_fit c.args.own.now.plan.now c.args.own.now.party c.args.own.now.session _ c.loop-gate.list c.loop-gate.tally c.loop-gate.invariant 1 c.parties.ensures.sound c.requires.steps.session there (sym one) in
     omega (arith, all)
 
 pub loop-gate-preserved : goal.loop-gate-preserved
 loop-gate-preserved c =
-    let plan = c.args.plan.now in
-    let p = c.args.p in
-    let s = c.args.s in
+    let plan = c.args.own.now.plan.now in
+    let p = c.args.own.now.party in
+    let s = c.args.own.now.session in
     let k : ℕ = length (owners (session plan s)) + c.loop-gate.gate-index in
     let next : k + 1 ≡ length (owners (session plan s)) + (c.loop-gate.gate-index + 1) = omega arith in
     let grown = one_more plan p s k c.loop-gate.list c.loop-gate.tally c.loop-gate.invariant c.push_reserved.new.self in
@@ -148,15 +148,15 @@ loop-gate-preserved c =
     (elim c.if-is_product.branch [
       | then-is_product w ↦
           let deals = c.from-deals.ensures ∙ as_number c.multiplies.result ∙ ap (λ b. if b then 1 else 0)
-          (c.multiplies.ensures ∙ sym (dealt plan p s c.loop-gate.gate-index c.requires.session c.requires.alone _ c.part.ensures _ c.gates-gate-items.ensures c.loop-gate-test.true _ true c.is_product.ensures w.if-is_product.true)) in
-          let count = both_of plan p s c.args.heads.now c.args.tails.now c.requires.heads c.requires.tails c.parties.ensures.sound c.of_product.result.now c.of_product-2.result.now c.of_product.ensures c.of_product-2.ensures
-          ∙ sym (count plan p s c.loop-gate.gate-index c.requires.session c.requires.alone _ c.part.ensures _ c.gates-gate-items.ensures c.loop-gate-test.true _ true c.is_product.ensures w.if-is_product.true (plan_is c.args.plan.now c.parties.ensures.sound)) in
+          (c.multiplies.ensures ∙ sym (dealt plan p s c.loop-gate.gate-index c.requires.steps.session c.requires.alone _ c.part.ensures _ c.gates-gate-items.ensures c.loop-gate-test.true _ true c.is_product.ensures w.if-is_product.true)) in
+          let count = both_of plan p s c.args.own.now.heads.now c.args.own.now.tails.now c.requires.steps.heads c.requires.steps.tails c.parties.ensures.sound c.of_product.result.now c.of_product-2.result.now c.of_product.ensures c.of_product-2.ensures
+          ∙ sym (count plan p s c.loop-gate.gate-index c.requires.steps.session c.requires.alone _ c.part.ensures _ c.gates-gate-items.ensures c.loop-gate-test.true _ true c.is_product.ensures w.if-is_product.true (plan_is c.args.own.now.plan.now c.parties.ensures.sound)) in
           subst (AreDeals plan p s (k + 1) c.push_reserved.new.self) (sym w.tally-is)
           (grown (length c.of_product.result.now + length c.of_product-2.result.now) c.from-deals.result c.push_reserved.ensures.items c.push_reserved.ensures.capacity count deals)
       | else-is_product w ↦
           let none : 0 ≡ (if deals_in plan s p (slot plan s k) then 1 else 0) = ap (λ b. if b then 1 else 0)
-          (sym (dealt plan p s c.loop-gate.gate-index c.requires.session c.requires.alone _ c.part.ensures _ c.gates-gate-items.ensures c.loop-gate-test.true _ false c.is_product.ensures w.if-is_product.false)) in
-          let count = sym (count plan p s c.loop-gate.gate-index c.requires.session c.requires.alone _ c.part.ensures _ c.gates-gate-items.ensures c.loop-gate-test.true _ false c.is_product.ensures w.if-is_product.false (plan_is c.args.plan.now c.parties.ensures.sound)) in
+          (sym (dealt plan p s c.loop-gate.gate-index c.requires.steps.session c.requires.alone _ c.part.ensures _ c.gates-gate-items.ensures c.loop-gate-test.true _ false c.is_product.ensures w.if-is_product.false)) in
+          let count = sym (count plan p s c.loop-gate.gate-index c.requires.steps.session c.requires.alone _ c.part.ensures _ c.gates-gate-items.ensures c.loop-gate-test.true _ false c.is_product.ensures w.if-is_product.false (plan_is c.args.own.now.plan.now c.parties.ensures.sound)) in
           let still : c.loop-gate.tally.deals + 0 ≡ c.loop-gate.tally.deals = omega arith in
           subst (AreDeals plan p s (k + 1) c.push_reserved.new.self) (ap (λ n. record { instructions = c.loop-gate.tally.instructions + 1; deals = n }) still ∙ sym w.tally-is)
           (grown 1 0 c.push_reserved.ensures.items c.push_reserved.ensures.capacity count none)

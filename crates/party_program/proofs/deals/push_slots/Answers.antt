@@ -18,7 +18,7 @@ use Rattle.party_program.proofs.GrownDeals.{as_number, room_left, instructions_f
 use Rattle.party_program.proofs.deals.push_slots.Goals as goal
 
 pub push_reserved-requires : goal.push_reserved-requires
-push_reserved-requires c = room_left c.args.plan.now c.args.p c.args.s c.loop-k.k c.loop-k.list c.loop-k.tally c.loop-k.invariant (omega (arith, c.requires.slots.1))
+push_reserved-requires c = room_left c.args.own.now.plan.now c.args.own.now.party c.args.own.now.session c.loop-k.k c.loop-k.list c.loop-k.tally c.loop-k.invariant (omega (arith, c.requires.slots.1))
 
 -- the steps that were found for both halves of a slot are as many as its instructions
 module _ (plan : Plan) (p s k : ℕ) (heads ends : StepTable) (are_heads : AreSteps plan p s Head heads) (are_tails : AreSteps plan p s Tail ends) (sound : IsSound plan) (ls : s < length plan.sessions) (lk : k < slots plan s)
@@ -33,43 +33,43 @@ module _ (plan : Plan) (p s k : ℕ) (heads ends : StepTable) (are_heads : AreSt
 
 pub overflow_add-tally-in-loop-k : goal.overflow_add-tally-in-loop-k
 overflow_add-tally-in-loop-k c =
-    let plan = c.args.plan.now in
+    let plan = c.args.own.now.plan.now in
     let k = c.loop-k.k in
-    let lk : k < slots plan c.args.s = omega (arith, c.requires.slots.1) in
+    let lk : k < slots plan c.args.own.now.session = omega (arith, c.requires.slots.1) in
     let its = c.pattern-pattern in
-    let all = as_many plan c.args.p c.args.s k c.args.heads.now c.args.tails.now c.requires.heads c.requires.tails c.parties.ensures.sound c.requires.session lk its.result its.ensures.is c.of.result.now c.of-in-loop-k.result.now c.of.ensures c.of-in-loop-k.ensures in
-    let fits = instructions_fit plan c.args.p c.args.s k c.loop-k.list c.loop-k.tally c.loop-k.invariant _ c.parties.ensures.sound c.requires.session lk all in
+    let all = as_many plan c.args.own.now.party c.args.own.now.session k c.args.own.now.heads.now c.args.own.now.tails.now c.requires.steps.heads c.requires.steps.tails c.parties.ensures.sound c.requires.steps.session lk its.result its.ensures.is c.of.result.now c.of-in-loop-k.result.now c.of.ensures c.of-in-loop-k.ensures in
+    let fits = instructions_fit plan c.args.own.now.party c.args.own.now.session k c.loop-k.list c.loop-k.tally c.loop-k.invariant _ c.parties.ensures.sound c.requires.steps.session lk all in
     omega arith
 
 pub overflow_cast-tally : goal.overflow_cast-tally
 overflow_cast-tally c =
-    let plan = c.args.plan.now in
+    let plan = c.args.own.now.plan.now in
     let k = c.loop-k.k in
-    let lk : k < slots plan c.args.s = omega (arith, c.requires.slots.1) in
+    let lk : k < slots plan c.args.own.now.session = omega (arith, c.requires.slots.1) in
     let its = c.pattern-pattern in
-    let all = as_many plan c.args.p c.args.s k c.args.heads.now c.args.tails.now c.requires.heads c.requires.tails c.parties.ensures.sound c.requires.session lk its.result its.ensures.is c.of.result.now c.of-in-loop-k.result.now c.of.ensures c.of-in-loop-k.ensures in
-    let fits = instructions_fit plan c.args.p c.args.s k c.loop-k.list c.loop-k.tally c.loop-k.invariant _ c.parties.ensures.sound c.requires.session lk all in
+    let all = as_many plan c.args.own.now.party c.args.own.now.session k c.args.own.now.heads.now c.args.own.now.tails.now c.requires.steps.heads c.requires.steps.tails c.parties.ensures.sound c.requires.steps.session lk its.result its.ensures.is c.of.result.now c.of-in-loop-k.result.now c.of.ensures c.of-in-loop-k.ensures in
+    let fits = instructions_fit plan c.args.own.now.party c.args.own.now.session k c.loop-k.list c.loop-k.tally c.loop-k.invariant _ c.parties.ensures.sound c.requires.steps.session lk all in
     omega arith
 
 pub overflow_add-tally : goal.overflow_add-tally
 overflow_add-tally c =
-    let plan = c.args.plan.now in
+    let plan = c.args.own.now.plan.now in
     let k = c.loop-k.k in
-    let lk : k < slots plan c.args.s = omega (arith, c.requires.slots.1) in
+    let lk : k < slots plan c.args.own.now.session = omega (arith, c.requires.slots.1) in
     let its = c.pattern-pattern in
-    let all = as_many plan c.args.p c.args.s k c.args.heads.now c.args.tails.now c.requires.heads c.requires.tails c.parties.ensures.sound c.requires.session lk its.result its.ensures.is c.of.result.now c.of-in-loop-k.result.now c.of.ensures c.of-in-loop-k.ensures in
-    let fits = instructions_fit plan c.args.p c.args.s k c.loop-k.list c.loop-k.tally c.loop-k.invariant _ c.parties.ensures.sound c.requires.session lk all in
+    let all = as_many plan c.args.own.now.party c.args.own.now.session k c.args.own.now.heads.now c.args.own.now.tails.now c.requires.steps.heads c.requires.steps.tails c.parties.ensures.sound c.requires.steps.session lk its.result its.ensures.is c.of.result.now c.of-in-loop-k.result.now c.of.ensures c.of-in-loop-k.ensures in
+    let fits = instructions_fit plan c.args.own.now.party c.args.own.now.session k c.loop-k.list c.loop-k.tally c.loop-k.invariant _ c.parties.ensures.sound c.requires.steps.session lk all in
     omega arith
 
 pub loop-k-preserved : goal.loop-k-preserved
 loop-k-preserved c =
-    let plan = c.args.plan.now in
-    let p = c.args.p in
-    let s = c.args.s in
+    let plan = c.args.own.now.plan.now in
+    let p = c.args.own.now.party in
+    let s = c.args.own.now.session in
     let k = c.loop-k.k in
     let lk : k < slots plan s = omega (arith, c.requires.slots.1) in
     let its = c.pattern-pattern in
-    let all = as_many plan p s k c.args.heads.now c.args.tails.now c.requires.heads c.requires.tails c.parties.ensures.sound c.requires.session lk its.result its.ensures.is c.of.result.now c.of-in-loop-k.result.now c.of.ensures c.of-in-loop-k.ensures in
+    let all = as_many plan p s k c.args.own.now.heads.now c.args.own.now.tails.now c.requires.steps.heads c.requires.steps.tails c.parties.ensures.sound c.requires.steps.session lk its.result its.ensures.is c.of.result.now c.of-in-loop-k.result.now c.of.ensures c.of-in-loop-k.ensures in
     let added : c.from.result ≡ (if deals_in plan s p (slot plan s k) then 1 else 0) =
     c.from.ensures
     ∙ as_number c.deals_in.result

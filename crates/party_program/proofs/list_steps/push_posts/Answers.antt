@@ -1,22 +1,22 @@
 use Rattle.std.proofs.Common.{length, [], ◌∷◌, ◌++◌, nat_eq, ap, ◌∙◌, arith}
 use Rattle.std.specs.Prelude.{slice_index_or}
 use Rattle.list_laws.specs.Lists.{only_if}
-use Rattle.job_plan.specs.declared.pattern.Line.{Line}
+use Rattle.job_plan.specs.declared.pattern.Transfer.{Transfer}
 use Rattle.party_program.specs.declared.step.Step.TheVariants.{Post}
 use Rattle.party_program.specs.PartySteps.{post_step, is_from}
-use Rattle.party_program.proofs.FewLines.{few_lines}
+use Rattle.party_program.proofs.FewTransfers.{few_transfers}
 use Rattle.party_program.proofs.GrownLists.{passing_step}
 use Rattle.party_program.proofs.list_steps.push_posts.Goals as goal
 
 pub overflow_cast-step : goal.overflow_cast-step
 overflow_cast-step c =
-    let few = few_lines c.args.plan.now c.parties.ensures.sound c.args.pattern in
-    let long = ap (length {A = Line}) c.lines-lines.ensures in
+    let few = few_transfers c.args.plan.now c.parties.ensures.sound c.args.pattern in
+    let long = ap (length {A = Transfer}) c.transfers-transfers.ensures in
     omega arith
 
 pub loop-place-preserved : goal.loop-place-preserved
 loop-place-preserved c =
-    let none : Line = record { share = 0; sender = 0; receiver = 0 } in
-    let line = slice_index_or c.lines-lines.result.now c.loop-place.place none in
-    passing_step post_step (is_from c.args.p) c.lines-lines.result.now c.loop-place.place none c.args.list.now c.loop-place.list _ c.loop-place-test.true c.loop-place.invariant
-    (c.in_ok-push_if.ensures ∙ ap (λ n. c.loop-place.list ++ only_if (nat_eq n c.args.p) (Post line.share c.loop-place.place ∷ [])) c.from.ensures)
+    let none : Transfer = record { share = 0; sender = 0; receiver = 0 } in
+    let transfer = slice_index_or c.transfers-transfers.result.now c.loop-place.place none in
+    passing_step post_step (is_from c.args.p) c.transfers-transfers.result.now c.loop-place.place none c.args.list.now c.loop-place.list _ c.loop-place-test.true c.loop-place.invariant
+    (c.in_ok-push_if.ensures ∙ ap (λ n. c.loop-place.list ++ only_if (nat_eq n c.args.p) (Post transfer.share c.loop-place.place ∷ [])) c.from.ensures)

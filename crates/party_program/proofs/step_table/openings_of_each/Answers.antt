@@ -36,8 +36,8 @@ loop-k-init c = record {
       absurd (omega (arith, first, lk, ends_within plan s, (opened_last plan s k group (omega (arith, first, lk, ends_within plan s)) is).0)));
 }
 
-pub add_opening-requires-clause-slot : goal.add_opening-requires-clause-slot
-add_opening-requires-clause-slot c =
+pub pattern-pattern-requires-clause-slot : goal.pattern-pattern-requires-clause-slot
+pattern-pattern-requires-clause-slot c =
     let plan = c.args.plan.now in
     let s = c.args.s in
     let many = outputs_are plan s c.output_wires.result c.part-part.result.now c.part-part.ensures c.output_wires.ensures in

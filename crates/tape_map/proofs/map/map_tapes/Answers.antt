@@ -5,6 +5,7 @@ use Rattle.share_world.specs.Worlds.{World}
 use Rattle.wire_tables.specs.WireTables.{world_given}
 use Rattle.tape_map.specs.TapeMaps.{hidden, with_inputs}
 use Rattle.tape_map.specs.MapFaults.{is_tolerated}
+use Rattle.tape_map.proofs.ChangedPieces.{lists_fit}
 use Rattle.tape_map.proofs.NoFaults.{can_hide, none_found, some_found, tolerated_test, group_fails, inputs_fail, outputs_fail, outputs_read, values_are}
 use Rattle.tape_map.proofs.Recipients.{recipient_below}
 use Rattle.tape_map.proofs.map.map_tapes.Goals as goal
@@ -31,7 +32,7 @@ changed_tapes-requires-clause-first c =
 pub changed_tapes-requires-clause-second : goal.changed_tapes-requires-clause-second
 changed_tapes-requires-clause-second c =
     let w : World = world_given c.args.plan.now c.args.inputs.now c.args.tapes.now in
-    ap session_words c.deref-4.ensures.value ∙ c.in_ok-second.ensures w.tapes
+    lists_fit (with_inputs w c.args.other.now) (session_words c.deref-4.result.now) c.requires.whole.sound c.requires.other (ap session_words c.deref-4.ensures.value ∙ c.in_ok-second.ensures w.tapes)
 
 pub returns-in_default-clause-fault : goal.returns-in_default-clause-fault
 returns-in_default-clause-fault c =
@@ -75,3 +76,8 @@ returns-in-Some-output_fault-clause-recipient c =
     let tolerated = lies c.args.plan.now mask c.in-Some.share (some_found c.hidden_summand.result c.in-Some.share c.args.groups.now c.args.plan.now mask c.requires.groups c.hidden_summand.ensures c.in-Some.is) in
     recipient_below w c.args.other.now mask c.in-Some-output_fault.fault (outputs_fail w c.args.other.now mask c.in-Some-output_fault.fault tolerated (sym (c.in_ok-fault.ensures w.tapes) ∙ c.in_default-2.is) (outputs_read w c.args.other.now mask _ _ _ c.requires.whole.sound (ap session_words c.deref.ensures.value ∙ c.in_ok-first.ensures w.tapes)
     (ap session_words c.deref-2.ensures.value ∙ c.in_ok-second.ensures w.tapes) c.output_fault.ensures ∙ c.in-Some-output_fault.is))
+
+pub returns-clause-tapes : goal.returns-clause-tapes
+returns-clause-tapes c =
+    let w : World = world_given c.args.plan.now c.args.inputs.now c.args.tapes.now in
+    c.in_ok-changed.ensures c.args.other.now (ap session_words c.deref-4.ensures.value ∙ c.in_ok-second.ensures w.tapes)

@@ -1,4 +1,4 @@
-use Rattle.std.proofs.Common.{◌≡◌, ◌+◌, ◌-◌, ◌&&◌, not, nat_eq, true, false, [], ◌∷◌, Some, length, sym, ap, ap₂, ◌∙◌, arith}
+use Rattle.std.proofs.Common.{◌≡◌, ◌&&◌, not, nat_eq, true, false, [], ◌∷◌, Some, sym, ap, ap₂, ◌∙◌, arith}
 use Rattle.std.specs.Prelude.{slice_index}
 use Rattle.party_set.specs.Parties.{has_party}
 use Rattle.job_session.specs.Sessions.{Session, readers, output_wire}
@@ -7,21 +7,6 @@ use Rattle.tape_map.specs.MapFaults.{output_check}
 use Rattle.tape_map.specs.declared.fault.MapFault.TheVariants.{OutputDiffers}
 use Rattle.list_laws.proofs.FirstFaults.{joined-stops, joined_more-passed, one-fails, one-passed}
 use Rattle.tape_map.proofs.outputs.reader_fault.Goals as goal
-
-pub overflow_cast-wire : goal.overflow_cast-wire
-overflow_cast-wire c =
-    let sound = c.parties-parties.ensures.sound.sessions c.args.s c.requires.session in
-    let wires = sound.wired.wires in let outputs = sound.wired.output_wires in
-    let same : length (readers c.part-part.result.now) ≡ length (readers (session c.args.plan.now c.args.s)) = ap (λ y. length (readers y)) c.part-part.ensures in
-    omega arith
-
-pub overflow_sub-wire : goal.overflow_sub-wire
-overflow_sub-wire c =
-    let sound = c.parties-parties.ensures.sound.sessions c.args.s c.requires.session in
-    let outputs = sound.wired.output_wires in
-    let same : length (readers c.part-part.result.now) ≡ length (readers (session c.args.plan.now c.args.s)) = ap (λ y. length (readers y)) c.part-part.ensures in
-    let wide : c.part-part.result.now.wires ≡ (session c.args.plan.now c.args.s).wires = ap (λ (y : Session). y.wires) c.part-part.ensures in
-    omega arith
 
 pub returns-then-read_differ : goal.returns-then-read_differ
 returns-then-read_differ c =
@@ -32,7 +17,7 @@ returns-then-read_differ c =
     let x : Session = session plan s in
     let first = c.args.first in
     let second = c.args.second in
-    let wire : c.wires.result - c.output_wires.result + o ≡ output_wire x o = ap₂ (λ a b. a - b + o) (c.wires.ensures ∙ ap (λ (y : Session). y.wires) c.part-part.ensures) (c.output_wires.ensures ∙ ap (λ y. length (readers y)) c.part-part.ensures) in
+    let wire : c.output_wire-wire.result ≡ output_wire x o = c.output_wire-wire.ensures ∙ ap (λ (y : Session). output_wire y o) c.part-part.ensures in
     let reads_is : c.reads-reads.result ≡ reads plan r s o = c.reads-reads.ensures ∙ ap (λ y. has_party (slice_index (readers y) o) r) c.part-part.ensures in
     let differs : (has_party c.args.group.mask r && (reads plan r s o && not (nat_eq first second))) ≡ true =
     ap₂ (λ a b. a && (b && not (nat_eq first second))) (sym c.has.ensures) (sym reads_is) ∙ sym c.read_differ.ensures ∙ c.if-read_differ.true in

@@ -12,12 +12,12 @@ use Rattle.wire_tables.proofs.rows.deal_into.Goals as goal
 
 pub returns : goal.returns
 returns c =
-    let plan = c.args.plan.now in
+    let plan = c.args.world.now.plan.now in
     let n : ℕ = length plan.groups - 1 in
     let at : ℕ = slice_index c.args.places.now c.args.p in
-    let tape : List ℕ = slice_index_or (session_words c.args.tapes.now) c.args.p [] in
-    let there : c.args.p < length c.args.tapes.now = omega (arith, length-map c.args.tapes.now (λ (t : Vec ℕ). t.items), c.requires.words.tape) in
-    let tape_is : c.deref.result.now ≡ tape = c.deref.ensures.value ∙ row_read c.args.tapes.now c.args.p c.index-tapes-p.result there c.index-tapes-p.is in
+    let tape : List ℕ = slice_index_or (session_words c.args.world.now.tapes.now) c.args.p [] in
+    let there : c.args.p < length c.args.world.now.tapes.now = omega (arith, length-map c.args.world.now.tapes.now (λ (t : Vec ℕ). t.items), c.requires.words.tape) in
+    let tape_is : c.deref.result.now ≡ tape = c.deref.ensures.value ∙ row_read c.args.world.now.tapes.now c.args.p c.index-tapes-p.result there c.index-tapes-p.is in
     let count : c.shares.result - 1 ≡ n = omega (arith, c.shares.ensures.is) in
     let words_are : c.words_at-words.result.now ≡ take n (drop at tape) = c.words_at-words.ensures ∙ ap₂ (λ k t. take k (drop at t)) count tape_is in
     let missing : c.sub.result ≡ difference (2 ^ plan.bits) c.args.value (total (length (take n (drop at tape))) (slice_index (take n (drop at tape))) % 2 ^ plan.bits) =

@@ -1,8 +1,8 @@
 use Rattle.std.proofs.Common.{◌≡◌}
 use Rattle.list_laws.specs.Lists.{listed}
-use Rattle.job_plan.specs.InputWords.{session_words}
 use Rattle.wire_tables.specs.Places.{mask_at}
+use Rattle.wire_tables.specs.WireTables.{world_of}
 use Rattle.wire_tables.proofs.rows.mask_into.Given as goal
 
 abbrev pub invariant-loop-i : goal.invariant-loop-i
-invariant-loop-i l = l.row.items ≡ listed l.i (mask_at l.plan (session_words l.tapes) l.places)
+invariant-loop-i l = l.row.items ≡ listed l.i (mask_at (world_of l.world) l.places)

@@ -13,6 +13,7 @@ use Rattle.product_duty.specs.Duties.{scheme_of}
 use Rattle.job_plan.specs.Plans.{scheme}
 use Rattle.job_plan.specs.InputWords.{session_words}
 use Rattle.wire_tables.specs.Places.{dealt_at}
+use Rattle.wire_tables.specs.WireTables.{world_of}
 use Rattle.wire_tables.proofs.ListedRows.{listed_of}
 use Rattle.wire_tables.proofs.DealtRows.{all_listed, total_passed}
 use Rattle.wire_tables.proofs.rows.product_into.Goals as goal
@@ -24,22 +25,22 @@ add_row-requires-clause-long c =
 
 pub add_row-requires-clause-words : goal.add_row-requires-clause-words
 add_row-requires-clause-words c =
-    let plan = c.args.plan.now in
+    let plan = c.args.world.now.plan.now in
     let p = c.loop-p.p in
     let has = c.requires.tapes p (omega arith) (sym c.multiplies.ensures ∙ c.if-multiplies.true) in
     let own = c.own_products-own.result in
-    let word : ℕ → ℕ = λ i. slice_index (slice_index_or (session_words c.args.tapes.now) p []) (slice_index c.args.places.now p + i) in
+    let word : ℕ → ℕ = λ i. slice_index (slice_index_or (session_words c.args.world.now.tapes.now) p []) (slice_index c.args.places.now p + i) in
     subst (λ xs. All (λ word. word < 2 ^ c.ring-ring.result) xs) (sym (c.deref.ensures.value ∙ c.in_ok-deal_into.ensures))
-    (subst (λ b. All (λ word. word < 2 ^ b) (listed (length plan.groups) (dealt_at (scheme plan) (session_words c.args.tapes.now) c.args.places.now p own))) (sym c.ring-ring.ensures.is)
-    (all_listed (length plan.groups) (2 ^ plan.bits) (dealt_at (scheme plan) (session_words c.args.tapes.now) c.args.places.now p own) (λ i l. dealt_small (scheme plan) own word i (pow_pos plan.bits) (λ j. has.below (slice_index c.args.places.now p + j)))))
+    (subst (λ b. All (λ word. word < 2 ^ b) (listed (length plan.groups) (dealt_at (world_of c.args.world.now) c.args.places.now p own))) (sym c.ring-ring.ensures.is)
+    (all_listed (length plan.groups) (2 ^ plan.bits) (dealt_at (world_of c.args.world.now) c.args.places.now p own) (λ i l. dealt_small (scheme plan) own word i (pow_pos plan.bits) (λ j. has.below (slice_index c.args.places.now p + j)))))
 
 pub loop-p-preserved : goal.loop-p-preserved
 loop-p-preserved c =
-    let plan = c.args.plan.now in
+    let plan = c.args.world.now.plan.now in
     let p = c.loop-p.p in
     let m : ℕ = length plan.groups in
     let own : ℕ → ℕ = λ p. own_product (scheme plan) p (slice_index c.args.x.now) (slice_index c.args.y.now) in
-    let dealt : ℕ → ℕ → ℕ = λ p. dealt_at (scheme plan) (session_words c.args.tapes.now) c.args.places.now p (own p) in
+    let dealt : ℕ → ℕ → ℕ = λ p. dealt_at (world_of c.args.world.now) c.args.places.now p (own p) in
     elim c.if-multiplies.branch [
       | then-multiplies+in_ok-deal_into w ↦
           let long : length w.add_row.new.sums ≡ m = w.add_row.ensures.long ∙ ap length w.deref_mut.ensures.value ∙ c.loop-p.invariant.long in
@@ -47,7 +48,7 @@ loop-p-preserved c =
           let pair : has_pair (scheme plan) p ≡ true = sym c.multiplies.ensures ∙ w.if-multiplies.true in
           let own_is : w.own_products-own.result ≡ own p =
           w.own_products-own.ensures.is ∙ ap₂ (λ (bits : ℕ) (structure : Structure). own_product (scheme_of bits structure) p (slice_index c.args.x.now) (slice_index c.args.y.now)) c.ring-ring.ensures.is w.duty.ensures in
-          let row_is : w.deref.result.now ≡ listed m (dealt p) = w.deref.ensures.value ∙ w.in_ok-deal_into.ensures ∙ ap (λ v. listed m (dealt_at (scheme plan) (session_words c.args.tapes.now) c.args.places.now p v)) own_is in record {
+          let row_is : w.deref.result.now ≡ listed m (dealt p) = w.deref.ensures.value ∙ w.in_ok-deal_into.ensures ∙ ap (λ v. listed m (dealt_at (world_of c.args.world.now) c.args.places.now p v)) own_is in record {
             long = ap length is ∙ long;
             small = subst (λ xs. All (λ word. word < 2 ^ plan.bits) xs) (sym is) (subst (λ b. All (λ word. word < 2 ^ b) w.add_row.new.sums) c.ring-ring.ensures.is w.add_row.ensures.sums);
             sums = λ i li.
@@ -69,7 +70,7 @@ loop-p-preserved c =
 
 pub returns : goal.returns
 returns c =
-    let plan = c.args.plan.now in
+    let plan = c.args.world.now.plan.now in
     let ended : c.loop-p.p ≡ plan.parties = omega arith in
     listed_of 0 (length plan.groups) _ c.loop-p.sums.items c.loop-p.invariant.long (λ i l. c.loop-p.invariant.sums i l
-    ∙ ap (λ n. total n (λ p. if has_pair (scheme plan) p then dealt_at (scheme plan) (session_words c.args.tapes.now) c.args.places.now p (own_product (scheme plan) p (slice_index c.args.x.now) (slice_index c.args.y.now)) i else 0) % 2 ^ plan.bits) ended)
+    ∙ ap (λ n. total n (λ p. if has_pair (scheme plan) p then dealt_at (world_of c.args.world.now) c.args.places.now p (own_product (scheme plan) p (slice_index c.args.x.now) (slice_index c.args.y.now)) i else 0) % 2 ^ plan.bits) ended)

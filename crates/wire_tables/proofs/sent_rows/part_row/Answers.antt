@@ -4,15 +4,15 @@ use Rattle.list_laws.specs.Lists.{listed}
 use Rattle.party_set.specs.Parties.{Structure}
 use Rattle.product_duty.specs.Duties.{scheme_of}
 use Rattle.secret_sharing.specs.Schemes.{own_product}
-use Rattle.job_plan.specs.InputWords.{session_words}
 use Rattle.job_plan.specs.Plans.{scheme}
 use Rattle.wire_tables.specs.Places.{dealt_at}
+use Rattle.wire_tables.specs.WireTables.{world_of}
 use Rattle.wire_tables.proofs.sent_rows.part_row.Goals as goal
 
 pub returns : goal.returns
 returns c =
-    let plan = c.args.plan.now in
+    let plan = c.args.world.now.plan.now in
     let p = c.args.p in
     let own_is : c.own_products-own.result ≡ own_product (scheme plan) p (slice_index c.args.x.now) (slice_index c.args.y.now) =
     c.own_products-own.ensures.is ∙ ap₂ (λ (bits : ℕ) (y : Structure). own_product (scheme_of bits y) p (slice_index c.args.x.now) (slice_index c.args.y.now)) c.ring.ensures.is c.duty.ensures in
-    c.in_ok-deal_into.ensures ∙ ap (λ v. listed (length plan.groups) (dealt_at (scheme plan) (session_words c.args.tapes.now) c.args.places.now p v)) own_is
+    c.in_ok-deal_into.ensures ∙ ap (λ v. listed (length plan.groups) (dealt_at (world_of c.args.world.now) c.args.places.now p v)) own_is

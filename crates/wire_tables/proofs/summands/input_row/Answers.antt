@@ -9,7 +9,7 @@ use Rattle.job_session.specs.Sessions.{Session, given_by, owners, source}
 use Rattle.job_session.specs.Sessions.Slot.{Input}
 use Rattle.job_plan.specs.Plans.{deals_in, session, slot}
 use Rattle.share_world.specs.Worlds.{World, carried_wire, end_summands, input_of, source_input}
-use Rattle.wire_tables.specs.WireTables.{world_given}
+use Rattle.wire_tables.specs.WireTables.{world_of}
 use Rattle.wire_tables.proofs.NextPlaces.{has_words}
 use Rattle.wire_tables.proofs.SlotWords.{inside_here}
 use Rattle.wire_tables.proofs.MadeRows.{given_made, carried_made}
@@ -17,71 +17,71 @@ use Rattle.wire_tables.proofs.summands.input_row.Goals as goal
 
 pub source-requires : goal.source-requires
 source-requires c =
-    let w : World = world_given c.args.plan.now c.args.inputs.now c.args.tapes.now in
-    let lv = inside_here w c.args.s c.args.k c.requires.slot (Input c.args.v) c.requires.input in
+    let w : World = world_of c.args.world.now in
+    let lv = inside_here w c.args.before.now.session c.args.before.now.slot c.requires.before.in_slot (Input c.args.v) c.requires.input in
     subst (λ (y : Session). c.args.v < length (owners y)) (sym c.part.ensures) lv
 
-pub bounds-given-v : goal.bounds-given-v
-bounds-given-v c =
-    let w : World = world_given c.args.plan.now c.args.inputs.now c.args.tapes.now in
-    let lv = inside_here w c.args.s c.args.k c.requires.slot (Input c.args.v) c.requires.input in
-    omega (arith, lv, ap length c.requires.given, length-listed (length (owners (session c.args.plan.now c.args.s))) (input_of w c.args.s))
+pub bounds-before-v : goal.bounds-before-v
+bounds-before-v c =
+    let w : World = world_of c.args.world.now in
+    let lv = inside_here w c.args.before.now.session c.args.before.now.slot c.requires.before.in_slot (Input c.args.v) c.requires.input in
+    omega (arith, lv, ap length c.requires.before.given, length-listed (length (owners (session c.args.world.now.plan.now c.args.before.now.session))) (input_of w c.args.before.now.session))
 
 pub deal_into-requires-clause-value : goal.deal_into-requires-clause-value
 deal_into-requires-clause-value c =
-    let w : World = world_given c.args.plan.now c.args.inputs.now c.args.tapes.now in
-    let x : Session = session c.args.plan.now c.args.s in
-    let lv = inside_here w c.args.s c.args.k c.requires.slot (Input c.args.v) c.requires.input in
+    let w : World = world_of c.args.world.now in
+    let x : Session = session c.args.world.now.plan.now c.args.before.now.session in
+    let lv = inside_here w c.args.before.now.session c.args.before.now.slot c.requires.before.in_slot (Input c.args.v) c.requires.input in
     let from : source x c.args.v ≡ Given c.in-Given.party = ap (λ (y : Session). source y c.args.v) (sym c.part.ensures) ∙ sym c.source.ensures ∙ c.in-Given.is in
-    let word : slice_index c.args.given.now c.args.v ≡ input_of w c.args.s c.args.v = ap (λ xs. slice_index xs c.args.v) c.requires.given ∙ listed_at (length (owners x)) (input_of w c.args.s) c.args.v 0 lv in
-    subst (λ n. n < 2 ^ c.args.plan.now.bits) (sym (word ∙ ap (source_input w c.args.s c.args.v) from)) (c.requires.whole.inputs.below c.in-Given.party c.args.s _)
+    let word : slice_index c.args.before.now.given.now c.args.v ≡ input_of w c.args.before.now.session c.args.v = ap (λ xs. slice_index xs c.args.v) c.requires.before.given ∙ listed_at (length (owners x)) (input_of w c.args.before.now.session) c.args.v 0 lv in
+    subst (λ n. n < 2 ^ c.args.world.now.plan.now.bits) (sym (word ∙ ap (source_input w c.args.before.now.session c.args.v) from)) (c.requires.whole.inputs.below c.in-Given.party c.args.before.now.session _)
 
 pub deal_into-requires-clause-words : goal.deal_into-requires-clause-words
 deal_into-requires-clause-words c =
-    let plan = c.args.plan.now in
-    let w : World = world_given plan c.args.inputs.now c.args.tapes.now in
+    let plan = c.args.world.now.plan.now in
+    let w : World = world_of c.args.world.now in
     let p = c.in-Given.party in
-    let lv = inside_here w c.args.s c.args.k c.requires.slot (Input c.args.v) c.requires.input in
-    let from : source (session plan c.args.s) c.args.v ≡ Given p = ap (λ (y : Session). source y c.args.v) (sym c.part.ensures) ∙ sym c.source.ensures ∙ c.in-Given.is in
-    let party = (c.requires.whole.sound.sessions c.args.s c.requires.session).owned c.args.v p lv from in
-    let deals : deals_in plan c.args.s p (slot plan c.args.s c.args.k) ≡ true = ap (deals_in plan c.args.s p) c.requires.input ∙ ap (given_by p) from ∙ eq-eqb p p refl in
-    has_words w c.requires.whole c.args.s c.args.k c.args.places.now c.requires.session c.requires.slot c.requires.places p party deals
+    let lv = inside_here w c.args.before.now.session c.args.before.now.slot c.requires.before.in_slot (Input c.args.v) c.requires.input in
+    let from : source (session plan c.args.before.now.session) c.args.v ≡ Given p = ap (λ (y : Session). source y c.args.v) (sym c.part.ensures) ∙ sym c.source.ensures ∙ c.in-Given.is in
+    let party = (c.requires.whole.sound.sessions c.args.before.now.session c.requires.before.in_session).owned c.args.v p lv from in
+    let deals : deals_in plan c.args.before.now.session p (slot plan c.args.before.now.session c.args.before.now.slot) ≡ true = ap (deals_in plan c.args.before.now.session p) c.requires.input ∙ ap (given_by p) from ∙ eq-eqb p p refl in
+    has_words w c.requires.whole c.args.before.now.session c.args.before.now.slot c.args.before.now.places.now c.requires.before.in_session c.requires.before.in_slot c.requires.before.places p party deals
 
 pub row-requires-clause-wire : goal.row-requires-clause-wire
 row-requires-clause-wire c =
-    let plan = c.args.plan.now in
-    let w : World = world_given plan c.args.inputs.now c.args.tapes.now in
+    let plan = c.args.world.now.plan.now in
+    let w : World = world_of c.args.world.now in
     let r = c.in-Carried.session in
     let wire = carried_wire plan r c.in-Carried.value c.in-Carried.wire in
-    let from : source (session plan c.args.s) c.args.v ≡ Carried r c.in-Carried.value c.in-Carried.wire = ap (λ (y : Session). source y c.args.v) (sym c.part.ensures) ∙ sym c.source.ensures ∙ c.in-Carried.is in
-    let row = c.requires.carried.are c.args.s c.args.v r c.in-Carried.value c.in-Carried.wire from (c.requires.whole.sound.earlier c.args.s c.args.v r c.in-Carried.value c.in-Carried.wire from) in
-    elim (cases_lt c.args.v (length (slice_index_or c.args.carried.now c.args.s []))) [
+    let from : source (session plan c.args.before.now.session) c.args.v ≡ Carried r c.in-Carried.value c.in-Carried.wire = ap (λ (y : Session). source y c.args.v) (sym c.part.ensures) ∙ sym c.source.ensures ∙ c.in-Carried.is in
+    let row = c.requires.before.carried.are c.args.before.now.session c.args.v r c.in-Carried.value c.in-Carried.wire from (c.requires.whole.sound.earlier c.args.before.now.session c.args.v r c.in-Carried.value c.in-Carried.wire from) in
+    elim (cases_lt c.args.v (length (slice_index_or c.args.before.now.carried.now c.args.before.now.session []))) [
       | inl l ↦ l
       | inr past ↦
-          let none = ap length (sym (get_or_past (slice_index_or c.args.carried.now c.args.s []) c.args.v [] past) ∙ row) ∙ length-listed (length plan.groups) (end_summands w r wire) in
+          let none = ap length (sym (get_or_past (slice_index_or c.args.before.now.carried.now c.args.before.now.session []) c.args.v [] past) ∙ row) ∙ length-listed (length plan.groups) (end_summands w r wire) in
           absurd (omega (arith, none, c.requires.whole.sound.some_groups))
     ]
 
 pub returns-in-Given : goal.returns-in-Given
 returns-in-Given c =
-    let plan = c.args.plan.now in
-    let w : World = world_given plan c.args.inputs.now c.args.tapes.now in
-    let x : Session = session plan c.args.s in
+    let plan = c.args.world.now.plan.now in
+    let w : World = world_of c.args.world.now in
+    let x : Session = session plan c.args.before.now.session in
     let p = c.in-Given.party in
-    let lv = inside_here w c.args.s c.args.k c.requires.slot (Input c.args.v) c.requires.input in
+    let lv = inside_here w c.args.before.now.session c.args.before.now.slot c.requires.before.in_slot (Input c.args.v) c.requires.input in
     let from : source x c.args.v ≡ Given p = ap (λ (y : Session). source y c.args.v) (sym c.part.ensures) ∙ sym c.source.ensures ∙ c.in-Given.is in
-    let word : slice_index c.args.given.now c.args.v ≡ input_of w c.args.s c.args.v = ap (λ xs. slice_index xs c.args.v) c.requires.given ∙ listed_at (length (owners x)) (input_of w c.args.s) c.args.v 0 lv in
+    let word : slice_index c.args.before.now.given.now c.args.v ≡ input_of w c.args.before.now.session c.args.v = ap (λ xs. slice_index xs c.args.v) c.requires.before.given ∙ listed_at (length (owners x)) (input_of w c.args.before.now.session) c.args.v 0 lv in
     on_ok_weaker c.deal_into.result
-    (given_made w c.requires.whole c.args.s c.args.k c.requires.session c.requires.slot c.args.places.now c.requires.places c.args.v p (slice_index c.args.given.now c.args.v) c.deal_into.new.row.items c.requires.input from word)
+    (given_made w c.requires.whole c.args.before.now.session c.args.before.now.slot c.requires.before.in_session c.requires.before.in_slot c.args.before.now.places.now c.requires.before.places c.args.v p (slice_index c.args.before.now.given.now c.args.v) c.deal_into.new.row.items c.requires.input from word)
     c.deal_into.ensures
 
 pub returns-in-Carried : goal.returns-in-Carried
 returns-in-Carried c =
-    let plan = c.args.plan.now in
-    let w : World = world_given plan c.args.inputs.now c.args.tapes.now in
+    let plan = c.args.world.now.plan.now in
+    let w : World = world_of c.args.world.now in
     let r = c.in-Carried.session in
-    let from : source (session plan c.args.s) c.args.v ≡ Carried r c.in-Carried.value c.in-Carried.wire = ap (λ (y : Session). source y c.args.v) (sym c.part.ensures) ∙ sym c.source.ensures ∙ c.in-Carried.is in
-    let row = c.requires.carried.are c.args.s c.args.v r c.in-Carried.value c.in-Carried.wire from (c.requires.whole.sound.earlier c.args.s c.args.v r c.in-Carried.value c.in-Carried.wire from) in
+    let from : source (session plan c.args.before.now.session) c.args.v ≡ Carried r c.in-Carried.value c.in-Carried.wire = ap (λ (y : Session). source y c.args.v) (sym c.part.ensures) ∙ sym c.source.ensures ∙ c.in-Carried.is in
+    let row = c.requires.before.carried.are c.args.before.now.session c.args.v r c.in-Carried.value c.in-Carried.wire from (c.requires.whole.sound.earlier c.args.before.now.session c.args.v r c.in-Carried.value c.in-Carried.wire from) in
     on_ok_weaker c.copy_into.result
-    (λ is. carried_made w c.requires.whole c.args.s c.args.k c.requires.session c.requires.slot c.args.v r c.in-Carried.value c.in-Carried.wire c.copy_into.new.row.items c.requires.input from (is ∙ c.row.ensures ∙ row))
+    (λ is. carried_made w c.requires.whole c.args.before.now.session c.args.before.now.slot c.requires.before.in_session c.requires.before.in_slot c.args.v r c.in-Carried.value c.in-Carried.wire c.copy_into.new.row.items c.requires.input from (is ∙ c.row.ensures ∙ row))
     c.copy_into.ensures

@@ -4,14 +4,14 @@ use Rattle.job_session.specs.declared.values.KeptWire.{KeptWire}
 use Rattle.job_session.specs.Sessions.{Session}
 use Rattle.job_plan.specs.Plans.{session}
 use Rattle.share_world.specs.Worlds.{World}
-use Rattle.wire_tables.specs.WireTables.{AreCarried, world_given}
+use Rattle.wire_tables.specs.WireTables.{AreCarried, world_of}
 use Rattle.wire_tables.proofs.HandedOn.{carried_same}
 use Rattle.wire_tables.proofs.word.carried_before.Goals as goal
 use Rattle.wire_tables.proofs.word.carried_before.Goals.{then-not-is_empty+in_ok-make, else-not-is_empty}
 
 pub loop-r-preserved : goal.loop-r-preserved
 loop-r-preserved c =
-    let w : World = world_given c.args.plan.now c.args.inputs.now c.args.tapes.now in
+    let w : World = world_of c.args.world.now in
     let r = c.loop-r.r in
     elim c.if-not-is_empty.branch [
       | then-not-is_empty+in_ok-make b ↦ subst (AreCarried w (r + 1)) (sym b.carried-is) b.in_ok-make.ensures.carried

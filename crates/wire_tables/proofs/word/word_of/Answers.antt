@@ -5,6 +5,7 @@ use Rattle.list_laws.specs.Lists.{listed}
 use Rattle.list_laws.proofs.JoinedLists.{length-listed, listed_at}
 use Rattle.job_plan.specs.Plans.{slot}
 use Rattle.share_world.specs.Worlds.{World, word}
+use Rattle.wire_tables.specs.Places.{ArePlaces}
 use Rattle.wire_tables.specs.SlotRows.{sent}
 use Rattle.wire_tables.specs.WireTables.{world_given}
 use Rattle.wire_tables.proofs.MessageSenders.{stands_so, to_anyone}
@@ -25,21 +26,20 @@ places_before-requires-clause-session c =
     let st = stands_so (world_given c.args.plan.now c.args.inputs.now c.args.tapes.now) c.requires.whole c.args.number c.requires.number c.message-key.ensures.is in
     st.in_session
 
-pub sent_row-requires-clause-session : goal.sent_row-requires-clause-session
-sent_row-requires-clause-session c =
-    let st = stands_so (world_given c.args.plan.now c.args.inputs.now c.args.tapes.now) c.requires.whole c.args.number c.requires.number c.message-key.ensures.is in
-    st.in_session
+pub sent_row-requires-clause-at : goal.sent_row-requires-clause-at
+sent_row-requires-clause-at c =
+    let st = stands_so (world_given c.args.plan.now c.args.inputs.now c.args.tapes.now) c.requires.whole c.args.number c.requires.number c.message-key.ensures.is in record {
+      in_session = st.in_session;
+      in_slot = st.in_slot;
+      table = c.in_ok-table.ensures.table;
+      places = subst (ArePlaces c.args.plan.now c.message-key.result.session c.message-key.result.slot) (sym c.deref.ensures.value) c.in_ok-places.ensures;
+    }
 
 pub places_before-requires-clause-slot : goal.places_before-requires-clause-slot
 places_before-requires-clause-slot c =
     let st = stands_so (world_given c.args.plan.now c.args.inputs.now c.args.tapes.now) c.requires.whole c.args.number c.requires.number c.message-key.ensures.is in
     let within = st.in_slot in
     omega (arith, within)
-
-pub sent_row-requires-clause-slot : goal.sent_row-requires-clause-slot
-sent_row-requires-clause-slot c =
-    let st = stands_so (world_given c.args.plan.now c.args.inputs.now c.args.tapes.now) c.requires.whole c.args.number c.requires.number c.message-key.ensures.is in
-    st.in_slot
 
 pub sent_row-requires-clause-party : goal.sent_row-requires-clause-party
 sent_row-requires-clause-party c =

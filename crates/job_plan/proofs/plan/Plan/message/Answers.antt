@@ -17,14 +17,14 @@ returns c =
     let plan = c.args.self.now in
     let s = c.session_of-s.result in
     let k = c.slot_of-k.result in
-    let lines = c.slot_lines.result.now in
+    let transfers = c.slot_transfers.result.now in
     let i = c.args.n - c.first.result in
     let here : i < count plan s k = omega (arith, first_next plan s k, c.first.ensures.is, c.slot_of-k.ensures.end, c.slot_of-k.ensures.begin) in
-    let within : i < length lines = omega (arith, ap length c.slot_lines.ensures.is, length-map lines (named s k)) in
+    let within : i < length transfers = omega (arith, ap length c.slot_transfers.ensures.is, length-map transfers (named s k)) in
     let at : c.named.result ≡ slice_index_or (slot_messages plan s k (slot plan s k)) i no_key =
-    c.named.ensures ∙ sym (named_at s k lines i within) ∙ ap (λ keys. slice_index_or keys i no_key) c.slot_lines.ensures.is in
+    c.named.ensures ∙ sym (named_at s k transfers i within) ∙ ap (λ keys. slice_index_or keys i no_key) c.slot_transfers.ensures.is in
     let same : first plan s k + i ≡ c.args.n = omega (arith, c.first.ensures.is, c.slot_of-k.ensures.begin) in
     record {
       is = at ∙ sym (message_at plan s k c.session_of-s.ensures.there c.slot_of-k.ensures.there i here) ∙ ap (message plan) same;
-      few = omega (arith, ap (λ x. x.share) at, share_within plan s k i here, c.slot_lines.ensures.sound.groups);
+      few = omega (arith, ap (λ x. x.share) at, share_within plan s k i here, c.slot_transfers.ensures.sound.groups);
     }

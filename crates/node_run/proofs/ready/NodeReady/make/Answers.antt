@@ -4,7 +4,7 @@ use Rattle.std.proofs.lemmas.List.{length-replicate}
 use Rattle.job_plan.specs.Plans.{Plan}
 use Rattle.message_board.specs.Plain.{CellContents, plain_cell}
 use Rattle.party_file.specs.Table.{PartyForm}
-use Rattle.node_run.specs.Ready.{Share, Kept, IsNodeReady, given_words}
+use Rattle.node_run.specs.Ready.{NodePart, Kept, IsNodeReady, given_words}
 use Rattle.node_run.proofs.ReadyKept.{opened_given, empty_cells}
 use Rattle.node_run.proofs.ready.NodeReady.make.Goals as goal
 
@@ -16,7 +16,7 @@ returns c =
 
 pub invariant_of-result : goal.invariant_of-result
 invariant_of-result c =
-    let share : Share = record {
+    let part : NodePart = record {
       plan = c.args.plan.now;
       me = c.args.me;
       given = given_words c.args.inputs.now c.args.tapes.items;
@@ -30,7 +30,7 @@ invariant_of-result c =
       readers = c.in_ok-boxes.readers.items;
       parker = c.in_ok-parker.parker;
     } in
-    let ready : IsNodeReady share kept = record {
+    let ready : IsNodeReady part kept = record {
       fits = record { sound = c.ring.ensures.sound; party = c.requires.party; fits = c.requires.fits; digest = c.told-digest };
       desks = c.in_ok-desks.ensures;
       words = record {
@@ -41,4 +41,4 @@ invariant_of-result c =
       peers = c.in_ok-boxes.ensures;
       places = c.in_ok-places.ensures;
     } in
-    subst (λ (share : Share). IsNodeReady share kept) (sym (returns c)) ready
+    subst (λ (part : NodePart). IsNodeReady part kept) (sym (returns c)) ready

@@ -3,32 +3,32 @@ use Rattle.outer_io.specs.Inlet.{shut_inlet}
 use Rattle.node_run.proofs.ReaderRuns.{whole_first}
 use Rattle.outer_io.specs.Links.{LinksReading, HasPeers, links_reading}
 use Rattle.node_run.specs.Progress.{Begin, ids_of}
-use Rattle.node_run.specs.Ready.{Share, IsNodeOf}
+use Rattle.node_run.specs.Ready.{NodePart, IsNodeOf}
 use Rattle.node_talk.specs.Runs.{Results}
 use Rattle.party_desk.specs.declared.desk.Desk.{Desk}
 use Rattle.node_run.specs.Remains.{RemainsModel, Remained, fault_told, answer}
 use Rattle.node_run.specs.NodeRuns.{Runs}
-use Rattle.node_run.proofs.Shares.{some_node}
+use Rattle.node_run.proofs.NodeParts.{some_node}
 use Rattle.node_run.proofs.RunBegins.{is_mail_at, greeted_at, had_peers, may_run}
 use Rattle.node_run.proofs.NodeRuns.{remained_runs, ungreeted_runs}
 use Rattle.node_run.proofs.ready.NodeReady.run.Goals as goal
 
 pub invariant_of-cells : goal.invariant_of-cells
 invariant_of-cells g c =
-    let peers = subst (λ (z : Share). HasPeers (z.plan.parties - 1) (links_reading g.I.Inlet.reading g.O.Outlet.reading c.args.links)) (sym c.self.view_is) c.requires.peers in
-    is_mail_at _ _ c.self.invariant c.args.plan.now (c.requires.plan ∙ sym (ap (λ (z : Share). z.plan) c.self.view_is)) _ peers.outlets
+    let peers = subst (λ (z : NodePart). HasPeers (z.plan.parties - 1) (links_reading g.I.Inlet.reading g.O.Outlet.reading c.args.links)) (sym c.self.view_is) c.requires.peers in
+    is_mail_at _ _ c.self.invariant c.args.plan.now (c.requires.plan ∙ sym (ap (λ (z : NodePart). z.plan) c.self.view_is)) _ peers.outlets
 
 pub greet-requires : goal.greet-requires
 greet-requires g c =
-    let peers = subst (λ (z : Share). HasPeers (z.plan.parties - 1) (links_reading g.I.Inlet.reading g.O.Outlet.reading c.args.links)) (sym c.self.view_is) c.requires.peers in
-    let same = c.requires.plan ∙ sym (ap (λ (z : Share). z.plan) c.self.view_is) in
+    let peers = subst (λ (z : NodePart). HasPeers (z.plan.parties - 1) (links_reading g.I.Inlet.reading g.O.Outlet.reading c.args.links)) (sym c.self.view_is) c.requires.peers in
+    let same = c.requires.plan ∙ sym (ap (λ (z : NodePart). z.plan) c.self.view_is) in
     let some = some_node _ c.self.invariant.fits in
     (some.0, record { links = links_reading g.I.Inlet.reading g.O.Outlet.reading c.args.links; ids = ids_of c.self.inside.boxes.items }, some.1.digest, greeted_at _ _ c.self.invariant some.0 some.1 _ peers c.args.plan.now same)
 
 pub read_peers-remains-requires-clause-run : goal.read_peers-remains-requires-clause-run
 read_peers-remains-requires-clause-run g c =
-    let peers = subst (λ (z : Share). HasPeers (z.plan.parties - 1) (links_reading g.I.Inlet.reading g.O.Outlet.reading c.args.links)) (sym c.self.view_is) c.requires.peers in
-    let same = c.requires.plan ∙ sym (ap (λ (z : Share). z.plan) c.self.view_is) in
+    let peers = subst (λ (z : NodePart). HasPeers (z.plan.parties - 1) (links_reading g.I.Inlet.reading g.O.Outlet.reading c.args.links)) (sym c.self.view_is) c.requires.peers in
+    let same = c.requires.plan ∙ sym (ap (λ (z : NodePart). z.plan) c.self.view_is) in
     let some = some_node _ c.self.invariant.fits in
     let start : Begin = record { links = links_reading g.I.Inlet.reading g.O.Outlet.reading c.args.links; ids = ids_of c.self.inside.boxes.items } in
     let greeted = c.greet.ensures.on some.0 start some.1.digest (greeted_at _ _ c.self.invariant some.0 some.1 _ peers c.args.plan.now same) c.if-not-greet.false in
@@ -36,9 +36,9 @@ read_peers-remains-requires-clause-run g c =
 
 pub returns-then-not-greet : goal.returns-then-not-greet
 returns-then-not-greet g c = λ n of.
-    let mine = subst (λ (z : Share). IsNodeOf z n) (sym c.self.view_is) of in
-    let peers = subst (λ (z : Share). HasPeers (z.plan.parties - 1) (links_reading g.I.Inlet.reading g.O.Outlet.reading c.args.links)) (sym c.self.view_is) c.requires.peers in
-    let same = c.requires.plan ∙ sym (ap (λ (z : Share). z.plan) c.self.view_is) in
+    let mine = subst (λ (z : NodePart). IsNodeOf z n) (sym c.self.view_is) of in
+    let peers = subst (λ (z : NodePart). HasPeers (z.plan.parties - 1) (links_reading g.I.Inlet.reading g.O.Outlet.reading c.args.links)) (sym c.self.view_is) c.requires.peers in
+    let same = c.requires.plan ∙ sym (ap (λ (z : NodePart). z.plan) c.self.view_is) in
     let start : Begin = record { links = links_reading g.I.Inlet.reading g.O.Outlet.reading c.args.links; ids = ids_of c.self.inside.boxes.items } in
     let u = c.greet.ensures.halted n start mine.digest (greeted_at _ _ c.self.invariant n mine _ peers c.args.plan.now same) c.if-not-greet.true in
     let links = ap (links_reading g.I.Inlet.reading g.O.Outlet.reading) c.into_answer.ensures.links in
@@ -56,9 +56,9 @@ returns-then-not-greet g c = λ n of.
 
 pub returns : goal.returns
 returns g c = λ n of.
-    let mine = subst (λ (z : Share). IsNodeOf z n) (sym c.self.view_is) of in
-    let peers = subst (λ (z : Share). HasPeers (z.plan.parties - 1) (links_reading g.I.Inlet.reading g.O.Outlet.reading c.args.links)) (sym c.self.view_is) c.requires.peers in
-    let same = c.requires.plan ∙ sym (ap (λ (z : Share). z.plan) c.self.view_is) in
+    let mine = subst (λ (z : NodePart). IsNodeOf z n) (sym c.self.view_is) of in
+    let peers = subst (λ (z : NodePart). HasPeers (z.plan.parties - 1) (links_reading g.I.Inlet.reading g.O.Outlet.reading c.args.links)) (sym c.self.view_is) c.requires.peers in
+    let same = c.requires.plan ∙ sym (ap (λ (z : NodePart). z.plan) c.self.view_is) in
     let start : Begin = record { links = links_reading g.I.Inlet.reading g.O.Outlet.reading c.args.links; ids = ids_of c.self.inside.boxes.items } in
     let greeted = c.greet.ensures.on n start mine.digest (greeted_at _ _ c.self.invariant n mine _ peers c.args.plan.now same) c.if-not-greet.false in
     let may = may_run _ _ c.self.invariant n mine _ peers c.greet.new.cells greeted in

@@ -7,7 +7,7 @@ use Rattle.job_plan.specs.Plans.{session}
 use Rattle.share_world.specs.Worlds.{World}
 use Rattle.wire_tables.specs.Places.{ArePlaces}
 use Rattle.wire_tables.specs.Steps.{AreRows, Sets}
-use Rattle.wire_tables.specs.WireTables.{summand_rows, world_given}
+use Rattle.wire_tables.specs.WireTables.{summand_rows, world_of}
 use Rattle.wire_tables.proofs.HandedOn.{carried_next}
 use Rattle.wire_tables.proofs.RowSteps.{rows_set, rows_kept, rows_last}
 use Rattle.wire_tables.proofs.summands.SummandTable.make.Goals as goal
@@ -15,10 +15,10 @@ use Rattle.wire_tables.proofs.summands.SummandTable.make.Goals.{in-Some, in_defa
 
 pub loop-k-preserved : goal.loop-k-preserved
 loop-k-preserved c =
-    let plan = c.args.plan.now in
+    let plan = c.args.world.now.plan.now in
     let s = c.args.s in
     let k = c.loop-k.k in
-    let w : World = world_given plan c.args.inputs.now c.args.tapes.now in
+    let w : World = world_of c.args.world.now in
     let places = subst (ArePlaces plan s (k + 1)) (sym (with_items_is c.loop-k.places c.pass_slot.new.places (omega (arith, c.pass_slot.auto.places, c.deref_mut.ensures.len)))) c.pass_slot.ensures in
     let rows : AreRows w s (k + 1) c.match-name.rows.items = elim c.match-name.branch [
       | in-Some v ↦
@@ -34,17 +34,17 @@ loop-k-preserved c =
 
 pub hand_on-requires-clause-rows : goal.hand_on-requires-clause-rows
 hand_on-requires-clause-rows c =
-    let w : World = world_given c.args.plan.now c.args.inputs.now c.args.tapes.now in
+    let w : World = world_of c.args.world.now in
     omega (arith, c.loop-k.invariant.rows.names, wires_named (session w.plan c.args.s), c.deref-2.ensures.len, ap (length {A = Vec ℕ}) c.deref-2.ensures.value)
 
 pub returns-clause-table : goal.returns-clause-table
 returns-clause-table c =
-    let w : World = world_given c.args.plan.now c.args.inputs.now c.args.tapes.now in
+    let w : World = world_of c.args.world.now in
     rows_last w c.args.s c.requires.whole c.requires.session c.loop-k.k c.loop-k.rows.items (omega (arith, c.slots-k-end.ensures, c.loop-k-test.false, c.loop-k.auto.k-end)) c.loop-k.invariant.rows
 
 pub returns-clause-carried : goal.returns-clause-carried
 returns-clause-carried c =
-    let w : World = world_given c.args.plan.now c.args.inputs.now c.args.tapes.now in
+    let w : World = world_of c.args.world.now in
     let table : session_words c.deref-2.result.now ≡ summand_rows w c.args.s =
     ap session_words c.deref-2.ensures.value
     ∙ rows_last w c.args.s c.requires.whole c.requires.session c.loop-k.k c.loop-k.rows.items (omega (arith, c.slots-k-end.ensures, c.loop-k-test.false, c.loop-k.auto.k-end)) c.loop-k.invariant.rows in

@@ -1,9 +1,0 @@
-use Rattle.std.proofs.Common.{◌≡◌}
-use Rattle.list_laws.specs.Lists.{joined, only_if}
-use Rattle.secret_sharing.specs.Schemes.{has_pair}
-use Rattle.job_plan.specs.Plans.{scheme}
-use Rattle.job_plan.specs.Patterns.{deal_lines}
-use Rattle.job_plan.proofs.pattern_lines.multiplied_lines.Given as goal
-
-abbrev pub invariant-loop-p : goal.invariant-loop-p
-invariant-loop-p l = l.lines ≡ joined l.p (λ p. only_if (has_pair (scheme l.outline) p) (deal_lines l.outline p))

@@ -1,8 +1,0 @@
-use Rattle.std.proofs.Common.{◌≡◌}
-use Rattle.list_laws.specs.Lists.{joined, only_if}
-use Rattle.party_set.specs.Parties.{has_party}
-use Rattle.job_plan.specs.Patterns.{open_lines}
-use Rattle.job_plan.proofs.pattern_lines.opened_lines.Given as goal
-
-abbrev pub invariant-loop-r : goal.invariant-loop-r
-invariant-loop-r l = l.lines ≡ joined l.r (λ r. only_if (has_party l.readers r) (open_lines l.outline r))

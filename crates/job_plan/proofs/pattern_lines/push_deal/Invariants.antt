@@ -1,7 +1,0 @@
-use Rattle.std.proofs.Common.{◌≡◌, ◌++◌}
-use Rattle.list_laws.specs.Lists.{joined}
-use Rattle.job_plan.specs.Patterns.{deal_line}
-use Rattle.job_plan.proofs.pattern_lines.push_deal.Given as goal
-
-abbrev pub invariant-loop-share : goal.invariant-loop-share
-invariant-loop-share l = l.lines ≡ l.fn.lines ++ joined l.share (λ i. joined l.outline.parties (deal_line l.outline l.p i))

@@ -1,0 +1,50 @@
+//! Lists of transfers.
+ghost use Rattle.std.specs.Prelude.{◌≡◌};
+
+use crate::pattern::Transfer;
+use std::alloc::{AllocError, Global};
+use std::marker::Model;
+
+/// The transfers of a pattern, in the order of their messages. Contracts see the list.
+#[derive(Drop)]
+pub(crate) struct Transfers {
+    list: Vec<Transfer>,
+}
+
+impl Model for Transfers {
+    ghost use Rattle.std.specs.Prelude.{List};
+    ghost use Rattle.job_plan.specs.declared.pattern.Transfer.{Transfer};
+
+    ghost Value = { List Transfer };
+
+    ghost view = { λ l. l.list.items };
+}
+
+impl Transfers {
+    ghost use Rattle.std.specs.Prelude.{◌≡◌, [], ◌∷◌, ◌++◌, OnOk};
+    ghost use Rattle.list_laws.specs.Lists.{only_if};
+
+    pub(crate) fn new(alloc: Global) -> Transfers
+        ensures { result ≡ [] }
+    {
+        Transfers {
+            list: Vec::new(alloc),
+        }
+    }
+
+    /// Adds a transfer, where it is wanted.
+    pub(crate) fn push_if(&mut self, wanted: bool, transfer: Transfer) -> Result<(), AllocError>
+        ensures { OnOk result (self.new ≡ self.old ++ only_if wanted (transfer ∷ [])) }
+    {
+        if wanted {
+            self.list.push(transfer)?;
+        }
+        Ok(())
+    }
+
+    pub(crate) fn as_slice(&self) -> &[Transfer]
+        ensures { result.now ≡ self.now }
+    {
+        &self.list
+    }
+}
