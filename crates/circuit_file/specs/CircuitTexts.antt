@@ -21,18 +21,22 @@ operation_name Inv = codes "INV"
 operation_name Eq = codes "EQ"
 operation_name Eqw = codes "EQW"
 
+-- the parts of a line, by their texts
+abbrev pub Parts : Type 0
+Parts = List (List ℕ)
+
 -- parts, each after a space
-abbrev pub spaced : List (List ℕ) → List ℕ
+abbrev pub spaced : Parts → List ℕ
 spaced [] = []
 spaced (part ∷ parts) = 32 ∷ (part ++ spaced parts)
 
 -- parts separated by a space
-abbrev pub parts_text : List (List ℕ) → List ℕ
+abbrev pub parts_text : Parts → List ℕ
 parts_text [] = []
 parts_text (part ∷ parts) = part ++ spaced parts
 
 -- lines of such parts, each of which ends with LF
-abbrev pub lines_text : List (List (List ℕ)) → List ℕ
+abbrev pub lines_text : List Parts → List ℕ
 lines_text [] = []
 lines_text (parts ∷ lines) = parts_text parts ++ (10 ∷ lines_text lines)
 
@@ -41,11 +45,11 @@ abbrev pub gate_numbers : Gate → List ℕ
 gate_numbers g = arity g.operation ∷ 1 ∷ (listed_wires g ++ (g.output ∷ []))
 
 -- the numbers of a gate, and the name of its operation
-abbrev pub gate_parts : Gate → List (List ℕ)
+abbrev pub gate_parts : Gate → Parts
 gate_parts g = map decimal (gate_numbers g) ++ (operation_name g.operation ∷ [])
 
 -- the counts of gates and wires, the widths of the inputs, those of the outputs, and the gates
-abbrev pub circuit_parts : Netlist → List (List (List ℕ))
+abbrev pub circuit_parts : Netlist → List Parts
 circuit_parts c =
     map decimal (length c.gates ∷ c.wires ∷ [])
     ∷ map decimal (length c.inputs ∷ c.inputs)

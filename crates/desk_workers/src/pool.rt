@@ -157,8 +157,8 @@ fn next_idle(idle: u32, moves: u64) -> u32
     if moves == 0 { idle + 1 } else { 0 }
 }
 
-// Steps desks until all were found at home and at their end, or `MOST_IDLE` rounds in a row moved none, or the worker
-// has made as many moves as there are instructions.
+// Steps desks until all that it came to in a round were at home and at their end, or `MOST_IDLE` rounds in a row moved
+// none, or the worker has made as many moves as there are instructions.
 fn work<P: Pace>(
     rack: &Rack<Promised, Box<Desk>>,
     plan: &Plan,

@@ -15,7 +15,7 @@ use Rattle.job_file.specs.declared.fault.JobFault.{JobFault}
 use Rattle.job_file.specs.declared.fault.JobFault.TheVariants.{NotToml, Version as OtherVersion, Missing, Unknown, WrongKind, BadRing, Names, SessionCount, BadFileName, BadLayout, BadProducts, BadOwner, BadCarry, BadReader, BadHost, BadPort, BadTolerated, TooManyTolerated}
 use Rattle.job_file.specs.Names.{field_text, field_kind, top_fields, session_fields, is_file_name, is_host, layout_of}
 use Rattle.job_file.specs.Owners.{is_carry, owner_in}
-use Rattle.job_file.specs.Forms.{JobForm, job_form, is_version_two, adversary_field, prepared_in, integer, text, texts, items, lists, tables}
+use Rattle.job_file.specs.Forms.{JobForm, TextList, job_form, is_version_two, adversary_field, prepared_in, integer, text, texts, items, lists, tables}
 use Rattle.job_file.specs.declared.limits.TheConstants.{LAST_PORT, MOST_TOLERATED}
 use Rattle.plan_faults.specs.declared.limits.TheConstants.{MOST_SESSIONS}
 
@@ -25,7 +25,7 @@ abbrev pub is_no_party : List (List ℕ) → List ℕ → Bool
 is_no_party names name = is_none (party_named names name)
 
 -- the place of the first text that is no party's name, or stands before
-unfoldable pub bad_name : List (List ℕ) → List (List ℕ) → List (List ℕ) → Option ℕ
+unfoldable pub bad_name : TextList → TextList → TextList → Option ℕ
 bad_name names before [] = None
 bad_name names before (text ∷ rest) =
     if is_no_party names text || list_any (λ other. bytes_eq other text) before
@@ -33,7 +33,7 @@ bad_name names before (text ∷ rest) =
     else bad_name names (before ++ text ∷ []) rest
 
 -- the first such text of the lists from this one on: its list, and its place there
-unfoldable pub bad_in_lists : List (List ℕ) → ℕ → List (List (List ℕ)) → Option (ℕ × ℕ)
+unfoldable pub bad_in_lists : TextList → ℕ → List TextList → Option (ℕ × ℕ)
 bad_in_lists names value [] = None
 bad_in_lists names value (list ∷ rest) =
     option_or (option_map (λ at. (value, at)) (bad_name names [] list))
@@ -96,7 +96,7 @@ unfoldable pub parties_fault : Members → Option JobFault
 parties_fault fields = option_map (λ fault. Names fault) (names_fault (texts Parties fields))
 
 -- at most 4,096 tolerated groups, each of different parties
-unfoldable pub groups_fault : List (List ℕ) → List (List (List ℕ)) → Option JobFault
+unfoldable pub groups_fault : TextList → List TextList → Option JobFault
 groups_fault names groups = first_fault
     ((nat_lt MOST_TOLERATED (length groups) answers TooManyTolerated (length groups))
     ∷ option_map (λ bad. BadTolerated bad.0 bad.1) (bad_in_lists names 0 groups)

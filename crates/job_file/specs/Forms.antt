@@ -42,20 +42,23 @@ pub record JobForm : Type 0 where
 
 -- ---- the value of a field
 
+abbrev pub TextList : Type 0
+TextList = List (List ℕ)
+
 abbrev pub integer : Field → Members → ℤ
 integer field fields = integer_at (field_text field) fields
 
 abbrev pub text : Field → Members → List ℕ
 text field fields = text_at (field_text field) fields
 
-abbrev pub texts : Field → Members → List (List ℕ)
+abbrev pub texts : Field → Members → TextList
 texts field fields = texts_at (field_text field) fields
 
 abbrev pub items : Field → Members → List Data
 items field fields = items_at (field_text field) fields
 
 -- the lists of texts
-abbrev pub lists : Field → Members → List (List (List ℕ))
+abbrev pub lists : Field → Members → List TextList
 lists field fields = map texts_of (items field fields)
 
 -- the tables

@@ -72,14 +72,21 @@ fn push_slots(own: &SessionSteps<'_>, from: u32, to: u32, list: &mut Vec<u32>, t
     requires before { AreDealsTo own.now from list.old tally.old }
     ensures { AreDealsTo own.now to list.new tally.new }
 {
-    let plan = own.plan;
+    // Read once, and not in each slot.
+    let SessionSteps {
+        plan,
+        party,
+        session,
+        heads,
+        tails,
+    } = *own;
     let _ = plan.parties();
-    let multiplies = plan.multiplies(own.party);
+    let multiplies = plan.multiplies(party);
     for k in from..to {
         list.push_reserved(tally.deals);
-        let pattern = plan.pattern(own.session, k);
-        tally.instructions += (own.heads.of(pattern).len() + own.tails.of(pattern).len()) as u32;
-        tally.deals += u32::from(deals_in(pattern, own.party, multiplies));
+        let pattern = plan.pattern(session, k);
+        tally.instructions += (heads.of(pattern).len() + tails.of(pattern).len()) as u32;
+        tally.deals += u32::from(deals_in(pattern, party, multiplies));
     }
 }
 

@@ -6,12 +6,12 @@ use std::test::Fail;
 pub enum Flaw {
     /// Nothing.
     Nothing,
-    /// It takes so many bytes, and then fails.
-    FailsAfter(u64),
-    /// It changes the byte that comes after so many others.
-    ChangesByte(u64),
-    /// Nothing comes over it before so many bytes have come from the next peer.
-    IsHeld(u64),
+    /// It takes `bytes`, and then fails.
+    FailsAfter { bytes: u64 },
+    /// It changes the byte that comes after `bytes` others.
+    ChangesByte { bytes: u64 },
+    /// Nothing comes over it before `bytes` have come from the next peer.
+    IsHeld { bytes: u64 },
 }
 
 /// What the words ask for: `FOLDER ROOM FLAW BYTES FROM TO NAME..`.
@@ -33,9 +33,9 @@ pub struct Asked<'w> {
 fn flaw_of(name: &str, bytes: u64) -> Result<Flaw, Fail> {
     match name {
         "none" => Ok(Flaw::Nothing),
-        "fails" => Ok(Flaw::FailsAfter(bytes)),
-        "changes" => Ok(Flaw::ChangesByte(bytes)),
-        "held" => Ok(Flaw::IsHeld(bytes)),
+        "fails" => Ok(Flaw::FailsAfter { bytes }),
+        "changes" => Ok(Flaw::ChangesByte { bytes }),
+        "held" => Ok(Flaw::IsHeld { bytes }),
         _ => Err("an unknown flaw".into()),
     }
 }

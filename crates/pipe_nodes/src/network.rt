@@ -94,7 +94,7 @@ fn hold(alloc: Global, ends: &mut PipeEnds, from: usize, bytes: u64) -> Result<(
 pub fn make_network(alloc: Global, asked: &Asked<'_>) -> Result<Network, Fail> {
     let in_vain = Arc::new(alloc, AtomicU64::new(0))?;
     let mut all = connect_all(alloc, asked, &in_vain)?;
-    if let Flaw::IsHeld(bytes) = asked.flaw {
+    if let Flaw::IsHeld { bytes } = asked.flaw {
         let ends = all.get_mut(asked.to).ok_or("no such party")?;
         hold(alloc, ends, asked.from, bytes)?;
     }

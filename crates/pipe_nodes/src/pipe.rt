@@ -72,8 +72,8 @@ pub fn make_pipe(
 // A byte as the pipe takes it after `sent` others.
 fn flawed(flaw: Flaw, sent: u64, byte: u8) -> Result<u8, Failed> {
     match flaw {
-        Flaw::FailsAfter(most) if sent >= most => Err(Failed),
-        Flaw::ChangesByte(place) if sent == place => Ok(byte ^ 2),
+        Flaw::FailsAfter { bytes } if sent >= bytes => Err(Failed),
+        Flaw::ChangesByte { bytes } if sent == bytes => Ok(byte ^ 2),
         _ => Ok(byte),
     }
 }
