@@ -21,8 +21,6 @@ mod names;
 mod node;
 mod parse;
 mod parser;
-#[cfg(test)]
-mod tests;
 mod token;
 mod wire;
 
