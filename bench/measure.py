@@ -11,7 +11,11 @@ import os
 import subprocess
 import sys
 import tempfile
+import threading
 import time
+
+# After so many seconds a run is killed, and so ends with status -9.
+MOST_SECONDS = 120
 
 
 class Wrong(Exception):
@@ -38,7 +42,10 @@ class Job:
         with tempfile.TemporaryFile() as out:
             begin = time.perf_counter()
             process = subprocess.Popen(self.command(program, options), stdin=subprocess.DEVNULL, stdout=out)
+            limit = threading.Timer(MOST_SECONDS, process.kill)
+            limit.start()
             _, status, usage = os.wait4(process.pid, 0)
+            limit.cancel()
             seconds = time.perf_counter() - begin
             process.returncode = os.waitstatus_to_exitcode(status)
             out.seek(0)

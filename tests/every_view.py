@@ -17,7 +17,8 @@ import tempfile
 
 from audits import OF_C
 from product import PRODUCT
-from rows import EXAMPLES, GROUPS, MOST_SECONDS
+from rows import EXAMPLES, GROUPS
+from waits import MOST_SECONDS, told
 
 # Groups of rows that have jobs which are accepted.
 ACCEPTED = ['accepted', 'wide rings', 'tolerated', 'prepared', 'carried', 'expressions', 'parties', 'jobs']
@@ -169,4 +170,4 @@ def main(words):
 
 
 if __name__ == '__main__':
-    main(sys.argv)
+    sys.exit(told(main))

@@ -17,6 +17,7 @@ import time
 
 from other_words import USAGE
 from rows import GROUPS
+from waits import ended, told
 
 # What the launcher calls beside rt.
 TOOLS = ['awk', 'cp', 'cut', 'date', 'dirname', 'find', 'grep', 'head', 'mkdir', 'mktemp', 'mv', 'readlink', 'rm', 'sed', 'sh', 'sleep',
@@ -63,6 +64,11 @@ echo 'rt: mpc_main proved'
 '''
 
 
+def heed_interrupts():
+    """Has an interrupt end what is started, also where a script in the background started this one, and so let it ignore them."""
+    signal.signal(signal.SIGINT, signal.SIG_DFL)
+
+
 class Repository:
     """A folder with the launcher and made-up crates, and the answers of its calls."""
 
@@ -93,14 +99,12 @@ class Repository:
         (self.bin / 'rt').chmod(0o755)
 
     def start(self, words):
-        return subprocess.Popen([self.top / 'mpc', *words], cwd=self.room, env=self.environment, stdin=subprocess.DEVNULL,
-                                stdout=subprocess.PIPE, stderr=subprocess.PIPE, text=True, start_new_session=True)
+        return subprocess.Popen([self.top / 'mpc', *words], cwd=self.room, env=self.environment, stdin=subprocess.DEVNULL, stdout=subprocess.PIPE,
+                                stderr=subprocess.PIPE, text=True, start_new_session=True, preexec_fn=heed_interrupts)
 
     def call(self, *words):
         """The status of a call, and what it wrote on both outputs."""
-        started = self.start(words)
-        out, err = started.communicate(timeout=60)
-        return started.returncode, out, err
+        return ended(self.start(words))
 
     def await_file(self, name):
         """Waits until rt has left this file."""
@@ -167,10 +171,10 @@ def check_build(repository):
     while line.startswith('mpc:') and 'at work: low_one low_two\n' not in line:
         line = started.stderr.readline()
     (repository.fake / 'go').touch()
-    out, err = started.communicate(timeout=60)
+    status, out, err = ended(started)
     repository.expect(line == 'mpc: 0 of 4 crates are built, 0 minutes, at work: low_one low_two\n', f'it does not tell two crates at work: {line}{err}')
     repository.expect('mpc: 4 of 4 crates are built, 0 minutes\n' in err, f'it does not tell the end: {err}')
-    repository.expect((started.returncode, out) == (7, ''.join(f'[{word}]' for word in words)), f'the program got {out!r} and gave {started.returncode}')
+    repository.expect((status, out) == (7, ''.join(f'[{word}]' for word in words)), f'the program got {out!r} and gave {status}')
     built = (repository.fake / 'crates').read_text().split()
     repository.expect(built == BUILT, f'it built {built}')
     parts = (repository.fake / 'parts').read_text().split()
@@ -206,8 +210,8 @@ def check_stop(repository):
     repository.await_file('waits')
     time.sleep(0.2)
     os.killpg(started.pid, signal.SIGINT)
-    _, err = started.communicate(timeout=20)
-    repository.expect(started.returncode == 130 and err.endswith('goes on where this one was\n'), f'stopped, it gave {started.returncode}: {err}')
+    status, _, err = ended(started)
+    repository.expect(status == 130 and err.endswith('goes on where this one was\n'), f'stopped, it gave {status}: {err}')
     repository.expect_clean()
     # (the real rt ends what it started)
     rt, sleeper = map(int, (repository.fake / 'calls').read_text().split())
@@ -226,7 +230,7 @@ def check_change(repository):
     repository.await_file('calls')
     (repository.top / 'crates' / 'upper' / 'src' / 'lib.rt').touch()
     (repository.fake / 'go').touch()
-    started.communicate(timeout=60)
+    ended(started)
     repository.call('check', 'd')
     repository.call('check', 'd')
     repository.expect(repository.calls() == 2, f'rt was called {repository.calls()} times')
@@ -254,4 +258,4 @@ def main(words):
 
 
 if __name__ == '__main__':
-    sys.exit(main(sys.argv))
+    sys.exit(told(main))

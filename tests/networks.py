@@ -25,10 +25,10 @@ from prepared_runs import PREPARED_RUNS
 from product import Edit, Whole, product_with
 from random_expressions import random_job, with_circuits
 from tolerated_runs import TOLERATED
+from waits import MOST_SECONDS
 from wide_ring_runs import WIDE_RINGS
 
 EXAMPLES = pathlib.Path(__file__).resolve().parent.parent / 'examples'
-MOST_SECONDS = 60
 RANDOM_JOBS = 30
 
 # Room for what a node of 'pipe_nodes' writes.

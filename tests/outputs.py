@@ -17,8 +17,7 @@ from audits import AUDIT, OF_C
 from pairs import NINE_OF_B
 from product import CHECK, Edit, RUN, SEED, TAPE_A, TAPE_B, TAPE_C, Whole, Without, product_with
 from made_rows import products
-
-MOST_SECONDS = 60
+from waits import MOST_SECONDS
 
 
 class Wrong(Exception):
@@ -194,7 +193,7 @@ def main(words):
             try:
                 case(os.path.abspath(words[1]), top)
                 print(f'outputs: {name}')
-            except Wrong as wrong:
+            except (Wrong, subprocess.TimeoutExpired) as wrong:
                 print(f'outputs: NOT {name}: {wrong}')
                 status = 1
     return status

@@ -27,8 +27,8 @@ sys.path[1:1] = [str(TOP / 'examples'), str(TOP / 'fuzz')]
 from in_the_clear import fields, out_in_the_clear  # noqa: E402
 from job_folder import job_text  # noqa: E402
 from mutate import CHANGES  # noqa: E402
+from waits import MOST_SECONDS  # noqa: E402
 
-MOST_SECONDS = 60
 MOST_OPEN = 32
 WORDS = ('input', 'let', 'output')
 

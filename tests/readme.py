@@ -16,9 +16,9 @@ import tempfile
 import time
 
 from other_words import USAGE
+from waits import ended, told
 
 TOP = pathlib.Path(__file__).resolve().parent.parent
-MOST_SECONDS = 60
 GATE = '.ci/run'
 # How often nodes are tried whose ports are taken.
 TRIES = 5
@@ -96,13 +96,10 @@ def run_block(block, folder):
     """How each command of a block ends: one after another, but nodes beside one another."""
     nodes = [command for command in block if command.startswith('./mpc node ')]
     for command in [command for command in block if command not in nodes]:
-        started = start(command, folder)
-        out, err = started.communicate(timeout=MOST_SECONDS)
-        yield command, started.returncode, out, err
+        yield command, *ended(start(command, folder))
     started = [start(command, folder) for command in nodes]
     for command, node in zip(nodes, started):
-        out, err = node.communicate(timeout=MOST_SECONDS)
-        yield command, node.returncode, out, err
+        yield command, *ended(node)
 
 
 def run_again(block, folder):
@@ -154,4 +151,4 @@ def main(words):
 
 
 if __name__ == '__main__':
-    sys.exit(main(sys.argv))
+    sys.exit(told(main))

@@ -32,10 +32,10 @@ from prepared_runs import PREPARED_RUNS
 from samples import MADE_SAMPLES, SAMPLES
 from tolerated_runs import TOLERATED
 from views import OTHER_GROUPS, VIEWS
+from waits import MOST_SECONDS, told
 from wide_ring_runs import WIDE_RINGS
 
 EXAMPLES = pathlib.Path(__file__).resolve().parent.parent / 'examples'
-MOST_SECONDS = 60
 
 GROUPS = {
     'accepted': ACCEPTED,
@@ -140,4 +140,4 @@ def main(words):
 
 
 if __name__ == '__main__':
-    sys.exit(main(sys.argv))
+    sys.exit(told(main))

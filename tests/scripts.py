@@ -32,12 +32,12 @@ from mutate import CHANGES  # noqa: E402
 from odd_folders import ODD_FOLDERS  # noqa: E402
 from product import product_with  # noqa: E402
 from random_expressions import SCRIPT, with_circuits  # noqa: E402
+from waits import MOST_SECONDS  # noqa: E402
 
 NUMBERS, CIRCUITS, EXPRESSIONS_SCRIPT = (EXAMPLES / name for name in ('numbers.py', 'circuits.py', 'expressions.py'))
 AUCTION, SPREAD, NODES = EXAMPLES / 'auction/job.py', EXAMPLES / 'statistics/spread.py', EXAMPLES / 'network/nodes.py'
 BY_LAYERS = EXAMPLES / 'by_layers.py'
 AES, AES_CIRCUIT = EXAMPLES / 'aes/job.py', EXAMPLES / 'aes/aes_circuit.py'
-MOST_SECONDS = 60
 INPUTS = 2_000
 MUTATED = 1_000
 LONG = 140_000
