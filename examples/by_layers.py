@@ -78,14 +78,9 @@ def in_layers(gates):
     return [gate for _, gate in sorted(zip(layers(gates)[0], gates), key=lambda pair: (pair[0], pair[1].multiplies))]
 
 
-def rounds(head, gates):
-    """How many batches of slots say something: those with an input, a product or an output. A slot begins a batch where it reads a wire
-    that an input or a product of the batch before it sets."""
-    inputs, outputs = (sum(map(int, line[1:])) for line in head[1:])
-    wires = int(head[0][1])
-    slots = [([], wire, True, True) for wire in range(inputs)]
-    slots += [(gate.reads, gate.sets, gate.multiplies, gate.multiplies) for gate in gates]
-    slots += [([wire], NOTHING, False, True) for wire in range(wires - outputs, wires)]
+def talking_batches(slots):
+    """How many batches of slots say something. Of a slot there are the wires that it reads, the one that it sets, whether others wait for
+    that one, and whether it says something itself. It begins a batch where it reads a wire for which one waits in the batch before it."""
     count, says, pending = 0, False, set()
     for reads, sets, waits, speaks in slots:
         if not pending.isdisjoint(reads):
@@ -95,6 +90,16 @@ def rounds(head, gates):
             pending.add(sets)
         says |= speaks
     return count + says
+
+
+def rounds(head, gates):
+    """How many batches of slots say something: those with an input, a product or an output."""
+    inputs, outputs = (sum(map(int, line[1:])) for line in head[1:])
+    wires = int(head[0][1])
+    slots = [([], wire, True, True) for wire in range(inputs)]
+    slots += [(gate.reads, gate.sets, gate.multiplies, gate.multiplies) for gate in gates]
+    slots += [([wire], NOTHING, False, True) for wire in range(wires - outputs, wires)]
+    return talking_batches(slots)
 
 
 def main(words):

@@ -42,12 +42,13 @@ SHORT = 4
 
 class Circuit:
     """A circuit of bits. A number is a list of wires, the least bit first, of any length; a wire that it doesn't have is 0. The first
-    wires are the inputs, and each gate sets the next wire. A gate that would have the value of a wire that is there is left out."""
+    wires are the inputs, and each gate sets the next wire. A gate that would have the value of a wire that is there is left out. Its file
+    has at most so many gates."""
 
-    def __init__(self, widths):
+    def __init__(self, widths, most_gates=MOST_GATES):
         need(len(widths) <= MOST_VALUES, f'a circuit has at most {MOST_VALUES} input values')
         need(sum(widths) <= MOST_WIRES, f'a circuit has at most {MOST_WIRES} wires')
-        self.widths = list(widths)
+        self.widths, self.most_gates = list(widths), most_gates
         self.gates = [None] * sum(widths)
         self.depths = [0] * sum(widths)
         self.known = {}
@@ -57,7 +58,7 @@ class Circuit:
 
     def gate(self, operation, *operands):
         if (operation, operands) not in self.known:
-            need(len(self.gates) < 4 * MOST_GATES, f'the circuit has more than {MOST_GATES} gates')
+            need(len(self.gates) < self.most_gates + 3 * MOST_GATES, f'the circuit has more than {self.most_gates} gates')
             self.known[operation, operands] = len(self.gates)
             self.gates.append((operation, operands))
             depth = max((self.depths[wire] for wire in operands), default=0) if operation != 'EQ' else 0
@@ -122,7 +123,7 @@ class Circuit:
                 a, b = heapq.heappop(bits)[1], heapq.heappop(bits)[1]
                 c = heapq.heappop(bits)[1] if bits else self.zero
                 carried.append(self.most(a, b, c))
-                rest = self.differ(self.differ(a, b), c)
+                rest = self.differ(self.differ(a, c), b)
                 heapq.heappush(bits, (self.depths[rest], rest))
             total.append(bits[0][1] if bits else self.zero)
         return total
@@ -228,13 +229,13 @@ class Circuit:
             line(operation, *(operands if operation == 'EQ' else (wires[operand] for operand in operands)))
         for wire in itertools.chain(*outputs):
             line('EQW', wires[wire])
-        return file_text(self.widths, list(map(len, outputs)), lines)
+        return file_text(self.widths, list(map(len, outputs)), lines, self.most_gates)
 
 
-def file_text(inputs, outputs, lines):
-    """The file of a circuit with these widths and lines of gates."""
-    need(len(lines) <= MOST_GATES, f'the circuit has more than {MOST_GATES} gates')
-    need(sum(inputs) + len(lines) <= MOST_WIRES, f'the circuit has more than {MOST_WIRES} wires')
+def file_text(inputs, outputs, lines, most_gates=MOST_GATES):
+    """The file of a circuit with these widths and lines of gates, at most so many, and twice as many wires."""
+    need(len(lines) <= most_gates, f'the circuit has more than {most_gates} gates')
+    need(sum(inputs) + len(lines) <= 2 * most_gates, f'the circuit has more than {2 * most_gates} wires')
     header = [[len(lines), sum(inputs) + len(lines)], [len(inputs), *inputs], [len(outputs), *outputs]]
     return '\n'.join([*(' '.join(map(str, numbers)) for numbers in header), *lines]) + '\n'
 

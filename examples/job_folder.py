@@ -44,12 +44,12 @@ def need(holds, text):
         raise Refusal(text)
 
 
-def read_bytes(folder, name):
+def read_bytes(folder, name, most=MOST_BYTES):
     """The bytes of a file."""
     path = os.path.join(folder, name)
     with open(path, 'rb') as file:
-        data = file.read(MOST_BYTES + 1)
-    need(len(data) <= MOST_BYTES, f'{path} has more than {MOST_BYTES} bytes')
+        data = file.read(most + 1)
+    need(len(data) <= most, f'{path} has more than {most} bytes')
     return data
 
 
@@ -76,7 +76,7 @@ def read_widths(folder, name):
     """The widths of the input values and of the output values of a circuit's file: its second and its third line with tokens."""
     path = os.path.join(folder, name)
     lines = (line.split() for line in read_text(folder, name).split('\n'))
-    lines = [tokens for tokens in lines if tokens][:3]
+    lines = list(itertools.islice(filter(None, lines), 3))
     need(len(lines) == 3, f'{path} has fewer than three lines')
     widths = []
     for tokens in lines[1:]:
