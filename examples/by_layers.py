@@ -9,8 +9,8 @@ in their order: so it computes the same, and all products of a layer take one ro
 agree on it before they agree on the job. Without NEW nothing is written.
 
 Prints how many products the circuit has, its depth, which is how many of them stand on the longest path, and the rounds of both
-orders: those of the inputs, the products and the outputs. A circuit that the program refuses is refused with its line. The program
-is ./mpc of this repository, or the one that is named.
+orders: those of the inputs, the products and the outputs. A circuit that the program refuses is refused with its line; one that is too
+large for a session is cut by examples/cut.py, into sessions in layers. The program is ./mpc of this repository, or the one that is named.
 """
 
 import os
@@ -53,7 +53,8 @@ def accept(data, program):
         fields = {'version': 1, 'ring_bits': 64 if of_words else 1, 'parties': ['a'], 'formula': 'a', 'session': [session]}
         write_new(folder, 'job.toml', job_text(fields).encode())
         done = subprocess.run([program, 'check', folder], stdin=subprocess.DEVNULL, stdout=subprocess.DEVNULL, stderr=subprocess.PIPE, text=True)
-    need(done.returncode == 0, done.stderr.strip().split('\n')[-1] or f'{program} ended with status {done.returncode}')
+    line = done.stderr.strip().split('\n')[-1] or f'{program} ended with status {done.returncode}'
+    need(done.returncode == 0, line + (': examples/cut.py cuts it into sessions' if ' TooLarge ' in line else ''))
 
 
 def read_circuit(data):

@@ -156,23 +156,24 @@ class Reader:
 
     def add_usual(self, new, most):
         """Adds the next gates, so many at most, as far as they stand in usual lines and have no fault."""
-        first = self.line
-        for place in range(first, min(first + most, len(self.lines))):
-            usual = self.usual.fullmatch(self.lines[place])
-            if not usual:
+        first, lines, usual, names = self.line, self.lines, self.usual.fullmatch, self.names
+        operations, firsts, seconds = self.operations, self.firsts, self.seconds
+        for place in range(first, min(first + most, len(lines))):
+            found = usual(lines[place])
+            if not found:
                 break
-            one, two, sets, operation, *alone = usual.groups()
-            if operation:
-                one, two, sets = int(one), int(two), int(sets)
-            else:
-                one, sets, operation = int(alone[0]), int(alone[1]), alone[2]
-                two = one
-            if max(one, two, sets) >= len(new) or new[one] < 0 or new[two] < 0 or new[sets] >= 0:
+            one, two, sets, operation, only, sets_of_one, of_one = found.groups()
+            try:
+                one, two = new[int(one or only)], new[int(two or only)]
+                sets = int(sets or sets_of_one)
+                if one < 0 or two < 0 or new[sets] >= 0:
+                    break
+            except IndexError:
                 break
-            new[sets] = len(self.operations)
-            self.operations.append(self.names[operation])
-            self.firsts.append(new[one])
-            self.seconds.append(-1 if alone[2] else new[two])
+            new[sets] = len(operations)
+            operations.append(names[operation or of_one])
+            firsts.append(one)
+            seconds.append(two if operation else -1)
             self.line += 1
         self.found += self.line - first
         return self.line - first

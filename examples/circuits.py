@@ -23,6 +23,9 @@ are. Where a call takes two or three numbers, the first parties give them, and t
 everything, and one alone learns nothing but the result; change 'formula' in job.toml where it should be more. For 'count' leave BITS
 out; for 'total' they are the ring's.
 
+A session takes 65,536 gates. A circuit that has more, up to sixteen times as many, is written all the same, with a line on standard error:
+examples/cut.py makes a job of it, of several sessions.
+
 As a library: c = Circuit([8, 8]) has the numbers c.inputs, each a list of wires; c.text([c.add(*c.inputs)]) is the file.
 """
 
@@ -31,7 +34,7 @@ import itertools
 import re
 import sys
 
-from job_folder import MOST_VALUES, MOST_WIRES, need, run_script, write_job
+from job_folder import MOST_SESSIONS, MOST_VALUES, MOST_WIRES, need, run_script, write_job
 
 MOST_GATES = 65_536
 
@@ -242,7 +245,7 @@ def file_text(inputs, outputs, lines, most_gates=MOST_GATES):
 
 def of_bits(widths, outputs):
     """The file of the outputs that a call makes from a circuit and its inputs."""
-    circuit = Circuit(widths)
+    circuit = Circuit(widths, MOST_SESSIONS * MOST_GATES)
     return circuit.text(outputs(circuit, *circuit.inputs))
 
 
@@ -281,6 +284,12 @@ def circuit_of(call, words):
     return make(*map(int, words))
 
 
+def too_large(circuit):
+    """How the gates of a circuit's file are more than a session takes, or nothing."""
+    gates = int(circuit.split(maxsplit=1)[0])
+    return f'the circuit has {gates} gates, and a session at most {MOST_GATES}' if gates > MOST_GATES else ''
+
+
 def make_job(folder, call, words):
     """Writes the folder of a job of parties that give the inputs of a call."""
     bits = []
@@ -293,6 +302,7 @@ def make_job(folder, call, words):
     circuit = circuit_of(call, [str(len(words)) if name == 'N' else bits[0] for name in names])
     inputs = int(circuit.split('\n', 2)[1].split()[0])
     need(inputs <= len(words), f'{call} wants {inputs} parties that give a number')
+    need(not too_large(circuit), f'{too_large(circuit)}: write it without job, and cut it by examples/cut.py')
     write_job(folder, ring_bits, words, words[:inputs], circuit, f'{call}.txt', layout)
 
 
@@ -302,7 +312,10 @@ def main(words):
     elif len(words) >= 3 and words[0] == 'job':
         make_job(words[1], words[2], words[3:])
     elif words and words[0] != 'job':
-        print(circuit_of(words[0], words[1:]), end='')
+        circuit = circuit_of(words[0], words[1:])
+        print(circuit, end='')
+        if too_large(circuit):
+            print(f'circuits.py: {too_large(circuit)}: examples/cut.py cuts it', file=sys.stderr)
     else:
         print(__doc__.split('\n\n')[1], file=sys.stderr)
         return 2

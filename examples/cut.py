@@ -32,10 +32,9 @@ from by_layers import NOTHING, talking_batches
 from circuit_reader import MOST_READ_BYTES, PRODUCTS, Fault, read_circuit
 from circuits import MOST_GATES
 from cut_places import best_cuts, depth_first, in_layers, lives, needed, spread, times
-from job_folder import MOST_VALUES, MOST_WIRES, Refusal, job_text, need, read_bytes, run_script, write_new
+from job_folder import MOST_SESSIONS, MOST_VALUES, MOST_WIRES, Refusal, job_text, need, read_bytes, run_script, write_new
 from summands import Sharing
 
-MOST_SESSIONS = 16
 MOST_MESSAGES = 1_048_576
 MOST_WORDS = 1_048_576
 
@@ -45,6 +44,9 @@ MOST_SETS = (MOST_SESSIONS, 3, 2, 1)
 
 MOST_BITS = 64
 OPTIONS = {'--bits', '--owners', '--readers', '--tolerated', '--gates'}
+
+# Other orders of the gates are tried where more wires than so many live at a cut.
+FEW = 64
 
 # How often sessions are made smaller by what they came out too large.
 TRIES = 12
@@ -151,41 +153,50 @@ class Order:
         self.wires, self.live = wires, lives(circuit, wires, owners)
 
     def cost(self, sizes):
+        """How many wires live at all cuts, where these are the best."""
         return best_cuts(self.live, sizes)[0]
 
 
+def orders_of(circuit, wires, owners, sizes):
+    """The orders that are tried: that of the file, and where more than few wires live at its cuts, each gate just behind what it needs, for the first
+    output and then the next ones, or for the last and then those before it."""
+    orders = [Order(circuit, wires, owners)]
+    if orders[0].cost(sizes) > FEW * (len(sizes) - 1):
+        orders += [Order(circuit, depth_first(circuit, results), owners) for results in (circuit.results, circuit.results[::-1])]
+    return orders
+
+
 def fitted(circuit, order, owners, count, most_gates):
-    """So many parts, cut where few wires live, that are no larger than a session. Copies and constants are known once it is cut: so where a
-    part is too large, room is kept for them, and it is cut anew. Where that doesn't help, what comes out are the parts that don't fit."""
-    sizes = [most_gates] * count
+    """So many parts, cut where few wires live, and by how much they are too large. Copies and constants are known once it is cut: so where a part is
+    too large, room is kept for them, and it is cut anew, until that doesn't help."""
+    sizes, before = [most_gates] * count, []
     for _ in range(TRIES):
         found = best_cuts(order.live, sizes)
         if found is None:
             break
         parts = parts_with_values(circuit, order.wires, found[1], owners)
         excess = [part.excess(most_gates) for part in parts]
-        if not any(excess):
+        if not any(excess) or before[-2:] == [excess, excess]:
             break
+        before.append(excess)
         sizes = [max(size - more, 0) for size, more in zip(sizes, excess)]
-    return parts
+    return parts, sum(excess)
 
 
 def cut(circuit, owners, most_gates=MOST_GATES):
-    """The parts of a circuit, as few as can be, and its depth. The gates may stand in the order of the file, in layers, or each behind what it
-    needs: whichever has the fewest wires alive where it is cut."""
+    """The parts of a circuit, as few as can be, by the order of its gates that has the fewest wires alive where it is cut."""
     wires = needed(circuit)
     count = max(1, -(-len(wires) // most_gates))
     need(count <= MOST_SESSIONS, f'the job passes {past(MOST_SESSIONS * most_gates, f"gates of {MOST_SESSIONS} sessions", len(wires))}')
-    layers = array.array('i', bytes(4 * len(circuit.operations)))
-    orders = [wires, in_layers(circuit, wires, layers)]
-    orders = [Order(circuit, order, owners) for order in ([*orders, depth_first(circuit)] if count > 1 else orders[:1])]
+    orders = orders_of(circuit, wires, owners, [most_gates] * count)
+    left = None
     for sessions in range(count, MOST_SESSIONS + 1):
-        sizes = [most_gates] * sessions
-        best = min(orders, key=lambda order: order.cost(sizes))
-        parts = fitted(circuit, best, owners, sessions, most_gates)
-        if not any(part.excess(most_gates) for part in parts):
+        best = min(orders, key=lambda order: order.cost([most_gates] * sessions))
+        parts, excess = fitted(circuit, best, owners, sessions, most_gates)
+        if excess == 0 or left is not None and excess >= left:
             break
-    return parts, max(layers, default=0)
+        left = excess
+    return parts
 
 
 # The file of a part.
@@ -195,7 +206,7 @@ class PartFile:
 
     def __init__(self, circuit, part):
         self.circuit, self.part = circuit, part
-        self.gates = in_layers(circuit, part.gates, array.array('i', bytes(4 * len(circuit.operations))))
+        self.gates, _ = in_layers(circuit, part.gates)
         self.numbers = {wire: number for number, wire in enumerate(part.inputs)}
         self.copies, made, end = [], {*part.gates, *part.constants}, part.wires - len(part.ends)
         for number, wire in enumerate(part.ends, end):
@@ -249,7 +260,7 @@ class Job:
         stranger = next((name for name in itertools.chain(owners, *readers) if name not in sharing.parties), None)
         need(stranger is None, f'{str(stranger)[:40]!r} is no party')
         self.circuit, self.sharing, self.owners, self.readers, self.bits = circuit, sharing, owners, readers, bits
-        self.parts, self.depth = cut(circuit, owners, most_gates)
+        self.parts = cut(circuit, owners, most_gates)
         self.products = [sum(circuit.operations[wire] in PRODUCTS for wire in part.gates) for part in self.parts]
         self.messages = [self.messages_of(part, products) for part, products in zip(self.parts, self.products)]
         over = ' and '.join(past(limit, what, found) for limit, what, found in self.limits(most_gates) if found > limit)
@@ -284,7 +295,8 @@ class Job:
         rows = list(zip([part.size for part in self.parts], self.products, rounds, self.messages, carried))
         for number, row in enumerate(rows):
             yield 'session {} gates {} products {} rounds {} messages {} carried {}'.format(number, *row)
-        yield 'job sessions {} gates {} products {} rounds {} messages {} carried {}'.format(len(rows), *map(sum, zip(*rows)))
+        depth = in_layers(self.circuit, [wire for part in self.parts for wire in part.gates])[1]
+        yield 'job sessions {} gates {} products {} rounds {} messages {} carried {} depth {}'.format(len(rows), *map(sum, zip(*rows)), depth)
 
     def session(self, number, part):
         """The fields of a session."""

@@ -27,23 +27,26 @@ def needed(circuit):
     return [wire for wire in range(inputs, len(marks)) if marks[wire]]
 
 
-def in_layers(circuit, wires, layers):
-    """The same wires by layers, the linear ones of a layer first; 'layers' gets the products that stand before each wire, itself among them."""
-    firsts, seconds, operations, keys = circuit.firsts, circuit.seconds, circuit.operations, {}
+def in_layers(circuit, wires):
+    """The same wires by layers, the linear ones of a layer first; and how many products stand on the longest path to one of them."""
+    firsts, seconds, operations = circuit.firsts, circuit.seconds, circuit.operations
+    layers, keys = array.array('i', bytes(4 * len(operations))), {}
     for wire in wires:
         first, second = firsts[wire], seconds[wire]
-        layer = max(layers[first] if first >= 0 else 0, layers[second] if second >= 0 else 0)
+        layer = layers[first] if first >= 0 else 0
+        if second >= 0 and layers[second] > layer:
+            layer = layers[second]
         product = operations[wire] in PRODUCTS
         layers[wire] = layer + product
         keys[wire] = 2 * layer + product
-    return sorted(wires, key=keys.__getitem__)
+    return sorted(wires, key=keys.__getitem__), max(layers, default=0)
 
 
-def depth_first(circuit):
-    """Output by output, each gate just behind those that it needs."""
+def depth_first(circuit, results):
+    """The wires that these outputs need: one output after another, each wire just behind those that it needs."""
     done, found, inputs = bytearray(len(circuit.operations)), [], sum(circuit.inputs)
     done[:inputs] = b'\1' * inputs
-    for result in circuit.results:
+    for result in results:
         open_wires = [result]
         while open_wires:
             wire = open_wires[-1]

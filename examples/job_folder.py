@@ -18,6 +18,7 @@ except ModuleNotFoundError:
     sys.exit(f'{os.path.basename(sys.argv[0])}: Python 3.11 or later is needed')
 
 MOST_BYTES = 16_777_216
+MOST_SESSIONS = 16
 MOST_VALUES = 1_024
 MOST_WIRES = 131_072
 MOST_LINE = 2**22
@@ -108,7 +109,7 @@ def read_fields(folder):
     parties, sessions = fields.get('parties'), fields.get('session')
     need(is_texts(parties) and 1 <= len(parties) <= 12, f'{path}: parties is no list of 1 to 12 names')
     need(all(map(NAME.fullmatch, parties)) and len(set(parties)) == len(parties), f'{path}: a name of parties is out of form, or stands twice')
-    need(isinstance(sessions, list) and 1 <= len(sessions) <= 16, f'{path}: there are not 1 to 16 [[session]]')
+    need(isinstance(sessions, list) and 1 <= len(sessions) <= MOST_SESSIONS, f'{path}: there are not 1 to {MOST_SESSIONS} [[session]]')
     for number, session in enumerate(sessions):
         need(isinstance(session, dict), f'{path}: session {number} is no table')
         circuit = session.get('circuit')

@@ -642,18 +642,23 @@ def tried(case, program):
         return False, f'{name}: NOT AS EXPECTED: {wrong}'
 
 
+def run_cases(cases, program):
+    """Tells how each case ends, and gives the status of all."""
+    status = 0
+    with concurrent.futures.ThreadPoolExecutor(4) as pool:
+        for good, text in pool.map(tried, cases, [program] * len(cases)):
+            print(f'scripts: {text}', flush=True)
+            status = status if good else 1
+    return status
+
+
 def main(words):
     if len(words) != 2:
         sys.exit('usage: scripts.py PROGRAM')
     program = shutil.which(os.path.abspath(words[1]))
     if not program:
         sys.exit(f'scripts: there is no program {words[1]}')
-    status = 0
-    with concurrent.futures.ThreadPoolExecutor(4) as pool:
-        for good, text in pool.map(tried, CASES, [program] * len(CASES)):
-            print(f'scripts: {text}', flush=True)
-            status = status if good else 1
-    return status
+    return run_cases(CASES, program)
 
 
 if __name__ == '__main__':

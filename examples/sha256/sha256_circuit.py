@@ -22,13 +22,12 @@ import sys
 
 sys.path[1:1] = [str(pathlib.Path(__file__).resolve().parent.parent)]
 from circuits import MOST_GATES, Circuit  # noqa: E402
-from job_folder import need, run_script  # noqa: E402
+from job_folder import MOST_SESSIONS, need, run_script  # noqa: E402
 
 BITS = 32
 ROUNDS = 64
 BLOCK = 64
 MOST_BYTES = 1_024
-MOST_SESSIONS = 16
 
 
 def primes():
