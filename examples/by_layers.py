@@ -13,6 +13,7 @@ orders: those of the inputs, the products and the outputs. A circuit that the pr
 large for a session is cut by examples/cut.py, into sessions in layers. The program is ./mpc of this repository, or the one that is named.
 """
 
+import itertools
 import os
 import pathlib
 import subprocess
@@ -93,13 +94,17 @@ def talking_batches(slots):
     return count + says
 
 
-def rounds(head, gates):
-    """How many batches of slots say something: those with an input, a product or an output."""
-    inputs, outputs = (sum(map(int, line[1:])) for line in head[1:])
-    wires = int(head[0][1])
-    slots = [([], wire, True, True) for wire in range(inputs)]
+def rounds(head, gates, given=None, read=None):
+    """How many batches of slots say something: those with an input, a product or an output; but, where it is told which input values are
+    given and which output values are read, with none that is carried on instead."""
+    slots, wires = [], iter(range(int(head[0][1])))
+    for value, width in enumerate(map(int, head[1][1:])):
+        slots += [([], wire, True, given is None or given[value]) for wire in itertools.islice(wires, width)]
     slots += [(gate.reads, gate.sets, gate.multiplies, gate.multiplies) for gate in gates]
-    slots += [([wire], NOTHING, False, True) for wire in range(wires - outputs, wires)]
+    widths = list(map(int, head[2][1:]))
+    wires = iter(range(int(head[0][1]) - sum(widths), int(head[0][1])))
+    for value, width in enumerate(widths):
+        slots += [([wire], NOTHING, False, read is None or bool(read[value])) for wire in itertools.islice(wires, width)]
     return talking_batches(slots)
 
 

@@ -49,7 +49,7 @@ OPTIONS = {'--bits', '--owners', '--readers', '--tolerated', '--gates'}
 FEW = 64
 
 # How often sessions are made smaller by what they came out too large.
-TRIES = 12
+TRIES = 8
 
 
 def places_of(mask):
@@ -168,18 +168,18 @@ def orders_of(circuit, wires, owners, sizes):
 
 def fitted(circuit, order, owners, count, most_gates):
     """So many parts, cut where few wires live, and by how much they are too large. Copies and constants are known once it is cut: so where a part is
-    too large, room is kept for them, and it is cut anew, until that doesn't help."""
-    sizes, before = [most_gates] * count, []
-    for _ in range(TRIES):
+    too large, room is kept for them in that part, and it is cut anew; and where that doesn't help, in each part."""
+    sizes, room = [most_gates] * count, 0
+    for number in range(TRIES):
         found = best_cuts(order.live, sizes)
         if found is None:
             break
         parts = parts_with_values(circuit, order.wires, found[1], owners)
         excess = [part.excess(most_gates) for part in parts]
-        if not any(excess) or before[-2:] == [excess, excess]:
+        if not any(excess):
             break
-        before.append(excess)
-        sizes = [max(size - more, 0) for size, more in zip(sizes, excess)]
+        room += max(excess) if 2 * number >= TRIES else 0
+        sizes = [max(most_gates - room if room else size - more, 1) for size, more in zip(sizes, excess)]
     return parts, sum(excess)
 
 

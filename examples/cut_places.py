@@ -113,17 +113,19 @@ def lives(circuit, order, owners):
 
 
 def best_cuts(live, sizes):
-    """How many wires live at all cuts, and where these are, so that parts of at most these sizes have them all and the fewest wires live; or nothing."""
-    total, ends = len(live) - 1, list(itertools.accumulate(sizes))
+    """How many wires live at all cuts, and where these are, so that parts of at most these sizes have all gates and the fewest wires live; or nothing. The
+    cut behind each part is looked for where the parts before it and those behind it can have the others; no part is empty that needn't be."""
+    total, ends, least = len(live) - 1, list(itertools.accumulate(sizes)), int(len(live) > len(sizes))
     spare = ends[-1] - total
     if spare < 0:
         return None
     low, costs, choices = 0, [0], []
-    for size, end in zip(sizes, ends):
-        first, last = (min(max(place, 0), total) for place in (end - spare, end))
+    for number, (size, end) in enumerate(zip(sizes, ends), 1):
+        first, last = max(end - spare, number * least, 0), min(end, total - (len(sizes) - number) * least)
+        # The places of the cut before, of which each costs less than those behind it.
         window, nearest, new, chosen = collections.deque(), low, [], []
         for place in range(first, last + 1):
-            while nearest < low + len(costs) and nearest <= place:
+            while nearest < low + len(costs) and nearest <= place - least:
                 while window and costs[window[-1] - low] > costs[nearest - low]:
                     window.pop()
                 window.append(nearest)

@@ -1,10 +1,9 @@
 #!/usr/bin/env python3
-"""Runs examples/cut.py and the scripts of examples/sha256: cuts.py PROGRAM [largest]
+"""Runs examples/cut.py and the scripts of examples/sha256: cuts.py PROGRAM
 
 Random circuits of bits and of words, whole and cut at several sizes, must come to what plain evaluation gives, at the cost that is told. What
 'mpc check' refuses of a circuit is refused with the same words, and what is past a limit of a job in one line. Digests are compared with
-Python's own. With 'largest', in place of all that, a circuit of bits of as many gates as a job takes, sixteen times 65,536. Ends with status
-1, and tells why, where something ends otherwise.
+Python's own. Ends with status 1, and tells why, where something ends otherwise. The largest circuits are among the jobs of bench/make_jobs.py.
 """
 
 import collections
@@ -28,10 +27,12 @@ sys.path[1:1] = [str(EXAMPLES), str(EXAMPLES / 'sha256'), str(TOP / 'fuzz')]
 import cut  # noqa: E402
 import job_folder  # noqa: E402
 import sha256_circuit  # noqa: E402
+from by_layers import in_layers, read_circuit as read_gates, rounds  # noqa: E402
 from circuit_faults import CIRCUIT_FAULTS  # noqa: E402
 from circuit_files import CIRCUIT_FILES  # noqa: E402
 from circuit_reader import read_circuit  # noqa: E402
 from circuits import MOST_GATES, Circuit  # noqa: E402
+from cut_places import best_cuts  # noqa: E402
 from in_the_clear import OPERATE, fields, out_in_the_clear  # noqa: E402
 from mutate import CHANGES  # noqa: E402
 from random_expressions import random_groups  # noqa: E402
@@ -126,6 +127,16 @@ def expect_cost(program, folder, told):
     expect(total and list(map(int, total.groups())) == [len(lines), *sums], told)
 
 
+def expect_rounds(folder, job, told):
+    """That the sessions are in layers, and take the rounds that were told."""
+    for number, session in enumerate(job.sessions):
+        head, gates = read_gates(job_folder.read_bytes(folder, f'part_{number}.txt'))
+        given = [owner in job.parties for owner in session.owners]
+        found = [rounds(head, order, given, session.readers) for order in (gates, in_layers(gates))]
+        expect(found[0] == found[1] and f'\nsession {number} ' in told and f' rounds {found[0]} ' in told.split(f'\nsession {number} ')[1].split('\n')[0],
+               f'session {number} takes {found} rounds: {told}')
+
+
 def expect_outputs(folder, job, out, sample, readers):
     """That a run writes the numbers of the circuit, one output value after another."""
     found = [(reader, numbers) for _session, _value, reader, numbers in job_folder.read_outputs(job, out.split('\n'))]
@@ -148,6 +159,7 @@ def try_cut(program, top, chance, sample, most, parties=('a', 'b', 'c'), tolerat
     expect_cost(program, folder, told)
     expect_outputs(folder, job, call_program(program, 'run', folder), sample, readers)
     if clear:
+        expect_rounds(folder, job, told)
         files = {path.name: path.read_bytes() for path in pathlib.Path(folder).iterdir()}
         expect_outputs(folder, job, out_in_the_clear(files), sample, readers)
     return told
@@ -176,20 +188,27 @@ def large_circuits_come_to_the_same(program, top):
         expect(f'{count - MOST_GATES} gates' in told.split('\n')[0], told)
 
 
-def the_largest_circuit_comes_to_the_same(program, top):
-    """As many gates as a job takes, of which none is a copy."""
-    chance = random.Random(3)
-    sample = random_circuit(chance, KINDS[0], job_folder.MOST_SESSIONS * MOST_GATES, [32, 32], [32], 60, 0, 80_000)
-    told = try_cut(program, top, chance, sample, MOST_GATES, clear=False)
-    expect(told.count(f' gates {MOST_GATES} ') == job_folder.MOST_SESSIONS, told)
-
-
 def sessions_are_as_few_as_can_be(program, top):
     """Where all gates are needed and none is a copy, they fill all sessions but for what is left over; a gate more takes another session."""
     chance = random.Random(4)
     for count, sessions in [(400, 4), (401, 5)]:
         told = try_cut(program, top, chance, random_circuit(chance, KINDS[1], count, [8, 8], [3], 9, 0, 40), 100)
         expect(f'job sessions {sessions} gates {count} ' in told, told)
+
+
+def cuts_are_the_best(program, top):
+    """Of all ways to cut a few gates into parts of some sizes the one with the fewest wires."""
+    chance = random.Random(10)
+    for _ in range(400):
+        gates, sizes = chance.randrange(10), [chance.randrange(1, 6) for _ in range(chance.randrange(1, 5))]
+        live, least = [chance.randrange(5) for _ in range(gates)] + [0], int(gates >= len(sizes))
+        ways = [[0, *cuts, gates] for cuts in itertools.combinations_with_replacement(range(gates + 1), len(sizes) - 1)]
+        ways = [cuts for cuts in ways if all(least <= last - first <= size for size, (first, last) in zip(sizes, itertools.pairwise(cuts)))]
+        found = best_cuts(live, sizes)
+        expect(bool(found) == bool(ways), f'{live} {sizes}: {found}')
+        if found:
+            costs = [sum(live[place] for place in cuts[1:-1]) for cuts in ways]
+            expect(found[0] == min(costs) and found in zip(costs, ways), f'{live} {sizes}: {found}')
 
 
 def few_wires_live_where_it_is_cut(program, top):
@@ -424,18 +443,18 @@ def words_are_refused(program, top):
         expect(done.stderr.count(b'\n') <= 1 and b'Traceback' not in done.stderr, f'{words}: {done.stderr[-200:]!r}')
 
 
-CASES = [large_circuits_come_to_the_same, jobs_take_digests, a_digest_by_nodes_with_an_audit, small_circuits_come_to_the_same, sessions_are_as_few_as_can_be,
+CASES = [large_circuits_come_to_the_same, jobs_take_digests, a_digest_by_nodes_with_an_audit, small_circuits_come_to_the_same, sessions_are_as_few_as_can_be, cuts_are_the_best,
          few_wires_live_where_it_is_cut, faults_are_those_of_the_rows, changed_circuits_are_read_as_the_program_reads_them, limits_are_told,
          many_values_are_carried, others_point_at_it, digests_are_pythons, words_are_refused]
 
 
 def main(words):
-    if len(words) not in (2, 3) or words[2:] not in ([], ['largest']):
-        sys.exit('usage: cuts.py PROGRAM [largest]')
+    if len(words) != 2:
+        sys.exit('usage: cuts.py PROGRAM')
     program = shutil.which(os.path.abspath(words[1]))
     if not program:
         sys.exit(f'cuts: there is no program {words[1]}')
-    return run_cases([the_largest_circuit_comes_to_the_same] if words[2:] else CASES, program)
+    return run_cases('cuts', CASES, program)
 
 
 if __name__ == '__main__':
