@@ -11,6 +11,7 @@ the others give and read nothing. Any two may know everything, and one alone lea
     --owners NAME,..       who gives each input value
     --readers GROUP,..     who reads each output value, as ann+bob, or 0 for nobody; one GROUP alone is for all of them
     --tolerated GROUP,..   which groups must learn nothing
+    --fewest rounds        the layers of the whole circuit stay together, which takes fewer rounds of nodes and carries more
     --gates N              at most so many gates in a session, for smaller ones
 
 The sessions are as few as can be, and are cut where few wires live. Each is in layers. Who gives an input value gives it once, and output
@@ -43,7 +44,10 @@ MOST_WORDS = 1_048_576
 MOST_SETS = (MOST_SESSIONS, 3, 2, 1)
 
 MOST_BITS = 64
-OPTIONS = {'--bits', '--owners', '--readers', '--tolerated', '--gates'}
+OPTIONS = {'--bits', '--owners', '--readers', '--tolerated', '--fewest', '--gates'}
+
+# What there are to be few of.
+WIRES, ROUNDS = 'wires', 'rounds'
 
 # Other orders of the gates are tried where more wires than so many live at a cut.
 FEW = 64
@@ -57,17 +61,23 @@ def places_of(mask):
     return [place for place in range(MOST_SESSIONS) if mask >> place & 1]
 
 
+def past(limit, what, found):
+    return f'the limit of {limit} {what} by {found - limit}'
+
+
 # The parts.
 
 class Part:
-    """A session: which input values are given to it; those that are carried into it, each as a session, its place among what goes on from there, and its
-    wires; the wires of its gates and of its constants; which output values are read of it; and what goes on, as bits the later sessions, and
-    its wires. Then come its wires at the beginning and at the end, and those at the end that are copies of others."""
+    """A session: the input values that are given to it, by their numbers; those that are carried into it, each as a session, its place among what that keeps,
+    and its wires; the wires of its gates and of its constants; the output values that are read of it; and what it keeps for later sessions,
+    each as the bits of these, and its wires."""
 
     def __init__(self):
         self.given, self.carried, self.gates, self.constants, self.read, self.kept = [], [], [], [], [], []
 
     def measure(self, circuit):
+        """Finds its wires at the beginning and at the end, and how many gates and wires it has. A wire at the end is a copy, unless it is a gate's and stands
+        there for the first time."""
         self.inputs = circuit.input_wires(self.given) + [wire for _, _, wires in self.carried for wire in wires]
         self.ends = circuit.output_wires(self.read) + [wire for _, wires in self.kept for wire in wires]
         at_the_end = set(self.ends)
@@ -75,12 +85,15 @@ class Part:
         self.size = len(self.gates) + len(self.constants) + len(self.ends) - made
         self.wires = len(self.inputs) + self.size
 
-    def excess(self, most_gates):
-        """How many gates it has to lose."""
-        return max(self.size - most_gates, self.wires - MOST_WIRES, 0)
-
     def values(self):
+        """How many values it has, at the beginning or at the end."""
         return max(len(self.given) + len(self.carried), len(self.read) + len(self.kept))
+
+    def excess(self, most_gates):
+        """How many gates it has to lose. Of too many values it loses about as many as its gates have of them."""
+        values = self.values()
+        of_values = self.size * (values - MOST_VALUES) // values + 1 if values > MOST_VALUES else 0
+        return max(self.size - most_gates, self.wires - MOST_WIRES, of_values, 0)
 
 
 def parts_with_gates(circuit, order, cuts):
@@ -157,9 +170,11 @@ class Order:
         return best_cuts(self.live, sizes)[0]
 
 
-def orders_of(circuit, wires, owners, sizes):
+def orders_of(circuit, wires, owners, sizes, fewest):
     """The orders that are tried: that of the file, and where more than few wires live at its cuts, each gate just behind what it needs, for the first
-    output and then the next ones, or for the last and then those before it."""
+    output and then the next ones, or for the last and then those before it. For few rounds there is one, by layers."""
+    if fewest == ROUNDS:
+        return [Order(circuit, in_layers(circuit, wires)[0], owners)]
     orders = [Order(circuit, wires, owners)]
     if orders[0].cost(sizes) > FEW * (len(sizes) - 1):
         orders += [Order(circuit, depth_first(circuit, results), owners) for results in (circuit.results, circuit.results[::-1])]
@@ -167,9 +182,9 @@ def orders_of(circuit, wires, owners, sizes):
 
 
 def fitted(circuit, order, owners, count, most_gates):
-    """So many parts, cut where few wires live, and by how much they are too large. Copies and constants are known once it is cut: so where a part is
-    too large, room is kept for them in that part, and it is cut anew; and where that doesn't help, in each part."""
-    sizes, room = [most_gates] * count, 0
+    """So many parts, cut where few wires live, and by how much they are too large. Copies, constants and values are known once it is cut: so where a part
+    is too large, it gets fewer gates, and it is cut anew; and where that doesn't help, each part gets as few."""
+    sizes = [most_gates] * count
     for number in range(TRIES):
         found = best_cuts(order.live, sizes)
         if found is None:
@@ -178,24 +193,25 @@ def fitted(circuit, order, owners, count, most_gates):
         excess = [part.excess(most_gates) for part in parts]
         if not any(excess):
             break
-        room += max(excess) if 2 * number >= TRIES else 0
-        sizes = [max(most_gates - room if room else size - more, 1) for size, more in zip(sizes, excess)]
+        lengths = [last - first for first, last in itertools.pairwise(found[1])]
+        fewer = [max(length - more, 1) if more else most_gates for length, more in zip(lengths, excess)]
+        sizes = list(map(min, sizes, fewer)) if 2 * number < TRIES else [min(sizes + fewer)] * count
     return parts, sum(excess)
 
 
-def cut(circuit, owners, most_gates=MOST_GATES):
-    """The parts of a circuit, as few as can be, by the order of its gates that has the fewest wires alive where it is cut."""
+def cut(circuit, owners, most_gates, fewest):
+    """The parts of a circuit, as few as can be, by the order of its gates that has the fewest wires alive where it is cut, or takes few rounds."""
     wires = needed(circuit)
     count = max(1, -(-len(wires) // most_gates))
     need(count <= MOST_SESSIONS, f'the job passes {past(MOST_SESSIONS * most_gates, f"gates of {MOST_SESSIONS} sessions", len(wires))}')
-    orders = orders_of(circuit, wires, owners, [most_gates] * count)
-    left = None
+    orders = orders_of(circuit, wires, owners, [most_gates] * count, fewest)
+    tried = []
     for sessions in range(count, MOST_SESSIONS + 1):
         best = min(orders, key=lambda order: order.cost([most_gates] * sessions))
         parts, excess = fitted(circuit, best, owners, sessions, most_gates)
-        if excess == 0 or left is not None and excess >= left:
+        tried.append(excess)
+        if excess == 0 or len(tried) > 2 and tried[-3] <= min(tried[-2:]):
             break
-        left = excess
     return parts
 
 
@@ -247,20 +263,17 @@ class PartFile:
 
 # The job.
 
-def past(limit, what, found):
-    return f'the limit of {limit} {what} by {found - limit}'
-
-
 class Job:
     """A job of the parts of a circuit: who gives and who reads its values, and what it costs. It is of bits, or of words of so many bits."""
 
-    def __init__(self, circuit, sharing, owners, readers, bits=None, most_gates=MOST_GATES):
+    def __init__(self, circuit, sharing, owners, readers, bits=None, most_gates=MOST_GATES, fewest=WIRES):
         need(len(owners) == len(circuit.inputs), f'there are {len(owners)} owners, and the circuit has {len(circuit.inputs)} input values')
         need(len(readers) == len(circuit.outputs), f'there are {len(readers)} groups of readers, and the circuit has {len(circuit.outputs)} output values')
         stranger = next((name for name in itertools.chain(owners, *readers) if name not in sharing.parties), None)
         need(stranger is None, f'{str(stranger)[:40]!r} is no party')
+        need(all(len(set(group)) == len(group) for group in readers), 'a reader stands twice in a group')
         self.circuit, self.sharing, self.owners, self.readers, self.bits = circuit, sharing, owners, readers, bits
-        self.parts = cut(circuit, owners, most_gates)
+        self.parts = cut(circuit, owners, most_gates, fewest)
         self.products = [sum(circuit.operations[wire] in PRODUCTS for wire in part.gates) for part in self.parts]
         self.messages = [self.messages_of(part, products) for part, products in zip(self.parts, self.products)]
         over = ' and '.join(past(limit, what, found) for limit, what, found in self.limits(most_gates) if found > limit)
@@ -310,9 +323,11 @@ class Job:
         sessions = [self.session(number, part) for number, part in enumerate(self.parts)]
         fields = {'version': 2, 'ring_bits': self.bits or 1, 'parties': self.sharing.parties, 'tolerated': self.sharing.tolerated, 'session': sessions}
         os.makedirs(folder, exist_ok=True)
-        write_new(folder, 'job.toml', job_text(fields).encode())
+        there = next((name for name in ['job.toml', *(session['circuit'] for session in sessions)] if os.path.lexists(os.path.join(folder, name))), None)
+        need(there is None, f'{os.path.join(folder, str(there))} is there already')
         for session, file in zip(sessions, self.files):
             write_new(folder, session['circuit'], file.text().encode())
+        write_new(folder, 'job.toml', job_text(fields).encode())
 
 
 # The words of a call.
@@ -346,7 +361,9 @@ def job_of(circuit, parties, options):
     readers = groups_of(options['--readers']) if '--readers' in options else [[name for name in parties if name in owners]]
     readers = readers * len(circuit.outputs) if len(readers) == 1 else readers
     bits = number_of(options, '--bits', MOST_BITS) if '--bits' in options else None
-    return Job(circuit, sharing, owners, readers, bits, number_of(options, '--gates', MOST_GATES))
+    fewest = options.get('--fewest', WIRES)
+    need(fewest in (WIRES, ROUNDS), f'--fewest is {WIRES} or {ROUNDS}, and not {fewest[:40]!r}')
+    return Job(circuit, sharing, owners, readers, bits, number_of(options, '--gates', MOST_GATES), fewest)
 
 
 def circuit_in(path, options):

@@ -31,7 +31,7 @@ from by_layers import in_layers, read_circuit as read_gates, rounds  # noqa: E40
 from circuit_faults import CIRCUIT_FAULTS  # noqa: E402
 from circuit_files import CIRCUIT_FILES  # noqa: E402
 from circuit_reader import read_circuit  # noqa: E402
-from circuits import MOST_GATES, Circuit  # noqa: E402
+from circuits import MOST_GATES, Circuit, circuit_of as circuit_file  # noqa: E402
 from cut_places import best_cuts  # noqa: E402
 from in_the_clear import OPERATE, fields, out_in_the_clear  # noqa: E402
 from mutate import CHANGES  # noqa: E402
@@ -144,7 +144,7 @@ def expect_outputs(folder, job, out, sample, readers):
     expect(found == wanted, f'{folder}: {str(found)[:300]} in place of {str(wanted)[:300]}')
 
 
-def try_cut(program, top, chance, sample, most, parties=('a', 'b', 'c'), tolerated=(('a',), ('b',), ('c',)), clear=True):
+def try_cut(program, top, chance, sample, most, parties=('a', 'b', 'c'), tolerated=(('a',), ('b',), ('c',)), clear=True, fewest='wires'):
     """Cuts a circuit into sessions of so many gates, and runs the job."""
     def group(names):
         return '+'.join(names) or '0'
@@ -153,7 +153,8 @@ def try_cut(program, top, chance, sample, most, parties=('a', 'b', 'c'), tolerat
     pathlib.Path(file).write_text(sample.text, encoding='utf-8')
     owners = chance.choices(parties, k=len(sample.widths))
     readers = [chance.sample(parties, chance.randrange(1, len(parties) + 1)) for _ in sample.outputs]
-    words = ['--owners', ','.join(owners), '--readers', ','.join(map(group, readers)), '--tolerated', ','.join(map(group, tolerated)), '--gates', most]
+    words = ['--owners', ','.join(owners), '--readers', ','.join(map(group, readers)), '--tolerated', ','.join(map(group, tolerated)), '--gates', most,
+             '--fewest', fewest]
     told = wrote(CUT, file, folder, *parties, *words, *([] if sample.of_bits else ['--bits', sample.bits]))
     job = give(folder, sample, owners)
     expect_cost(program, folder, told)
@@ -175,7 +176,7 @@ def small_circuits_come_to_the_same(program, top):
         sample = random_circuit(chance, kind, count, widths, outputs, chance.choice([4, 60]), 0.1, count // 8)
         for most in (MOST_GATES, count // 2 + 30, count // 12 + 60):
             parties = ('a', 'b', 'c', 'd', 'e')[:chance.choice([3, 3, 4, 5])]
-            try_cut(program, top, chance, sample, most, parties, random_groups(chance, list(parties)) or [()])
+            try_cut(program, top, chance, sample, most, parties, random_groups(chance, list(parties)) or [()], fewest=chance.choice(['wires', 'rounds']))
         expect(number < 4 or len(os.listdir(top)) > 12, 'too few jobs')
 
 
@@ -194,6 +195,19 @@ def sessions_are_as_few_as_can_be(program, top):
     for count, sessions in [(400, 4), (401, 5)]:
         told = try_cut(program, top, chance, random_circuit(chance, KINDS[1], count, [8, 8], [3], 9, 0, 40), 100)
         expect(f'job sessions {sessions} gates {count} ' in told, told)
+
+
+def rounds_are_few(program, top):
+    """Cut by layers, a circuit takes no more rounds than its depth, two, and one for each session; cut where few wires live, it takes more."""
+    numbers, width, told = 16, 16, {}
+    text, chance = circuit_file('greatest', [str(numbers), str(width)]), random.Random(11)
+    given = [[chance.randrange(2**width)] for _ in range(numbers)]
+    sample = Sample(True, 1, text, [width] * numbers, given, [width], [max(given)])
+    for fewest in ('wires', 'rounds'):
+        told[fewest] = try_cut(program, top, chance, sample, 500, fewest=fewest)
+    found = {fewest: list(map(int, re.search(r'job sessions (\d+) .* rounds (\d+) .* carried (\d+) depth (\d+)', text).groups())) for fewest, text in told.items()}
+    sessions, rounds_in_layers, carried, depth = found['rounds']
+    expect(depth + 2 <= rounds_in_layers <= depth + 2 + sessions and rounds_in_layers < found['wires'][1] and carried > found['wires'][2], f'{found}')
 
 
 def cuts_are_the_best(program, top):
@@ -284,16 +298,17 @@ def limits_are_told(program, top):
     for text, words, line in [
             (chain, [*parties, '--gates', '10'], 'the limit of 160 gates of 16 sessions by 10'),
             (wide([131_073], [1], 1), parties, 'the limit of 131072 wires of a session by 2'),
-            (wide([1] * 1_100, [1_100], 1_100), [*parties, '--owners', ','.join(['a'] * 1_100)], 'the limit of 1024 input values of a session by 76'),
-            (wide([2], [1] * 1_030, 1_030), parties, 'the limit of 1024 output values of a session by 6'),
+            (wide([1] * 1_100, [1], 1), [*parties, '--owners', ','.join(['a'] * 1_100)], 'the limit of 1024 input values of a session by 76'),
+            (wide([2], [1] * 1_030, 0).replace('0 2', '0 1032'), parties, 'circuit: 15 OutputNotSet wire=2'),
             (wide([100_000, 31_000], [20], 20), 'abcdefghij', 'the limit of 1048576 messages by '),
             (wide([131_000], [20], 20), [*'abcdefghi', '--readers', '0'], 'the limit of 1048576 messages by '),
             (chain, ['a', 'b'], 'a and b are all parties'), (chain, ['a', 'a', 'b'], 'a name stands twice'), (chain, ['a', 'b', 'of'], 'a name is a letter'),
             (chain, [*'abcdefghijklm'], 'a job has 1 to 12 parties'), (chain, [*parties, '--tolerated', 'a+b,c'], 'a+b and c are all parties'),
             (chain, [*parties, '--tolerated', 'a+x'], "'a+x' is no group"), (chain, [*parties, '--owners', 'x'], "'x' is no party"),
             (chain, [*parties, '--owners', 'a,b'], 'there are 2 owners'), (chain, [*parties, '--readers', 'a,b'], 'there are 2 groups of readers'),
-            (chain, [*parties, '--readers', 'a+x'], "'x' is no party"), (wide([1] * 4, [1], 4), parties, 'the circuit has 4 input values'),
+            (chain, [*parties, '--readers', 'a+x'], "'x' is no party"), (chain, [*parties, '--readers', 'a+a'], 'a reader stands twice'), (wide([1] * 4, [1], 4), parties, 'the circuit has 4 input values'),
             (chain, [*parties, '--gates', '65537'], '--gates is a number from 1 to 65536'), (chain, [*parties, '--bits', '0'], '--bits is a number from 1'),
+            (chain, [*parties, '--fewest', 'gates'], "--fewest is wires or rounds, and not 'gates'"),
             (chain, [*parties, '--bits', '8'], f'{top}/circuit: 9 UnknownOperation line=4'), ('', parties, f'{top}/circuit: 5 FewLines found=0')]:
         pathlib.Path(top, 'circuit').write_text(text, encoding='utf-8')
         try:
@@ -319,6 +334,11 @@ def many_values_are_carried(program, top):
     text = f'{count} {wires + count}\n{wires}{" 1" * wires}\n1 1\n' + '\n'.join(lines) + '\n'
     sample = Sample(True, 1, text, [1] * wires, [[chance.randrange(2)] for _ in range(wires)], [1], None)
     try_cut(program, top, chance, sample._replace(found=[[sample.given[0][0]]]), 1_700)
+    for inputs, outputs in [([1] * 1_100, [1_100]), ([1_100], [1] * 1_100)]:
+        text, words = wide(inputs, outputs, 1_100), [chance.randrange(2) for _ in range(1_100)]
+        given, found = (list(numbers_on(its_words, widths, True)) for its_words, widths in ((words, inputs), ([word ^ words[0] for word in words], outputs)))
+        told = try_cut(program, top, chance, Sample(True, 1, text, inputs, given, outputs, found), MOST_GATES)
+        expect('job sessions 2 ' in told, told)
     sample = random_circuit(chance, KINDS[1], 6_000, [8], [4], 6_000, 0.5, 0)
     told = try_cut(program, top, chance, sample, 400)
     expect(int(re.search(r'carried (\d+) depth', told)[1]) > 2_000, told)
@@ -443,7 +463,7 @@ def words_are_refused(program, top):
         expect(done.stderr.count(b'\n') <= 1 and b'Traceback' not in done.stderr, f'{words}: {done.stderr[-200:]!r}')
 
 
-CASES = [large_circuits_come_to_the_same, jobs_take_digests, a_digest_by_nodes_with_an_audit, small_circuits_come_to_the_same, sessions_are_as_few_as_can_be, cuts_are_the_best,
+CASES = [large_circuits_come_to_the_same, jobs_take_digests, a_digest_by_nodes_with_an_audit, small_circuits_come_to_the_same, sessions_are_as_few_as_can_be, rounds_are_few, cuts_are_the_best,
          few_wires_live_where_it_is_cut, faults_are_those_of_the_rows, changed_circuits_are_read_as_the_program_reads_them, limits_are_told,
          many_values_are_carried, others_point_at_it, digests_are_pythons, words_are_refused]
 
