@@ -17,6 +17,10 @@ set once and before it is read), of all inputs, and of all tapes of random words
   distribution of what a simulator makes of the members' inputs, outputs and tapes alone (`simulated`).
 
 {quotes}
+The model: channels between parties are private, the corrupted group is fixed beforehand and follows its program, all inputs are fixed before the run, tapes are uniform and
+independent, and the plan is public. A group learns its inputs, its outputs and the plan, and nothing more. What it sees are words, in neither an order nor a time; that a
+program waits by its plan alone, and not by secrets, is of [schedules](STATEMENT_SCHEDULES.md) and of [nodes](STATEMENT_NODES.md).
+
 This page is all that a cryptographer must read, {lines} lines: it has each definition that the theorem reaches, once, in a section for each module. What a section reads
 stands before it. `docs/write.py` writes it from the sources, and the gate refuses any other text. Four more pages say what stands around it: [every schedule](STATEMENT_SCHEDULES.md) of
 the program's steps, [files](STATEMENT_FILES.md) that give a job, [nodes](STATEMENT_NODES.md) on a network, and the [outside](STATEMENT_OUTSIDE.md), with `command` and the headline.
@@ -34,7 +38,7 @@ The last four are parts of the first, said of every world within the limits: [Wh
 
 ## How to read a definition
 
-A comment tells what follows it. A name is followed by its type, and then by its equations, one for each case. The words `pub`, `abbrev` and `unfoldable` are left out.
+A comment tells what follows it. A name is followed by its type, and then by its equations, one for each case. Of definitions the words `pub`, `abbrev` and `unfoldable` are left out.
 
 | Notation | Meaning |
 |---|---|
