@@ -1,6 +1,6 @@
 """Jobs that are accepted."""
 
-from product import CHECK, Edit, RUN, Row, SEED, SESSION, TAPE_A, TAPE_B, TAPE_C, TWO_SESSIONS, Whole, Without
+from product import CHECK, Edit, PRODUCT, RUN, Row, SEED, SESSION, TAPE_A, TAPE_B, TAPE_C, TWO_SESSIONS, Whole, Without
 
 # The changes that make of the product of 5 and 7 a second session with that of 2 and 3.
 PRODUCTS_OF_TWO_SESSIONS = [
@@ -82,6 +82,29 @@ CONSTANT_BIT = [
     Edit('party_c.toml', '5 6', ''),
 ]
 
+# The changes that add a constant to the product.
+PRODUCT_AND_CONSTANT = [Whole('mul.txt', b'3 5\n2 1 1\n1 1\n2 1 0 1 2 MUL\n1 1 255 3 EQ\n2 1 2 3 4 ADD\n')]
+
+# The changes that give b another name.
+LONGER_NAME = [
+    Edit('job.toml', '"a", "b", "c"', '"a", "b_2", "c"'),
+    Edit('job.toml', '(a, b, c)', '(a, b_2, c)'),
+    Edit('job.toml', '["a", "b"]', '["a", "b_2"]'),
+    Without('party_b.toml'),
+    Whole('party_b_2.toml', PRODUCT['party_b.toml']),
+]
+
+# A session of a constant, which c reads, between the two products.
+THREE_SESSIONS = [
+    *PRODUCTS_OF_TWO_SESSIONS,
+    Edit('job.toml', SESSION, SESSION + SESSION.replace('mul.txt', 'nine.txt').replace('["a", "b"]', '[]')),
+    Whole('nine.txt', b'1 1\n0\n1 1\n1 1 9 0 EQ\n'),
+    Edit('party_a.toml', '["5", "2"]', '["5", "", "2"]'),
+    Edit('party_a.toml', '11 21 3 4', '11 21 3 4 9'),
+    Edit('party_b.toml', '["7", "3"]', '["7", "", "3"]'),
+    Edit('party_c.toml', '["", ""]', '["", "", ""]'),
+]
+
 # What the check of the product writes.
 COUNTS_OF_A_PRODUCT = ('parties 3\n'
                        'groups 3\n'
@@ -126,6 +149,41 @@ ACCEPTED = [
     Row('largest_constant', RUN,
         [Edit('mul.txt', '2 1 0 1 2 MUL', '1 1 255 2 EQ')], out='out 0 0 c 255\n'),
     Row('no_gates', RUN, NO_GATES, out='out 0 0 b 200\n'),
+    Row('product_and_a_constant', RUN, PRODUCT_AND_CONSTANT, out='out 0 0 c 34\n'),
+    # The third wire is never set, and is no output wire.
+    Row('values_of_each_operation', RUN,
+        [Whole('mul.txt', b'6 9\n2 1 1\n1 6\n2 1 0 1 3 MUL\n1 1 7 4 EQ\n2 1 3 4 5 SUB\n1 1 5 6 NEG\n2 1 6 0 7 ADD\n1 1 7 8 EQW\n'),
+         Edit('party_a.toml', '5', '20'),
+         Edit('party_b.toml', '7', '13')],
+        out='out 0 0 c 4 7 253 3 23 23\n'),
+    Row('values_of_each_operation_on_bits', RUN,
+        [Edit('job.toml', '8', '1'),
+         Edit('job.toml', '"ring"', '"bristol"'),
+         Whole('mul.txt', b'3 5\n2 1 1\n1 3\n2 1 0 1 2 XOR\n2 1 0 2 3 AND\n1 1 3 4 INV\n'),
+         Edit('party_a.toml', '5', '1'),
+         Edit('party_a.toml', '10 20 1 2', '1 0 1 1'),
+         Edit('party_b.toml', '7', '0'),
+         Edit('party_b.toml', '30 40 3 4', '0 1 0 1'),
+         Edit('party_c.toml', '5 6', '1 0')],
+        out='out 0 0 c 1 1 0\n'),
+    Row('numbers_of_any_length_in_a_circuit', RUN,
+        [Edit('job.toml', '8', '64'),
+         Whole('mul.txt', b'4 6\n2 1 1\n1 4\n1 1 7 2 EQ\r\n1 1 9999999999999999999 3 EQ\n1 1 00000000000000000007 4 EQ\n'
+                          b'1 1 18446744073709551615 5 EQ')],
+        out='out 0 0 c 7 9999999999999999999 7 18446744073709551615\n'),
+    Row('both_values_of_one_owner', RUN,
+        [Edit('job.toml', '["a", "b"]', '["b", "b"]'),
+         Edit('party_a.toml', '5', ''),
+         Edit('party_b.toml', '7', '5 7'),
+         Edit('party_b.toml', '30 40 3 4', '30 40 50 60 3 4')],
+        out='out 0 0 c 35\n'),
+    Row('a_longer_name', RUN, LONGER_NAME, out='out 0 0 c 35\n'),
+    Row('hosts_a_port_and_a_value_that_nobody_reads', RUN,
+        [Edit('job.toml', '[[session]]\n', 'hosts = ["127.0.0.1", "b.example", "::1"]\nport = 65392\n[[session]]\n'),
+         Edit('job.toml', '[["c"]]', '[["c"], []]'),
+         Whole('mul.txt', b'2 4\n2 1 1\n2 1 1\n2 1 0 1 2 MUL\n2 1 0 1 3 ADD\n')],
+        out='out 0 0 c 35\n'),
+    Row('three_sessions', RUN, THREE_SESSIONS, out='out 0 0 c 35\nout 1 0 c 9\nout 2 0 c 6\n'),
     Row('product_of_two_bits', RUN,
         [Edit('job.toml', '8', '1'),
          Edit('job.toml', '"ring"', '"bristol"'),
@@ -180,6 +238,18 @@ ACCEPTED = [
          Whole('party_d.toml', NO_INPUTS),
          Whole('party_e.toml', NO_INPUTS)], out='out 0 0 c 5000\nout 0 0 e 5000\n'),
     Row('counts_of_a_product', CHECK, out=COUNTS_OF_A_PRODUCT),
+    Row('counts_of_a_product_and_a_constant', CHECK, PRODUCT_AND_CONSTANT, out=COUNTS_OF_A_PRODUCT.replace('gates 1', 'gates 3')),
+    # b sends its input and gets what it reads, and a multiplies the only pair and sends nothing of it.
+    Row('counts_where_one_party_holds_everything', CHECK, ALL_HELD_BY_ONE,
+        out='parties 2\n'
+            'groups 1\n'
+            'group 0 b\n'
+            'duty a 1\n'
+            'duty b 0\n'
+            'session 0 gates 1 products 1 messages 2\n'
+            'words a 0\n'
+            'words b 0\n'
+            'messages 2\n'),
     Row('structure_of_four_parties', CHECK,
         [Edit('job.toml', '"a", "b", "c"', '"a", "b", "c", "d"'),
          Edit('job.toml', '2 of (a, b, c)', 'a & (b | c | d) | b & c & d'),

@@ -18,7 +18,7 @@ SQUARE_OF_A_SUM = b'input x\ninput y\nlet s = x + y\noutput s * s - 3\n'
 
 CIRCUIT_OF_IT = b'5 7\n2 1 1\n1 1\n2 1 0 1 2 ADD\n2 1 2 2 3 MUL\n1 1 3 4 EQ\n2 1 3 4 5 SUB\n1 1 5 6 EQW\n'
 
-# What c sees of it: x + y in summands 40, 60 and 168, whose products are 16 for a, and 192 for b and for c each; 3 is taken from summand 0.
+# What c sees of the square: x + y in summands 40, 60 and 168, whose products are 16 for a, and 192 for b and for c each; 3 is taken from summand 0.
 SEEN_BY_C = ('out 0 0 c 141\n'
              'view c\n'
              '0 0 0 a c 10\n'
@@ -35,12 +35,64 @@ SEEN_BY_C = ('out 0 0 c 141\n'
              '0 3 2 c b 181\n'
              '0 7 2 a c 123\n')
 
+# The product of -5 and 7, where a gives 5, and then 5. b gives nothing, and draws two words.
+NEGATIVES = b'let a=7\r\ninput x\r\noutput -x*--a\r\noutput x'
+
+CIRCUIT_OF_NEGATIVES = (b'7 8\n1 1\n2 1 1\n1 1 7 1 EQ\n1 1 0 2 NEG\n1 1 1 3 NEG\n1 1 3 4 NEG\n2 1 2 4 5 MUL\n'
+                        b'1 1 5 6 EQW\n1 1 0 7 EQW\n')
+
+WITHOUT_B = [Edit('job.toml', '["a", "b"]', '["a"]'), Edit('job.toml', '[["c"]]', '[["c"], ["c"]]'), Edit('party_b.toml', '"7"', '""'),
+             Edit('party_b.toml', '30 40 3 4', '3 4')]
+
+# What c sees of them: -x in summands 246, 236 and 25, and 7 in summand 0 alone. Of their products 0 is a's, 105 b's and 116 c's.
+NEGATIVES_SEEN_BY_C = ('out 0 0 c 221\n'
+                       'out 0 1 c 5\n'
+                       'view c\n'
+                       '0 0 0 a c 10\n'
+                       '0 0 1 a c 20\n'
+                       '0 5 0 a c 1\n'
+                       '0 5 1 a c 2\n'
+                       '0 5 0 b c 3\n'
+                       '0 5 1 b c 4\n'
+                       '0 5 0 c b 5\n'
+                       '0 5 1 c a 6\n'
+                       '0 5 2 c a 105\n'
+                       '0 5 2 c b 105\n'
+                       '0 8 2 a c 200\n'
+                       '0 9 2 a c 231\n')
+
+# The largest word of 64 bits, which stands in summand 0; and nothing.
+LARGEST = b' \t\r\n\noutput 000018446744073709551615'
+
+CIRCUIT_OF_LARGEST = b'2 2\n0\n1 1\n1 1 18446744073709551615 0 EQ\n1 1 0 1 EQW\n'
+
+LARGEST_SEEN_BY_C = 'out 0 0 c 18446744073709551615\nview c\n0 2 2 a c 0\n'
+
+NOBODY = [Edit('job.toml', '["a", "b"]', '[]'), Edit('party_a.toml', '"5"', '""'), Edit('party_b.toml', '"7"', '""')]
+
+
+def counts(gates, products, messages, words):
+    """What the check writes of a session of three parties of which none alone must learn anything."""
+    drawn = ''.join(f'words {name} {count}\n' for name, count in zip('abc', words))
+    session = f'session 0 gates {gates} products {products} messages {messages}\n'
+    return f'{COUNTS_OF_A_PRODUCT.partition("session")[0]}{session}{drawn}messages {messages}\n'
+
+
+def worked(name, text, circuit, seen, counted, changes=()):
+    """A text of expressions, and the circuit that it stands for, which come to the same."""
+    for form, layout, data in [(name, EXPR, text), (f'the_circuit_of_{name}', VERSION_2, circuit)]:
+        files = [*layout, *changes, Whole('mul.txt', data)]
+        yield Row(form, RUN, files, out=seen.partition('view')[0])
+        yield Row(f'view_of_{form}', ['run', 'd', '--view', 'c'], files, out=seen)
+        yield Row(f'check_of_{form}', CHECK, files, out=counted)
+
+
 WORKED = [
-    row for name, changes in [('expressions', [*EXPR, Whole('mul.txt', SQUARE_OF_A_SUM)]),
-                              ('the_circuit_of_expressions', [*VERSION_2, Whole('mul.txt', CIRCUIT_OF_IT)])]
-    for row in [Row(name, RUN, changes, out='out 0 0 c 141\n'),
-                Row(f'view_of_{name}', ['run', 'd', '--view', 'c'], changes, out=SEEN_BY_C),
-                Row(f'check_of_{name}', CHECK, changes, out=COUNTS_OF_A_PRODUCT.replace('gates 1', 'gates 5'))]]
+    *worked('expressions', SQUARE_OF_A_SUM, CIRCUIT_OF_IT, SEEN_BY_C, counts(5, 1, 21, [4, 4, 2])),
+    *worked('negatives', NEGATIVES, CIRCUIT_OF_NEGATIVES, NEGATIVES_SEEN_BY_C, counts(7, 1, 18, [4, 2, 2]), WITHOUT_B),
+    *worked('the_largest_word', LARGEST, CIRCUIT_OF_LARGEST, LARGEST_SEEN_BY_C, counts(2, 0, 1, [0, 0, 0]), [*NOBODY, Edit('job.toml', '8', '64')]),
+    *worked('no_expressions', b'', b'0 0\n0\n0\n', 'view c\n', counts(0, 0, 0, [0, 0, 0]), [*NOBODY, Edit('job.toml', '[["c"]]', '[]')]),
+]
 
 
 def lines_for_c(words):
@@ -58,7 +110,6 @@ def of_bits(bits, x, y):
 
 
 XY = b'input x\ninput y\n'
-NOBODY = [Edit('job.toml', '["a", "b"]', '[]'), Edit('party_a.toml', '"5"', '""'), Edit('party_b.toml', '"7"', '""')]
 
 # Single expressions over x, which is 5, and y, which is 7, and their values modulo 256.
 SINGLE = [
@@ -66,6 +117,7 @@ SINGLE = [
     (b'x - y', 254), (b'y - x', 2), (b'-x * y', 221), (b'-(x * y)', 221), (b'-x + y', 2), (b'-(x + y)', 244), (b'--x', 5), (b'x--y', 12), (b'x - - - y', 254),
     (b'2*-x', 246), (b'-x*-y', 35), (b'x*y*x*y', 201), (b'x*(y*(x*y))', 201), (b'255 + 1', 0), (b'0 - 255', 1), (b'255 * 255', 1), (b'000255', 255),
     (b'0', 0), (b'00', 0), (b'x', 5), (b'((((x))))', 5), (b'\tx\t+\ty\t', 12), (b'x\r+\ry', 12), (b'x+y-(x-y)*(x+y)', 36), (1000 * b'0' + b'7', 7),
+    (32 * b'-' + b'1 - 1 - (1)', 255),
     (32 * b'-' + b'x', 5), (31 * b'-' + b'x', 251), (32 * b'(' + b'x' + 32 * b')', 5), (16 * b'(-' + b'x' + 16 * b')', 5), (32 * b'-' + b'x' + 40 * b' - 1' + b'-(y)', 214),
     (40 * b'(x)*' + b'-' + 31 * b'(' + b'y' + 31 * b')', -7 * 5**40 % 256), (31 * b'-' + b'(x) * ' + 32 * b'-' + b'y', 221), (b'(' * 31 + b'-x' + b')' * 31 + b'*-(-(y))', 221),
 ]
@@ -150,6 +202,7 @@ FAULTY = [
     (b'let x + 1', '2 Syntax', 'line=1 at=6'),
     (b'let x == 5', '2 Syntax', 'line=1 at=7'),
     (b'input abcdefghijklmnopq', '2 Syntax', 'line=1 at=6'),
+    (b'\ninput abcdefghijklmnopq', '2 Syntax', 'line=2 at=6'),
     (b'let abcdefghijklmnopq = 1', '2 Syntax', 'line=1 at=4'),
     (b'output 1 + abcdefghijklmnopq', '2 Syntax', 'line=1 at=11'),
     (b'output ' + 1_000_000 * b'a', '2 Syntax', 'line=1 at=7'),
@@ -188,6 +241,7 @@ FAULTY = [
     (b'let y = x\nlet x = 1', '3 UnknownName', 'line=1 at=8'),
     (b'input x\noutput X', '3 UnknownName', 'line=2 at=7'),
     (b'input x\nlet x = y', '3 UnknownName', 'line=2 at=8'),
+    (b'input x\nlet x = y\noutput (', '3 UnknownName', 'line=2 at=8'),
     (b'output (1 + -(y))', '3 UnknownName', 'line=1 at=14'),
     (b'output x + 256', '3 UnknownName', 'line=1 at=7'),
     (b'input abcdefghijklmno1\noutput abcdefghijklmno2', '3 UnknownName', 'line=2 at=7'),
@@ -206,6 +260,7 @@ FAULTY = [
     (b'output ' + 33 * b'(' + b')', '5 TooDeep', 'line=1 at=39'),
     (b'output ' + 33 * b'(' + b'1' + 33 * b')', '5 TooDeep', 'line=1 at=39'),
     (b'output ' + 33 * b'-' + b'1', '5 TooDeep', 'line=1 at=39'),
+    (b'output ' + 40 * b'-', '5 TooDeep', 'line=1 at=39'),
     (b'output ' + 32 * b'-' + b'(1)', '5 TooDeep', 'line=1 at=39'),
     (b'output ' + 16 * b'(-' + b'-1', '5 TooDeep', 'line=1 at=39'),
     (b'output ' + 1_000_000 * b'-' + b'x', '5 TooDeep', 'line=1 at=39'),
@@ -223,6 +278,7 @@ FAULTY = [
     (b'let x = 1\nlet x = x', '6 TwiceNamed', 'line=2'),
     (b'let x = 1\n\ninput x\noutput y', '6 TwiceNamed', 'line=3'),
     (b'input x\ninput x\noutput', '6 TwiceNamed', 'line=2'),
+    (b'input x\nlet x = 1\noutput (', '6 TwiceNamed', 'line=2'),
 ]
 
 
@@ -240,6 +296,7 @@ LARGE = [
     (b'input x\n' + 65_536 * b'output x\n', '7 TooLarge', ''),
     (many(b'input', 1_025), '7 TooLarge', ''),
     (b'input i0\n' + 1_025 * b'output i0\n', '7 TooLarge', ''),
+    (b'input x\n' + 1_025 * b'output x\n' + b'output y', '3 UnknownName', 'line=1027 at=7'),
     (XY + b'output x' + 65_536 * b'+y' + b'\noutput z', '3 UnknownName', 'line=4 at=7'),
     (XY + b'output x' + 65_536 * b'+y' + b'\ninput x', '6 TwiceNamed', 'line=4'),
     (XY + b'output x' + 65_536 * b'+y' + b'+', '2 Syntax', f'line=3 at={8 + 2 * 65_536 + 1}'),

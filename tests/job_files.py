@@ -1,6 +1,7 @@
 """Files of jobs whose faults are told in order: of the top table, its versions, its fields, its sessions, hosts and ports."""
 
-from product import CHECK, Row, Whole
+from accepted_runs import COUNTS_OF_A_PRODUCT
+from product import CHECK, JOB, Row, Whole
 
 TOP = 'version = 1\nring_bits = 8\nparties = ["a", "b", "c"]\nformula = "2 of (a, b, c)"\n'
 SESSION = '[[session]]\ncircuit = "mul.txt"\nlayout = "ring"\nowners = ["a", "b"]\nreaders = [["c"], []]\n'
@@ -17,10 +18,15 @@ TOLERATING = LISTED + 'tolerated = [["a"]]\n'
 
 # Texts, and the faults that are told of them.
 VERSIONS = [
+    ('', 'job 3 Missing field=version'),
     ('version = ', 'job 1 NotToml'),
+    ('version = 9223372036854775808\n', 'job 1 NotToml'),
+    ('version = 9223372036854775807\n', 'job 2 Version found=9223372036854775807'),
+    ('Version = 1\n', 'job 3 Missing field=version'),
     ('other = 1\n', 'job 3 Missing field=version'),
     ('version = "1"\nother = 1\n', 'job 5 WrongKind field=version'),
     ('version = -2\nother = 1\n', 'job 2 Version found=-2'),
+    ('version = -9223372036854775808\n', 'job 2 Version found=-9223372036854775808'),
     ('version = 3\n', 'job 2 Version found=3'),
 ]
 
@@ -28,9 +34,19 @@ VERSIONS = [
 UNKNOWN_FIELDS = [
     ('version = 1\nzoo = 1\n"\u00e9 ?" = 1\n', 'job 4 Unknown name=zoo'),
     ('version = 1\n"\u00e9 ?" = 1\n', 'job 4 Unknown name=????'),
+    ('version = 1\nb = 1\na = 2\nc = 3\nB = 4\n', 'job 4 Unknown name=B'),
+    ('version = 1\nc = 3\nb = 1\n', 'job 4 Unknown name=b'),
+    ('version = 1\nring_bits = 8\nport = 1\nringbits = 8\n', 'job 4 Unknown name=ringbits'),
 ]
 
 TOP_FIELDS = [
+    ('version = 1\nring_bits = "8"\n', 'job 5 WrongKind field=ring_bits'),
+    (BITS_70 + 'parties = "a"\n', 'job 5 WrongKind field=parties'),
+    (BITS_70 + 'parties = []\nformula = ["a"]\n', 'job 5 WrongKind field=formula'),
+    (BITS_70 + 'parties = []\nformula = 1\n', 'job 5 WrongKind field=formula'),
+    (BITS_70 + 'parties = []\nformula = "a"\nhosts = ["x", 1]\n', 'job 5 WrongKind field=hosts'),
+    (BITS_70 + 'parties = []\nformula = "a"\nsession = [1]\n', 'job 5 WrongKind field=session'),
+    (BITS_70 + 'parties = []\nformula = "a"\n[session]\nx = 1\n', 'job 5 WrongKind field=session'),
     (BITS_70 + 'parties = ["a", 1]\n', 'job 5 WrongKind field=parties'),
     (BITS_70 + 'parties = []\nformula = "a"\nport = "x"\n', 'job 5 WrongKind field=port'),
     (BITS_70 + 'parties = []\nformula = "a"\n', 'job 3 Missing field=session'),
@@ -38,6 +54,8 @@ TOP_FIELDS = [
 
 BITS_AND_NAMES = [
     ('version = 1\nring_bits = 65\nparties = []\n' + REST, 'job 6 BadRing bits=65'),
+    ('version = 1\nring_bits = 0\nparties = []\n' + REST, 'job 6 BadRing bits=0'),
+    ('version = 1\nring_bits = -5\nparties = []\n' + REST, 'job 6 BadRing bits=-5'),
     (BITS_64 + 'parties = ["a", "b", "a"]\n' + REST, 'names 2 TwiceNamed at=2'),
     (BITS_64 + 'parties = ["a", "a", "of"]\n' + REST, 'names 2 TwiceNamed at=1'),
     (BITS_64 + 'parties = ["of"]\n' + REST, 'names 1 BadName at=0'),
@@ -50,7 +68,11 @@ SESSION_FIELDS = [
     (TOP + SESSION + '[[session]]\nx = 1\n', 'job 4 Unknown session=1 name=x'),
     (TOP + SESSION + '[[session]]\nlayout = 1\n', 'job 3 Missing session=1 field=circuit'),
     (TOP + SESSION + '[[session]]\ncircuit = "."\nlayout = 1\n', 'job 5 WrongKind session=1 field=layout'),
+    (TOP + SESSION + '[[session]]\ncircuit = "."\nlayout = ""\nowners = ["a", 1]\n', 'job 5 WrongKind session=1 field=owners'),
+    (TOP + SESSION + '[[session]]\ncircuit = "."\nlayout = ""\nowners = [["a"]]\n', 'job 5 WrongKind session=1 field=owners'),
     (TOP + SESSION + '[[session]]\ncircuit = "."\nlayout = ""\nowners = []\nreaders = ["a"]\n', 'job 5 WrongKind session=1 field=readers'),
+    (TOP + SESSION + '[[session]]\ncircuit = "."\nlayout = ""\nowners = []\nreaders = [["a"], [], ["b", 1]]\n',
+     'job 5 WrongKind session=1 field=readers'),
 ]
 
 SESSION_VALUES = [
@@ -120,6 +142,8 @@ def refused(words, text, fault):
 JOB_FILES = [
     *(refused(CHECK, text, fault) for table in [VERSIONS, UNKNOWN_FIELDS, TOP_FIELDS, BITS_AND_NAMES, SESSION_FIELDS, SESSION_VALUES, PRODUCTS,
                                                 CARRIES, HOSTS_AND_PORTS, FIELDS_OF_VERSIONS, TOLERATED_GROUPS] for text, fault in table),
+    Row('a_byte_of_no_text_in_a_job', CHECK, [Whole('job.toml', b"version = '\xff'")], status=3, err='refused job 1 NotToml\n'),
+    Row('texts_in_single_quotes', CHECK, [Whole('job.toml', JOB.replace('"', "'").encode())], out=COUNTS_OF_A_PRODUCT),
     # A node wants hosts.
     refused(['node', 'd', 'a'], TOP + SESSION, 'job 3 Missing field=hosts'),
 ]

@@ -1,7 +1,8 @@
 """Rows whose files or answers are made by a rule: each first part of a circuit, rings of each size, and what is long."""
 
+from accepted_runs import COUNTS_OF_A_PRODUCT
 from circuit_faults import FRONTS
-from product import CHECK, CIRCUIT, Edit, RUN, Row, SESSION, TWO_SESSIONS, Whole
+from product import CHECK, CIRCUIT, Edit, JOB, RUN, Row, SEED, SESSION, TAPE_A, TAPE_B, TAPE_C, TWO_SESSIONS, Whole
 
 
 def front_rows():
@@ -61,6 +62,19 @@ def products(header, operands, wires):
     return Whole('mul.txt', (header + ''.join(f'2 1 {operands} {wire} MUL\n' for wire in wires)).encode())
 
 
+def fibonacci(count):
+    """The number behind so many others, of which each is the sum of the two before it. The first two are 0 and 1."""
+    first, second = 0, 1
+    for _ in range(count):
+        first, second = second, first + second
+    return first
+
+
+# Each product is that of the two wires before it, so that no more than two wires are kept at a time.
+FIBONACCI = [Whole('mul.txt', ('1000 1002\n2 1 1\n1 1\n' + ''.join(f'2 1 {wire} {wire + 1} {wire + 2} MUL\n' for wire in range(1_000))).encode()),
+             Edit('job.toml', '8', '64'), Edit('party_a.toml', TAPE_A, SEED), Edit('party_b.toml', TAPE_B, SEED), Edit('party_c.toml', TAPE_C, SEED)]
+
+
 def of_one_party(sessions):
     """A job of one party with so many sessions of 65,536 prepared products each, whose masks take two words a product and no message."""
     session = '[[session]]\ncircuit = "mul.txt"\nlayout = "ring"\nproducts = "prepared"\nowners = ["a", "a"]\nreaders = [[]]\n'
@@ -68,12 +82,20 @@ def of_one_party(sessions):
             Whole('job.toml', ('version = 2\nring_bits = 8\nparties = ["a"]\ntolerated = [[]]\n' + sessions * session).encode())]
 
 
+def of_length(text, length):
+    """The text with line feeds up to this length."""
+    return (text + (length - len(text)) * '\n').encode()
+
+
 LONG_JOBS = [
+    Row('a_job_at_the_limit', CHECK, [Whole('job.toml', of_length(JOB, 16_777_216))], out=COUNTS_OF_A_PRODUCT),
     Row('a_job_past_the_limit', RUN, [Whole('job.toml', 16_777_217 * b' ')], status=3,
         err='refused files 1 TooLong file=job.toml limit=16777216\n'),
     Row('two_sessions_of_65536_products', RUN,
         [products('65536 65538\n2 1 1\n1 1\n', '0 1', range(2, 65538)), Edit('job.toml', SESSION, TWO_SESSIONS)],
         status=3, err='refused plan 1 TooManyMessages count=1572882\n'),
+    Row('a_thousand_products_of_the_last_two', RUN, FIBONACCI,
+        out=f'out 0 0 c {pow(5, fibonacci(1_000), 2**64) * pow(7, fibonacci(1_001), 2**64) % 2**64}\n'),
     Row('seven_parties_and_1024_products', RUN,
         [products('1024 2624\n1 1600\n1 1\n', '0 0', range(1600, 2624)), Whole('job.toml', SEVEN_PARTIES)],
         status=3, err='refused plan 1 TooManyMessages count=1052160\n'),

@@ -1,7 +1,8 @@
 """Files of parties, accepted and refused."""
 
+from accepted_runs import NO_GATES
 from product import Edit, RUN, Row, SEED, TAPE_A, Whole
-from views import OF_C, SEEN_BY_C
+from views import OF_B, OF_C, SEEN_BY_C
 
 
 def refused(text, fault):
@@ -29,8 +30,18 @@ FIELD_FAULTS = [
     ('version = 1\ninputs = ["5", "6"]\ntape = ""', '6 CountDiffers wanted=1 found=2'),
 ]
 
+# Words that are no number, and that blanks other than space, tab, line feed and carriage return don't cut: a vertical tab, a form feed, a space
+# that doesn't break, a mark of the order of bytes.
+NO_NUMBERS = ['x', '+1', '-1', '1x', '1_000', '0x1', '1\\u000b2', '1\\f2', '\u00a01', '\ufeff1', '\\u000b\\fx', '\u00a0\u00e9']
+
 # Files whose words are at fault.
 WORD_FAULTS = [
+    *((f'version = 1\ninputs = ["5"]\ntape = "10 {word} 1 2"', '7 BadWords at=1 cause=NotNumber') for word in NO_NUMBERS),
+    ('version = 1\ninputs = ["5"]\ntape = " 10 007\\tx\\r\\ny\\n"', '7 BadWords at=2 cause=NotNumber'),
+    ('version = 1\ninputs = ["5"]\ntape = "1 -2 18446744073709551616"', '7 BadWords at=1 cause=NotNumber'),
+    ('version = 1\ninputs = ["5"]\ntape = "99999999999999999999 x"', '7 BadWords at=0 cause=TooLarge'),
+    ('version = 1\ninputs = ["5"]\ntape = "10 256 1 300"', '8 WordOutOfRing at=1'),
+    ('version = 1\ninputs = [" \\r\\n\\t"]\ntape = ""', '6 CountDiffers session=0 wanted=1 found=0'),
     ('version = 1\ninputs = ["5 x"]\ntape = ""', '7 BadWords session=0 at=1 cause=NotNumber'),
     ('version = 1\ninputs = ["256"]\ntape = ""', '8 WordOutOfRing session=0 at=0'),
     ('version = 1\ninputs = ["5 6"]\ntape = ""', '6 CountDiffers session=0 wanted=1 found=2'),
@@ -63,6 +74,8 @@ FIRST_FAULTS = [
 # Bytes that are no document.
 NO_DOCUMENTS = [
     (b'\xff', '1 NotToml'),
+    (b"version = '\xff'", '1 NotToml'),
+    (b'version = 9223372036854775808', '1 NotToml'),
     (b'version = ', '1 NotToml'),
 ]
 
@@ -91,11 +104,32 @@ SEEN_WITH_SEED = ('out 0 0 c 35\n'
                   '0 2 2 c b 37\n'
                   '0 3 2 a c 126\n')
 
+# Two words of a, which b reads, in a ring of 64 bits. Of the four words of the tape a draws two for each.
+TWO_WORDS = [
+    *NO_GATES,
+    Whole('mul.txt', b'0 2\n1 2\n1 2\n'),
+    Edit('job.toml', '8', '64'),
+    Whole('party_a.toml', b'version = 1\ninputs = [" 00000000000000000000000000000000000000005\\t\\r\\n00000000000000000000000000000009 "]\n'
+                          b'tape = " 10 007\\t18446744073709551615\\r\\n0\\n"\n'),
+    Whole('party_c.toml', b'version = 1\ninputs = [" \\r\\n\\t"]\ntape = " \\r\\n\\t"\n'),
+]
+
+# What b sees of it: 5 without 10 and 7, and 9 without 2^64 - 1, are the last summands.
+SEEN_OF_TWO_WORDS = ('out 0 0 b 5 9\n'
+                     'view b\n'
+                     '0 0 0 a b 10\n'
+                     '0 0 2 a b 18446744073709551604\n'
+                     '0 1 0 a b 18446744073709551615\n'
+                     '0 1 2 a b 10\n'
+                     '0 2 1 a b 7\n'
+                     '0 3 1 a b 0\n')
+
 BOTH_CASES = 'seed = "abcdefABCDEF0123456789000000000000000000000000000000000000000000"'
 
 ACCEPTED_FILES = [
     Row('a_tape_is_cut_to_what_is_drawn', OF_C, [Whole('party_a.toml', ANOTHER_A)], out=SEEN_BY_C),
     Row('a_party_without_inputs', OF_C, [Whole('party_c.toml', ANOTHER_C)], out=SEEN_BY_C),
+    Row('numbers_of_any_length_between_blanks', OF_B, TWO_WORDS, out=SEEN_OF_TWO_WORDS),
     Row('a_seed_of_zeros', OF_C, [Edit('party_a.toml', TAPE_A, SEED)], out=SEEN_WITH_SEED),
     Row('a_seed_in_upper_and_lower_case', RUN, [Edit('party_a.toml', TAPE_A, BOTH_CASES)], out='out 0 0 c 35\n'),
 ]

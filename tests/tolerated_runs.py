@@ -2,6 +2,22 @@
 
 from product import CHECK, Edit, RUN, Row
 
+# What the check writes where a, and b and c together, must learn nothing.
+COUNTS_OF_FOUR_PARTIES = ('parties 4\n'
+                          'groups 2\n'
+                          'group 0 a\n'
+                          'group 1 b+c\n'
+                          'duty a 1\n'
+                          'duty b 1\n'
+                          'duty c 0\n'
+                          'duty d 2\n'
+                          'session 0 gates 1 products 1 messages 20\n'
+                          'words a 2\n'
+                          'words b 2\n'
+                          'words c 0\n'
+                          'words d 1\n'
+                          'messages 20\n')
+
 # Jobs of version 2.
 TOLERATED = [
     Row('product_with_a_list', RUN,
@@ -32,20 +48,22 @@ TOLERATED = [
         [Edit('job.toml', 'version = 1', 'version = 2'),
          Edit('job.toml', 'formula = "2 of (a, b, c)"', 'tolerated = [["b"], ["a"], ["b", "c"]]'),
          Edit('job.toml', 'parties = ["a", "b", "c"]', 'parties = ["a", "b", "c", "d"]')],
-        out='parties 4\n'
-            'groups 2\n'
-            'group 0 a\n'
-            'group 1 b+c\n'
-            'duty a 1\n'
-            'duty b 1\n'
-            'duty c 0\n'
-            'duty d 2\n'
-            'session 0 gates 1 products 1 messages 20\n'
-            'words a 2\n'
-            'words b 2\n'
-            'words c 0\n'
-            'words d 1\n'
-            'messages 20\n'),
+        out=COUNTS_OF_FOUR_PARTIES),
+    Row('four_parties_in_another_list', CHECK,
+        [Edit('job.toml', 'version = 1', 'version = 2'),
+         Edit('job.toml', 'formula = "2 of (a, b, c)"', 'tolerated = [["b"], ["a"], ["c", "b"], ["a"]]'),
+         Edit('job.toml', 'parties = ["a", "b", "c"]', 'parties = ["a", "b", "c", "d"]')],
+        out=COUNTS_OF_FOUR_PARTIES),
+    Row('groups_by_rising_mask', CHECK,
+        [Edit('job.toml', 'version = 1', 'version = 2'),
+         Edit('job.toml', 'formula = "2 of (a, b, c)"', 'tolerated = [["b"], [], ["c", "a"]]')],
+        status=4, err='refused q2 1 Covering first=b second=a+c\n'),
+    Row('both_parties_are_tolerated', CHECK,
+        [Edit('job.toml', 'version = 1', 'version = 2'),
+         Edit('job.toml', 'formula = "2 of (a, b, c)"', 'tolerated = [["a"], ["a", "b"]]'),
+         Edit('job.toml', 'parties = ["a", "b", "c"]', 'parties = ["a", "b"]'),
+         Edit('job.toml', '[["c"]]', '[["b"]]')],
+        status=4, err='refused q2 1 Covering first=a+b second=a+b\n'),
     Row('all_parties_are_tolerated', CHECK,
         [Edit('job.toml', 'version = 1', 'version = 2'),
          Edit('job.toml', 'formula = "2 of (a, b, c)"', 'tolerated = [["a", "b", "c"]]')], status=4,
