@@ -144,6 +144,7 @@ JOB_FILES = [
                                                 CARRIES, HOSTS_AND_PORTS, FIELDS_OF_VERSIONS, TOLERATED_GROUPS] for text, fault in table),
     Row('a_byte_of_no_text_in_a_job', CHECK, [Whole('job.toml', b"version = '\xff'")], status=3, err='refused job 1 NotToml\n'),
     Row('texts_in_single_quotes', CHECK, [Whole('job.toml', JOB.replace('"', "'").encode())], out=COUNTS_OF_A_PRODUCT),
-    # A node wants hosts.
-    refused(['node', 'd', 'a'], TOP + SESSION, 'job 3 Missing field=hosts'),
+    # A node wants hosts and a port.
+    *(refused(['node', 'd', 'a'], TOP + places + SESSION, f'job 3 Missing field={field}')
+      for places, field in [('', 'hosts'), ('port = 4000\n', 'hosts'), ('hosts = ["x", "y", "z"]\n', 'port')]),
 ]
