@@ -23,8 +23,10 @@ refused before anything is written, with the limit and by how much.
 """
 
 import array
+import bisect
 import collections
 import itertools
+import operator
 import os
 import re
 import sys
@@ -53,7 +55,7 @@ WIRES, ROUNDS = 'wires', 'rounds'
 FEW = 64
 
 # How often sessions are made smaller by what they came out too large.
-TRIES = 8
+TRIES = 6
 
 
 def places_of(mask):
@@ -163,11 +165,18 @@ class Order:
     """The gates in some order, and how many wires live at each place of it."""
 
     def __init__(self, circuit, wires, owners):
-        self.wires, self.live = wires, lives(circuit, wires, owners)
+        self.wires = wires
+        self.live, self.live_inputs, given = lives(circuit, wires, owners)
+        self.with_given = [place + count for place, count in enumerate(given)]
 
     def cost(self, sizes):
         """How many wires live at all cuts, where these are the best."""
         return best_cuts(self.live, sizes)[0]
+
+    def earliest(self, place, size):
+        """Where a part of some size that ends at some place may begin, so that there is room for a copy of each input that is given in it and lives on: those
+        are no more than what lives on, and no more than what is given."""
+        return min(place - size + self.live_inputs[place], bisect.bisect_left(self.with_given, self.with_given[place] - size))
 
 
 def orders_of(circuit, wires, owners, sizes, fewest):
@@ -183,19 +192,20 @@ def orders_of(circuit, wires, owners, sizes, fewest):
 
 def fitted(circuit, order, owners, count, most_gates):
     """So many parts, cut where few wires live, and by how much they are too large. Copies, constants and values are known once it is cut: so where a part
-    is too large, it gets fewer gates, and it is cut anew; and where that doesn't help, each part gets as few."""
-    sizes = [most_gates] * count
-    for number in range(TRIES):
-        found = best_cuts(order.live, sizes)
-        if found is None:
-            break
-        parts = parts_with_values(circuit, order.wires, found[1], owners)
-        excess = [part.excess(most_gates) for part in parts]
-        if not any(excess):
-            break
-        lengths = [last - first for first, last in itertools.pairwise(found[1])]
-        fewer = [max(length - more, 1) if more else most_gates for length, more in zip(lengths, excess)]
-        sizes = list(map(min, sizes, fewer)) if 2 * number < TRIES else [min(sizes + fewer)] * count
+    is too large, it gets fewer gates, each time more so, and it is cut anew. Where that doesn't help, there is room for copies of inputs
+    beforehand, as many as there may be."""
+    for earliest in (operator.sub, order.earliest):
+        sizes = [most_gates] * count
+        for number in range(1, TRIES + 1):
+            found = best_cuts(order.live, sizes, earliest)
+            if found is None:
+                break
+            parts = parts_with_values(circuit, order.wires, found[1], owners)
+            excess = [part.excess(most_gates) for part in parts]
+            if not any(excess):
+                return parts, 0
+            lengths = [last - first for first, last in itertools.pairwise(found[1])]
+            sizes = [min(size, max(length - more * number, 1)) if more else size for size, length, more in zip(sizes, lengths, excess)]
     return parts, sum(excess)
 
 

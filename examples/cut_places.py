@@ -1,8 +1,10 @@
 """In which order the gates of a circuit may stand, and where it is cut so that few wires live."""
 
 import array
-import collections
+import bisect
 import itertools
+import math
+import operator
 
 from circuit_reader import PRODUCTS
 
@@ -88,7 +90,8 @@ def spread(widths, values):
 
 
 def lives(circuit, order, owners):
-    """How many wires live at each place of the order: they are set before it, and read behind it. A constant is made anew."""
+    """How many wires live at each place of the order, which are set before it, and read behind it; how many of them are inputs; and how many inputs that live
+    at some place are given before it. A constant is made anew."""
     inputs, last = sum(circuit.inputs), max(len(order) - 1, 0)
     places, last_read = array.array('i', bytes(4 * len(circuit.operations))), array.array('i', [-1]) * len(circuit.operations)
     first_read = [last] * inputs
@@ -104,17 +107,23 @@ def lives(circuit, order, owners):
     places[:inputs] = array.array('i', spread(circuit.inputs, given))
     for wire, place in zip(circuit.results, spread(circuit.outputs, read)):
         last_read[wire] = max(last_read[wire], place)
-    steps = array.array('i', bytes(4 * (len(order) + 2)))
+    live, live_inputs, given_inputs = (array.array('i', bytes(4 * (len(order) + 2))) for _ in range(3))
     for wire in itertools.chain(range(inputs), order):
-        if last_read[wire] > places[wire] and wire not in circuit.constants:
-            steps[places[wire] + 1] += 1
-            steps[last_read[wire] + 1] -= 1
-    return list(itertools.accumulate(steps[:len(order) + 1]))
+        first, end = places[wire] + 1, last_read[wire] + 1
+        if end > first and wire not in circuit.constants:
+            live[first] += 1
+            live[end] -= 1
+            if wire < inputs:
+                live_inputs[first] += 1
+                live_inputs[end] -= 1
+                given_inputs[first] += 1
+    return [list(itertools.accumulate(counts[:len(order) + 1])) for counts in (live, live_inputs, given_inputs)]
 
 
-def best_cuts(live, sizes):
-    """How many wires live at all cuts, and where these are, so that parts of at most these sizes have all gates and the fewest wires live; or nothing. The
-    cut behind each part is looked for where the parts before it and those behind it can have the others; no part is empty that needn't be."""
+def best_cuts(live, sizes, earliest=operator.sub):
+    """How many wires live at all cuts, and where these are, so that parts of at most these sizes have all gates and the fewest wires live; or nothing. The cut
+    behind each part is looked for where the parts before it and those behind it can have the others; no part is empty that needn't be.
+    'earliest' tells where a part of some size that ends at some place may begin."""
     total, ends, least = len(live) - 1, list(itertools.accumulate(sizes)), int(len(live) > len(sizes))
     spare = ends[-1] - total
     if spare < 0:
@@ -123,20 +132,21 @@ def best_cuts(live, sizes):
     for number, (size, end) in enumerate(zip(sizes, ends), 1):
         first, last = max(end - spare, number * least, 0), min(end, total - (len(sizes) - number) * least)
         # The places of the cut before, of which each costs less than those behind it.
-        window, nearest, new, chosen = collections.deque(), low, [], []
+        window, nearest, new, chosen = [], low, [], []
         for place in range(first, last + 1):
             while nearest < low + len(costs) and nearest <= place - least:
                 while window and costs[window[-1] - low] > costs[nearest - low]:
                     window.pop()
                 window.append(nearest)
                 nearest += 1
-            while window[0] < place - size:
-                window.popleft()
-            chosen.append(window[0])
-            new.append(costs[window[0] - low] + (live[place] if place < total else 0))
+            best = bisect.bisect_left(window, earliest(place, size))
+            chosen.append(window[best] if best < len(window) else None)
+            new.append(costs[window[best] - low] + (live[place] if place < total else 0) if best < len(window) else math.inf)
         choices.append((first, chosen))
         low, costs = first, new
+    if costs[-1] == math.inf:
+        return None
     cuts = [total]
     for first, chosen in reversed(choices):
         cuts.append(chosen[cuts[-1] - first])
-    return costs[total - low], cuts[::-1]
+    return costs[-1], cuts[::-1]

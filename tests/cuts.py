@@ -11,6 +11,7 @@ import contextlib
 import hashlib
 import io
 import itertools
+import json
 import os
 import pathlib
 import random
@@ -41,6 +42,9 @@ from scripts import BY_LAYERS, CIRCUITS, MOST_SECONDS, NODES, NUMBERS, call, exp
 CUT, SHA, SHA_CIRCUIT = EXAMPLES / 'cut.py', EXAMPLES / 'sha256/job.py', EXAMPLES / 'sha256/sha256_circuit.py'
 MUTATED = 300
 DIGESTS = 32
+
+# Circuits whose text is shorter are cut in this process, and are computed in the clear.
+SMALL = 400_000
 
 # Whether a circuit is of bits, and the bits of its ring.
 KINDS = [(True, 1), (False, 8), (False, 32), (False, 64)]
@@ -144,22 +148,32 @@ def expect_outputs(folder, job, out, sample, readers):
     expect(found == wanted, f'{folder}: {str(found)[:300]} in place of {str(wanted)[:300]}')
 
 
-def try_cut(program, top, chance, sample, most, parties=('a', 'b', 'c'), tolerated=(('a',), ('b',), ('c',)), clear=True, fewest='wires'):
-    """Cuts a circuit into sessions of so many gates, and runs the job."""
-    def group(names):
-        return '+'.join(names) or '0'
+def group_text(names):
+    return '+'.join(names) or '0'
 
+
+def cut_here(file, folder, parties, options):
+    """What the script does, without a process of its own."""
+    circuit = cut.circuit_in(file, options)
+    job = cut.job_of(circuit, list(parties), options)
+    job.write(folder)
+    return '\n'.join([cut.told_of(circuit), *job.told()])
+
+
+def try_cut(program, top, chance, sample, most, parties=('a', 'b', 'c'), tolerated=(('a',), ('b',), ('c',)), fewest='wires'):
+    """Cuts a circuit into sessions of so many gates, and runs the job; a small one is computed in the clear, too."""
     folder, file = os.path.join(top, f'job_{len(os.listdir(top))}'), os.path.join(top, 'circuit')
     pathlib.Path(file).write_text(sample.text, encoding='utf-8')
     owners = chance.choices(parties, k=len(sample.widths))
     readers = [chance.sample(parties, chance.randrange(1, len(parties) + 1)) for _ in sample.outputs]
-    words = ['--owners', ','.join(owners), '--readers', ','.join(map(group, readers)), '--tolerated', ','.join(map(group, tolerated)), '--gates', most,
-             '--fewest', fewest]
-    told = wrote(CUT, file, folder, *parties, *words, *([] if sample.of_bits else ['--bits', sample.bits]))
+    options = {'--owners': ','.join(owners), '--readers': ','.join(map(group_text, readers)), '--tolerated': ','.join(map(group_text, tolerated)),
+               '--gates': str(most), '--fewest': fewest, **({} if sample.of_bits else {'--bits': str(sample.bits)})}
+    small = len(sample.text) < SMALL
+    told = cut_here(file, folder, parties, options) if small else wrote(CUT, file, folder, *parties, *itertools.chain(*options.items()))
     job = give(folder, sample, owners)
     expect_cost(program, folder, told)
     expect_outputs(folder, job, call_program(program, 'run', folder), sample, readers)
-    if clear:
+    if small:
         expect_rounds(folder, job, told)
         files = {path.name: path.read_bytes() for path in pathlib.Path(folder).iterdir()}
         expect_outputs(folder, job, out_in_the_clear(files), sample, readers)
@@ -181,12 +195,11 @@ def small_circuits_come_to_the_same(program, top):
 
 
 def large_circuits_come_to_the_same(program, top):
-    """Circuits that are too large for a session."""
+    """A circuit that is too large for a session, and one of words that is not."""
     chance = random.Random(2)
-    for kind, count, most in [(KINDS[0], 70_000, MOST_GATES), (KINDS[2], 66_000, 20_000)]:
-        sample = random_circuit(chance, kind, count, [40, 24], [32, 1], 60, 0.01, count // 20)
-        told = try_cut(program, top, chance, sample, most, clear=False)
-        expect(f'{count - MOST_GATES} gates' in told.split('\n')[0], told)
+    for kind, count, most in [(KINDS[0], 67_000, MOST_GATES), (KINDS[3], 24_000, 5_000)]:
+        told = try_cut(program, top, chance, random_circuit(chance, kind, count, [40, 24], [32, 1], 60, 0.01, count // 20), most)
+        expect(count < MOST_GATES or f': {count - MOST_GATES} gates' in told.split('\n')[0], told)
 
 
 def sessions_are_as_few_as_can_be(program, top):
@@ -347,19 +360,18 @@ def many_values_are_carried(program, top):
 def others_point_at_it(program, top):
     """A circuit that is too large for a session is told where to be cut."""
     file, folder = os.path.join(top, 'circuit'), os.path.join(top, 'job')
-    done = call(CIRCUITS, 'multiply', '110')
+    done = call(CIRCUITS, 'equal', '22000')
     expect(done.returncode == 0 and done.stderr.startswith(b'circuits.py: the circuit has ') and done.stderr.endswith(b': examples/cut.py cuts it\n'), f'{done.stderr}')
     pathlib.Path(file).write_bytes(done.stdout)
-    expect_one_line(call(CIRCUITS, 'job', folder, 'multiply', '110', 'a', 'b', 'c'), 'circuits.py job', 'circuits.py: the circuit has ')
+    expect_one_line(call(CIRCUITS, 'job', folder, 'equal', '22000', 'a', 'b', 'c'), 'circuits.py job', 'circuits.py: the circuit has ')
     done = call(BY_LAYERS, file, file + '.new', program)
     expect_one_line(done, 'by_layers.py', 'by_layers.py: refused circuit 7 TooLarge ')
     expect(done.stderr.endswith(b': examples/cut.py cuts it into sessions\n'), f'{done.stderr}')
     wrote(CUT, file, folder, 'a', 'b', 'c')
-    x, y = 2**110 - 1, 3**69
-    for party, numbers in [('a', [x]), ('b', [y]), ('c', [])]:
+    for party, numbers in [('a', [3**9_000]), ('b', [3**9_000]), ('c', [])]:
         wrote(NUMBERS, 'write', folder, party, *numbers)
     found = wrote(NUMBERS, 'read', folder, given=call_program(program, 'run', folder))
-    expect(re.fullmatch(rf'(session \d+ value 0: [ab] reads {x * y}\n){{2}}', found), found)
+    expect(re.fullmatch(r'(session 1 value 0: [ab] reads 1\n){2}', found), found)
 
 
 # Digests.
@@ -387,8 +399,8 @@ class InTheClear(Circuit):
 def digests_are_pythons(program, top):
     """In the clear, of random messages of 0 to 119 bytes, by both adders."""
     chance, c = random.Random(8), InTheClear()
-    lengths = [0, 1, 54, 55, 56, 63, 64, 65, 118, 119, *chance.sample(range(120), 4)]
-    for length, adder in [*((length, sha256_circuit.Tree()) for length in lengths), *((length, sha256_circuit.Chain()) for length in (0, 55, 119))]:
+    lengths = [0, 55, 56, 64, 119, *chance.sample(range(120), 3)]
+    for length, adder in [*((length, sha256_circuit.Tree()) for length in lengths), *((length, sha256_circuit.Chain()) for length in (0, 56))]:
         messages = [chance.randbytes(length) for _ in range(DIGESTS)]
         wires = [[sum((message[place] >> bit & 1) << number for number, message in enumerate(messages)) for bit in range(8)] for place in range(length)]
         bits = sha256_circuit.digest(c, adder, wires)
@@ -397,49 +409,51 @@ def digests_are_pythons(program, top):
             expect(f'{found:064x}' == hashlib.sha256(message).hexdigest(), f'{message.hex()}: {found:064x}')
 
 
-def read_digest(folder, out):
-    return wrote(SHA, 'read', folder, given=out)
+def expect_digest(folder, out, *parts):
+    found = wrote(SHA, 'read', folder, given=out)
+    expect(found == f'register reads {hashlib.sha256(b"".join(parts)).hexdigest()}\n', f'{[part.hex() for part in parts]}: {found}')
 
 
-def digest_of(*parts):
-    return f'register reads {hashlib.sha256(b"".join(parts)).hexdigest()}\n'
+def give_parts(folder, *parts):
+    """Writes the files of the clinic and of the lab anew."""
+    job = job_folder.read_job(folder)
+    for party, part in zip(job.parties, parts):
+        job_folder.write_party(folder, job, party, [int.from_bytes(part, 'big')] if part else [], replace=True)
 
 
-def jobs_take_digests(program, top):
-    """Of random parts of 0 to 119 bytes together: in the clear, by a run and at the cost that is told, of one block and of two."""
+def digests_of_jobs_are_pythons(program, top):
+    """Of random parts of 0 to 119 bytes together, by runs, at the cost that is told: of no byte, and of two blocks."""
     chance = random.Random(9)
-    for number, (first, second, words) in enumerate([(0, 0, []), (20, 35, ['--chain']), (61, 58, [])]):
+    for number, (first, second, words) in enumerate([(0, 0, []), (61, 58, ['--chain'])]):
         folder = os.path.join(top, str(number))
         parts = [chance.randbytes(first), chance.randbytes(second)]
-        told = wrote(SHA, 'make', folder, *(part.hex() for part in parts), *words)
-        expect_cost(program, folder, told)
-        for _ in range(3):
-            found = read_digest(folder, call_program(program, 'run', folder))
-            expect(found == digest_of(*parts), f'{[part.hex() for part in parts]}: {found}')
-            parts = [chance.randbytes(first), chance.randbytes(second)]
-            for party, part in zip(('clinic', 'lab'), parts):
-                wrote(NUMBERS, 'write', folder, party, *([int.from_bytes(part)] if part else []), '--replace')
+        expect_cost(program, folder, wrote(SHA, 'make', folder, *(part.hex() for part in parts), *words))
+        expect_digest(folder, call_program(program, 'run', folder), *parts)
+        parts = [chance.randbytes(first), chance.randbytes(second)]
+        give_parts(folder, *parts)
+        expect_digest(folder, call_program(program, 'run', folder), *parts)
 
 
 def a_digest_by_nodes_with_an_audit(program, top):
-    """A digest by nodes over loopback; what the clinic sees of two runs whose other part differs is the same; and a view is audited."""
+    """A digest of one block by runs and by nodes over loopback; what the clinic sees of two runs whose other part differs is the same; a view is audited."""
     folder, parts = os.path.join(top, 'job'), [b'a record of a clinic', b'findings']
-    wrote(SHA, 'make', folder, *(part.hex() for part in parts), '--chain')
-    expect(read_digest(folder, wrote(NODES, 'run', folder, program)) == digest_of(*parts), 'nodes take another digest')
+    expect_cost(program, folder, wrote(SHA, 'make', folder, *(part.hex() for part in parts)))
+    expect_digest(folder, wrote(NODES, 'run', folder, program), *parts)
     out = call_program(program, 'run', folder, '--view', 'register')
-    expect(read_digest(folder, out) == digest_of(*parts), 'a run with a view takes another digest')
+    expect_digest(folder, out, *parts)
     view = out[out.index('view register\n'):]
     pathlib.Path(folder, 'view.txt').write_text(view, encoding='utf-8')
     expect(call_program(program, 'audit', folder) == f'yes {view.count(chr(10)) - 1}\n', 'the view is not of the run')
-    other = [int(b'others.!'[place // 8] >> place % 8 & 1) for place in range(64)]
-    job = job_folder.read_job(folder)
-    texts = [' '.join(map(str, other)) if 'lab' in session.owners else '' for session in job.sessions]
-    pathlib.Path(folder, 'other.toml').write_text(f'version = 1\n[inputs]\nlab = {texts}\n'.replace("'", '"'), encoding='utf-8')
+    other = b'other of'
+    bits = ' '.join(str(int.from_bytes(other, 'big') >> place & 1) for place in range(8 * len(other)))
+    texts = [bits if 'lab' in session.owners else '' for session in job_folder.read_job(folder).sessions]
+    pathlib.Path(folder, 'other.toml').write_text(f'version = 1\n[inputs]\nlab = {json.dumps(texts)}\n', encoding='utf-8')
     out = call_program(program, 'pair', folder, '--group', 'clinic')
-    views = [re.findall(r'^\d.*', text, re.M) for text in re.fullmatch(r'first\n(.*)second\n(.*)', out, re.S).groups()]
-    expect(len(views[0]) > 100_000 and views[0] == views[1], 'the clinic sees something else')
-    digests = [read_digest(folder, text.partition('view')[0]) for text in out.split('second\n')]
-    expect(digests == [digest_of(*parts), digest_of(parts[0], b'!.srehto')], f'{digests}')
+    first, second = out.removeprefix('first\n').split('second\n')
+    views = [text[text.index('view clinic\n'):].partition('tape ')[0] for text in (first, second)]
+    expect(len(views[0]) > 1_000_000 and views[0] == views[1], 'the clinic sees something else')
+    expect_digest(folder, first.partition('view')[0], *parts)
+    expect_digest(folder, second.partition('view')[0], parts[0], other)
 
 
 def words_are_refused(program, top):
@@ -463,7 +477,7 @@ def words_are_refused(program, top):
         expect(done.stderr.count(b'\n') <= 1 and b'Traceback' not in done.stderr, f'{words}: {done.stderr[-200:]!r}')
 
 
-CASES = [large_circuits_come_to_the_same, jobs_take_digests, a_digest_by_nodes_with_an_audit, small_circuits_come_to_the_same, sessions_are_as_few_as_can_be, rounds_are_few, cuts_are_the_best,
+CASES = [digests_of_jobs_are_pythons, a_digest_by_nodes_with_an_audit, large_circuits_come_to_the_same, small_circuits_come_to_the_same, sessions_are_as_few_as_can_be, rounds_are_few, cuts_are_the_best,
          few_wires_live_where_it_is_cut, faults_are_those_of_the_rows, changed_circuits_are_read_as_the_program_reads_them, limits_are_told,
          many_values_are_carried, others_point_at_it, digests_are_pythons, words_are_refused]
 
