@@ -21,7 +21,7 @@ import tempfile
 
 EXAMPLES = os.path.join(os.path.dirname(os.path.abspath(__file__)), '..', 'examples')
 MOST_SECONDS = 2
-MOST_WAIT = 10
+MOST_WAIT = 300
 MOST_BYTES = 300_000_000
 LONG = 16_777_216
 

@@ -27,8 +27,8 @@ import time
 from accepted_runs import PRODUCTS_OF_TWO_SESSIONS
 from in_the_clear import circuit_of, last_wires
 from product import Edit, Whole, product_with
+from waits import MOST_SECONDS
 
-MOST_SECONDS = 60
 AT_ONCE = 32
 
 # Between two pieces, in seconds.

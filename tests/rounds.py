@@ -22,8 +22,8 @@ sys.path[1:1] = [str(TOP / 'bench'), str(TOP / 'examples'), str(TOP / 'examples/
 import nodes  # noqa: E402
 from by_layers import read_circuit  # noqa: E402
 from peers import Peers  # noqa: E402
+from waits import MOST_SECONDS  # noqa: E402
 
-MOST_SECONDS = 60
 HELLO, FRAME = 38, 18
 
 # Three products that need none of one another, one that needs two of them, and a sum that needs it: the batches begin in slots 0, 3, 6 and 7.
