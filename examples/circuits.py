@@ -143,6 +143,7 @@ class Circuit:
 
     def multiply(self, x, y):
         """The product, of as many bits as both together."""
+        need(len(x) * len(y) <= self.most_gates, f'the circuit has more than {self.most_gates} gates')
         columns = [[] for _ in range(len(x) + len(y))]
         for i, a in enumerate(x):
             for j, b in enumerate(y):

@@ -15,7 +15,6 @@ become two with the same sum by one product for each bit, in one layer, and the 
 import functools
 import itertools
 import math
-import operator
 import pathlib
 import re
 import sys
