@@ -14,13 +14,12 @@ use Rattle.job_plan.specs.Plans.{session, deals_in}
 use Rattle.share_world.specs.Worlds.{World}
 use Rattle.wire_tables.specs.WireTables.{world_of}
 use Rattle.wire_tables.proofs.NextPlaces.{has_words}
-use Rattle.wire_tables.proofs.MadeRows.{there, found, first_there, second_there, first_found, second_found, first_row, second_row, first_mask, second_mask, their_product, linear_made, direct_made, joined_made}
+use Rattle.wire_tables.proofs.MadeRows.{there, named, found, first_there, second_there, first_found, second_found, first_row, second_row, first_mask, second_mask, their_product, linear_made, direct_made, joined_made}
 use Rattle.wire_tables.proofs.TableRows.{mask_whole, product_whole, row_whole, row_small}
 use Rattle.wire_tables.proofs.summands.gate_row.Goals as goal
 
 pub gate-gate-requires : goal.gate-gate-requires
 gate-gate-requires c =
-    let plan = c.args.world.now.plan.now in
     let w : World = world_of c.args.world.now in
     subst (λ (y : Session). c.args.t < length y.gates) (sym c.part-part.ensures) (there w c.requires.whole c.args.before.now.session c.args.before.now.slot c.requires.before.in_session c.requires.before.in_slot c.args.before.now.rows.now c.requires.before.rows c.args.t c.requires.gate)
 
@@ -57,7 +56,6 @@ linear_into-requires-clause-words c =
     let x : Session = session plan c.args.before.now.session in
     let same : c.gate-gate.result ≡ gate x c.args.t = c.gate-gate.ensures ∙ ap (λ (y : Session). gate y c.args.t) c.part-part.ensures in
     let a = first_found w c.requires.whole c.args.before.now.session c.args.before.now.slot c.requires.before.in_session c.requires.before.in_slot c.args.before.now.rows.now c.requires.before.rows c.args.t c.requires.gate c.gate-gate.result same c.index-rows-gate.result c.deref.result.now c.index-rows-gate.is c.deref.ensures.value in
-    let b = second_found w c.requires.whole c.args.before.now.session c.args.before.now.slot c.requires.before.in_session c.requires.before.in_slot c.args.before.now.rows.now c.requires.before.rows c.args.t c.requires.gate c.gate-gate.result same c.index-rows-gate-2.result c.deref-then-not-is_product.result.now c.index-rows-gate-2.is c.deref-then-not-is_product.ensures.value in
     row_small plan c.ring.result c.deref.result.now c.ring.ensures.is (first_row w c.requires.whole c.args.before.now.session c.args.before.now.slot c.requires.before.in_session c.requires.before.in_slot c.args.before.now.rows.now c.requires.before.rows c.args.t c.requires.gate c.deref.result.now a)
 
 pub linear_into-requires-clause-more_words : goal.linear_into-requires-clause-more_words
@@ -66,7 +64,6 @@ linear_into-requires-clause-more_words c =
     let w : World = world_of c.args.world.now in
     let x : Session = session plan c.args.before.now.session in
     let same : c.gate-gate.result ≡ gate x c.args.t = c.gate-gate.ensures ∙ ap (λ (y : Session). gate y c.args.t) c.part-part.ensures in
-    let a = first_found w c.requires.whole c.args.before.now.session c.args.before.now.slot c.requires.before.in_session c.requires.before.in_slot c.args.before.now.rows.now c.requires.before.rows c.args.t c.requires.gate c.gate-gate.result same c.index-rows-gate.result c.deref.result.now c.index-rows-gate.is c.deref.ensures.value in
     let b = second_found w c.requires.whole c.args.before.now.session c.args.before.now.slot c.requires.before.in_session c.requires.before.in_slot c.args.before.now.rows.now c.requires.before.rows c.args.t c.requires.gate c.gate-gate.result same c.index-rows-gate-2.result c.deref-then-not-is_product.result.now c.index-rows-gate-2.is c.deref-then-not-is_product.ensures.value in
     row_small plan c.ring.result c.deref-then-not-is_product.result.now c.ring.ensures.is (second_row w c.requires.whole c.args.before.now.session c.args.before.now.slot c.requires.before.in_session c.requires.before.in_slot c.args.before.now.rows.now c.requires.before.rows c.args.t c.requires.gate c.deref-then-not-is_product.result.now b)
 
@@ -90,7 +87,6 @@ product_into-requires-clause-first c =
     let x : Session = session plan c.args.before.now.session in
     let same : c.gate-gate.result ≡ gate x c.args.t = c.gate-gate.ensures ∙ ap (λ (y : Session). gate y c.args.t) c.part-part.ensures in
     let a = first_found w c.requires.whole c.args.before.now.session c.args.before.now.slot c.requires.before.in_session c.requires.before.in_slot c.args.before.now.rows.now c.requires.before.rows c.args.t c.requires.gate c.gate-gate.result same c.index-rows-gate.result c.deref-then-not-is_prepared.result.now c.index-rows-gate.is c.deref-then-not-is_prepared.ensures.value in
-    let b = second_found w c.requires.whole c.args.before.now.session c.args.before.now.slot c.requires.before.in_session c.requires.before.in_slot c.args.before.now.rows.now c.requires.before.rows c.args.t c.requires.gate c.gate-gate.result same c.index-rows-gate-2.result c.deref-then-not-is_prepared-2.result.now c.index-rows-gate-2.is c.deref-then-not-is_prepared-2.ensures.value in
     (first_row w c.requires.whole c.args.before.now.session c.args.before.now.slot c.requires.before.in_session c.requires.before.in_slot c.args.before.now.rows.now c.requires.before.rows c.args.t c.requires.gate c.deref-then-not-is_prepared.result.now a).long
 
 pub product_into-requires-clause-second : goal.product_into-requires-clause-second
@@ -99,7 +95,6 @@ product_into-requires-clause-second c =
     let w : World = world_of c.args.world.now in
     let x : Session = session plan c.args.before.now.session in
     let same : c.gate-gate.result ≡ gate x c.args.t = c.gate-gate.ensures ∙ ap (λ (y : Session). gate y c.args.t) c.part-part.ensures in
-    let a = first_found w c.requires.whole c.args.before.now.session c.args.before.now.slot c.requires.before.in_session c.requires.before.in_slot c.args.before.now.rows.now c.requires.before.rows c.args.t c.requires.gate c.gate-gate.result same c.index-rows-gate.result c.deref-then-not-is_prepared.result.now c.index-rows-gate.is c.deref-then-not-is_prepared.ensures.value in
     let b = second_found w c.requires.whole c.args.before.now.session c.args.before.now.slot c.requires.before.in_session c.requires.before.in_slot c.args.before.now.rows.now c.requires.before.rows c.args.t c.requires.gate c.gate-gate.result same c.index-rows-gate-2.result c.deref-then-not-is_prepared-2.result.now c.index-rows-gate-2.is c.deref-then-not-is_prepared-2.ensures.value in
     (second_row w c.requires.whole c.args.before.now.session c.args.before.now.slot c.requires.before.in_session c.requires.before.in_slot c.args.before.now.rows.now c.requires.before.rows c.args.t c.requires.gate c.deref-then-not-is_prepared-2.result.now b).long
 
@@ -126,6 +121,54 @@ returns-then-not-is_prepared c =
     let direct : x.prepared ≡ false = sym (c.is_prepared.ensures ∙ ap (λ (y : Session). y.prepared) c.part-part.ensures) ∙ c.if-not-is_prepared.true in
     on_ok_weaker c.product_into.result (direct_made w c.requires.whole c.args.before.now.session c.args.before.now.slot c.requires.before.in_session c.requires.before.in_slot c.args.before.now.rows.now c.requires.before.rows c.args.t c.requires.gate c.deref-then-not-is_prepared.result.now c.deref-then-not-is_prepared-2.result.now c.product_into.new.sums.items a b product direct c.args.before.now.places.now c.requires.before.places) c.product_into.ensures
 
+pub mask_wire-requires : goal.mask_wire-requires
+mask_wire-requires c =
+    let w : World = world_of c.args.world.now in
+    subst (λ (y : Session). c.args.t < length y.gates) (sym c.part-part.ensures) (there w c.requires.whole c.args.before.now.session c.args.before.now.slot c.requires.before.in_session c.requires.before.in_slot c.args.before.now.rows.now c.requires.before.rows c.args.t c.requires.gate)
+
+pub bounds-rows-mask_wire : goal.bounds-rows-mask_wire
+bounds-rows-mask_wire c =
+    let plan = c.args.world.now.plan.now in
+    let w : World = world_of c.args.world.now in
+    let x : Session = session plan c.args.before.now.session in
+    let same : c.gate-gate.result ≡ gate x c.args.t = c.gate-gate.ensures ∙ ap (λ (y : Session). gate y c.args.t) c.part-part.ensures in
+    let product : is_product (gate x c.args.t).operation ≡ true = sym (c.is_product.ensures ∙ ap (λ (g : Gate). is_product g.operation) same) ∙ c.if-not-is_product.false in
+    let prepared : x.prepared ≡ true = sym (c.is_prepared.ensures ∙ ap (λ (y : Session). y.prepared) c.part-part.ensures) ∙ c.if-not-is_prepared.false in
+    let both : is_prepared x c.args.t ≡ true = and_from x.prepared _ prepared product in
+    named w c.requires.whole c.args.before.now.session c.args.before.now.slot c.requires.before.in_session c.requires.before.in_slot c.args.before.now.rows.now c.requires.before.rows c.mask_wire.result (mask_wire x c.args.t First) (c.mask_wire.ensures ∙ ap (λ (y : Session). mask_wire y c.args.t First) c.part-part.ensures) (mask_within x c.args.t First (there w c.requires.whole c.args.before.now.session c.args.before.now.slot c.requires.before.in_session c.requires.before.in_slot c.args.before.now.rows.now c.requires.before.rows c.args.t c.requires.gate) both)
+
+pub mask_wire-requires-2 : goal.mask_wire-requires-2
+mask_wire-requires-2 c =
+    let w : World = world_of c.args.world.now in
+    subst (λ (y : Session). c.args.t < length y.gates) (sym c.part-part.ensures) (there w c.requires.whole c.args.before.now.session c.args.before.now.slot c.requires.before.in_session c.requires.before.in_slot c.args.before.now.rows.now c.requires.before.rows c.args.t c.requires.gate)
+
+pub bounds-rows-mask_wire-2 : goal.bounds-rows-mask_wire-2
+bounds-rows-mask_wire-2 c =
+    let plan = c.args.world.now.plan.now in
+    let w : World = world_of c.args.world.now in
+    let x : Session = session plan c.args.before.now.session in
+    let same : c.gate-gate.result ≡ gate x c.args.t = c.gate-gate.ensures ∙ ap (λ (y : Session). gate y c.args.t) c.part-part.ensures in
+    let product : is_product (gate x c.args.t).operation ≡ true = sym (c.is_product.ensures ∙ ap (λ (g : Gate). is_product g.operation) same) ∙ c.if-not-is_product.false in
+    let prepared : x.prepared ≡ true = sym (c.is_prepared.ensures ∙ ap (λ (y : Session). y.prepared) c.part-part.ensures) ∙ c.if-not-is_prepared.false in
+    let both : is_prepared x c.args.t ≡ true = and_from x.prepared _ prepared product in
+    named w c.requires.whole c.args.before.now.session c.args.before.now.slot c.requires.before.in_session c.requires.before.in_slot c.args.before.now.rows.now c.requires.before.rows c.mask_wire-2.result (mask_wire x c.args.t Second) (c.mask_wire-2.ensures ∙ ap (λ (y : Session). mask_wire y c.args.t Second) c.part-part.ensures) (mask_within x c.args.t Second (there w c.requires.whole c.args.before.now.session c.args.before.now.slot c.requires.before.in_session c.requires.before.in_slot c.args.before.now.rows.now c.requires.before.rows c.args.t c.requires.gate) both)
+
+pub product_wire-requires : goal.product_wire-requires
+product_wire-requires c =
+    let w : World = world_of c.args.world.now in
+    subst (λ (y : Session). c.args.t < length y.gates) (sym c.part-part.ensures) (there w c.requires.whole c.args.before.now.session c.args.before.now.slot c.requires.before.in_session c.requires.before.in_slot c.args.before.now.rows.now c.requires.before.rows c.args.t c.requires.gate)
+
+pub bounds-rows-product_wire : goal.bounds-rows-product_wire
+bounds-rows-product_wire c =
+    let plan = c.args.world.now.plan.now in
+    let w : World = world_of c.args.world.now in
+    let x : Session = session plan c.args.before.now.session in
+    let same : c.gate-gate.result ≡ gate x c.args.t = c.gate-gate.ensures ∙ ap (λ (y : Session). gate y c.args.t) c.part-part.ensures in
+    let product : is_product (gate x c.args.t).operation ≡ true = sym (c.is_product.ensures ∙ ap (λ (g : Gate). is_product g.operation) same) ∙ c.if-not-is_product.false in
+    let prepared : x.prepared ≡ true = sym (c.is_prepared.ensures ∙ ap (λ (y : Session). y.prepared) c.part-part.ensures) ∙ c.if-not-is_prepared.false in
+    let both : is_prepared x c.args.t ≡ true = and_from x.prepared _ prepared product in
+    named w c.requires.whole c.args.before.now.session c.args.before.now.slot c.requires.before.in_session c.requires.before.in_slot c.args.before.now.rows.now c.requires.before.rows c.product_wire.result (product_wire x c.args.t) (c.product_wire.ensures ∙ ap (λ (y : Session). product_wire y c.args.t) c.part-part.ensures) (product_named x c.args.t (there w c.requires.whole c.args.before.now.session c.args.before.now.slot c.requires.before.in_session c.requires.before.in_slot c.args.before.now.rows.now c.requires.before.rows c.args.t c.requires.gate) both)
+
 pub joined_into-requires-clause-first_wire : goal.joined_into-requires-clause-first_wire
 joined_into-requires-clause-first_wire c =
     let plan = c.args.world.now.plan.now in
@@ -133,7 +176,6 @@ joined_into-requires-clause-first_wire c =
     let x : Session = session plan c.args.before.now.session in
     let same : c.gate-gate.result ≡ gate x c.args.t = c.gate-gate.ensures ∙ ap (λ (y : Session). gate y c.args.t) c.part-part.ensures in
     let a = first_found w c.requires.whole c.args.before.now.session c.args.before.now.slot c.requires.before.in_session c.requires.before.in_slot c.args.before.now.rows.now c.requires.before.rows c.args.t c.requires.gate c.gate-gate.result same c.index-rows-gate.result c.deref-2.result.now c.index-rows-gate.is c.deref-2.ensures.value in
-    let b = second_found w c.requires.whole c.args.before.now.session c.args.before.now.slot c.requires.before.in_session c.requires.before.in_slot c.args.before.now.rows.now c.requires.before.rows c.args.t c.requires.gate c.gate-gate.result same c.index-rows-gate-2.result c.deref-3.result.now c.index-rows-gate-2.is c.deref-3.ensures.value in
     first_row w c.requires.whole c.args.before.now.session c.args.before.now.slot c.requires.before.in_session c.requires.before.in_slot c.args.before.now.rows.now c.requires.before.rows c.args.t c.requires.gate c.deref-2.result.now a
 
 pub joined_into-requires-clause-second_wire : goal.joined_into-requires-clause-second_wire
@@ -142,7 +184,6 @@ joined_into-requires-clause-second_wire c =
     let w : World = world_of c.args.world.now in
     let x : Session = session plan c.args.before.now.session in
     let same : c.gate-gate.result ≡ gate x c.args.t = c.gate-gate.ensures ∙ ap (λ (y : Session). gate y c.args.t) c.part-part.ensures in
-    let a = first_found w c.requires.whole c.args.before.now.session c.args.before.now.slot c.requires.before.in_session c.requires.before.in_slot c.args.before.now.rows.now c.requires.before.rows c.args.t c.requires.gate c.gate-gate.result same c.index-rows-gate.result c.deref-2.result.now c.index-rows-gate.is c.deref-2.ensures.value in
     let b = second_found w c.requires.whole c.args.before.now.session c.args.before.now.slot c.requires.before.in_session c.requires.before.in_slot c.args.before.now.rows.now c.requires.before.rows c.args.t c.requires.gate c.gate-gate.result same c.index-rows-gate-2.result c.deref-3.result.now c.index-rows-gate-2.is c.deref-3.ensures.value in
     second_row w c.requires.whole c.args.before.now.session c.args.before.now.slot c.requires.before.in_session c.requires.before.in_slot c.args.before.now.rows.now c.requires.before.rows c.args.t c.requires.gate c.deref-3.result.now b
 
