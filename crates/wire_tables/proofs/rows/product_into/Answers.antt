@@ -19,30 +19,6 @@ use Rattle.wire_tables.proofs.DealtRows.{all_listed, total_passed}
 use Rattle.wire_tables.proofs.rows.product_into.Goals as goal
 use Rattle.wire_tables.proofs.rows.product_into.Goals.{then-multiplies+in_ok-deal_into, else-multiplies}
 
-pub multiplies-requires : goal.multiplies-requires
-multiplies-requires c = subst (λ n. c.loop-p.p < n) c.parties-p-end.ensures.is c.loop-p-test.true
-
-pub own_products-own-requires : goal.own_products-own-requires
-own_products-own-requires c =
-    let within : c.loop-p.p < c.args.world.now.plan.now.parties = subst (λ n. c.loop-p.p < n) c.parties-p-end.ensures.is c.loop-p-test.true in
-    let groups = ap (λ (s : Structure). length s.groups) (sym c.duty.ensures) in record {
-      party = subst (λ (s : Structure). c.loop-p.p < s.parties) (sym c.duty.ensures) within;
-      first = c.requires.first ∙ groups;
-      second = c.requires.second ∙ groups;
-    }
-
-pub deal_into-requires-clause-value : goal.deal_into-requires-clause-value
-deal_into-requires-clause-value c = subst (λ bits. c.own_products-own.result < 2 ^ bits) c.ring-ring.ensures.is c.own_products-own.ensures.below
-
-pub deal_into-requires-clause-words : goal.deal_into-requires-clause-words
-deal_into-requires-clause-words c =
-    c.requires.tapes c.loop-p.p (subst (λ n. c.loop-p.p < n) c.parties-p-end.ensures.is c.loop-p-test.true) (sym c.multiplies.ensures ∙ c.if-multiplies.true)
-
-pub add_row-requires-clause-sums : goal.add_row-requires-clause-sums
-add_row-requires-clause-sums c =
-    subst (λ bits. All (λ word. word < 2 ^ bits) c.deref_mut.result.now) (sym c.ring-ring.ensures.is)
-    (subst (λ xs. All (λ word. word < 2 ^ c.args.world.now.plan.now.bits) xs) (sym c.deref_mut.ensures.value) c.loop-p.invariant.small)
-
 pub add_row-requires-clause-long : goal.add_row-requires-clause-long
 add_row-requires-clause-long c =
     ap length (c.deref.ensures.value ∙ c.in_ok-deal_into.ensures) ∙ length-listed _ _ ∙ sym (ap length c.deref_mut.ensures.value ∙ c.loop-p.invariant.long)
@@ -51,7 +27,7 @@ pub add_row-requires-clause-words : goal.add_row-requires-clause-words
 add_row-requires-clause-words c =
     let plan = c.args.world.now.plan.now in
     let p = c.loop-p.p in
-    let has = c.requires.tapes p (subst (λ n. c.loop-p.p < n) c.parties-p-end.ensures.is c.loop-p-test.true) (sym c.multiplies.ensures ∙ c.if-multiplies.true) in
+    let has = c.requires.tapes p (omega arith) (sym c.multiplies.ensures ∙ c.if-multiplies.true) in
     let own = c.own_products-own.result in
     let word : ℕ → ℕ = λ i. slice_index (slice_index_or (session_words c.args.world.now.tapes.now) p []) (slice_index c.args.places.now p + i) in
     subst (λ xs. All (λ word. word < 2 ^ c.ring-ring.result) xs) (sym (c.deref.ensures.value ∙ c.in_ok-deal_into.ensures))
@@ -67,9 +43,8 @@ loop-p-preserved c =
     let dealt : ℕ → ℕ → ℕ = λ p. dealt_at (world_of c.args.world.now) c.args.places.now p (own p) in
     elim c.if-multiplies.branch [
       | then-multiplies+in_ok-deal_into w ↦
-          let lent : length w.deref_mut.result.now ≡ m = ap length w.deref_mut.ensures.value ∙ c.loop-p.invariant.long in
-          let long : length w.add_row.new.sums ≡ m = w.add_row.ensures.long ∙ lent in
-          let is : c.if-multiplies.sums.items ≡ w.add_row.new.sums = ap (λ (v : Vec ℕ). v.items) w.sums-is ∙ with_items_is c.loop-p.sums w.add_row.new.sums (w.add_row.ensures.long ∙ w.deref_mut.ensures.len) in
+          let long : length w.add_row.new.sums ≡ m = w.add_row.ensures.long ∙ ap length w.deref_mut.ensures.value ∙ c.loop-p.invariant.long in
+          let is : c.if-multiplies.sums.items ≡ w.add_row.new.sums = ap (λ (v : Vec ℕ). v.items) w.sums-is ∙ with_items_is c.loop-p.sums w.add_row.new.sums (omega (arith, w.add_row.ensures.long, w.deref_mut.ensures.len)) in
           let pair : has_pair (scheme plan) p ≡ true = sym c.multiplies.ensures ∙ w.if-multiplies.true in
           let own_is : w.own_products-own.result ≡ own p =
           w.own_products-own.ensures.is ∙ ap₂ (λ (bits : ℕ) (structure : Structure). own_product (scheme_of bits structure) p (slice_index c.args.x.now) (slice_index c.args.y.now)) c.ring-ring.ensures.is w.duty.ensures in
@@ -80,7 +55,7 @@ loop-p-preserved c =
                 let before : slice_index w.deref_mut.result.now i ≡ total p (λ p. if has_pair (scheme plan) p then dealt p i else 0) % 2 ^ plan.bits = ap (λ xs. slice_index xs i) w.deref_mut.ensures.value ∙ c.loop-p.invariant.sums i li in
                 let here : slice_index w.deref.result.now i ≡ (if has_pair (scheme plan) p then dealt p i else 0) = ap (λ xs. slice_index xs i) row_is ∙ listed_at m (dealt p) i 0 li ∙ sym (cond-true (has_pair (scheme plan) p) (dealt p i) 0 pair) in
                 ap (λ xs. slice_index xs i) is
-                ∙ w.add_row.ensures.added i (subst (λ n. i < n) (sym lent) li)
+                ∙ w.add_row.ensures.added i (omega (arith, long, w.add_row.ensures.long))
                 ∙ ap (λ b. (slice_index w.deref_mut.result.now i + slice_index w.deref.result.now i) % 2 ^ b) c.ring-ring.ensures.is
                 ∙ total_step_alone (2 ^ plan.bits) p (λ p. if has_pair (scheme plan) p then dealt p i else 0) (slice_index w.deref_mut.result.now i) (slice_index w.deref.result.now i) before here;
           }

@@ -1,4 +1,4 @@
-use Rattle.std.proofs.Common.{◌≡◌, ℕ, ◌^◌, ◌<◌, ◌≤◌, true, List, length, refl, sym, ap, ap₂, ◌∙◌, subst, arith}
+use Rattle.std.proofs.Common.{◌≡◌, ℕ, ◌^◌, ◌<◌, true, List, length, refl, sym, ap, ap₂, ◌∙◌, subst, arith}
 use Rattle.std.specs.Prelude.{slice_index, slice_index_or}
 use Rattle.std.specs.Global.{Vec}
 use Rattle.std.proofs.lemmas.Result.{IfOk-weaker}
@@ -21,9 +21,6 @@ use Rattle.wire_tables.proofs.SentRows.{input_sent, output_sent, kept_sent, kept
 use Rattle.wire_tables.proofs.TableRows.{row_small}
 use Rattle.wire_tables.proofs.sent_rows.kind_row.Goals as goal
 
-below : (v n m : ℕ) → v < n → n ≤ m → v < m
-below v n m lv few = omega arith
-
 pub row-requires : goal.row-requires
 row-requires c =
     let plan = c.args.world.now.plan.now in
@@ -31,7 +28,7 @@ row-requires c =
     let is : slot plan c.args.at.now.session c.args.at.now.slot ≡ Input c.in-Input.v = c.requires.kind ∙ ap slot_of_kind c.in-Input.is in
     let lv = inside_here w c.args.at.now.session c.args.at.now.slot c.requires.at.in_slot (Input c.in-Input.v) is in
     let few = (c.requires.whole.sound.sessions c.args.at.now.session c.requires.at.in_session).wired.input_wires in
-    wire_named w c.requires.whole c.args.at.now.session c.requires.at.in_session c.args.at.now.table.now c.requires.at.table c.part-part.result.now c.part-part.ensures c.in-Input.v (below c.in-Input.v _ _ lv few)
+    wire_named w c.requires.whole c.args.at.now.session c.requires.at.in_session c.args.at.now.table.now c.requires.at.table c.part-part.result.now c.part-part.ensures c.in-Input.v (omega arith)
 
 pub output_wire-requires : goal.output_wire-requires
 output_wire-requires c =
@@ -116,7 +113,9 @@ masked_row-requires-clause-words c =
     let is : slot plan c.args.at.now.session c.args.at.now.slot ≡ Masked c.in-Masked.t c.in-Masked.side = c.requires.kind ∙ ap slot_of_kind c.in-Masked.is in
     let inside = inside_here w c.args.at.now.session c.args.at.now.slot c.requires.at.in_slot (Masked c.in-Masked.t c.in-Masked.side) is in
     let a = operand_read w c.requires.whole c.args.at.now.session c.requires.at.in_session c.args.at.now.table.now c.requires.at.table c.part-part.result.now c.part-part.ensures c.in-Masked.t inside.0 c.in-Masked.side c.gate.result c.operand.result c.row-x.result.now c.gate.ensures c.operand.ensures c.row-x.ensures in
+    let b = mask_read w c.requires.whole c.args.at.now.session c.requires.at.in_session c.args.at.now.table.now c.requires.at.table c.part-part.result.now c.part-part.ensures c.in-Masked.t inside.0 inside.1 c.in-Masked.side c.mask_wire-in-Masked.result c.row-in-Masked.result.now c.mask_wire-in-Masked.ensures c.row-in-Masked.ensures in
     let first = operand_whole w c.requires.whole c.args.at.now.session c.requires.at.in_session c.args.at.now.table.now c.requires.at.table c.part-part.result.now c.part-part.ensures c.in-Masked.t inside.0 c.in-Masked.side c.row-x.result.now a in
+    let second = mask_is_row w c.requires.whole c.args.at.now.session c.requires.at.in_session c.args.at.now.table.now c.requires.at.table c.part-part.result.now c.part-part.ensures c.in-Masked.t inside.0 inside.1 c.in-Masked.side c.row-in-Masked.result.now b in
     row_small plan c.ring.result c.row-x.result.now c.ring.ensures.is first
 
 pub masked_row-requires-clause-more_words : goal.masked_row-requires-clause-more_words
@@ -125,7 +124,9 @@ masked_row-requires-clause-more_words c =
     let w : World = world_of c.args.world.now in
     let is : slot plan c.args.at.now.session c.args.at.now.slot ≡ Masked c.in-Masked.t c.in-Masked.side = c.requires.kind ∙ ap slot_of_kind c.in-Masked.is in
     let inside = inside_here w c.args.at.now.session c.args.at.now.slot c.requires.at.in_slot (Masked c.in-Masked.t c.in-Masked.side) is in
+    let a = operand_read w c.requires.whole c.args.at.now.session c.requires.at.in_session c.args.at.now.table.now c.requires.at.table c.part-part.result.now c.part-part.ensures c.in-Masked.t inside.0 c.in-Masked.side c.gate.result c.operand.result c.row-x.result.now c.gate.ensures c.operand.ensures c.row-x.ensures in
     let b = mask_read w c.requires.whole c.args.at.now.session c.requires.at.in_session c.args.at.now.table.now c.requires.at.table c.part-part.result.now c.part-part.ensures c.in-Masked.t inside.0 inside.1 c.in-Masked.side c.mask_wire-in-Masked.result c.row-in-Masked.result.now c.mask_wire-in-Masked.ensures c.row-in-Masked.ensures in
+    let first = operand_whole w c.requires.whole c.args.at.now.session c.requires.at.in_session c.args.at.now.table.now c.requires.at.table c.part-part.result.now c.part-part.ensures c.in-Masked.t inside.0 c.in-Masked.side c.row-x.result.now a in
     let second = mask_is_row w c.requires.whole c.args.at.now.session c.requires.at.in_session c.args.at.now.table.now c.requires.at.table c.part-part.result.now c.part-part.ensures c.in-Masked.t inside.0 inside.1 c.in-Masked.side c.row-in-Masked.result.now b in
     row_small plan c.ring.result c.row-in-Masked.result.now c.ring.ensures.is second
 
@@ -160,6 +161,7 @@ part_row-requires-clause-first c =
     let is : slot plan c.args.at.now.session c.args.at.now.slot ≡ At_gate c.in-Gate.t = c.requires.kind ∙ ap slot_of_kind c.in-Gate.is in
     let there = inside_here w c.args.at.now.session c.args.at.now.slot c.requires.at.in_slot (At_gate c.in-Gate.t) is in
     let a = operand_read w c.requires.whole c.args.at.now.session c.requires.at.in_session c.args.at.now.table.now c.requires.at.table c.part-part.result.now c.part-part.ensures c.in-Gate.t there First c.gate-gate.result c.gate-gate.result.first c.row-x-in-Gate.result.now c.gate-gate.ensures refl c.row-x-in-Gate.ensures in
+    let b = operand_read w c.requires.whole c.args.at.now.session c.requires.at.in_session c.args.at.now.table.now c.requires.at.table c.part-part.result.now c.part-part.ensures c.in-Gate.t there Second c.gate-gate.result c.gate-gate.result.second c.row-y.result.now c.gate-gate.ensures refl c.row-y.ensures in
     (operand_whole w c.requires.whole c.args.at.now.session c.requires.at.in_session c.args.at.now.table.now c.requires.at.table c.part-part.result.now c.part-part.ensures c.in-Gate.t there First c.row-x-in-Gate.result.now a).long
 
 pub part_row-requires-clause-second : goal.part_row-requires-clause-second
@@ -168,6 +170,7 @@ part_row-requires-clause-second c =
     let w : World = world_of c.args.world.now in
     let is : slot plan c.args.at.now.session c.args.at.now.slot ≡ At_gate c.in-Gate.t = c.requires.kind ∙ ap slot_of_kind c.in-Gate.is in
     let there = inside_here w c.args.at.now.session c.args.at.now.slot c.requires.at.in_slot (At_gate c.in-Gate.t) is in
+    let a = operand_read w c.requires.whole c.args.at.now.session c.requires.at.in_session c.args.at.now.table.now c.requires.at.table c.part-part.result.now c.part-part.ensures c.in-Gate.t there First c.gate-gate.result c.gate-gate.result.first c.row-x-in-Gate.result.now c.gate-gate.ensures refl c.row-x-in-Gate.ensures in
     let b = operand_read w c.requires.whole c.args.at.now.session c.requires.at.in_session c.args.at.now.table.now c.requires.at.table c.part-part.result.now c.part-part.ensures c.in-Gate.t there Second c.gate-gate.result c.gate-gate.result.second c.row-y.result.now c.gate-gate.ensures refl c.row-y.ensures in
     (operand_whole w c.requires.whole c.args.at.now.session c.requires.at.in_session c.args.at.now.table.now c.requires.at.table c.part-part.result.now c.part-part.ensures c.in-Gate.t there Second c.row-y.result.now b).long
 
@@ -218,6 +221,7 @@ part_row-requires-in-MaskProduct-clause-first c =
     let is : slot plan c.args.at.now.session c.args.at.now.slot ≡ Mask_product c.in-MaskProduct.t = c.requires.kind ∙ ap slot_of_kind c.in-MaskProduct.is in
     let inside = inside_here w c.args.at.now.session c.args.at.now.slot c.requires.at.in_slot (Mask_product c.in-MaskProduct.t) is in
     let a = mask_read w c.requires.whole c.args.at.now.session c.requires.at.in_session c.args.at.now.table.now c.requires.at.table c.part-part.result.now c.part-part.ensures c.in-MaskProduct.t inside.0 inside.1 First c.mask_wire-in-MaskProduct.result c.row-x-in-MaskProduct.result.now c.mask_wire-in-MaskProduct.ensures c.row-x-in-MaskProduct.ensures in
+    let b = mask_read w c.requires.whole c.args.at.now.session c.requires.at.in_session c.args.at.now.table.now c.requires.at.table c.part-part.result.now c.part-part.ensures c.in-MaskProduct.t inside.0 inside.1 Second c.mask_wire-in-MaskProduct-2.result c.row-y-in-MaskProduct.result.now c.mask_wire-in-MaskProduct-2.ensures c.row-y-in-MaskProduct.ensures in
     (mask_is_row w c.requires.whole c.args.at.now.session c.requires.at.in_session c.args.at.now.table.now c.requires.at.table c.part-part.result.now c.part-part.ensures c.in-MaskProduct.t inside.0 inside.1 First c.row-x-in-MaskProduct.result.now a).long
 
 pub part_row-requires-in-MaskProduct-clause-second : goal.part_row-requires-in-MaskProduct-clause-second
@@ -226,6 +230,7 @@ part_row-requires-in-MaskProduct-clause-second c =
     let w : World = world_of c.args.world.now in
     let is : slot plan c.args.at.now.session c.args.at.now.slot ≡ Mask_product c.in-MaskProduct.t = c.requires.kind ∙ ap slot_of_kind c.in-MaskProduct.is in
     let inside = inside_here w c.args.at.now.session c.args.at.now.slot c.requires.at.in_slot (Mask_product c.in-MaskProduct.t) is in
+    let a = mask_read w c.requires.whole c.args.at.now.session c.requires.at.in_session c.args.at.now.table.now c.requires.at.table c.part-part.result.now c.part-part.ensures c.in-MaskProduct.t inside.0 inside.1 First c.mask_wire-in-MaskProduct.result c.row-x-in-MaskProduct.result.now c.mask_wire-in-MaskProduct.ensures c.row-x-in-MaskProduct.ensures in
     let b = mask_read w c.requires.whole c.args.at.now.session c.requires.at.in_session c.args.at.now.table.now c.requires.at.table c.part-part.result.now c.part-part.ensures c.in-MaskProduct.t inside.0 inside.1 Second c.mask_wire-in-MaskProduct-2.result c.row-y-in-MaskProduct.result.now c.mask_wire-in-MaskProduct-2.ensures c.row-y-in-MaskProduct.ensures in
     (mask_is_row w c.requires.whole c.args.at.now.session c.requires.at.in_session c.args.at.now.table.now c.requires.at.table c.part-part.result.now c.part-part.ensures c.in-MaskProduct.t inside.0 inside.1 Second c.row-y-in-MaskProduct.result.now b).long
 
@@ -274,6 +279,7 @@ returns-in-Masked c =
     let a = operand_read w c.requires.whole c.args.at.now.session c.requires.at.in_session c.args.at.now.table.now c.requires.at.table c.part-part.result.now c.part-part.ensures c.in-Masked.t inside.0 c.in-Masked.side c.gate.result c.operand.result c.row-x.result.now c.gate.ensures c.operand.ensures c.row-x.ensures in
     let b = mask_read w c.requires.whole c.args.at.now.session c.requires.at.in_session c.args.at.now.table.now c.requires.at.table c.part-part.result.now c.part-part.ensures c.in-Masked.t inside.0 inside.1 c.in-Masked.side c.mask_wire-in-Masked.result c.row-in-Masked.result.now c.mask_wire-in-Masked.ensures c.row-in-Masked.ensures in
     let first = operand_whole w c.requires.whole c.args.at.now.session c.requires.at.in_session c.args.at.now.table.now c.requires.at.table c.part-part.result.now c.part-part.ensures c.in-Masked.t inside.0 c.in-Masked.side c.row-x.result.now a in
+    let second = mask_is_row w c.requires.whole c.args.at.now.session c.requires.at.in_session c.args.at.now.table.now c.requires.at.table c.part-part.result.now c.part-part.ensures c.in-Masked.t inside.0 inside.1 c.in-Masked.side c.row-in-Masked.result.now b in
     let differences : ℕ → ℕ → List ℕ = λ m bits. listed m (λ i. difference (2 ^ bits) (slice_index c.row-x.result.now i) (slice_index c.row-in-Masked.result.now i)) in
     IfOk-weaker c.masked_row.result (λ (row : Vec ℕ). row.items ≡ differences (length c.row-x.result.now) c.ring.result) (λ (row : Vec ℕ). row.items ≡ listed (length plan.groups) (sent w c.args.at.now.session c.args.at.now.slot c.args.p)) (λ row e.
     masked_sent w c.requires.whole c.args.at.now.session c.args.at.now.slot c.args.p c.requires.at.in_session c.requires.at.in_slot c.in-Masked.t c.in-Masked.side c.row-x.result.now c.row-in-Masked.result.now row.items is (operand_within w c.requires.whole c.args.at.now.session c.requires.at.in_session c.args.at.now.table.now c.requires.at.table c.part-part.result.now c.part-part.ensures c.in-Masked.t inside.0 c.in-Masked.side) a b (e ∙ ap₂ differences first.long c.ring.ensures.is)) c.masked_row.ensures

@@ -1,4 +1,4 @@
-use Rattle.std.proofs.Common.{◌≡◌, ℕ, ◌<◌, ◌^◌, true, [], length, refl, sym, ap, ◌∙◌, subst, arith, inl, inr}
+use Rattle.std.proofs.Common.{◌≡◌, ◌<◌, ◌^◌, true, [], length, refl, sym, ap, ◌∙◌, subst, arith, inl, inr}
 use Rattle.std.specs.Prelude.{slice_index, slice_index_or}
 use Rattle.std.proofs.lemmas.Bool.{cases_lt, eq-eqb}
 use Rattle.std.proofs.lemmas.List.{get_or_past}
@@ -15,10 +15,6 @@ use Rattle.wire_tables.proofs.SlotWords.{inside_here}
 use Rattle.wire_tables.proofs.MadeRows.{given_made, carried_made}
 use Rattle.wire_tables.proofs.summands.input_row.Goals as goal
 
--- no number is 0 and above it
-none_is_some : (n v m : ℕ) → 0 ≡ n → 0 < n → v < m
-none_is_some n v m none some = omega arith
-
 pub source-requires : goal.source-requires
 source-requires c =
     let w : World = world_of c.args.world.now in
@@ -29,8 +25,7 @@ pub bounds-before-v : goal.bounds-before-v
 bounds-before-v c =
     let w : World = world_of c.args.world.now in
     let lv = inside_here w c.args.before.now.session c.args.before.now.slot c.requires.before.in_slot (Input c.args.v) c.requires.input in
-    let long = ap length c.requires.before.given ∙ length-listed (length (owners (session c.args.world.now.plan.now c.args.before.now.session))) (input_of w c.args.before.now.session) in
-    subst (λ n. c.args.v < n) (sym long) lv
+    omega (arith, lv, ap length c.requires.before.given, length-listed (length (owners (session c.args.world.now.plan.now c.args.before.now.session))) (input_of w c.args.before.now.session))
 
 pub deal_into-requires-clause-value : goal.deal_into-requires-clause-value
 deal_into-requires-clause-value c =
@@ -52,9 +47,6 @@ deal_into-requires-clause-words c =
     let deals : deals_in plan c.args.before.now.session p (slot plan c.args.before.now.session c.args.before.now.slot) ≡ true = ap (deals_in plan c.args.before.now.session p) c.requires.input ∙ ap (given_by p) from ∙ eq-eqb p p refl in
     has_words w c.requires.whole c.args.before.now.session c.args.before.now.slot c.args.before.now.places.now c.requires.before.in_session c.requires.before.in_slot c.requires.before.places p party deals
 
-pub row-requires-clause-session : goal.row-requires-clause-session
-row-requires-clause-session c = subst (λ n. c.args.before.now.session < n) (sym c.requires.before.carried.sessions) c.requires.before.in_session
-
 pub row-requires-clause-wire : goal.row-requires-clause-wire
 row-requires-clause-wire c =
     let plan = c.args.world.now.plan.now in
@@ -67,7 +59,7 @@ row-requires-clause-wire c =
       | inl l ↦ l
       | inr past ↦
           let none = ap length (sym (get_or_past (slice_index_or c.args.before.now.carried.now c.args.before.now.session []) c.args.v [] past) ∙ row) ∙ length-listed (length plan.groups) (end_summands w r wire) in
-          none_is_some (length plan.groups) c.args.v (length (slice_index_or c.args.before.now.carried.now c.args.before.now.session [])) none c.requires.whole.sound.some_groups
+          absurd (omega (arith, none, c.requires.whole.sound.some_groups))
     ]
 
 pub returns-in-Given : goal.returns-in-Given

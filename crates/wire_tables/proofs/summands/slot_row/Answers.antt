@@ -20,6 +20,7 @@ pub mask_into-requires : goal.mask_into-requires
 mask_into-requires c =
     let plan = c.args.world.now.plan.now in
     let w : World = world_of c.args.world.now in
+    let x : Session = session plan c.args.before.now.session in
     let is : slot plan c.args.before.now.session c.args.before.now.slot ≡ Mask c.in-Mask.t c.in-Mask.side = ap (λ y. session_slot y c.args.before.now.slot) (sym c.part-part.ensures) ∙ sym c.in-Mask.ensures.is in
     has_mask_words w c.requires.whole c.args.before.now.session c.args.before.now.slot c.args.before.now.places.now c.requires.before.in_session c.requires.before.in_slot c.requires.before.places c.in-Mask.t c.in-Mask.side is
 
@@ -59,6 +60,7 @@ pub product_into-requires-clause-tapes : goal.product_into-requires-clause-tapes
 product_into-requires-clause-tapes c p lp pair =
     let plan = c.args.world.now.plan.now in
     let w : World = world_of c.args.world.now in
+    let x : Session = session plan c.args.before.now.session in
     let is : slot plan c.args.before.now.session c.args.before.now.slot ≡ Mask_product c.in-MaskProduct.t = ap (λ y. session_slot y c.args.before.now.slot) (sym c.part-part.ensures) ∙ sym c.in-MaskProduct.ensures.is in
     has_words w c.requires.whole c.args.before.now.session c.args.before.now.slot c.args.before.now.places.now c.requires.before.in_session c.requires.before.in_slot c.requires.before.places p lp (ap (deals_in plan c.args.before.now.session p) is ∙ pair)
 
