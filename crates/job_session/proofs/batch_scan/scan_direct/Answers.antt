@@ -77,31 +77,3 @@ returns c =
     let k = length c.args.wiring.now.owners.items + length s.gates + c.loop-o.o in
     let all : k ≡ session_slots s = omega (arith, c.loop-o.auto.o-end, c.loop-o-test.false, c.len-o-end.ensures, wiring_count c.args.wiring.now c.requires.wiring c.requires.direct, ap length c.requires.bare) in
     same_slots s (k - 1) _ k _ c.loop-o.scan (omega (arith, all)) all c.loop-o.invariant
-
-pub loop-v-init : goal.loop-v-init
-loop-v-init c = c.requires.scan
-
-pub loop-v-preserved : goal.loop-v-preserved
-loop-v-preserved c =
-    same_slots (session_in c.args.wiring.now) c.loop-v.v _ (c.loop-v.v + 1) _ c.step.new.self (omega arith) (omega arith) c.in_ok-step.ensures
-
-pub step-requires-clause-scan : goal.step-requires-clause-scan
-step-requires-clause-scan c = c.loop-v.invariant
-
-pub step_gate-requires-clause-scan : goal.step_gate-requires-clause-scan
-step_gate-requires-clause-scan c =
-    let s = session_in c.args.wiring.now in
-    let k = length c.args.wiring.now.owners.items + c.loop-t.t in
-    same_slots s (k - 1) _ k _ c.loop-t.scan (omega (arith, c.len-inputs.ensures)) (omega (arith, c.len-inputs.ensures)) c.loop-t.invariant
-
-pub step-requires-in-loop-o-clause-scan : goal.step-requires-in-loop-o-clause-scan
-step-requires-in-loop-o-clause-scan c =
-    let s = session_in c.args.wiring.now in
-    let k = length c.args.wiring.now.owners.items + length s.gates + c.loop-o.o in
-    same_slots s (k - 1) _ k _ c.loop-o.scan (omega (arith, c.len-inputs.ensures, c.len-gates.ensures)) (omega (arith, c.len-inputs.ensures, c.len-gates.ensures)) c.loop-o.invariant
-
-pub index-gate-requires : goal.index-gate-requires
-index-gate-requires c = omega (arith, c.loop-t-test.true, c.len-gates.ensures)
-
-pub output_wire-requires : goal.output_wire-requires
-output_wire-requires c = record { wiring = c.requires.wiring; within = omega (arith, c.loop-o-test.true, c.len-o-end.ensures) }
