@@ -9,7 +9,7 @@ set once and before it is read), of all inputs, and of all tapes of random words
 
 - **sums**: the summands of each wire add up to its value in the plain circuit;
 - **orders**: words are posted in any order, each by its sender, once nothing that is still to come can change what the sender computes from its own inputs, its own
-  tape and the words that came to it. At every moment each word is the protocol's, and each output that a reader has is the plain circuit's. Every order can go on
+  tape and the words that came to it (and from nothing else: law `words_are_own`, among those of [schedules](STATEMENT_SCHEDULES.md)). At every moment each word is the protocol's, and each output that a reader has is the plain circuit's. Every order can go on
   until all words are posted, and then each reader has its outputs;
 - **once**: no two words that a party draws stand at one place of its tape;
 - **private_to**: a tolerated group learns nothing. For any two lists of inputs that agree on what its members give and read, a stated bijection of tapes, which leaves the
