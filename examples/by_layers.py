@@ -41,8 +41,8 @@ class Gate:
         self.multiplies = tokens[-1] in PRODUCTS
 
 
-def accept(data, program):
-    """Refuses the circuit where the program does. A job of one party has no messages, so nothing else of it can be too large."""
+def accept(data, program, path):
+    """Refuses the circuit of this file where the program does. A job of one party has no messages, so nothing else of it can be too large."""
     of_words = any(line.split()[-1:] and line.split()[-1] in OF_WORDS for line in data.decode('utf-8', 'replace').split('\n'))
     with tempfile.TemporaryDirectory() as folder:
         write_new(folder, 'circuit.txt', data)
@@ -55,6 +55,7 @@ def accept(data, program):
         write_new(folder, 'job.toml', job_text(fields).encode())
         done = subprocess.run([program, 'check', folder], stdin=subprocess.DEVNULL, stdout=subprocess.DEVNULL, stderr=subprocess.PIPE, text=True)
     line = done.stderr.strip().split('\n')[-1] or f'{program} ended with status {done.returncode}'
+    line = line.replace('file=circuit.txt session=0', f'file={path}')
     need(done.returncode == 0, line + (': examples/cut.py cuts it into sessions' if ' TooLarge ' in line else ''))
 
 
@@ -80,32 +81,51 @@ def in_layers(gates):
     return [gate for _, gate in sorted(zip(layers(gates)[0], gates), key=lambda pair: (pair[0], pair[1].multiplies))]
 
 
+# That others wait for the wire of a slot, which is set only when what they say was taken: it is of a prepared product.
+JOINS = 2
+
+
 def talking_batches(slots):
     """How many batches of slots say something. Of a slot there are the wires that it reads, the one that it sets, whether others wait for
-    that one, and whether it says something itself. It begins a batch where it reads a wire for which one waits in the batch before it."""
-    count, says, pending = 0, False, set()
+    that one, and whether it says something itself. It begins a batch where it reads a wire for which one waits in the batch before it, or sets one beside
+    a slot that joins."""
+    count, says, pending, joins = 0, False, set(), False
     for reads, sets, waits, speaks in slots:
-        if not pending.isdisjoint(reads):
+        if not pending.isdisjoint(reads) or joins and waits != JOINS and sets != NOTHING:
             count += says
-            says, pending = False, set()
+            says, pending, joins = False, set(), False
         if waits:
             pending.add(sets)
+            joins |= waits == JOINS
         says |= speaks
     return count + says
 
 
-def rounds(head, gates, given=None, read=None):
+def prepared_slots(number, gate):
+    """The slots of a product that is prepared: its masks and their product, before all others, and then its openings and itself."""
+    first, second, product = ((number, which) for which in range(3))
+    masks = [([], first, True, True), ([], second, True, True), ([first, second], product, True, True)]
+    return masks, [*(([wire, mask], NOTHING, False, True) for wire, mask in zip(gate.reads, (first, second))), ([], gate.sets, JOINS, False)]
+
+
+def rounds(head, gates, given=None, read=None, prepared=False):
     """How many batches of slots say something: those with an input, a product or an output; but, where it is told which input values are
-    given and which output values are read, with none that is carried on instead."""
-    slots, wires = [], iter(range(int(head[0][1])))
+    given and which output values are read, with none that is carried on instead. Products may be prepared."""
+    before, slots, wires = [], [], iter(range(int(head[0][1])))
     for value, width in enumerate(map(int, head[1][1:])):
         slots += [([], wire, True, given is None or given[value]) for wire in itertools.islice(wires, width)]
-    slots += [(gate.reads, gate.sets, gate.multiplies, gate.multiplies) for gate in gates]
+    for number, gate in enumerate(gates):
+        if prepared and gate.multiplies:
+            masks, its_slots = prepared_slots(number, gate)
+            before += masks
+            slots += its_slots
+        else:
+            slots.append((gate.reads, gate.sets, gate.multiplies, gate.multiplies))
     widths = list(map(int, head[2][1:]))
     wires = iter(range(int(head[0][1]) - sum(widths), int(head[0][1])))
     for value, width in enumerate(widths):
         slots += [([wire], NOTHING, False, read is None or bool(read[value])) for wire in itertools.islice(wires, width)]
-    return talking_batches(slots)
+    return talking_batches(before + slots)
 
 
 def main(words):
@@ -117,7 +137,7 @@ def main(words):
         return 2
     path = pathlib.Path(words[0])
     data = read_bytes(os.fspath(path.parent), path.name)
-    accept(data, words[2] if len(words) == 3 else str(TOP / 'mpc'))
+    accept(data, words[2] if len(words) == 3 else str(TOP / 'mpc'), path)
     head, gates = read_circuit(data)
     by_layers = in_layers(gates)
     if len(words) > 1:

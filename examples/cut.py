@@ -35,8 +35,9 @@ from by_layers import NOTHING, talking_batches
 from circuit_reader import MOST_READ_BYTES, PRODUCTS, Fault, read_circuit
 from circuits import MOST_GATES
 from cut_places import best_cuts, depth_first, in_layers, lives, needed, spread, times
-from job_folder import MOST_SESSIONS, MOST_VALUES, MOST_WIRES, Refusal, job_text, need, read_bytes, run_script, write_new
-from summands import Sharing
+from doubts import doubt_structure
+from job_folder import MOST_SESSIONS, MOST_VALUES, MOST_WIRES, Refusal, job_text, need, read_bytes, read_fields, run_script, write_new
+from summands import Sharing, groups_of
 
 MOST_MESSAGES = 1_048_576
 MOST_WORDS = 1_048_576
@@ -350,11 +351,6 @@ def told_of(circuit):
     return 'circuit ' + ' '.join(f'{what} {found}' for _, what, found in sizes) + (f': {over} more than one session takes' if over else '')
 
 
-def groups_of(text):
-    """The groups that a text names."""
-    return [[] if group == '0' else group.split('+') for group in text.split(',')]
-
-
 def number_of(options, name, most):
     """The number of an option, or the most where it isn't given."""
     word = options.get(name, str(most))
@@ -400,6 +396,7 @@ def main(words):
     job = job_of(circuit, names[2:], options)
     lines = [told_of(circuit), *job.told()]
     job.write(names[1])
+    doubt_structure(read_fields(names[1]))
     print('\n'.join(lines))
     return 0
 

@@ -36,6 +36,7 @@ from cut_places import best_cuts  # noqa: E402
 from in_the_clear import OPERATE, fields, out_in_the_clear  # noqa: E402
 from mutate import CHANGES  # noqa: E402
 from random_expressions import random_groups  # noqa: E402
+from waits import told  # noqa: E402
 from scripts import BY_LAYERS, CIRCUITS, MOST_SECONDS, NODES, NUMBERS, call, expect, expect_one_line, run_cases, write_folder, wrote  # noqa: E402
 
 CUT, SHA, SHA_CIRCUIT = EXAMPLES / 'cut.py', EXAMPLES / 'sha256/job.py', EXAMPLES / 'sha256/sha256_circuit.py'
@@ -168,7 +169,7 @@ def try_cut(program, top, chance, sample, most, parties=('a', 'b', 'c'), tolerat
     options = {'--owners': ','.join(owners), '--readers': ','.join(map(group_text, readers)), '--tolerated': ','.join(map(group_text, tolerated)),
                '--gates': str(most), '--fewest': fewest, **({} if sample.of_bits else {'--bits': str(sample.bits)})}
     small = len(sample.text) < SMALL
-    told = cut_here(file, folder, parties, options) if small else wrote(CUT, file, folder, *parties, *itertools.chain(*options.items()))
+    told = cut_here(file, folder, parties, options) if small else wrote(CUT, file, folder, *parties, *itertools.chain(*options.items()), doubts=True)
     job = give(folder, sample, owners)
     expect_cost(program, folder, told)
     expect_outputs(folder, job, call_program(program, 'run', folder), sample, readers)
@@ -314,7 +315,7 @@ def limits_are_told(program, top):
             (wide([2], [1] * 1_030, 0).replace('0 2', '0 1032'), parties, 'circuit: 15 OutputNotSet wire=2'),
             (wide([100_000, 31_000], [20], 20), 'abcdefghij', 'the limit of 1048576 messages by '),
             (wide([131_000], [20], 20), [*'abcdefghi', '--readers', '0'], 'the limit of 1048576 messages by '),
-            (chain, ['a', 'b'], 'a and b are all parties'), (chain, ['a', 'a', 'b'], 'a name stands twice'), (chain, ['a', 'b', 'of'], 'a name is a letter'),
+            (chain, ['a', 'b'], 'a and b are all parties'), (chain, ['a', 'a', 'b'], 'a name stands twice'), (chain, ['a', 'b', 'of'], 'is no name: a letter'),
             (chain, [*'abcdefghijklm'], 'a job has 1 to 12 parties'), (chain, [*parties, '--tolerated', 'a+b,c'], 'a+b and c are all parties'),
             (chain, [*parties, '--tolerated', 'a+x'], "'a+x' is no group"), (chain, [*parties, '--owners', 'x'], "'x' is no party"),
             (chain, [*parties, '--owners', 'a,b'], 'there are 2 owners'), (chain, [*parties, '--readers', 'a,b'], 'there are 2 groups of readers'),
@@ -491,4 +492,4 @@ def main(words):
 
 
 if __name__ == '__main__':
-    sys.exit(main(sys.argv))
+    sys.exit(told(main))

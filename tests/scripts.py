@@ -6,8 +6,10 @@ end with one line on standard error. nodes.py has to find free ports, and to sto
 tells why, where a script ends otherwise. It needs Linux.
 """
 
+import collections
 import concurrent.futures
 import contextlib
+import hashlib
 import os
 import pathlib
 import random
@@ -18,10 +20,11 @@ import subprocess
 import sys
 import tempfile
 import time
+import xml.etree.ElementTree
 
 TOP = pathlib.Path(__file__).resolve().parent.parent
 EXAMPLES = TOP / 'examples'
-sys.path[1:1] = [str(EXAMPLES), str(EXAMPLES / 'aes'), str(TOP / 'fuzz')]
+sys.path[1:1] = [str(EXAMPLES), str(EXAMPLES / 'aes'), str(EXAMPLES / 'network'), str(TOP / 'fuzz'), str(TOP / 'docs')]
 
 import job_folder  # noqa: E402
 from aes_circuit import boxes  # noqa: E402
@@ -32,11 +35,16 @@ from mutate import CHANGES  # noqa: E402
 from odd_folders import ODD_FOLDERS  # noqa: E402
 from product import product_with  # noqa: E402
 from random_expressions import SCRIPT, with_circuits  # noqa: E402
-from waits import MOST_SECONDS  # noqa: E402
+from waits import MOST_SECONDS, told  # noqa: E402
+# (it puts the scripts of examples/ before those of this folder)
+import nodes  # noqa: E402
+import job_counts  # noqa: E402
+import pictures  # noqa: E402
+import summands  # noqa: E402
 
 NUMBERS, CIRCUITS, EXPRESSIONS_SCRIPT = (EXAMPLES / name for name in ('numbers.py', 'circuits.py', 'expressions.py'))
 AUCTION, SPREAD, NODES = EXAMPLES / 'auction/job.py', EXAMPLES / 'statistics/spread.py', EXAMPLES / 'network/nodes.py'
-BY_LAYERS = EXAMPLES / 'by_layers.py'
+BY_LAYERS, PICTURE, UNPROVED = EXAMPLES / 'by_layers.py', EXAMPLES / 'picture.py', EXAMPLES / 'unproved.py'
 AES, AES_CIRCUIT = EXAMPLES / 'aes/job.py', EXAMPLES / 'aes/aes_circuit.py'
 INPUTS = 2_000
 MUTATED = 1_000
@@ -57,10 +65,11 @@ def call(script, *words, given=''):
     return subprocess.run([sys.executable, '-B', script, *map(str, words)], input=given.encode(), capture_output=True, timeout=MOST_SECONDS)
 
 
-def wrote(script, *words, given=''):
-    """What a script wrote that has to end well. On a busy machine it may tell that it waits."""
+def wrote(script, *words, given='', doubts=False):
+    """What a script wrote that has to end well. On a busy machine it may tell that it waits. Where a job may give it cause, it may have doubts."""
     done = call(script, *words, given=given)
     told = re.sub(rb'nodes\.py: waiting for [^\n]*\n', b'', done.stderr)
+    told = re.sub(rb'\w+\.py: warning: [^\n]*\n', b'', told) if doubts else told
     expect(done.returncode == 0 and not told, f'{script.name} {words}: status {done.returncode}: {told[-300:]!r}')
     return done.stdout.decode()
 
@@ -202,7 +211,9 @@ def circuits_come_into_layers(program, top):
     for number, text in enumerate(['', '1 3\n1 2\n1 1\n2 1 0 3 2 AND\n', '1 3\n1 2\n1 1\n2 1 0 1 2 NAND\n', '2 3\n1 2\n1 1\n2 1 0 1 2 AND\n', 'x\n']):
         old = os.path.join(top, f'refused_{number}.txt')
         pathlib.Path(old).write_text(text, encoding='utf-8')
-        expect_one_line(call(BY_LAYERS, old, f'{old}.new', program), f'by_layers.py {text!r}', 'by_layers.py: ')
+        done = call(BY_LAYERS, old, f'{old}.new', program)
+        expect_one_line(done, f'by_layers.py {text!r}', 'by_layers.py: refused circuit ')
+        expect(f' file={old} ' in done.stderr.decode(), f'{done}')
         expect(not os.path.exists(f'{old}.new'), f'by_layers.py {text!r} wrote a file')
     expect_one_line(call(BY_LAYERS, os.path.join(top, 'none.txt')), 'by_layers.py of no file', 'by_layers.py: ')
 
@@ -255,7 +266,8 @@ def aes_is_the_standards(program, top):
         for folder in (made, sorted_job):
             files = {file.name: file.read_bytes() for file in pathlib.Path(folder).iterdir()}
             done = subprocess.run([program, 'run', folder], capture_output=True, text=True, timeout=MOST_SECONDS)
-            for out in (out_in_the_clear(files), done.stdout, wrote(NODES, 'run', folder, program)):
+            # (both folders have the same seeds)
+            for out in (out_in_the_clear(files), done.stdout, wrote(NODES, 'run', folder, program, doubts=True)):
                 found = wrote(AES, 'read', folder, given=out)
                 expect(found == f'study reads {encrypted}\n', f'{key} {block}: {done.stderr} {found}')
     expect(wrote(AES_CIRCUIT) == pathlib.Path(made, 'aes.txt').read_text(), 'aes_circuit.py prints another circuit')
@@ -385,7 +397,21 @@ def outputs_that_fail(program, top):
     expect_one_line(done, 'numbers.py to a full device', 'numbers.py: ')
     for words in ['{} -B {} less 5000 | head -c 10', '{} -B {} less 5 >&-', '{} -B {} less 5 <&-']:
         done = subprocess.run(words.format(sys.executable, CIRCUITS), shell=True, capture_output=True, timeout=MOST_SECONDS)
-        expect(done.stderr.count(b'\n') <= 1 and b'Traceback' not in done.stderr, f'{words}: {done.stderr[-200:]!r}')
+        expect(done.stderr.count(b'\n') <= ('|' not in words) and b'Traceback' not in done.stderr, f'{words}: {done.stderr[-200:]!r}')
+
+
+# Some scripts of bench/, fuzz/ and tests/ that are given a program.
+OF_A_PROGRAM = ['bench/workers.py', 'bench/network.py', 'fuzz/mutate.py', 'tests/outputs.py']
+
+
+def programs_that_are_not_there(program, top):
+    """No script has a traceback for one, nor for a reader of its output that has left."""
+    for script in OF_A_PROGRAM:
+        done = call(TOP / script, os.path.join(top, 'none'), *(['1'] if script == 'fuzz/mutate.py' else []))
+        expect(done.returncode == 1 and done.stderr.endswith(b'/none: No such file or directory\n') and done.stderr.count(b'\n') == 1, f'{script}: {done}')
+    code = f"import sys; sys.path.append('{TOP}/tests'); import waits; sys.exit(waits.told(lambda words: print('x' * 2**20)))"
+    done = subprocess.run(f'{sys.executable} -B -c "{code}" | head -c 1', shell=True, capture_output=True, timeout=MOST_SECONDS)
+    expect(done.stdout == b'x' and not done.stderr, f'{done}')
 
 
 # Folders.
@@ -443,6 +469,7 @@ def changed_jobs_are_read_or_refused(program, top):
             job = job_folder.read_job(folder)
             job_folder.job_text(job_folder.read_fields(folder))
             list(job_folder.read_outputs(job, ['out 0 0 c 35\n']))
+            job_counts.counts_of(folder)
 
 
 # Texts of expressions in which blanks and words are other ones than they look, and how many inputs and outputs they have.
@@ -460,7 +487,7 @@ def expressions_are_words(program, top):
         expect(found == [[1] * inputs, [1] * outputs], f'{text[:60]!r} has {list(map(len, found))} values')
     folder = write_folder(top, {'f.txt': COUNTED[0][0]})
     session = {'circuit': 'f.txt', 'layout': 'expr', 'owners': ['a', 'b'], 'readers': [['c'], ['a']]}
-    fields = {'version': 2, 'ring_bits': 16, 'parties': ['a', 'b', 'c'], 'tolerated': [['a'], ['b']], 'session': [session]}
+    fields = {'version': 2, 'ring_bits': 16, 'parties': ['a', 'b', 'c'], 'tolerated': [['a'], ['b'], ['c']], 'session': [session]}
     pathlib.Path(folder, 'job.toml').write_text(job_folder.job_text(fields))
     wrote(NUMBERS, 'write', folder, 'b', '-7')
     expect('inputs = ["65529"]' in pathlib.Path(folder, 'party_b.toml').read_text(), 'another word')
@@ -536,6 +563,179 @@ def jobs_of_calls(program, top):
         expect(found == ''.join(f'session 0 value 0: {party} reads {expected}\n' for party in parties[:len(given)]), f'{name}: {found}')
 
 
+def jobs_with_helpers(program, top):
+    """A helper gives and reads nothing, and the groups that must learn nothing are those that are named."""
+    for number, (words, givers, helpers, tolerated) in enumerate([
+            (['auction', '8', 'ann', 'bob', '--helper', 'house'], 2, ['house'], None), (['total', '8', 'ann', '--helper', 'h', '--helper', 'i'], 1, ['h', 'i'], None),
+            (['auction', '8', 'a', 'b', 'c', 'd', 'e', '--tolerated', 'a+b,c+d,e'], 5, [], [['a', 'b'], ['c', 'd'], ['e']]),
+            (['less', '8', 'a', 'b', '--tolerated', 'a,b', '--helper', 'c', '--helper', 'd'], 2, ['c', 'd'], [['a'], ['b']])]):
+        folder = os.path.join(top, str(number))
+        done = call(CIRCUITS, 'job', folder, *words)
+        fields = job_folder.read_fields(folder)
+        [session] = fields['session']
+        knows = 'warning: c and d may each know everything: no group that must learn nothing has any of them\n' if number == 3 else ''
+        expect(done.stderr.decode() == (f'circuits.py: {knows}' if knows else ''), f'{words}: {done}')
+        expect(len(session['owners']) == givers and fields['parties'] == session['owners'] + helpers, f'{words}: {fields}')
+        expect(all(readers == session['owners'] for readers in session['readers']) and fields.get('tolerated') == tolerated, f'{words}: {fields}')
+        checked = subprocess.run([program, 'check', folder], capture_output=True, text=True, timeout=MOST_SECONDS)
+        expect(checked.returncode == 0, f'{words}: {checked.stderr}')
+    for words, text in [(['auction', '8', 'ann', 'bob'], 'auction: where each party alone must learn nothing, a job wants three of them, and 2 are named'),
+                        (['auction', '8', 'ann', '--helper', 'h'], 'auction takes a number of each of 2 or more parties, and 1 is named'),
+                        (['choose', '8', 'a', 'b', '--helper', 'c'], 'choose takes a bit and two numbers, one each of the first 3 parties, and 2 are named'),
+                        (['total', '8', 'a', 'b', 'c', '--tolerated', 'a+b,c'], 'a+b and c are all parties, and both must learn nothing'),
+                        (['total', '8', 'a', 'b', 'c', '--tolerated', 'a+x'], "'a+x' is no group of parties")]:
+        expect_one_line(call(CIRCUITS, 'job', os.path.join(top, 'none'), *words), f'circuits.py {words}', f'circuits.py: {text}')
+    expect(not os.path.exists(os.path.join(top, 'none')), 'a refused call left a folder')
+
+
+def numbers_are_divided_by_values(program, top):
+    session = {'circuit': 'f.txt', 'layout': 'expr', 'owners': [], 'readers': [['a', 'b'], ['a', 'b']]}
+    fields = {'version': 2, 'ring_bits': 8, 'parties': ['a', 'b', 'c'], 'tolerated': [['a'], ['b']], 'session': [session, {**session, 'readers': [['a'], []]}]}
+    folder = write_folder(top, {'f.txt': b'output 1\noutput 2\n'})
+    job = pathlib.Path(folder, 'job.toml')
+    job.write_text(job_folder.job_text(fields))
+    given = 'out 0 0 a 100\nout 0 1 a 8\nout 0 0 b 100\nout 0 1 b 8\nout 1 0 a 250\n'
+    read = [line.partition(': ')[2] for line in wrote(NUMBERS, 'read', folder, '--divide-by', '0.1', '--signed', given=given).splitlines()]
+    expect(read == ['a reads 100 / 8 = 12.50', 'a reads 8', 'b reads 100 / 8 = 12.50', 'b reads 8', 'a reads -6 / 8 = -0.75'], f'{read}')
+    for words, lines in [(['0.1'], 'out 0 0 a 5\n'), (['0.1'], 'out 0 0 a 5\nout 0 1 a 0\n'), (['0.2'], given), (['1'], given), (['2.0'], given), (['x'], given),
+                         (['0.1'], 'out 0 1 a 5\nout 0 0 b 5\n'), (['0.1'], '')]:
+        expect_one_line(call(NUMBERS, 'read', folder, '--divide-by', *words, given=lines), f'numbers.py --divide-by {words}', 'numbers.py: ')
+    job.write_text(job_folder.job_text({**fields, 'session': [session]}))
+    expect(wrote(NUMBERS, 'read', folder, '--divide-by', '1', given='out 0 0 a 1\nout 0 1 a 3\n').startswith('session 0 value 0: a reads 1 / 3 = 0.33\n'), 'no third')
+
+
+def doubts_are_told(program, top):
+    """Of a party that may know everything, and of a seed that isn't its party's own; not of a copy, nor of the examples."""
+    def told(*words):
+        return call(*words).stderr.decode().replace(os.path.realpath(top), '')
+
+    folder, other = os.path.join(top, 'one'), os.path.join(top, 'two')
+    wrote(CIRCUITS, 'job', folder, 'greatest', '8', 'ann', 'bob', 'cleo')
+    for party in ('ann', 'bob', 'cleo'):
+        wrote(NUMBERS, 'write', folder, party, '5')
+    shutil.copytree(folder, other)
+    expect(not told(NODES, 'run', folder, program), 'a copy is told of')
+    wrote(NUMBERS, 'write', other, 'ann', '6', '--replace')
+    ann, bob, cleo = (pathlib.Path(other, f'party_{name}.toml') for name in ('ann', 'bob', 'cleo'))
+    cleo.write_text(ann.read_text())
+    bob.write_text(re.sub('inputs = .*', 'inputs = ["1 1 1 1 0 0 0 0"]', bob.read_text()))
+    lines = ['party_ann.toml and party_cleo.toml have the same seed: each party makes its own, and tells nobody',
+             'party_bob.toml has the seed of /one/party_bob.toml: a seed serves one run of one job']
+    expect(told(NODES, 'run', other, program) == ''.join(f'nodes.py: warning: {line}\n' for line in lines), told(NODES, 'run', other, program))
+    tariff = os.path.join(top, 'tariff')
+    shutil.copytree(EXAMPLES / 'statistics', tariff)
+    wrote_line = told(NUMBERS, 'write', tariff, 'north', '1', '2', '--replace').splitlines()
+    expect(len(wrote_line) == 4 and wrote_line[0] == 'numbers.py: warning: party_east.toml has the seed of examples/statistics/party_east.toml, which everybody can read',
+           f'{wrote_line}')
+    expect(not told(NODES, 'run', EXAMPLES / 'statistics', program), 'an example is told of')
+    job = pathlib.Path(folder, 'job.toml')
+    for old, new, line in [('2 of (ann, bob, cleo)', 'ann | bob & cleo', 'ann alone may know everything: no group that must learn nothing has this party'),
+                           ('version = 1', 'version = 2', 'ann, bob and cleo may each know everything: no group that must learn nothing has any of them')]:
+        job.write_text(job.read_text().replace(old, new))
+        if new == 'version = 2':
+            job.write_text(re.sub('formula = .*', 'tolerated = []', job.read_text()))
+        found = told(NUMBERS, 'write', folder, 'ann', '5', '--replace')
+        expect(found.startswith(f'numbers.py: warning: {line}\n'), f'{new}: {found}')
+
+
+def formulas_are_those_of_the_rows(program, top):
+    """What the scripts take for the groups that must learn nothing is what 'mpc check' tells."""
+    chance = random.Random(5)
+
+    def formula(names, depth):
+        parts = [formula(names, depth - 1) for _ in range(chance.randrange(2, 4))] if depth else chance.sample(names, 2)
+        return chance.choice([f'({" | ".join(parts)})', f'({" & ".join(parts)})', f'{chance.randrange(1, len(parts) + 1)} of ({", ".join(parts)})'])
+
+    for _ in range(20):
+        names = ['a', 'b', 'c', 'd', 'e'][:chance.randrange(3, 6)]
+        files = product_with([])
+        text = files['job.toml'].decode().replace('"2 of (a, b, c)"', f'"{formula(names, chance.randrange(3))}"')
+        text = text.replace('["a", "b", "c"]', str(names).replace("'", '"'), 1)
+        folder = write_folder(top, {**files, 'job.toml': text.encode()})
+        done = subprocess.run([program, 'check', folder], capture_output=True, text=True, timeout=MOST_SECONDS)
+        found = summands.tolerated_of(job_folder.read_fields(folder))
+        if done.returncode == 0:
+            groups = re.findall('(?m)^group [0-9]+ (.*)', done.stdout)
+            expect([summands.told(group) for group in found] == groups, f'{text}: {found} in place of {groups}')
+        else:
+            covering = re.fullmatch('refused q2 1 Covering first=(.*) second=(.*)\n', done.stderr)
+            expect(covering and {*covering.groups()} <= set(map(summands.told, found)), f'{text}: {found} {done.stderr}')
+
+
+# Pictures.
+
+def pictures_count_what_runs_send(program, top):
+    """Of each example the messages between each two parties in each session, those that stay with their party, and what 'mpc check' counts."""
+    for job in sorted(EXAMPLES.rglob('job.toml')):
+        counts = job_counts.counts_of(job.parent)
+        done = subprocess.run([program, 'run', job.parent, '--view', '+'.join(counts.sharing.parties)], capture_output=True, text=True, timeout=MOST_SECONDS)
+        sent = collections.Counter((int(match[1]), match[2], match[3]) for match in re.finditer('(?m)^([0-9]+) [0-9]+ [0-9]+ ([^ ]+) ([^ ]+) [0-9]+$', done.stdout))
+        found = {(number, *pair): times for number, session in enumerate(counts.sessions) for pair, times in session.messages.items() if times}
+        expect({key: times for key, times in sent.items() if key[1] != key[2]} == found, f'{job.parent}: other messages than are drawn')
+        kept = [sum(times for (place, one, other), times in sent.items() if place == number and one == other) for number in range(len(counts.sessions))]
+        expect(kept == [session.kept for session in counts.sessions], f'{job.parent}: {kept} messages stay')
+        checked = subprocess.run([program, 'check', job.parent], capture_output=True, text=True, timeout=MOST_SECONDS).stdout
+        told = [tuple(map(int, numbers)) for numbers in re.findall('(?m)^session [0-9]+ gates ([0-9]+) products ([0-9]+) messages ([0-9]+)$', checked)]
+        expect(told == [(session.gates, session.products, sum(session.messages.values()) + session.kept) for session in counts.sessions], f'{job.parent}: {told}')
+
+
+def the_product_is_the_examples(program, top):
+    """The picture of one product has the messages of a run."""
+    product = pictures.Product()
+    done = subprocess.run([program, 'run', EXAMPLES / 'multiply', '--view', 'a+b+c'], capture_output=True, text=True, timeout=MOST_SECONDS)
+    messages = [f'0 {message.slot} {message.share} {message.sender} {message.receiver} {message.word}' for message in product.messages]
+    wanted = [line for line in done.stdout.splitlines() if line[0].isdigit()]
+    expect(sorted(messages) == sorted(wanted), f'{messages}')
+    expect(done.stdout.startswith(f'out 0 0 c {sum(product.z) % product.modulus}\n'), f'{product.z}')
+
+
+def jobs_are_drawn(program, top):
+    """Also one of a single party, and one of twelve with the longest names; and what isn't a job is refused."""
+    names = [f'a{number:015}' for number in range(12)]
+    for parties, tolerated in [(names, [[name] for name in names]), (['a'], []), (['a', 'b'], [[]])]:
+        sessions = [{'circuit': 'f.txt', 'layout': 'expr', 'owners': ['@0.0' if number else parties[0], parties[-1]], 'readers': [parties]} for number in range(16)]
+        fields = {'version': 2, 'ring_bits': 8, 'parties': parties, 'tolerated': tolerated, 'session': sessions}
+        folder = write_folder(top, {'f.txt': b'input x\ninput y\noutput x * y\n', 'job.toml': job_folder.job_text(fields).encode()})
+        xml.etree.ElementTree.fromstring(wrote(PICTURE, folder))
+    for name in ['f.txt', 'job.toml']:
+        pathlib.Path(folder, name).write_text('output\n')
+        expect_one_line(call(PICTURE, folder), f'picture.py with another {name}', 'picture.py: ')
+
+
+# A run without proofs.
+
+FAKE_RT = r'''#!/bin/sh
+printf '%s\n' "$@" > "$FAKE/words"
+case $(cat "$FAKE/way") in
+    well) echo 'out 0 0 c 35'; printf 'checked: ended status=0\nrun=ended status=0 runners=1 races=unchecked proved=no\n' >&2 ;;
+    refused) printf 'refused q2 1 Covering first=a second=b\nrun=ended status=4 runners=1 races=unchecked proved=no\n' >&2; exit 4 ;;
+    *) echo 'rt: the crate is refused' >&2; exit 1 ;;
+esac
+'''
+
+
+def an_unproved_run(program, top):
+    """It gives the job's files to 'rt try', and says that nothing was proved. (What rt does is tried by hand: it takes minutes.)"""
+    fake, way = pathlib.Path(top, 'rt'), pathlib.Path(top, 'way')
+    fake.write_text(FAKE_RT)
+    fake.chmod(0o755)
+    folder = write_folder(top, {**product_with([]), 'notes.txt': b''})
+
+    def run(*words):
+        return subprocess.run([sys.executable, '-B', UNPROVED, folder, *words], capture_output=True, text=True, timeout=MOST_SECONDS,
+                              env={**os.environ, 'PATH': f'{top}:{os.environ["PATH"]}', 'FAKE': top})
+    begin = 'unproved.py: compiling the program without its proofs, in some three minutes\n'
+    end = 'unproved.py: NOTHING WAS PROVED of this run: ./mpc proves the program, and then builds it\n'
+    for what, words, wanted in [('well', ['--view', 'a'], (0, 'out 0 0 c 35\n', begin + end)), ('refused', [], (4, '', f'{begin}refused q2 1 Covering first=a second=b\n{end}')),
+                                ('fails', [], (1, '', f'{begin}unproved.py: rt try ended with status 1: rt: the crate is refused\n'))]:
+        way.write_text(what)
+        done = run(*words)
+        expect((done.returncode, done.stdout, done.stderr) == wanted, f'{what}: {done}')
+        data = re.findall('(?m)^--data\n(.*)=', pathlib.Path(top, 'words').read_text())
+        expect(data == ['job.toml', 'mul.txt', 'party_a.toml', 'party_b.toml', 'party_c.toml'], f'{data}')
+        expect(pathlib.Path(top, 'words').read_text().endswith('\n'.join(['', '--', 'run', '.', *words, ''])), f'{words}')
+
+
 # Nodes.
 
 def ports_of_the_job_are_taken(program, top):
@@ -585,37 +785,93 @@ def a_node_that_waits_is_told(program, top):
     slow = pathlib.Path(top, 'slow')
     slow.write_text('#!/bin/sh\n[ "$1" = check ] || [ "$3" = a ] || exec sleep 100\n')
     slow.chmod(0o755)
-    nodes = subprocess.Popen([sys.executable, '-B', NODES, 'run', EXAMPLES / 'multiply', slow], stdout=subprocess.PIPE, stderr=subprocess.PIPE)
-    line = nodes.stderr.readline()
-    nodes.terminate()
-    nodes.communicate(timeout=MOST_SECONDS)
+    started = subprocess.Popen([sys.executable, '-B', NODES, 'run', EXAMPLES / 'multiply', slow], stdout=subprocess.PIPE, stderr=subprocess.PIPE)
+    line = started.stderr.readline()
+    started.terminate()
+    started.communicate(timeout=MOST_SECONDS)
     expect(line == b'nodes.py: waiting for b, c\n', f'{line}')
-    expect(nodes.returncode == 1, f'status {nodes.returncode}')
+    expect(started.returncode == 1, f'status {started.returncode}')
 
 
 def nodes_are_split(program, top):
+    """All folders are written, or none."""
     folder, target = write_folder(top, product_with([])), os.path.join(top, 'nodes')
-    wrote(NODES, 'split', folder, target, '--hosts', 'h,i,127.0.0.1', '--port', '4000')
+    hosts = ['--hosts', 'h,i,127.0.0.1', '--port', '4000']
+    wrote(NODES, 'split', folder, target, *hosts)
     text = pathlib.Path(target, 'b', 'job.toml').read_text()
     expect('hosts = ["h", "i", "127.0.0.1"]\nport = 4000\n' in text, text)
     expect(sorted(os.listdir(os.path.join(target, 'b'))) == ['job.toml', 'mul.txt', 'party_b.toml'], 'other files')
-    expect_one_line(call(NODES, 'split', folder, target), 'a split into a folder that is there', 'nodes.py: ')
-    expect_one_line(call(NODES, 'split', os.path.join(target, 'b'), target + '2', '--hosts', 'h,i,j', '--port', '1'), 'hosts twice', 'nodes.py: ')
-    expect_one_line(call(NODES, 'split', folder, target + '3', '--hosts', 'h,i', '--port', '1'), 'too few hosts', 'nodes.py: ')
-    expect_one_line(call(NODES, 'split', folder, target + '4', '--hosts', 'h,i,j', '--port', 'x'), 'no port', 'nodes.py: ')
+    shutil.rmtree(os.path.join(target, 'a'))
+    for words, name in [([folder, target, *hosts], 'a split into a folder that is there'), ([folder, target + '2'], 'a split without hosts'),
+                        ([os.path.join(target, 'b'), target + '2', *hosts], 'hosts twice'), ([folder, target + '2', '--hosts', 'h,i', '--port', '1'], 'too few hosts'),
+                        ([folder, target + '2', '--hosts', 'h,i,j', '--port', 'x'], 'no port'), ([folder, target + '2', '--hosts', 'h,,j', '--port', '1'], 'no host')]:
+        expect_one_line(call(NODES, 'split', *words), name, 'nodes.py: ')
+    os.remove(os.path.join(folder, 'party_c.toml'))
+    expect_one_line(call(NODES, 'split', folder, target + '2', *hosts), 'a split without the last file', 'nodes.py: ')
+    expect(sorted(os.listdir(top)) == ['job', 'nodes'] and sorted(os.listdir(target)) == ['b', 'c'], 'a refused split left a folder')
     expect_one_line(call(NODES, 'run', folder, os.path.join(top, 'none')), 'no program', 'nodes.py: ')
+
+
+def another_job_is_told(program, top):
+    """By its digests side by side, and before a node is started."""
+    target = os.path.join(top, 'nodes')
+    wrote(NODES, 'split', EXAMPLES / 'network', target)
+    folders = [os.path.join(target, name) for name in ('anna', 'boris', 'chen')]
+    expect(wrote(NODES, 'compare', *folders).endswith('\nall 3 have the same job\n'), 'other folders than were written')
+    data = [pathlib.Path(folders[0], name).read_bytes() for name in ('job.toml', 'auction.txt')]
+    digest = hashlib.sha256(b''.join(len(part).to_bytes(8, 'big') + part for part in data)).hexdigest()
+    expect(f'{digest}\n' in wrote(NODES, 'compare', folders[1]), 'another digest')
+    with open(os.path.join(folders[2], 'job.toml'), 'a', encoding='utf-8') as file:
+        file.write('# mine\n')
+    found = call(NODES, 'compare', *folders)
+    last = f'{folders[2]}: job.toml is another one from line 12 on\n'
+    expect(found.returncode == 1 and found.stdout.decode().endswith(last) and found.stdout.count(digest[:16].encode()) == 2, f'{found}')
+    expect_one_line(call(NODES, 'run', target, program), 'a run of another job', 'nodes.py: not all have the same job: chen: job.toml ')
+    shutil.copy(os.path.join(folders[0], 'job.toml'), folders[2])
+    done = call(NODES, 'run', target, program)
+    warned = re.fullmatch(rb'(nodes.py: warning: party_\w+.toml has the seed of examples/network/.*\n){3}', done.stderr)
+    expect(done.stdout.decode() == (EXAMPLES / 'network/expected_nodes').read_text() and warned, f'{done}')
+    os.rename(os.path.join(folders[2], 'auction.txt'), os.path.join(folders[2], 'other.txt'))
+    expect_one_line(call(NODES, 'compare', *folders), 'a file that is missing', 'nodes.py: ')
+
+
+def those_who_wait_meet(program, top):
+    """Each tells of each peer, also of a host that nobody knows and of a port that another program has."""
+    target, port = os.path.join(top, 'nodes'), nodes.free_port(3)
+    wrote(NODES, 'split', EXAMPLES / 'auction', target, '--hosts', ','.join(4 * ['127.0.0.1']), '--port', port)
+    names = ['anna', 'boris', 'chen', 'dora']
+    with concurrent.futures.ThreadPoolExecutor(4) as pool:
+        ended = list(pool.map(lambda name: call(NODES, 'wait', os.path.join(target, name), name, 20), names))
+    for name, done in zip(names, ended):
+        ready = [f'{other}: reached both ways, and it has the same job' for other in names if other != name]
+        expect(done.returncode == 0 and set(ready) <= set(done.stdout.decode().split('\n')), f'{name}: {done}')
+    job = pathlib.Path(target, 'anna', 'job.toml')
+    job.write_text(job.read_text().replace('"127.0.0.1"]', '"no.such.host.invalid"]'))
+    with socket.socket() as listener:
+        listener.setsockopt(socket.SOL_SOCKET, socket.SO_REUSEADDR, 1)
+        listener.bind(('127.0.0.1', port + 1))
+        listener.listen()
+        done = call(NODES, 'wait', os.path.join(target, 'anna'), 'anna', 1)
+    for text in [f'(nobody listens there yet); it does not reach us at 127.0.0.1 port {port + 1} (another program has that port)',
+                 f'dora: not reached at no.such.host.invalid port {port + 36} (the host is not known)']:
+        expect(text in done.stdout.decode(), f'{done}')
+    expect(done.returncode == 1 and done.stderr == b'nodes.py: not ready for a run: boris, chen, dora\n', f'{done}')
+    for words in [[target + '/boris', 'x'], [EXAMPLES / 'multiply', 'a'], [target + '/boris', 'boris', 'x'], [target, 'boris']]:
+        expect_one_line(call(NODES, 'wait', *words), f'nodes.py wait {words}', 'nodes.py: ')
 
 
 # Words that are no call of a script.
 OTHER_WORDS = [(NUMBERS, words) for words in ([], ['write'], ['write', 'j'], ['read'], ['read', 'j', '--divide'], ['read', 'j', '--divide', 'x'],
-                                              ['read', 'j', '--divide', '-4'], ['make', 'j'], ['read', 'j', 'k'])] + [
-    (CIRCUITS, []), (CIRCUITS, ['job']), (CIRCUITS, ['job', 'f']), (EXPRESSIONS_SCRIPT, []), (EXPRESSIONS_SCRIPT, ['compile', 'f']), (AUCTION, []), (AUCTION, ['read']), (AUCTION, ['make']),
-    (BY_LAYERS, []), (BY_LAYERS, ['a', 'b', 'c', 'd']), (AES, []), (AES, ['make', 'f', '0' * 32]), (AES, ['read']), (AES_CIRCUIT, ['f']),
-    (NODES, []), (NODES, ['run']), (NODES, ['split', 'j']), (NODES, ['split', 'j', 'f', '--hosts', 'h'])]
+                                              ['read', 'j', '--divide', '-4'], ['read', 'j', '--divide-by'],
+                                              ['read', 'j', '--divide', '4', '--divide-by', '1'], ['make', 'j'], ['read', 'j', 'k'])] + [
+    (CIRCUITS, []), (CIRCUITS, ['job']), (CIRCUITS, ['job', 'f']), (CIRCUITS, ['job', 'f', 'total', '8', 'a', '--helper']),
+    (CIRCUITS, ['job', 'f', 'total', '8', 'a', '--tolerated', 'a', '--tolerated', 'b']), (EXPRESSIONS_SCRIPT, []), (EXPRESSIONS_SCRIPT, ['compile', 'f']), (AUCTION, []), (AUCTION, ['read']), (AUCTION, ['make']),
+    (BY_LAYERS, []), (BY_LAYERS, ['a', 'b', 'c', 'd']), (PICTURE, []), (UNPROVED, []), (UNPROVED, ['j', '--views', 'a']), (AES, []), (AES, ['make', 'f', '0' * 32]), (AES, ['read']), (AES_CIRCUIT, ['f']),
+    (NODES, []), (NODES, ['run']), (NODES, ['compare']), (NODES, ['wait', 'j']), (NODES, ['split', 'j']), (NODES, ['split', 'j', 'f', '--hosts', 'h'])]
 
 
 def helps_are_there(program, top):
-    for script in (NUMBERS, CIRCUITS, BY_LAYERS, EXPRESSIONS_SCRIPT, AUCTION, SPREAD, AES, AES_CIRCUIT, NODES):
+    for script in (NUMBERS, CIRCUITS, BY_LAYERS, PICTURE, UNPROVED, EXPRESSIONS_SCRIPT, AUCTION, SPREAD, AES, AES_CIRCUIT, NODES):
         expect(script.name in wrote(script, '--help'), f'no help of {script.name}')
         expect(os.access(script, os.X_OK), f'{script} is no program')
     for script, words in OTHER_WORDS:
@@ -625,10 +881,13 @@ def helps_are_there(program, top):
 
 CASES = [circuits_are_their_numbers, layers_are_together, circuits_come_into_layers, s_boxes_are_the_standards, aes_is_the_standards,
          circuits_have_limits, numbers_come_back, numbers_are_signed_and_divided, numbers_that_do_not_fit, other_lines_are_refused,
-         views_are_passed_over, outputs_that_fail, odd_folders, links_and_folders,
+         views_are_passed_over, outputs_that_fail, programs_that_are_not_there, odd_folders, links_and_folders,
          changed_jobs_are_read_or_refused, expressions_are_words, refusals_are_those_of_the_rows,
-         circuits_come_to_the_rows, examples_have_their_circuits, expressions_are_refused_in_one_line, an_auction_of_two, jobs_of_calls, ports_of_the_job_are_taken,
-         nodes_beside_one_another, a_node_that_fails_stops_the_others, a_node_that_waits_is_told, nodes_are_split, helps_are_there]
+         circuits_come_to_the_rows, examples_have_their_circuits, expressions_are_refused_in_one_line, an_auction_of_two, jobs_of_calls,
+         jobs_with_helpers, numbers_are_divided_by_values, doubts_are_told, formulas_are_those_of_the_rows, pictures_count_what_runs_send,
+         the_product_is_the_examples, jobs_are_drawn, an_unproved_run, ports_of_the_job_are_taken,
+         nodes_beside_one_another, a_node_that_fails_stops_the_others, a_node_that_waits_is_told, nodes_are_split,
+         another_job_is_told, those_who_wait_meet, helps_are_there]
 
 
 def tried(case, program):
@@ -662,4 +921,4 @@ def main(words):
 
 
 if __name__ == '__main__':
-    sys.exit(main(sys.argv))
+    sys.exit(told(main))
