@@ -145,10 +145,24 @@ Case = collections.namedtuple('Case', 'title job name peers status out err heard
 Ended = collections.namedtuple('Ended', 'status out err heard')
 
 
+def written(place):
+    """An address as the system's table of connections has it."""
+    return f'{struct.unpack("<I", socket.inet_aton(place[0]))[0]:08X}:{place[1]:04X}'
+
+
 def reset(link):
-    """Closes a connection so that the other end meets a failure."""
+    """Breaks a connection off, so that its other end meets a failure."""
     link.setsockopt(socket.SOL_SOCKET, socket.SO_LINGER, struct.pack('ii', 1, 0))
     link.close()
+
+
+def hear_no_more(link):
+    """Breaks a connection off, and waits until its other end has heard of it: what is said over another one comes later then."""
+    theirs = f'{written(link.getpeername())} {written(link.getsockname())} '
+    reset(link)
+    last = time.monotonic() + MOST_SECONDS
+    while theirs in pathlib.Path('/proc/net/tcp').read_text() and time.monotonic() < last:
+        time.sleep(PAUSE)
 
 
 def hear(link, count=None):
@@ -183,7 +197,7 @@ def meet(stack, case, listeners):
         hears[name] = stack.enter_context(listener.accept()[0])
         hears[name].settimeout(MOST_SECONDS)
         if case.peers[name].deaf == BEFORE_THE_HELLO:
-            reset(hears.pop(name))
+            hear_no_more(hears.pop(name))
     for name in listeners:
         says[name] = stack.enter_context(socket.create_connection(case.job.address(name, case.name), timeout=MOST_SECONDS))
         says[name].setsockopt(socket.IPPROTO_TCP, socket.TCP_NODELAY, 1)
@@ -197,7 +211,7 @@ def talk_with(stack, case, listeners):
     for name, link in list(hears.items()):
         heard[name] = hear(link, HELLO)
         if case.peers[name].deaf == AFTER_THE_HELLO:
-            reset(hears.pop(name))
+            hear_no_more(hears.pop(name))
     say(says, case.peers)
     for name, link in hears.items():
         heard[name] += hear(link)
