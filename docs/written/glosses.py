@@ -20,6 +20,12 @@ PARTS = [
          [('tape_map', 'hidden_is_first'), ('tape_map', 'same_view'), ('tape_map', 'members_stay'), ('tape_map', 'goes_back'), ('tape_map', 'change_is_one_to_one')]),
     Part('The simulator', 'What a tolerated group knows, the view that a simulator makes of it, and how privacy is counted: over all tapes that the other parties may have.',
          [('view_counts', '*')]),
+    Part('Any order', 'What a party computes by itself from the words that it got, and words that are posted in any order in which their senders have them.',
+         [('posting_laws', '*')]),
+    Part('A job', 'A ring, parties, a formula or lists of groups, and sessions of gates: what must be so of a job once its files were read, and what is then promised of it.',
+         [('decoded_jobs', 'jobs_keep_their_promises'), ('decoded_jobs', 'jobs_keep_short_promises')]),
+    Part('Schedules', 'The instructions of a party, what its desk has after each of them, and the steps of all desks by a schedule.',
+         [('schedule_laws', 'every_order_is_right'), ('schedule_laws', 'schedules_post_in_order'), ('decoded_jobs', '*')]),
     Part('Files and texts', 'The command that words ask for, the job and the inputs that files stand for, and the text that is due. `IsDue`, at the end, puts them together.',
          [('walk_laws', 'accepted_jobs_are_whole'), ('job_laws', '*'), ('walk_laws', 'each_call_is_due_one_verdict'), ('tape_map', 'no_fault_where_it_can_be_hidden'),
           ('walk_laws', 'a_run_writes_the_value_of_expressions'), ('walk_laws', 'an_audit_says_yes_to_what_a_run_writes'), ('walk_laws', '*')],
@@ -27,9 +33,9 @@ PARTS = [
     Part('The outside', 'What files, outputs, threads and the net show, what a party says over its links and hears, and the answer of `command`. Then the laws of networks and of '
          'calls in a row.',
          [('mpc_top', 'command'), ('mpc_top', 'command_alone'), ('network_laws', '*'), ('network_runs', '*'), ('pair_run', '*'), ('tape_map', '*'), ('walk_laws', '*')]),
-    Part('The headline', 'The instructions of a party, what its desk has after each of them, the steps of all desks by a schedule; and the law that joins what the parts before say '
-         'of an accepted job: its outputs are right in every order, no tape word is drawn twice, and a group that its file tolerates learns nothing.',
-         [('walk_laws', 'accepted_jobs_are_right_and_private')]),
+    Part('The headline', 'That accepted files give a job of the part on jobs, and the law that joins what the parts before say of it: its outputs are right in every order, no tape '
+         'word is drawn twice, and a group that its file tolerates learns nothing.',
+         [('walk_laws', 'accepted_files_give_a_job'), ('walk_laws', 'accepted_jobs_are_right_and_private')]),
 ]
 # Laws that no part has: worked jobs by computation, steps of proofs, and faults of code.
 APART = {('share_world', 'multiply_job'), ('share_world', 'carried_job'), ('tape_map', 'multiply_job'), ('view_counts', 'multiply_counts'), ('tape_map', 'hidden_summands_move'), ('tape_map', 'delta_is_plain'),
@@ -43,6 +49,9 @@ SENTENCES = [
     ('The answer of `command` to any words, over any files, outputs and links', [('mpc_top', 'command')]),
     ('A network of parties is of one world', [('network_laws', 'a_network_is_of_one_world')]),
     ('What goes over a tolerated group\'s wires has the distribution of what a simulator makes', [('network_runs', 'wires_are_simulated')]),
+    ('Words that are posted in any order are right', [('posting_laws', 'any_order_is_right')]),
+    ('All that is promised of a job once its files were read', [('decoded_jobs', 'jobs_keep_their_promises')]),
+    ('Every order of the desks\' steps is right', [('decoded_jobs', 'schedules_of_jobs_are_right')]),
     ('The headline, of every accepted job', [('walk_laws', 'accepted_jobs_are_right_and_private')]),
 ]
 
@@ -160,21 +169,7 @@ HEADINGS = {
     ('walk_laws', 'Whole'): 'Accepted jobs are whole worlds',
     ('walk_laws', 'Nodes'): 'What the files of a node give',
     ('walk_laws', 'Headline'): 'What is said of every accepted job',
-    ('job_plan', 'Patterns'): 'Patterns: how the messages of a slot go',
     ('party_program', 'States'): 'What a party has after its first instructions',
-    ('party_program', 'GivenData'): 'What a party is given in a session',
-    ('party_program', 'PartySteps'): 'What a party does in a slot',
-    ('party_program', 'ProgramPlaces'): 'Where the instructions of a slot stand',
-    ('program_laws', 'Lawful'): 'The desks of a world',
-    ('program_laws', 'WordsRead'): 'The words that a desk still reads',
-    ('party_desk', 'Rows'): 'Rows of summands',
-    ('party_desk', 'Memories'): 'The memory of a desk',
-    ('party_desk', 'Desks'): 'A desk, and what a step does to it',
-    ('desk_laws', 'InWorld'): 'A desk of a world, over any cells',
-    ('desk_laws', 'Pools'): 'All desks of a world, over any cells',
-    ('core_world', 'Schedules'): 'Schedules',
-    ('core_world', 'States'): 'All desks of a world, on plain cells',
-    ('core_world', 'Moments'): 'A world that runs, before and after its steps',
 }
 
 # What a word of the library means, by its path below Rattle, where its name doesn't say it.
