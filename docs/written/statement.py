@@ -233,9 +233,9 @@ class Statement:
         homes = collections.defaultdict(set)
         for item in self.reached(page):
             if item.kind != 'function':
-                for name in item.names:
+                for name in names_of(item):
                     homes[name].add(f'{item.crate}::{item.module}')
-        own = {name for item in page.order for name in item.names}
+        own = {name for item in page.order for name in names_of(item)}
         return {name: sorted(homes[name]) for name in sorted(own) if len(homes[name]) > 1}
 
     def told_twofold(self):
@@ -261,6 +261,12 @@ class Statement:
         found = set(self.twofold(self.pages[0]))
         yield from (f'docs/{self.pages[0].about.name}.md: {name} has several homes' for name in sorted(found - glosses.TWOFOLD))
         yield from (f'docs/written/glosses.py: {name} has one home' for name in sorted(glosses.TWOFOLD - found))
+
+
+def names_of(item):
+    """What an item defines: its name, and those of its constructors, or of the variants of an enum."""
+    is_enum = item.kind == 'type' and re.search(r'(?m)^pub enum ', item.text)
+    return {*item.names, *(re.findall(r'(?m)^    ([A-Z]\w*)', item.text) if is_enum else ())}
 
 
 def is_law(sources, item):
