@@ -229,10 +229,10 @@ class Statement:
         return ''.join(rows)
 
     def twofold(self, page):
-        """The names of a page that several modules define, among all that it reaches, with these modules."""
+        """The names of a page that several modules define, on it and the pages that it stands on, with these modules."""
         homes = collections.defaultdict(set)
-        for item in self.reached(page):
-            if item.kind != 'function':
+        for other in {self.at[item] for item in self.reached(page)}:
+            for item in other.order:
                 for name in names_of(item):
                     homes[name].add(f'{item.crate}::{item.module}')
         own = {name for item in page.order for name in names_of(item)}
