@@ -1,7 +1,7 @@
 #!/usr/bin/env python3
-"""Writes what the documents have from the sources: docs/STATEMENT.md, and the tables of docs/CLAIMS.md. It tells each clause that no row of
-CLAIMS.md has, each row without a function, and each edit that no row names. With --check it writes nothing, and tells each of the two that
-isn't what it would write. Ends with status 1 where there's something to tell."""
+"""Writes what the documents have from the sources: the pages docs/STATEMENT*.md, and the tables of docs/CLAIMS.md. It tells each clause that no row of
+CLAIMS.md has, each row without a function, each edit that no row names, and how many names of each page several modules define. With --check it writes
+nothing, and tells each page that isn't what it would write, or that it wouldn't write at all. Ends with status 1 where something doesn't fit."""
 
 import pathlib
 import sys
@@ -21,13 +21,15 @@ def main(words):
     sources = Sources()
     statement, claims = Statement(sources), Claims(sources, (HERE / 'CLAIMS.md').read_text(encoding='utf-8'))
     wrong = [*statement.faults(), *claims.faults()]
-    for page, text in ((HERE / 'STATEMENT.md', statement.text()), (HERE / 'CLAIMS.md', claims.text())):
+    pages = statement.texts | {'CLAIMS.md': claims.text()}
+    wrong += [f'docs/{page.name} is written by nothing' for page in sorted(HERE.glob('STATEMENT*.md')) if page.name not in pages]
+    for page, text in ((HERE / name, text) for name, text in pages.items()):
         if not words:
             page.write_text(text, encoding='utf-8')
         elif not page.exists() or page.read_text(encoding='utf-8') != text:
             wrong.append(f'docs/{page.name} is not what docs/write.py writes{first_difference(page, text)}')
-    for why in wrong:
-        print(f'written: {why}')
+    for line in [*statement.told_twofold(), *wrong]:
+        print(f'written: {line}')
     print(f'written: {statement.size()} definitions, {claims.size()} rows, {len(wrong)} places that do not fit')
     return 1 if wrong else 0
 

@@ -1,50 +1,70 @@
-"""What the page says in its own words: parts, headings, and glosses of the library's words and of the repository's own."""
+"""What the pages say in their own words: which pages there are, headings, and glosses of the library's words and of the repository's own."""
 
 import dataclasses
 
 
 @dataclasses.dataclass
-class Part:
+class Page:
+    name: str  # of the file, STATEMENT_FILES for docs/STATEMENT_FILES.md
     title: str
     about: str
-    laws: list  # (crate, function), or (crate, '*') for each law of a crate that no part names
-    roots: tuple = ()  # (crate, module, name): definitions that the part must have besides
+    laws: list  # (crate, function), or (crate, '*') for each law of a crate that no page names
+    roots: tuple = ()  # (crate, module, name): definitions that the page must have besides
     without: tuple = ()  # (crate, module, name): a definition that no law that is meant by '*' may reach
+    top: tuple = ()  # (crate, module, name): definitions that the page opens with
+    order: tuple = ()  # (crate, module): sections in reading order, where it isn't the order of crates.txt
 
 
-PARTS = [
-    Part('Sum is plain', 'What a circuit computes in the clear, how a value is shared, the equations of a session, and the law: the summands of a wire add up to its '
-         'plain value.', [('share_world', 'sum_is_plain')]),
-    Part('Same view', 'The messages of a session, what a group sees of them, the change of the other parties\' tapes, and the laws: a tolerated group sees the same of other '
-         'inputs, and the change is one-to-one.',
-         [('tape_map', 'hidden_is_first'), ('tape_map', 'same_view'), ('tape_map', 'members_stay'), ('tape_map', 'goes_back'), ('tape_map', 'change_is_one_to_one')]),
-    Part('The simulator', 'What a tolerated group knows, the view that a simulator makes of it, and how privacy is counted: over all tapes that the other parties may have.',
-         [('view_counts', '*')]),
-    Part('Files and texts', 'The command that words ask for, the job and the inputs that files stand for, and the text that is due. `IsDue`, at the end, puts them together.',
+PAGES = [
+    Page('STATEMENT', 'What is promised', '', [('decoded_jobs', 'jobs_keep_their_promises')],
+         top=(('decoded_jobs', 'Promises', 'KeepsPromises'), ('decoded_jobs', 'Promises', 'JobsKeepTheirPromises')),
+         order=(('list_laws', 'Lists'), ('mpc_ring', 'Differences'), ('party_set', 'Parties'), ('maximal_groups', 'Families'), ('circuit_model', 'Circuits'),
+                ('secret_sharing', 'Schemes'), ('secret_sharing', 'Prepared'), ('share_layout', 'Layouts'), ('product_duty', 'Duties'), ('job_session', 'Sessions'),
+                ('job_session', 'Carries'), ('job_session', 'SlotNumbers'), ('job_plan', 'Plans'), ('job_plan', 'InputWords'), ('job_plan', 'Messages'),
+                ('job_plan', 'Numbers'), ('job_plan', 'Tallies'), ('share_world', 'Worlds'), ('share_world', 'Laws'), ('share_world', 'Locals'),
+                ('posting_laws', 'PostingOrders'), ('tape_map', 'TapeMaps'), ('tape_map', 'Laws'), ('view_counts', 'Counts'), ('view_counts', 'Simulators'),
+                ('view_counts', 'Laws'), ('plan_faults', 'limits'), ('job_session', 'Parts'), ('job_plan', 'Keeping'), ('job_plan', 'Limits'),
+                ('group_formula', 'Trees'), ('decoded_jobs', 'Jobs'), ('decoded_jobs', 'Promises'))),
+    Page('STATEMENT_SCHEDULES', 'Whole worlds, and every schedule', 'A *whole* world is a plan within the limits, with the inputs and the tapes that it asks for; the worlds of good jobs are '
+         'whole. The parts of the promise are laws of them by themselves: sums, same view, the simulator, posts in any order. Then come the instructions of a party, what its '
+         'desk has after each of them, and the steps of all desks by any schedule, which post in such an order.',
+         [('share_world', 'sum_is_plain'), ('tape_map', 'hidden_is_first'), ('tape_map', 'same_view'), ('tape_map', 'members_stay'), ('tape_map', 'goes_back'),
+          ('tape_map', 'change_is_one_to_one'), ('view_counts', '*'), ('posting_laws', '*'), ('schedule_laws', 'every_order_is_right'),
+          ('schedule_laws', 'schedules_post_in_order'), ('decoded_jobs', '*')]),
+    Page('STATEMENT_FILES', 'Files and texts', 'The command that words ask for, the job and the inputs that files stand for, and the text that is due. `IsDue`, at the end, puts them together.',
          [('walk_laws', 'accepted_jobs_are_whole'), ('job_laws', '*'), ('walk_laws', 'each_call_is_due_one_verdict'), ('tape_map', 'no_fault_where_it_can_be_hidden'),
           ('walk_laws', 'a_run_writes_the_value_of_expressions'), ('walk_laws', 'an_audit_says_yes_to_what_a_run_writes'), ('walk_laws', '*')],
          (('mpc_top', 'Due', 'IsDue'), ('mpc_top', 'Due', 'words_view'), ('command_words', 'Commands', 'command_of')), ('mpc_top', 'Outside', 'Outside')),
-    Part('The outside', 'What files, outputs, threads and the net show, what a party says over its links and hears, and the answer of `command`. Then the laws of networks and of '
-         'calls in a row.',
-         [('mpc_top', 'command'), ('mpc_top', 'command_alone'), ('network_laws', '*'), ('network_runs', '*'), ('pair_run', '*'), ('tape_map', '*'), ('walk_laws', '*')]),
-    Part('The headline', 'The instructions of a party, what its desk has after each of them, the steps of all desks by a schedule; and the law that joins what the parts before say '
-         'of an accepted job: its outputs are right in every order, no tape word is drawn twice, and a group that its file tolerates learns nothing.',
-         [('walk_laws', 'accepted_jobs_are_right_and_private')]),
+    Page('STATEMENT_NODES', 'Nodes and networks', 'What a party by itself says over its links and hears, what its run comes to, and why it stops. A network is such a run of each party of one '
+         'world. Whoever ends well in it is right, and what goes over a tolerated group\'s wires has the distribution of what a simulator makes.',
+         [('network_laws', '*'), ('network_runs', '*')]),
+    Page('STATEMENT_OUTSIDE', 'The outside, and `command`', 'What files, outputs, threads and the net show, and the answer of `command` to any words. Then the laws of calls, of one and of two in a '
+         'row, and the headline: accepted files give a good job, and of each such job the pages before say that its outputs are right in every order, no tape word is drawn twice, and a '
+         'group that its file tolerates learns nothing.',
+         [('mpc_top', 'command'), ('mpc_top', 'command_alone'), ('pair_run', '*'), ('tape_map', '*'), ('walk_laws', '*'),
+          ('walk_laws', 'accepted_files_give_a_job'), ('walk_laws', 'accepted_jobs_are_right_and_private')]),
 ]
-# Laws that no part has: worked jobs by computation, steps of proofs, and faults of code.
+# Laws that no page has: worked jobs by computation, steps of proofs, and faults of code.
 APART = {('share_world', 'multiply_job'), ('share_world', 'carried_job'), ('tape_map', 'multiply_job'), ('view_counts', 'multiply_counts'), ('tape_map', 'hidden_summands_move'), ('tape_map', 'delta_is_plain'),
          ('tape_map', 'worlds_stay_whole'), ('tape_map', 'agreement_is_symmetric')}
 
-# What each theorem rests on, for the first page: the sentence, and the functions or definitions that it stands on.
+# What each theorem rests on: the sentence, and the function that says it. The first page has the first ones, the last page all.
+FIRST_SENTENCES = 5
 SENTENCES = [
-    ('The summands of each wire add up to its value in the clear', [('share_world', 'sum_is_plain')]),
-    ('A tolerated group sees the same of other inputs', [('tape_map', 'same_view')]),
-    ('What it sees has the distribution of what a simulator makes', [('view_counts', 'views_are_simulated')]),
-    ('The answer of `command` to any words, over any files, outputs and links', [('mpc_top', 'command')]),
-    ('A network of parties is of one world', [('network_laws', 'a_network_is_of_one_world')]),
-    ('What goes over a tolerated group\'s wires has the distribution of what a simulator makes', [('network_runs', 'wires_are_simulated')]),
-    ('The headline, of every accepted job', [('walk_laws', 'accepted_jobs_are_right_and_private')]),
+    ('All that is promised of a good job', ('decoded_jobs', 'jobs_keep_their_promises')),
+    ('The summands of each wire add up to its value in the clear', ('share_world', 'sum_is_plain')),
+    ('Words that are posted in any order are right', ('posting_laws', 'any_order_is_right')),
+    ('A tolerated group sees the same of other inputs', ('tape_map', 'same_view')),
+    ('What it sees has the distribution of what a simulator makes', ('view_counts', 'views_are_simulated')),
+    ('Every order of the desks\' steps is right', ('decoded_jobs', 'schedules_of_jobs_are_right')),
+    ('A network of parties is of one world', ('network_laws', 'a_network_is_of_one_world')),
+    ('What goes over a tolerated group\'s wires has the distribution of what a simulator makes', ('network_runs', 'wires_are_simulated')),
+    ('The answer of `command` to any words, over any files, outputs and links', ('mpc_top', 'command')),
+    ('The headline, of every accepted job', ('walk_laws', 'accepted_jobs_are_right_and_private')),
 ]
+
+# Names that the first page has from several modules. There should be none: none is added, and one that is gone is taken out here.
+TWOFOLD = {'Carried', 'holds', 'least_holder'}
 
 # Headings in the field's words, by crate and module. A module that isn't here has the first sentence of its file.
 HEADINGS = {
@@ -79,8 +99,6 @@ HEADINGS = {
     ('outer_io', 'Links'): 'Links and the net',
     ('outer_io', 'traits'): 'The traits of the outside',
     ('mpc_top', 'Command'): 'The answer of `command`',
-    ('circuit_model', 'gate'): 'Gates',
-    ('job_session', 'values'): 'Values of a session',
     ('job_session', 'KeptWires'): 'The order of a session: each wire is set once, and read after that',
     ('job_session', 'SoundSessions'): 'Sessions within the limits',
     ('list_laws', 'Checks'): 'Lists of checks',
@@ -90,16 +108,13 @@ HEADINGS = {
     ('run_tokens', 'Tokens'): 'Tokens that are words, numbers and symbols',
     ('run_tokens', 'FirstFaults'): 'A grammar over tokens, and the first fault',
     ('gate_lines', 'Rows'): 'Lines of a text',
-    ('plain_text', 'fault'): 'Faults of a text of words',
     ('plain_text', 'Words'): 'The words of a text',
-    ('plan_faults', 'part_fault'): 'Faults of sessions',
     ('plan_faults', 'FaultTexts'): 'Numbers and names of the faults of plans',
     ('circuit_model', 'DraftSteps'): 'A circuit, gate by gate, and its faults',
     ('circuit_model', 'FaultTexts'): 'Numbers and names of the faults of circuits',
     ('circuit_file', 'GateLines'): 'Gate lines',
     ('circuit_file', 'Header'): 'The header of a circuit file',
     ('expr_circuit', 'Programs'): 'Programs of expressions, and their values',
-    ('expr_circuit', 'token'): 'Tokens of expressions',
     ('expr_circuit', 'Grammar'): 'The grammar of expressions',
     ('expr_circuit', 'Faults'): 'First faults of expressions',
     ('expr_circuit', 'FaultTexts'): 'Numbers and names of the faults of expressions',
@@ -129,7 +144,7 @@ HEADINGS = {
     ('mpc_top', 'Outcomes'): 'How a call ends: done, or with a cause',
     ('mpc_top', 'HiddenInputs'): 'What a written view hides',
     ('job_plan', 'Firsts'): 'The numbers of a slot\'s messages',
-    ('job_plan', 'Limits'): 'Limits of a plan, and its refusals',
+    ('job_plan', 'Limits'): 'Plans within the limits of messages and tapes',
     ('job_plan', 'Multiply'): 'The structure of three parties',
     ('job_digest', 'Digests'): 'The digest of a job',
     ('frame_code', 'Frames'): 'Hellos and frames',
@@ -147,7 +162,6 @@ HEADINGS = {
     ('fault_text', 'FaultLines'): 'The line of each fault of a node',
     ('desk_laws', 'Pieces'): 'Worlds from pieces of tape',
     ('view_text', 'ViewText'): 'The text of a view',
-    ('view_check', 'fault'): 'Faults of written views',
     ('view_check', 'Lines'): 'Lines and parts of a text',
     ('job_run', 'Parties'): 'The world of what the parties give',
     ('mpc_top', 'Audits'): 'Audits',
@@ -160,38 +174,49 @@ HEADINGS = {
     ('walk_laws', 'Whole'): 'Accepted jobs are whole worlds',
     ('walk_laws', 'Nodes'): 'What the files of a node give',
     ('walk_laws', 'Headline'): 'What is said of every accepted job',
-    ('job_plan', 'Patterns'): 'Patterns: how the messages of a slot go',
+    ('secret_sharing', 'Prepared'): 'Prepared products (Beaver 1991)',
+    ('job_session', 'Carries'): 'What later sessions carry',
+    ('job_session', 'SlotNumbers'): 'The order of slots',
+    ('job_session', 'Parts'): 'When carried values fit',
+    ('job_session', 'Batches'): 'Batches of slots',
+    ('job_plan', 'Keeping'): 'Sessions that keep what is carried',
+    ('posting_laws', 'PostingOrders'): 'Any order of posts',
+    ('posting_laws', 'Blame'): 'The first wrong word',
+    ('decoded_jobs', 'Jobs'): 'Good jobs',
+    ('decoded_jobs', 'Promises'): 'What a tolerated group learns, and what a job asks for',
+    ('decoded_jobs', 'SomeChange'): 'The promise in short: some bijection, and some simulator',
+    ('decoded_jobs', 'Wholeness'): 'Good jobs are whole worlds',
+    ('schedule_laws', 'Machines'): 'All desks, stepped by a schedule',
+    ('schedule_laws', 'Orders'): 'Every schedule is right',
+    ('schedule_laws', 'PostedOrders'): 'A schedule posts in some order',
+    ('plan_faults', 'limits'): 'Limits',
+    ('walk_laws', 'Decoded'): 'Accepted files give a good job',
+    ('walk_laws', 'NodeViews'): 'An audit of what a node writes',
+    ('walk_laws', 'WrittenViews'): 'An audit of what a run writes',
+    ('walk_laws', 'Once'): 'One verdict',
+    ('walk_laws', 'FilesRead'): 'Which files a call asked for',
+    ('walk_laws', 'InARow'): 'Two calls in a row',
+    ('walk_laws', 'Statuses'): 'What single statuses say',
+    ('walk_laws', 'Expressions'): 'What a run writes for expressions',
+    ('node_talk', 'Runs'): 'What the run of a node comes to',
+    ('job_walk', 'JobReads'): 'Files asked for after the file of the job',
     ('party_program', 'States'): 'What a party has after its first instructions',
-    ('party_program', 'GivenData'): 'What a party is given in a session',
-    ('party_program', 'PartySteps'): 'What a party does in a slot',
-    ('party_program', 'ProgramPlaces'): 'Where the instructions of a slot stand',
-    ('program_laws', 'Lawful'): 'The desks of a world',
-    ('program_laws', 'WordsRead'): 'The words that a desk still reads',
-    ('party_desk', 'Rows'): 'Rows of summands',
-    ('party_desk', 'Memories'): 'The memory of a desk',
-    ('party_desk', 'Desks'): 'A desk, and what a step does to it',
-    ('desk_laws', 'InWorld'): 'A desk of a world, over any cells',
-    ('desk_laws', 'Pools'): 'All desks of a world, over any cells',
-    ('core_world', 'Schedules'): 'Schedules',
-    ('core_world', 'States'): 'All desks of a world, on plain cells',
-    ('core_world', 'Moments'): 'A world that runs, before and after its steps',
 }
 
 # What a word of the library means, by its path below Rattle, where its name doesn't say it.
 LIBRARY = {
-    'std.specs.Prelude.slice_index': '`slice_index xs i` is number i of the list, counted from 0, and 0 past its end',
-    'std.specs.Prelude.slice_index_or': '`slice_index_or xs i d` is item i of the list, counted from 0, and d past its end',
-    'std.specs.Prelude.is_some': 'whether there is a value; `is_none` is the contrary',
+    'std.specs.Prelude.slice_index': '`slice_index xs i` is number i of the list, counted from 0, and 0 past its end; `slice_index_or xs i d` is item i, and d past its end; '
+                                     '`slice_get xs i` is item i, if there is one',
     'std.specs.Result.is_err': 'whether the result is a fault',
     'std.specs.Prelude.min': 'the lesser of two numbers',
-    'std.specs.Prelude.slice_get': '`slice_get xs i` is item i of the list, if it has one',
     'std.specs.Prelude.suc': 'one more; `zero` is 0. A definition by `zero` and `suc n` is by induction',
     'std.specs.Prelude.nat_eq': 'whether two numbers are equal, as a Boolean; so `nat_lt` for less and `nat_le` for at most',
-    'std.specs.Prelude.Some': '`Option A` is a value `Some a`, or `None`',
+    'std.specs.Prelude.Some': '`Option A` is a value `Some a`, or `None`. `is_some` tells whether there is a value, `is_none` the contrary, and `unwrap_or o a` is the value, or else a',
     'std.specs.Prelude.Ok': '`Result A F` is a value `Ok a`, or a fault `Err f`',
     'std.specs.Prelude.All': '`All P xs`: P holds of each item',
     'std.specs.Prelude.Contains': '`Contains xs x`: x is an item of the list',
     'std.specs.Prelude.IfSome': '`IfSome o P`: P of the value, if there is one; nothing is said of None',
+    'std.specs.Prelude.IsSomeAnd': '`IsSomeAnd o P`: there is a value, and P of it',
     'std.specs.Prelude.IsSome': 'there is a value',
     'std.specs.Prelude.IfOk': '`IfOk r P`: P of the value, where the result is Ok; nothing is said of Err',
     'std.specs.Prelude.IfErr': '`IfErr r P`: P of the fault, where the result is Err; nothing is said of Ok',
@@ -213,7 +238,6 @@ LIBRARY = {
     'std.specs.Prelude.pos': 'a number as an integer (`ℤ`)',
     'std.specs.Prelude.nat_abs': 'an integer without its sign',
     'std.specs.Prelude.ok_or': 'the value of an option, or else this fault',
-    'std.specs.Prelude.unwrap_or': 'the value of an option, or else this one',
     'std.specs.Prelude.option_map': 'a function applied to the value of an option, if there is one',
     'std.specs.Prelude.option_and_then': 'a function that itself gives an option, applied to the value, if there is one',
     'std.specs.Prelude.string_bytes': 'the bytes of a `String`',
@@ -329,8 +353,6 @@ OWN = {
 INTRO = {
     ('party_set', 'Parties'): 'Parties are numbered from 0, and a group of them is a number, its *mask*, whose bit p tells of party p. The groups of an adversary structure are the '
                               'maximal ones that must learn nothing, the *tolerated* groups: a group is tolerated where it lies within one of them.',
-    ('circuit_model', 'gate'): 'A type of the code stands here as Rust declares it. In definitions a number of any width is a natural number, and where a type has a *model* '
-                               '(`impl Model`), they see that in its place.',
     ('circuit_model', 'Circuits'): 'Wires have numbers, and a value is a number below the modulus q.',
     ('secret_sharing', 'Schemes'): 'A value is cut into *summands* that add up to it modulo `2^k`, one for each maximal tolerated group. To *deal* a value is to cut it with random words. '
                                    'Linear gates act on each summand by itself. A product of two wires is the sum of all products of a summand of one and a summand of the other: each such '
@@ -359,6 +381,8 @@ INTRO = {
                            'faults, and whether it is steady.',
     ('outer_io', 'traits'): 'Each has the ghost members that the definitions above speak of, and the contract of each of its calls. `command` is proved for any types that have them; those of '
                             'the system tell nothing, and those in memory, with which tests and laws go, tell all.',
+    ('posting_laws', 'PostingOrders'): 'Each word is posted by its sender, as it computes it by itself from its inputs, its tape and the words that came to it before, once nothing that is still to come can change it. So an order is any that a network and parties of any speed can make.',
+    ('decoded_jobs', 'Jobs'): 'A job is what files of it say, once they were read: nothing here speaks of files.',
     ('share_world', 'Locals'): 'The same equations for one party alone, which has `got` as the words of its messages.',
     ('frame_code', 'Frames'): 'A hello takes 38 bytes, as a digest has 32, and a frame 18.',
     ('party_program', 'Programs'): 'A party does a list of instructions. They stand here since a run that broke off is told by how far it came in that list.',

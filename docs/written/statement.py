@@ -1,84 +1,41 @@
-"""Writes docs/STATEMENT.md: every definition that the contract of `command` and the laws of privacy and of networks reach, once, each before
-it is used."""
+"""Writes the pages docs/STATEMENT*.md: every definition that the law of good jobs, the laws beside it and the contract of `command` reach, once,
+on the first page that needs it, and there before it is used. On a page each module has one section."""
 
 import collections
 import re
 
 import glosses
-from sources import WORD, Item
+import heads
+from sections import Sections, comment_of, first_sentence
+from sources import Item
 
-HEAD = '''# What must be believed
-
-`docs/write.py` writes this page from the sources, and the gate refuses any other text. It has every definition that the contract of `command` and the laws of
-privacy and of networks reach: each once, and before it is used. It leaves out one type, `LinkReader`, the job in which a node reads a peer, of which nothing here sees anything.
-What functions below `command` promise besides, as of workers, boards and desks, is in their crates, and [CLAIMS](CLAIMS.md) lists it.
-
-## Believed, checked, trusted
-
-**A reader believes that these definitions say what is meant.** No tool can check that. It is the one thing to read: neither code nor proofs matter to it.
-
-**The checker proves** that each function meets its contract for all arguments, and each law from the definitions alone. A law is a function with an empty body, and its clause
-is a theorem. The proofs needn't be read, nor the definitions that only they use: if a proof were wrong, the check would fail.
-
-**What is left is trusted**: the toolchain, LLVM, the C library and the system, and the contracts of the library and of ported crates, as
-[README](../README.md#what-is-proved) lists them; [DECISIONS](DECISIONS.md) tells what the toolchain can't express, and what stands in its place. No contract says what a
-disk or a socket holds, that a seed is random, that a party follows its program, or when memory runs out. [CLAIMS](CLAIMS.md) tells which wrong bodies the clauses refuse, and
-[PROTOCOL](PROTOCOL.md) the mathematics in words.
-
-## How much it is
-
-A line is one of a definition, without imports, comments and blank lines. Rust types and traits are counted with the definitions.
-
-'''
-
-# As many definitions more, and itself, a law may have that is named beside a part's.
+# The most lines of the first page.
+LONGEST = 1500
+# As many definitions more, and itself, a law may have that is named beside a page's.
 FEW = 4
 
-NOTATION = '''
-## How to read a definition
 
-A name is followed by its type, and then by its equations, one for each case. `abbrev pub`, `unfoldable pub` and `pub record` begin a definition. Of `unfoldable` ones a proof unfolds
-only what it asks for, which says nothing of what they mean.
+class Page:
+    """What stands on a page: its laws, its definitions by sections, and the words of the library that come new."""
 
-| Notation | Meaning |
-|---|---|
-| `Type 0` | a proposition, or a type; `IsPlan : Plan → Type 0` is a property of plans |
-| `A → B` | where A holds, B does; or a function. `(x : A) → B`: for each x, B |
-| `A × B`, `A ⊎ B`, `¬ A`, `⊥`, `Unit` | both (or a pair), either, not, what never holds, what always does. `(x : A) × B`: for some x, B |
-| `pub record R ..` | all of its fields hold; or it is data with these fields. `record { a = 1 }` is such data, `record r { a = 1 }` is r with another a |
-| `pub data D ..` | one of these constructors |
-| `≡`, `≢` | equal, different |
-| `ℕ`, `Bool`, `List A`, `(a, b)` | natural numbers, Booleans, lists, pairs, whose parts are `.0` and `.1`. A byte is a number (10 is LF, 32 a blank, 48 `0`), and a text a list of bytes |
-| `[]`, `x ∷ xs`, `xs ++ ys` | the empty list, an item and then a list, two lists joined |
-| `a - b` | 0 where b is greater. `a % b` is the remainder, `a ^ b` the power |
-| `&&`, `\\|\\|`, `not`, `==`, `if a then b else c` | of Booleans; `==` is `nat_eq` |
-| `_` | in an equation: any argument; in `◌+◌`: nothing, there `◌` stands for an argument. `infixl 10` says how an operator binds |
-| `tt` | the one value of `Unit`, which an answer has that says nothing more than Ok |
-| `λ x. e`, `let x = a in e` | the function of x that gives e; e, with a for x |
-| `{A : Type 0}` | an argument that isn't written at a use |
-| `module _ (x : A) where` | the definitions below it have x as a first argument, which they don't write among themselves |
-| `.old`, `.new`, `.now`, `result` | in a contract: an argument before the call, after it, or where it doesn't change; what the function gives. `requires` is what a caller owes, `ensures` what it gets |
-| `F.reading files.old` | what contracts see of a value whose type F is a parameter: a ghost member of its trait, which costs nothing when it runs |
-| `items` | the list of a vector, `Vec` |
-| `impl Model for T` | what definitions see of the type T: `Value` is its type, `view` how it is made of the fields, and `invariant` a fact that each value of T has |
-'''
+    def __init__(self, about, laws, order, words):
+        self.about, self.laws, self.order, self.words = about, laws, order, words
+        self.top, self.sections, self.split = [], [], []
+
+    @property
+    def link(self):
+        return f'[{self.about.name}]({self.about.name}.md)'
 
 
 class Statement:
     def __init__(self, sources):
         self.sources = sources
-        self.told = set()
-        self.words = set()
-        self.places = set()
-        self.told_words = {}
+        self.told, self.words = set(), set()
         self.rank = self.ranks()
         self.all_laws = [item for module in sources.code.values() for item in module.items if is_law(sources, item)]
-        self.parts = [self.part(part) for part in glosses.PARTS]
-        self.library = {word.rpartition('.')[2] for word in self.words}
-        self.homes = collections.defaultdict(set)
-        for _, order, _, _ in self.parts:
-            for item in order:
-                self.homes[item.name].add((item.crate, item.module))
+        self.pages = [self.page(about) for about in glosses.PAGES]
+        self.at = {item: page for page in self.pages for item in [*page.order, *page.laws]}
+        self.texts = dict(self.written())
 
     def ranks(self):
         """The place of each module: by crates, and within a crate after those that it imports."""
@@ -106,184 +63,210 @@ class Statement:
     def key(self, item):
         return (*self.rank[item.crate, item.module], item.line)
 
-    def laws(self, part):
-        """The functions whose contracts a part quotes."""
-        for crate, name in part.laws:
+    def laws(self, about):
+        """The functions whose contracts a page quotes."""
+        for crate, name in about.laws:
             for module in self.sources.code.values():
                 for item in module.items:
-                    is_law = item.crate == crate and item.kind == 'function' and name in (item.name, '*')
-                    if is_law and (name != '*' or self.is_free_law(item, part.without)):
+                    is_meant = item.crate == crate and item.kind == 'function' and name in (item.name, '*')
+                    if is_meant and (name != '*' or self.is_free_law(item, about.without)):
                         yield item
 
     def is_free_law(self, item, without):
-        """Whether a law is meant by a part's '*': it is named by none, and reaches nothing that the part is without."""
-        named = {law for part in glosses.PARTS for law in part.laws} | glosses.APART
+        """Whether a law is meant by a page's '*': it is named by none, and reaches nothing that the page is without."""
+        named = {law for about in glosses.PAGES for law in about.laws} | glosses.APART
         reached = {(other.crate, other.module, other.name) for other in reach(self.sources, [item])}
         is_free = (item.crate, item.name) not in named and item not in self.told
         return is_law(self.sources, item) and is_free and without not in reached
 
-    def part(self, part):
-        laws = list(dict.fromkeys(self.laws(part)))
-        roots = laws + [self.sources.items[root] for root in part.roots]
+    def page(self, about):
+        laws = list(dict.fromkeys(self.laws(about)))
+        roots = laws + [self.sources.items[root] for root in about.roots]
         reached = reach(self.sources, roots)
-        new = [item for item in sorted(reached, key=self.key) if item not in self.told and item not in laws]
-        order = []
-        for item in new:
-            self.tell(item, order, laws)
+        order = [item for item in sorted(reached, key=self.key) if item not in self.told and item not in laws]
         words = {word: None for item in order + laws for word in self.sources.reads(item) if isinstance(word, str)}
-        fresh = [word for word in words if word not in self.words]
+        page = Page(about, laws, order, [word for word in words if word not in self.words])
+        page.top = [self.sources.items[root] for root in about.top]
+        page.sections, page.split = self.arranged(about, [item for item in order if item not in page.top])
         self.words |= set(words)
-        self.told |= set(laws)
-        return part, order, laws, fresh
+        self.told |= {*laws, *order}
+        return page
 
-    def tell(self, item, order, laws):
-        if item in self.told or item in laws:
-            return
-        self.told.add(item)
-        for below in sorted((below for below in self.sources.reads(item) if isinstance(below, Item)), key=self.key):
-            self.tell(below, order, laws)
-        order.append(item)
+    def arranged(self, about, items):
+        """The sections of a page, each behind those that it reads, as near as can be to the order that is asked for; and those that had to be split."""
+        groups, places = self.groups(about, items)
+        ahead, sections, split = list(groups), [], []
+        while ahead:
+            left = {item for place in ahead for item in groups[place]}
+            free = {place: self.free(groups[place], left) for place in ahead}
+            whole = next((place for place in ahead if len(free[place]) == len(groups[place])), None)
+            place = whole or next(place for place in ahead if free[place])
+            sections.append((place, self.in_order(free[place])))
+            groups[place] = [item for item in groups[place] if item not in free[place]]
+            if whole:
+                ahead.remove(place)
+            else:
+                split.append(place)
+        return sections, split
 
-    def text(self):
-        pages = [HEAD + self.counts(), NOTATION]
-        read = set()
-        for number, (part, order, laws, words) in enumerate(self.parts, 1):
-            pages.append(f'\n# {number}. {part.title}\n\n{part.about}\n')
-            pages.append(library(words))
-            pages.extend(self.sections(order))
-            pages.append('\n## What is proved of them\n' if number < len(self.parts) else '\n## The contract of `command`, and the laws\n')
-            pages.extend(f'\n```rust\n{law.text}\n```\n' for law in laws)
-            read |= {*order, *laws}
-            pages.append(self.beside(order, read))
-        return ''.join(pages)
+    def free(self, group, left):
+        """The items of a section that read nothing of the other sections that are left, by whatever way."""
+        others = left - set(group)
+        bound = {item for item in group if any(below in others for below in self.sources.reads(item))}
+        while True:
+            more = {item for item in group if item not in bound and any(below in bound for below in self.sources.reads(item))}
+            if not more:
+                return [item for item in group if item not in bound]
+            bound |= more
 
-    def beside(self, order, read):
-        """The laws that no part quotes and that speak of a part's definitions, by them and few others, in a list."""
+    def groups(self, about, items):
+        """The items by sections: a definition is in its module's, and a type of the code in the first of its crate that reads it, if one does."""
+        asked = {place: number for number, place in enumerate(about.order)}
+
+        def place_key(place):
+            return (asked.get(place, len(asked)), *self.rank.get(place, (self.sources.crates.index(place[0]), -1)))
+
+        groups = collections.defaultdict(list)
+        for item in items:
+            if item.kind == 'definition':
+                groups[item.crate, item.module].append(item)
+        places = sorted(groups, key=place_key)
+        for item in items:
+            if item.kind != 'definition':
+                groups[self.home(item, places, groups)].append(item)
+        return {place: groups[place] for place in sorted(groups, key=place_key)}, places
+
+    def home(self, item, places, groups):
+        if item.kind == 'trait':
+            return item.crate, 'traits'
+        own = [place for place in places if place[0] == item.crate]
+        reading = [place for place in own if any(item in reach(self.sources, self.sources.reads(other)) for other in groups[place])]
+        return (reading or own or [(item.crate, item.module)])[0]
+
+    def in_order(self, group):
+        """The items of a section, each behind those that it reads: types of the code first, then by lines."""
+        done, begun = [], set()
+
+        def tell(item):
+            if item in group and item not in done and item not in begun:
+                begun.add(item)
+                for below in sorted((below for below in self.sources.reads(item) if isinstance(below, Item)), key=self.key):
+                    tell(below)
+                done.append(item)
+
+        for item in sorted(group, key=lambda item: (self.is_behind(item, group), self.key(item))):
+            tell(item)
+        return done
+
+    def is_behind(self, item, group):
+        """Whether an item of a section is a definition, or a type that reads one of the section."""
+        below = reach(self.sources, self.sources.reads(item))
+        return item.kind == 'definition' or any(other.kind == 'definition' and other in group for other in below)
+
+    def written(self):
+        """The text of each page, by the name of its file."""
+        writer, read = Sections(self.sources), set()
+        for page in self.pages:
+            writer.begin(page)
+            page_sections = ''.join(writer.section(page, place, group) for place, group in page.sections)
+            laws = '' if page is self.pages[0] else '\n## What is proved\n' + ''.join(f'\n```rust\n{law.text}\n```\n' for law in page.laws)
+            read |= {*page.order, *page.laws}
+            beside = '' if page is self.pages[0] else self.beside(page, read)
+            yield f'{page.about.name}.md', self.head(page, writer, page_sections) + page_sections + laws + beside
+
+    def head(self, page, writer, rest):
+        if page is self.pages[0]:
+            return self.first_head(page, writer, rest)
+        below = [self.basis(page, other) for other in self.pages[:self.pages.index(page)]]
+        below = [part for part in below if part]
+        text = heads.FURTHER.format(title=page.about.title, about=page.about.about, below=', '.join(below[:-1]) + (' and ' if below[1:] else '') + below[-1])
+        text += heads.ALL + self.page_counts() + self.law_counts(glosses.SENTENCES) if page is self.pages[-1] else ''
+        text += heads.NOTATION.get(page.about.name, '')
+        words = library(page.words)
+        return text + ('\nWords of the library that come new here:\n\n' + words if words else '')
+
+    def basis(self, page, other):
+        """What a page reaches of an earlier one: its link, and the names where they are few."""
+        names = [f'`{item.name}`' for item in self.reached(page) if self.at.get(item) is other]
+        return f'{" and ".join(names)} of {other.link}' if 0 < len(names) < 3 else other.link if names else ''
+
+    def first_head(self, page, writer, rest):
+        quotes = f'```agda\n{writer.code(page.top)}```\n' + ''.join(f'\n```rust\n{law.text}\n```\n' for law in page.laws)
+        text = heads.FIRST.format(quotes=quotes, lines='{lines}', counts=self.law_counts(glosses.SENTENCES[:glosses.FIRST_SENTENCES]), words=library(page.words).partition('|---|---|\n')[2])
+        return text.replace('{lines}', f'{round(text.count(chr(10)) + rest.count(chr(10)), -1):,}')
+
+    def reached(self, page):
+        return reach(self.sources, [*page.order, *page.laws])
+
+    def beside(self, page, read):
+        """The laws that no page quotes and that speak of a page's definitions, or of the first page's, by them and few others, in a list."""
+        order = [item for other in (self.pages[0], page) for item in other.order]
         reached = {law: reach(self.sources, [law]) for law in self.all_laws if law not in self.told}
         near = {law: items for law, items in reached.items() if sum(item not in read for item in items) <= FEW}
         laws = [law for law, items in near.items() if any(item in items for item in order)]
         self.told |= set(laws)
         rows = [f'- `{law.name}` of `{law.crate}`: {first_sentence(comment_of(law))}.\n' for law in laws]
-        return '\nLaws beside these definitions, which this page doesn\'t quote:\n\n' + ''.join(rows) if rows else ''
+        return '\nLaws beside these definitions, which no page quotes:\n\n' + ''.join(rows) if rows else ''
 
     def size(self):
-        return sum(len(order) for _, order, _, _ in self.parts)
+        return sum(len(page.order) for page in self.pages)
 
-    def faults(self):
-        """Words of the page's own that speak of nothing: headings, introductions and glosses whose definitions are gone."""
-        places = {(item.crate, module) for _, order, _, _ in self.parts for item in order for module in (item.module, 'traits')}
-        names = {(item.crate, item.module, item.name) for _, order, _, _ in self.parts for item in order}
-        for place in [*glosses.INTRO, *glosses.HEADINGS]:
-            if place not in places:
-                yield f'docs/written/glosses.py: the page has nothing of {" ".join(place)}'
-        for own in glosses.OWN:
-            if own not in names:
-                yield f'docs/written/glosses.py: the page has no {own[2]} of {own[0]}, {own[1]}'
-
-    def counts(self):
-        rows = ['| Part | Definitions | Lines | With all before |\n|---|---|---|---|\n']
+    def page_counts(self):
+        rows = ['| Page | Definitions | Lines | With all before |\n|---|---|---|---|\n']
         all_lines = all_items = 0
-        for number, (part, order, _, _) in enumerate(self.parts, 1):
-            lines = sum(len(item.bare) for item in order)
-            all_lines, all_items = all_lines + lines, all_items + len(order)
-            rows.append(f'| {number}. {part.title} | {len(order)} | {lines} | {all_items}, {all_lines} lines |\n')
-        rows.append('\nWhat each theorem rests on, by itself:\n\n| Theorem | Contract or law | Definitions | Lines |\n|---|---|---|---|\n')
-        for sentence, names in glosses.SENTENCES:
-            functions = [item for module in self.sources.code.values() for item in module.items if item.kind == 'function']
-            roots = [item for item in functions if (item.crate, item.name) in names]
+        for page in self.pages:
+            lines = sum(len(item.bare) for item in page.order)
+            all_lines, all_items = all_lines + lines, all_items + len(page.order)
+            rows.append(f'| {page.link} | {len(page.order)} | {lines} | {all_items}, {all_lines} lines |\n')
+        return ''.join(rows) + '\nWhat each theorem rests on, by itself:\n\n| Theorem | Contract or law | Definitions | Lines |\n|---|---|---|---|\n'
+
+    def law_counts(self, sentences):
+        rows = []
+        for sentence, name in sentences:
+            roots = [item for module in self.sources.code.values() for item in module.items if item.kind == 'function' and (item.crate, item.name) == name]
             below = [item for item in reach(self.sources, roots) if item not in roots]
-            said = ', '.join(f'`{name}`' for _, name in names)
-            rows.append(f'| {sentence} | {said} | {len(below)} | {sum(len(item.bare) for item in below)} |\n')
+            rows.append(f'| {sentence} | `{name[1]}` | {len(below)} | {sum(len(item.bare) for item in below)} |\n')
         return ''.join(rows)
 
-    def sections(self, order):
-        place, group = None, []
-        for item in order + [None]:
-            here = self.home(item, place) if item else None
-            if here != place or item is None:
-                if group:
-                    yield self.section(place, group)
-                place, group = here, []
-            group.append(item)
+    def twofold(self, page):
+        """The names of a page that several modules define, on it and the pages that it stands on, with these modules."""
+        homes = collections.defaultdict(set)
+        for other in {self.at[item] for item in self.reached(page)}:
+            for item in other.order:
+                for name in names_of(item):
+                    homes[name].add(f'{item.crate}::{item.module}')
+        own = {name for item in page.order for name in names_of(item)}
+        return {name: sorted(homes[name]) for name in sorted(own) if len(homes[name]) > 1}
 
-    def home(self, item, place):
-        """The section of an item: a module, the traits of a crate, or for a type the section before it, if that is of its crate."""
-        if item.kind == 'trait':
-            return item.crate, 'traits'
-        return place if item.kind == 'type' and place and item.crate == place[0] else (item.crate, item.module)
+    def told_twofold(self):
+        """Lines that tell how many names of each page several modules define, and which on the first page."""
+        for page in self.pages:
+            names = self.twofold(page)
+            which = ': ' + ', '.join(f'{name} ({", ".join(homes)})' for name, homes in names.items()) if names and page is self.pages[0] else ''
+            yield f'docs/{page.about.name}.md has {len(names)} names with several homes{which}'
 
-    def other_words(self, group):
-        """A line on the words of a section that are imported under other names."""
-        notes = [pair for item in group if item.kind == 'definition' for pair in [*renamed(self.sources, item), *self.twofold(item)]]
-        words = dict(pair for pair in notes if pair[0] not in self.told_words.get((group[0].crate, group[0].module), ()))
-        for item in group:
-            self.told_words.setdefault((item.crate, item.module), set()).update(words)
-        meanings = collections.defaultdict(list)
-        for word, meaning in words.items():
-            meanings[meaning].append(f'`{word}`')
-        said = []
-        for meaning, found in meanings.items():
-            said.append(f'{" and ".join(found)} {meaning if len(found) == 1 else meaning.replace("is that", "are those")}')
-        return '\nHere ' + ', '.join(said) + '.\n' if words else ''
-
-    def twofold(self, item):
-        """The words of an item that mean a definition of another module, where the page has another of the same name."""
-        for other in self.sources.reads(item):
-            name = other.rpartition('.')[2] if isinstance(other, str) else other.name
-            if isinstance(other, str) and name in self.homes:
-                yield name, f'is that of the library, `{other.split(".")[1]}`'
-            if not isinstance(other, Item) or other.kind != 'definition' or other.module == item.module or other.name in item.names:
-                continue
-            homes = self.homes[other.name]
-            is_alone = len(homes) == 1 and name not in self.library
-            is_plain = is_alone or other.crate == item.crate and sum(crate == item.crate for crate, _ in homes) == 1
-            if not is_plain and re.search(rf"(?<![\w'.]){re.escape(other.name)}(?![\w'])", '\n'.join(item.bare)):
-                yield other.name, f'is that of `{other.crate}::{other.module}`'
-
-    def section(self, place, group):
-        crate, name = place
-        module = self.sources.specs.get(place) or self.sources.code.get(place) or self.sources.module_of(group[0])
-        title = glosses.HEADINGS.get(place) or first_sentence(module.about) or name.replace('_', ' ').capitalize()
-        title += ', continued' if place in self.places else ''
-        intro = glosses.INTRO.get(place) if place not in self.places else None
-        self.places.add(place)
-        glossed = [(item.name, glosses.OWN.get((item.crate, item.module, item.name))) for item in group]
-        notes = [f'- `{word}`: {gloss}\n' for word, gloss in glossed if gloss]
-        text = f'\n## {title}: `{crate}`, `{name}`\n' + (f'\n{intro}\n' if intro else '') + (('\n' + ''.join(notes)) if notes else '')
-        text += self.other_words(group)
-        language = head = section = None
-        for item in group:
-            if item.language != language:
-                text += ('```\n' if language else '') + f'\n```{item.language}\n'
-                language, head = item.language, ''
-            else:
-                text += '\n'
-            if item.section and item.section != section and language == 'agda' and section is not None:
-                text += f'-- ---- {item.section}\n\n'
-            section = item.section if language == 'agda' else section
-            if item.head and item.head != head:
-                text += item.head + '\n\n'
-            head = item.head
-            text += '\n'.join(('  ' if item.head and line else '') + line for line in item.text.split('\n')) + '\n'
-        return text + '```\n'
+    def faults(self):
+        """What doesn't fit: headings, introductions and glosses whose definitions are gone, sections that are split on the first page, names with several homes there."""
+        places = {place for page in self.pages for place, _ in page.sections}
+        names = {(item.crate, item.module, item.name) for page in self.pages for item in page.order}
+        for place in sorted({*glosses.INTRO, *glosses.HEADINGS} - places):
+            yield f'docs/written/glosses.py: no page has a section of {" ".join(place)}'
+        for own in sorted(set(glosses.OWN) - names):
+            yield f'docs/written/glosses.py: no page has {own[2]} of {own[0]}, {own[1]}'
+        for place in self.pages[0].split:
+            yield f'docs/{self.pages[0].about.name}.md: the section of {" ".join(place)} must be split'
+        length = self.texts[f'{self.pages[0].about.name}.md'].count('\n')
+        if length > LONGEST:
+            yield f'docs/{self.pages[0].about.name}.md has {length} lines, and may have {LONGEST}'
+        found = set(self.twofold(self.pages[0]))
+        yield from (f'docs/{self.pages[0].about.name}.md: {name} has several homes' for name in sorted(found - glosses.TWOFOLD))
+        yield from (f'docs/written/glosses.py: {name} has one home' for name in sorted(glosses.TWOFOLD - found))
 
 
-def renamed(sources, item):
-    """The words of an item that stand for others: imported under another name, or modules whose words are written after a dot."""
-    module = sources.module_of(item)
-    words = set(WORD.findall('\n'.join(item.bare)))
-    for word, path in module.uses.items():
-        name = path.rpartition('.')[2]
-        if word in words and word != name and not path.startswith('rust.'):
-            yield word, f'is `{name}` of {place_of(path.rpartition(".")[0])}'
-    for word, path in module.aliases.items():
-        if any(other.startswith(f'{word}.') for other in words):
-            yield f'{word}.', f'stands before words of {place_of(path)}'
-
-
-def place_of(path):
-    """The module or the type that a path leads to, with its crate."""
-    return f'`{path.split(".")[1]}::' + next(part for part in reversed(path.split('.')) if part not in ('TheVariants', 'Ghosts')) + '`'
+def names_of(item):
+    """What an item defines: its name, and those of its constructors, or of the variants of an enum."""
+    is_enum = item.kind == 'type' and re.search(r'(?m)^pub enum ', item.text)
+    return {*item.names, *(re.findall(r'(?m)^    ([A-Z]\w*)', item.text) if is_enum else ())}
 
 
 def is_law(sources, item):
@@ -306,20 +289,9 @@ def reach(sources, roots):
     return found
 
 
-def comment_of(item):
-    return ' '.join(line.removeprefix('///').strip() for line in item.text.split('\n') if line.startswith('///'))
-
-
-def first_sentence(text):
-    return text.partition('. ')[0].rstrip('.')
-
-
 def library(words):
-    """A table of the library's words that come new in a part."""
+    """A table of the library's words that come new on a page."""
     meanings = {path.rpartition('.')[2]: meaning for path, meaning in glosses.LIBRARY.items()}
     names = sorted({word.rpartition('.')[2] for word in words}, key=str.lower)
     rows = [(name, meanings[name]) for name in names if name in meanings]
-    if not rows:
-        return ''
-    table = ''.join(f'| `{name}` | {meaning} |\n' for name, meaning in rows)
-    return f'\nWords of the library that come new here:\n\n| Word | Meaning |\n|---|---|\n{table}'
+    return '| Word | Meaning |\n|---|---|\n' + ''.join(f'| `{name}` | {meaning} |\n' for name, meaning in rows) if rows else ''
