@@ -17,4 +17,3 @@ pub mod Verdicts
 pub mod OneAnswer
 pub mod ToldViews
 pub mod WorldViews
-pub mod OwnWords

@@ -1,6 +1,6 @@
 //! What a verdict on a text says.
 ghost use Rattle.view_check.specs.Laws.{HeadsAreRead, YesIsView, HasOneAnswer, WrongWordsAreOthers};
-ghost use Rattle.view_check.specs.WorldLaws.{WrittenViewsAreAccepted, AllSeeAll, OwnViewsHaveAll, WrongWordsAreOwn};
+ghost use Rattle.view_check.specs.WorldLaws.{WrittenViewsAreAccepted, AllSeeAll, OwnViewsHaveAll};
 
 /// The first line of a view names one group, and is how that group is written.
 pub fn heads_are_read()
@@ -36,10 +36,4 @@ pub fn all_see_all()
 /// every word is.
 pub fn own_views_have_all()
     ensures { OwnViewsHaveAll }
-{}
-
-/// What a party sends or keeps by its own program is right, where all that it got in the slots before is, and all that
-/// it kept in earlier sessions for this one: so of wrong words the first is its sender's own doing.
-pub fn wrong_words_are_own()
-    ensures { WrongWordsAreOwn }
 {}

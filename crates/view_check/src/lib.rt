@@ -17,6 +17,6 @@ mod written_line;
 pub use fault::CheckFault;
 pub use laws::{
     all_see_all, each_text_has_one_answer, heads_are_read, own_views_have_all,
-    written_views_are_accepted, wrong_words_are_others, wrong_words_are_own, yes_is_a_view,
+    written_views_are_accepted, wrong_words_are_others, yes_is_a_view,
 };
 pub use messages::check;
