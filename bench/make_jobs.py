@@ -1,11 +1,12 @@
 #!/usr/bin/env python3
-"""Makes jobs of several sizes, each in a folder of its own: make_jobs.py FOLDER [limits]
+"""Makes jobs of several sizes, each in a folder of its own: make_jobs.py FOLDER [limits | cut]
 
 Ring circuits of 4,096 to 65,536 gates, a quarter of them products, a circuit of bits with as many gates of each kind as a
 circuit of AES-128 has, one of products alone that eight sessions compute, another for five parties, and the job that 'mpc sample 65536'
 makes. Of the largest ring circuit and of the one of bits there is a job with prepared products, too, and one of eight sessions of which every other one prepares its
 products. With 'limits', in their place, jobs as large as the program takes: the most products, the deepest circuit (each gate squares what the one before it set) and the widest (all wires are
-inputs or outputs). Each folder gets the job, its circuit, three party files with seeds, and 'expected', the text that 'mpc run' must
+inputs or outputs), and a circuit of bits of sixteen times 65,536 gates, which examples/cut.py cuts into sixteen sessions. With 'cut', such circuits of bits and of
+words of 8, 32 and 64 bits. Each folder gets the job, its circuits, three party files with seeds, and 'expected', the text that 'mpc run' must
 write, computed from the plain circuit. The same call always makes the same files.
 
 A list of the folders, with a line 'NAME GATES PRODUCTS MESSAGES' for each, goes to standard output.
@@ -15,13 +16,26 @@ import hashlib
 import itertools
 import math
 import os
+import pathlib
 import sys
+
+sys.path[1:1] = [str(pathlib.Path(__file__).resolve().parent.parent / 'examples')]
+from circuit_reader import read_circuit  # noqa: E402
+from cut import Job  # noqa: E402
+from summands import Sharing as CutSharing  # noqa: E402
 
 RING_SIZES = [4096, 8192, 16384, 32768, 65536]
 INPUT_WIRES = 16
 SESSION_PRODUCTS = 4096
 FIVE_PARTIES_PRODUCTS = 1024
 SAMPLE_GATES = 65536
+
+# A circuit that is cut has so many gates, of which each multiplies once in so many, and reads one of so many wires before its own.
+CUT_GATES = 16 * 65536
+CUT_PRODUCTS = 13
+CUT_NEAR = 62
+CUT_WIDTHS = [32, 32]
+CUT_OUTPUTS = 32
 
 # Gates of the circuit of bits.
 BITS = {'AND': 6400, 'XOR': 28176, 'INV': 2087}
@@ -183,6 +197,42 @@ def write_sample(folder, gates):
     write(folder, f'sample_{gates}', 'ring', 32, [2, 2], [1], operations, None, choose=both, known=known, seeds=seeds)
 
 
+def chain_of(bits, numbers, values):
+    """The lines of gates that each read the one before them and one more, where the words on the input wires are the values, which get those of the
+    gates."""
+    modulus, lines = 2**bits, []
+    for gate in range(CUT_GATES):
+        wire = len(values)
+        last, other = wire - 1, wire - 2 - numbers.below(CUT_NEAR)
+        operation = ('AND' if bits == 1 else 'MUL') if gate % CUT_PRODUCTS == 0 else 'XOR' if bits == 1 else ('ADD', 'SUB')[gate % 2]
+        lines.append(f'2 1 {last} {other} {wire} {operation}')
+        values.append(OPERATE[operation](values[last], values[other]) % modulus)
+    return lines
+
+
+def write_cut(folder, name, bits):
+    """Writes a job of a circuit of a million gates, which is cut."""
+    path, numbers, parties = os.path.join(folder, name), Numbers(bits), THREE.parties
+    inputs = [numbers.below(min(2**bits, 2**31)) for _ in range(sum(CUT_WIDTHS))]
+    values = list(inputs)
+    lines = chain_of(bits, numbers, values)
+    head = [[len(lines), len(values)], [len(CUT_WIDTHS), *CUT_WIDTHS], [1, CUT_OUTPUTS]]
+    text = '\n'.join([*(' '.join(map(str, line)) for line in head), *lines]) + '\n'
+    circuit = read_circuit(text.encode(), bits, bits == 1)
+    job = Job(circuit, CutSharing(parties, [[party] for party in parties]), parties[:2], [parties], None if bits == 1 else bits)
+    job.write(path)
+    word_texts = [' '.join(map(str, inputs[:CUT_WIDTHS[0]])), ' '.join(map(str, inputs[CUT_WIDTHS[0]:])), '']
+    words = ' '.join(map(str, values[-CUT_OUTPUTS:]))
+    files = {'expected': ''.join(f'out {len(job.parts) - 1} 0 {party} {words}\n' for party in parties)}
+    for party, given in zip(parties, word_texts):
+        texts = ', '.join(f'"{given if number == 0 else ""}"' for number in range(len(job.parts)))
+        files[f'party_{party}.toml'] = f'version = 1\ninputs = [{texts}]\nseed = "{hashlib.sha256(f"{name} {party}".encode()).hexdigest()}"\n'
+    for file, text in files.items():
+        with open(os.path.join(path, file), 'w', newline='\n') as out:
+            out.write(text)
+    print(name, sum(part.size for part in job.parts), sum(job.products), sum(job.messages), flush=True)
+
+
 def write_bench(folder):
     for size in RING_SIZES:
         operations = [['MUL', 'ADD', 'SUB', 'NEG'][i % 4] for i in range(size)]
@@ -210,15 +260,19 @@ def write_limits(folder):
     write(folder, 'deepest', 'ring', 32, [1], [1], products, Numbers(2), choose=square_the_last)
     values = [MOST_GATES // MOST_VALUES] * MOST_VALUES
     write(folder, 'widest', 'ring', 32, values, values, ['NEG'] * MOST_GATES, Numbers(3), choose=negate_an_input)
+    write_cut(folder, 'cut_bits', 1)
+
+
+def write_cuts(folder):
+    for bits in (1, 8, 32, 64):
+        write_cut(folder, 'cut_bits' if bits == 1 else f'cut_words_{bits}', bits)
 
 
 def main(words):
-    if len(words) not in (2, 3) or words[1].startswith('-') or words[2:] not in ([], ['limits']):
-        sys.exit('usage: make_jobs.py FOLDER [limits]')
-    if words[2:]:
-        write_limits(words[1])
-    else:
-        write_bench(words[1])
+    writers = {'': write_bench, 'limits': write_limits, 'cut': write_cuts}
+    if len(words) not in (2, 3) or words[1].startswith('-') or ''.join(words[2:]) not in writers:
+        sys.exit('usage: make_jobs.py FOLDER [limits | cut]')
+    writers[''.join(words[2:])](words[1])
 
 
 if __name__ == '__main__':

@@ -1,15 +1,16 @@
 #!/usr/bin/env python3
 """Times nodes that run a job over the loopback network: network.py PROGRAM
 
-The jobs are the auction of examples/network, and AES-128 of examples/aes, with its circuit as it is made and in layers. Each is run ROUNDS times
+The jobs are the auction of examples/network, AES-128 of examples/aes, with its circuit as it is made and in layers, and SHA-256 of a message of one block of
+examples/sha256, in sessions that carry, with words that are added bit by bit and by trees of carries. Each is run ROUNDS times
 (20, where the environment doesn't say) by a node for each party, all started at once, and once by 'mpc run'. Prints for each job
 its messages and bytes, its rounds, the least time of the nodes and that of the run in one process, and the time of one run of the nodes over
 links on which each byte takes 20 milliseconds (relay.py). Ends with status 1 where a node fails or writes anything else than 'mpc run' does.
 
 Bytes are those that all nodes send: a hello of 38 bytes to each peer, and 18 bytes a message, of which the word itself is at least ring_bits. A
-round is a run of slots that says something and of which none waits for another. The rounds seen are those of a run over links that hold all that is sent
+round is a run of slots that says something and of which none waits for another; a word that is carried is said to nobody. The rounds seen are those of a run over links that hold all that is sent
 until every node waits (relay.py). The least rounds that the protocol would need for the circuit are the products on its longest path, one for the
-inputs and one for the outputs: those of the circuit in layers.
+inputs and one for the outputs: those of the circuit in layers. Of a job of several sessions they are the sum of these.
 """
 
 import os
@@ -26,11 +27,15 @@ NETWORK = os.path.join(EXAMPLES, 'network')
 sys.path[1:1] = [EXAMPLES, NETWORK]
 import nodes  # noqa: E402
 from by_layers import layers, read_circuit, rounds as rounds_of  # noqa: E402
-from job_folder import read_bytes, read_fields  # noqa: E402
+from job_folder import read_bytes, read_fields, read_job  # noqa: E402
 from relay import Relay, Steps  # noqa: E402
+from summands import Sharing  # noqa: E402
 
 # The example of appendix B of FIPS 197.
 KEY, BLOCK = '2b7e151628aed2a6abf7158809cf4f3c', '3243f6a8885a308d313198a2e0370734'
+
+# The parts of a message of 55 bytes, the most that one block takes.
+PARTS = [b'a record of a clinic, of 33 bytes'.hex(), b'findings of a laboratory'[:22].hex()]
 
 # Seconds that each byte takes from one node to another.
 DELAY = 0.02
@@ -76,12 +81,28 @@ def row(program, name, job, times):
         with Steps(ports, folder) as steps:
             time_nodes(program, folder, names, expected, steps)
         alone = min(time_alone(program, job) for _ in range(times))
-    messages = int(re.search(r'^messages (\d+)$', check, re.M)[1])
+    messages = int(re.search(r'^messages (\d+)$', check, re.M)[1]) - kept(job)
     parties = len(names)
     sent = 38 * parties * (parties - 1) + 18 * messages
-    head, gates = read_circuit(read_bytes(job, circuit_of(job)))
-    print(f'| {name} | {messages:,} | {sent:,} | {rounds_of(head, gates):,} | {steps.count:,} | {layers(gates)[1] + 2} '
+    rounds, least = map(sum, zip(*rounds_of_sessions(job)))
+    print(f'| {name} | {messages:,} | {sent:,} | {rounds:,} | {steps.count:,} | {least:,} '
           f'| {1000 * best:.1f} | {1000 * alone:.1f} | {delayed:.2f} |', flush=True)
+
+
+def rounds_of_sessions(job):
+    """The rounds of each session, and the least."""
+    parties = read_fields(job)['parties']
+    for session, fields in zip(read_job(job).sessions, read_fields(job)['session']):
+        head, gates = read_circuit(read_bytes(job, fields['circuit']))
+        given = [owner in parties for owner in session.owners]
+        yield rounds_of(head, gates, given, session.readers), layers(gates)[1] + any(given) + any(session.readers)
+
+
+def kept(job):
+    """How many messages a party keeps for itself."""
+    parties, tolerated = (read_fields(job).get(name) for name in ('parties', 'tolerated'))
+    carried = sum(width for session in read_job(job).sessions for width, owner in zip(session.inputs, session.owners) if owner not in parties)
+    return carried * Sharing(parties, tolerated).of_carried() if carried else 0
 
 
 def circuit_of(job):
@@ -113,6 +134,10 @@ def main(words):
         subprocess.run([sys.executable, os.path.join(EXAMPLES, 'aes', 'job.py'), 'make', job, KEY, BLOCK], check=True)
         row(program, 'AES-128', job, times)
         row(program, 'AES-128 in layers', bring_into_layers(program, job, os.path.join(folder, 'layers')), times)
+        for name, words in [('SHA-256 bit by bit', ['--chain']), ('SHA-256 by trees', [])]:
+            job = os.path.join(folder, name.replace(' ', '_'))
+            subprocess.run([sys.executable, os.path.join(EXAMPLES, 'sha256', 'job.py'), 'make', job, *PARTS, *words], check=True, capture_output=True)
+            row(program, name, job, times)
 
 
 if __name__ == '__main__':

@@ -9,10 +9,11 @@ in their order: so it computes the same, and all products of a layer take one ro
 agree on it before they agree on the job. Without NEW nothing is written.
 
 Prints how many products the circuit has, its depth, which is how many of them stand on the longest path, and the rounds of both
-orders: those of the inputs, the products and the outputs. A circuit that the program refuses is refused with its line. The program
-is ./mpc of this repository, or the one that is named.
+orders: those of the inputs, the products and the outputs. A circuit that the program refuses is refused with its line; one that is too
+large for a session is cut by examples/cut.py, into sessions in layers. The program is ./mpc of this repository, or the one that is named.
 """
 
+import itertools
 import os
 import pathlib
 import subprocess
@@ -53,7 +54,8 @@ def accept(data, program):
         fields = {'version': 1, 'ring_bits': 64 if of_words else 1, 'parties': ['a'], 'formula': 'a', 'session': [session]}
         write_new(folder, 'job.toml', job_text(fields).encode())
         done = subprocess.run([program, 'check', folder], stdin=subprocess.DEVNULL, stdout=subprocess.DEVNULL, stderr=subprocess.PIPE, text=True)
-    need(done.returncode == 0, done.stderr.strip().split('\n')[-1] or f'{program} ended with status {done.returncode}')
+    line = done.stderr.strip().split('\n')[-1] or f'{program} ended with status {done.returncode}'
+    need(done.returncode == 0, line + (': examples/cut.py cuts it into sessions' if ' TooLarge ' in line else ''))
 
 
 def read_circuit(data):
@@ -78,14 +80,9 @@ def in_layers(gates):
     return [gate for _, gate in sorted(zip(layers(gates)[0], gates), key=lambda pair: (pair[0], pair[1].multiplies))]
 
 
-def rounds(head, gates):
-    """How many batches of slots say something: those with an input, a product or an output. A slot begins a batch where it reads a wire
-    that an input or a product of the batch before it sets."""
-    inputs, outputs = (sum(map(int, line[1:])) for line in head[1:])
-    wires = int(head[0][1])
-    slots = [([], wire, True, True) for wire in range(inputs)]
-    slots += [(gate.reads, gate.sets, gate.multiplies, gate.multiplies) for gate in gates]
-    slots += [([wire], NOTHING, False, True) for wire in range(wires - outputs, wires)]
+def talking_batches(slots):
+    """How many batches of slots say something. Of a slot there are the wires that it reads, the one that it sets, whether others wait for
+    that one, and whether it says something itself. It begins a batch where it reads a wire for which one waits in the batch before it."""
     count, says, pending = 0, False, set()
     for reads, sets, waits, speaks in slots:
         if not pending.isdisjoint(reads):
@@ -95,6 +92,20 @@ def rounds(head, gates):
             pending.add(sets)
         says |= speaks
     return count + says
+
+
+def rounds(head, gates, given=None, read=None):
+    """How many batches of slots say something: those with an input, a product or an output; but, where it is told which input values are
+    given and which output values are read, with none that is carried on instead."""
+    slots, wires = [], iter(range(int(head[0][1])))
+    for value, width in enumerate(map(int, head[1][1:])):
+        slots += [([], wire, True, given is None or given[value]) for wire in itertools.islice(wires, width)]
+    slots += [(gate.reads, gate.sets, gate.multiplies, gate.multiplies) for gate in gates]
+    widths = list(map(int, head[2][1:]))
+    wires = iter(range(int(head[0][1]) - sum(widths), int(head[0][1])))
+    for value, width in enumerate(widths):
+        slots += [([wire], NOTHING, False, read is None or bool(read[value])) for wire in itertools.islice(wires, width)]
+    return talking_batches(slots)
 
 
 def main(words):

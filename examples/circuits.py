@@ -23,6 +23,9 @@ are. Where a call takes two or three numbers, the first parties give them, and t
 everything, and one alone learns nothing but the result; change 'formula' in job.toml where it should be more. For 'count' leave BITS
 out; for 'total' they are the ring's.
 
+A session takes 65,536 gates. A circuit that has more, up to sixteen times as many, is written all the same, with a line on standard error:
+examples/cut.py makes a job of it, of several sessions.
+
 As a library: c = Circuit([8, 8]) has the numbers c.inputs, each a list of wires; c.text([c.add(*c.inputs)]) is the file.
 """
 
@@ -31,7 +34,7 @@ import itertools
 import re
 import sys
 
-from job_folder import MOST_VALUES, MOST_WIRES, need, run_script, write_job
+from job_folder import MOST_SESSIONS, MOST_VALUES, MOST_WIRES, need, run_script, write_job
 
 MOST_GATES = 65_536
 
@@ -42,12 +45,13 @@ SHORT = 4
 
 class Circuit:
     """A circuit of bits. A number is a list of wires, the least bit first, of any length; a wire that it doesn't have is 0. The first
-    wires are the inputs, and each gate sets the next wire. A gate that would have the value of a wire that is there is left out."""
+    wires are the inputs, and each gate sets the next wire. A gate that would have the value of a wire that is there is left out. Its file
+    has at most so many gates."""
 
-    def __init__(self, widths):
+    def __init__(self, widths, most_gates=MOST_GATES):
         need(len(widths) <= MOST_VALUES, f'a circuit has at most {MOST_VALUES} input values')
         need(sum(widths) <= MOST_WIRES, f'a circuit has at most {MOST_WIRES} wires')
-        self.widths = list(widths)
+        self.widths, self.most_gates = list(widths), most_gates
         self.gates = [None] * sum(widths)
         self.depths = [0] * sum(widths)
         self.known = {}
@@ -57,7 +61,7 @@ class Circuit:
 
     def gate(self, operation, *operands):
         if (operation, operands) not in self.known:
-            need(len(self.gates) < 4 * MOST_GATES, f'the circuit has more than {MOST_GATES} gates')
+            need(len(self.gates) < self.most_gates + 3 * MOST_GATES, f'the circuit has more than {self.most_gates} gates')
             self.known[operation, operands] = len(self.gates)
             self.gates.append((operation, operands))
             depth = max((self.depths[wire] for wire in operands), default=0) if operation != 'EQ' else 0
@@ -122,7 +126,7 @@ class Circuit:
                 a, b = heapq.heappop(bits)[1], heapq.heappop(bits)[1]
                 c = heapq.heappop(bits)[1] if bits else self.zero
                 carried.append(self.most(a, b, c))
-                rest = self.differ(self.differ(a, b), c)
+                rest = self.differ(self.differ(a, c), b)
                 heapq.heappush(bits, (self.depths[rest], rest))
             total.append(bits[0][1] if bits else self.zero)
         return total
@@ -228,20 +232,20 @@ class Circuit:
             line(operation, *(operands if operation == 'EQ' else (wires[operand] for operand in operands)))
         for wire in itertools.chain(*outputs):
             line('EQW', wires[wire])
-        return file_text(self.widths, list(map(len, outputs)), lines)
+        return file_text(self.widths, list(map(len, outputs)), lines, self.most_gates)
 
 
-def file_text(inputs, outputs, lines):
-    """The file of a circuit with these widths and lines of gates."""
-    need(len(lines) <= MOST_GATES, f'the circuit has more than {MOST_GATES} gates')
-    need(sum(inputs) + len(lines) <= MOST_WIRES, f'the circuit has more than {MOST_WIRES} wires')
+def file_text(inputs, outputs, lines, most_gates=MOST_GATES):
+    """The file of a circuit with these widths and lines of gates, at most so many, and twice as many wires."""
+    need(len(lines) <= most_gates, f'the circuit has more than {most_gates} gates')
+    need(sum(inputs) + len(lines) <= 2 * most_gates, f'the circuit has more than {2 * most_gates} wires')
     header = [[len(lines), sum(inputs) + len(lines)], [len(inputs), *inputs], [len(outputs), *outputs]]
     return '\n'.join([*(' '.join(map(str, numbers)) for numbers in header), *lines]) + '\n'
 
 
 def of_bits(widths, outputs):
     """The file of the outputs that a call makes from a circuit and its inputs."""
-    circuit = Circuit(widths)
+    circuit = Circuit(widths, MOST_SESSIONS * MOST_GATES)
     return circuit.text(outputs(circuit, *circuit.inputs))
 
 
@@ -280,6 +284,12 @@ def circuit_of(call, words):
     return make(*map(int, words))
 
 
+def too_large(circuit):
+    """How the gates of a circuit's file are more than a session takes, or nothing."""
+    gates = int(circuit.split(maxsplit=1)[0])
+    return f'the circuit has {gates} gates, and a session at most {MOST_GATES}' if gates > MOST_GATES else ''
+
+
 def make_job(folder, call, words):
     """Writes the folder of a job of parties that give the inputs of a call."""
     bits = []
@@ -292,6 +302,7 @@ def make_job(folder, call, words):
     circuit = circuit_of(call, [str(len(words)) if name == 'N' else bits[0] for name in names])
     inputs = int(circuit.split('\n', 2)[1].split()[0])
     need(inputs <= len(words), f'{call} wants {inputs} parties that give a number')
+    need(not too_large(circuit), f'{too_large(circuit)}: write it without job, and cut it by examples/cut.py')
     write_job(folder, ring_bits, words, words[:inputs], circuit, f'{call}.txt', layout)
 
 
@@ -301,7 +312,10 @@ def main(words):
     elif len(words) >= 3 and words[0] == 'job':
         make_job(words[1], words[2], words[3:])
     elif words and words[0] != 'job':
-        print(circuit_of(words[0], words[1:]), end='')
+        circuit = circuit_of(words[0], words[1:])
+        print(circuit, end='')
+        if too_large(circuit):
+            print(f'circuits.py: {too_large(circuit)}: examples/cut.py cuts it', file=sys.stderr)
     else:
         print(__doc__.split('\n\n')[1], file=sys.stderr)
         return 2

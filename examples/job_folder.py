@@ -18,6 +18,7 @@ except ModuleNotFoundError:
     sys.exit(f'{os.path.basename(sys.argv[0])}: Python 3.11 or later is needed')
 
 MOST_BYTES = 16_777_216
+MOST_SESSIONS = 16
 MOST_VALUES = 1_024
 MOST_WIRES = 131_072
 MOST_LINE = 2**22
@@ -44,12 +45,12 @@ def need(holds, text):
         raise Refusal(text)
 
 
-def read_bytes(folder, name):
+def read_bytes(folder, name, most=MOST_BYTES):
     """The bytes of a file."""
     path = os.path.join(folder, name)
     with open(path, 'rb') as file:
-        data = file.read(MOST_BYTES + 1)
-    need(len(data) <= MOST_BYTES, f'{path} has more than {MOST_BYTES} bytes')
+        data = file.read(most + 1)
+    need(len(data) <= most, f'{path} has more than {most} bytes')
     return data
 
 
@@ -76,7 +77,7 @@ def read_widths(folder, name):
     """The widths of the input values and of the output values of a circuit's file: its second and its third line with tokens."""
     path = os.path.join(folder, name)
     lines = (line.split() for line in read_text(folder, name).split('\n'))
-    lines = [tokens for tokens in lines if tokens][:3]
+    lines = list(itertools.islice(filter(None, lines), 3))
     need(len(lines) == 3, f'{path} has fewer than three lines')
     widths = []
     for tokens in lines[1:]:
@@ -108,7 +109,7 @@ def read_fields(folder):
     parties, sessions = fields.get('parties'), fields.get('session')
     need(is_texts(parties) and 1 <= len(parties) <= 12, f'{path}: parties is no list of 1 to 12 names')
     need(all(map(NAME.fullmatch, parties)) and len(set(parties)) == len(parties), f'{path}: a name of parties is out of form, or stands twice')
-    need(isinstance(sessions, list) and 1 <= len(sessions) <= 16, f'{path}: there are not 1 to 16 [[session]]')
+    need(isinstance(sessions, list) and 1 <= len(sessions) <= MOST_SESSIONS, f'{path}: there are not 1 to {MOST_SESSIONS} [[session]]')
     for number, session in enumerate(sessions):
         need(isinstance(session, dict), f'{path}: session {number} is no table')
         circuit = session.get('circuit')

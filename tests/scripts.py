@@ -268,7 +268,7 @@ def aes_is_the_standards(program, top):
 
 
 def circuits_have_limits(program, top):
-    for words in [['add', '1025', '1'], ['multiply', '3000'], ['greatest', '1024', '129'], ['add', '1024', '64'], ['less', '0'], ['less', '-1'],
+    for words in [['add', '1025', '1'], ['multiply', '3000'], ['greatest', '1024', '129'], ['less', '0'], ['less', '-1'],
                   ['less', 'x'], ['less'], ['less', '4', '4'], ['lesser', '4'], ['second', '1', '4'], ['count', '9' * 50],
                   ['job', top, 'less', '4', 'a', 'b'], ['job', top, 'total', '65', 'a', 'b', 'c'], ['job', top, 'less', 'a', 'b', 'c'],
                   ['job', top, 'greatest', '4', 'a', 'b', 'a'], ['job', top, 'greatest', '4', 'a', 'b', 'of'], ['job', top, 'none', '4', 'a']]:
@@ -642,18 +642,23 @@ def tried(case, program):
         return False, f'{name}: NOT AS EXPECTED: {wrong}'
 
 
+def run_cases(name, cases, program):
+    """Tells under this name how each case ends, and gives the status of all."""
+    status = 0
+    with concurrent.futures.ThreadPoolExecutor(4) as pool:
+        for good, text in pool.map(tried, cases, [program] * len(cases)):
+            print(f'{name}: {text}', flush=True)
+            status = status if good else 1
+    return status
+
+
 def main(words):
     if len(words) != 2:
         sys.exit('usage: scripts.py PROGRAM')
     program = shutil.which(os.path.abspath(words[1]))
     if not program:
         sys.exit(f'scripts: there is no program {words[1]}')
-    status = 0
-    with concurrent.futures.ThreadPoolExecutor(4) as pool:
-        for good, text in pool.map(tried, CASES, [program] * len(CASES)):
-            print(f'scripts: {text}', flush=True)
-            status = status if good else 1
-    return status
+    return run_cases('scripts', CASES, program)
 
 
 if __name__ == '__main__':
