@@ -34,7 +34,7 @@ from circuit_reader import MOST_READ_BYTES, PRODUCTS, Fault, read_circuit
 from circuits import MOST_GATES
 from cut_places import best_cuts, depth_first, in_layers, lives, needed, spread, times
 from job_folder import MOST_SESSIONS, MOST_VALUES, MOST_WIRES, Refusal, job_text, need, read_bytes, run_script, write_new
-from summands import Sharing
+from summands import Sharing, groups_of
 
 MOST_MESSAGES = 1_048_576
 MOST_WORDS = 1_048_576
@@ -338,11 +338,6 @@ def told_of(circuit):
              (MOST_VALUES, 'input values', len(circuit.inputs)), (MOST_VALUES, 'output values', len(circuit.outputs))]
     over = ', '.join(f'{found - limit} {what}' for limit, what, found in sizes if found > limit)
     return 'circuit ' + ' '.join(f'{what} {found}' for _, what, found in sizes) + (f': {over} more than one session takes' if over else '')
-
-
-def groups_of(text):
-    """The groups that a text names."""
-    return [[] if group == '0' else group.split('+') for group in text.split(',')]
 
 
 def number_of(options, name, most):

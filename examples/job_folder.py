@@ -18,6 +18,7 @@ except ModuleNotFoundError:
     sys.exit(f'{os.path.basename(sys.argv[0])}: Python 3.11 or later is needed')
 
 MOST_BYTES = 16_777_216
+MOST_PARTIES = 12
 MOST_SESSIONS = 16
 MOST_VALUES = 1_024
 MOST_WIRES = 131_072
@@ -107,7 +108,7 @@ def read_fields(folder):
     except (ValueError, RecursionError) as error:
         raise Refusal(f'{path} is no TOML: {error}') from None
     parties, sessions = fields.get('parties'), fields.get('session')
-    need(is_texts(parties) and 1 <= len(parties) <= 12, f'{path}: parties is no list of 1 to 12 names')
+    need(is_texts(parties) and 1 <= len(parties) <= MOST_PARTIES, f'{path}: parties is no list of 1 to {MOST_PARTIES} names')
     need(all(map(NAME.fullmatch, parties)) and len(set(parties)) == len(parties), f'{path}: a name of parties is out of form, or stands twice')
     need(isinstance(sessions, list) and 1 <= len(sessions) <= MOST_SESSIONS, f'{path}: there are not 1 to {MOST_SESSIONS} [[session]]')
     for number, session in enumerate(sessions):
@@ -176,15 +177,24 @@ def write_new(folder, name, data, mode=0o644, replace=False):
         raise Refusal(f'{path} is there already') from None
 
 
-def write_job(folder, bits, parties, owners, circuit, name, layout, readers=None):
-    """Writes the folder of a job of one session, in which any two parties may know everything and one alone learns nothing. The readers
-    read each output value, and the others nothing; where none are named, they are those who own an input value."""
-    need(all(map(NAME.fullmatch, parties)), 'a name is a letter and up to 15 letters, digits and _, and not of')
+def need_names(parties):
+    """Refuses parties of which there are too few or too many, and names that no job takes."""
+    wrong = next((name for name in parties if not NAME.fullmatch(name)), None)
+    need(wrong is None, f'{str(wrong)[:40]!r} is no name: a letter and up to 15 letters, digits and _, and not of')
     need(len(set(parties)) == len(parties), 'a name stands twice')
-    need(3 <= len(parties) <= 12, 'a job wants three to twelve parties, of whom some may give nothing')
+    need(1 <= len(parties) <= MOST_PARTIES, f'a job has 1 to {MOST_PARTIES} parties')
+
+
+def write_job(folder, bits, parties, owners, circuit, name, layout, readers=None, tolerated=None):
+    """Writes the folder of a job of one session. The readers read each output value, and the others nothing; where none are named, they are
+    those who own an input value. Where no tolerated groups are named, any two parties may know everything and one alone learns nothing."""
+    need_names(parties)
+    need(tolerated is not None or len(parties) > 2, f'{" and ".join(parties)} can\'t compute alone what neither may know by itself: '
+         'a third party helps, also one that gives and reads nothing')
     outputs = int(circuit.split('\n', 3)[2].split()[0])
     session = {'circuit': name, 'layout': layout, 'owners': owners, 'readers': [readers or owners] * outputs}
-    fields = {'version': 1, 'ring_bits': bits, 'parties': parties, 'formula': f'2 of ({", ".join(parties)})', 'session': [session]}
+    structure = {'formula': f'2 of ({", ".join(parties)})'} if tolerated is None else {'tolerated': tolerated}
+    fields = {'version': 1 if tolerated is None else 2, 'ring_bits': bits, 'parties': parties, **structure, 'session': [session]}
     os.makedirs(folder, exist_ok=True)
     write_new(folder, 'job.toml', job_text(fields).encode())
     write_new(folder, name, circuit.encode())
@@ -247,11 +257,16 @@ def read_outputs(job, lines, signed=False):
         yield number, value, tokens[2], [word - 2**bits if signed and word >> bits - 1 else word for word, bits in zip(words, widths)]
 
 
-def stop(text):
-    """Writes one line on standard error, and gives the status of a script that can't go on."""
+def tell(text):
+    """Writes one line on standard error, where there is one."""
     line = ''.join(character if character.isprintable() else '?' for character in str(text))
     if sys.stderr is not None:
-        print(f'{os.path.basename(sys.argv[0])}: {line}'.encode('ascii', 'backslashreplace').decode(), file=sys.stderr)
+        print(f'{os.path.basename(sys.argv[0])}: {line}'.encode('ascii', 'backslashreplace').decode(), file=sys.stderr, flush=True)
+
+
+def stop(text):
+    """Tells why a script can't go on, and gives its status."""
+    tell(text)
     return 1
 
 

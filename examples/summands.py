@@ -1,13 +1,15 @@
 """Who holds which summands of a value, and what that costs: the messages and the tape words of inputs, products, outputs and carried wires, as
-'mpc check' counts them."""
+'mpc check' counts them. Who holds what is said by a list of the groups that must learn nothing, or by a formula of those who may know everything."""
 
 import itertools
+import re
 
-from job_folder import NAME, need
+from job_folder import is_texts, need, need_names
 
-MOST_PARTIES = 12
 MOST_TOLERATED = 4_096
 MOST_GROUPS = 64
+MOST_OPEN = 32
+TOKEN = re.compile(r'[ \t\r\n]*([A-Za-z][A-Za-z0-9_]*|[0-9]{1,9}|[&|(),])')
 
 
 def told(group):
@@ -15,14 +17,88 @@ def told(group):
     return '+'.join(group) or '0'
 
 
+def groups_of(text):
+    """The groups that a text names, as ann+bob,cleo, where 0 is the group of nobody."""
+    return [[] if group == '0' else group.split('+') for group in text.split(',')]
+
+
+class Formula:
+    """Which groups may know everything. A group is a mask, in which each party has a bit."""
+
+    def __init__(self, text, parties):
+        tokens, end = [], 0
+        while match := TOKEN.match(text, end):
+            tokens.append(match[1])
+            end = match.end()
+        need(not text[end:].strip(' \t\r\n'), 'the formula has something that is no name, number or sign')
+        self.tokens, self.parties, self.open = tokens[::-1], parties, 0
+        self.holds = self.read('|')
+        need(not self.tokens, 'the formula goes on where it should end')
+
+    def take(self, *wanted):
+        token = self.tokens.pop() if self.tokens else ''
+        need(token and (not wanted or token in wanted), f'the formula has {token[:40]!r} where it should have {" or ".join(wanted) or "a name"}')
+        return token
+
+    def read(self, sign):
+        """Parts with a sign between them: of '|' one must hold, of '&' and of ',' all are told."""
+        below = {'|': lambda: self.read('&'), '&': self.factor, ',': lambda: self.read('|')}[sign]
+        parts = [below()]
+        while self.tokens and self.tokens[-1] == sign:
+            self.take()
+            parts.append(below())
+        whole = {'|': any, '&': all}.get(sign)
+        return parts if whole is None else parts[0] if len(parts) == 1 else lambda mask: whole(part(mask) for part in parts)
+
+    def within(self, sign):
+        """What stands in parentheses."""
+        self.take('(')
+        self.open += 1
+        need(self.open <= MOST_OPEN, f'the formula has more than {MOST_OPEN} open parentheses')
+        parts = self.read(sign)
+        self.take(')')
+        self.open -= 1
+        return parts
+
+    def factor(self):
+        if self.tokens and self.tokens[-1] == '(':
+            return self.within('|')
+        token = self.take()
+        if token.isdigit():
+            self.take('of')
+            parts = self.within(',')
+            need(1 <= int(token) <= len(parts), f'the formula wants {token} of {len(parts)} parts')
+            return lambda mask: sum(part(mask) for part in parts) >= int(token)
+        need(token in self.parties, f'the formula has {token[:40]!r}, which is no party')
+        place = self.parties.index(token)
+        return lambda mask: bool(mask >> place & 1)
+
+
+def tolerated_of(fields):
+    """The groups that must learn nothing, as the fields of job.toml say it: those of its list, or the largest ones of which its formula is false."""
+    parties, formula, listed = fields['parties'], fields.get('formula'), fields.get('tolerated')
+    if 'tolerated' in fields:
+        need(isinstance(listed, list) and all(map(is_texts, listed)), 'tolerated is no list of lists of names')
+        return listed
+    need(isinstance(formula, str), 'job.toml has no formula and no list of tolerated groups')
+    holds = Formula(formula, parties).holds
+    bits = [1 << number for number in range(len(parties))]
+    tolerated = {mask for mask in range(2**len(parties)) if not holds(mask)}
+    largest = [mask for mask in tolerated if not any(mask | bit in tolerated for bit in bits if not mask & bit)]
+    return [[name for name, bit in zip(parties, bits) if mask & bit] for mask in sorted(largest)]
+
+
+def knowing(parties, tolerated):
+    """The parties that stand in no group which must learn nothing: each of them by itself holds every summand, and may know everything."""
+    return [name for name in parties if not any(name in group for group in tolerated)]
+
+
 class Sharing:
     """The parties, and the largest groups of them that must learn nothing. A value has a summand for each of these groups, which those hold
     who aren't in it."""
 
     def __init__(self, parties, tolerated):
-        need(all(map(NAME.fullmatch, parties)), 'a name is a letter and up to 15 letters, digits and _, and not of')
-        need(len(set(parties)) == len(parties), 'a name stands twice')
-        need(1 <= len(parties) <= MOST_PARTIES, f'a job has 1 to {MOST_PARTIES} parties')
+        need_names(parties)
         need(len(tolerated) <= MOST_TOLERATED, f'a job lists at most {MOST_TOLERATED} tolerated groups')
         for group in tolerated:
             need(set(group) <= set(parties) and len(set(group)) == len(group), f'{told(group)[:40]!r} is no group of parties')

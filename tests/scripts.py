@@ -8,6 +8,7 @@ tells why, where a script ends otherwise. It needs Linux.
 
 import concurrent.futures
 import contextlib
+import hashlib
 import os
 import pathlib
 import random
@@ -21,7 +22,7 @@ import time
 
 TOP = pathlib.Path(__file__).resolve().parent.parent
 EXAMPLES = TOP / 'examples'
-sys.path[1:1] = [str(EXAMPLES), str(EXAMPLES / 'aes'), str(TOP / 'fuzz')]
+sys.path[1:1] = [str(EXAMPLES), str(EXAMPLES / 'aes'), str(EXAMPLES / 'network'), str(TOP / 'fuzz')]
 
 import job_folder  # noqa: E402
 from aes_circuit import boxes  # noqa: E402
@@ -33,6 +34,8 @@ from odd_folders import ODD_FOLDERS  # noqa: E402
 from product import product_with  # noqa: E402
 from random_expressions import SCRIPT, with_circuits  # noqa: E402
 from waits import MOST_SECONDS  # noqa: E402
+# (it puts the scripts of examples/ before those of this folder)
+import nodes  # noqa: E402
 
 NUMBERS, CIRCUITS, EXPRESSIONS_SCRIPT = (EXAMPLES / name for name in ('numbers.py', 'circuits.py', 'expressions.py'))
 AUCTION, SPREAD, NODES = EXAMPLES / 'auction/job.py', EXAMPLES / 'statistics/spread.py', EXAMPLES / 'network/nodes.py'
@@ -585,25 +588,79 @@ def a_node_that_waits_is_told(program, top):
     slow = pathlib.Path(top, 'slow')
     slow.write_text('#!/bin/sh\n[ "$1" = check ] || [ "$3" = a ] || exec sleep 100\n')
     slow.chmod(0o755)
-    nodes = subprocess.Popen([sys.executable, '-B', NODES, 'run', EXAMPLES / 'multiply', slow], stdout=subprocess.PIPE, stderr=subprocess.PIPE)
-    line = nodes.stderr.readline()
-    nodes.terminate()
-    nodes.communicate(timeout=MOST_SECONDS)
+    started = subprocess.Popen([sys.executable, '-B', NODES, 'run', EXAMPLES / 'multiply', slow], stdout=subprocess.PIPE, stderr=subprocess.PIPE)
+    line = started.stderr.readline()
+    started.terminate()
+    started.communicate(timeout=MOST_SECONDS)
     expect(line == b'nodes.py: waiting for b, c\n', f'{line}')
-    expect(nodes.returncode == 1, f'status {nodes.returncode}')
+    expect(started.returncode == 1, f'status {started.returncode}')
 
 
 def nodes_are_split(program, top):
+    """All folders are written, or none."""
     folder, target = write_folder(top, product_with([])), os.path.join(top, 'nodes')
-    wrote(NODES, 'split', folder, target, '--hosts', 'h,i,127.0.0.1', '--port', '4000')
+    hosts = ['--hosts', 'h,i,127.0.0.1', '--port', '4000']
+    wrote(NODES, 'split', folder, target, *hosts)
     text = pathlib.Path(target, 'b', 'job.toml').read_text()
     expect('hosts = ["h", "i", "127.0.0.1"]\nport = 4000\n' in text, text)
     expect(sorted(os.listdir(os.path.join(target, 'b'))) == ['job.toml', 'mul.txt', 'party_b.toml'], 'other files')
-    expect_one_line(call(NODES, 'split', folder, target), 'a split into a folder that is there', 'nodes.py: ')
-    expect_one_line(call(NODES, 'split', os.path.join(target, 'b'), target + '2', '--hosts', 'h,i,j', '--port', '1'), 'hosts twice', 'nodes.py: ')
-    expect_one_line(call(NODES, 'split', folder, target + '3', '--hosts', 'h,i', '--port', '1'), 'too few hosts', 'nodes.py: ')
-    expect_one_line(call(NODES, 'split', folder, target + '4', '--hosts', 'h,i,j', '--port', 'x'), 'no port', 'nodes.py: ')
+    shutil.rmtree(os.path.join(target, 'a'))
+    for words, name in [([folder, target, *hosts], 'a split into a folder that is there'), ([folder, target + '2'], 'a split without hosts'),
+                        ([os.path.join(target, 'b'), target + '2', *hosts], 'hosts twice'), ([folder, target + '2', '--hosts', 'h,i', '--port', '1'], 'too few hosts'),
+                        ([folder, target + '2', '--hosts', 'h,i,j', '--port', 'x'], 'no port'), ([folder, target + '2', '--hosts', 'h,,j', '--port', '1'], 'no host')]:
+        expect_one_line(call(NODES, 'split', *words), name, 'nodes.py: ')
+    os.remove(os.path.join(folder, 'party_c.toml'))
+    expect_one_line(call(NODES, 'split', folder, target + '2', *hosts), 'a split without the last file', 'nodes.py: ')
+    expect(sorted(os.listdir(top)) == ['job', 'nodes'] and sorted(os.listdir(target)) == ['b', 'c'], 'a refused split left a folder')
     expect_one_line(call(NODES, 'run', folder, os.path.join(top, 'none')), 'no program', 'nodes.py: ')
+
+
+def another_job_is_told(program, top):
+    """By its digests side by side, and before a node is started."""
+    target = os.path.join(top, 'nodes')
+    wrote(NODES, 'split', EXAMPLES / 'network', target)
+    folders = [os.path.join(target, name) for name in ('anna', 'boris', 'chen')]
+    expect(wrote(NODES, 'compare', *folders).endswith('\nall 3 have the same job\n'), 'other folders than were written')
+    data = [pathlib.Path(folders[0], name).read_bytes() for name in ('job.toml', 'auction.txt')]
+    digest = hashlib.sha256(b''.join(len(part).to_bytes(8, 'big') + part for part in data)).hexdigest()
+    expect(f'{digest}\n' in wrote(NODES, 'compare', folders[1]), 'another digest')
+    with open(os.path.join(folders[2], 'job.toml'), 'a', encoding='utf-8') as file:
+        file.write('# mine\n')
+    found = call(NODES, 'compare', *folders)
+    last = f'{folders[2]}: job.toml is another one from line 12 on\n'
+    expect(found.returncode == 1 and found.stdout.decode().endswith(last) and found.stdout.count(digest[:16].encode()) == 2, f'{found}')
+    expect_one_line(call(NODES, 'run', target, program), 'a run of another job', 'nodes.py: not all have the same job: chen: job.toml ')
+    shutil.copy(os.path.join(folders[0], 'job.toml'), folders[2])
+    done = call(NODES, 'run', target, program)
+    warned = re.fullmatch(rb'(nodes.py: warning: party_\w+.toml has the seed of examples/network/.*\n){3}', done.stderr)
+    expect(done.stdout.decode() == (EXAMPLES / 'network/expected_nodes').read_text() and warned, f'{done}')
+    os.rename(os.path.join(folders[2], 'auction.txt'), os.path.join(folders[2], 'other.txt'))
+    expect_one_line(call(NODES, 'compare', *folders), 'a file that is missing', 'nodes.py: ')
+
+
+def those_who_wait_meet(program, top):
+    """Each tells of each peer, also of a host that nobody knows and of a port that another program has."""
+    target, port = os.path.join(top, 'nodes'), nodes.free_port(3)
+    wrote(NODES, 'split', EXAMPLES / 'auction', target, '--hosts', ','.join(4 * ['127.0.0.1']), '--port', port)
+    names = ['anna', 'boris', 'chen', 'dora']
+    with concurrent.futures.ThreadPoolExecutor(4) as pool:
+        ended = list(pool.map(lambda name: call(NODES, 'wait', os.path.join(target, name), name, 20), names))
+    for name, done in zip(names, ended):
+        ready = [f'{other}: reached both ways, and it has the same job' for other in names if other != name]
+        expect(done.returncode == 0 and set(ready) <= set(done.stdout.decode().split('\n')), f'{name}: {done}')
+    job = pathlib.Path(target, 'anna', 'job.toml')
+    job.write_text(job.read_text().replace('"127.0.0.1"]', '"no.such.host.invalid"]'))
+    with socket.socket() as listener:
+        listener.setsockopt(socket.SOL_SOCKET, socket.SO_REUSEADDR, 1)
+        listener.bind(('127.0.0.1', port + 1))
+        listener.listen()
+        done = call(NODES, 'wait', os.path.join(target, 'anna'), 'anna', 1)
+    for text in [f'(nobody listens there yet); it does not reach us at 127.0.0.1 port {port + 1} (another program has that port)',
+                 f'dora: not reached at no.such.host.invalid port {port + 36} (the host is not known)']:
+        expect(text in done.stdout.decode(), f'{done}')
+    expect(done.returncode == 1 and done.stderr == b'nodes.py: not ready for a run: boris, chen, dora\n', f'{done}')
+    for words in [[target + '/boris', 'x'], [EXAMPLES / 'multiply', 'a'], [target + '/boris', 'boris', 'x'], [target, 'boris']]:
+        expect_one_line(call(NODES, 'wait', *words), f'nodes.py wait {words}', 'nodes.py: ')
 
 
 # Words that are no call of a script.
@@ -611,7 +668,7 @@ OTHER_WORDS = [(NUMBERS, words) for words in ([], ['write'], ['write', 'j'], ['r
                                               ['read', 'j', '--divide', '-4'], ['make', 'j'], ['read', 'j', 'k'])] + [
     (CIRCUITS, []), (CIRCUITS, ['job']), (CIRCUITS, ['job', 'f']), (EXPRESSIONS_SCRIPT, []), (EXPRESSIONS_SCRIPT, ['compile', 'f']), (AUCTION, []), (AUCTION, ['read']), (AUCTION, ['make']),
     (BY_LAYERS, []), (BY_LAYERS, ['a', 'b', 'c', 'd']), (AES, []), (AES, ['make', 'f', '0' * 32]), (AES, ['read']), (AES_CIRCUIT, ['f']),
-    (NODES, []), (NODES, ['run']), (NODES, ['split', 'j']), (NODES, ['split', 'j', 'f', '--hosts', 'h'])]
+    (NODES, []), (NODES, ['run']), (NODES, ['compare']), (NODES, ['wait', 'j']), (NODES, ['split', 'j']), (NODES, ['split', 'j', 'f', '--hosts', 'h'])]
 
 
 def helps_are_there(program, top):
@@ -628,7 +685,8 @@ CASES = [circuits_are_their_numbers, layers_are_together, circuits_come_into_lay
          views_are_passed_over, outputs_that_fail, odd_folders, links_and_folders,
          changed_jobs_are_read_or_refused, expressions_are_words, refusals_are_those_of_the_rows,
          circuits_come_to_the_rows, examples_have_their_circuits, expressions_are_refused_in_one_line, an_auction_of_two, jobs_of_calls, ports_of_the_job_are_taken,
-         nodes_beside_one_another, a_node_that_fails_stops_the_others, a_node_that_waits_is_told, nodes_are_split, helps_are_there]
+         nodes_beside_one_another, a_node_that_fails_stops_the_others, a_node_that_waits_is_told, nodes_are_split,
+         another_job_is_told, those_who_wait_meet, helps_are_there]
 
 
 def tried(case, program):

@@ -2,19 +2,32 @@
 """Runs each party of a job by a node of its own, over TCP.
 
     examples/network/nodes.py split JOB FOLDER [--hosts HOST,HOST,.. --port PORT]
+    examples/network/nodes.py compare FOLDER ..
+    examples/network/nodes.py wait FOLDER NAME [SECONDS]
     examples/network/nodes.py run JOB [PROGRAM] [--view]
 
-'split' writes a folder for each party, FOLDER/NAME, with the job's file, its circuits and that party's own file alone. With hosts, one
-for each party in order, and a port it adds these to a job that has none. 'run' splits the job into temporary folders, in which this
-machine is each host and the ports are free ones, starts all nodes here, and prints what each of them writes, in the order of the
-parties, with its own view where that is asked for. It tells which nodes it waits for; once one fails it stops the others, and ends with status 1. The program is ./mpc of this
-repository, or the one that is named.
+'split' writes a folder for each party, FOLDER/NAME, with the job's file, its circuits and that party's own file alone: all of them, or
+none where a file is missing. With hosts, one for each party in order, and a port it adds these to a job that has none.
+
+'compare' prints the digest by which nodes tell a job, and those of its files, side by side for several folders, and says which file of
+which folder differs. Of one folder it prints them whole, to be read to the others. It ends with status 1 where folders differ.
+
+'wait' is for all parties at once, before a run: each listens and connects where its node NAME would, for SECONDS (60 where it isn't said),
+and prints which peers it reaches, which reach it, and which have another job. It ends with status 0 once all are ready. A node that runs
+already takes it for a peer, so it comes before the nodes.
+
+'run' splits the job into temporary folders, in which this machine is each host and the ports are free ones, starts all nodes here, and
+prints what each of them writes, in the order of the parties, with its own view where that is asked for. JOB may also be the FOLDER that
+'split' wrote: then nothing is started where one party has another job, and it says which. It tells which nodes it waits for; once one
+fails it stops the others, and ends with status 1. The program is ./mpc of this repository, or the one that is named.
 """
 
 import contextlib
 import os
 import pathlib
 import random
+import re
+import shutil
 import signal
 import socket
 import subprocess
@@ -24,38 +37,84 @@ import time
 
 TOP = pathlib.Path(__file__).resolve().parent.parent.parent
 sys.path.insert(0, str(TOP / 'examples'))
-from job_folder import Refusal, job_text, need, read_bytes, read_fields, run_script, write_new  # noqa: E402
+from doubts import doubt  # noqa: E402
+from job_folder import Refusal, job_text, need, number_in, read_bytes, read_fields, run_script, write_new  # noqa: E402
+from reached import await_peers  # noqa: E402
+from same_job import compare, differences, files_of, known_of  # noqa: E402
 
 HERE = '127.0.0.1'
 MOST_PORT = 65_392
+HOST = re.compile('[A-Za-z0-9.:-]{1,64}')
 MOST_TRIES = 1_000
 
 # Those of the system's own choice, which bind gives for port 0, are above: a node that tries to connect to one of them where nobody listens
 # yet may get the same one as its own, and speak to itself.
 PORTS = 10_000, 32_000
 
-# Seconds: between two looks at the nodes, before it is told which ones are waited for, and for a node that is to stop.
+# Seconds: between two looks at the nodes, before it is told which ones are waited for, for the others to tell their faults once one has
+# failed, and for a node that is to stop.
 LOOK = 0.02
 PATIENCE = 3
+GRACE = 1
 STOPPING = 5
+
+# Seconds that 'wait' tries for.
+USUAL_WAIT, MOST_WAIT = 60, 86_400
+
+
+def parts_of(folder, hosts=None, port=None, replace=False):
+    """The files of each party's folder, by the parties' names. Hosts and a port that stand in the job are replaced only where that is said."""
+    fields, files = files_of(folder)
+    if hosts is None:
+        need({'hosts', 'port'} <= set(fields), 'the job has no hosts and port, without which no node runs: add --hosts HOST,HOST,.. --port PORT')
+    else:
+        need(len(hosts) == len(fields['parties']), f'there are {len(fields["parties"])} parties and {len(hosts)} hosts: each has one')
+        wrong = next((host for host in hosts if not HOST.fullmatch(host)), None)
+        need(wrong is None, f'{str(wrong)[:80]!r} is no host: 1 to 64 letters, digits, ".", "-" and ":"')
+        need(replace or not {'hosts', 'port'} & set(fields), 'the job has hosts or a port already')
+        fields.update(hosts=hosts, port=port)
+        files['job.toml'] = job_text(fields).encode()
+    own = {name: f'party_{name}.toml' for name in fields['parties']}
+    return {name: {**files, own[name]: read_bytes(folder, own[name])} for name in own}
+
+
+def joined(folder):
+    """The files of a whole job: those of a job's folder or, where it has none, those of the folders that 'split' wrote into it. These must
+    all have the same job."""
+    if os.path.lexists(os.path.join(folder, 'job.toml')):
+        return None
+    names = sorted(entry.name for entry in os.scandir(folder) if os.path.isfile(os.path.join(entry.path, 'job.toml')))
+    need(names, f'{folder} has no job.toml, and no folder of a party')
+    known = [known_of(os.path.join(folder, name)) for name in names]
+    wrong = list(differences(names, known))
+    need(not wrong, f'not all have the same job: {"; ".join(wrong)}; {", ".join(f"{name} {one.digest[:16]}" for name, one in zip(names, known))}')
+    parties = read_fields(os.path.join(folder, names[0]))['parties']
+    own = {f'party_{name}.toml': read_bytes(os.path.join(folder, name), f'party_{name}.toml') for name in parties}
+    return {**known[0].files, **own}
+
+
+def write_folder(folder, files):
+    """Writes a folder that isn't there yet. What only its party may read nobody else can."""
+    os.makedirs(folder)
+    for name, data in files.items():
+        write_new(folder, name, data, 0o600 if name.startswith('party_') else 0o644)
 
 
 def split(folder, target, hosts=None, port=None, replace=False):
-    """Writes the folders, and gives the parties' names. Hosts and a port that stand in the job are replaced only where that is said."""
-    fields = read_fields(folder)
-    if hosts is not None:
-        need(len(hosts) == len(fields['parties']), f'there are {len(fields["parties"])} parties and {len(hosts)} hosts: each has one')
-        need(replace or not {'hosts', 'port'} & set(fields), 'the job has hosts or a port already')
-        fields.update(hosts=hosts, port=port)
-    circuits = {session['circuit'] for session in fields['session']}
-    for name in fields['parties']:
-        own = os.path.join(target, name)
-        os.makedirs(own)
-        write_new(own, 'job.toml', read_bytes(folder, 'job.toml') if hosts is None else job_text(fields).encode())
-        for file in circuits:
-            write_new(own, file, read_bytes(folder, file))
-        write_new(own, f'party_{name}.toml', read_bytes(folder, f'party_{name}.toml'), 0o600)
-    return fields['parties']
+    """Writes a folder for each party, or none."""
+    parts = parts_of(folder, hosts, port, replace)
+    folders = {name: os.path.join(target, name) for name in parts}
+    there = next((path for path in folders.values() if os.path.lexists(path)), None)
+    need(there is None, f'{there} is there already')
+    made = []
+    try:
+        for name, files in parts.items():
+            made.append(folders[name])
+            write_folder(folders[name], files)
+    except BaseException:
+        for path in made:
+            shutil.rmtree(path, ignore_errors=True)
+        raise
 
 
 def is_free(port):
@@ -107,16 +166,29 @@ def names_of(nodes):
     return ', '.join(node.name for node in nodes)
 
 
+def is_consequence(node):
+    """Whether a node failed since a peer had left."""
+    return node.wrote()[1].startswith(('fault closed ', 'fault link '))
+
+
+def fail(nodes):
+    """Tells why nodes failed: first those that failed by themselves. The others get a moment to tell more than that a peer has left."""
+    end = time.monotonic() + GRACE
+    while time.monotonic() < end and any(node.runs() for node in nodes):
+        time.sleep(LOOK)
+    failed = sorted((node for node in nodes if not node.runs() and node.process.returncode != 0), key=is_consequence)
+    causes = [f'{node.name} ended with status {node.process.returncode}: {node.wrote()[1].strip()}' for node in failed]
+    running = [node for node in nodes if node.runs()]
+    raise Refusal('; '.join(causes) + (f'; stopped: {names_of(running)}' if running else ''))
+
+
 def wait_for(nodes):
     """Waits until all nodes have ended, or one has failed."""
     told, last = time.monotonic(), None
     while True:
         running = [node for node in nodes if node.runs()]
-        failed = [node for node in nodes if node not in running and node.process.returncode != 0]
-        if failed:
-            causes = [f'{node.name} ended with status {node.process.returncode}: {node.wrote()[1].strip()}' for node in failed]
-            stopped = f'; stopped: {names_of(running)}' if running else ''
-            raise Refusal('; '.join(causes) + stopped)
+        if any(node.process.returncode for node in nodes if node not in running):
+            fail(nodes)
         if not running:
             return
         if time.monotonic() - told > PATIENCE and names_of(running) != last:
@@ -128,12 +200,17 @@ def wait_for(nodes):
 def run(folder, program, options):
     """Starts a node for each party, with these options, and prints what they write."""
     signal.signal(signal.SIGTERM, lambda *_: sys.exit('nodes.py: terminated'))
-    # One call first, so that the program is built, and the job refused, once and not by each node.
-    checked = subprocess.run([program, 'check', folder], stdin=subprocess.DEVNULL, stdout=subprocess.DEVNULL)
-    if checked.returncode != 0:
-        return 1
-    parties = read_fields(folder)['parties']
-    with tempfile.TemporaryDirectory() as target, contextlib.ExitStack() as stack:
+    with tempfile.TemporaryDirectory() as top, contextlib.ExitStack() as stack:
+        files = joined(folder)
+        if files is not None:
+            folder = os.path.join(top, 'job')
+            write_folder(folder, files)
+        # One call first, so that the program is built, and the job refused, once and not by each node.
+        checked = subprocess.run([program, 'check', folder], stdin=subprocess.DEVNULL, stdout=subprocess.DEVNULL)
+        if checked.returncode != 0:
+            return 1
+        doubt(folder)
+        parties, target = read_fields(folder)['parties'], os.path.join(top, 'nodes')
         split(folder, target, [HERE] * len(parties), free_port(len(parties)), replace=True)
         nodes = []
         for name in parties:
@@ -145,21 +222,29 @@ def run(folder, program, options):
     return 0
 
 
+def split_and_doubt(folder, target, hosts=None, port=None):
+    split(folder, target, hosts, port)
+    doubt(folder)
+    return 0
+
+
 def main(words):
     options = words[-1:] if words[:1] == ['run'] and words[-1] == '--view' else []
-    job = words[1:len(words) - len(options)]
-    if len(job) in (1, 2) and words[0] == 'run':
-        return run(job[0], job[1] if len(job) == 2 else str(TOP / 'mpc'), options)
-    if len(words) == 3 and words[0] == 'split':
-        split(words[1], words[2])
-        return 0
-    if len(words) == 7 and words[0] == 'split' and words[3] == '--hosts' and words[5] == '--port':
-        need(words[6].isdecimal() and len(words[6]) <= 5 and 1 <= int(words[6]) <= MOST_PORT, f'a port is a number from 1 to {MOST_PORT}')
-        split(words[1], words[2], words[4].split(','), int(words[6]))
-        return 0
+    call, *job = words[:len(words) - len(options)] or ['']
     if words in (['-h'], ['--help']):
         print(__doc__)
         return 0
+    if call == 'run' and len(job) in (1, 2):
+        return run(job[0], job[1] if len(job) == 2 else str(TOP / 'mpc'), options)
+    if call == 'split' and len(job) == 2:
+        return split_and_doubt(*job)
+    if call == 'split' and len(job) == 6 and job[2] == '--hosts' and job[4] == '--port':
+        need(job[5].isascii() and job[5].isdigit() and len(job[5]) <= 5 and 1 <= int(job[5]) <= MOST_PORT, f'a port is a number from 1 to {MOST_PORT}')
+        return split_and_doubt(job[0], job[1], job[3].split(','), int(job[5]))
+    if call == 'compare' and job:
+        return compare(job)
+    if call == 'wait' and len(job) in (2, 3):
+        return await_peers(*job[:2], number_in(job[2], MOST_WAIT, 'SECONDS') if len(job) == 3 else USUAL_WAIT)
     print(__doc__.split('\n\n')[1], file=sys.stderr)
     return 2
 
