@@ -2,7 +2,7 @@
 """Writes circuits for common tasks:
 
     examples/circuits.py CALL [N] [BITS] > my-job/circuit.txt
-    examples/circuits.py job FOLDER CALL [BITS] PARTY PARTY PARTY ..
+    examples/circuits.py job FOLDER CALL [BITS] PARTY PARTY .. [--helper NAME] [--tolerated GROUP,..]
 
 of bits (layout bristol), where numbers are 0 or more and bits stand least first:
     add N BITS        the sum of N numbers of BITS bits, with all its bits
@@ -19,9 +19,10 @@ of words (layout ring):
     total N           the sum of N words
 
 'job' writes the folder of a whole job, but for the parties' files. Each party gives a number and reads the result, and N is how many they
-are. Where a call takes two or three numbers, the first parties give them, and the others give and read nothing. Any two may know
-everything, and one alone learns nothing but the result; change 'formula' in job.toml where it should be more. For 'count' leave BITS
-out; for 'total' they are the ring's.
+are. Where a call takes two or three numbers, the first parties give them, and the others give and read nothing; so does a helper, and
+'job' may have several. One party alone learns nothing but the result, and any two may know everything. That wants three parties: so two
+take a helper. With --tolerated these groups must learn nothing, as ann+bob,cleo, and all others may know everything. For 'count' leave
+BITS out; for 'total' they are the ring's.
 
 A session takes 65,536 gates. A circuit that has more, up to sixteen times as many, is written all the same, with a line on standard error:
 examples/cut.py makes a job of it, of several sessions.
@@ -34,7 +35,9 @@ import itertools
 import re
 import sys
 
-from job_folder import MOST_SESSIONS, MOST_VALUES, MOST_WIRES, need, run_script, write_job
+from doubts import doubt_structure
+from job_folder import MOST_SESSIONS, MOST_VALUES, MOST_WIRES, need, read_fields, run_script, write_job
+from summands import Sharing, groups_of
 
 MOST_GATES = 65_536
 
@@ -271,12 +274,24 @@ CALLS = {
 }
 
 
+# The least that N may be.
+LEAST = {'second': 2, 'auction': 2}
+
+# Who gives what in a job of a call that doesn't take one number of each party.
+GIVERS = {'subtract': (2, 'two numbers'), 'multiply': (2, 'two numbers'), 'less': (2, 'two numbers'), 'equal': (2, 'two numbers'),
+          'choose': (3, 'a bit and two numbers')}
+
+
+def need_call(call):
+    need(call in CALLS, f'{call[:40]!r} is none of {", ".join(CALLS)}')
+
+
 def circuit_of(call, words):
     """The file of a call with these words."""
-    need(call in CALLS, f'{call[:40]!r} is none of {", ".join(CALLS)}')
+    need_call(call)
     names, make = CALLS[call]
     need(len(words) == len(names), f'{call} wants {" ".join(names)}')
-    least = {'N': 2 if call in ('second', 'auction') else 1, 'BITS': 1}
+    least = {'N': LEAST.get(call, 1), 'BITS': 1}
     most = {'N': MOST_VALUES, 'BITS': MOST_WIRES}
     for name, word in zip(names, words):
         fits = re.fullmatch('[0-9]{1,9}', word) and least[name] <= int(word) <= most[name]
@@ -290,27 +305,58 @@ def too_large(circuit):
     return f'the circuit has {gates} gates, and a session at most {MOST_GATES}' if gates > MOST_GATES else ''
 
 
-def make_job(folder, call, words):
-    """Writes the folder of a job of parties that give the inputs of a call."""
-    bits = []
-    if call == 'total' or 'BITS' in CALLS.get(call, ([], None))[0]:
+def need_parties(call, givers, helpers, tolerated):
+    """Refuses fewer parties than the call takes, or than can compute it."""
+    found = f'{len(givers)} {"is" if len(givers) == 1 else "are"} named'
+    if call in GIVERS:
+        least, given = GIVERS[call]
+        need(len(givers) >= least, f'{call} takes {given}, one each of the first {least} parties, and {found}')
+    least = LEAST.get(call, 1)
+    need(len(givers) >= least, f'{call} takes a number of each of {least} or more parties, and {found}')
+    count = len(givers) + len(helpers)
+    need(tolerated is not None or count > 2, f'{call}: where each party alone must learn nothing, a job wants three of them, and {count} '
+         f'{"is" if count == 1 else "are"} named: --helper NAME adds one that gives and reads nothing')
+
+
+def make_job(folder, call, words, helpers=(), tolerated=None):
+    """Writes the folder of a job of parties that give the inputs of a call, and of helpers."""
+    need_call(call)
+    names, bits, helpers = CALLS[call][0], [], list(helpers)
+    if call == 'total' or 'BITS' in names:
         need(words and re.fullmatch('[0-9]{1,9}', words[0]), f'{call} wants BITS before the parties')
         bits, words = words[:1], words[1:]
     layout, ring_bits = ('ring', int(bits[0])) if call == 'total' else ('bristol', 1)
     need(ring_bits <= 64, 'a ring has at most 64 bits')
-    names = CALLS.get(call, ([], None))[0]
+    need_parties(call, words, helpers, tolerated)
+    if tolerated is not None:
+        Sharing(words + helpers, tolerated)
     circuit = circuit_of(call, [str(len(words)) if name == 'N' else bits[0] for name in names])
     inputs = int(circuit.split('\n', 2)[1].split()[0])
-    need(inputs <= len(words), f'{call} wants {inputs} parties that give a number')
     need(not too_large(circuit), f'{too_large(circuit)}: write it without job, and cut it by examples/cut.py')
-    write_job(folder, ring_bits, words, words[:inputs], circuit, f'{call}.txt', layout)
+    write_job(folder, ring_bits, words + helpers, words[:inputs], circuit, f'{call}.txt', layout, tolerated=tolerated)
+    doubt_structure(read_fields(folder))
+
+
+def options_of(words):
+    """The helpers, and the tolerated groups where they are named; nothing where the words are others."""
+    helpers, tolerated, rest = [], None, iter(words)
+    for option, word in itertools.zip_longest(rest, rest):
+        if option not in ('--helper', '--tolerated') or word is None or option == '--tolerated' and tolerated is not None:
+            return None
+        if option == '--helper':
+            helpers.append(word)
+        else:
+            tolerated = groups_of(word)
+    return helpers, tolerated
 
 
 def main(words):
+    names = list(itertools.takewhile(lambda word: not word.startswith('--'), words))
+    options = options_of(words[len(names):])
     if words in (['-h'], ['--help']):
         print(__doc__)
-    elif len(words) >= 3 and words[0] == 'job':
-        make_job(words[1], words[2], words[3:])
+    elif len(names) >= 3 and names[0] == 'job' and options:
+        make_job(names[1], names[2], names[3:], *options)
     elif words and words[0] != 'job':
         circuit = circuit_of(words[0], words[1:])
         print(circuit, end='')

@@ -33,7 +33,8 @@ from by_layers import NOTHING, talking_batches
 from circuit_reader import MOST_READ_BYTES, PRODUCTS, Fault, read_circuit
 from circuits import MOST_GATES
 from cut_places import best_cuts, depth_first, in_layers, lives, needed, spread, times
-from job_folder import MOST_SESSIONS, MOST_VALUES, MOST_WIRES, Refusal, job_text, need, read_bytes, run_script, write_new
+from doubts import doubt_structure
+from job_folder import MOST_SESSIONS, MOST_VALUES, MOST_WIRES, Refusal, job_text, need, read_bytes, read_fields, run_script, write_new
 from summands import Sharing, groups_of
 
 MOST_MESSAGES = 1_048_576
@@ -385,6 +386,7 @@ def main(words):
     job = job_of(circuit, names[2:], options)
     lines = [told_of(circuit), *job.told()]
     job.write(names[1])
+    doubt_structure(read_fields(names[1]))
     print('\n'.join(lines))
     return 0
 

@@ -25,9 +25,10 @@ def doubt_structure(fields):
         names = knowing(fields['parties'], tolerated_of(fields))
     except Refusal:
         return
-    if names:
-        tell(f'warning: {told(names)} may know everything, {"each " if len(names) > 1 else ""}alone: no group that must learn nothing has '
-             f'{"any of them" if len(names) > 1 else "this party"}')
+    if len(names) == 1:
+        tell(f'warning: {names[0]} alone may know everything: no group that must learn nothing has this party')
+    elif names:
+        tell(f'warning: {told(names)} may each know everything: no group that must learn nothing has any of them')
 
 
 def seeds_in(folder):

@@ -189,8 +189,8 @@ def write_job(folder, bits, parties, owners, circuit, name, layout, readers=None
     """Writes the folder of a job of one session. The readers read each output value, and the others nothing; where none are named, they are
     those who own an input value. Where no tolerated groups are named, any two parties may know everything and one alone learns nothing."""
     need_names(parties)
-    need(tolerated is not None or len(parties) > 2, f'{" and ".join(parties)} can\'t compute alone what neither may know by itself: '
-         'a third party helps, also one that gives and reads nothing')
+    need(tolerated is not None or len(parties) > 2, 'where each party alone must learn nothing, a job wants three of them: one may help that '
+         'gives and reads nothing')
     outputs = int(circuit.split('\n', 3)[2].split()[0])
     session = {'circuit': name, 'layout': layout, 'owners': owners, 'readers': [readers or owners] * outputs}
     structure = {'formula': f'2 of ({", ".join(parties)})'} if tolerated is None else {'tolerated': tolerated}

@@ -302,7 +302,7 @@ def limits_are_told(program, top):
             (wide([2], [1] * 1_030, 0).replace('0 2', '0 1032'), parties, 'circuit: 15 OutputNotSet wire=2'),
             (wide([100_000, 31_000], [20], 20), 'abcdefghij', 'the limit of 1048576 messages by '),
             (wide([131_000], [20], 20), [*'abcdefghi', '--readers', '0'], 'the limit of 1048576 messages by '),
-            (chain, ['a', 'b'], 'a and b are all parties'), (chain, ['a', 'a', 'b'], 'a name stands twice'), (chain, ['a', 'b', 'of'], 'a name is a letter'),
+            (chain, ['a', 'b'], 'a and b are all parties'), (chain, ['a', 'a', 'b'], 'a name stands twice'), (chain, ['a', 'b', 'of'], 'is no name: a letter'),
             (chain, [*'abcdefghijklm'], 'a job has 1 to 12 parties'), (chain, [*parties, '--tolerated', 'a+b,c'], 'a+b and c are all parties'),
             (chain, [*parties, '--tolerated', 'a+x'], "'a+x' is no group"), (chain, [*parties, '--owners', 'x'], "'x' is no party"),
             (chain, [*parties, '--owners', 'a,b'], 'there are 2 owners'), (chain, [*parties, '--readers', 'a,b'], 'there are 2 groups of readers'),

@@ -36,6 +36,7 @@ from random_expressions import SCRIPT, with_circuits  # noqa: E402
 from waits import MOST_SECONDS  # noqa: E402
 # (it puts the scripts of examples/ before those of this folder)
 import nodes  # noqa: E402
+import summands  # noqa: E402
 
 NUMBERS, CIRCUITS, EXPRESSIONS_SCRIPT = (EXAMPLES / name for name in ('numbers.py', 'circuits.py', 'expressions.py'))
 AUCTION, SPREAD, NODES = EXAMPLES / 'auction/job.py', EXAMPLES / 'statistics/spread.py', EXAMPLES / 'network/nodes.py'
@@ -539,6 +540,105 @@ def jobs_of_calls(program, top):
         expect(found == ''.join(f'session 0 value 0: {party} reads {expected}\n' for party in parties[:len(given)]), f'{name}: {found}')
 
 
+def jobs_with_helpers(program, top):
+    """A helper gives and reads nothing, and the groups that must learn nothing are those that are named."""
+    for number, (words, givers, helpers, tolerated) in enumerate([
+            (['auction', '8', 'ann', 'bob', '--helper', 'house'], 2, ['house'], None), (['total', '8', 'ann', '--helper', 'h', '--helper', 'i'], 1, ['h', 'i'], None),
+            (['auction', '8', 'a', 'b', 'c', 'd', 'e', '--tolerated', 'a+b,c+d,e'], 5, [], [['a', 'b'], ['c', 'd'], ['e']]),
+            (['less', '8', 'a', 'b', '--tolerated', 'a,b', '--helper', 'c', '--helper', 'd'], 2, ['c', 'd'], [['a'], ['b']])]):
+        folder = os.path.join(top, str(number))
+        done = call(CIRCUITS, 'job', folder, *words)
+        fields = job_folder.read_fields(folder)
+        [session] = fields['session']
+        knows = 'warning: c and d may each know everything: no group that must learn nothing has any of them\n' if number == 3 else ''
+        expect(done.stderr.decode() == (f'circuits.py: {knows}' if knows else ''), f'{words}: {done}')
+        expect(len(session['owners']) == givers and fields['parties'] == session['owners'] + helpers, f'{words}: {fields}')
+        expect(all(readers == session['owners'] for readers in session['readers']) and fields.get('tolerated') == tolerated, f'{words}: {fields}')
+        checked = subprocess.run([program, 'check', folder], capture_output=True, text=True, timeout=MOST_SECONDS)
+        expect(checked.returncode == 0, f'{words}: {checked.stderr}')
+    for words, text in [(['auction', '8', 'ann', 'bob'], 'auction: where each party alone must learn nothing, a job wants three of them, and 2 are named'),
+                        (['auction', '8', 'ann', '--helper', 'h'], 'auction takes a number of each of 2 or more parties, and 1 is named'),
+                        (['choose', '8', 'a', 'b', '--helper', 'c'], 'choose takes a bit and two numbers, one each of the first 3 parties, and 2 are named'),
+                        (['total', '8', 'a', 'b', 'c', '--tolerated', 'a+b,c'], 'a+b and c are all parties, and both must learn nothing'),
+                        (['total', '8', 'a', 'b', 'c', '--tolerated', 'a+x'], "'a+x' is no group of parties")]:
+        expect_one_line(call(CIRCUITS, 'job', os.path.join(top, 'none'), *words), f'circuits.py {words}', f'circuits.py: {text}')
+    expect(not os.path.exists(os.path.join(top, 'none')), 'a refused call left a folder')
+
+
+def numbers_are_divided_by_values(program, top):
+    session = {'circuit': 'f.txt', 'layout': 'expr', 'owners': [], 'readers': [['a', 'b'], ['a', 'b']]}
+    fields = {'version': 2, 'ring_bits': 8, 'parties': ['a', 'b', 'c'], 'tolerated': [['a'], ['b']], 'session': [session, {**session, 'readers': [['a'], []]}]}
+    folder = write_folder(top, {'f.txt': b'output 1\noutput 2\n'})
+    job = pathlib.Path(folder, 'job.toml')
+    job.write_text(job_folder.job_text(fields))
+    given = 'out 0 0 a 100\nout 0 1 a 8\nout 0 0 b 100\nout 0 1 b 8\nout 1 0 a 250\n'
+    read = [line.partition(': ')[2] for line in wrote(NUMBERS, 'read', folder, '--divide-by', '0.1', '--signed', given=given).splitlines()]
+    expect(read == ['a reads 100 / 8 = 12.50', 'a reads 8', 'b reads 100 / 8 = 12.50', 'b reads 8', 'a reads -6 / 8 = -0.75'], f'{read}')
+    for words, lines in [(['0.1'], 'out 0 0 a 5\n'), (['0.1'], 'out 0 0 a 5\nout 0 1 a 0\n'), (['0.2'], given), (['1'], given), (['2.0'], given), (['x'], given),
+                         (['0.1'], 'out 0 1 a 5\nout 0 0 b 5\n'), (['0.1'], '')]:
+        expect_one_line(call(NUMBERS, 'read', folder, '--divide-by', *words, given=lines), f'numbers.py --divide-by {words}', 'numbers.py: ')
+    job.write_text(job_folder.job_text({**fields, 'session': [session]}))
+    expect(wrote(NUMBERS, 'read', folder, '--divide-by', '1', given='out 0 0 a 1\nout 0 1 a 3\n').startswith('session 0 value 0: a reads 1 / 3 = 0.33\n'), 'no third')
+
+
+def doubts_are_told(program, top):
+    """Of a party that may know everything, and of a seed that isn't its party's own; not of a copy, nor of the examples."""
+    def told(*words):
+        return call(*words).stderr.decode().replace(os.path.realpath(top), '')
+
+    folder, other = os.path.join(top, 'one'), os.path.join(top, 'two')
+    wrote(CIRCUITS, 'job', folder, 'greatest', '8', 'ann', 'bob', 'cleo')
+    for party in ('ann', 'bob', 'cleo'):
+        wrote(NUMBERS, 'write', folder, party, '5')
+    shutil.copytree(folder, other)
+    expect(not told(NODES, 'run', folder, program), 'a copy is told of')
+    wrote(NUMBERS, 'write', other, 'ann', '6', '--replace')
+    ann, bob, cleo = (pathlib.Path(other, f'party_{name}.toml') for name in ('ann', 'bob', 'cleo'))
+    cleo.write_text(ann.read_text())
+    bob.write_text(re.sub('inputs = .*', 'inputs = ["1 1 1 1 0 0 0 0"]', bob.read_text()))
+    lines = ['party_ann.toml and party_cleo.toml have the same seed: each party makes its own, and tells nobody',
+             'party_bob.toml has the seed of /one/party_bob.toml: a seed serves one run of one job']
+    expect(told(NODES, 'run', other, program) == ''.join(f'nodes.py: warning: {line}\n' for line in lines), told(NODES, 'run', other, program))
+    tariff = os.path.join(top, 'tariff')
+    shutil.copytree(EXAMPLES / 'statistics', tariff)
+    wrote_line = told(NUMBERS, 'write', tariff, 'north', '1', '2', '--replace').splitlines()
+    expect(len(wrote_line) == 4 and wrote_line[0] == 'numbers.py: warning: party_east.toml has the seed of examples/statistics/party_east.toml, which everybody can read',
+           f'{wrote_line}')
+    expect(not told(NODES, 'run', EXAMPLES / 'statistics', program), 'an example is told of')
+    job = pathlib.Path(folder, 'job.toml')
+    for old, new, line in [('2 of (ann, bob, cleo)', 'ann | bob & cleo', 'ann alone may know everything: no group that must learn nothing has this party'),
+                           ('version = 1', 'version = 2', 'ann, bob and cleo may each know everything: no group that must learn nothing has any of them')]:
+        job.write_text(job.read_text().replace(old, new))
+        if new == 'version = 2':
+            job.write_text(re.sub('formula = .*', 'tolerated = []', job.read_text()))
+        found = told(NUMBERS, 'write', folder, 'ann', '5', '--replace')
+        expect(found.startswith(f'numbers.py: warning: {line}\n'), f'{new}: {found}')
+
+
+def formulas_are_those_of_the_rows(program, top):
+    """What the scripts take for the groups that must learn nothing is what 'mpc check' tells."""
+    chance = random.Random(5)
+
+    def formula(names, depth):
+        parts = [formula(names, depth - 1) for _ in range(chance.randrange(2, 4))] if depth else chance.sample(names, 2)
+        return chance.choice([f'({" | ".join(parts)})', f'({" & ".join(parts)})', f'{chance.randrange(1, len(parts) + 1)} of ({", ".join(parts)})'])
+
+    for _ in range(20):
+        names = ['a', 'b', 'c', 'd', 'e'][:chance.randrange(3, 6)]
+        files = product_with([])
+        text = files['job.toml'].decode().replace('"2 of (a, b, c)"', f'"{formula(names, chance.randrange(3))}"')
+        text = text.replace('["a", "b", "c"]', str(names).replace("'", '"'), 1)
+        folder = write_folder(top, {**files, 'job.toml': text.encode()})
+        done = subprocess.run([program, 'check', folder], capture_output=True, text=True, timeout=MOST_SECONDS)
+        found = summands.tolerated_of(job_folder.read_fields(folder))
+        if done.returncode == 0:
+            groups = re.findall('(?m)^group [0-9]+ (.*)', done.stdout)
+            expect([summands.told(group) for group in found] == groups, f'{text}: {found} in place of {groups}')
+        else:
+            covering = re.fullmatch('refused q2 1 Covering first=(.*) second=(.*)\n', done.stderr)
+            expect(covering and {*covering.groups()} <= set(map(summands.told, found)), f'{text}: {found} {done.stderr}')
+
+
 # Nodes.
 
 def ports_of_the_job_are_taken(program, top):
@@ -665,8 +765,10 @@ def those_who_wait_meet(program, top):
 
 # Words that are no call of a script.
 OTHER_WORDS = [(NUMBERS, words) for words in ([], ['write'], ['write', 'j'], ['read'], ['read', 'j', '--divide'], ['read', 'j', '--divide', 'x'],
-                                              ['read', 'j', '--divide', '-4'], ['make', 'j'], ['read', 'j', 'k'])] + [
-    (CIRCUITS, []), (CIRCUITS, ['job']), (CIRCUITS, ['job', 'f']), (EXPRESSIONS_SCRIPT, []), (EXPRESSIONS_SCRIPT, ['compile', 'f']), (AUCTION, []), (AUCTION, ['read']), (AUCTION, ['make']),
+                                              ['read', 'j', '--divide', '-4'], ['read', 'j', '--divide-by'],
+                                              ['read', 'j', '--divide', '4', '--divide-by', '1'], ['make', 'j'], ['read', 'j', 'k'])] + [
+    (CIRCUITS, []), (CIRCUITS, ['job']), (CIRCUITS, ['job', 'f']), (CIRCUITS, ['job', 'f', 'total', '8', 'a', '--helper']),
+    (CIRCUITS, ['job', 'f', 'total', '8', 'a', '--tolerated', 'a', '--tolerated', 'b']), (EXPRESSIONS_SCRIPT, []), (EXPRESSIONS_SCRIPT, ['compile', 'f']), (AUCTION, []), (AUCTION, ['read']), (AUCTION, ['make']),
     (BY_LAYERS, []), (BY_LAYERS, ['a', 'b', 'c', 'd']), (AES, []), (AES, ['make', 'f', '0' * 32]), (AES, ['read']), (AES_CIRCUIT, ['f']),
     (NODES, []), (NODES, ['run']), (NODES, ['compare']), (NODES, ['wait', 'j']), (NODES, ['split', 'j']), (NODES, ['split', 'j', 'f', '--hosts', 'h'])]
 
@@ -684,7 +786,8 @@ CASES = [circuits_are_their_numbers, layers_are_together, circuits_come_into_lay
          circuits_have_limits, numbers_come_back, numbers_are_signed_and_divided, numbers_that_do_not_fit, other_lines_are_refused,
          views_are_passed_over, outputs_that_fail, odd_folders, links_and_folders,
          changed_jobs_are_read_or_refused, expressions_are_words, refusals_are_those_of_the_rows,
-         circuits_come_to_the_rows, examples_have_their_circuits, expressions_are_refused_in_one_line, an_auction_of_two, jobs_of_calls, ports_of_the_job_are_taken,
+         circuits_come_to_the_rows, examples_have_their_circuits, expressions_are_refused_in_one_line, an_auction_of_two, jobs_of_calls,
+         jobs_with_helpers, numbers_are_divided_by_values, doubts_are_told, formulas_are_those_of_the_rows, ports_of_the_job_are_taken,
          nodes_beside_one_another, a_node_that_fails_stops_the_others, a_node_that_waits_is_told, nodes_are_split,
          another_job_is_told, those_who_wait_meet, helps_are_there]
 
