@@ -19,10 +19,12 @@ import os
 import pathlib
 import sys
 
-sys.path[1:1] = [str(pathlib.Path(__file__).resolve().parent.parent / 'examples')]
+TOP = pathlib.Path(__file__).resolve().parent.parent
+sys.path[1:1] = [str(TOP / 'examples'), str(TOP / 'tests')]
 from circuit_reader import read_circuit  # noqa: E402
 from cut import Job  # noqa: E402
 from summands import Sharing as CutSharing  # noqa: E402
+from waits import told  # noqa: E402
 
 RING_SIZES = [4096, 8192, 16384, 32768, 65536]
 INPUT_WIRES = 16
@@ -276,4 +278,4 @@ def main(words):
 
 
 if __name__ == '__main__':
-    main(sys.argv)
+    sys.exit(told(main))

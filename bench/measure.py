@@ -14,6 +14,9 @@ import tempfile
 import threading
 import time
 
+sys.path.append(os.path.join(os.path.dirname(os.path.dirname(os.path.abspath(__file__))), 'tests'))
+from waits import told  # noqa: E402
+
 # After so many seconds a run is killed, and so ends with status -9.
 MOST_SECONDS = 120
 
@@ -84,4 +87,4 @@ def main(words):
 
 
 if __name__ == '__main__':
-    main(sys.argv)
+    sys.exit(told(main))

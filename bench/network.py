@@ -24,12 +24,13 @@ import time
 HERE = os.path.dirname(os.path.abspath(__file__))
 EXAMPLES = os.path.join(os.path.dirname(HERE), 'examples')
 NETWORK = os.path.join(EXAMPLES, 'network')
-sys.path[1:1] = [EXAMPLES, NETWORK]
+sys.path[1:1] = [EXAMPLES, NETWORK, os.path.join(os.path.dirname(HERE), 'tests')]
 import nodes  # noqa: E402
 from by_layers import layers, read_circuit, rounds as rounds_of  # noqa: E402
 from job_folder import read_bytes, read_fields, read_job  # noqa: E402
 from relay import Relay, Steps  # noqa: E402
 from summands import Sharing  # noqa: E402
+from waits import told  # noqa: E402
 
 # The example of appendix B of FIPS 197.
 KEY, BLOCK = '2b7e151628aed2a6abf7158809cf4f3c', '3243f6a8885a308d313198a2e0370734'
@@ -141,4 +142,4 @@ def main(words):
 
 
 if __name__ == '__main__':
-    main(sys.argv)
+    sys.exit(told(main))

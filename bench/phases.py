@@ -13,6 +13,9 @@ import subprocess
 import sys
 import tempfile
 
+sys.path.append(os.path.join(os.path.dirname(os.path.dirname(os.path.abspath(__file__))), 'tests'))
+from waits import told  # noqa: E402
+
 WORKERS = [1, 2, 3, 4]
 
 
@@ -65,4 +68,4 @@ def main(words):
 
 
 if __name__ == '__main__':
-    main(sys.argv)
+    sys.exit(told(main))

@@ -20,6 +20,9 @@ import subprocess
 import sys
 import tempfile
 
+sys.path.append(os.path.join(os.path.dirname(os.path.dirname(os.path.abspath(__file__))), 'tests'))
+from waits import told  # noqa: E402
+
 HERE = os.path.dirname(os.path.abspath(__file__))
 EXAMPLES = os.path.join(HERE, '..', 'examples')
 JOB = os.path.join(EXAMPLES, 'multiply')
@@ -154,4 +157,4 @@ def main(words):
 
 
 if __name__ == '__main__':
-    main(sys.argv)
+    sys.exit(told(main))

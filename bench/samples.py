@@ -17,6 +17,9 @@ import tempfile
 import phases
 from measure import Job, Wrong
 
+sys.path.append(os.path.join(os.path.dirname(os.path.dirname(os.path.abspath(__file__))), 'tests'))
+from waits import told  # noqa: E402
+
 JOB = 'sample_65536'
 WORKERS = [1, 2, 4]
 
@@ -64,4 +67,4 @@ def main(words):
 
 
 if __name__ == '__main__':
-    main(sys.argv)
+    sys.exit(told(main))

@@ -14,6 +14,9 @@ import tempfile
 
 from make_jobs import Numbers, evaluate
 
+sys.path.append(os.path.join(os.path.dirname(os.path.dirname(os.path.abspath(__file__))), 'tests'))
+from waits import told  # noqa: E402
+
 NAMES = ['a', 'b', 'c', 'd', 'e']
 OPERATIONS = ['MUL', 'ADD', 'SUB', 'NEG']
 
@@ -83,4 +86,4 @@ def main(words):
 
 
 if __name__ == '__main__':
-    main(sys.argv)
+    sys.exit(told(main))

@@ -15,6 +15,9 @@ import time
 
 from measure import Job, Wrong
 
+sys.path.append(os.path.join(os.path.dirname(os.path.dirname(os.path.abspath(__file__))), 'tests'))
+from waits import told  # noqa: E402
+
 WORKERS = [1, 2, 4]
 
 
@@ -53,4 +56,4 @@ def main(words):
 
 
 if __name__ == '__main__':
-    main(sys.argv)
+    sys.exit(told(main))

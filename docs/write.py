@@ -7,11 +7,12 @@ import pathlib
 import sys
 
 HERE = pathlib.Path(__file__).resolve().parent
-sys.path.insert(0, str(HERE / 'written'))
+sys.path[1:1] = [str(HERE / 'written'), str(HERE.parent / 'tests')]
 
 from claims import Claims  # noqa: E402
 from sources import Sources  # noqa: E402
 from statement import Statement  # noqa: E402
+from waits import told  # noqa: E402
 
 
 def main(words):
@@ -43,4 +44,4 @@ def first_difference(page, text):
 
 
 if __name__ == '__main__':
-    sys.exit(main(sys.argv[1:]))
+    sys.exit(told(lambda words: main(words[1:])))

@@ -41,8 +41,8 @@ class Gate:
         self.multiplies = tokens[-1] in PRODUCTS
 
 
-def accept(data, program):
-    """Refuses the circuit where the program does. A job of one party has no messages, so nothing else of it can be too large."""
+def accept(data, program, path):
+    """Refuses the circuit of this file where the program does. A job of one party has no messages, so nothing else of it can be too large."""
     of_words = any(line.split()[-1:] and line.split()[-1] in OF_WORDS for line in data.decode('utf-8', 'replace').split('\n'))
     with tempfile.TemporaryDirectory() as folder:
         write_new(folder, 'circuit.txt', data)
@@ -55,6 +55,7 @@ def accept(data, program):
         write_new(folder, 'job.toml', job_text(fields).encode())
         done = subprocess.run([program, 'check', folder], stdin=subprocess.DEVNULL, stdout=subprocess.DEVNULL, stderr=subprocess.PIPE, text=True)
     line = done.stderr.strip().split('\n')[-1] or f'{program} ended with status {done.returncode}'
+    line = line.replace('file=circuit.txt session=0', f'file={path}')
     need(done.returncode == 0, line + (': examples/cut.py cuts it into sessions' if ' TooLarge ' in line else ''))
 
 
@@ -117,7 +118,7 @@ def main(words):
         return 2
     path = pathlib.Path(words[0])
     data = read_bytes(os.fspath(path.parent), path.name)
-    accept(data, words[2] if len(words) == 3 else str(TOP / 'mpc'))
+    accept(data, words[2] if len(words) == 3 else str(TOP / 'mpc'), path)
     head, gates = read_circuit(data)
     by_layers = in_layers(gates)
     if len(words) > 1:

@@ -271,13 +271,15 @@ def stop(text):
 
 
 def run_script(main):
-    """Ends with the status of main(words), or with one line where it can't go on."""
+    """Ends with the status of main(words), or with one line where it can't go on. Where a pipe's reader has left, there is no line."""
     try:
         need(sys.stdout is not None, 'there is no standard output')
         status = main(sys.argv[1:])
         sys.stdout.flush()
     except Refusal as refusal:
         status = stop(refusal)
+    except BrokenPipeError:
+        status = 1
     except OSError as error:
         status = stop(f'{error.filename}: {error.strerror}' if error.filename else error)
     except MemoryError:

@@ -19,6 +19,9 @@ import subprocess
 import sys
 import tempfile
 
+sys.path.append(os.path.join(os.path.dirname(os.path.dirname(os.path.abspath(__file__))), 'tests'))
+from waits import told  # noqa: E402
+
 EXAMPLES = os.path.join(os.path.dirname(os.path.abspath(__file__)), '..', 'examples')
 MOST_SECONDS = 2
 MOST_WAIT = 10
@@ -228,4 +231,4 @@ def main(words):
 
 
 if __name__ == '__main__':
-    main(sys.argv)
+    sys.exit(told(main))

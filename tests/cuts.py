@@ -36,6 +36,7 @@ from cut_places import best_cuts  # noqa: E402
 from in_the_clear import OPERATE, fields, out_in_the_clear  # noqa: E402
 from mutate import CHANGES  # noqa: E402
 from random_expressions import random_groups  # noqa: E402
+from waits import told  # noqa: E402
 from scripts import BY_LAYERS, CIRCUITS, MOST_SECONDS, NODES, NUMBERS, call, expect, expect_one_line, run_cases, write_folder, wrote  # noqa: E402
 
 CUT, SHA, SHA_CIRCUIT = EXAMPLES / 'cut.py', EXAMPLES / 'sha256/job.py', EXAMPLES / 'sha256/sha256_circuit.py'
@@ -478,4 +479,4 @@ def main(words):
 
 
 if __name__ == '__main__':
-    sys.exit(main(sys.argv))
+    sys.exit(told(main))

@@ -25,7 +25,7 @@ from prepared_runs import PREPARED_RUNS
 from product import Edit, Whole, product_with
 from random_expressions import random_job, with_circuits
 from tolerated_runs import TOLERATED
-from waits import MOST_SECONDS
+from waits import MOST_SECONDS, told
 from wide_ring_runs import WIDE_RINGS
 
 EXAMPLES = pathlib.Path(__file__).resolve().parent.parent / 'examples'
@@ -227,4 +227,4 @@ def main(words):
 
 
 if __name__ == '__main__':
-    sys.exit(main(sys.argv))
+    sys.exit(told(main))

@@ -17,7 +17,7 @@ from audits import AUDIT, OF_C
 from pairs import NINE_OF_B
 from product import CHECK, Edit, RUN, SEED, TAPE_A, TAPE_B, TAPE_C, Whole, Without, product_with
 from made_rows import products
-from waits import MOST_SECONDS
+from waits import MOST_SECONDS, told
 
 
 class Wrong(Exception):
@@ -200,4 +200,4 @@ def main(words):
 
 
 if __name__ == '__main__':
-    sys.exit(main(sys.argv))
+    sys.exit(told(main))

@@ -27,7 +27,7 @@ sys.path[1:1] = [str(TOP / 'examples'), str(TOP / 'fuzz')]
 from in_the_clear import fields, out_in_the_clear  # noqa: E402
 from job_folder import job_text  # noqa: E402
 from mutate import CHANGES  # noqa: E402
-from waits import MOST_SECONDS  # noqa: E402
+from waits import MOST_SECONDS, told  # noqa: E402
 
 MOST_OPEN = 32
 WORDS = ('input', 'let', 'output')
@@ -310,4 +310,4 @@ def main(words):
 
 
 if __name__ == '__main__':
-    sys.exit(main(sys.argv))
+    sys.exit(told(main))

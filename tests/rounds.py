@@ -22,6 +22,7 @@ sys.path[1:1] = [str(TOP / 'bench'), str(TOP / 'examples'), str(TOP / 'examples/
 import nodes  # noqa: E402
 from by_layers import read_circuit  # noqa: E402
 from peers import Peers  # noqa: E402
+from waits import told  # noqa: E402
 
 MOST_SECONDS = 60
 HELLO, FRAME = 38, 18
@@ -206,6 +207,8 @@ def main(words):
     if len(words) != 2:
         sys.exit('usage: rounds.py PROGRAM')
     program = os.path.abspath(words[1])
+    if not os.access(program, os.X_OK):
+        sys.exit(f'rounds: there is no program {words[1]}')
     try:
         with tempfile.TemporaryDirectory() as top:
             job = write_job(os.path.join(top, 'job'))
@@ -223,4 +226,4 @@ def main(words):
 
 
 if __name__ == '__main__':
-    sys.exit(main(sys.argv))
+    sys.exit(told(main))

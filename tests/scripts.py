@@ -33,7 +33,7 @@ from mutate import CHANGES  # noqa: E402
 from odd_folders import ODD_FOLDERS  # noqa: E402
 from product import product_with  # noqa: E402
 from random_expressions import SCRIPT, with_circuits  # noqa: E402
-from waits import MOST_SECONDS  # noqa: E402
+from waits import MOST_SECONDS, told  # noqa: E402
 # (it puts the scripts of examples/ before those of this folder)
 import nodes  # noqa: E402
 import summands  # noqa: E402
@@ -206,7 +206,9 @@ def circuits_come_into_layers(program, top):
     for number, text in enumerate(['', '1 3\n1 2\n1 1\n2 1 0 3 2 AND\n', '1 3\n1 2\n1 1\n2 1 0 1 2 NAND\n', '2 3\n1 2\n1 1\n2 1 0 1 2 AND\n', 'x\n']):
         old = os.path.join(top, f'refused_{number}.txt')
         pathlib.Path(old).write_text(text, encoding='utf-8')
-        expect_one_line(call(BY_LAYERS, old, f'{old}.new', program), f'by_layers.py {text!r}', 'by_layers.py: ')
+        done = call(BY_LAYERS, old, f'{old}.new', program)
+        expect_one_line(done, f'by_layers.py {text!r}', 'by_layers.py: refused circuit ')
+        expect(f' file={old} ' in done.stderr.decode(), f'{done}')
         expect(not os.path.exists(f'{old}.new'), f'by_layers.py {text!r} wrote a file')
     expect_one_line(call(BY_LAYERS, os.path.join(top, 'none.txt')), 'by_layers.py of no file', 'by_layers.py: ')
 
@@ -389,7 +391,21 @@ def outputs_that_fail(program, top):
     expect_one_line(done, 'numbers.py to a full device', 'numbers.py: ')
     for words in ['{} -B {} less 5000 | head -c 10', '{} -B {} less 5 >&-', '{} -B {} less 5 <&-']:
         done = subprocess.run(words.format(sys.executable, CIRCUITS), shell=True, capture_output=True, timeout=MOST_SECONDS)
-        expect(done.stderr.count(b'\n') <= 1 and b'Traceback' not in done.stderr, f'{words}: {done.stderr[-200:]!r}')
+        expect(done.stderr.count(b'\n') <= ('|' not in words) and b'Traceback' not in done.stderr, f'{words}: {done.stderr[-200:]!r}')
+
+
+# Some scripts of bench/, fuzz/ and tests/ that are given a program.
+OF_A_PROGRAM = ['bench/workers.py', 'bench/network.py', 'fuzz/mutate.py', 'tests/outputs.py']
+
+
+def programs_that_are_not_there(program, top):
+    """No script has a traceback for one, nor for a reader of its output that has left."""
+    for script in OF_A_PROGRAM:
+        done = call(TOP / script, os.path.join(top, 'none'), *(['1'] if script == 'fuzz/mutate.py' else []))
+        expect(done.returncode == 1 and done.stderr.endswith(b'/none: No such file or directory\n') and done.stderr.count(b'\n') == 1, f'{script}: {done}')
+    code = f"import sys; sys.path.append('{TOP}/tests'); import waits; sys.exit(waits.told(lambda words: print('x' * 2**20)))"
+    done = subprocess.run(f'{sys.executable} -B -c "{code}" | head -c 1', shell=True, capture_output=True, timeout=MOST_SECONDS)
+    expect(done.stdout == b'x' and not done.stderr, f'{done}')
 
 
 # Folders.
@@ -784,7 +800,7 @@ def helps_are_there(program, top):
 
 CASES = [circuits_are_their_numbers, layers_are_together, circuits_come_into_layers, s_boxes_are_the_standards, aes_is_the_standards,
          circuits_have_limits, numbers_come_back, numbers_are_signed_and_divided, numbers_that_do_not_fit, other_lines_are_refused,
-         views_are_passed_over, outputs_that_fail, odd_folders, links_and_folders,
+         views_are_passed_over, outputs_that_fail, programs_that_are_not_there, odd_folders, links_and_folders,
          changed_jobs_are_read_or_refused, expressions_are_words, refusals_are_those_of_the_rows,
          circuits_come_to_the_rows, examples_have_their_circuits, expressions_are_refused_in_one_line, an_auction_of_two, jobs_of_calls,
          jobs_with_helpers, numbers_are_divided_by_values, doubts_are_told, formulas_are_those_of_the_rows, ports_of_the_job_are_taken,
@@ -823,4 +839,4 @@ def main(words):
 
 
 if __name__ == '__main__':
-    sys.exit(main(sys.argv))
+    sys.exit(told(main))

@@ -18,11 +18,22 @@ def ended(process, seconds=MOST_SECONDS):
     return process.returncode, out, err
 
 
+def tell(text):
+    print(f'{os.path.basename(sys.argv[0])}: {text}', file=sys.stderr)
+
+
 def told(main):
-    """The status of a script, whose words are those of the call. It is 1 where a program that it called hadn't ended in time, and a line says which."""
+    """The status of a script, whose words are those of the call. Where a program that it called hadn't ended in time, or isn't there, it is 1, and a line
+    says which; where nobody reads its output any more, it is 1 too, and nothing more is said."""
     try:
-        return main(sys.argv)
+        status = main(sys.argv)
+        sys.stdout.flush()
+        return status
     except subprocess.TimeoutExpired as late:
         words = late.cmd if isinstance(late.cmd, str) else ' '.join(map(str, late.cmd))
-        print(f'{os.path.basename(sys.argv[0])}: {words[:200]} had not ended after {late.timeout:.0f} seconds')
-        return 1
+        tell(f'{words[:200]} had not ended after {late.timeout:.0f} seconds')
+    except BrokenPipeError:
+        os.dup2(os.open(os.devnull, os.O_WRONLY), sys.stdout.fileno())
+    except OSError as error:
+        tell(f'{error.filename}: {error.strerror}' if error.filename else error)
+    return 1
