@@ -81,32 +81,51 @@ def in_layers(gates):
     return [gate for _, gate in sorted(zip(layers(gates)[0], gates), key=lambda pair: (pair[0], pair[1].multiplies))]
 
 
+# That others wait for the wire of a slot, which is set only when what they say was taken: it is of a prepared product.
+JOINS = 2
+
+
 def talking_batches(slots):
     """How many batches of slots say something. Of a slot there are the wires that it reads, the one that it sets, whether others wait for
-    that one, and whether it says something itself. It begins a batch where it reads a wire for which one waits in the batch before it."""
-    count, says, pending = 0, False, set()
+    that one, and whether it says something itself. It begins a batch where it reads a wire for which one waits in the batch before it, or sets one beside
+    a slot that joins."""
+    count, says, pending, joins = 0, False, set(), False
     for reads, sets, waits, speaks in slots:
-        if not pending.isdisjoint(reads):
+        if not pending.isdisjoint(reads) or joins and waits != JOINS and sets != NOTHING:
             count += says
-            says, pending = False, set()
+            says, pending, joins = False, set(), False
         if waits:
             pending.add(sets)
+            joins |= waits == JOINS
         says |= speaks
     return count + says
 
 
-def rounds(head, gates, given=None, read=None):
+def prepared_slots(number, gate):
+    """The slots of a product that is prepared: its masks and their product, before all others, and then its openings and itself."""
+    first, second, product = ((number, which) for which in range(3))
+    masks = [([], first, True, True), ([], second, True, True), ([first, second], product, True, True)]
+    return masks, [*(([wire, mask], NOTHING, False, True) for wire, mask in zip(gate.reads, (first, second))), ([], gate.sets, JOINS, False)]
+
+
+def rounds(head, gates, given=None, read=None, prepared=False):
     """How many batches of slots say something: those with an input, a product or an output; but, where it is told which input values are
-    given and which output values are read, with none that is carried on instead."""
-    slots, wires = [], iter(range(int(head[0][1])))
+    given and which output values are read, with none that is carried on instead. Products may be prepared."""
+    before, slots, wires = [], [], iter(range(int(head[0][1])))
     for value, width in enumerate(map(int, head[1][1:])):
         slots += [([], wire, True, given is None or given[value]) for wire in itertools.islice(wires, width)]
-    slots += [(gate.reads, gate.sets, gate.multiplies, gate.multiplies) for gate in gates]
+    for number, gate in enumerate(gates):
+        if prepared and gate.multiplies:
+            masks, its_slots = prepared_slots(number, gate)
+            before += masks
+            slots += its_slots
+        else:
+            slots.append((gate.reads, gate.sets, gate.multiplies, gate.multiplies))
     widths = list(map(int, head[2][1:]))
     wires = iter(range(int(head[0][1]) - sum(widths), int(head[0][1])))
     for value, width in enumerate(widths):
         slots += [([wire], NOTHING, False, read is None or bool(read[value])) for wire in itertools.islice(wires, width)]
-    return talking_batches(slots)
+    return talking_batches(before + slots)
 
 
 def main(words):

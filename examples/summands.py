@@ -124,6 +124,33 @@ class Sharing:
         """How many summands a party holds."""
         return sum(not mask >> self.numbers[party] & 1 for mask in self.groups)
 
+    def lacked(self, group, party):
+        """Whether a party lacks the summand of a group."""
+        return bool(self.groups[group] >> self.numbers[party] & 1)
+
+    def deal(self, dealer):
+        """Who gets messages of a party that deals a value: for each summand those who hold it, but for the dealer."""
+        return [(dealer, name) for group in range(len(self.groups)) for name in self.parties if name != dealer and not self.lacked(group, name)]
+
+    def least_holder(self, group):
+        return next(name for name in self.parties if not self.lacked(group, name))
+
+    def opening(self, readers):
+        """Who sends what to whom where a wire is opened to these: the summands that each of them lacks, from their least holders."""
+        return [(self.least_holder(group), name) for name in self.parties if name in readers for group in range(len(self.groups)) if self.lacked(group, name)]
+
+    def mask(self):
+        """Who sends what to whom of a random wire: each summand is drawn by its least holder, and goes to the others who hold it."""
+        return [(self.least_holder(group), name) for group in range(len(self.groups)) for name in self.parties
+                if name != self.least_holder(group) and not self.lacked(group, name)]
+
+    def product(self):
+        return [pair for dealer in self.dealers for pair in self.deal(dealer)]
+
+    def prepared(self):
+        """Of a product that is prepared: what is sent before the inputs, of two masks and their product; and then of its two openings."""
+        return 2 * self.mask() + self.product(), 2 * self.opening(self.parties)
+
     def of_input(self, owner):
         """The messages of a wire that a party gives: each summand goes to those who hold it, but for the owner."""
         return self.all_held - self.held(owner)

@@ -6,6 +6,7 @@ end with one line on standard error. nodes.py has to find free ports, and to sto
 tells why, where a script ends otherwise. It needs Linux.
 """
 
+import collections
 import concurrent.futures
 import contextlib
 import hashlib
@@ -19,10 +20,11 @@ import subprocess
 import sys
 import tempfile
 import time
+import xml.etree.ElementTree
 
 TOP = pathlib.Path(__file__).resolve().parent.parent
 EXAMPLES = TOP / 'examples'
-sys.path[1:1] = [str(EXAMPLES), str(EXAMPLES / 'aes'), str(EXAMPLES / 'network'), str(TOP / 'fuzz')]
+sys.path[1:1] = [str(EXAMPLES), str(EXAMPLES / 'aes'), str(EXAMPLES / 'network'), str(TOP / 'fuzz'), str(TOP / 'docs')]
 
 import job_folder  # noqa: E402
 from aes_circuit import boxes  # noqa: E402
@@ -36,11 +38,13 @@ from random_expressions import SCRIPT, with_circuits  # noqa: E402
 from waits import MOST_SECONDS, told  # noqa: E402
 # (it puts the scripts of examples/ before those of this folder)
 import nodes  # noqa: E402
+import job_counts  # noqa: E402
+import pictures  # noqa: E402
 import summands  # noqa: E402
 
 NUMBERS, CIRCUITS, EXPRESSIONS_SCRIPT = (EXAMPLES / name for name in ('numbers.py', 'circuits.py', 'expressions.py'))
 AUCTION, SPREAD, NODES = EXAMPLES / 'auction/job.py', EXAMPLES / 'statistics/spread.py', EXAMPLES / 'network/nodes.py'
-BY_LAYERS = EXAMPLES / 'by_layers.py'
+BY_LAYERS, PICTURE, UNPROVED = EXAMPLES / 'by_layers.py', EXAMPLES / 'picture.py', EXAMPLES / 'unproved.py'
 AES, AES_CIRCUIT = EXAMPLES / 'aes/job.py', EXAMPLES / 'aes/aes_circuit.py'
 INPUTS = 2_000
 MUTATED = 1_000
@@ -463,6 +467,7 @@ def changed_jobs_are_read_or_refused(program, top):
             job = job_folder.read_job(folder)
             job_folder.job_text(job_folder.read_fields(folder))
             list(job_folder.read_outputs(job, ['out 0 0 c 35\n']))
+            job_counts.counts_of(folder)
 
 
 # Texts of expressions in which blanks and words are other ones than they look, and how many inputs and outputs they have.
@@ -655,6 +660,80 @@ def formulas_are_those_of_the_rows(program, top):
             expect(covering and {*covering.groups()} <= set(map(summands.told, found)), f'{text}: {found} {done.stderr}')
 
 
+# Pictures.
+
+def pictures_count_what_runs_send(program, top):
+    """Of each example the messages between each two parties in each session, those that stay with their party, and what 'mpc check' counts."""
+    for job in sorted(EXAMPLES.rglob('job.toml')):
+        counts = job_counts.counts_of(job.parent)
+        done = subprocess.run([program, 'run', job.parent, '--view', '+'.join(counts.sharing.parties)], capture_output=True, text=True, timeout=MOST_SECONDS)
+        sent = collections.Counter((int(match[1]), match[2], match[3]) for match in re.finditer('(?m)^([0-9]+) [0-9]+ [0-9]+ ([^ ]+) ([^ ]+) [0-9]+$', done.stdout))
+        found = {(number, *pair): times for number, session in enumerate(counts.sessions) for pair, times in session.messages.items() if times}
+        expect({key: times for key, times in sent.items() if key[1] != key[2]} == found, f'{job.parent}: other messages than are drawn')
+        kept = [sum(times for (place, one, other), times in sent.items() if place == number and one == other) for number in range(len(counts.sessions))]
+        expect(kept == [session.kept for session in counts.sessions], f'{job.parent}: {kept} messages stay')
+        checked = subprocess.run([program, 'check', job.parent], capture_output=True, text=True, timeout=MOST_SECONDS).stdout
+        told = [tuple(map(int, numbers)) for numbers in re.findall('(?m)^session [0-9]+ gates ([0-9]+) products ([0-9]+) messages ([0-9]+)$', checked)]
+        expect(told == [(session.gates, session.products, sum(session.messages.values()) + session.kept) for session in counts.sessions], f'{job.parent}: {told}')
+
+
+def the_product_is_the_examples(program, top):
+    """The picture of one product has the messages of a run."""
+    product = pictures.Product()
+    done = subprocess.run([program, 'run', EXAMPLES / 'multiply', '--view', 'a+b+c'], capture_output=True, text=True, timeout=MOST_SECONDS)
+    messages = [f'0 {message.slot} {message.share} {message.sender} {message.receiver} {message.word}' for message in product.messages]
+    wanted = [line for line in done.stdout.splitlines() if line[0].isdigit()]
+    expect(sorted(messages) == sorted(wanted), f'{messages}')
+    expect(done.stdout.startswith(f'out 0 0 c {sum(product.z) % product.modulus}\n'), f'{product.z}')
+
+
+def jobs_are_drawn(program, top):
+    """Also one of a single party, and one of twelve with the longest names; and what isn't a job is refused."""
+    names = [f'a{number:015}' for number in range(12)]
+    for parties, tolerated in [(names, [[name] for name in names]), (['a'], []), (['a', 'b'], [[]])]:
+        sessions = [{'circuit': 'f.txt', 'layout': 'expr', 'owners': ['@0.0' if number else parties[0], parties[-1]], 'readers': [parties]} for number in range(16)]
+        fields = {'version': 2, 'ring_bits': 8, 'parties': parties, 'tolerated': tolerated, 'session': sessions}
+        folder = write_folder(top, {'f.txt': b'input x\ninput y\noutput x * y\n', 'job.toml': job_folder.job_text(fields).encode()})
+        xml.etree.ElementTree.fromstring(wrote(PICTURE, folder))
+    for name in ['f.txt', 'job.toml']:
+        pathlib.Path(folder, name).write_text('output\n')
+        expect_one_line(call(PICTURE, folder), f'picture.py with another {name}', 'picture.py: ')
+
+
+# A run without proofs.
+
+FAKE_RT = r'''#!/bin/sh
+printf '%s\n' "$@" > "$FAKE/words"
+case $(cat "$FAKE/way") in
+    well) echo 'out 0 0 c 35'; printf 'checked: ended status=0\nrun=ended status=0 runners=1 races=unchecked proved=no\n' >&2 ;;
+    refused) printf 'refused q2 1 Covering first=a second=b\nrun=ended status=4 runners=1 races=unchecked proved=no\n' >&2; exit 4 ;;
+    *) echo 'rt: the crate is refused' >&2; exit 1 ;;
+esac
+'''
+
+
+def an_unproved_run(program, top):
+    """It gives the job's files to 'rt try', and says that nothing was proved. (What rt does is tried by hand: it takes minutes.)"""
+    fake, way = pathlib.Path(top, 'rt'), pathlib.Path(top, 'way')
+    fake.write_text(FAKE_RT)
+    fake.chmod(0o755)
+    folder = write_folder(top, {**product_with([]), 'notes.txt': b''})
+
+    def run(*words):
+        return subprocess.run([sys.executable, '-B', UNPROVED, folder, *words], capture_output=True, text=True, timeout=MOST_SECONDS,
+                              env={**os.environ, 'PATH': f'{top}:{os.environ["PATH"]}', 'FAKE': top})
+    begin = 'unproved.py: compiling the program without its proofs, in some three minutes\n'
+    end = 'unproved.py: NOTHING WAS PROVED of this run: ./mpc proves the program, and then builds it\n'
+    for what, words, wanted in [('well', ['--view', 'a'], (0, 'out 0 0 c 35\n', begin + end)), ('refused', [], (4, '', f'{begin}refused q2 1 Covering first=a second=b\n{end}')),
+                                ('fails', [], (1, '', f'{begin}unproved.py: rt try ended with status 1: rt: the crate is refused\n'))]:
+        way.write_text(what)
+        done = run(*words)
+        expect((done.returncode, done.stdout, done.stderr) == wanted, f'{what}: {done}')
+        data = re.findall('(?m)^--data\n(.*)=', pathlib.Path(top, 'words').read_text())
+        expect(data == ['job.toml', 'mul.txt', 'party_a.toml', 'party_b.toml', 'party_c.toml'], f'{data}')
+        expect(pathlib.Path(top, 'words').read_text().endswith('\n'.join(['', '--', 'run', '.', *words, ''])), f'{words}')
+
+
 # Nodes.
 
 def ports_of_the_job_are_taken(program, top):
@@ -785,12 +864,12 @@ OTHER_WORDS = [(NUMBERS, words) for words in ([], ['write'], ['write', 'j'], ['r
                                               ['read', 'j', '--divide', '4', '--divide-by', '1'], ['make', 'j'], ['read', 'j', 'k'])] + [
     (CIRCUITS, []), (CIRCUITS, ['job']), (CIRCUITS, ['job', 'f']), (CIRCUITS, ['job', 'f', 'total', '8', 'a', '--helper']),
     (CIRCUITS, ['job', 'f', 'total', '8', 'a', '--tolerated', 'a', '--tolerated', 'b']), (EXPRESSIONS_SCRIPT, []), (EXPRESSIONS_SCRIPT, ['compile', 'f']), (AUCTION, []), (AUCTION, ['read']), (AUCTION, ['make']),
-    (BY_LAYERS, []), (BY_LAYERS, ['a', 'b', 'c', 'd']), (AES, []), (AES, ['make', 'f', '0' * 32]), (AES, ['read']), (AES_CIRCUIT, ['f']),
+    (BY_LAYERS, []), (BY_LAYERS, ['a', 'b', 'c', 'd']), (PICTURE, []), (UNPROVED, []), (UNPROVED, ['j', '--views', 'a']), (AES, []), (AES, ['make', 'f', '0' * 32]), (AES, ['read']), (AES_CIRCUIT, ['f']),
     (NODES, []), (NODES, ['run']), (NODES, ['compare']), (NODES, ['wait', 'j']), (NODES, ['split', 'j']), (NODES, ['split', 'j', 'f', '--hosts', 'h'])]
 
 
 def helps_are_there(program, top):
-    for script in (NUMBERS, CIRCUITS, BY_LAYERS, EXPRESSIONS_SCRIPT, AUCTION, SPREAD, AES, AES_CIRCUIT, NODES):
+    for script in (NUMBERS, CIRCUITS, BY_LAYERS, PICTURE, UNPROVED, EXPRESSIONS_SCRIPT, AUCTION, SPREAD, AES, AES_CIRCUIT, NODES):
         expect(script.name in wrote(script, '--help'), f'no help of {script.name}')
         expect(os.access(script, os.X_OK), f'{script} is no program')
     for script, words in OTHER_WORDS:
@@ -803,7 +882,8 @@ CASES = [circuits_are_their_numbers, layers_are_together, circuits_come_into_lay
          views_are_passed_over, outputs_that_fail, programs_that_are_not_there, odd_folders, links_and_folders,
          changed_jobs_are_read_or_refused, expressions_are_words, refusals_are_those_of_the_rows,
          circuits_come_to_the_rows, examples_have_their_circuits, expressions_are_refused_in_one_line, an_auction_of_two, jobs_of_calls,
-         jobs_with_helpers, numbers_are_divided_by_values, doubts_are_told, formulas_are_those_of_the_rows, ports_of_the_job_are_taken,
+         jobs_with_helpers, numbers_are_divided_by_values, doubts_are_told, formulas_are_those_of_the_rows, pictures_count_what_runs_send,
+         the_product_is_the_examples, jobs_are_drawn, an_unproved_run, ports_of_the_job_are_taken,
          nodes_beside_one_another, a_node_that_fails_stops_the_others, a_node_that_waits_is_told, nodes_are_split,
          another_job_is_told, those_who_wait_meet, helps_are_there]
 

@@ -1,0 +1,87 @@
+"""What a job costs, session by session: gates, products and their depth, the messages between each two parties, and rounds of nodes."""
+
+import collections
+import os
+
+from by_layers import layers, read_circuit, rounds
+from circuit_reader import read_circuit as checked_circuit
+from expression_reader import compiled
+from job_folder import CARRIED, Refusal, need, read_bytes, read_fields
+from job_folder import read_job as read_whole_job
+from summands import Sharing, tolerated_of
+
+# Of a session: the name of its file, its layout, whether its products are prepared, how many values each party gives, who reads how many, from which sessions
+# how many wires are carried, its gates, its products, how many of these stand on the longest path, and its rounds; the messages by sender and receiver,
+# and those that stay with their party, of wires that later sessions carry.
+SessionCounts = collections.namedtuple('SessionCounts', 'file layout prepared gives reads carries gates products depth rounds messages kept')
+
+# A job: its sharing, and its sessions.
+JobCounts = collections.namedtuple('JobCounts', 'sharing sessions')
+
+
+def gates_of(folder, fields, session):
+    """The head and the gates of a session's circuit."""
+    data, bits = read_bytes(folder, session['circuit']), fields['ring_bits']
+    try:
+        data = compiled(data, bits).encode() if session['layout'] == 'expr' else data
+        checked_circuit(data, bits, session['layout'] == 'bristol')
+    except Refusal as fault:
+        raise Refusal(f'{os.path.join(folder, session["circuit"])}: {fault}') from None
+    return read_circuit(data)
+
+
+def carried_values(fields, number):
+    """The values of a session that later ones carry, as often as they do."""
+    for session in fields['session'][number + 1:]:
+        for owner in session['owners']:
+            if (found := CARRIED.fullmatch(owner)) and int(found[1]) == number:
+                yield int(found[2])
+
+
+def messages_of(sharing, session, job, products, prepared):
+    """The messages of a session between each two parties."""
+    found = collections.Counter()
+
+    def add(pairs, times):
+        for pair in pairs:
+            found[pair] += times
+
+    for owner, width in zip(session.owners, session.inputs):
+        if owner in job.parties:
+            add(sharing.deal(owner), width)
+    add(sum(sharing.prepared(), []) if prepared else sharing.product(), products)
+    for readers, width in zip(session.readers, session.outputs):
+        add(sharing.opening(readers), width)
+    return found
+
+
+def session_counts(folder, fields, job, sharing, number):
+    """The counts of a session."""
+    written, session = fields['session'][number], job.sessions[number]
+    head, gates = gates_of(folder, fields, written)
+    prepared = written.get('products') == 'prepared'
+    gives, reads, carries = collections.Counter(), collections.Counter(), collections.Counter()
+    for owner, width in zip(session.owners, session.inputs):
+        found = CARRIED.fullmatch(owner)
+        if found:
+            carries[int(found[1])] += width
+        else:
+            gives[owner] += 1
+    for readers in session.readers:
+        reads.update(readers)
+    products = sum(gate.multiplies for gate in gates)
+    kept = sum(session.outputs[value] for value in carried_values(fields, number)) * sharing.of_carried()
+    speaks = len(job.parties) > 1
+    count = rounds(head, gates, [speaks and owner in job.parties for owner in session.owners], [any(sharing.opening(readers)) for readers in session.readers],
+                   prepared) if speaks else 0
+    return SessionCounts(written['circuit'], written['layout'], prepared, gives, reads, carries, len(gates), products, layers(gates)[1], count,
+                         messages_of(sharing, session, job, products, prepared), kept)
+
+
+def counts_of(folder):
+    """The counts of a job's folder."""
+    fields, job = read_fields(folder), read_whole_job(folder)
+    sharing = Sharing(fields['parties'], tolerated_of(fields))
+    need(all(session.get('products', 'direct') in ('direct', 'prepared') for session in fields['session']),
+         f'{os.path.join(folder, "job.toml")}: products is neither direct nor prepared')
+    return JobCounts(sharing, [session_counts(folder, fields, job, sharing, number) for number in range(len(job.sessions))])
