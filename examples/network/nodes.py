@@ -101,7 +101,7 @@ def write_folder(folder, files):
 
 
 def split(folder, target, hosts=None, port=None, replace=False):
-    """Writes a folder for each party, or none."""
+    """Writes a folder for each party, or none, and gives the parties' names."""
     parts = parts_of(folder, hosts, port, replace)
     folders = {name: os.path.join(target, name) for name in parts}
     there = next((path for path in folders.values() if os.path.lexists(path)), None)
@@ -115,6 +115,7 @@ def split(folder, target, hosts=None, port=None, replace=False):
         for path in made:
             shutil.rmtree(path, ignore_errors=True)
         raise
+    return list(parts)
 
 
 def is_free(port):
@@ -210,10 +211,9 @@ def run(folder, program, options):
         if checked.returncode != 0:
             return 1
         doubt(folder)
-        parties, target = read_fields(folder)['parties'], os.path.join(top, 'nodes')
-        split(folder, target, [HERE] * len(parties), free_port(len(parties)), replace=True)
+        count, target = len(read_fields(folder)['parties']), os.path.join(top, 'nodes')
         nodes = []
-        for name in parties:
+        for name in split(folder, target, [HERE] * count, free_port(count), replace=True):
             nodes.append(Node(program, target, name, options))
             stack.callback(nodes[-1].stop)
         wait_for(nodes)
