@@ -120,6 +120,7 @@ def refused(words, text, fault):
 JOB_FILES = [
     *(refused(CHECK, text, fault) for table in [VERSIONS, UNKNOWN_FIELDS, TOP_FIELDS, BITS_AND_NAMES, SESSION_FIELDS, SESSION_VALUES, PRODUCTS,
                                                 CARRIES, HOSTS_AND_PORTS, FIELDS_OF_VERSIONS, TOLERATED_GROUPS] for text, fault in table),
-    # A node wants hosts.
-    refused(['node', 'd', 'a'], TOP + SESSION, 'job 3 Missing field=hosts'),
+    # A node wants hosts and a port.
+    *(refused(['node', 'd', 'a'], TOP + places + SESSION, f'job 3 Missing field={field}')
+      for places, field in [('', 'hosts'), ('port = 4000\n', 'hosts'), ('hosts = ["x", "y", "z"]\n', 'port')]),
 ]

@@ -66,6 +66,7 @@ REFUSED = [
 
 OTHER_WORDS = [
     *(Row(' '.join(words), words, status=2, err=USAGE) for words in REFUSED),
+    Row('a_word_that_is_no_text', ['run', 'd', b'\xff'], status=2, err=USAGE),
     Row('a_folder_within_another', ['run', 'jobs/first'], out='out 0 0 c 35\n', folder='jobs/first'),
     Row('a_folder_with_a_blank', ['check', 'a b'], out=COUNTS_OF_A_PRODUCT, folder='a b'),
     *(Row(f'{count}_workers', ['run', 'd', '--workers', count], out='out 0 0 c 35\n') for count in ['1', '16', '05', 30 * '0' + '2']),

@@ -14,6 +14,7 @@ import sys
 import tempfile
 
 from audits import AUDIT, OF_C
+from other_words import PLACES
 from pairs import NINE_OF_B
 from product import CHECK, Edit, RUN, SEED, TAPE_A, TAPE_B, TAPE_C, Whole, Without, product_with
 from made_rows import products
@@ -71,15 +72,15 @@ class Calls:
             return status, err.read()
 
 
-# Other inputs, and the view of c.
-BESIDE = [*NINE_OF_B, Whole('view.txt', OF_C)]
+# Hosts and a port, other inputs, and the view of c.
+BESIDE = [*PLACES, *NINE_OF_B, Whole('view.txt', OF_C)]
 
 # Commands, and the files that each reads, in order.
 FILES_READ = [
     (RUN, ['job.toml', 'mul.txt', 'party_a.toml', 'party_b.toml', 'party_c.toml']),
     (CHECK, ['job.toml', 'mul.txt']),
     (['pair', 'd', '--group', 'a'], ['job.toml', 'mul.txt', 'party_a.toml', 'party_b.toml', 'party_c.toml', 'other.toml']),
-    (['node', 'd', 'c'], ['job.toml']),
+    (['node', 'd', 'c'], ['job.toml', 'mul.txt', 'party_c.toml']),
     (AUDIT, ['job.toml', 'mul.txt', 'party_a.toml', 'party_b.toml', 'party_c.toml', 'view.txt']),
     (['sample', '5'], []),
 ]

@@ -1,182 +1,188 @@
-//! What the node c tells of a fault, in full, and of several faults at once.
+//! The node c over links of which one call fails, or whose readers are not started.
 
-use crate::expect::{Expected, expect};
-use crate::outside::{Outside, WHOLE, node, whole_link};
-use crate::peers::{FAULTY_A, said};
-use crate::talks::{A_TO_C, B_TO_C, C_TO_A, C_TO_B, first_bytes, with_byte};
-use std::alloc::{AllocError, Global};
+use crate::calls::{Call, expect_answer};
+use crate::files::PRODUCT;
+use crate::links::{ALL, Link, NEVER, WHOLE};
+use outer_io::NoPace;
+use std::alloc::Global;
 use std::process::Abort;
 use std::sync::Wait;
 use std::test::Fail;
 use std::thread::Threads;
 
-/// That c stops with this line where a says another byte at this place, and has said its hellos, or all.
-fn expect_other_byte<R: Abort + Threads + Wait + Sync>(
+/// The lengths of pieces in which bytes come: single bytes, others, frames, and all at once.
+const PIECES: [usize; 4] = [1, 7, 18, ALL];
+
+/// The lines on links of a and b that fail.
+const LINKS: [&str; 2] = ["fault link peer=a\n", "fault link peer=b\n"];
+
+/// The words of the nodes of c and of a.
+const OF_C: &[&str] = &["mpc", "node", "d", "c"];
+
+const OF_A: &[&str] = &["mpc", "node", "d", "a"];
+
+/// That the node of these words, over the links of c, stops with this line, and its peers take so many bytes.
+fn expect_stop<R: Abort + Threads + Wait + Sync>(
     rt: &R,
     alloc: Global,
-    place: usize,
-    byte: u8,
-    line: &str,
-    says_all: bool,
-) -> Result<(), Fail> {
-    let says = with_byte(alloc, A_TO_C, place, byte)?;
-    let link = whole_link(alloc, &says, WHOLE)?;
-    let taken = said(says_all);
-    FAULTY_A.expect_stop(rt, alloc, link, line, taken, taken)
-}
-
-/// The line on the third frame of a, with share 1 in place of 0.
-const OTHER_SHARE: &str = "fault frame peer=a at=74 bytes=010000000000020100020000000000000001\n";
-
-/// The line on a hello of a, with another last byte.
-const OTHER_DIGEST: &str = concat!(
-    "fault job peer=a",
-    " ours=4d5043310002b235f93debe7efdf991603755a493469283ff1bd6e054e8fd3be6818219fca1d",
-    " theirs=4d5043310002b235f93debe7efdf991603755a493469283ff1bd6e054e8fd3be6818219fca1e\n",
-);
-
-#[test]
-fn another_byte_is_told_in_full(rt: HostRuntime) -> Result<(), Fail> {
-    expect_other_byte(&rt, rt.alloc(), 81, 1, OTHER_SHARE, true)?;
-    expect_other_byte(&rt, rt.alloc(), 37, 0x1e, OTHER_DIGEST, false)
-}
-
-/// Faults at once: how many bytes a and b say, which send to b or flush fails and which start is refused; then what is told, and
-/// how many bytes a and b took.
-struct Faults {
-    a_says: usize,
-    b_says: usize,
-    failing_send: Option<u64>,
-    refused_start: Option<u64>,
+    words: &'static [&'static str],
+    links: [Link; 2],
+    refused_start: u64,
     line: &'static str,
-    a_took: usize,
-    b_took: usize,
-}
-
-/// Faults of one peer, and of both.
-const FAULTS: [Faults; 8] = [
-    // The third frame of a is cut after seven bytes.
-    Faults {
-        a_says: 81,
-        b_says: 110,
-        failing_send: None,
-        refused_start: None,
-        line: "fault closed peer=a at=81\n",
-        a_took: 74,
-        b_took: 74,
-    },
-    Faults {
-        a_says: 100,
-        b_says: 5,
-        failing_send: None,
-        refused_start: None,
-        line: "fault closed peer=a at=100\n",
-        a_took: 38,
-        b_took: 38,
-    },
-    Faults {
-        a_says: 128,
-        b_says: 110,
-        failing_send: Some(0),
-        refused_start: None,
-        line: "fault link peer=b\n",
-        a_took: 38,
-        b_took: 0,
-    },
-    // A failed send is told before a fault of an earlier peer.
-    Faults {
-        a_says: 100,
-        b_says: 110,
-        failing_send: Some(2),
-        refused_start: None,
-        line: "fault link peer=b\n",
-        a_took: 38,
-        b_took: 38,
-    },
-    Faults {
-        a_says: 128,
-        b_says: 110,
-        failing_send: None,
-        refused_start: Some(0),
-        line: "fault thread peer=a\n",
-        a_took: 38,
-        b_took: 38,
-    },
-    Faults {
-        a_says: 128,
-        b_says: 110,
-        failing_send: None,
-        refused_start: Some(1),
-        line: "fault thread peer=b\n",
-        a_took: 38,
-        b_took: 38,
-    },
-    // So is a refused start.
-    Faults {
-        a_says: 5,
-        b_says: 110,
-        failing_send: None,
-        refused_start: Some(1),
-        line: "fault thread peer=b\n",
-        a_took: 38,
-        b_took: 38,
-    },
-    Faults {
-        a_says: 128,
-        b_says: 110,
-        failing_send: Some(0),
-        refused_start: Some(0),
-        line: "fault link peer=b\n",
-        a_took: 38,
-        b_took: 0,
-    },
-];
-
-/// The call of c among these faults.
-fn among(alloc: Global, faults: &Faults) -> Result<Outside, AllocError> {
-    let first = whole_link(alloc, first_bytes(A_TO_C, faults.a_says), WHOLE)?;
-    let mut second = whole_link(alloc, first_bytes(B_TO_C, faults.b_says), WHOLE)?;
-    second.failing_send = faults.failing_send;
-    let mut outside = node(alloc, "c", 2, first, second)?;
-    outside.refused_start = faults.refused_start;
-    Ok(outside)
-}
-
-/// That c among these faults stops with this line.
-fn expect_told<R: Abort + Threads + Wait + Sync>(
-    rt: &R,
-    alloc: Global,
-    faults: &Faults,
-    outside: Outside,
-    line: &str,
+    taken: [usize; 2],
 ) -> Result<(), Fail> {
-    let expected = Expected {
+    let call = Call {
+        words,
+        files: PRODUCT,
+        links,
+        refused_start,
         status: 5,
         out: "",
         err: line,
-        first: first_bytes(C_TO_A, faults.a_took),
-        second: first_bytes(C_TO_B, faults.b_took),
+        taken,
     };
-    expect(rt, alloc, outside, &expected)
+    expect_answer(rt, alloc, &call, &NoPace)
 }
 
-#[test]
-fn one_of_several_faults_is_told(rt: HostRuntime) -> Result<(), Fail> {
-    for faults in &FAULTS {
-        let outside = among(rt.alloc(), faults)?;
-        expect_told(&rt, rt.alloc(), faults, outside, faults.line)?;
+/// That c over this link of a peer and a whole one of the other tells that it fails, and they take so many bytes.
+fn expect_failed<R: Abort + Threads + Wait + Sync>(
+    rt: &R,
+    alloc: Global,
+    peer: usize,
+    link: Link,
+    taken: [usize; 2],
+) -> Result<(), Fail> {
+    if peer == 0 {
+        expect_stop(rt, alloc, OF_C, [link, WHOLE], NEVER, LINKS[0], taken)
+    } else {
+        expect_stop(rt, alloc, OF_C, [WHOLE, link], NEVER, LINKS[1], taken)
+    }
+}
+
+/// Pieces of a length, how many reads of them bring the hello and the inputs of a peer, and how many bring all of a, and of b.
+struct Reads {
+    piece: usize,
+    inputs: u64,
+    all: [u64; 2],
+}
+
+/// For each length of pieces.
+const READS: [Reads; 4] = [
+    Reads {
+        piece: 1,
+        inputs: 74,
+        all: [128, 110],
+    },
+    Reads {
+        piece: 7,
+        inputs: 12,
+        all: [21, 18],
+    },
+    Reads {
+        piece: 18,
+        inputs: 5,
+        all: [8, 7],
+    },
+    Reads {
+        piece: ALL,
+        inputs: 3,
+        all: [6, 5],
+    },
+];
+
+/// That c tells of each read of a peer that fails. It has said its hellos, and its frames once the inputs are there.
+fn expect_failed_reads<R: Abort + Threads + Wait + Sync>(
+    rt: &R,
+    alloc: Global,
+    peer: usize,
+    reads: &Reads,
+    all: u64,
+) -> Result<(), Fail> {
+    for read in 0..all {
+        let mut link = WHOLE;
+        link.piece = reads.piece;
+        link.failing_read = read;
+        let taken = if read < reads.inputs { 38 } else { 74 };
+        expect_failed(rt, alloc, peer, link, [taken, taken])?;
     }
     Ok(())
 }
 
 #[test]
-fn a_short_err_has_the_first_bytes(rt: HostRuntime) -> Result<(), Fail> {
-    let faults = &FAULTS[0];
-    for room in 0..faults.line.len() {
-        let mut outside = among(rt.alloc(), faults)?;
-        outside.room_err = room;
-        let line = faults.line.get(..room).ok_or("no front")?;
-        expect_told(&rt, rt.alloc(), faults, outside, line)?;
+fn each_read_that_fails_is_told(rt: HostRuntime) -> Result<(), Fail> {
+    for reads in &READS {
+        expect_failed_reads(&rt, rt.alloc(), 0, reads, reads.all[0])?;
+        expect_failed_reads(&rt, rt.alloc(), 1, reads, reads.all[1])?;
+    }
+    Ok(())
+}
+
+/// A peer, which of the sends and flushes to it fails, how many bytes it has room for, and how many a and b take. A hello, a
+/// flush, two frames and a flush go to each; those to a and to b by turns, the first frame to b before that to a.
+type Send = (usize, u64, usize, [usize; 2]);
+
+/// Each of these calls fails before its first byte, and each send after five.
+const SENDS: [Send; 16] = [
+    (0, 0, ALL, [0, 0]),
+    (0, NEVER, 5, [5, 0]),
+    (0, 1, ALL, [38, 38]),
+    (0, 2, ALL, [38, 56]),
+    (0, NEVER, 43, [43, 56]),
+    (0, 3, ALL, [56, 56]),
+    (0, NEVER, 61, [61, 56]),
+    (0, 4, ALL, [74, 74]),
+    (1, 0, ALL, [38, 0]),
+    (1, NEVER, 5, [38, 5]),
+    (1, 1, ALL, [38, 38]),
+    (1, 2, ALL, [38, 38]),
+    (1, NEVER, 43, [38, 43]),
+    (1, 3, ALL, [74, 56]),
+    (1, NEVER, 61, [74, 61]),
+    (1, 4, ALL, [74, 74]),
+];
+
+#[test]
+fn each_send_and_flush_that_fails_is_told(rt: HostRuntime) -> Result<(), Fail> {
+    for piece in PIECES {
+        for (peer, failing_send, room, taken) in SENDS {
+            let mut link = WHOLE;
+            link.piece = piece;
+            link.failing_send = failing_send;
+            link.room = room;
+            expect_failed(&rt, rt.alloc(), peer, link, taken)?;
+        }
+    }
+    Ok(())
+}
+
+/// The words of a node, how many bytes a says, which send to b fails, and which start of a reader is refused; then what is told,
+/// and how many bytes a and b take.
+type Faults = (
+    &'static [&'static str],
+    usize,
+    u64,
+    u64,
+    &'static str,
+    [usize; 2],
+);
+
+/// A failed send is told before a refused start, and that before a fault of an earlier peer. The net has no links for a.
+const FAULTS: [Faults; 6] = [
+    (OF_C, ALL, NEVER, 0, "fault thread peer=a\n", [38, 38]),
+    (OF_C, ALL, NEVER, 1, "fault thread peer=b\n", [38, 38]),
+    (OF_C, 5, NEVER, 1, "fault thread peer=b\n", [38, 38]),
+    (OF_C, ALL, 0, 0, "fault link peer=b\n", [38, 0]),
+    (OF_C, 100, 2, NEVER, "fault link peer=b\n", [38, 38]),
+    (OF_A, ALL, NEVER, NEVER, "fault net\n", [0, 0]),
+];
+
+#[test]
+fn one_of_several_faults_is_told(rt: HostRuntime) -> Result<(), Fail> {
+    for (words, says, failing_send, refused_start, line, taken) in FAULTS {
+        let mut links = [WHOLE, WHOLE];
+        links[0].says = says;
+        links[1].failing_send = failing_send;
+        expect_stop(&rt, rt.alloc(), words, links, refused_start, line, taken)?;
     }
     Ok(())
 }

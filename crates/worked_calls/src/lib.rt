@@ -1,32 +1,16 @@
-//! Calls from their words and files to their bytes, with what no file shows: nodes over links in memory, whole ones and
-//! faulty ones, workers that are held in their first call, and runs beside their circuits in the clear.
+//! Calls of the program with what no peer and no file shows: a node over links in memory of which one call fails, readers that
+//! are not started, and workers that are held in their first call.
 #![tactic(auto)]
 
 #[cfg(test)]
-mod broken_links;
-#[cfg(test)]
-mod changed_files;
-#[cfg(test)]
-mod expect;
+mod calls;
 #[cfg(test)]
 mod faults;
 #[cfg(test)]
-mod in_the_clear;
+mod files;
 #[cfg(test)]
-mod other_bytes;
-#[cfg(test)]
-mod outside;
-#[cfg(test)]
-mod peers;
-#[cfg(test)]
-mod product;
-#[cfg(test)]
-mod refusals;
-#[cfg(test)]
-mod send_faults;
+mod links;
 #[cfg(test)]
 mod talks;
-#[cfg(test)]
-mod whole_talks;
 #[cfg(test)]
 mod workers;
