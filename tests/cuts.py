@@ -156,7 +156,7 @@ def try_cut(program, top, chance, sample, most, parties=('a', 'b', 'c'), tolerat
     readers = [chance.sample(parties, chance.randrange(1, len(parties) + 1)) for _ in sample.outputs]
     words = ['--owners', ','.join(owners), '--readers', ','.join(map(group, readers)), '--tolerated', ','.join(map(group, tolerated)), '--gates', most,
              '--fewest', fewest]
-    told = wrote(CUT, file, folder, *parties, *words, *([] if sample.of_bits else ['--bits', sample.bits]))
+    told = wrote(CUT, file, folder, *parties, *words, *([] if sample.of_bits else ['--bits', sample.bits]), doubts=True)
     job = give(folder, sample, owners)
     expect_cost(program, folder, told)
     expect_outputs(folder, job, call_program(program, 'run', folder), sample, readers)
