@@ -26,10 +26,9 @@ EXAMPLES = os.path.join(os.path.dirname(HERE), 'examples')
 NETWORK = os.path.join(EXAMPLES, 'network')
 sys.path[1:1] = [EXAMPLES, NETWORK, os.path.join(os.path.dirname(HERE), 'tests')]
 import nodes  # noqa: E402
-from by_layers import layers, read_circuit, rounds as rounds_of  # noqa: E402
-from job_folder import read_bytes, read_fields, read_job  # noqa: E402
+from job_counts import counts_of  # noqa: E402
+from job_folder import read_fields  # noqa: E402
 from relay import Relay, Steps  # noqa: E402
-from summands import Sharing  # noqa: E402
 from waits import told  # noqa: E402
 
 # The example of appendix B of FIPS 197.
@@ -82,28 +81,19 @@ def row(program, name, job, times):
         with Steps(ports, folder) as steps:
             time_nodes(program, folder, names, expected, steps)
         alone = min(time_alone(program, job) for _ in range(times))
-    messages = int(re.search(r'^messages (\d+)$', check, re.M)[1]) - kept(job)
+    sessions = counts_of(job).sessions
+    messages = int(re.search(r'^messages (\d+)$', check, re.M)[1]) - sum(session.kept for session in sessions)
     parties = len(names)
     sent = 38 * parties * (parties - 1) + 18 * messages
-    rounds, least = map(sum, zip(*rounds_of_sessions(job)))
+    rounds, least = map(sum, zip(*rounds_of_sessions(sessions)))
     print(f'| {name} | {messages:,} | {sent:,} | {rounds:,} | {steps.count:,} | {least:,} '
           f'| {1000 * best:.1f} | {1000 * alone:.1f} | {delayed:.2f} |', flush=True)
 
 
-def rounds_of_sessions(job):
+def rounds_of_sessions(sessions):
     """The rounds of each session, and the least."""
-    parties = read_fields(job)['parties']
-    for session, fields in zip(read_job(job).sessions, read_fields(job)['session']):
-        head, gates = read_circuit(read_bytes(job, fields['circuit']))
-        given = [owner in parties for owner in session.owners]
-        yield rounds_of(head, gates, given, session.readers), layers(gates)[1] + any(given) + any(session.readers)
-
-
-def kept(job):
-    """How many messages a party keeps for itself."""
-    parties, tolerated = (read_fields(job).get(name) for name in ('parties', 'tolerated'))
-    carried = sum(width for session in read_job(job).sessions for width, owner in zip(session.inputs, session.owners) if owner not in parties)
-    return carried * Sharing(parties, tolerated).of_carried() if carried else 0
+    for session in sessions:
+        yield session.rounds, session.depth + bool(session.gives) + bool(session.reads)
 
 
 def circuit_of(job):
