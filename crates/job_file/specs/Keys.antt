@@ -4,7 +4,7 @@ use Rattle.party_set.specs.declared.names.NamesFault.{NamesFault}
 use Rattle.party_set.specs.declared.names.NamesFault.TheVariants.{BadName, TwiceNamed, PartyCount, Memory as NoMemory}
 use Rattle.job_file.specs.declared.field.Field.{Field}
 use Rattle.job_file.specs.declared.fault.JobFault.{JobFault}
-use Rattle.job_file.specs.declared.fault.JobFault.TheVariants.{NotToml, Version, Missing, Unknown, WrongKind, BadRing, Names, SessionCount, BadFileName, BadLayout, BadProducts, BadOwner, BadCarry, BadReader, BadHost, BadPort, BadTolerated, TooManyTolerated, Memory}
+use Rattle.job_file.specs.declared.fault.JobFault.TheVariants.{NotToml, Version, Missing, Unknown, WrongKind, BadRing, Names, SessionCount, BadFileName, BadLayout, BadProducts, BadOwner, BadCarry, BadReader, BadHost, BadPort, BadFrames, BadViews, BadTolerated, TooManyTolerated, Memory}
 
 abbrev pub fault_part : JobFault → List ℕ
 fault_part (Names fault) = codes "names"
@@ -35,6 +35,8 @@ fault_number (BadTolerated value at) = 15
 fault_number (TooManyTolerated count) = 16
 fault_number (BadProducts session) = 17
 fault_number (BadCarry session at) = 18
+fault_number BadFrames = 19
+fault_number BadViews = 20
 fault_number (Names fault) = names_number fault
 fault_number Memory = 0
 
@@ -58,6 +60,8 @@ fault_name (BadLayout session) = codes "BadLayout"
 fault_name (SessionCount count) = codes "SessionCount"
 fault_name (BadHost at) = codes "BadHost"
 fault_name (BadPort port) = codes "BadPort"
+fault_name BadFrames = codes "BadFrames"
+fault_name BadViews = codes "BadViews"
 fault_name (BadTolerated value at) = codes "BadTolerated"
 fault_name (TooManyTolerated count) = codes "TooManyTolerated"
 fault_name (BadProducts session) = codes "BadProducts"

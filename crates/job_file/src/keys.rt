@@ -40,6 +40,8 @@ impl JobFault {
             JobFault::TooManyTolerated { .. } => 16,
             JobFault::BadProducts { .. } => 17,
             JobFault::BadCarry { .. } => 18,
+            JobFault::BadFrames => 19,
+            JobFault::BadViews => 20,
             JobFault::Names { fault } => names_number(*fault),
             JobFault::Memory => 0,
         }
@@ -63,6 +65,8 @@ impl JobFault {
             JobFault::SessionCount { .. } => "SessionCount",
             JobFault::BadHost { .. } => "BadHost",
             JobFault::BadPort { .. } => "BadPort",
+            JobFault::BadFrames => "BadFrames",
+            JobFault::BadViews => "BadViews",
             JobFault::BadTolerated { .. } => "BadTolerated",
             JobFault::TooManyTolerated { .. } => "TooManyTolerated",
             JobFault::BadProducts { .. } => "BadProducts",
