@@ -1,9 +1,9 @@
 -- The line of each refusal: the part that refuses, the number and the name of its fault, and what the fault carries.
-use Rattle.std.specs.Prelude.{ℕ, nat_le, ◌&&◌, if◌then◌else◌, List, [], ◌∷◌, ◌++◌, length, slice_index, slice_index_or, codes, decimal}
+use Rattle.std.specs.Prelude.{ℕ, nat_le, ◌&&◌, if◌then◌else◌, List, [], ◌∷◌, ◌++◌, length, slice_index, slice_index_or, codes, decimal, Some}
 use Rattle.std.specs.Fmt.{signed_decimal}
 use Rattle.std.specs.List.{flat_map}
 use Rattle.list_laws.specs.Lists.{listed}
-use Rattle.fault_table.specs.Tables.{Value, Number, Signed, Text, Name, Party, Keys, Told, fault}
+use Rattle.fault_table.specs.Tables.{Value, Number, Signed, Text, Name, Party, Keys, Told, fault, in_session}
 use Rattle.group_formula.specs.declared.fault.FormulaFault.{FormulaFault}
 use Rattle.group_formula.specs.ToldFaults.{told_formula_fault}
 use Rattle.group_text.specs.declared.fault.GroupFault.{GroupFault}
@@ -51,71 +51,73 @@ abbrev pub head : List ℕ → Told → List ℕ
 head part told = codes "refused " ++ (part ++ (codes " " ++ (decimal told.number ++ (codes " " ++ told.name))))
 
 -- the line of a fault, with these keys in front of its own
-abbrev pub line : List ℕ → List (List ℕ) → Keys → Told → List ℕ
-line part names front told = head part told ++ (keys_text names front ++ (keys_text names told.keys ++ codes "\n"))
+abbrev pub refusal_line : List ℕ → List (List ℕ) → Keys → Told → List ℕ
+refusal_line part names front told = head part told ++ (keys_text names front ++ (keys_text names told.keys ++ codes "\n"))
 
 -- ---- each part
 
+-- the file that has the fault
 abbrev pub of_file : List ℕ → Keys
 of_file file = (codes "file", Text file) ∷ []
 
-abbrev pub of_session : ℕ → Keys
-of_session session = (codes "session", Number session) ∷ []
+-- the file of a session
+abbrev pub of_session : List ℕ → ℕ → Keys
+of_session file session = of_file file ++ in_session (Some session)
 
 -- a file that is too long
 unfoldable pub too_long_line : List ℕ → List ℕ
 too_long_line file =
-    line (codes "files") [] (of_file file) (fault 1 (codes "TooLong") ((codes "limit", Number FILE_LIMIT) ∷ []))
+    refusal_line (codes "files") [] (of_file file) (fault 1 (codes "TooLong") ((codes "limit", Number FILE_LIMIT) ∷ []))
 
 unfoldable pub job_line : JobFault → List ℕ
-job_line f = line (fault_part f) [] [] (told_job_fault f)
+job_line f = refusal_line (fault_part f) [] [] (told_job_fault f)
 
 unfoldable pub formula_line : FormulaFault → List ℕ
-formula_line f = line (codes "formula") [] [] (told_formula_fault f)
+formula_line f = refusal_line (codes "formula") [] [] (told_formula_fault f)
 
 -- a name that is no party's
 unfoldable pub name_line : List ℕ
-name_line = line (codes "name") [] [] (fault 1 (codes "UnknownParty") [])
+name_line = refusal_line (codes "name") [] [] (fault 1 (codes "UnknownParty") [])
 
 -- a text that names no group
 unfoldable pub group_line : GroupFault → List ℕ
-group_line f = line (codes "group") [] [] (told_group_fault f)
+group_line f = refusal_line (codes "group") [] [] (told_group_fault f)
 
 -- more maximal tolerated groups than 64
 unfoldable pub groups_line : ℕ → List ℕ
-groups_line found = line (codes "groups") [] [] (fault 1 (codes "TooManyGroups") ((codes "found", Number found) ∷ []))
+groups_line found = refusal_line (codes "groups") [] [] (fault 1 (codes "TooManyGroups") ((codes "found", Number found) ∷ []))
 
 -- two tolerated groups that together are all parties
 unfoldable pub covering_line : List (List ℕ) → ℕ → ℕ → List ℕ
 covering_line names first second =
-    line (codes "q2") [] []
+    refusal_line (codes "q2") [] []
     (fault 1 (codes "Covering")
     ((codes "first", Text (group_text names first)) ∷ (codes "second", Text (group_text names second)) ∷ []))
 
 -- a session's circuit
 unfoldable pub circuit_line : List ℕ → ℕ → CircuitFault → List ℕ
-circuit_line file session f = line (codes "circuit") [] (of_file file ++ of_session session) (told_circuit_fault f)
+circuit_line file session f = refusal_line (codes "circuit") [] (of_session file session) (told_circuit_fault f)
 
 -- a session's expressions
 unfoldable pub expressions_line : List ℕ → ℕ → ExprFault → List ℕ
-expressions_line file session f = line (codes "expr") [] (of_file file ++ of_session session) (told_expr_fault f)
+expressions_line file session f = refusal_line (codes "expr") [] (of_session file session) (told_expr_fault f)
 
 unfoldable pub session_line : ℕ → PartFault → List ℕ
-session_line session f = line (codes "session") [] (of_session session) (told_part_fault f)
+session_line session f = refusal_line (codes "session") [] (in_session (Some session)) (told_part_fault f)
 
 unfoldable pub plan_line : List (List ℕ) → PlanFault → List ℕ
-plan_line names f = line (codes "plan") names [] (told_plan_fault f)
+plan_line names f = refusal_line (codes "plan") names [] (told_plan_fault f)
 
 unfoldable pub party_line : List ℕ → PartyFault → List ℕ
-party_line file f = line (codes "party") [] (of_file file) (told_party_fault f)
+party_line file f = refusal_line (codes "party") [] (of_file file) (told_party_fault f)
 
 unfoldable pub other_line : List (List ℕ) → OtherFault → List ℕ
-other_line names f = line (codes "other") names [] (told_other_fault f)
+other_line names f = refusal_line (codes "other") names [] (told_other_fault f)
 
 -- other inputs that can't be hidden from a group
 unfoldable pub pair_line : List (List ℕ) → MapFault → List ℕ
-pair_line names f = line (codes "pair") names [] (told_map_fault f)
+pair_line names f = refusal_line (codes "pair") names [] (told_map_fault f)
 
 -- a text that is not the view of its group
 unfoldable pub view_line : CheckFault → List ℕ
-view_line f = line (codes "view") [] [] (told_check_fault f)
+view_line f = refusal_line (codes "view") [] [] (told_check_fault f)

@@ -3,7 +3,7 @@ ghost use Rattle.std.specs.Prelude.{◌≡◌, IfOk};
 ghost use Rattle.refusal_text.specs.Lines.{too_long_line, circuit_line, expressions_line, job_line};
 
 use crate::limits::FILE_LIMIT;
-use crate::line::{fault_line, file_key, number_key};
+use crate::line::{refusal_line, file_key, number_key};
 use circuit_model::CircuitFault;
 use expr_circuit::ExprFault;
 use fault_table::Told;
@@ -16,7 +16,7 @@ pub fn too_long_line(alloc: Global, file: &str) -> Result<Vec<u8>, AllocError>
     ensures { IfOk result (λ line. line.items ≡ too_long_line file.now) }
 {
     let told = Told::new(1, "TooLong").with_number("limit", FILE_LIMIT);
-    fault_line(alloc, "files", None, &[file_key(file)], &told)
+    refusal_line(alloc, "files", None, &[file_key(file)], &told)
 }
 
 /// The line of a fault of a job's file.
@@ -24,7 +24,7 @@ pub fn too_long_line(alloc: Global, file: &str) -> Result<Vec<u8>, AllocError>
 pub fn job_line(alloc: Global, fault: &JobFault) -> Result<Vec<u8>, AllocError>
     ensures { IfOk result (λ line. line.items ≡ job_line fault.now) }
 {
-    fault_line(alloc, fault.part(), None, &[], &fault.told())
+    refusal_line(alloc, fault.part(), None, &[], &fault.told())
 }
 
 /// The line of a fault of the circuit file of a session.
@@ -38,7 +38,7 @@ pub fn circuit_line(
     ensures { IfOk result (λ line. line.items ≡ circuit_line file.now session fault) }
 {
     let front = [file_key(file), number_key("session", session as u64)];
-    fault_line(alloc, "circuit", None, &front, &fault.told())
+    refusal_line(alloc, "circuit", None, &front, &fault.told())
 }
 
 /// The line of a fault of the expressions of a session.
@@ -52,5 +52,5 @@ pub fn expressions_line(
     ensures { IfOk result (λ line. line.items ≡ expressions_line file.now session fault) }
 {
     let front = [file_key(file), number_key("session", session as u64)];
-    fault_line(alloc, "expr", None, &front, &fault.told())
+    refusal_line(alloc, "expr", None, &front, &fault.told())
 }

@@ -2,7 +2,7 @@
 ghost use Rattle.std.specs.Prelude.{◌≡◌, ◌++◌, IfOk, OnOk, [], codes, map, slice_index_or};
 ghost use Rattle.std.specs.Option.{option_map_or};
 ghost use Rattle.fault_table.specs.Tables.{told_key, told_value, Number, Text};
-ghost use Rattle.refusal_text.specs.Lines.{head, line, key_head, keys_text, value_text};
+ghost use Rattle.refusal_text.specs.Lines.{head, refusal_line, key_head, keys_text, value_text};
 
 use crate::masked::push_masked;
 use fault_table::{Key, Told, Value};
@@ -12,7 +12,7 @@ use text_parts::{push_number, push_signed, push_text};
 
 /// The line of a part that refuses, with these keys in front of those of the fault. A party is told by its name, where
 /// names are given.
-pub(crate) fn fault_line(
+pub(crate) fn refusal_line(
     alloc: Global,
     part: &str,
     names: Option<&Names>,
@@ -20,7 +20,7 @@ pub(crate) fn fault_line(
     told: &Told,
 ) -> Result<Vec<u8>, AllocError>
     ensures { IfOk result (λ text. text.items
-        ≡ line part.now (option_map_or (λ n. n.now) names.entry []) (map told_key front.now) told.now) }
+        ≡ refusal_line part.now (option_map_or (λ n. n.now) names.entry []) (map told_key front.now) told.now) }
 {
     let mut text = Vec::new(alloc);
     push_head(&mut text, part, told)?;

@@ -2,7 +2,7 @@
 ghost use Rattle.std.specs.Prelude.{◌≡◌, IfOk};
 ghost use Rattle.refusal_text.specs.Lines.{party_line, other_line};
 
-use crate::line::{fault_line, file_key};
+use crate::line::{refusal_line, file_key};
 use other_file::OtherFault;
 use party_file::PartyFault;
 use party_set::Names;
@@ -13,7 +13,7 @@ use std::alloc::{AllocError, Global};
 pub fn party_line(alloc: Global, file: &str, fault: &PartyFault) -> Result<Vec<u8>, AllocError>
     ensures { IfOk result (λ line. line.items ≡ party_line file.now fault.now) }
 {
-    fault_line(alloc, "party", None, &[file_key(file)], &fault.told())
+    refusal_line(alloc, "party", None, &[file_key(file)], &fault.told())
 }
 
 /// The line of a fault of the file of other inputs.
@@ -21,5 +21,5 @@ pub fn party_line(alloc: Global, file: &str, fault: &PartyFault) -> Result<Vec<u
 pub fn other_line(alloc: Global, names: &Names, fault: &OtherFault) -> Result<Vec<u8>, AllocError>
     ensures { IfOk result (λ line. line.items ≡ other_line names.now fault.now) }
 {
-    fault_line(alloc, "other", Some(names), &[], &fault.told())
+    refusal_line(alloc, "other", Some(names), &[], &fault.told())
 }

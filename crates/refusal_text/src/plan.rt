@@ -2,7 +2,7 @@
 ghost use Rattle.std.specs.Prelude.{◌≡◌, IfOk};
 ghost use Rattle.refusal_text.specs.Lines.{plan_line, session_line};
 
-use crate::line::{fault_line, number_key};
+use crate::line::{refusal_line, number_key};
 use party_set::Names;
 use plan_faults::{PartFault, PlanFault};
 use std::alloc::{AllocError, Global};
@@ -12,7 +12,7 @@ use std::alloc::{AllocError, Global};
 pub fn plan_line(alloc: Global, names: &Names, fault: PlanFault) -> Result<Vec<u8>, AllocError>
     ensures { IfOk result (λ line. line.items ≡ plan_line names.now fault) }
 {
-    fault_line(alloc, "plan", Some(names), &[], &fault.told())
+    refusal_line(alloc, "plan", Some(names), &[], &fault.told())
 }
 
 /// The line of what is wrong with a session: its counts of owners or readers, or a value that it carries.
@@ -21,5 +21,5 @@ pub fn session_line(alloc: Global, session: u32, fault: PartFault) -> Result<Vec
     ensures { IfOk result (λ line. line.items ≡ session_line session fault) }
 {
     let front = [number_key("session", session as u64)];
-    fault_line(alloc, "session", None, &front, &fault.told())
+    refusal_line(alloc, "session", None, &front, &fault.told())
 }

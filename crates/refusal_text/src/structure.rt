@@ -2,7 +2,7 @@
 ghost use Rattle.std.specs.Prelude.{◌≡◌, IfOk, length};
 ghost use Rattle.refusal_text.specs.Lines.{formula_line, name_line, group_line, groups_line, covering_line};
 
-use crate::line::fault_line;
+use crate::line::refusal_line;
 use fault_table::Told;
 use group_formula::FormulaFault;
 use group_text::GroupFault;
@@ -15,7 +15,7 @@ use text_parts::push_group;
 pub fn formula_line(alloc: Global, fault: FormulaFault) -> Result<Vec<u8>, AllocError>
     ensures { IfOk result (λ line. line.items ≡ formula_line fault) }
 {
-    fault_line(alloc, "formula", None, &[], &fault.told())
+    refusal_line(alloc, "formula", None, &[], &fault.told())
 }
 
 /// The line of a name that is no party's.
@@ -23,7 +23,7 @@ pub fn formula_line(alloc: Global, fault: FormulaFault) -> Result<Vec<u8>, Alloc
 pub fn name_line(alloc: Global) -> Result<Vec<u8>, AllocError>
     ensures { IfOk result (λ line. line.items ≡ name_line) }
 {
-    fault_line(alloc, "name", None, &[], &Told::new(1, "UnknownParty"))
+    refusal_line(alloc, "name", None, &[], &Told::new(1, "UnknownParty"))
 }
 
 /// The line of a text that names no group.
@@ -31,7 +31,7 @@ pub fn name_line(alloc: Global) -> Result<Vec<u8>, AllocError>
 pub fn group_line(alloc: Global, fault: GroupFault) -> Result<Vec<u8>, AllocError>
     ensures { IfOk result (λ line. line.items ≡ group_line fault) }
 {
-    fault_line(alloc, "group", None, &[], &fault.told())
+    refusal_line(alloc, "group", None, &[], &fault.told())
 }
 
 /// The line of a formula with more maximal tolerated groups than 64.
@@ -40,7 +40,7 @@ pub fn groups_line(alloc: Global, found: u64) -> Result<Vec<u8>, AllocError>
     ensures { IfOk result (λ line. line.items ≡ groups_line found) }
 {
     let told = Told::new(1, "TooManyGroups").with_number("found", found);
-    fault_line(alloc, "groups", None, &[], &told)
+    refusal_line(alloc, "groups", None, &[], &told)
 }
 
 /// The line of two tolerated groups that together are all parties.
@@ -62,5 +62,5 @@ pub fn covering_line(
     let told = Told::new(1, "Covering")
         .with_text("first", &first_text)
         .with_text("second", &second_text);
-    fault_line(alloc, "q2", None, &[], &told)
+    refusal_line(alloc, "q2", None, &[], &told)
 }

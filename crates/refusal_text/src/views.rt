@@ -2,7 +2,7 @@
 ghost use Rattle.std.specs.Prelude.{◌≡◌, IfOk};
 ghost use Rattle.refusal_text.specs.Lines.{pair_line, view_line};
 
-use crate::line::fault_line;
+use crate::line::refusal_line;
 use party_set::Names;
 use std::alloc::{AllocError, Global};
 use tape_map::MapFault;
@@ -13,7 +13,7 @@ use view_check::CheckFault;
 pub fn pair_line(alloc: Global, names: &Names, fault: MapFault) -> Result<Vec<u8>, AllocError>
     ensures { IfOk result (λ line. line.items ≡ pair_line names.now fault) }
 {
-    fault_line(alloc, "pair", Some(names), &[], &fault.told())
+    refusal_line(alloc, "pair", Some(names), &[], &fault.told())
 }
 
 /// The line of a fault of a written view.
@@ -21,5 +21,5 @@ pub fn pair_line(alloc: Global, names: &Names, fault: MapFault) -> Result<Vec<u8
 pub fn view_line(alloc: Global, fault: CheckFault) -> Result<Vec<u8>, AllocError>
     ensures { IfOk result (λ line. line.items ≡ view_line fault) }
 {
-    fault_line(alloc, "view", None, &[], &fault.told())
+    refusal_line(alloc, "view", None, &[], &fault.told())
 }
