@@ -1,10 +1,10 @@
 -- What the line of a refusal tells of a fault of a circuit.
 use Rattle.std.specs.Prelude.{[], ◌∷◌, codes}
-use Rattle.fault_table.specs.Tables.{Told, fault, on_line, at_place, Number, Signed}
+use Rattle.fault_table.specs.Tables.{Entry, fault, on_line, at_place, Number, Signed}
 use Rattle.circuit_model.specs.declared.fault.CircuitFault.{CircuitFault}
 use Rattle.circuit_model.specs.declared.fault.CircuitFault.TheVariants.{NotUtf8, BadNumber, ShortLine, LongLine, FewLines, ExtraLine, TooLarge, HeaderWidths, UnknownOperation, WrongArity, BadConstant, WireOutOfRange, ReadBeforeSet, SetTwice, OutputNotSet, WrongRing, Memory}
 
-abbrev pub told_circuit_fault : CircuitFault → Told
+abbrev pub told_circuit_fault : CircuitFault → Entry
 told_circuit_fault (NotUtf8 at) = fault 1 (codes "NotUtf8") (at_place at)
 told_circuit_fault (BadNumber line) = fault 2 (codes "BadNumber") (on_line line)
 told_circuit_fault (ShortLine line) = fault 3 (codes "ShortLine") (on_line line)

@@ -1,7 +1,7 @@
 //! What is wrong with a circuit.
 ghost use Rattle.std.specs.Prelude.{◌≡◌};
 
-use fault_table::Told;
+use fault_table::Entry;
 use std::alloc::AllocError;
 
 /// What is wrong with the text of a circuit (Bristol Fashion). A line is told by its number, counted from 1.
@@ -47,33 +47,33 @@ impl CircuitFault {
     ghost use Rattle.circuit_model.specs.ToldFaults.{told_circuit_fault};
 
     /// What the line of a refusal tells of the fault.
-    pub fn told(self) -> Told<'static>
+    pub fn told(self) -> Entry<'static>
         ensures { result ≡ told_circuit_fault self }
     {
         match self {
-            CircuitFault::NotUtf8 { at } => Told::at_place(1, "NotUtf8", at),
-            CircuitFault::BadNumber { line } => Told::on_line(2, "BadNumber", line),
-            CircuitFault::ShortLine { line } => Told::on_line(3, "ShortLine", line),
-            CircuitFault::LongLine { line } => Told::on_line(4, "LongLine", line),
+            CircuitFault::NotUtf8 { at } => Entry::at_place(1, "NotUtf8", at),
+            CircuitFault::BadNumber { line } => Entry::on_line(2, "BadNumber", line),
+            CircuitFault::ShortLine { line } => Entry::on_line(3, "ShortLine", line),
+            CircuitFault::LongLine { line } => Entry::on_line(4, "LongLine", line),
             CircuitFault::FewLines { found } => {
-                Told::new(5, "FewLines").with_number("found", found)
+                Entry::new(5, "FewLines").with_number("found", found)
             }
-            CircuitFault::ExtraLine { line } => Told::on_line(6, "ExtraLine", line),
-            CircuitFault::TooLarge { line } => Told::on_line(7, "TooLarge", line),
-            CircuitFault::HeaderWidths { line } => Told::on_line(8, "HeaderWidths", line),
-            CircuitFault::UnknownOperation { line } => Told::on_line(9, "UnknownOperation", line),
-            CircuitFault::WrongArity { line } => Told::on_line(10, "WrongArity", line),
-            CircuitFault::BadConstant { line } => Told::on_line(11, "BadConstant", line),
-            CircuitFault::WireOutOfRange { line } => Told::on_line(12, "WireOutOfRange", line),
-            CircuitFault::ReadBeforeSet { line } => Told::on_line(13, "ReadBeforeSet", line),
-            CircuitFault::SetTwice { line } => Told::on_line(14, "SetTwice", line),
+            CircuitFault::ExtraLine { line } => Entry::on_line(6, "ExtraLine", line),
+            CircuitFault::TooLarge { line } => Entry::on_line(7, "TooLarge", line),
+            CircuitFault::HeaderWidths { line } => Entry::on_line(8, "HeaderWidths", line),
+            CircuitFault::UnknownOperation { line } => Entry::on_line(9, "UnknownOperation", line),
+            CircuitFault::WrongArity { line } => Entry::on_line(10, "WrongArity", line),
+            CircuitFault::BadConstant { line } => Entry::on_line(11, "BadConstant", line),
+            CircuitFault::WireOutOfRange { line } => Entry::on_line(12, "WireOutOfRange", line),
+            CircuitFault::ReadBeforeSet { line } => Entry::on_line(13, "ReadBeforeSet", line),
+            CircuitFault::SetTwice { line } => Entry::on_line(14, "SetTwice", line),
             CircuitFault::OutputNotSet { wire } => {
-                Told::new(15, "OutputNotSet").with_number("wire", wire as u64)
+                Entry::new(15, "OutputNotSet").with_number("wire", wire as u64)
             }
             CircuitFault::WrongRing { bits } => {
-                Told::new(16, "WrongRing").with_signed("bits", bits)
+                Entry::new(16, "WrongRing").with_signed("bits", bits)
             }
-            CircuitFault::Memory => Told::new(0, "Memory"),
+            CircuitFault::Memory => Entry::new(0, "Memory"),
         }
     }
 }

@@ -1,10 +1,10 @@
 -- What the line of a refusal tells of a fault of expressions: the line of the text, and the byte of the line or the text.
 use Rattle.std.specs.Prelude.{[], ◌++◌, codes}
-use Rattle.fault_table.specs.Tables.{Told, fault, on_line, at_place}
+use Rattle.fault_table.specs.Tables.{Entry, fault, on_line, at_place}
 use Rattle.expr_circuit.specs.declared.fault.ExprFault.{ExprFault}
 use Rattle.expr_circuit.specs.declared.fault.ExprFault.TheVariants.{NotUtf8, Syntax, UnknownName, BadConstant, TooDeep, TwiceNamed, TooLarge, Memory}
 
-abbrev pub told_expr_fault : ExprFault → Told
+abbrev pub told_expr_fault : ExprFault → Entry
 told_expr_fault (NotUtf8 at) = fault 1 (codes "NotUtf8") (at_place at)
 told_expr_fault (Syntax line at) = fault 2 (codes "Syntax") (on_line line ++ at_place at)
 told_expr_fault (UnknownName line at) = fault 3 (codes "UnknownName") (on_line line ++ at_place at)

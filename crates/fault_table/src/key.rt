@@ -2,7 +2,7 @@
 
 /// What a key tells.
 #[derive(Clone, Copy)]
-pub enum Value<'a> {
+pub enum KeyValue<'a> {
     /// A number.
     Number(u64),
     /// A number that may be below 0.
@@ -17,16 +17,16 @@ pub enum Value<'a> {
 
 /// A key, and what it tells.
 #[derive(Clone, Copy)]
-pub struct Key<'a> {
+pub struct EntryKey<'a> {
     pub key: &'static str,
-    pub value: Value<'a>,
+    pub value: KeyValue<'a>,
 }
 
-impl Default for Key<'_> {
+impl Default for EntryKey<'_> {
     fn default() -> Self {
-        Key {
+        EntryKey {
             key: "",
-            value: Value::Number(0),
+            value: KeyValue::Number(0),
         }
     }
 }

@@ -1,8 +1,7 @@
 //! What the line of a refusal tells of a fault, as a table of each kind of fault gives it.
 #![tactic(auto)]
 
+mod entry;
 mod key;
-mod told;
 
-pub use key::{Key, Value};
-pub use told::{MOST_KEYS, Told};
+pub use key::{EntryKey, KeyValue};

@@ -1,10 +1,10 @@
 -- What the line of a refusal tells of a fault of a formula.
 use Rattle.std.specs.Prelude.{[], codes}
-use Rattle.fault_table.specs.Tables.{Told, fault, at_place}
+use Rattle.fault_table.specs.Tables.{Entry, fault, at_place}
 use Rattle.group_formula.specs.declared.fault.FormulaFault.{FormulaFault}
 use Rattle.group_formula.specs.declared.fault.FormulaFault.TheVariants.{Syntax, UnknownName, BadCount, TooDeep, TooManyNodes, Memory}
 
-abbrev pub told_formula_fault : FormulaFault → Told
+abbrev pub told_formula_fault : FormulaFault → Entry
 told_formula_fault (Syntax at) = fault 1 (codes "Syntax") (at_place at)
 told_formula_fault (UnknownName at) = fault 2 (codes "UnknownName") (at_place at)
 told_formula_fault (BadCount at) = fault 3 (codes "BadCount") (at_place at)

@@ -3,7 +3,7 @@ ghost use Rattle.std.specs.Prelude.{◌≡◌};
 ghost use Rattle.group_formula.specs.Resolved.{fault_place};
 ghost use Rattle.group_formula.specs.ToldFaults.{told_formula_fault};
 
-use fault_table::Told;
+use fault_table::Entry;
 use std::alloc::AllocError;
 
 /// The fault of a text, and the byte at which it stands. A first pass from left to right finds `Syntax`, `TooDeep`
@@ -41,16 +41,16 @@ impl FormulaFault {
     }
 
     /// What the line of a refusal tells of the fault.
-    pub fn told(self) -> Told<'static>
+    pub fn told(self) -> Entry<'static>
         ensures { result ≡ told_formula_fault self }
     {
         match self {
-            FormulaFault::Syntax { at } => Told::at_place(1, "Syntax", at),
-            FormulaFault::UnknownName { at } => Told::at_place(2, "UnknownName", at),
-            FormulaFault::BadCount { at } => Told::at_place(3, "BadCount", at),
-            FormulaFault::TooDeep { at } => Told::at_place(4, "TooDeep", at),
-            FormulaFault::TooManyNodes { at } => Told::at_place(5, "TooManyNodes", at),
-            FormulaFault::Memory => Told::new(0, "Memory"),
+            FormulaFault::Syntax { at } => Entry::at_place(1, "Syntax", at),
+            FormulaFault::UnknownName { at } => Entry::at_place(2, "UnknownName", at),
+            FormulaFault::BadCount { at } => Entry::at_place(3, "BadCount", at),
+            FormulaFault::TooDeep { at } => Entry::at_place(4, "TooDeep", at),
+            FormulaFault::TooManyNodes { at } => Entry::at_place(5, "TooManyNodes", at),
+            FormulaFault::Memory => Entry::new(0, "Memory"),
         }
     }
 }

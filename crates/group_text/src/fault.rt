@@ -1,6 +1,6 @@
 //! Why a text names no group.
 
-use fault_table::Told;
+use fault_table::Entry;
 
 /// The fault of a text that names no group.
 #[derive(Clone, Copy, Debug, PartialEq, Eq)]
@@ -14,11 +14,11 @@ impl GroupFault {
     ghost use Rattle.group_text.specs.ToldFaults.{told_group_fault};
 
     /// What the line of a refusal tells of the fault.
-    pub fn told(self) -> Told<'static>
+    pub fn told(self) -> Entry<'static>
         ensures { result ≡ told_group_fault self }
     {
         match self {
-            GroupFault::BadGroup { at } => Told::at_place(1, "BadGroup", at),
+            GroupFault::BadGroup { at } => Entry::at_place(1, "BadGroup", at),
         }
     }
 }

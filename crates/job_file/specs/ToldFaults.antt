@@ -1,6 +1,6 @@
 -- What the line of a refusal tells of a fault of a job's file.
 use Rattle.std.specs.Prelude.{ℕ, List, [], ◌∷◌, ◌++◌, codes, Some}
-use Rattle.fault_table.specs.Tables.{Keys, Told, fault, in_session, at_place, Number, Signed, Text, Name}
+use Rattle.fault_table.specs.Tables.{Keys, Entry, fault, in_session, at_place, Number, Signed, Text, Name}
 use Rattle.party_set.specs.declared.names.NamesFault.{NamesFault}
 use Rattle.party_set.specs.declared.names.NamesFault.TheVariants.{BadName, TwiceNamed, PartyCount, Memory as NoMemory}
 use Rattle.job_file.specs.Names.{field_text}
@@ -24,13 +24,13 @@ of_value value = (codes "value", Number value) ∷ []
 abbrev pub of_count : ℕ → Keys
 of_count count = (codes "count", Number count) ∷ []
 
-abbrev pub told_names_fault : NamesFault → Told
+abbrev pub told_names_fault : NamesFault → Entry
 told_names_fault (BadName at) = fault 1 (codes "BadName") (at_place at)
 told_names_fault (TwiceNamed at) = fault 2 (codes "TwiceNamed") (at_place at)
 told_names_fault (PartyCount count) = fault 3 (codes "PartyCount") (of_count count)
 told_names_fault NoMemory = fault 0 (codes "Memory") []
 
-abbrev pub told_job_fault : JobFault → Told
+abbrev pub told_job_fault : JobFault → Entry
 told_job_fault NotToml = fault 1 (codes "NotToml") []
 told_job_fault (Version found) = fault 2 (codes "Version") ((codes "found", Signed found) ∷ [])
 told_job_fault (Missing session f) = fault 3 (codes "Missing") (in_session session ++ of_field f)

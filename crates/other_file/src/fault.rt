@@ -3,7 +3,7 @@ ghost use Rattle.std.specs.Prelude.{◌≡◌};
 ghost use Rattle.other_file.specs.ToldFaults.{told_other_fault};
 ghost use Rattle.other_file.specs.Faults.{of_file, of_party};
 
-use fault_table::Told;
+use fault_table::Entry;
 use party_file::PartyFault;
 use std::alloc::{AllocError, AllocFailed};
 
@@ -22,14 +22,14 @@ pub enum OtherFault {
 
 impl OtherFault {
     /// What the line of a refusal tells of the fault.
-    pub fn told(&self) -> Told<'_>
+    pub fn told(&self) -> Entry<'_>
         ensures { result ≡ told_other_fault self.now }
     {
         match self {
             OtherFault::File(fault) => return fault.told(),
-            OtherFault::WrongKind { party } => Told::new(5, "WrongKind").of_party(*party),
+            OtherFault::WrongKind { party } => Entry::new(5, "WrongKind").of_party(*party),
             OtherFault::Inputs { party, fault } => return fault.told().of_party(*party),
-            OtherFault::Memory => Told::new(0, "Memory"),
+            OtherFault::Memory => Entry::new(0, "Memory"),
         }
     }
 }

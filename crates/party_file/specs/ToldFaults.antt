@@ -1,6 +1,6 @@
 -- What the line of a refusal tells of a fault of a party's file.
 use Rattle.std.specs.Prelude.{ℕ, List, [], ◌∷◌, ◌++◌, codes}
-use Rattle.fault_table.specs.Tables.{Keys, Told, fault, in_session, at_place, found_for, Signed, Text, Name}
+use Rattle.fault_table.specs.Tables.{Keys, Entry, fault, in_session, at_place, found_for, Signed, Text, Name}
 use Rattle.party_file.specs.declared.field.Field.{Field}
 use Rattle.party_file.specs.declared.field.Field.TheVariants as field
 use Rattle.party_file.specs.declared.fault.WordCause.{WordCause}
@@ -24,7 +24,7 @@ cause_text cause.TooLarge = codes "TooLarge"
 abbrev pub of_field : Field → Keys
 of_field f = (codes "field", Text (field_text f)) ∷ []
 
-abbrev pub told_party_fault : PartyFault → Told
+abbrev pub told_party_fault : PartyFault → Entry
 told_party_fault NotToml = fault 1 (codes "NotToml") []
 told_party_fault (Version found) = fault 2 (codes "Version") ((codes "found", Signed found) ∷ [])
 told_party_fault (Missing f) = fault 3 (codes "Missing") (of_field f)

@@ -4,7 +4,7 @@ ghost use Rattle.fault_table.specs.Tables.{fault, Name};
 ghost use Rattle.party_file.specs.ToldFaults.{cause_text, of_field, told_party_fault};
 
 use crate::field::Field;
-use fault_table::{MOST_KEYS, Told};
+use fault_table::{Entry, MOST_KEYS};
 use party_set::NameText;
 use std::alloc::{AllocError, AllocFailed};
 
@@ -83,13 +83,13 @@ pub enum PartyFault {
 
 impl PartyFault {
     /// What the line of a refusal tells of the fault.
-    pub fn told(&self) -> Told<'_>
+    pub fn told(&self) -> Entry<'_>
         ensures is { result ≡ told_party_fault self.now }
         ensures few { length result.keys < MOST_KEYS }
     {
         match self {
-            PartyFault::NotToml => Told::new(1, "NotToml"),
-            PartyFault::Version { found } => Told::new(2, "Version").with_signed("found", *found),
+            PartyFault::NotToml => Entry::new(1, "NotToml"),
+            PartyFault::Version { found } => Entry::new(2, "Version").with_signed("found", *found),
             PartyFault::Missing { field } => of_field(3, "Missing", *field),
             PartyFault::Unknown { name } => return unknown(name.as_str()),
             PartyFault::WrongKind { field } => of_field(5, "WrongKind", *field),
@@ -97,33 +97,34 @@ impl PartyFault {
                 session,
                 wanted,
                 found,
-            } => Told::in_session(6, "CountDiffers", *session).with_found(*wanted, *found),
-            PartyFault::BadWords { session, at, cause } => Told::in_session(7, "BadWords", *session)
-                .with_number("at", *at)
+            } => Entry::in_session(6, "CountDiffers", *session).with_found(*wanted, *found),
+            PartyFault::BadWords { session, at, cause } => Entry::in_session(
+                7, "BadWords", *session,
+            ).with_number("at", *at)
                 .with_text("cause", cause.text().as_bytes()),
             PartyFault::WordOutOfRing { session, at } => {
-                Told::in_session(8, "WordOutOfRing", *session).with_number("at", *at)
+                Entry::in_session(8, "WordOutOfRing", *session).with_number("at", *at)
             }
-            PartyFault::TapeAndSeed => Told::new(9, "TapeAndSeed"),
-            PartyFault::BadSeed => Told::new(10, "BadSeed"),
+            PartyFault::TapeAndSeed => Entry::new(9, "TapeAndSeed"),
+            PartyFault::BadSeed => Entry::new(10, "BadSeed"),
             PartyFault::TapeShort { wanted, found } => {
-                Told::new(11, "TapeShort").with_found(*wanted, *found)
+                Entry::new(11, "TapeShort").with_found(*wanted, *found)
             }
-            PartyFault::Memory => Told::new(0, "Memory"),
+            PartyFault::Memory => Entry::new(0, "Memory"),
         }
     }
 }
 
-fn unknown(name: &str) -> Told<'_>
+fn unknown(name: &str) -> Entry<'_>
     ensures { result ≡ fault 4 (codes "Unknown") ((codes "name", Name name.now) ∷ []) }
 {
-    Told::new(4, "Unknown").with_name("name", name.as_bytes())
+    Entry::new(4, "Unknown").with_name("name", name.as_bytes())
 }
 
-fn of_field(number: u32, name: &'static str, field: Field) -> Told<'static>
+fn of_field(number: u32, name: &'static str, field: Field) -> Entry<'static>
     ensures { result ≡ fault number name.now (of_field field) }
 {
-    Told::new(number, name).with_text("field", field.text().as_bytes())
+    Entry::new(number, name).with_text("field", field.text().as_bytes())
 }
 
 impl From<AllocError> for PartyFault {

@@ -2,7 +2,7 @@
 ghost use Rattle.std.specs.Prelude.{◌≡◌, Some, None, MatchResult};
 ghost use Rattle.plan_faults.specs.Counts.{counts_fault};
 
-use fault_table::Told;
+use fault_table::Entry;
 use std::alloc::AllocError;
 
 /// Why a circuit with owners and readers is no session.
@@ -44,23 +44,23 @@ impl PartFault {
     ghost use Rattle.plan_faults.specs.ToldFaults.{told_part_fault};
 
     /// What the line of a refusal tells of the fault.
-    pub fn told(self) -> Told<'static>
+    pub fn told(self) -> Entry<'static>
         ensures { result ≡ told_part_fault self }
     {
         match self {
             PartFault::OwnersDiffer { wanted, found } => {
-                Told::new(1, "OwnersDiffer").with_found(wanted, found)
+                Entry::new(1, "OwnersDiffer").with_found(wanted, found)
             }
             PartFault::ReadersDiffer { wanted, found } => {
-                Told::new(2, "ReadersDiffer").with_found(wanted, found)
+                Entry::new(2, "ReadersDiffer").with_found(wanted, found)
             }
             PartFault::CarryMissing { wanted, found } => {
-                Told::new(3, "CarryMissing").with_found(wanted, found)
+                Entry::new(3, "CarryMissing").with_found(wanted, found)
             }
             PartFault::CarryWidth { wanted, found } => {
-                Told::new(4, "CarryWidth").with_found(wanted, found)
+                Entry::new(4, "CarryWidth").with_found(wanted, found)
             }
-            PartFault::Memory => Told::new(0, "Memory"),
+            PartFault::Memory => Entry::new(0, "Memory"),
         }
     }
 }

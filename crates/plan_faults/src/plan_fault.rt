@@ -1,7 +1,7 @@
 //! Refusals of plans.
 ghost use Rattle.std.specs.Prelude.{◌≡◌};
 
-use fault_table::Told;
+use fault_table::Entry;
 use std::alloc::AllocError;
 
 /// Why there is no plan.
@@ -19,17 +19,17 @@ impl PlanFault {
     ghost use Rattle.plan_faults.specs.ToldFaults.{told_plan_fault};
 
     /// What the line of a refusal tells of the fault.
-    pub fn told(self) -> Told<'static>
+    pub fn told(self) -> Entry<'static>
         ensures { result ≡ told_plan_fault self }
     {
         match self {
             PlanFault::TooManyMessages { count } => {
-                Told::new(1, "TooManyMessages").with_number("count", count)
+                Entry::new(1, "TooManyMessages").with_number("count", count)
             }
-            PlanFault::TooManyWords { party, count } => Told::new(2, "TooManyWords")
+            PlanFault::TooManyWords { party, count } => Entry::new(2, "TooManyWords")
                 .with_party("party", party)
                 .with_number("count", count),
-            PlanFault::Memory => Told::new(0, "Memory"),
+            PlanFault::Memory => Entry::new(0, "Memory"),
         }
     }
 }

@@ -3,7 +3,7 @@ use Rattle.std.specs.Prelude.{ℕ, nat_le, ◌&&◌, if◌then◌else◌, List, 
 use Rattle.std.specs.Fmt.{signed_decimal}
 use Rattle.std.specs.List.{flat_map}
 use Rattle.list_laws.specs.Lists.{listed}
-use Rattle.fault_table.specs.Tables.{Value, Number, Signed, Text, Name, Party, Keys, Told, fault, in_session}
+use Rattle.fault_table.specs.Tables.{KeyValue, Number, Signed, Text, Name, Party, Keys, Entry, fault, in_session}
 use Rattle.group_formula.specs.declared.fault.FormulaFault.{FormulaFault}
 use Rattle.group_formula.specs.ToldFaults.{told_formula_fault}
 use Rattle.group_text.specs.declared.fault.GroupFault.{GroupFault}
@@ -33,7 +33,7 @@ abbrev pub masked : List ℕ → List ℕ
 masked name = listed (length name) (λ i. let c = slice_index name i in if nat_le 33 c && nat_le c 126 then c else 63)
 
 -- what a key tells, where the parties have these names
-abbrev pub value_text : List (List ℕ) → Value → List ℕ
+abbrev pub value_text : List (List ℕ) → KeyValue → List ℕ
 value_text names (Number n) = decimal n
 value_text names (Signed z) = signed_decimal z
 value_text names (Text text) = text
@@ -47,12 +47,12 @@ abbrev pub keys_text : List (List ℕ) → Keys → List ℕ
 keys_text names keys = flat_map (λ key. key_head key.0 ++ value_text names key.1) keys
 
 -- the part that refuses, and the number and the name of its fault
-abbrev pub head : List ℕ → Told → List ℕ
-head part told = codes "refused " ++ (part ++ (codes " " ++ (decimal told.number ++ (codes " " ++ told.name))))
+abbrev pub head : List ℕ → Entry → List ℕ
+head part entry = codes "refused " ++ (part ++ (codes " " ++ (decimal entry.number ++ (codes " " ++ entry.name))))
 
 -- the line of a fault, with these keys in front of its own
-abbrev pub refusal_line : List ℕ → List (List ℕ) → Keys → Told → List ℕ
-refusal_line part names front told = head part told ++ (keys_text names front ++ (keys_text names told.keys ++ codes "\n"))
+abbrev pub refusal_line : List ℕ → List (List ℕ) → Keys → Entry → List ℕ
+refusal_line part names front entry = head part entry ++ (keys_text names front ++ (keys_text names entry.keys ++ codes "\n"))
 
 -- ---- each part
 

@@ -3,10 +3,10 @@ ghost use Rattle.std.specs.Prelude.{◌≡◌, IfOk};
 ghost use Rattle.refusal_text.specs.Lines.{too_long_line, circuit_line, expressions_line, job_line};
 
 use crate::limits::FILE_LIMIT;
-use crate::line::{refusal_line, file_key, number_key};
+use crate::line::{file_key, number_key, refusal_line};
 use circuit_model::CircuitFault;
 use expr_circuit::ExprFault;
-use fault_table::Told;
+use fault_table::Entry;
 use job_file::JobFault;
 use std::alloc::{AllocError, Global};
 
@@ -15,8 +15,8 @@ use std::alloc::{AllocError, Global};
 pub fn too_long_line(alloc: Global, file: &str) -> Result<Vec<u8>, AllocError>
     ensures { IfOk result (λ line. line.items ≡ too_long_line file.now) }
 {
-    let told = Told::new(1, "TooLong").with_number("limit", FILE_LIMIT);
-    refusal_line(alloc, "files", None, &[file_key(file)], &told)
+    let entry = Entry::new(1, "TooLong").with_number("limit", FILE_LIMIT);
+    refusal_line(alloc, "files", None, &[file_key(file)], &entry)
 }
 
 /// The line of a fault of a job's file.

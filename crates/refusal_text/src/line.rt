@@ -5,7 +5,7 @@ ghost use Rattle.fault_table.specs.Tables.{told_key, told_value, Number, Text};
 ghost use Rattle.refusal_text.specs.Lines.{head, refusal_line, key_head, keys_text, value_text};
 
 use crate::masked::push_masked;
-use fault_table::{Key, Told, Value};
+use fault_table::{Entry, EntryKey, KeyValue};
 use party_set::Names;
 use std::alloc::{AllocError, Global};
 use text_parts::{push_number, push_signed, push_text};
@@ -16,32 +16,32 @@ pub(crate) fn refusal_line(
     alloc: Global,
     part: &str,
     names: Option<&Names>,
-    front: &[Key],
-    told: &Told,
+    front: &[EntryKey],
+    entry: &Entry,
 ) -> Result<Vec<u8>, AllocError>
     ensures { IfOk result (λ text. text.items
-        ≡ refusal_line part.now (option_map_or (λ n. n.now) names.entry []) (map told_key front.now) told.now) }
+        ≡ refusal_line part.now (option_map_or (λ n. n.now) names.entry []) (map told_key front.now) entry.now) }
 {
     let mut text = Vec::new(alloc);
-    push_head(&mut text, part, told)?;
+    push_head(&mut text, part, entry)?;
     push_keys(&mut text, names, front)?;
-    push_keys(&mut text, names, told.keys())?;
+    push_keys(&mut text, names, entry.keys())?;
     push_text(&mut text, b"\n")?;
     Ok(text)
 }
 
-fn push_head(text: &mut Vec<u8>, part: &str, told: &Told) -> Result<(), AllocError>
-    ensures { OnOk result (text.new.items ≡ text.old.items ++ head part.now told.now) }
+fn push_head(text: &mut Vec<u8>, part: &str, entry: &Entry) -> Result<(), AllocError>
+    ensures { OnOk result (text.new.items ≡ text.old.items ++ head part.now entry.now) }
 {
     push_text(text, b"refused ")?;
     push_text(text, part.as_bytes())?;
     push_text(text, b" ")?;
-    push_number(text, told.number() as u64)?;
+    push_number(text, entry.number() as u64)?;
     push_text(text, b" ")?;
-    push_text(text, told.name().as_bytes())
+    push_text(text, entry.name().as_bytes())
 }
 
-fn push_keys(text: &mut Vec<u8>, names: Option<&Names>, keys: &[Key]) -> Result<(), AllocError>
+fn push_keys(text: &mut Vec<u8>, names: Option<&Names>, keys: &[EntryKey]) -> Result<(), AllocError>
     ensures { OnOk result (text.new.items
         ≡ text.old.items ++ keys_text (option_map_or (λ n. n.now) names.entry []) (map told_key keys.now)) }
 {
@@ -60,16 +60,16 @@ fn push_key(text: &mut Vec<u8>, key: &str) -> Result<(), AllocError>
     push_text(text, b"=")
 }
 
-fn push_value(text: &mut Vec<u8>, names: Option<&Names>, value: Value) -> Result<(), AllocError>
+fn push_value(text: &mut Vec<u8>, names: Option<&Names>, value: KeyValue) -> Result<(), AllocError>
     ensures { OnOk result (text.new.items
         ≡ text.old.items ++ value_text (option_map_or (λ n. n.now) names.entry []) (told_value value.entry)) }
 {
     match value {
-        Value::Number(number) => push_number(text, number),
-        Value::Signed(number) => push_signed(text, number),
-        Value::Text(value) => push_text(text, value),
-        Value::Name(name) => push_masked(text, name),
-        Value::Party(party) => push_party(text, names, party),
+        KeyValue::Number(number) => push_number(text, number),
+        KeyValue::Signed(number) => push_signed(text, number),
+        KeyValue::Text(value) => push_text(text, value),
+        KeyValue::Name(name) => push_masked(text, name),
+        KeyValue::Party(party) => push_party(text, names, party),
     }
 }
 
@@ -84,21 +84,21 @@ fn push_party(text: &mut Vec<u8>, names: Option<&Names>, party: u32) -> Result<(
 }
 
 /// The key of a number.
-pub(crate) fn number_key(key: &'static str, value: u64) -> Key<'static>
+pub(crate) fn number_key(key: &'static str, value: u64) -> EntryKey<'static>
     ensures { told_key result ≡ (key.now, Number value) }
 {
-    Key {
+    EntryKey {
         key,
-        value: Value::Number(value),
+        value: KeyValue::Number(value),
     }
 }
 
 /// The key of the file that has the fault.
-pub(crate) fn file_key(file: &str) -> Key<'_>
+pub(crate) fn file_key(file: &str) -> EntryKey<'_>
     ensures { told_key result ≡ (codes "file", Text file.now) }
 {
-    Key {
+    EntryKey {
         key: "file",
-        value: Value::Text(file.as_bytes()),
+        value: KeyValue::Text(file.as_bytes()),
     }
 }

@@ -2,7 +2,7 @@
 ghost use Rattle.std.specs.Prelude.{◌≡◌, IfOk};
 ghost use Rattle.refusal_text.specs.Lines.{party_line, other_line};
 
-use crate::line::{refusal_line, file_key};
+use crate::line::{file_key, refusal_line};
 use other_file::OtherFault;
 use party_file::PartyFault;
 use party_set::Names;

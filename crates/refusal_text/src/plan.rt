@@ -2,7 +2,7 @@
 ghost use Rattle.std.specs.Prelude.{◌≡◌, IfOk};
 ghost use Rattle.refusal_text.specs.Lines.{plan_line, session_line};
 
-use crate::line::{refusal_line, number_key};
+use crate::line::{number_key, refusal_line};
 use party_set::Names;
 use plan_faults::{PartFault, PlanFault};
 use std::alloc::{AllocError, Global};

@@ -3,7 +3,7 @@ ghost use Rattle.std.specs.Prelude.{◌≡◌, IfOk, length};
 ghost use Rattle.refusal_text.specs.Lines.{formula_line, name_line, group_line, groups_line, covering_line};
 
 use crate::line::refusal_line;
-use fault_table::Told;
+use fault_table::Entry;
 use group_formula::FormulaFault;
 use group_text::GroupFault;
 use party_set::{Group, Names};
@@ -23,7 +23,7 @@ pub fn formula_line(alloc: Global, fault: FormulaFault) -> Result<Vec<u8>, Alloc
 pub fn name_line(alloc: Global) -> Result<Vec<u8>, AllocError>
     ensures { IfOk result (λ line. line.items ≡ name_line) }
 {
-    refusal_line(alloc, "name", None, &[], &Told::new(1, "UnknownParty"))
+    refusal_line(alloc, "name", None, &[], &Entry::new(1, "UnknownParty"))
 }
 
 /// The line of a text that names no group.
@@ -39,8 +39,8 @@ pub fn group_line(alloc: Global, fault: GroupFault) -> Result<Vec<u8>, AllocErro
 pub fn groups_line(alloc: Global, found: u64) -> Result<Vec<u8>, AllocError>
     ensures { IfOk result (λ line. line.items ≡ groups_line found) }
 {
-    let told = Told::new(1, "TooManyGroups").with_number("found", found);
-    refusal_line(alloc, "groups", None, &[], &told)
+    let entry = Entry::new(1, "TooManyGroups").with_number("found", found);
+    refusal_line(alloc, "groups", None, &[], &entry)
 }
 
 /// The line of two tolerated groups that together are all parties.
@@ -59,8 +59,8 @@ pub fn covering_line(
     push_group(&mut first_text, first, names)?;
     let mut second_text = Vec::new(alloc);
     push_group(&mut second_text, second, names)?;
-    let told = Told::new(1, "Covering")
+    let entry = Entry::new(1, "Covering")
         .with_text("first", &first_text)
         .with_text("second", &second_text);
-    refusal_line(alloc, "q2", None, &[], &told)
+    refusal_line(alloc, "q2", None, &[], &entry)
 }

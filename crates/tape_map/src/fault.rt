@@ -1,6 +1,6 @@
 //! Why other inputs can't be hidden.
 
-use fault_table::Told;
+use fault_table::Entry;
 use std::alloc::AllocError;
 
 /// Why other inputs can't be hidden from a group.
@@ -43,17 +43,17 @@ impl MapFault {
     ghost use Rattle.tape_map.specs.ToldFaults.{told_map_fault};
 
     /// What the line of a refusal tells of the fault.
-    pub fn told(self) -> Told<'static>
+    pub fn told(self) -> Entry<'static>
         ensures { result ≡ told_map_fault self }
     {
         match self {
-            MapFault::NotTolerated => Told::new(1, "NotTolerated"),
+            MapFault::NotTolerated => Entry::new(1, "NotTolerated"),
             MapFault::InputDiffers {
                 session,
                 wire,
                 first,
                 second,
-            } => Told::new(2, "InputDiffers")
+            } => Entry::new(2, "InputDiffers")
                 .with_number("session", session as u64)
                 .with_number("wire", wire as u64)
                 .with_number("first", first)
@@ -64,13 +64,13 @@ impl MapFault {
                 recipient,
                 first,
                 second,
-            } => Told::new(3, "OutputDiffers")
+            } => Entry::new(3, "OutputDiffers")
                 .with_number("session", session as u64)
                 .with_number("wire", wire as u64)
                 .with_party("recipient", recipient)
                 .with_number("first", first)
                 .with_number("second", second),
-            MapFault::Memory => Told::new(0, "Memory"),
+            MapFault::Memory => Entry::new(0, "Memory"),
         }
     }
 }

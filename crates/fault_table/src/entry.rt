@@ -2,7 +2,7 @@
 ghost use Rattle.std.specs.Prelude.{◌≡◌, ◌+◌, ◌≤◌, ◌<◌, [], ◌∷◌, length, map, codes};
 ghost use Rattle.fault_table.specs.Tables.{fault, with_key, with_keys, of_party, on_line, at_place, found_for, in_session, told_value, told_key, Number, Signed, Text, Name, Party};
 
-use crate::key::{Key, Value};
+use crate::key::{EntryKey, KeyValue};
 use arrayvec::ArrayVec;
 use std::marker::Model;
 
@@ -11,27 +11,27 @@ pub const MOST_KEYS: usize = 5;
 
 /// The number of a fault in its part, its name, and its keys in the order in which they are written.
 #[derive(Drop)]
-pub struct Told<'a> {
+pub struct Entry<'a> {
     number: u32,
     name: &'static str,
-    keys: ArrayVec<Key<'a>, MOST_KEYS>,
+    keys: ArrayVec<EntryKey<'a>, MOST_KEYS>,
 }
 
-impl<'a> Model for Told<'a> {
+impl<'a> Model for Entry<'a> {
     ghost use Rattle.std.specs.Prelude.{map};
-    ghost use Rattle.fault_table.specs.Tables.{Told, fault, told_key};
+    ghost use Rattle.fault_table.specs.Tables.{Entry, fault, told_key};
 
-    ghost Value = { Told };
+    ghost Value = { Entry };
 
     ghost view = { λ t. fault t.number t.name.now (map told_key t.keys.items) };
 }
 
-impl<'a> Told<'a> {
+impl<'a> Entry<'a> {
     /// A fault without keys.
     pub fn new(number: u32, name: &'static str) -> Self
         ensures { result ≡ fault number name.now [] }
     {
-        Told {
+        Entry {
             number,
             name,
             keys: ArrayVec::new(),
@@ -42,14 +42,14 @@ impl<'a> Told<'a> {
     pub fn on_line(number: u32, name: &'static str, line: u64) -> Self
         ensures { result ≡ fault number name.now (on_line line) }
     {
-        Told::new(number, name).with_number("line", line)
+        Entry::new(number, name).with_number("line", line)
     }
 
     /// A fault that tells this place alone.
     pub fn at_place(number: u32, name: &'static str, at: u64) -> Self
         ensures { result ≡ fault number name.now (at_place at) }
     {
-        Told::new(number, name).with_number("at", at)
+        Entry::new(number, name).with_number("at", at)
     }
 
     /// A fault that tells its session alone, if it stands in one.
@@ -58,8 +58,8 @@ impl<'a> Told<'a> {
         ensures few { length result.keys ≤ 1 }
     {
         match session {
-            Some(session) => Told::new(number, name).with_number("session", session as u64),
-            None => Told::new(number, name),
+            Some(session) => Entry::new(number, name).with_number("session", session as u64),
+            None => Entry::new(number, name),
         }
     }
 
@@ -78,7 +78,7 @@ impl<'a> Told<'a> {
     }
 
     /// The keys, in the order in which they are written.
-    pub fn keys(&self) -> &[Key<'a>]
+    pub fn keys(&self) -> &[EntryKey<'a>]
         ensures { map told_key result.now ≡ self.now.keys }
     {
         &self.keys
@@ -89,7 +89,7 @@ impl<'a> Told<'a> {
         requires { length self.keys < MOST_KEYS }
         ensures { result ≡ with_key self.entry key.now (Number value) }
     {
-        self.with(key, Value::Number(value))
+        self.with(key, KeyValue::Number(value))
     }
 
     /// The same with a number that may be below 0.
@@ -97,7 +97,7 @@ impl<'a> Told<'a> {
         requires { length self.keys < MOST_KEYS }
         ensures { result ≡ with_key self.entry key.now (Signed value) }
     {
-        self.with(key, Value::Signed(value))
+        self.with(key, KeyValue::Signed(value))
     }
 
     /// The same with a text.
@@ -105,7 +105,7 @@ impl<'a> Told<'a> {
         requires { length self.keys < MOST_KEYS }
         ensures { result ≡ with_key self.entry key.now (Text value.now) }
     {
-        self.with(key, Value::Text(value))
+        self.with(key, KeyValue::Text(value))
     }
 
     /// The same with a name that a file gave.
@@ -113,7 +113,7 @@ impl<'a> Told<'a> {
         requires { length self.keys < MOST_KEYS }
         ensures { result ≡ with_key self.entry key.now (Name value.now) }
     {
-        self.with(key, Value::Name(value))
+        self.with(key, KeyValue::Name(value))
     }
 
     /// The same with the name of the party of this number.
@@ -121,7 +121,7 @@ impl<'a> Told<'a> {
         requires { length self.keys < MOST_KEYS }
         ensures { result ≡ with_key self.entry key.now (Party party) }
     {
-        self.with(key, Value::Party(party))
+        self.with(key, KeyValue::Party(party))
     }
 
     /// The same with what is wanted, and what there is.
@@ -138,19 +138,19 @@ impl<'a> Told<'a> {
         requires { length self.keys < MOST_KEYS }
         ensures { result ≡ of_party party self.entry }
     {
-        let key = Key {
+        let key = EntryKey {
             key: "party",
-            value: Value::Party(party),
+            value: KeyValue::Party(party),
         };
         self.keys.insert(0, key);
         self
     }
 
-    fn with(mut self, key: &'static str, value: Value<'a>) -> Self
+    fn with(mut self, key: &'static str, value: KeyValue<'a>) -> Self
         requires { length self.keys < MOST_KEYS }
         ensures { result ≡ with_key self.entry key.now (told_value value.entry) }
     {
-        self.keys.push(Key { key, value });
+        self.keys.push(EntryKey { key, value });
         self
     }
 }
