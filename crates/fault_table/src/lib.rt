@@ -4,4 +4,5 @@
 mod entry;
 mod key;
 
+pub use entry::{Entry, MOST_KEYS};
 pub use key::{EntryKey, KeyValue};
