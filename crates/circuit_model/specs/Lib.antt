@@ -1,5 +1,5 @@
 pub mod Circuits
-pub mod FaultTexts
+pub mod ToldFaults
 pub mod Checks
 pub mod Netlists
 pub mod DraftSteps

@@ -1,6 +1,7 @@
 //! What is wrong with a circuit.
 ghost use Rattle.std.specs.Prelude.{◌≡◌};
 
+use fault_table::Entry;
 use std::alloc::AllocError;
 
 /// What is wrong with the text of a circuit (Bristol Fashion). A line is told by its number, counted from 1.
@@ -43,116 +44,36 @@ pub enum CircuitFault {
 }
 
 impl CircuitFault {
-    ghost use Rattle.circuit_model.specs.FaultTexts.{number_of, name_of, line_in, wire_in, at_in, found_in, bits_in};
+    ghost use Rattle.circuit_model.specs.ToldFaults.{told_circuit_fault};
 
-    /// The number of the kind of fault, 0 for want of memory.
-    pub fn number(self) -> u32
-        ensures { result ≡ number_of self }
+    /// What the line of a refusal tells of the fault.
+    pub fn told(self) -> Entry<'static>
+        ensures { result ≡ told_circuit_fault self }
     {
         match self {
-            CircuitFault::NotUtf8 { .. } => 1,
-            CircuitFault::BadNumber { .. } => 2,
-            CircuitFault::ShortLine { .. } => 3,
-            CircuitFault::LongLine { .. } => 4,
-            CircuitFault::FewLines { .. } => 5,
-            CircuitFault::ExtraLine { .. } => 6,
-            CircuitFault::TooLarge { .. } => 7,
-            CircuitFault::HeaderWidths { .. } => 8,
-            CircuitFault::UnknownOperation { .. } => 9,
-            CircuitFault::WrongArity { .. } => 10,
-            CircuitFault::BadConstant { .. } => 11,
-            CircuitFault::WireOutOfRange { .. } => 12,
-            CircuitFault::ReadBeforeSet { .. } => 13,
-            CircuitFault::SetTwice { .. } => 14,
-            CircuitFault::OutputNotSet { .. } => 15,
-            CircuitFault::WrongRing { .. } => 16,
-            CircuitFault::Memory => 0,
-        }
-    }
-
-    /// The name of the kind of fault.
-    pub fn name(self) -> &'static str
-        ensures { result.now ≡ name_of self }
-    {
-        match self {
-            CircuitFault::NotUtf8 { .. } => "NotUtf8",
-            CircuitFault::BadNumber { .. } => "BadNumber",
-            CircuitFault::ShortLine { .. } => "ShortLine",
-            CircuitFault::LongLine { .. } => "LongLine",
-            CircuitFault::FewLines { .. } => "FewLines",
-            CircuitFault::ExtraLine { .. } => "ExtraLine",
-            CircuitFault::TooLarge { .. } => "TooLarge",
-            CircuitFault::HeaderWidths { .. } => "HeaderWidths",
-            CircuitFault::UnknownOperation { .. } => "UnknownOperation",
-            CircuitFault::WrongArity { .. } => "WrongArity",
-            CircuitFault::BadConstant { .. } => "BadConstant",
-            CircuitFault::WireOutOfRange { .. } => "WireOutOfRange",
-            CircuitFault::ReadBeforeSet { .. } => "ReadBeforeSet",
-            CircuitFault::SetTwice { .. } => "SetTwice",
-            CircuitFault::OutputNotSet { .. } => "OutputNotSet",
-            CircuitFault::WrongRing { .. } => "WrongRing",
-            CircuitFault::Memory => "Memory",
-        }
-    }
-
-    /// The number of the line at fault, where the fault is one of a line.
-    pub fn line(self) -> Option<u64>
-        ensures { result ≡ line_in self }
-    {
-        match self {
-            CircuitFault::BadNumber { line }
-            | CircuitFault::ShortLine { line }
-            | CircuitFault::LongLine { line }
-            | CircuitFault::ExtraLine { line }
-            | CircuitFault::TooLarge { line }
-            | CircuitFault::HeaderWidths { line }
-            | CircuitFault::UnknownOperation { line }
-            | CircuitFault::WrongArity { line }
-            | CircuitFault::BadConstant { line }
-            | CircuitFault::WireOutOfRange { line }
-            | CircuitFault::ReadBeforeSet { line }
-            | CircuitFault::SetTwice { line } => Some(line),
-            _ => None,
-        }
-    }
-
-    /// The output wire that isn't set.
-    pub fn wire(self) -> Option<u32>
-        ensures { result ≡ wire_in self }
-    {
-        match self {
-            CircuitFault::OutputNotSet { wire } => Some(wire),
-            _ => None,
-        }
-    }
-
-    /// The byte where the text ends that the bytes begin with.
-    pub fn at(self) -> Option<u64>
-        ensures { result ≡ at_in self }
-    {
-        match self {
-            CircuitFault::NotUtf8 { at } => Some(at),
-            _ => None,
-        }
-    }
-
-    /// How many lines with tokens there are, where they are too few.
-    pub fn found(self) -> Option<u64>
-        ensures { result ≡ found_in self }
-    {
-        match self {
-            CircuitFault::FewLines { found } => Some(found),
-            _ => None,
-        }
-    }
-
-    /// The bits of a ring that the layout doesn't go with.
-    pub fn bits(self) -> Option<i64>
-        ensures { result ≡ bits_in self }
-    {
-        match self {
-            CircuitFault::WrongRing { bits } => Some(bits),
-            _ => None,
+            CircuitFault::NotUtf8 { at } => Entry::at_place(1, "NotUtf8", at),
+            CircuitFault::BadNumber { line } => Entry::on_line(2, "BadNumber", line),
+            CircuitFault::ShortLine { line } => Entry::on_line(3, "ShortLine", line),
+            CircuitFault::LongLine { line } => Entry::on_line(4, "LongLine", line),
+            CircuitFault::FewLines { found } => {
+                Entry::new(5, "FewLines").with_number("found", found)
+            }
+            CircuitFault::ExtraLine { line } => Entry::on_line(6, "ExtraLine", line),
+            CircuitFault::TooLarge { line } => Entry::on_line(7, "TooLarge", line),
+            CircuitFault::HeaderWidths { line } => Entry::on_line(8, "HeaderWidths", line),
+            CircuitFault::UnknownOperation { line } => Entry::on_line(9, "UnknownOperation", line),
+            CircuitFault::WrongArity { line } => Entry::on_line(10, "WrongArity", line),
+            CircuitFault::BadConstant { line } => Entry::on_line(11, "BadConstant", line),
+            CircuitFault::WireOutOfRange { line } => Entry::on_line(12, "WireOutOfRange", line),
+            CircuitFault::ReadBeforeSet { line } => Entry::on_line(13, "ReadBeforeSet", line),
+            CircuitFault::SetTwice { line } => Entry::on_line(14, "SetTwice", line),
+            CircuitFault::OutputNotSet { wire } => {
+                Entry::new(15, "OutputNotSet").with_number("wire", wire as u64)
+            }
+            CircuitFault::WrongRing { bits } => {
+                Entry::new(16, "WrongRing").with_signed("bits", bits)
+            }
+            CircuitFault::Memory => Entry::new(0, "Memory"),
         }
     }
 }

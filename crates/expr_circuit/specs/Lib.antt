@@ -8,5 +8,5 @@ pub mod Walks
 pub mod Kept
 pub mod Named
 pub mod Keeps
-pub mod FaultTexts
+pub mod ToldFaults
 pub mod Laws

@@ -11,3 +11,4 @@ pub mod Formulas
 pub mod Resolved
 pub mod Values
 pub mod Laws
+pub mod ToldFaults

@@ -1,7 +1,9 @@
 //! Why a text is no formula.
 ghost use Rattle.std.specs.Prelude.{◌≡◌};
 ghost use Rattle.group_formula.specs.Resolved.{fault_place};
+ghost use Rattle.group_formula.specs.ToldFaults.{told_formula_fault};
 
+use fault_table::Entry;
 use std::alloc::AllocError;
 
 /// The fault of a text, and the byte at which it stands. A first pass from left to right finds `Syntax`, `TooDeep`
@@ -35,6 +37,20 @@ impl FormulaFault {
             | FormulaFault::TooDeep { at }
             | FormulaFault::TooManyNodes { at } => at,
             FormulaFault::Memory => 0,
+        }
+    }
+
+    /// What the line of a refusal tells of the fault.
+    pub fn told(self) -> Entry<'static>
+        ensures { result ≡ told_formula_fault self }
+    {
+        match self {
+            FormulaFault::Syntax { at } => Entry::at_place(1, "Syntax", at),
+            FormulaFault::UnknownName { at } => Entry::at_place(2, "UnknownName", at),
+            FormulaFault::BadCount { at } => Entry::at_place(3, "BadCount", at),
+            FormulaFault::TooDeep { at } => Entry::at_place(4, "TooDeep", at),
+            FormulaFault::TooManyNodes { at } => Entry::at_place(5, "TooManyNodes", at),
+            FormulaFault::Memory => Entry::new(0, "Memory"),
         }
     }
 }

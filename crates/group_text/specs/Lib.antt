@@ -1,2 +1,3 @@
 pub mod GroupTexts
 pub mod Masks
+pub mod ToldFaults

@@ -10,12 +10,12 @@ use Rattle.toml_fields.specs.Fields.{has_field, is_misfit}
 use Rattle.toml_fields.specs.Keys.{least_unknown}
 use Rattle.party_set.specs.Names.{party_named, names_fault}
 use Rattle.job_file.specs.declared.field.Field.{Field}
-use Rattle.job_file.specs.declared.field.Field.TheVariants.{Version, RingBits, Parties, Tolerated, Hosts, Port, Session, Circuit, Layout, Products, Owners, Readers}
+use Rattle.job_file.specs.declared.field.Field.TheVariants.{Version, RingBits, Parties, Tolerated, Hosts, Port, Frames, Views, Session, Circuit, Layout, Products, Owners, Readers}
 use Rattle.job_file.specs.declared.fault.JobFault.{JobFault}
-use Rattle.job_file.specs.declared.fault.JobFault.TheVariants.{NotToml, Version as OtherVersion, Missing, Unknown, WrongKind, BadRing, Names, SessionCount, BadFileName, BadLayout, BadProducts, BadOwner, BadCarry, BadReader, BadHost, BadPort, BadTolerated, TooManyTolerated}
+use Rattle.job_file.specs.declared.fault.JobFault.TheVariants.{NotToml, Version as OtherVersion, Missing, Unknown, WrongKind, BadRing, Names, SessionCount, BadFileName, BadLayout, BadProducts, BadOwner, BadCarry, BadReader, BadHost, BadPort, BadFrames, BadViews, BadTolerated, TooManyTolerated}
 use Rattle.job_file.specs.Names.{field_text, field_kind, top_fields, session_fields, is_file_name, is_host, layout_of}
 use Rattle.job_file.specs.Owners.{is_carry, owner_in}
-use Rattle.job_file.specs.Forms.{JobForm, TextList, job_form, is_version_two, adversary_field, prepared_in, integer, text, texts, items, lists, tables}
+use Rattle.job_file.specs.Forms.{JobForm, TextList, job_form, is_version_two, adversary_field, prepared_in, short_frames_in, own_views_in, integer, text, texts, items, lists, tables}
 use Rattle.job_file.specs.declared.limits.TheConstants.{LAST_PORT, MOST_TOLERATED}
 use Rattle.plan_faults.specs.declared.limits.TheConstants.{MOST_SESSIONS}
 
@@ -86,6 +86,8 @@ fields_fault node fields = first_fault
     ∷ required_fault None (adversary_field fields) fields
     ∷ node_fault node Hosts fields
     ∷ node_fault node Port fields
+    ∷ optional_fault None Frames fields
+    ∷ optional_fault None Views fields
     ∷ required_fault None Session fields
     ∷ [])
 
@@ -123,6 +125,12 @@ unfoldable pub port_fault : Members → Option JobFault
 port_fault fields =
     (is_there Port fields && not (is_within (pos 1) (pos LAST_PORT) (integer Port fields))) answers BadPort
     (integer Port fields)
+
+unfoldable pub frames_fault : Members → Option JobFault
+frames_fault fields = is_none (short_frames_in fields) answers BadFrames
+
+unfoldable pub views_fault : Members → Option JobFault
+views_fault fields = is_none (own_views_in fields) answers BadViews
 
 -- ---- a session
 
@@ -177,7 +185,7 @@ sessions_fault version_two names session (fields ∷ rest) = first_fault
 unfoldable pub job_fault : Bool → Members → Option JobFault
 job_fault node fields = first_fault
     (version_fault fields
-    ∷ unknown_fault None (top_fields (adversary_field fields)) fields
+    ∷ unknown_fault None (top_fields (is_version_two fields) (adversary_field fields)) fields
     ∷ fields_fault node fields
     ∷ ring_fault fields
     ∷ parties_fault fields
@@ -186,6 +194,8 @@ job_fault node fields = first_fault
     ∷ sessions_fault (is_version_two fields) (texts Parties fields) 0 (tables Session fields)
     ∷ hosts_fault fields
     ∷ port_fault fields
+    ∷ frames_fault fields
+    ∷ views_fault fields
     ∷ [])
 
 -- the job that some bytes stand for, or the first fault

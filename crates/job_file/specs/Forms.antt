@@ -7,13 +7,13 @@ use Rattle.toml.specs.Data.{Data, Members}
 use Rattle.toml_fields.specs.Fields.{has_field, integer_at, text_at, items_at, texts_at, texts_of, fields_of}
 use Rattle.party_set.specs.Names.{party_named}
 use Rattle.job_file.specs.declared.field.Field.{Field}
-use Rattle.job_file.specs.declared.field.Field.TheVariants.{Version, RingBits, Parties, Formula, Tolerated, Hosts, Port, Session, Circuit, Layout, Products, Owners, Readers}
+use Rattle.job_file.specs.declared.field.Field.TheVariants.{Version, RingBits, Parties, Formula, Tolerated, Hosts, Port, Frames, Views, Session, Circuit, Layout, Products, Owners, Readers}
 use Rattle.job_file.specs.declared.layout.SessionLayout.{SessionLayout}
 use Rattle.job_file.specs.declared.layout.SessionLayout.TheVariants.{Gates}
 use Rattle.circuit_model.specs.declared.layout.CircuitLayout.TheVariants.{Ring}
 use Rattle.job_file.specs.declared.owner.JobOwner.{JobOwner}
 use Rattle.job_file.specs.declared.owner.JobOwner.TheVariants.{Party}
-use Rattle.job_file.specs.Names.{field_text, layout_of, are_prepared}
+use Rattle.job_file.specs.Names.{field_text, layout_of, are_prepared, are_short, are_own}
 use Rattle.job_file.specs.Owners.{owner_in}
 use Rattle.party_set.specs.Parties.{with_party}
 
@@ -31,13 +31,16 @@ pub data AdversaryForm : Type 0 where
   by_formula : List ℕ → AdversaryForm
   by_list : List ℕ → AdversaryForm
 
--- what a job's file says: the ring, the parties, whom they tolerate, where a node finds its peers, and the sessions
+-- what a job's file says: the ring, the parties, whom they tolerate, where a node finds its peers, whether frames between
+-- nodes are short, whether each node writes its own view, and the sessions
 pub record JobForm : Type 0 where
   pub bits : ℕ
   pub names : List (List ℕ)
   pub adversary : AdversaryForm
   pub hosts : List (List ℕ)
   pub port : ℕ
+  pub short_frames : Bool
+  pub own_views : Bool
   pub sessions : List SessionForm
 
 -- ---- the value of a field
@@ -80,6 +83,14 @@ unfoldable pub prepared_in : Members → Option Bool
 prepared_in fields =
     if has_field (field_text Products) fields then are_prepared (text Products fields) else Some false
 
+-- whether frames between nodes are short: they name their messages where no field tells
+unfoldable pub short_frames_in : Members → Option Bool
+short_frames_in fields = if has_field (field_text Frames) fields then are_short (text Frames fields) else Some false
+
+-- whether each node writes its own view: none does where no field tells
+unfoldable pub own_views_in : Members → Option Bool
+own_views_in fields = if has_field (field_text Views) fields then are_own (text Views fields) else Some false
+
 -- the party of this name
 abbrev pub party_of : List (List ℕ) → List ℕ → ℕ
 party_of names name = unwrap_or (party_named names name) 0
@@ -119,5 +130,7 @@ job_form fields = record {
   adversary = adversary_form fields;
   hosts = texts Hosts fields;
   port = nat_abs (integer Port fields);
+  short_frames = unwrap_or (short_frames_in fields) false;
+  own_views = unwrap_or (own_views_in fields) false;
   sessions = session_forms (is_version_two fields) (texts Parties fields) (tables Session fields);
 }

@@ -30,6 +30,8 @@ job_view job = record {
   adversary = adversary_view job.adversary;
   hosts = job.hosts;
   port = job.port;
+  short_frames = job.short_frames;
+  own_views = job.own_views;
   sessions = map session_view job.sessions.items;
 }
 

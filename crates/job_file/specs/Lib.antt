@@ -4,4 +4,4 @@ pub mod Forms
 pub mod Faults
 pub mod Answers
 pub mod Jobs
-pub mod Keys
+pub mod ToldFaults

@@ -6,7 +6,7 @@ use Rattle.std.specs.Str.{bytes_eq}
 use Rattle.toml_fields.specs.declared.kind.Kind.{Kind}
 use Rattle.toml_fields.specs.declared.kind.Kind.TheVariants.{Integer, Text, Texts, TextLists, Tables}
 use Rattle.job_file.specs.declared.field.Field.{Field}
-use Rattle.job_file.specs.declared.field.Field.TheVariants.{Version, RingBits, Parties, Formula, Tolerated, Hosts, Port, Session, Circuit, Layout, Products, Owners, Readers}
+use Rattle.job_file.specs.declared.field.Field.TheVariants.{Version, RingBits, Parties, Formula, Tolerated, Hosts, Port, Frames, Views, Session, Circuit, Layout, Products, Owners, Readers}
 use Rattle.job_file.specs.declared.layout.SessionLayout.{SessionLayout}
 use Rattle.job_file.specs.declared.layout.SessionLayout.TheVariants.{Gates, Expressions}
 use Rattle.job_file.specs.declared.limits.TheConstants.{LONGEST_FILE_NAME, LONGEST_HOST}
@@ -21,6 +21,8 @@ field_text Formula = codes "formula"
 field_text Tolerated = codes "tolerated"
 field_text Hosts = codes "hosts"
 field_text Port = codes "port"
+field_text Frames = codes "frames"
+field_text Views = codes "views"
 field_text Session = codes "session"
 field_text Circuit = codes "circuit"
 field_text Layout = codes "layout"
@@ -36,6 +38,8 @@ field_kind Formula = Text
 field_kind Tolerated = TextLists
 field_kind Hosts = Texts
 field_kind Port = Integer
+field_kind Frames = Text
+field_kind Views = Text
 field_kind Session = Tables
 field_kind Circuit = Text
 field_kind Layout = Text
@@ -43,9 +47,10 @@ field_kind Products = Text
 field_kind Owners = Texts
 field_kind Readers = TextLists
 
--- the fields of the top table, of which one tells the tolerated groups
-abbrev pub top_fields : Field → List Field
-top_fields adversary = Version ∷ RingBits ∷ Parties ∷ adversary ∷ Hosts ∷ Port ∷ Session ∷ []
+-- the fields of the top table, in a file of version 2 or not, of which one tells the tolerated groups
+abbrev pub top_fields : Bool → Field → List Field
+top_fields version_two adversary =
+    Version ∷ RingBits ∷ Parties ∷ adversary ∷ Hosts ∷ Port ∷ Session ∷ (if version_two then Frames ∷ Views ∷ [] else [])
 
 -- the fields of a session, in a file of version 2 or not
 abbrev pub session_fields : Bool → List Field
@@ -82,4 +87,18 @@ unfoldable pub are_prepared : List ℕ → Option Bool
 are_prepared name =
     if bytes_eq name (codes "direct") then Some false
     else if bytes_eq name (codes "prepared") then Some true
+    else None
+
+-- whether this text, named or short, says that frames are short
+unfoldable pub are_short : List ℕ → Option Bool
+are_short name =
+    if bytes_eq name (codes "named") then Some false
+    else if bytes_eq name (codes "short") then Some true
+    else None
+
+-- whether this text, none or own, says that each node writes its own view
+unfoldable pub are_own : List ℕ → Option Bool
+are_own name =
+    if bytes_eq name (codes "none") then Some false
+    else if bytes_eq name (codes "own") then Some true
     else None

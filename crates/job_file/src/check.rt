@@ -4,7 +4,7 @@ ghost use Rattle.std.specs.Option.{option_map};
 ghost use Rattle.toml_fields.specs.Keys.{least_unknown};
 ghost use Rattle.toml.specs.View.{table_view};
 ghost use Rattle.job_file.specs.Names.{top_fields, session_fields};
-ghost use Rattle.job_file.specs.Forms.{is_version_two, adversary_field, prepared_in};
+ghost use Rattle.job_file.specs.Forms.{is_version_two, adversary_field, prepared_in, short_frames_in, own_views_in};
 ghost use Rattle.job_file.specs.Faults.{is_there, is_of_other_kind, required_fault, optional_fault, node_fault, unknown_fault};
 ghost use Rattle.job_file.specs.Answers.{TellsFault, TellsOrMemory};
 ghost use Rattle.list_laws.specs.Checks.{◌answers◌};
@@ -12,7 +12,7 @@ ghost use Rattle.job_file.specs.declared.fault.JobFault.TheVariants.{Unknown};
 
 use crate::fault::JobFault;
 use crate::field::Field;
-use crate::texts::are_prepared;
+use crate::texts::{are_own, are_prepared, are_short};
 use party_set::NameText;
 use std::alloc::{AllocError, Global};
 use toml::Table;
@@ -127,11 +127,36 @@ pub fn prepared_in(table: &Table) -> Option<bool>
     }
 }
 
+/// Whether frames between nodes are short, by the text that tells it: they name their messages where no field tells.
+#[tactic(auto, unfolding(crate::specs::Forms::short_frames_in))]
+pub fn short_frames_in(table: &Table) -> Option<bool>
+    ensures { result ≡ short_frames_in (table_view table.now) }
+{
+    if is_there(table, Field::Frames) {
+        are_short(text_at(table, Field::Frames.text()))
+    } else {
+        Some(false)
+    }
+}
+
+/// Whether each node writes its own view, by the text that tells it: none does where no field tells.
+#[tactic(auto, unfolding(crate::specs::Forms::own_views_in))]
+pub fn own_views_in(table: &Table) -> Option<bool>
+    ensures { result ≡ own_views_in (table_view table.now) }
+{
+    if is_there(table, Field::Views) {
+        are_own(text_at(table, Field::Views.text()))
+    } else {
+        Some(false)
+    }
+}
+
 /// Checks that the top table has no other fields.
 #[tactic(auto, unfolding(crate::specs::Faults::unknown_fault))]
 pub fn check_top_known(alloc: Global, table: &Table) -> Result<(), JobFault>
     ensures { let fields = table_view table.now in
-        TellsOrMemory result (unknown_fault None (top_fields (adversary_field fields)) fields) }
+        TellsOrMemory result
+        (unknown_fault None (top_fields (is_version_two fields) (adversary_field fields)) fields) }
 {
     let known = [
         Field::Version.text(),
@@ -141,8 +166,14 @@ pub fn check_top_known(alloc: Global, table: &Table) -> Result<(), JobFault>
         Field::Hosts.text(),
         Field::Port.text(),
         Field::Session.text(),
+        Field::Frames.text(),
+        Field::Views.text(),
     ];
-    check_known(alloc, table, None, &known)
+    if is_version_two(table) {
+        check_known(alloc, table, None, &known)
+    } else {
+        check_known(alloc, table, None, &known[..7])
+    }
 }
 
 /// Checks that the table of a session has no other fields.

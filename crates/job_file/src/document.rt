@@ -6,7 +6,7 @@ ghost use Rattle.job_file.specs.Names.{top_fields};
 ghost use Rattle.job_file.specs.Forms.{is_version_two, adversary_field, job_form, items, tables, texts};
 ghost use Rattle.job_file.specs.Jobs.{job_view, IsJob};
 ghost use Rattle.list_laws.specs.Checks.{first_fault};
-ghost use Rattle.job_file.specs.Faults.{version_fault, unknown_fault, fields_fault, ring_fault, adversary_fault, count_fault, sessions_fault, hosts_fault, port_fault, job_fault, job_in};
+ghost use Rattle.job_file.specs.Faults.{version_fault, unknown_fault, fields_fault, ring_fault, adversary_fault, count_fault, sessions_fault, hosts_fault, port_fault, frames_fault, views_fault, job_fault, job_in};
 ghost use Rattle.job_file.specs.declared.field.Field.TheVariants.{Parties, Session};
 ghost use Rattle.job_file.specs.declared.fault.JobFault.TheVariants.{Memory};
 
@@ -16,8 +16,8 @@ use crate::field::Field;
 use crate::job::Job;
 use crate::session::check_sessions;
 use crate::top::{
-    check_adversary, check_count, check_fields, check_hosts, check_port, check_ring, check_version,
-    read_parties,
+    check_adversary, check_count, check_fields, check_frames, check_hosts, check_port, check_ring,
+    check_version, check_views, read_parties,
 };
 use crate::values::job_of;
 use party_set::Names;
@@ -28,7 +28,7 @@ use toml_fields::{document, items_at};
 fn check_head(alloc: Global, table: &Table, node: bool) -> Result<(), JobFault>
     ensures { let fields = table_view table.now in TellsOrMemory result (first_fault
         (version_fault fields
-        ∷ unknown_fault None (top_fields (adversary_field fields)) fields
+        ∷ unknown_fault None (top_fields (is_version_two fields) (adversary_field fields)) fields
         ∷ fields_fault node fields
         ∷ ring_fault fields
         ∷ [])) }
@@ -49,6 +49,8 @@ fn check_rest(alloc: Global, table: &Table, names: &Names) -> Result<(), JobFaul
         ∷ sessions_fault (is_version_two fields) (texts Parties fields) 0 (tables Session fields)
         ∷ hosts_fault fields
         ∷ port_fault fields
+        ∷ frames_fault fields
+        ∷ views_fault fields
         ∷ [])) }
 {
     check_adversary(table, names)?;
@@ -56,7 +58,9 @@ fn check_rest(alloc: Global, table: &Table, names: &Names) -> Result<(), JobFaul
     check_count(sessions.len())?;
     check_sessions(alloc, sessions, is_version_two(table), names)?;
     check_hosts(table, names.len())?;
-    Ok(check_port(table)?)
+    check_port(table)?;
+    check_frames(table)?;
+    Ok(check_views(table)?)
 }
 
 #[tactic(auto, unfolding(crate::specs::Faults::job_fault))]

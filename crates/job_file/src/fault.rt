@@ -75,6 +75,10 @@ pub enum JobFault {
     BadPort {
         port: i64,
     },
+    /// The text that tells the form of frames is neither of its two.
+    BadFrames,
+    /// The text that tells whether nodes write views is neither of its two.
+    BadViews,
     /// A text of a tolerated group that is no party, or stands before in the group's list.
     BadTolerated {
         value: u32,

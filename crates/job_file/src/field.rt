@@ -4,7 +4,7 @@ ghost use Rattle.job_file.specs.Names.{field_text, field_kind};
 
 use toml_fields::Kind;
 
-/// A field of the top table (the first eight) or of a session.
+/// A field of the top table (the first ten) or of a session.
 #[derive(Clone, Copy, Debug, PartialEq, Eq)]
 pub enum Field {
     Version,
@@ -14,6 +14,8 @@ pub enum Field {
     Tolerated,
     Hosts,
     Port,
+    Frames,
+    Views,
     Session,
     Circuit,
     Layout,
@@ -36,6 +38,8 @@ impl Field {
             Field::Tolerated => "tolerated",
             Field::Hosts => "hosts",
             Field::Port => "port",
+            Field::Frames => "frames",
+            Field::Views => "views",
             Field::Session => "session",
             Field::Circuit => "circuit",
             Field::Layout => "layout",
@@ -52,7 +56,12 @@ impl Field {
     {
         match self {
             Field::Version | Field::RingBits | Field::Port => Kind::Integer,
-            Field::Formula | Field::Circuit | Field::Layout | Field::Products => Kind::Text,
+            Field::Formula
+            | Field::Frames
+            | Field::Views
+            | Field::Circuit
+            | Field::Layout
+            | Field::Products => Kind::Text,
             Field::Parties | Field::Hosts | Field::Owners => Kind::Texts,
             Field::Tolerated | Field::Readers => Kind::TextLists,
             Field::Session => Kind::Tables,

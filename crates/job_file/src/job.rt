@@ -26,7 +26,8 @@ pub struct JobSession {
     pub readers: Vec<Group>,
 }
 
-/// A job. Hosts are empty and the port is 0 where the file does not give them.
+/// A job. Where the file does not give them, hosts are empty, the port is 0, frames name their messages, and nodes write no
+/// views.
 #[derive(Drop)]
 pub struct Job {
     pub ring: Ring,
@@ -34,5 +35,7 @@ pub struct Job {
     pub adversary: Adversary,
     pub hosts: Hosts,
     pub port: u16,
+    pub short_frames: bool,
+    pub own_views: bool,
     pub sessions: Vec<JobSession>,
 }

@@ -6,13 +6,13 @@ mod document;
 mod fault;
 mod field;
 mod job;
-mod keys;
 mod layout;
 mod limits;
 mod owner;
 mod parties;
 mod session;
 mod texts;
+mod told;
 mod top;
 mod values;
 

@@ -1,7 +1,7 @@
 //! The texts that a job's file may give.
 ghost use Rattle.std.specs.Prelude.{◌≡◌};
 ghost use Rattle.std.specs.List.{list_all};
-ghost use Rattle.job_file.specs.Names.{is_file_byte, is_file_name, is_host_byte, is_host, layout_of, are_prepared};
+ghost use Rattle.job_file.specs.Names.{is_file_byte, is_file_name, is_host_byte, is_host, layout_of, are_prepared, are_short, are_own};
 
 use crate::layout::SessionLayout;
 use crate::limits::{LONGEST_FILE_NAME, LONGEST_HOST};
@@ -76,6 +76,30 @@ pub fn are_prepared(name: &str) -> Option<bool>
     match name {
         "direct" => Some(false),
         "prepared" => Some(true),
+        _ => None,
+    }
+}
+
+/// Whether this text, named or short, says that frames are short.
+#[tactic(auto, unfolding(crate::specs::Names::are_short))]
+pub fn are_short(name: &str) -> Option<bool>
+    ensures { result ≡ are_short name.now }
+{
+    match name {
+        "named" => Some(false),
+        "short" => Some(true),
+        _ => None,
+    }
+}
+
+/// Whether this text, none or own, says that each node writes its own view.
+#[tactic(auto, unfolding(crate::specs::Names::are_own))]
+pub fn are_own(name: &str) -> Option<bool>
+    ensures { result ≡ are_own name.now }
+{
+    match name {
+        "none" => Some(false),
+        "own" => Some(true),
         _ => None,
     }
 }

@@ -7,12 +7,13 @@ ghost use Rattle.job_file.specs.Answers.{TellsFault};
 ghost use Rattle.job_file.specs.Names.{is_host};
 ghost use Rattle.job_file.specs.Forms.{texts};
 ghost use Rattle.list_laws.specs.Checks.{◌answers◌};
-ghost use Rattle.job_file.specs.Faults.{version_fault, fields_fault, ring_fault, parties_fault, groups_fault, adversary_fault, count_fault, hosts_fault, port_fault, is_there};
+ghost use Rattle.job_file.specs.Faults.{version_fault, fields_fault, ring_fault, parties_fault, groups_fault, adversary_fault, count_fault, hosts_fault, port_fault, frames_fault, views_fault, is_there};
 ghost use Rattle.job_file.specs.declared.field.Field.TheVariants.{Parties, Hosts};
 ghost use Rattle.job_file.specs.declared.fault.JobFault.TheVariants.{Memory, BadHost};
 
 use crate::check::{
-    adversary_field, check, check_for_node, check_required, is_there, is_version_two,
+    adversary_field, check, check_for_node, check_optional, check_required, is_there,
+    is_version_two, own_views_in, short_frames_in,
 };
 use crate::fault::JobFault;
 use crate::field::Field;
@@ -45,6 +46,8 @@ pub fn check_fields(table: &Table, node: bool) -> Result<(), JobFault>
     check_required(table, None, adversary_field(table))?;
     check_for_node(table, node, Field::Hosts)?;
     check_for_node(table, node, Field::Port)?;
+    check_optional(table, None, Field::Frames)?;
+    check_optional(table, None, Field::Views)?;
     check_required(table, None, Field::Session)
 }
 
@@ -173,4 +176,20 @@ pub fn check_port(table: &Table) -> Result<(), JobFault>
         is_there(table, Field::Port) && (port < 1 || port > i64::from(LAST_PORT)),
         JobFault::BadPort { port },
     )
+}
+
+/// Checks the form of frames, where one is told: named or short.
+#[tactic(auto, unfolding(crate::specs::Faults::frames_fault))]
+pub fn check_frames(table: &Table) -> Result<(), JobFault>
+    ensures { TellsFault result (frames_fault (table_view table.now)) }
+{
+    check(short_frames_in(table).is_none(), JobFault::BadFrames)
+}
+
+/// Checks whether nodes write views, where it is told: none or own.
+#[tactic(auto, unfolding(crate::specs::Faults::views_fault))]
+pub fn check_views(table: &Table) -> Result<(), JobFault>
+    ensures { TellsFault result (views_fault (table_view table.now)) }
+{
+    check(own_views_in(table).is_none(), JobFault::BadViews)
 }

@@ -9,7 +9,7 @@ ghost use Rattle.job_file.specs.Faults.{ring_fault, port_fault};
 ghost use Rattle.job_file.specs.Jobs.{session_view, adversary_view, job_view, HasParties, IsSession, AreSessions, IsJob};
 ghost use Rattle.job_file.specs.declared.field.Field.TheVariants.{RingBits, Parties, Port, Session};
 
-use crate::check::{is_there, is_version_two, prepared_in};
+use crate::check::{is_there, is_version_two, own_views_in, prepared_in, short_frames_in};
 use crate::field::Field;
 use crate::job::{Adversary, Job, JobSession};
 use crate::layout::SessionLayout;
@@ -215,6 +215,8 @@ pub fn job_of(alloc: Global, table: &Table, names: Names) -> Result<Job, AllocEr
     let adversary = adversary_of(alloc, table, &names)?;
     let hosts = hosts_of(alloc, items_at(table, Field::Hosts.text()))?;
     let port = port_of(table);
+    let short_frames = short_frames_in(table).unwrap_or(false);
+    let own_views = own_views_in(table).unwrap_or(false);
     let tables = items_at(table, Field::Session.text());
     let sessions = sessions_of(alloc, tables, is_version_two(table), &names)?;
     let _ = names.len();
@@ -224,6 +226,8 @@ pub fn job_of(alloc: Global, table: &Table, names: Names) -> Result<Job, AllocEr
         adversary,
         hosts,
         port,
+        short_frames,
+        own_views,
         sessions,
     })
 }

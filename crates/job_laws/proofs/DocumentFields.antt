@@ -8,7 +8,7 @@ use Rattle.std.proofs.lemmas.Slice.Eq.{bytes_eq-Decides}
 use Rattle.toml.specs.Data.{Data, Members, no_members, member, depth, get_member, is_before, members_depth, members_have_valid_dates, members_are_sorted}
 use Rattle.toml_fields.specs.Keys.{is_known, lesser, least_unknown}
 use Rattle.job_file.specs.declared.field.Field.{Field}
-use Rattle.job_file.specs.declared.field.Field.TheVariants.{Version, RingBits, Parties, Formula, Tolerated, Hosts, Port, Session, Circuit, Layout, Products, Owners, Readers}
+use Rattle.job_file.specs.declared.field.Field.TheVariants.{Version, RingBits, Parties, Formula, Tolerated, Hosts, Port, Frames, Views, Session, Circuit, Layout, Products, Owners, Readers}
 use Rattle.job_file.specs.Names.{field_text}
 use Rattle.job_laws.specs.Documents.{with_field}
 use Rattle.job_laws.proofs.DocumentShapes.{IsPlain, max_below}
@@ -105,9 +105,12 @@ not_known names key (member name d rest) unknown e =
 
 -- ---- the top table
 
-module _ (formula hosts port tolerated : Option Data) (parties bits session version : Data) where
+module _ (formula frames hosts port tolerated views : Option Data) (parties bits session version : Data) where
+  abbrev from_views : Members
+  from_views = with_field Views views no_members
+
   abbrev from_version : Members
-  from_version = with_field Version (Some version) no_members
+  from_version = with_field Version (Some version) from_views
 
   abbrev from_tolerated : Members
   from_tolerated = with_field Tolerated tolerated from_version
@@ -127,64 +130,86 @@ module _ (formula hosts port tolerated : Option Data) (parties bits session vers
   abbrev from_hosts : Members
   from_hosts = with_field Hosts hosts from_parties
 
+  abbrev from_frames : Members
+  from_frames = with_field Frames frames from_hosts
+
   abbrev pub top : Members
-  top = with_field Formula formula from_hosts
+  top = with_field Formula formula from_frames
 
   pub at_formula : value_of Formula top ≡ formula
   unfolding field_text
   at_formula =
-      here_or Formula formula from_hosts refl
-      (past Formula Hosts hosts from_parties refl ∙ past Formula Parties (Some parties) from_port refl ∙ past Formula Port port from_bits refl ∙ past Formula RingBits (Some bits) from_session refl
-      ∙ past Formula Session (Some session) from_tolerated refl ∙ past Formula Tolerated tolerated from_version refl ∙ past Formula Version (Some version) no_members refl)
+      here_or Formula formula from_frames refl
+      (past Formula Frames frames from_hosts refl ∙ past Formula Hosts hosts from_parties refl ∙ past Formula Parties (Some parties) from_port refl ∙ past Formula Port port from_bits refl
+      ∙ past Formula RingBits (Some bits) from_session refl ∙ past Formula Session (Some session) from_tolerated refl ∙ past Formula Tolerated tolerated from_version refl
+      ∙ past Formula Version (Some version) from_views refl ∙ past Formula Views views no_members refl)
+
+  pub at_frames : value_of Frames top ≡ frames
+  unfolding field_text
+  at_frames =
+      past Frames Formula formula from_frames refl ∙ here_or Frames frames from_hosts refl
+      (past Frames Hosts hosts from_parties refl ∙ past Frames Parties (Some parties) from_port refl ∙ past Frames Port port from_bits refl ∙ past Frames RingBits (Some bits) from_session refl
+      ∙ past Frames Session (Some session) from_tolerated refl ∙ past Frames Tolerated tolerated from_version refl ∙ past Frames Version (Some version) from_views refl
+      ∙ past Frames Views views no_members refl)
 
   pub at_hosts : value_of Hosts top ≡ hosts
   unfolding field_text
   at_hosts =
-      past Hosts Formula formula from_hosts refl
-      ∙ here_or Hosts hosts from_parties refl
+      past Hosts Formula formula from_frames refl ∙ past Hosts Frames frames from_hosts refl ∙ here_or Hosts hosts from_parties refl
       (past Hosts Parties (Some parties) from_port refl ∙ past Hosts Port port from_bits refl ∙ past Hosts RingBits (Some bits) from_session refl
-      ∙ past Hosts Session (Some session) from_tolerated refl ∙ past Hosts Tolerated tolerated from_version refl ∙ past Hosts Version (Some version) no_members refl)
+      ∙ past Hosts Session (Some session) from_tolerated refl ∙ past Hosts Tolerated tolerated from_version refl ∙ past Hosts Version (Some version) from_views refl
+      ∙ past Hosts Views views no_members refl)
 
   pub at_parties : value_of Parties top ≡ Some parties
   unfolding field_text
-  at_parties = past Parties Formula formula from_hosts refl ∙ past Parties Hosts hosts from_parties refl ∙ here Parties parties from_port refl
+  at_parties =
+      past Parties Formula formula from_frames refl ∙ past Parties Frames frames from_hosts refl ∙ past Parties Hosts hosts from_parties refl ∙ here Parties parties from_port refl
 
   pub at_port : value_of Port top ≡ port
   unfolding field_text
   at_port =
-      past Port Formula formula from_hosts refl ∙ past Port Hosts hosts from_parties refl ∙ past Port Parties (Some parties) from_port refl
+      past Port Formula formula from_frames refl ∙ past Port Frames frames from_hosts refl ∙ past Port Hosts hosts from_parties refl ∙ past Port Parties (Some parties) from_port refl
       ∙ here_or Port port from_bits refl
       (past Port RingBits (Some bits) from_session refl ∙ past Port Session (Some session) from_tolerated refl ∙ past Port Tolerated tolerated from_version refl
-      ∙ past Port Version (Some version) no_members refl)
+      ∙ past Port Version (Some version) from_views refl ∙ past Port Views views no_members refl)
 
   pub at_bits : value_of RingBits top ≡ Some bits
   unfolding field_text
   at_bits =
-      past RingBits Formula formula from_hosts refl ∙ past RingBits Hosts hosts from_parties refl ∙ past RingBits Parties (Some parties) from_port refl ∙ past RingBits Port port from_bits refl
-      ∙ here RingBits bits from_session refl
+      past RingBits Formula formula from_frames refl ∙ past RingBits Frames frames from_hosts refl ∙ past RingBits Hosts hosts from_parties refl
+      ∙ past RingBits Parties (Some parties) from_port refl ∙ past RingBits Port port from_bits refl ∙ here RingBits bits from_session refl
 
   pub at_session : value_of Session top ≡ Some session
   unfolding field_text
   at_session =
-      past Session Formula formula from_hosts refl ∙ past Session Hosts hosts from_parties refl ∙ past Session Parties (Some parties) from_port refl ∙ past Session Port port from_bits refl
-      ∙ past Session RingBits (Some bits) from_session refl ∙ here Session session from_tolerated refl
+      past Session Formula formula from_frames refl ∙ past Session Frames frames from_hosts refl ∙ past Session Hosts hosts from_parties refl ∙ past Session Parties (Some parties) from_port refl
+      ∙ past Session Port port from_bits refl ∙ past Session RingBits (Some bits) from_session refl ∙ here Session session from_tolerated refl
 
   pub at_tolerated : value_of Tolerated top ≡ tolerated
   unfolding field_text
   at_tolerated =
-      past Tolerated Formula formula from_hosts refl ∙ past Tolerated Hosts hosts from_parties refl ∙ past Tolerated Parties (Some parties) from_port refl ∙ past Tolerated Port port from_bits refl
-      ∙ past Tolerated RingBits (Some bits) from_session refl ∙ past Tolerated Session (Some session) from_tolerated refl
-      ∙ here_or Tolerated tolerated from_version refl (past Tolerated Version (Some version) no_members refl)
+      past Tolerated Formula formula from_frames refl ∙ past Tolerated Frames frames from_hosts refl ∙ past Tolerated Hosts hosts from_parties refl
+      ∙ past Tolerated Parties (Some parties) from_port refl ∙ past Tolerated Port port from_bits refl ∙ past Tolerated RingBits (Some bits) from_session refl
+      ∙ past Tolerated Session (Some session) from_tolerated refl ∙ here_or Tolerated tolerated from_version refl
+      (past Tolerated Version (Some version) from_views refl ∙ past Tolerated Views views no_members refl)
 
   pub at_version : value_of Version top ≡ Some version
   unfolding field_text
   at_version =
-      past Version Formula formula from_hosts refl ∙ past Version Hosts hosts from_parties refl ∙ past Version Parties (Some parties) from_port refl ∙ past Version Port port from_bits refl
-      ∙ past Version RingBits (Some bits) from_session refl ∙ past Version Session (Some session) from_tolerated refl ∙ past Version Tolerated tolerated from_version refl
-      ∙ here Version version no_members refl
+      past Version Formula formula from_frames refl ∙ past Version Frames frames from_hosts refl ∙ past Version Hosts hosts from_parties refl ∙ past Version Parties (Some parties) from_port refl
+      ∙ past Version Port port from_bits refl ∙ past Version RingBits (Some bits) from_session refl ∙ past Version Session (Some session) from_tolerated refl
+      ∙ past Version Tolerated tolerated from_version refl ∙ here Version version from_views refl
+
+  pub at_views : value_of Views top ≡ views
+  unfolding field_text
+  at_views =
+      past Views Formula formula from_frames refl ∙ past Views Frames frames from_hosts refl ∙ past Views Hosts hosts from_parties refl ∙ past Views Parties (Some parties) from_port refl
+      ∙ past Views Port port from_bits refl ∙ past Views RingBits (Some bits) from_session refl ∙ past Views Session (Some session) from_tolerated refl
+      ∙ past Views Tolerated tolerated from_version refl ∙ past Views Version (Some version) from_views refl ∙ here_or Views views no_members refl refl
 
   pub record TopIsPlain : Type 0 where
     pub formula_is : IfSome formula (IsPlain 4)
+    pub frames_are : IfSome frames (IsPlain 4)
     pub hosts_are : IfSome hosts (IsPlain 4)
     pub parties_are : IsPlain 4 parties
     pub port_is : IfSome port (IsPlain 4)
@@ -192,31 +217,38 @@ module _ (formula hosts port tolerated : Option Data) (parties bits session vers
     pub sessions_are : IsPlain 4 session
     pub groups_are : IfSome tolerated (IsPlain 4)
     pub version_is : IsPlain 4 version
+    pub views_are : IfSome views (IsPlain 4)
 
   pub top_plain : TopIsPlain → AreFields 4 top
   unfolding field_text
   top_plain p =
-      one_more 4 Formula formula from_hosts p.formula_is (before Formula Hosts hosts from_parties refl refl)
+      one_more 4 Formula formula from_frames p.formula_is (before Formula Frames frames from_hosts refl (before Formula Hosts hosts from_parties refl refl))
+      (one_more 4 Frames frames from_hosts p.frames_are (before Frames Hosts hosts from_parties refl refl)
       (one_more 4 Hosts hosts from_parties p.hosts_are refl
       (one_more 4 Parties (Some parties) from_port p.parties_are (before Parties Port port from_bits refl refl)
       (one_more 4 Port port from_bits p.port_is refl
       (one_more 4 RingBits (Some bits) from_session p.bits_are refl
       (one_more 4 Session (Some session) from_tolerated p.sessions_are (before Session Tolerated tolerated from_version refl refl)
       (one_more 4 Tolerated tolerated from_version p.groups_are refl
-      (one_more 4 Version (Some version) no_members p.version_is refl (no_more 4))))))))
+      (one_more 4 Version (Some version) from_views p.version_is (before Version Views views no_members refl refl)
+      (one_more 4 Views views no_members p.views_are refl (no_more 4))))))))))
 
-  pub top_known : (names : List (List ℕ)) → IfSome formula (λ d. is_known names (field_text Formula) ≡ true) → is_known names (field_text Hosts) ≡ true → is_known names (field_text Parties) ≡ true
-      → is_known names (field_text Port) ≡ true → is_known names (field_text RingBits) ≡ true → is_known names (field_text Session) ≡ true
-      → IfSome tolerated (λ d. is_known names (field_text Tolerated) ≡ true) → is_known names (field_text Version) ≡ true → least_unknown names top ≡ None
-  top_known names f h pa po b s t v =
-      known_if names Formula formula from_hosts f
+  pub top_known : (names : List (List ℕ))
+      → IfSome formula (λ d. is_known names (field_text Formula) ≡ true) → IfSome frames (λ d. is_known names (field_text Frames) ≡ true) → is_known names (field_text Hosts) ≡ true
+      → is_known names (field_text Parties) ≡ true → is_known names (field_text Port) ≡ true → is_known names (field_text RingBits) ≡ true
+      → is_known names (field_text Session) ≡ true → IfSome tolerated (λ d. is_known names (field_text Tolerated) ≡ true) → is_known names (field_text Version) ≡ true
+      → IfSome views (λ d. is_known names (field_text Views) ≡ true) → least_unknown names top ≡ None
+  top_known names f fr h pa po b s t v vi =
+      known_if names Formula formula from_frames f
+      (known_if names Frames frames from_hosts fr
       (known names Hosts hosts from_parties h
       (known names Parties (Some parties) from_port pa
       (known names Port port from_bits po
       (known names RingBits (Some bits) from_session b
       (known names Session (Some session) from_tolerated s
       (known_if names Tolerated tolerated from_version t
-      (known names Version (Some version) no_members v (none_known names))))))))
+      (known names Version (Some version) from_views v
+      (known_if names Views views no_members vi (none_known names))))))))))
 
 -- ---- the table of a session
 

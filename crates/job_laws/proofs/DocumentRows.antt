@@ -21,16 +21,16 @@ use Rattle.party_set.specs.Names.{names_fault, AreNames}
 use Rattle.party_set.proofs.NameFaults.{no_fault_from}
 use Rattle.circuit_model.specs.declared.layout.CircuitLayout.TheVariants.{Bristol, Ring}
 use Rattle.job_file.specs.declared.field.Field.{Field}
-use Rattle.job_file.specs.declared.field.Field.TheVariants.{Version, RingBits, Parties, Formula, Tolerated, Hosts, Port, Session, Circuit, Layout, Products, Owners, Readers}
+use Rattle.job_file.specs.declared.field.Field.TheVariants.{Version, RingBits, Parties, Formula, Tolerated, Hosts, Port, Frames, Views, Session, Circuit, Layout, Products, Owners, Readers}
 use Rattle.job_file.specs.declared.fault.JobFault.{JobFault}
 use Rattle.job_file.specs.declared.fault.JobFault.TheVariants.{NotToml, Unknown}
 use Rattle.job_file.specs.declared.layout.SessionLayout.{SessionLayout}
 use Rattle.job_file.specs.declared.layout.SessionLayout.TheVariants.{Gates, Expressions}
-use Rattle.job_file.specs.Names.{field_text, field_kind, top_fields, session_fields, is_file_name, is_host, layout_of, are_prepared}
+use Rattle.job_file.specs.Names.{field_text, field_kind, top_fields, session_fields, is_file_name, is_host, layout_of, are_prepared, are_short, are_own}
 use Rattle.job_file.specs.Forms as forms
-use Rattle.job_file.specs.Forms.{JobForm, SessionForm, AdversaryForm, by_formula, by_list, is_version_two, adversary_field, prepared_in, owner_of, session_form, session_forms, adversary_form, job_form, mask_of}
-use Rattle.job_file.specs.Faults.{bad_in_lists, owners_fault, is_within, required_fault, optional_fault, unknown_fault, version_fault, fields_fault, ring_fault, parties_fault, groups_fault, adversary_fault, count_fault, hosts_fault, port_fault, node_fault, session_fields_fault, session_values_fault, sessions_fault, job_fault, job_in}
-use Rattle.job_laws.specs.Documents.{texts_data, groups_data, member_names, layout_text, products_data, session_fields_of, sessions_data, version_data, formula_data, tolerated_data, hosts_data, port_data, document_of_job, owner_text, HasLayout, HasProducts, IsSessionForm, AreSessionForms, HasGroups, AreHosts, HasPeers, IsJobForm, DocumentsSayTheirJobs}
+use Rattle.job_file.specs.Forms.{JobForm, SessionForm, AdversaryForm, by_formula, by_list, is_version_two, adversary_field, prepared_in, short_frames_in, own_views_in, owner_of, session_form, session_forms, adversary_form, job_form, mask_of}
+use Rattle.job_file.specs.Faults.{bad_in_lists, owners_fault, is_within, required_fault, optional_fault, unknown_fault, version_fault, fields_fault, ring_fault, parties_fault, groups_fault, adversary_fault, count_fault, hosts_fault, port_fault, frames_fault, views_fault, node_fault, session_fields_fault, session_values_fault, sessions_fault, job_fault, job_in}
+use Rattle.job_laws.specs.Documents.{texts_data, groups_data, member_names, layout_text, choice_data, products_data, session_fields_of, sessions_data, version_data, formula_data, tolerated_data, hosts_data, port_data, frames_data, views_data, document_of_job, owner_text, HasLayout, HasChoice, IsSessionForm, AreSessionForms, HasGroups, AreHosts, HasPeers, IsJobForm, DocumentsSayTheirJobs}
 use Rattle.job_laws.proofs.MemberNames.{good_lists, masks_back}
 use Rattle.job_laws.proofs.OwnerTexts.{two_of, owners_back, owners_pass}
 use Rattle.job_laws.proofs.DocumentShapes.{IsPlain, string_plain, texts_plain, groups_plain, list_plain, texts_listed, groups_back, sessions_back, items_back, length_same, are_texts, are_groups, are_sessions, nowhere}
@@ -111,7 +111,7 @@ layout_back (by_list masks) (Gates Bristol) h = refl
 layout_back (by_list masks) (Gates Ring) h = refl
 layout_back (by_list masks) Expressions h = refl
 
-products_known : (adversary : AdversaryForm) (prepared : Bool) → HasProducts adversary prepared
+products_known : (adversary : AdversaryForm) (prepared : Bool) → HasChoice adversary prepared
     → IfSome (products_data prepared) (λ d. is_known (map field_text (session_fields (two_of adversary))) (field_text Products) ≡ true)
 unfolding field_text
 products_known (by_formula text) true h = absurd h
@@ -119,10 +119,10 @@ products_known (by_formula text) false h = tt
 products_known (by_list masks) true h = refl
 products_known (by_list masks) false h = tt
 
-products_kind : (prepared : Bool) → IfSome (products_data prepared) (λ d. is_of_kind kinds.Text d ≡ true)
+choice_kind : (name : List ℕ) (told : Bool) → IfSome (choice_data name told) (λ d. is_of_kind kinds.Text d ≡ true)
 unfolding is_of_kind
-products_kind true = refl
-products_kind false = tt
+choice_kind name true = refl
+choice_kind name false = tt
 
 products_back : (prepared : Bool) (ms : Members) → value_of Products ms ≡ products_data prepared → prepared_in ms ≡ Some prepared
 unfolding prepared_in are_prepared
@@ -153,7 +153,7 @@ module _ (names : List (List ℕ)) (are : AreNames names) (adversary : Adversary
   fields_pass = then_none (no_map _ (table_of.session_known (string s.circuit) (string (layout_text s.layout)) (texts_data (map (owner_text names) s.owners)) (products_data s.prepared) (groups_data names s.readers) (map field_text (session_fields (two_of adversary))) refl refl refl (products_known adversary s.prepared is.products) refl))
       (then_none (required (Some n) Circuit ms _ at_circuit refl)
       (then_none (required (Some n) Layout ms _ at_layout refl)
-      (then_none (optional (Some n) Products ms _ at_products (products_kind s.prepared))
+      (then_none (optional (Some n) Products ms _ at_products (choice_kind (codes "prepared") s.prepared))
       (then_none (required (Some n) Owners ms _ at_owners (are_texts (map (owner_text names) s.owners)))
       (then_none (required (Some n) Readers ms _ at_readers (are_groups names s.readers))
       refl)))))
@@ -260,6 +260,18 @@ module _ (ms : Members) where
       never true = refl
       never false = refl
 
+-- ---- frames and views
+
+frames_back : (short : Bool) (ms : Members) → value_of Frames ms ≡ frames_data short → short_frames_in ms ≡ Some short
+unfolding short_frames_in are_short
+frames_back true ms at = ap₂ (λ told text. cond told (are_short text) (Some false)) (there Frames ms _ at) (text_is Frames ms (codes "short") at)
+frames_back false ms at = ap (λ told. cond told (are_short (forms.text Frames ms)) (Some false)) (not_there Frames ms at)
+
+views_back : (own : Bool) (ms : Members) → value_of Views ms ≡ views_data own → own_views_in ms ≡ Some own
+unfolding own_views_in are_own
+views_back true ms at = ap₂ (λ told text. cond told (are_own text) (Some false)) (there Views ms _ at) (text_is Views ms (codes "own") at)
+views_back false ms at = ap (λ told. cond told (are_own (forms.text Views ms)) (Some false)) (not_there Views ms at)
+
 -- ---- the whole file
 
 module _ (node : Bool) (job : JobForm) (is : IsJobForm node job) where
@@ -270,28 +282,34 @@ module _ (node : Bool) (job : JobForm) (is : IsJobForm node job) where
   two = two_of job.adversary
 
   at_formula : value_of Formula fields ≡ formula_data job.adversary
-  at_formula = table_of.at_formula (formula_data job.adversary) (hosts_data job.hosts) (port_data job.port) (tolerated_data job.names job.adversary) (texts_data job.names) (integer (pos job.bits)) (sessions_data job.names job.sessions) (version_data job.adversary)
+  at_formula = table_of.at_formula (formula_data job.adversary) (frames_data job.short_frames) (hosts_data job.hosts) (port_data job.port) (tolerated_data job.names job.adversary) (views_data job.own_views) (texts_data job.names) (integer (pos job.bits)) (sessions_data job.names job.sessions) (version_data job.adversary)
 
   at_hosts : value_of Hosts fields ≡ hosts_data job.hosts
-  at_hosts = table_of.at_hosts (formula_data job.adversary) (hosts_data job.hosts) (port_data job.port) (tolerated_data job.names job.adversary) (texts_data job.names) (integer (pos job.bits)) (sessions_data job.names job.sessions) (version_data job.adversary)
+  at_hosts = table_of.at_hosts (formula_data job.adversary) (frames_data job.short_frames) (hosts_data job.hosts) (port_data job.port) (tolerated_data job.names job.adversary) (views_data job.own_views) (texts_data job.names) (integer (pos job.bits)) (sessions_data job.names job.sessions) (version_data job.adversary)
 
   at_parties : value_of Parties fields ≡ Some (texts_data job.names)
-  at_parties = table_of.at_parties (formula_data job.adversary) (hosts_data job.hosts) (port_data job.port) (tolerated_data job.names job.adversary) (texts_data job.names) (integer (pos job.bits)) (sessions_data job.names job.sessions) (version_data job.adversary)
+  at_parties = table_of.at_parties (formula_data job.adversary) (frames_data job.short_frames) (hosts_data job.hosts) (port_data job.port) (tolerated_data job.names job.adversary) (views_data job.own_views) (texts_data job.names) (integer (pos job.bits)) (sessions_data job.names job.sessions) (version_data job.adversary)
 
   at_port : value_of Port fields ≡ port_data job.port
-  at_port = table_of.at_port (formula_data job.adversary) (hosts_data job.hosts) (port_data job.port) (tolerated_data job.names job.adversary) (texts_data job.names) (integer (pos job.bits)) (sessions_data job.names job.sessions) (version_data job.adversary)
+  at_port = table_of.at_port (formula_data job.adversary) (frames_data job.short_frames) (hosts_data job.hosts) (port_data job.port) (tolerated_data job.names job.adversary) (views_data job.own_views) (texts_data job.names) (integer (pos job.bits)) (sessions_data job.names job.sessions) (version_data job.adversary)
 
   at_bits : value_of RingBits fields ≡ Some (integer (pos job.bits))
-  at_bits = table_of.at_bits (formula_data job.adversary) (hosts_data job.hosts) (port_data job.port) (tolerated_data job.names job.adversary) (texts_data job.names) (integer (pos job.bits)) (sessions_data job.names job.sessions) (version_data job.adversary)
+  at_bits = table_of.at_bits (formula_data job.adversary) (frames_data job.short_frames) (hosts_data job.hosts) (port_data job.port) (tolerated_data job.names job.adversary) (views_data job.own_views) (texts_data job.names) (integer (pos job.bits)) (sessions_data job.names job.sessions) (version_data job.adversary)
 
   at_session : value_of Session fields ≡ Some (sessions_data job.names job.sessions)
-  at_session = table_of.at_session (formula_data job.adversary) (hosts_data job.hosts) (port_data job.port) (tolerated_data job.names job.adversary) (texts_data job.names) (integer (pos job.bits)) (sessions_data job.names job.sessions) (version_data job.adversary)
+  at_session = table_of.at_session (formula_data job.adversary) (frames_data job.short_frames) (hosts_data job.hosts) (port_data job.port) (tolerated_data job.names job.adversary) (views_data job.own_views) (texts_data job.names) (integer (pos job.bits)) (sessions_data job.names job.sessions) (version_data job.adversary)
 
   at_tolerated : value_of Tolerated fields ≡ tolerated_data job.names job.adversary
-  at_tolerated = table_of.at_tolerated (formula_data job.adversary) (hosts_data job.hosts) (port_data job.port) (tolerated_data job.names job.adversary) (texts_data job.names) (integer (pos job.bits)) (sessions_data job.names job.sessions) (version_data job.adversary)
+  at_tolerated = table_of.at_tolerated (formula_data job.adversary) (frames_data job.short_frames) (hosts_data job.hosts) (port_data job.port) (tolerated_data job.names job.adversary) (views_data job.own_views) (texts_data job.names) (integer (pos job.bits)) (sessions_data job.names job.sessions) (version_data job.adversary)
 
   at_version : value_of Version fields ≡ Some (version_data job.adversary)
-  at_version = table_of.at_version (formula_data job.adversary) (hosts_data job.hosts) (port_data job.port) (tolerated_data job.names job.adversary) (texts_data job.names) (integer (pos job.bits)) (sessions_data job.names job.sessions) (version_data job.adversary)
+  at_version = table_of.at_version (formula_data job.adversary) (frames_data job.short_frames) (hosts_data job.hosts) (port_data job.port) (tolerated_data job.names job.adversary) (views_data job.own_views) (texts_data job.names) (integer (pos job.bits)) (sessions_data job.names job.sessions) (version_data job.adversary)
+
+  at_frames : value_of Frames fields ≡ frames_data job.short_frames
+  at_frames = table_of.at_frames (formula_data job.adversary) (frames_data job.short_frames) (hosts_data job.hosts) (port_data job.port) (tolerated_data job.names job.adversary) (views_data job.own_views) (texts_data job.names) (integer (pos job.bits)) (sessions_data job.names job.sessions) (version_data job.adversary)
+
+  at_views : value_of Views fields ≡ views_data job.own_views
+  at_views = table_of.at_views (formula_data job.adversary) (frames_data job.short_frames) (hosts_data job.hosts) (port_data job.port) (tolerated_data job.names job.adversary) (views_data job.own_views) (texts_data job.names) (integer (pos job.bits)) (sessions_data job.names job.sessions) (version_data job.adversary)
 
   names_are : forms.texts Parties fields ≡ job.names
   names_are = texts_are Parties fields job.names at_parties
@@ -341,15 +359,30 @@ module _ (node : Bool) (job : JobForm) (is : IsJobForm node job) where
 
   -- ---- fields
 
-  known_fields : (a : AdversaryForm) (hosts port : Option Data) (parties bits session : Data)
-      → option_map {U = JobFault} (λ name. Unknown None name) (least_unknown (map field_text (top_fields (field_of a))) (table_of.top (formula_data a) hosts port (tolerated_data job.names a) parties bits session (version_data a))) ≡ None
-  unfolding field_text
-  known_fields (by_formula text) hosts port parties bits session = no_map _ (table_of.top_known (Some (string text)) hosts port None parties bits session (integer (pos 1)) (map field_text (top_fields Formula)) refl refl refl refl refl refl tt refl)
-  known_fields (by_list masks) hosts port parties bits session = no_map _ (table_of.top_known None hosts port (Some (groups_data job.names masks)) parties bits session (integer (pos 2)) (map field_text (top_fields Tolerated)) tt refl refl refl refl refl refl refl)
+  -- a field of version 2 alone is known wherever it is told
+  choice_known : (a : AdversaryForm) (field : Field) (name : List ℕ) (told : Bool) → HasChoice a told → is_known (map field_text (top_fields true Tolerated)) (field_text field) ≡ true
+      → IfSome (choice_data name told) (λ d. is_known (map field_text (top_fields (two_of a) (field_of a))) (field_text field) ≡ true)
+  choice_known (by_formula text) field name true h e = absurd h
+  choice_known (by_formula text) field name false h e = tt
+  choice_known (by_list masks) field name true h e = e
+  choice_known (by_list masks) field name false h e = tt
 
-  unknown_passes : unknown_fault None (top_fields (adversary_field fields)) fields ≡ None
+  known_fields : (a : AdversaryForm) (short own : Bool) (hosts port : Option Data) (parties bits session : Data) → HasChoice a short → HasChoice a own
+      → option_map {U = JobFault} (λ name. Unknown None name)
+      (least_unknown (map field_text (top_fields (two_of a) (field_of a))) (table_of.top (formula_data a) (frames_data short) hosts port (tolerated_data job.names a) (views_data own) parties bits session (version_data a))) ≡ None
+  unfolding field_text
+  known_fields (by_formula text) short own hosts port parties bits session s o =
+      no_map _ (table_of.top_known (Some (string text)) (frames_data short) hosts port None (views_data own) parties bits session (integer (pos 1)) (map field_text (top_fields false Formula))
+      refl (choice_known (by_formula text) Frames (codes "short") short s refl) refl refl refl refl refl tt refl (choice_known (by_formula text) Views (codes "own") own o refl))
+  known_fields (by_list masks) short own hosts port parties bits session s o =
+      no_map _ (table_of.top_known None (frames_data short) hosts port (Some (groups_data job.names masks)) (views_data own) parties bits session (integer (pos 2)) (map field_text (top_fields true Tolerated))
+      tt (choice_known (by_list masks) Frames (codes "short") short s refl) refl refl refl refl refl refl refl (choice_known (by_list masks) Views (codes "own") own o refl))
+
+  unknown_passes : unknown_fault None (top_fields (is_version_two fields) (adversary_field fields)) fields ≡ None
   unfolding unknown_fault
-  unknown_passes = ap (λ f. option_map (λ name. Unknown None name) (least_unknown (map field_text (top_fields f)) fields)) adversary_is ∙ known_fields job.adversary (hosts_data job.hosts) (port_data job.port) (texts_data job.names) (integer (pos job.bits)) (sessions_data job.names job.sessions)
+  unknown_passes =
+      ap₂ (λ b f. option_map (λ name. Unknown None name) (least_unknown (map field_text (top_fields b f)) fields)) is_two adversary_is
+      ∙ known_fields job.adversary job.short_frames job.own_views (hosts_data job.hosts) (port_data job.port) (texts_data job.names) (integer (pos job.bits)) (sessions_data job.names job.sessions) is.frames is.views
 
   adversary_there : (a : AdversaryForm) → value_of Formula fields ≡ formula_data a → value_of Tolerated fields ≡ tolerated_data job.names a → required_fault None (field_of a) fields ≡ None
   unfolding field_kind is_of_kind
@@ -373,8 +406,10 @@ module _ (node : Bool) (job : JobForm) (is : IsJobForm node job) where
       (then_none (ap (λ f. required_fault None f fields) adversary_is ∙ adversary_there job.adversary at_formula at_tolerated)
       (then_none (hosts_there node is.peers)
       (then_none (port_there node is.peers)
+      (then_none (optional None Frames fields _ at_frames (choice_kind (codes "short") job.short_frames))
+      (then_none (optional None Views fields _ at_views (choice_kind (codes "own") job.own_views))
       (then_none (required None Session fields _ at_session (are_sessions job.names job.sessions))
-      refl)))))
+      refl)))))))
 
   -- ---- values
 
@@ -416,6 +451,20 @@ module _ (node : Bool) (job : JobForm) (is : IsJobForm node job) where
       passed _ (ap (λ n. (n == 0) || nat_lt 16 n) count_is
       ∙ ap₂ (λ a b. a || b) (ne_eqb (length job.sessions) 0 (λ e. let some = is.some_sessions in omega arith)) (le-ltb 16 (length job.sessions) is.few_sessions))
 
+  frames_are : short_frames_in fields ≡ Some job.short_frames
+  frames_are = frames_back job.short_frames fields at_frames
+
+  frames_pass : frames_fault fields ≡ None
+  unfolding frames_fault
+  frames_pass = passed _ (ap is_none frames_are)
+
+  views_are : own_views_in fields ≡ Some job.own_views
+  views_are = views_back job.own_views fields at_views
+
+  views_pass : views_fault fields ≡ None
+  unfolding views_fault
+  views_pass = passed _ (ap is_none views_are)
+
   no_fault : job_fault node fields ≡ None
   unfolding job_fault
   no_fault = then_none (version_passes)
@@ -428,7 +477,9 @@ module _ (node : Bool) (job : JobForm) (is : IsJobForm node job) where
       (then_none (ap₂ (λ b names. sessions_fault b names 0 (forms.tables Session fields)) is_two names_are ∙ ap (sessions_fault two job.names 0) sessions_are ∙ sessions_pass job.names is.names job.adversary 0 job.sessions (let few = is.few_sessions in omega (arith, few)) is.sessions)
       (then_none (hosts_pass fields job.names job.hosts at_parties at_hosts is.hosts)
       (then_none (port_passes fields job.port at_port is.port)
-      refl)))))))))
+      (then_none (frames_pass)
+      (then_none (views_pass)
+      refl)))))))))))
 
   -- ---- the job
 
@@ -438,8 +489,9 @@ module _ (node : Bool) (job : JobForm) (is : IsJobForm node job) where
   adversary_back (by_list masks) at_f at_t few =
       ap by_list (ap₂ (λ names ls. map (mask_of names) ls) names_are (lists_are Tolerated fields job.names masks at_t) ∙ masks_back job.names is.names masks few.1)
 
-  same_job : (a b : JobForm) → a.bits ≡ b.bits → a.names ≡ b.names → a.adversary ≡ b.adversary → a.hosts ≡ b.hosts → a.port ≡ b.port → a.sessions ≡ b.sessions → a ≡ b
-  same_job a b e n v h p s i = record { bits = e i; names = n i; adversary = v i; hosts = h i; port = p i; sessions = s i }
+  same_job : (a b : JobForm) → a.bits ≡ b.bits → a.names ≡ b.names → a.adversary ≡ b.adversary → a.hosts ≡ b.hosts → a.port ≡ b.port → a.short_frames ≡ b.short_frames → a.own_views ≡ b.own_views
+      → a.sessions ≡ b.sessions → a ≡ b
+  same_job a b e n v h p f o s i = record { bits = e i; names = n i; adversary = v i; hosts = h i; port = p i; short_frames = f i; own_views = o i; sessions = s i }
 
   job_back : job_form fields ≡ job
   unfolding job_form adversary_form
@@ -449,6 +501,8 @@ module _ (node : Bool) (job : JobForm) (is : IsJobForm node job) where
       (ap (λ b. cond b (by_list (map (mask_of (forms.texts Parties fields)) (forms.lists Tolerated fields))) (by_formula (forms.text Formula fields))) is_two ∙ adversary_back job.adversary at_formula at_tolerated is.groups)
       (hosts_are fields job.hosts at_hosts)
       (ap nat_abs (port_is fields job.port at_port))
+      (ap (λ o. unwrap_or o false) frames_are)
+      (ap (λ o. unwrap_or o false) views_are)
       (ap₂ (λ b names. session_forms b names (forms.tables Session fields)) is_two names_are
       ∙ ap (session_forms two job.names) sessions_are ∙ forms_back job.names is.names job.adversary 0 job.sessions (let few = is.few_sessions in omega (arith, few)) is.sessions)
 
@@ -480,21 +534,22 @@ module _ (node : Bool) (job : JobForm) (is : IsJobForm node job) where
   version_plain (by_formula text) = integer_plain (pos 1)
   version_plain (by_list masks) = integer_plain (pos 2)
 
-  products_plain : (prepared : Bool) → IfSome (products_data prepared) (IsPlain 2)
-  products_plain true = wider 0 2 _ (omega arith) (string_plain (codes "prepared"))
-  products_plain false = tt
+  choice_plain : (n : ℕ) (name : List ℕ) (told : Bool) → IfSome (choice_data name told) (IsPlain n)
+  choice_plain n name true = wider 0 n _ (omega arith) (string_plain name)
+  choice_plain n name false = tt
 
   session_plain : (s : SessionForm) → IsPlain 3 (table (session_fields_of job.names s))
   session_plain s =
       let all = table_of.session_plain (string s.circuit) (string (layout_text s.layout)) (texts_data (map (owner_text job.names) s.owners)) (products_data s.prepared) (groups_data job.names s.readers) (wider 0 2 _ (omega arith) (string_plain s.circuit)) (wider 0 2 _ (omega arith) (string_plain (layout_text s.layout)))
-      (wider 1 2 _ (omega arith) (texts_plain (map (owner_text job.names) s.owners))) (products_plain s.prepared) (groups_plain job.names s.readers) in
+      (wider 1 2 _ (omega arith) (texts_plain (map (owner_text job.names) s.owners))) (choice_plain 2 (codes "prepared") s.prepared) (groups_plain job.names s.readers) in
       record { deep = (let deep = all.deep in omega arith); dates = all.dates; sorted = all.sorted }
 
   pub read_back : (text : List ℕ) → IsUtf8 text → IsDocumentText false fields text → job_in node text ≡ Ok job
   unfolding job_in document_of
   read_back text utf8 written =
-      let plain = table_of.top_plain (formula_data job.adversary) (hosts_data job.hosts) (port_data job.port) (tolerated_data job.names job.adversary) (texts_data job.names) (integer (pos job.bits)) (sessions_data job.names job.sessions) (version_data job.adversary) (record {
+      let plain = table_of.top_plain (formula_data job.adversary) (frames_data job.short_frames) (hosts_data job.hosts) (port_data job.port) (tolerated_data job.names job.adversary) (views_data job.own_views) (texts_data job.names) (integer (pos job.bits)) (sessions_data job.names job.sessions) (version_data job.adversary) (record {
         formula_is = formula_plain job.adversary;
+        frames_are = choice_plain 4 (codes "short") job.short_frames;
         hosts_are = hosts_plain job.hosts;
         parties_are = wider 1 4 _ (omega arith) (texts_plain job.names);
         port_is = port_plain job.port;
@@ -502,6 +557,7 @@ module _ (node : Bool) (job : JobForm) (is : IsJobForm node job) where
         sessions_are = list_plain 3 (λ s. table (session_fields_of job.names s)) session_plain job.sessions;
         groups_are = tolerated_plain job.adversary;
         version_is = version_plain job.adversary;
+        views_are = choice_plain 4 (codes "own") job.own_views;
       }) in
       let parsed : document_of text ≡ Some fields =
       ap (λ b. cond b (parse_document text) None) (is_utf8-from_IsUtf8 text utf8) ∙ parse_document-printed false fields text written (let deep = plain.deep in omega arith) plain.dates plain.sorted in

@@ -10,9 +10,9 @@ use Rattle.std.proofs.lemmas.List.FromFn.{length-enumerate_from}
 use Rattle.std.proofs.lemmas.List.Elements.{recursion_from_All}
 use Rattle.std.proofs.lemmas.Nat.{pow_pos, or_lt}
 use Rattle.std.proofs.Math.Pow.{pow-lt}
-use Rattle.toml.specs.Data.{Data, Members}
+use Rattle.toml.specs.Data.{Data, Members, get_member}
 use Rattle.toml_fields.specs.Documents.{document_of}
-use Rattle.toml_fields.specs.Keys.{least_unknown}
+use Rattle.toml_fields.specs.Keys.{is_known, least_unknown}
 use Rattle.toml_fields.specs.Fields.{items_of, text_of, integer_of, fields_of, has_field, integer_at, items_at, texts_at}
 use Rattle.list_laws.specs.Checks.{◌answers◌, first_fault, or_fault}
 use Rattle.list_laws.proofs.FirstFaults.{or_fault-ok, not_failed, passed-three}
@@ -20,19 +20,19 @@ use Rattle.party_set.specs.Names.{party_named, names_fault, AreNames}
 use Rattle.party_set.proofs.NameFaults.{no_fault_tells}
 use Rattle.circuit_model.specs.declared.layout.CircuitLayout.TheVariants.{Bristol, Ring}
 use Rattle.job_file.specs.declared.field.Field.{Field}
-use Rattle.job_file.specs.declared.field.Field.TheVariants.{RingBits, Parties, Formula, Tolerated, Hosts, Port, Session, Circuit, Layout, Products, Owners, Readers}
+use Rattle.job_file.specs.declared.field.Field.TheVariants.{RingBits, Parties, Formula, Tolerated, Hosts, Port, Frames, Views, Session, Circuit, Layout, Products, Owners, Readers}
 use Rattle.job_file.specs.declared.fault.JobFault.{JobFault}
 use Rattle.job_file.specs.declared.fault.JobFault.TheVariants.{NotToml, BadRing, BadFileName, BadLayout, BadProducts, BadOwner, BadCarry, BadReader, BadHost, BadPort, BadTolerated, TooManyTolerated, Missing, Unknown, WrongKind, Names}
 use Rattle.job_file.specs.declared.layout.SessionLayout.TheVariants.{Gates, Expressions}
 use Rattle.job_file.specs.declared.owner.JobOwner.{JobOwner}
 use Rattle.job_file.specs.declared.owner.JobOwner.TheVariants.{Party}
 use Rattle.job_file.specs.Owners.{is_carry, owner_in, IsOwner}
-use Rattle.job_file.specs.Names.{field_text, top_fields, session_fields, is_file_name, is_host, layout_of, are_prepared}
-use Rattle.job_file.specs.Forms.{JobForm, AdversaryForm, by_formula, by_list, integer, text, texts, items, lists, tables, is_version_two, adversary_field, prepared_in, owner_of, session_form, session_forms, adversary_form, job_form, party_of, mask_of}
-use Rattle.job_file.specs.Faults.{is_no_party, bad_name, bad_in_lists, owner_fault, owners_fault, is_there, is_of_other_kind, is_within, required_fault, optional_fault, unknown_fault, version_fault, fields_fault, ring_fault, parties_fault, groups_fault, adversary_fault, count_fault, hosts_fault, port_fault, session_fields_fault, session_values_fault, sessions_fault, job_fault, job_in}
+use Rattle.job_file.specs.Names.{field_text, top_fields, session_fields, is_file_name, is_host, layout_of, are_prepared, are_short, are_own}
+use Rattle.job_file.specs.Forms.{JobForm, AdversaryForm, by_formula, by_list, integer, text, texts, items, lists, tables, is_version_two, adversary_field, prepared_in, short_frames_in, own_views_in, owner_of, session_form, session_forms, adversary_form, job_form, party_of, mask_of}
+use Rattle.job_file.specs.Faults.{is_no_party, bad_name, bad_in_lists, owner_fault, owners_fault, is_there, is_of_other_kind, is_within, required_fault, optional_fault, unknown_fault, version_fault, fields_fault, ring_fault, parties_fault, groups_fault, adversary_fault, count_fault, hosts_fault, port_fault, frames_fault, views_fault, session_fields_fault, session_values_fault, sessions_fault, job_fault, job_in}
 use Rattle.job_file.proofs.Rows.{session_count}
 use Rattle.job_file.proofs.Owners.{named_below, owner_within}
-use Rattle.job_laws.specs.Documents.{HasLayout, HasProducts, HasOwner, IsSessionForm, AreSessionForms, HasGroups, AreHosts, IsJobForm}
+use Rattle.job_laws.specs.Documents.{HasLayout, HasChoice, HasOwner, IsSessionForm, AreSessionForms, HasGroups, AreHosts, IsJobForm}
 use Rattle.job_laws.proofs.DocumentShapes.{length_same}
 use Rattle.job_laws.proofs.DocumentFields.{not_known}
 use Rattle.job_laws.proofs.OwnerTexts.{two_of}
@@ -115,14 +115,21 @@ layout_fits (by_formula formula) name = fits (bytes_eq name (codes "bristol")) (
     fits false true c = tt
     fits false false c = tt
 
+-- what no field tells is not chosen
+no_choice : (adversary : AdversaryForm) (o : Option Data) (told : Option Bool) → o ≡ None → HasChoice adversary (unwrap_or (cond (is_some o) told (Some false)) false)
+no_choice adversary o told none = subst (λ o. HasChoice adversary (unwrap_or (cond (is_some o) told (Some false)) false)) (sym none) (not_chosen adversary)
+  where
+    not_chosen : (adversary : AdversaryForm) → HasChoice adversary false
+    not_chosen (by_formula text) = tt
+    not_chosen (by_list masks) = tt
+
 -- no field tells of products in version 1
-products_fit : (adversary : AdversaryForm) (s : ℕ) (fields : Members) → unknown_fault (Some s) (session_fields (two_of adversary)) fields ≡ None → HasProducts adversary (unwrap_or (prepared_in fields) false)
+products_fit : (adversary : AdversaryForm) (s : ℕ) (fields : Members) → unknown_fault (Some s) (session_fields (two_of adversary)) fields ≡ None → HasChoice adversary (unwrap_or (prepared_in fields) false)
 unfolding unknown_fault prepared_in has_field field_text
 products_fit (by_list masks) s fields e = tt
 products_fit (by_formula formula) s fields e =
     let known = map_none (λ name. Unknown (Some s) name) (least_unknown (map field_text (session_fields false)) fields) e in
-    let none = not_known (map field_text (session_fields false)) (field_text Products) fields refl known in
-    subst (λ told. HasProducts (by_formula formula) (unwrap_or (cond (is_some told) (are_prepared (text Products fields)) (Some false)) false)) (sym none) tt
+    no_choice (by_formula formula) (get_member (field_text Products) fields) (are_prepared (text Products fields)) (not_known (map field_text (session_fields false)) (field_text Products) fields refl known)
 
 -- an owner is told, where there is no fault
 told_within : (P : JobOwner → Type 0) (o : Option JobOwner) (fault : JobFault) → (is_none o answers fault) ≡ None → IfSome o P → P (unwrap_or o (Party 0))
@@ -274,6 +281,25 @@ module _ (fields : Members) where
         masks_below (texts Parties fields) 0 (lists Tolerated fields) (map_none (λ bad. BadTolerated bad.0 bad.1) (bad_in_lists (texts Parties fields) 0 (lists Tolerated fields)) two.0),
       )
 
+  -- ---- frames and views, of which no field tells in version 1
+
+  abbrev adversary_by : Bool → AdversaryForm
+  adversary_by b = cond b (by_list (map (mask_of (texts Parties fields)) (lists Tolerated fields))) (by_formula (text Formula fields))
+
+  untold : (field : Field) → is_known (map field_text (top_fields false Formula)) (field_text field) ≡ false → unknown_fault None (top_fields false Formula) fields ≡ None → get_member (field_text field) fields ≡ None
+  unfolding unknown_fault
+  untold field unknown e = not_known (map field_text (top_fields false Formula)) (field_text field) fields unknown (map_none (λ name. Unknown None name) (least_unknown (map field_text (top_fields false Formula)) fields) e)
+
+  frames_within : (b : Bool) → unknown_fault None (top_fields b (cond b Tolerated Formula)) fields ≡ None → HasChoice (adversary_by b) (unwrap_or (short_frames_in fields) false)
+  unfolding short_frames_in has_field field_text
+  frames_within true e = tt
+  frames_within false e = no_choice (adversary_by false) (get_member (field_text Frames) fields) (are_short (text Frames fields)) (untold Frames refl e)
+
+  views_within : (b : Bool) → unknown_fault None (top_fields b (cond b Tolerated Formula)) fields ≡ None → HasChoice (adversary_by b) (unwrap_or (own_views_in fields) false)
+  unfolding own_views_in has_field field_text
+  views_within true e = tt
+  views_within false e = no_choice (adversary_by false) (get_member (field_text Views) fields) (are_own (text Views fields)) (untold Views refl e)
+
   -- ---- the whole file
 
   some_hosts : length (texts Hosts fields) ≡ length (texts Parties fields) → 1 ≤ length (texts Parties fields) → texts Hosts fields ≢ []
@@ -287,11 +313,12 @@ module _ (fields : Members) where
       let port : Option JobFault = required_fault None Port fields in
       let session : Option JobFault = required_fault None Session fields in
       let adversary : Option JobFault = required_fault None (adversary_field fields) fields in
-      let one = head_passed (required_fault None RingBits fields) (required_fault None Parties fields ∷ adversary ∷ hosts ∷ port ∷ session ∷ []) e in
-      let two = head_passed (required_fault None Parties fields) (adversary ∷ hosts ∷ port ∷ session ∷ []) one.1 in
-      let three = head_passed adversary (hosts ∷ port ∷ session ∷ []) two.1 in
-      let four = head_passed hosts (port ∷ session ∷ []) three.1 in
-      let five = head_passed port (session ∷ []) four.1 in
+      let rest : List (Option JobFault) = optional_fault None Frames fields ∷ optional_fault None Views fields ∷ session ∷ [] in
+      let one = head_passed (required_fault None RingBits fields) (required_fault None Parties fields ∷ adversary ∷ hosts ∷ port ∷ rest) e in
+      let two = head_passed (required_fault None Parties fields) (adversary ∷ hosts ∷ port ∷ rest) one.1 in
+      let three = head_passed adversary (hosts ∷ port ∷ rest) two.1 in
+      let four = head_passed hosts (port ∷ rest) three.1 in
+      let five = head_passed port rest four.1 in
       (is_required Hosts four.0, is_required Port five.0)
 
   -- the job of a document without a fault; the fault of the structure is told to those who ask
@@ -299,7 +326,7 @@ module _ (fields : Members) where
   unfolding job_fault ring_fault parties_fault job_form adversary_form
   form_within node e =
       let version : Option JobFault = version_fault fields in
-      let unknown : Option JobFault = unknown_fault None (top_fields (adversary_field fields)) fields in
+      let unknown : Option JobFault = unknown_fault None (top_fields (is_version_two fields) (adversary_field fields)) fields in
       let there : Option JobFault = fields_fault node fields in
       let ring : Option JobFault = ring_fault fields in
       let parties : Option JobFault = parties_fault fields in
@@ -308,16 +335,17 @@ module _ (fields : Members) where
       let sessions : Option JobFault = sessions_fault (is_version_two fields) (texts Parties fields) 0 (tables Session fields) in
       let hosts : Option JobFault = hosts_fault fields in
       let port : Option JobFault = port_fault fields in
-      let one = head_passed version (unknown ∷ there ∷ ring ∷ parties ∷ adversary ∷ count ∷ sessions ∷ hosts ∷ port ∷ []) e in
-      let two = head_passed unknown (there ∷ ring ∷ parties ∷ adversary ∷ count ∷ sessions ∷ hosts ∷ port ∷ []) one.1 in
-      let three = head_passed there (ring ∷ parties ∷ adversary ∷ count ∷ sessions ∷ hosts ∷ port ∷ []) two.1 in
-      let four = head_passed ring (parties ∷ adversary ∷ count ∷ sessions ∷ hosts ∷ port ∷ []) three.1 in
-      let five = head_passed parties (adversary ∷ count ∷ sessions ∷ hosts ∷ port ∷ []) four.1 in
-      let six = head_passed adversary (count ∷ sessions ∷ hosts ∷ port ∷ []) five.1 in
-      let seven = head_passed count (sessions ∷ hosts ∷ port ∷ []) six.1 in
-      let eight = head_passed sessions (hosts ∷ port ∷ []) seven.1 in
-      let nine = head_passed hosts (port ∷ []) eight.1 in
-      let ten = head_passed port [] nine.1 in
+      let forms : List (Option JobFault) = frames_fault fields ∷ views_fault fields ∷ [] in
+      let one = head_passed version (unknown ∷ there ∷ ring ∷ parties ∷ adversary ∷ count ∷ sessions ∷ hosts ∷ port ∷ forms) e in
+      let two = head_passed unknown (there ∷ ring ∷ parties ∷ adversary ∷ count ∷ sessions ∷ hosts ∷ port ∷ forms) one.1 in
+      let three = head_passed there (ring ∷ parties ∷ adversary ∷ count ∷ sessions ∷ hosts ∷ port ∷ forms) two.1 in
+      let four = head_passed ring (parties ∷ adversary ∷ count ∷ sessions ∷ hosts ∷ port ∷ forms) three.1 in
+      let five = head_passed parties (adversary ∷ count ∷ sessions ∷ hosts ∷ port ∷ forms) four.1 in
+      let six = head_passed adversary (count ∷ sessions ∷ hosts ∷ port ∷ forms) five.1 in
+      let seven = head_passed count (sessions ∷ hosts ∷ port ∷ forms) six.1 in
+      let eight = head_passed sessions (hosts ∷ port ∷ forms) seven.1 in
+      let nine = head_passed hosts (port ∷ forms) eight.1 in
+      let ten = head_passed port forms nine.1 in
       let bits = number_within 64 (integer RingBits fields) (not_false _ (not_failed (not (is_within (pos 1) (pos 64) (integer RingBits fields))) (BadRing (integer RingBits fields)) four.0)) in
       let names : AreNames (texts Parties fields) = no_fault_tells (texts Parties fields) (map_none (λ fault. Names fault) (names_fault (texts Parties fields)) five.0) in
       let sessions_are = session_count (length (items Session fields)) seven.0 in
@@ -334,6 +362,8 @@ module _ (fields : Members) where
             hosts = some_hosts (as_many told.0 nine.0) names.some;
             port = λ zero. let some = (told_port told.1 ten.0).0 in omega (arith, zero, some);
           };
+          frames = frames_within (is_version_two fields) two.0;
+          views = views_within (is_version_two fields) two.0;
           some_sessions = omega (arith, sessions_are.0, long);
           few_sessions = omega (arith, sessions_are.1, long);
           sessions = subst (λ b. AreSessionForms (length (texts Parties fields)) (adversary_form fields) 0 (session_forms b (texts Parties fields) (tables Session fields))) same

@@ -9,7 +9,7 @@ use Rattle.party_set.specs.Parties.{has_party}
 use Rattle.party_set.specs.Names.{name_at, AreNames}
 use Rattle.circuit_model.specs.declared.layout.CircuitLayout.TheVariants.{Bristol, Ring}
 use Rattle.job_file.specs.declared.field.Field.{Field}
-use Rattle.job_file.specs.declared.field.Field.TheVariants.{Version, RingBits, Parties, Formula, Tolerated, Hosts, Port, Session, Circuit, Layout, Products, Owners, Readers}
+use Rattle.job_file.specs.declared.field.Field.TheVariants.{Version, RingBits, Parties, Formula, Tolerated, Hosts, Port, Frames, Views, Session, Circuit, Layout, Products, Owners, Readers}
 use Rattle.job_file.specs.declared.layout.SessionLayout.{SessionLayout}
 use Rattle.job_file.specs.declared.layout.SessionLayout.TheVariants.{Gates, Expressions}
 use Rattle.job_file.specs.declared.owner.JobOwner.{JobOwner}
@@ -53,10 +53,14 @@ layout_text (Gates Bristol) = codes "bristol"
 layout_text (Gates Ring) = codes "ring"
 layout_text Expressions = codes "expr"
 
+-- the text of this name, where a choice is told by it; where it is not made, none is told
+abbrev pub choice_data : List ℕ → Bool → Option Data
+choice_data name true = Some (string name)
+choice_data name false = None
+
 -- the text that tells that products are prepared; none tells that they are direct
 abbrev pub products_data : Bool → Option Data
-products_data true = Some (string (codes "prepared"))
-products_data false = None
+products_data prepared = choice_data (codes "prepared") prepared
 
 -- how an owner is named: a party by its name, a carried value by its session and its number there
 abbrev pub owner_text : List (List ℕ) → JobOwner → List ℕ
@@ -100,17 +104,26 @@ abbrev pub port_data : ℕ → Option Data
 port_data zero = None
 port_data (suc n) = Some (integer (pos (suc n)))
 
+-- the texts that tell that frames are short and that each node writes its own view, if they are told
+abbrev pub frames_data : Bool → Option Data
+frames_data short = choice_data (codes "short") short
+
+abbrev pub views_data : Bool → Option Data
+views_data own = choice_data (codes "own") own
+
 -- the fields of the file of a job, in the order of their names' bytes
 abbrev pub document_of_job : JobForm → Members
 document_of_job job =
     with_field Formula (formula_data job.adversary)
+    (with_field Frames (frames_data job.short_frames)
     (with_field Hosts (hosts_data job.hosts)
     (with_field Parties (Some (texts_data job.names))
     (with_field Port (port_data job.port)
     (with_field RingBits (Some (integer (pos job.bits)))
     (with_field Session (Some (sessions_data job.names job.sessions))
     (with_field Tolerated (tolerated_data job.names job.adversary)
-    (with_field Version (Some (version_data job.adversary)) no_members)))))))
+    (with_field Version (Some (version_data job.adversary))
+    (with_field Views (views_data job.own_views) no_members)))))))))
 
 -- ---- the limits
 
@@ -119,10 +132,10 @@ abbrev pub HasLayout : AdversaryForm → SessionLayout → Type 0
 HasLayout (by_formula text) Expressions = ⊥
 HasLayout _ _ = Unit {0}
 
--- and so do prepared products
-abbrev pub HasProducts : AdversaryForm → Bool → Type 0
-HasProducts (by_formula text) true = ⊥
-HasProducts _ _ = Unit {0}
+-- and so do prepared products, short frames and views of nodes
+abbrev pub HasChoice : AdversaryForm → Bool → Type 0
+HasChoice (by_formula text) true = ⊥
+HasChoice _ _ = Unit {0}
 
 -- and so do carried values
 abbrev pub HasOwner : AdversaryForm → JobOwner → Type 0
@@ -133,7 +146,7 @@ HasOwner _ _ = Unit {0}
 pub record IsSessionForm (n : ℕ) (adversary : AdversaryForm) (number : ℕ) (s : SessionForm) : Type 0 where
   pub circuit : is_file_name s.circuit ≡ true
   pub layout : HasLayout adversary s.layout
-  pub products : HasProducts adversary s.prepared
+  pub products : HasChoice adversary s.prepared
   pub owners : AllByRecursion (IsOwner n number) s.owners
   pub carries : AllByRecursion (HasOwner adversary) s.owners
   pub readers : AllByRecursion (λ mask. mask < 2 ^ n) s.readers
@@ -166,6 +179,8 @@ pub record IsJobForm (node : Bool) (job : JobForm) : Type 0 where
   pub hosts : AreHosts (length job.names) job.hosts
   pub port : job.port ≤ LAST_PORT
   pub peers : node ≡ true → HasPeers job
+  pub frames : HasChoice job.adversary job.short_frames
+  pub views : HasChoice job.adversary job.own_views
   pub some_sessions : 1 ≤ length job.sessions
   pub few_sessions : length job.sessions ≤ MOST_SESSIONS
   pub sessions : AreSessionForms (length job.names) job.adversary 0 job.sessions

@@ -1,8 +1,9 @@
 //! Why a file gives no other inputs.
 ghost use Rattle.std.specs.Prelude.{◌≡◌};
-ghost use Rattle.std.specs.Option.{option_map};
-ghost use Rattle.other_file.specs.Faults.{number_of, name_of, party_of, detail_of, of_file, of_party};
+ghost use Rattle.other_file.specs.ToldFaults.{told_other_fault};
+ghost use Rattle.other_file.specs.Faults.{of_file, of_party};
 
+use fault_table::Entry;
 use party_file::PartyFault;
 use std::alloc::{AllocError, AllocFailed};
 
@@ -20,45 +21,15 @@ pub enum OtherFault {
 }
 
 impl OtherFault {
-    /// The number of the fault, 0 for want of memory.
-    pub fn number(&self) -> u32
-        ensures { result ≡ number_of self.now }
+    /// What the line of a refusal tells of the fault.
+    pub fn told(&self) -> Entry<'_>
+        ensures { result ≡ told_other_fault self.now }
     {
         match self {
-            OtherFault::File(fault) | OtherFault::Inputs { fault, .. } => fault.number(),
-            OtherFault::WrongKind { .. } => 5,
-            OtherFault::Memory => 0,
-        }
-    }
-
-    /// The name of the fault.
-    pub fn name(&self) -> &'static str
-        ensures { result.now ≡ name_of self.now }
-    {
-        match self {
-            OtherFault::File(fault) | OtherFault::Inputs { fault, .. } => fault.name(),
-            OtherFault::WrongKind { .. } => "WrongKind",
-            OtherFault::Memory => "Memory",
-        }
-    }
-
-    /// The party whose inputs have the fault.
-    pub fn party(&self) -> Option<u32>
-        ensures { result ≡ party_of self.now }
-    {
-        match self {
-            OtherFault::WrongKind { party } | OtherFault::Inputs { party, .. } => Some(*party),
-            _ => None,
-        }
-    }
-
-    /// What more there is to tell, as of a party's own file.
-    pub fn detail(&self) -> Option<&PartyFault>
-        ensures { option_map (λ fault. fault.now) result ≡ detail_of self.now }
-    {
-        match self {
-            OtherFault::File(fault) | OtherFault::Inputs { fault, .. } => Some(fault),
-            _ => None,
+            OtherFault::File(fault) => return fault.told(),
+            OtherFault::WrongKind { party } => Entry::new(5, "WrongKind").of_party(*party),
+            OtherFault::Inputs { party, fault } => return fault.told().of_party(*party),
+            OtherFault::Memory => Entry::new(0, "Memory"),
         }
     }
 }

@@ -1,3 +1,3 @@
-pub mod Faults
+pub mod ToldFaults
 pub mod Table
 pub mod Forms

@@ -1,9 +1,10 @@
 //! Why a file is no party's.
-ghost use Rattle.std.specs.Prelude.{◌≡◌};
-ghost use Rattle.std.specs.Option.{option_map};
-ghost use Rattle.party_file.specs.Faults.{cause_text, number_of, name_of, session_of, field_of, unknown_of, at_of, cause_of, wanted_of, found_of, version_of};
+ghost use Rattle.std.specs.Prelude.{◌≡◌, ◌<◌, [], ◌∷◌, codes, length};
+ghost use Rattle.fault_table.specs.Tables.{fault, Name};
+ghost use Rattle.party_file.specs.ToldFaults.{cause_text, of_field, told_party_fault};
 
 use crate::field::Field;
+use fault_table::{Entry, MOST_KEYS};
 use party_set::NameText;
 use std::alloc::{AllocError, AllocFailed};
 
@@ -81,131 +82,49 @@ pub enum PartyFault {
 }
 
 impl PartyFault {
-    /// The number of the fault, 0 for want of memory.
-    pub fn number(&self) -> u32
-        ensures { result ≡ number_of self.now }
+    /// What the line of a refusal tells of the fault.
+    pub fn told(&self) -> Entry<'_>
+        ensures is { result ≡ told_party_fault self.now }
+        ensures few { length result.keys < MOST_KEYS }
     {
         match self {
-            PartyFault::NotToml => 1,
-            PartyFault::Version { .. } => 2,
-            PartyFault::Missing { .. } => 3,
-            PartyFault::Unknown { .. } => 4,
-            PartyFault::WrongKind { .. } => 5,
-            PartyFault::CountDiffers { .. } => 6,
-            PartyFault::BadWords { .. } => 7,
-            PartyFault::WordOutOfRing { .. } => 8,
-            PartyFault::TapeAndSeed => 9,
-            PartyFault::BadSeed => 10,
-            PartyFault::TapeShort { .. } => 11,
-            PartyFault::Memory => 0,
-        }
-    }
-
-    /// The name of the fault.
-    pub fn name(&self) -> &'static str
-        ensures { result.now ≡ name_of self.now }
-    {
-        match self {
-            PartyFault::NotToml => "NotToml",
-            PartyFault::Version { .. } => "Version",
-            PartyFault::Missing { .. } => "Missing",
-            PartyFault::Unknown { .. } => "Unknown",
-            PartyFault::WrongKind { .. } => "WrongKind",
-            PartyFault::CountDiffers { .. } => "CountDiffers",
-            PartyFault::BadWords { .. } => "BadWords",
-            PartyFault::WordOutOfRing { .. } => "WordOutOfRing",
-            PartyFault::TapeAndSeed => "TapeAndSeed",
-            PartyFault::BadSeed => "BadSeed",
-            PartyFault::TapeShort { .. } => "TapeShort",
-            PartyFault::Memory => "Memory",
-        }
-    }
-
-    /// The session in which the fault stands.
-    pub fn session(&self) -> Option<u32>
-        ensures { result ≡ session_of self.now }
-    {
-        match self {
-            PartyFault::CountDiffers { session, .. }
-            | PartyFault::BadWords { session, .. }
-            | PartyFault::WordOutOfRing { session, .. } => *session,
-            _ => None,
-        }
-    }
-
-    /// The field that is missing, or of another kind.
-    pub fn field(&self) -> Option<Field>
-        ensures { result ≡ field_of self.now }
-    {
-        match self {
-            PartyFault::Missing { field } | PartyFault::WrongKind { field } => Some(*field),
-            _ => None,
-        }
-    }
-
-    /// The name that no field has.
-    pub fn unknown_name(&self) -> Option<&str>
-        ensures { option_map (λ name. name.now) result ≡ unknown_of self.now }
-    {
-        match self {
-            PartyFault::Unknown { name } => Some(name.as_str()),
-            _ => None,
-        }
-    }
-
-    /// The place of the bad word.
-    pub fn at(&self) -> Option<u64>
-        ensures { result ≡ at_of self.now }
-    {
-        match self {
-            PartyFault::BadWords { at, .. } | PartyFault::WordOutOfRing { at, .. } => Some(*at),
-            _ => None,
-        }
-    }
-
-    /// What is wrong with the bad word.
-    pub fn cause(&self) -> Option<WordCause>
-        ensures { result ≡ cause_of self.now }
-    {
-        match self {
-            PartyFault::BadWords { cause, .. } => Some(*cause),
-            _ => None,
-        }
-    }
-
-    /// The count that is wanted.
-    pub fn wanted(&self) -> Option<u64>
-        ensures { result ≡ wanted_of self.now }
-    {
-        match self {
-            PartyFault::CountDiffers { wanted, .. } | PartyFault::TapeShort { wanted, .. } => {
-                Some(*wanted)
+            PartyFault::NotToml => Entry::new(1, "NotToml"),
+            PartyFault::Version { found } => Entry::new(2, "Version").with_signed("found", *found),
+            PartyFault::Missing { field } => of_field(3, "Missing", *field),
+            PartyFault::Unknown { name } => return unknown(name.as_str()),
+            PartyFault::WrongKind { field } => of_field(5, "WrongKind", *field),
+            PartyFault::CountDiffers {
+                session,
+                wanted,
+                found,
+            } => Entry::in_session(6, "CountDiffers", *session).with_found(*wanted, *found),
+            PartyFault::BadWords { session, at, cause } => Entry::in_session(
+                7, "BadWords", *session,
+            ).with_number("at", *at)
+                .with_text("cause", cause.text().as_bytes()),
+            PartyFault::WordOutOfRing { session, at } => {
+                Entry::in_session(8, "WordOutOfRing", *session).with_number("at", *at)
             }
-            _ => None,
-        }
-    }
-
-    /// The count that was found.
-    pub fn found(&self) -> Option<u64>
-        ensures { result ≡ found_of self.now }
-    {
-        match self {
-            PartyFault::CountDiffers { found, .. } | PartyFault::TapeShort { found, .. } => {
-                Some(*found)
+            PartyFault::TapeAndSeed => Entry::new(9, "TapeAndSeed"),
+            PartyFault::BadSeed => Entry::new(10, "BadSeed"),
+            PartyFault::TapeShort { wanted, found } => {
+                Entry::new(11, "TapeShort").with_found(*wanted, *found)
             }
-            _ => None,
+            PartyFault::Memory => Entry::new(0, "Memory"),
         }
     }
+}
 
-    /// The version that was found.
-    pub fn found_version(&self) -> Option<i64>
-        ensures { result ≡ version_of self.now }
-    {
-        match self {
-            PartyFault::Version { found } => Some(*found),
-            _ => None,
-        }
-    }
+fn unknown(name: &str) -> Entry<'_>
+    ensures { result ≡ fault 4 (codes "Unknown") ((codes "name", Name name.now) ∷ []) }
+{
+    Entry::new(4, "Unknown").with_name("name", name.as_bytes())
+}
+
+fn of_field(number: u32, name: &'static str, field: Field) -> Entry<'static>
+    ensures { result ≡ fault number name.now (of_field field) }
+{
+    Entry::new(number, name).with_text("field", field.text().as_bytes())
 }
 
 impl From<AllocError> for PartyFault {

@@ -1,6 +1,6 @@
 //! The fields of a party's file.
 ghost use Rattle.std.specs.Prelude.{◌≡◌};
-ghost use Rattle.party_file.specs.Faults.{field_text};
+ghost use Rattle.party_file.specs.ToldFaults.{field_text};
 
 /// A field of a party's file.
 #[derive(Clone, Copy, Debug, PartialEq, Eq)]

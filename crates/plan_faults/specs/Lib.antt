@@ -1,2 +1,2 @@
-pub mod FaultTexts
+pub mod ToldFaults
 pub mod Counts

@@ -2,6 +2,7 @@
 ghost use Rattle.std.specs.Prelude.{◌≡◌, Some, None, MatchResult};
 ghost use Rattle.plan_faults.specs.Counts.{counts_fault};
 
+use fault_table::Entry;
 use std::alloc::AllocError;
 
 /// Why a circuit with owners and readers is no session.
@@ -40,57 +41,26 @@ pub fn check_counts(inputs: u64, owners: u64, outputs: u64, readers: u64) -> Res
 }
 
 impl PartFault {
-    ghost use Rattle.plan_faults.specs.FaultTexts.{part_number_of, part_name_of, wanted_in, found_in};
+    ghost use Rattle.plan_faults.specs.ToldFaults.{told_part_fault};
 
-    /// The number of the kind of fault, 0 for want of memory.
-    pub fn number(self) -> u32
-        ensures { result ≡ part_number_of self }
+    /// What the line of a refusal tells of the fault.
+    pub fn told(self) -> Entry<'static>
+        ensures { result ≡ told_part_fault self }
     {
         match self {
-            PartFault::OwnersDiffer { .. } => 1,
-            PartFault::ReadersDiffer { .. } => 2,
-            PartFault::CarryMissing { .. } => 3,
-            PartFault::CarryWidth { .. } => 4,
-            PartFault::Memory => 0,
-        }
-    }
-
-    /// The name of the kind of fault.
-    pub fn name(self) -> &'static str
-        ensures { result.now ≡ part_name_of self }
-    {
-        match self {
-            PartFault::OwnersDiffer { .. } => "OwnersDiffer",
-            PartFault::ReadersDiffer { .. } => "ReadersDiffer",
-            PartFault::CarryMissing { .. } => "CarryMissing",
-            PartFault::CarryWidth { .. } => "CarryWidth",
-            PartFault::Memory => "Memory",
-        }
-    }
-
-    /// How many are wanted; of a value that is missing, its number.
-    pub fn wanted(self) -> Option<u64>
-        ensures { result ≡ wanted_in self }
-    {
-        match self {
-            PartFault::OwnersDiffer { wanted, .. }
-            | PartFault::ReadersDiffer { wanted, .. }
-            | PartFault::CarryMissing { wanted, .. }
-            | PartFault::CarryWidth { wanted, .. } => Some(wanted),
-            PartFault::Memory => None,
-        }
-    }
-
-    /// How many there are.
-    pub fn found(self) -> Option<u64>
-        ensures { result ≡ found_in self }
-    {
-        match self {
-            PartFault::OwnersDiffer { found, .. }
-            | PartFault::ReadersDiffer { found, .. }
-            | PartFault::CarryMissing { found, .. }
-            | PartFault::CarryWidth { found, .. } => Some(found),
-            PartFault::Memory => None,
+            PartFault::OwnersDiffer { wanted, found } => {
+                Entry::new(1, "OwnersDiffer").with_found(wanted, found)
+            }
+            PartFault::ReadersDiffer { wanted, found } => {
+                Entry::new(2, "ReadersDiffer").with_found(wanted, found)
+            }
+            PartFault::CarryMissing { wanted, found } => {
+                Entry::new(3, "CarryMissing").with_found(wanted, found)
+            }
+            PartFault::CarryWidth { wanted, found } => {
+                Entry::new(4, "CarryWidth").with_found(wanted, found)
+            }
+            PartFault::Memory => Entry::new(0, "Memory"),
         }
     }
 }

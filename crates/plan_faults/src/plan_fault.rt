@@ -1,6 +1,7 @@
 //! Refusals of plans.
 ghost use Rattle.std.specs.Prelude.{◌≡◌};
 
+use fault_table::Entry;
 use std::alloc::AllocError;
 
 /// Why there is no plan.
@@ -15,49 +16,20 @@ pub enum PlanFault {
 }
 
 impl PlanFault {
-    ghost use Rattle.plan_faults.specs.FaultTexts.{plan_number_of, plan_name_of, party_in, count_in};
+    ghost use Rattle.plan_faults.specs.ToldFaults.{told_plan_fault};
 
-    /// The number of the kind of fault, 0 for want of memory.
-    pub fn number(self) -> u32
-        ensures { result ≡ plan_number_of self }
+    /// What the line of a refusal tells of the fault.
+    pub fn told(self) -> Entry<'static>
+        ensures { result ≡ told_plan_fault self }
     {
         match self {
-            PlanFault::TooManyMessages { .. } => 1,
-            PlanFault::TooManyWords { .. } => 2,
-            PlanFault::Memory => 0,
-        }
-    }
-
-    /// The name of the kind of fault.
-    pub fn name(self) -> &'static str
-        ensures { result.now ≡ plan_name_of self }
-    {
-        match self {
-            PlanFault::TooManyMessages { .. } => "TooManyMessages",
-            PlanFault::TooManyWords { .. } => "TooManyWords",
-            PlanFault::Memory => "Memory",
-        }
-    }
-
-    /// The party that draws too many words.
-    pub fn party(self) -> Option<u32>
-        ensures { result ≡ party_in self }
-    {
-        match self {
-            PlanFault::TooManyWords { party, .. } => Some(party),
-            _ => None,
-        }
-    }
-
-    /// How many messages or words there are.
-    pub fn count(self) -> Option<u64>
-        ensures { result ≡ count_in self }
-    {
-        match self {
-            PlanFault::TooManyMessages { count } | PlanFault::TooManyWords { count, .. } => {
-                Some(count)
+            PlanFault::TooManyMessages { count } => {
+                Entry::new(1, "TooManyMessages").with_number("count", count)
             }
-            PlanFault::Memory => None,
+            PlanFault::TooManyWords { party, count } => Entry::new(2, "TooManyWords")
+                .with_party("party", party)
+                .with_number("count", count),
+            PlanFault::Memory => Entry::new(0, "Memory"),
         }
     }
 }

@@ -1,73 +1,104 @@
-//! Lines of a head and few keys.
-ghost use Rattle.std.specs.Prelude.{◌≡◌, ◌++◌, IfOk, OnOk};
-ghost use Rattle.refusal_text.specs.Lines.{line, number_line, too_long_line, file_keys};
+//! The line of a refusal.
+ghost use Rattle.std.specs.Prelude.{◌≡◌, ◌++◌, IfOk, OnOk, [], codes, map, slice_index_or};
+ghost use Rattle.std.specs.Option.{option_map_or};
+ghost use Rattle.fault_table.specs.Tables.{told_key, told_value, Number, Text};
+ghost use Rattle.refusal_text.specs.Lines.{head, refusal_line, key_head, keys_text, value_text};
 
-use crate::limits::FILE_LIMIT;
+use crate::masked::push_masked;
+use fault_table::{Entry, EntryKey, KeyValue};
+use party_set::Names;
 use std::alloc::{AllocError, Global};
-use text_parts::{push_head, push_number_key, push_text, push_text_key};
+use text_parts::{push_number, push_signed, push_text};
 
-/// The line of a fault with these keys.
-pub(crate) fn keyed_line(
+/// The line of a part that refuses, with these keys in front of those of the fault. A party is told by its name, where
+/// names are given.
+pub(crate) fn refusal_line(
     alloc: Global,
     part: &str,
-    number: u32,
-    name: &str,
-    keys: &[u8],
+    names: Option<&Names>,
+    front: &[EntryKey],
+    entry: &Entry,
 ) -> Result<Vec<u8>, AllocError>
-    ensures { IfOk result (λ text. text.items ≡ line part.now number name.now keys.now) }
+    ensures { IfOk result (λ text. text.items
+        ≡ refusal_line part.now (option_map_or (λ n. n.now) names.entry []) (map told_key front.now) entry.now) }
 {
     let mut text = Vec::new(alloc);
-    push_head(&mut text, part, number, name)?;
-    push_text(&mut text, keys)?;
+    push_head(&mut text, part, entry)?;
+    push_keys(&mut text, names, front)?;
+    push_keys(&mut text, names, entry.keys())?;
     push_text(&mut text, b"\n")?;
     Ok(text)
 }
 
-/// The line of a fault with one key, which is a number.
-pub(crate) fn number_line(
-    alloc: Global,
-    part: &str,
-    number: u32,
-    name: &str,
-    key: &str,
-    value: u64,
-) -> Result<Vec<u8>, AllocError>
-    ensures { IfOk result (λ line. line.items ≡ number_line part.now number name.now key.now value) }
+fn push_head(text: &mut Vec<u8>, part: &str, entry: &Entry) -> Result<(), AllocError>
+    ensures { OnOk result (text.new.items ≡ text.old.items ++ head part.now entry.now) }
 {
-    let mut line = Vec::new(alloc);
-    push_head(&mut line, part, number, name)?;
-    push_number_key(&mut line, key, Some(value))?;
-    push_text(&mut line, b"\n")?;
-    Ok(line)
+    push_text(text, b"refused ")?;
+    push_text(text, part.as_bytes())?;
+    push_text(text, b" ")?;
+    push_number(text, entry.number() as u64)?;
+    push_text(text, b" ")?;
+    push_text(text, entry.name().as_bytes())
 }
 
-/// The line of a file that is longer than the limit.
-#[tactic(auto, unfolding(crate::specs::Lines::too_long_line))]
-pub fn too_long_line(alloc: Global, file: &str) -> Result<Vec<u8>, AllocError>
-    ensures { IfOk result (λ line. line.items ≡ too_long_line file.now) }
+fn push_keys(text: &mut Vec<u8>, names: Option<&Names>, keys: &[EntryKey]) -> Result<(), AllocError>
+    ensures { OnOk result (text.new.items
+        ≡ text.old.items ++ keys_text (option_map_or (λ n. n.now) names.entry []) (map told_key keys.now)) }
 {
-    let mut line = Vec::new(alloc);
-    push_head(&mut line, "files", 1, "TooLong")?;
-    push_text_key(&mut line, "file", file.as_bytes())?;
-    push_number_key(&mut line, "limit", Some(FILE_LIMIT))?;
-    push_text(&mut line, b"\n")?;
-    Ok(line)
+    for key in keys {
+        push_key(text, key.key)?;
+        push_value(text, names, key.value)?;
+    }
+    Ok(())
 }
 
-/// The keys of a session's file.
-pub(crate) fn push_file_keys(line: &mut Vec<u8>, file: &str, session: u32) -> Result<(), AllocError>
-    ensures { OnOk result (line.new.items ≡ line.old.items ++ file_keys file.now session) }
+fn push_key(text: &mut Vec<u8>, key: &str) -> Result<(), AllocError>
+    ensures { OnOk result (text.new.items ≡ text.old.items ++ key_head key.now) }
 {
-    push_text_key(line, "file", file.as_bytes())?;
-    push_number_key(line, "session", Some(session as u64))
+    push_text(text, b" ")?;
+    push_text(text, key.as_bytes())?;
+    push_text(text, b"=")
 }
 
-/// A number in 64 bits.
-pub(crate) fn wide(value: Option<u32>) -> Option<u64>
-    ensures { result ≡ value }
+fn push_value(text: &mut Vec<u8>, names: Option<&Names>, value: KeyValue) -> Result<(), AllocError>
+    ensures { OnOk result (text.new.items
+        ≡ text.old.items ++ value_text (option_map_or (λ n. n.now) names.entry []) (told_value value.entry)) }
 {
     match value {
-        Some(value) => Some(value as u64),
-        None => None,
+        KeyValue::Number(number) => push_number(text, number),
+        KeyValue::Signed(number) => push_signed(text, number),
+        KeyValue::Text(value) => push_text(text, value),
+        KeyValue::Name(name) => push_masked(text, name),
+        KeyValue::Party(party) => push_party(text, names, party),
+    }
+}
+
+fn push_party(text: &mut Vec<u8>, names: Option<&Names>, party: u32) -> Result<(), AllocError>
+    ensures { OnOk result (text.new.items
+        ≡ text.old.items ++ slice_index_or (option_map_or (λ n. n.now) names.entry []) party []) }
+{
+    match names {
+        Some(names) if party < names.len() => push_text(text, names.name(party).as_bytes()),
+        _ => Ok(()),
+    }
+}
+
+/// The key of a number.
+pub(crate) fn number_key(key: &'static str, value: u64) -> EntryKey<'static>
+    ensures { told_key result ≡ (key.now, Number value) }
+{
+    EntryKey {
+        key,
+        value: KeyValue::Number(value),
+    }
+}
+
+/// The key of the file that has the fault.
+pub(crate) fn file_key(file: &str) -> EntryKey<'_>
+    ensures { told_key result ≡ (codes "file", Text file.now) }
+{
+    EntryKey {
+        key: "file",
+        value: KeyValue::Text(file.as_bytes()),
     }
 }

@@ -1,20 +1,11 @@
 //! Names from a file.
-ghost use Rattle.std.specs.Prelude.{◌≡◌, ◌++◌, OnOk, Some, codes, nat_le, ◌&&◌, if◌then◌else◌};
-ghost use Rattle.text_parts.specs.Parts.{key_text};
+ghost use Rattle.std.specs.Prelude.{◌≡◌, ◌++◌, OnOk, nat_le, ◌&&◌, if◌then◌else◌};
 ghost use Rattle.refusal_text.specs.Lines.{masked};
 
 use std::alloc::AllocError;
-use text_parts::push_text_key;
 
-/// Adds the key of a name that a file gave: a byte that isn't one of `!` to `~` is told as `?`.
-pub(crate) fn push_name_key(line: &mut Vec<u8>, name: &[u8]) -> Result<(), AllocError>
-    ensures { OnOk result (line.new.items ≡ line.old.items ++ key_text (codes "name") (Some (masked name.now))) }
-{
-    push_text_key(line, "name", b"")?;
-    push_masked(line, name)
-}
-
-fn push_masked(line: &mut Vec<u8>, name: &[u8]) -> Result<(), AllocError>
+/// Adds a name that a file gave: a byte that isn't one of `!` to `~` is told as `?`.
+pub(crate) fn push_masked(line: &mut Vec<u8>, name: &[u8]) -> Result<(), AllocError>
     ensures { OnOk result (line.new.items ≡ line.old.items ++ masked name.now) }
 {
     for byte in name {

@@ -2,40 +2,20 @@
 ghost use Rattle.std.specs.Prelude.{◌≡◌, IfOk, length};
 ghost use Rattle.refusal_text.specs.Lines.{formula_line, name_line, group_line, groups_line, covering_line};
 
-use crate::line::{keyed_line, number_line};
+use crate::line::refusal_line;
+use fault_table::Entry;
 use group_formula::FormulaFault;
 use group_text::GroupFault;
 use party_set::{Group, Names};
 use std::alloc::{AllocError, Global};
-use text_parts::{push_group, push_head, push_text, push_text_key};
+use text_parts::push_group;
 
-/// The line of a text that is no formula; none for want of memory.
+/// The line of a text that is no formula.
 #[tactic(auto, unfolding(crate::specs::Lines::formula_line))]
 pub fn formula_line(alloc: Global, fault: FormulaFault) -> Result<Vec<u8>, AllocError>
     ensures { IfOk result (λ line. line.items ≡ formula_line fault) }
 {
-    match fault {
-        FormulaFault::Syntax { at } => number_line(alloc, "formula", 1, "Syntax", "at", at),
-        FormulaFault::UnknownName { at } => number_line(
-            alloc,
-            "formula",
-            2,
-            "UnknownName",
-            "at",
-            at,
-        ),
-        FormulaFault::BadCount { at } => number_line(alloc, "formula", 3, "BadCount", "at", at),
-        FormulaFault::TooDeep { at } => number_line(alloc, "formula", 4, "TooDeep", "at", at),
-        FormulaFault::TooManyNodes { at } => number_line(
-            alloc,
-            "formula",
-            5,
-            "TooManyNodes",
-            "at",
-            at,
-        ),
-        FormulaFault::Memory => Ok(Vec::new(alloc)),
-    }
+    refusal_line(alloc, "formula", None, &[], &fault.told())
 }
 
 /// The line of a name that is no party's.
@@ -43,7 +23,7 @@ pub fn formula_line(alloc: Global, fault: FormulaFault) -> Result<Vec<u8>, Alloc
 pub fn name_line(alloc: Global) -> Result<Vec<u8>, AllocError>
     ensures { IfOk result (λ line. line.items ≡ name_line) }
 {
-    keyed_line(alloc, "name", 1, "UnknownParty", &[])
+    refusal_line(alloc, "name", None, &[], &Entry::new(1, "UnknownParty"))
 }
 
 /// The line of a text that names no group.
@@ -51,9 +31,7 @@ pub fn name_line(alloc: Global) -> Result<Vec<u8>, AllocError>
 pub fn group_line(alloc: Global, fault: GroupFault) -> Result<Vec<u8>, AllocError>
     ensures { IfOk result (λ line. line.items ≡ group_line fault) }
 {
-    match fault {
-        GroupFault::BadGroup { at } => number_line(alloc, "group", 1, "BadGroup", "at", at),
-    }
+    refusal_line(alloc, "group", None, &[], &fault.told())
 }
 
 /// The line of a formula with more maximal tolerated groups than 64.
@@ -61,7 +39,8 @@ pub fn group_line(alloc: Global, fault: GroupFault) -> Result<Vec<u8>, AllocErro
 pub fn groups_line(alloc: Global, found: u64) -> Result<Vec<u8>, AllocError>
     ensures { IfOk result (λ line. line.items ≡ groups_line found) }
 {
-    number_line(alloc, "groups", 1, "TooManyGroups", "found", found)
+    let entry = Entry::new(1, "TooManyGroups").with_number("found", found);
+    refusal_line(alloc, "groups", None, &[], &entry)
 }
 
 /// The line of two tolerated groups that together are all parties.
@@ -80,10 +59,8 @@ pub fn covering_line(
     push_group(&mut first_text, first, names)?;
     let mut second_text = Vec::new(alloc);
     push_group(&mut second_text, second, names)?;
-    let mut line = Vec::new(alloc);
-    push_head(&mut line, "q2", 1, "Covering")?;
-    push_text_key(&mut line, "first", &first_text)?;
-    push_text_key(&mut line, "second", &second_text)?;
-    push_text(&mut line, b"\n")?;
-    Ok(line)
+    let entry = Entry::new(1, "Covering")
+        .with_text("first", &first_text)
+        .with_text("second", &second_text);
+    refusal_line(alloc, "q2", None, &[], &entry)
 }

@@ -1,5 +1,6 @@
 //! Why other inputs can't be hidden.
 
+use fault_table::Entry;
 use std::alloc::AllocError;
 
 /// Why other inputs can't be hidden from a group.
@@ -34,5 +35,42 @@ impl From<AllocError> for MapFault {
 
     fn from(_: AllocError) -> MapFault {
         MapFault::Memory
+    }
+}
+
+impl MapFault {
+    ghost use Rattle.std.specs.Prelude.{◌≡◌};
+    ghost use Rattle.tape_map.specs.ToldFaults.{told_map_fault};
+
+    /// What the line of a refusal tells of the fault.
+    pub fn told(self) -> Entry<'static>
+        ensures { result ≡ told_map_fault self }
+    {
+        match self {
+            MapFault::NotTolerated => Entry::new(1, "NotTolerated"),
+            MapFault::InputDiffers {
+                session,
+                wire,
+                first,
+                second,
+            } => Entry::new(2, "InputDiffers")
+                .with_number("session", session as u64)
+                .with_number("wire", wire as u64)
+                .with_number("first", first)
+                .with_number("second", second),
+            MapFault::OutputDiffers {
+                session,
+                wire,
+                recipient,
+                first,
+                second,
+            } => Entry::new(3, "OutputDiffers")
+                .with_number("session", session as u64)
+                .with_number("wire", wire as u64)
+                .with_party("recipient", recipient)
+                .with_number("first", first)
+                .with_number("second", second),
+            MapFault::Memory => Entry::new(0, "Memory"),
+        }
     }
 }

@@ -1,5 +1,5 @@
--- Texts of words, of groups, and the parts of the line of a refusal.
-use Rattle.std.specs.Prelude.{ℕ, ◌^◌, ◌%◌, nat_eq, not, if◌then◌else◌, List, [], ◌++◌, length, Option, None, Some, slice_index, slice_index_or, codes, decimal}
+-- Texts of words and of groups.
+use Rattle.std.specs.Prelude.{ℕ, ◌^◌, ◌%◌, nat_eq, not, if◌then◌else◌, List, [], ◌++◌, length, slice_index, slice_index_or, codes, decimal}
 use Rattle.list_laws.specs.Lists.{joined, only_if}
 use Rattle.party_set.specs.Parties.{has_party}
 
@@ -15,15 +15,3 @@ member_text names mask p =
 -- the names of the group's members, in order and joined by `+`, or `0` for the empty group
 abbrev pub group_text : List (List ℕ) → ℕ → List ℕ
 group_text names mask = if nat_eq mask 0 then codes "0" else joined (length names) (member_text names mask)
-
--- the part that refuses, and the number and the name of its fault
-abbrev pub refusal_head : List ℕ → ℕ → List ℕ → List ℕ
-refusal_head part number name = codes "refused " ++ (part ++ (codes " " ++ (decimal number ++ (codes " " ++ name))))
-
-abbrev pub key_head : List ℕ → List ℕ
-key_head key = codes " " ++ (key ++ codes "=")
-
--- a key and what it tells, if it tells anything
-abbrev pub key_text : List ℕ → Option (List ℕ) → List ℕ
-key_text key None = []
-key_text key (Some value) = key_head key ++ value

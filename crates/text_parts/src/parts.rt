@@ -1,5 +1,6 @@
 //! Numbers and groups, written at the end of a text.
 ghost use Rattle.std.specs.Prelude.{◌≡◌, ◌<◌, ◌++◌, OnOk, codes, decimal, length};
+ghost use Rattle.std.specs.Fmt.{signed_decimal};
 ghost use Rattle.list_laws.specs.Lists.{only_if};
 ghost use Rattle.text_parts.specs.Parts.{group_text, member_text};
 
@@ -17,6 +18,13 @@ pub fn push_text(text: &mut Vec<u8>, piece: &[u8]) -> Result<(), AllocError>
 /// Adds the digits of a number.
 pub fn push_number(text: &mut Vec<u8>, number: u64) -> Result<(), AllocError>
     ensures { OnOk result (text.new.items ≡ text.old.items ++ decimal number) }
+{
+    text.extend_from_slice(Buffer::new().format(number).as_bytes())
+}
+
+/// Adds a number that may be below 0.
+pub fn push_signed(text: &mut Vec<u8>, number: i64) -> Result<(), AllocError>
+    ensures { OnOk result (text.new.items ≡ text.old.items ++ signed_decimal number) }
 {
     text.extend_from_slice(Buffer::new().format(number).as_bytes())
 }

@@ -7,4 +7,4 @@ pub mod Views
 pub mod Laws
 pub mod WorldLaws
 pub mod Audits
-pub mod FaultTexts
+pub mod ToldFaults

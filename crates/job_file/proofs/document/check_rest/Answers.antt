@@ -8,8 +8,8 @@ use Rattle.toml.specs.declared.value.Value.{Value}
 use Rattle.toml_fields.specs.Fields.{items_at, fields_of}
 use Rattle.job_file.specs.declared.field.Field.TheVariants.{Parties, Session}
 use Rattle.job_file.specs.Forms.{is_version_two, items, tables, texts}
-use Rattle.job_file.specs.Faults.{count_fault, sessions_fault, port_fault}
-use Rattle.job_file.proofs.Rows.{at_count, at_sessions, at_last, last_rows, session_rows}
+use Rattle.job_file.specs.Faults.{count_fault, sessions_fault, frames_fault, views_fault}
+use Rattle.job_file.proofs.Rows.{at_count, at_sessions, at_last, form_rows, port_rows, last_rows, session_rows}
 use Rattle.job_file.proofs.document.check_rest.Goals as goal
 
 -- what the sessions' values stand for
@@ -53,7 +53,7 @@ returns-in_err-check_hosts c =
     let count : count_fault (length (items Session fields)) ≡ None = sym (counted fields c.items_at-sessions.result.now same) ∙ c.in_ok-check_count.ensures.told in
     let left = at_last fields c.in_ok-check_adversary.ensures count (sym (told fields c.items_at-sessions.result.now same _ _ c.is_version_two.ensures c.requires) ∙ c.in_ok-check_sessions.ensures) in
     let p = err_from_is_err_and c.from_residual-in_err-check_hosts.result c.from_residual-in_err-check_hosts.ensures.1 in
-    rw (p.1, p.2) (λ other. left ∙ ap (λ o. option_or o (option_or (port_fault fields) None)) c.in_err-check_hosts.ensures)
+    rw (p.1, p.2) (λ other. left ∙ ap (λ o. option_or o (port_rows fields)) c.in_err-check_hosts.ensures)
 
 pub returns-in_err-check_port : goal.returns-in_err-check_port
 returns-in_err-check_port c =
@@ -62,7 +62,25 @@ returns-in_err-check_port c =
     let count : count_fault (length (items Session fields)) ≡ None = sym (counted fields c.items_at-sessions.result.now same) ∙ c.in_ok-check_count.ensures.told in
     let left = at_last fields c.in_ok-check_adversary.ensures count (sym (told fields c.items_at-sessions.result.now same _ _ c.is_version_two.ensures c.requires) ∙ c.in_ok-check_sessions.ensures) in
     let p = err_from_is_err_and c.from_residual-in_err-check_port.result c.from_residual-in_err-check_port.ensures.1 in
-    rw (p.1, p.2) (λ other. left ∙ ap (λ o. option_or o (option_or (port_fault fields) None)) c.in_ok-check_hosts.ensures ∙ ap (λ o. option_or o None) c.in_err-check_port.ensures)
+    rw (p.1, p.2) (λ other. left ∙ ap (λ o. option_or o (port_rows fields)) c.in_ok-check_hosts.ensures ∙ ap (λ o. option_or o (form_rows fields)) c.in_err-check_port.ensures)
+
+pub returns-in_err-check_frames : goal.returns-in_err-check_frames
+returns-in_err-check_frames c =
+    let fields : Members = table_view c.args.table.now in
+    let same : map view c.items_at-sessions.result.now ≡ items Session fields = c.items_at-sessions.ensures ∙ ap (λ key. items_at key fields) c.text.ensures in
+    let count : count_fault (length (items Session fields)) ≡ None = sym (counted fields c.items_at-sessions.result.now same) ∙ c.in_ok-check_count.ensures.told in
+    let left = at_last fields c.in_ok-check_adversary.ensures count (sym (told fields c.items_at-sessions.result.now same _ _ c.is_version_two.ensures c.requires) ∙ c.in_ok-check_sessions.ensures) in
+    let p = err_from_is_err_and c.from_residual-in_err-check_frames.result c.from_residual-in_err-check_frames.ensures.1 in
+    rw (p.1, p.2) (λ other. left ∙ ap (λ o. option_or o (port_rows fields)) c.in_ok-check_hosts.ensures ∙ ap (λ o. option_or o (form_rows fields)) c.in_ok-check_port.ensures ∙ ap (λ o. option_or o (option_or (views_fault fields) None)) c.in_err-check_frames.ensures)
+
+pub returns-in_err-check_views : goal.returns-in_err-check_views
+returns-in_err-check_views c =
+    let fields : Members = table_view c.args.table.now in
+    let same : map view c.items_at-sessions.result.now ≡ items Session fields = c.items_at-sessions.ensures ∙ ap (λ key. items_at key fields) c.text.ensures in
+    let count : count_fault (length (items Session fields)) ≡ None = sym (counted fields c.items_at-sessions.result.now same) ∙ c.in_ok-check_count.ensures.told in
+    let left = at_last fields c.in_ok-check_adversary.ensures count (sym (told fields c.items_at-sessions.result.now same _ _ c.is_version_two.ensures c.requires) ∙ c.in_ok-check_sessions.ensures) in
+    let p = err_from_is_err_and c.from_residual-in_err-check_views.result c.from_residual-in_err-check_views.ensures.1 in
+    rw (p.1, p.2) (λ other. left ∙ ap (λ o. option_or o (port_rows fields)) c.in_ok-check_hosts.ensures ∙ ap (λ o. option_or o (form_rows fields)) c.in_ok-check_port.ensures ∙ ap (λ o. option_or o (option_or (views_fault fields) None)) c.in_ok-check_frames.ensures ∙ ap (λ o. option_or o None) c.in_err-check_views.ensures)
 
 pub returns : goal.returns
 returns c =
@@ -70,4 +88,4 @@ returns c =
     let same : map view c.items_at-sessions.result.now ≡ items Session fields = c.items_at-sessions.ensures ∙ ap (λ key. items_at key fields) c.text.ensures in
     let count : count_fault (length (items Session fields)) ≡ None = sym (counted fields c.items_at-sessions.result.now same) ∙ c.in_ok-check_count.ensures.told in
     at_last fields c.in_ok-check_adversary.ensures count (sym (told fields c.items_at-sessions.result.now same _ _ c.is_version_two.ensures c.requires) ∙ c.in_ok-check_sessions.ensures)
-    ∙ ap (λ o. option_or o (option_or (port_fault fields) None)) c.in_ok-check_hosts.ensures ∙ ap (λ o. option_or o None) c.in_ok-check_port.ensures
+    ∙ ap (λ o. option_or o (port_rows fields)) c.in_ok-check_hosts.ensures ∙ ap (λ o. option_or o (form_rows fields)) c.in_ok-check_port.ensures ∙ ap (λ o. option_or o (option_or (views_fault fields) None)) c.in_ok-check_frames.ensures ∙ ap (λ o. option_or o None) c.in_ok-check_views.ensures
