@@ -101,8 +101,8 @@ impl StepTable {
         self.multiplied.as_slice()
     }
 
-    /// How many steps the party has in a slot of a linear gate or of a product that is dealt; of another pattern it
-    /// tells nothing.
+    /// How many steps the party has in a slot of a linear gate, of a product that is dealt, or of what a prepared product
+    /// needs more; of another pattern it tells nothing.
     pub(crate) fn gate_count(&self, pattern: Pattern) -> usize
         ensures { (plan : plans.Plan) (p s : ℕ) (half : halves.Half) → AreSteps plan p s half self.now → 0 < result
             → result ≡ length (steps plan p half pattern) }
@@ -110,8 +110,10 @@ impl StepTable {
         match pattern {
             Pattern::Silent => self.silent.as_slice().len(),
             Pattern::Multiplied => self.of_product().len(),
+            Pattern::HandedOut => self.handed_out.as_slice().len(),
+            Pattern::OpenedToAll => self.opened_to_all.as_slice().len(),
+            Pattern::Joined => self.joined.as_slice().len(),
             Pattern::Dealt(_) | Pattern::Opened(_) => 0,
-            Pattern::HandedOut | Pattern::OpenedToAll | Pattern::Joined => 0,
             Pattern::Held | Pattern::Received => 0,
         }
     }
