@@ -1,4 +1,4 @@
-use Rattle.std.proofs.Common.{◌≡◌, ◌<◌, refl, ◌∙◌, arith}
+use Rattle.std.proofs.Common.{arith}
 use Rattle.party_desk.proofs.desk.Desk.goes_beside.Goals as goal
 
 pub returns-clause-still : goal.returns-clause-still

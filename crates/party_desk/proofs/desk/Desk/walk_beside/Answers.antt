@@ -1,5 +1,4 @@
 use Rattle.std.proofs.Common.{◌≡◌, true, false, refl, sym, ap, ◌∙◌, subst, arith}
-use Rattle.job_plan.specs.declared.pattern.Pattern.TheVariants.{Multiplied, Silent}
 use Rattle.party_program.specs.States.{Given}
 use Rattle.party_desk.specs.declared.desk.Desk.{Desk}
 use Rattle.party_desk.specs.Walks.{NothingToCompute}

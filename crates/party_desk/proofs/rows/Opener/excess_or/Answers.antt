@@ -1,5 +1,5 @@
-use Rattle.std.proofs.Common.{◌≡◌, ℕ, ◌^◌, List, sym, ap, ◌∙◌}
-use Rattle.std.proofs.lemmas.Bool.{cond-true, cond-false}
+use Rattle.std.proofs.Common.{ℕ, ◌^◌, List, sym, ap, ◌∙◌}
+use Rattle.std.proofs.lemmas.Bool.{cond-true}
 use Rattle.mpc_ring.specs.Differences.{difference}
 use Rattle.share_layout.specs.Layouts.{holds}
 use Rattle.party_desk.specs.Rows.{row, excess_row}
