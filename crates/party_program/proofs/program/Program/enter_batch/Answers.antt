@@ -1,9 +1,7 @@
-use Rattle.std.proofs.Common.{◌≡◌, ℕ, ◌+◌, ◌<◌, List, length, sym, ap, subst, inl, arith}
-use Rattle.circuit_model.specs.declared.gate.Gate.{Gate}
-use Rattle.job_session.specs.Sessions.{Session, owners, session_slots}
+use Rattle.std.proofs.Common.{◌<◌, sym, subst, inl, arith}
+use Rattle.job_session.specs.Sessions.{Session, session_slots}
 use Rattle.job_session.specs.Batches.{batch, IsBatch}
-use Rattle.job_session.proofs.SessionSlots.{slot_count}
-use Rattle.job_plan.specs.Plans.{Plan, session, slots}
+use Rattle.job_plan.specs.Plans.{session, slots}
 use Rattle.party_program.specs.declared.half.Half.TheVariants.{Head}
 use Rattle.party_program.proofs.FoundSteps.{told_count, told_few}
 use Rattle.party_program.proofs.program.Program.enter_batch.Goals as goal
