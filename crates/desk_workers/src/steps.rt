@@ -51,8 +51,8 @@ fn step_on(
     step_at(&mut cells, plan, desk)
 }
 
-// Steps the desk once, if it is not at its end, and answers whether it moved. It is out of line: a desk at gates seldom
-// comes to it, and its code would crowd theirs.
+// Steps the desk once, if it is not at its end, and answers whether it moved. It is out of line: a desk comes to it only
+// where it waits, and its code would crowd that of gates.
 #[inline(never)]
 fn goes_on(
     board: &Board<Promised, Box<Desk>>,
@@ -79,8 +79,7 @@ fn is_move(stepped: Stepped) -> bool
     matches!(stepped, Stepped::Moved)
 }
 
-// Steps the desk through the gates that come next or, where it makes no move there, once,
-// and answers how often it moved.
+// Lets the desk go on until it waits or, where it makes no move so, steps it once, and answers how often it moved.
 #[inline(always)]
 fn goes_far<P: Pace>(
     board: &Board<Promised, Box<Desk>>,
@@ -105,7 +104,7 @@ fn goes_far<P: Pace>(
     u64::from(goes_on(board, plan, seat, desk))
 }
 
-/// Steps the desk until it can't move or has gone through gates, and answers how often it moved.
+/// Lets the desk go on until it waits or is at its end, and answers how often it moved.
 pub fn walk<P: Pace>(
     board: &Board<Promised, Box<Desk>>,
     plan: &Plan,

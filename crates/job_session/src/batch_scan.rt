@@ -65,6 +65,7 @@ impl BatchScan {
     }
 
     // Slot `k`, which is of this kind.
+    #[inline(always)]
     fn step_kind(&mut self, k: u32, kind: SlotKind, wiring: &Wiring) -> Result<(), AllocError>
         requires wiring { IsWiring wiring.now }
         requires slot { k < session_slots (session_in wiring.now) }
@@ -112,8 +113,8 @@ impl BatchScan {
     }
 
     // Slot `k` is of the batch that is begun, unless it reads a wire that a slot of it completes, or sets one before
-    // a slot of it has joined its words: then it begins another. It is out of line, since few gates come to it.
-    #[inline(never)]
+    // a slot of it has joined its words: then it begins another.
+    #[inline(always)]
     fn begin(
         &mut self,
         k: u32,
@@ -131,10 +132,24 @@ impl BatchScan {
     {
         let _ = wiring;
         if self.waits(reads) || before_join {
-            self.end_batch(k)?;
-            self.first = k;
-            self.joins = false;
+            self.begin_batch(k)?;
         }
+        Ok(())
+    }
+
+    // Slot `k` is the first of a batch. It is out of line, since few slots are.
+    #[inline(never)]
+    fn begin_batch(&mut self, k: u32) -> Result<(), AllocError>
+        requires { length self.old.ends.items ≤ k }
+        ensures ends { OnOk result (self.new.ends.items
+            ≡ self.old.ends.items ++ replicate (k - length self.old.ends.items) k) }
+        ensures stamps { OnOk result (self.new.stamps ≡ self.old.stamps) }
+        ensures first { OnOk result (self.new.first ≡ k) }
+        ensures joins { OnOk result (self.new.joins ≡ false) }
+    {
+        self.end_batch(k)?;
+        self.first = k;
+        self.joins = false;
         Ok(())
     }
 
@@ -150,6 +165,7 @@ impl BatchScan {
     }
 
     // Whether one of these wires has the stamp of the batch that is begun.
+    #[inline(always)]
     fn waits(&self, reads: (Option<u32>, Option<u32>)) -> bool
         requires first { (w : ℕ) → is_named reads.0 w ≡ true → w < length self.now.stamps.items }
         requires second { (w : ℕ) → is_named reads.1 w ≡ true → w < length self.now.stamps.items }
@@ -175,6 +191,7 @@ impl BatchScan {
     }
 
     // Whether the wire, if there is one, has the stamp of the batch that is begun.
+    #[inline(always)]
     fn is_stamped(&self, wire: Option<u32>) -> bool
         requires within { (w : ℕ) → is_named wire w ≡ true → w < length self.now.stamps.items }
         requires few { self.now.first < 4294967295 }

@@ -16,6 +16,7 @@ impl Wiring {
     ghost use Rattle.job_session.specs.Wirings.{AreReads, IsTouched, IsWiring, is_named, session_in};
 
     /// Whether gate `t` is a product that is prepared.
+    #[inline(always)]
     pub(crate) fn is_prepared(&self, t: u32) -> bool
         requires { t < length self.now.gates.items }
         ensures { result ≡ is_prepared (session_in self.now) t }
@@ -36,6 +37,7 @@ impl Wiring {
     }
 
     /// The row's name of the mask of the wire that gate `t` reads on this side.
+    #[inline(always)]
     pub(crate) fn mask_wire(&self, t: u32, side: Side) -> u32
         requires wiring { IsWiring self.now }
         requires within { t < length self.now.gates.items }
@@ -49,6 +51,7 @@ impl Wiring {
     }
 
     /// The row's name of the product of both masks of gate `t`.
+    #[inline(always)]
     pub(crate) fn product_wire(&self, t: u32) -> u32
         requires wiring { IsWiring self.now }
         requires within { t < length self.now.gates.items }
@@ -58,6 +61,7 @@ impl Wiring {
     }
 
     // The wire that gate `t` reads on this side.
+    #[inline(always)]
     fn operand(&self, t: u32, side: Side) -> u32
         requires { t < length self.now.gates.items }
         ensures { result ≡ operand (gate (session_in self.now) t) side }
@@ -66,6 +70,7 @@ impl Wiring {
     }
 
     /// The wires that a slot reads before it takes anything.
+    #[inline(always)]
     pub(crate) fn early_reads(&self, kind: SlotKind) -> (Option<u32>, Option<u32>)
         requires wiring { IsWiring self.now }
         requires inside { Inside (session_in self.now) (slot_of_kind kind) }
@@ -89,6 +94,7 @@ impl Wiring {
     }
 
     // The same in the slot of gate `t`.
+    #[inline(always)]
     fn early_gate_reads(&self, t: u32) -> (Option<u32>, Option<u32>)
         requires wiring { IsWiring self.now }
         requires within { t < length self.now.gates.items }
@@ -103,23 +109,39 @@ impl Wiring {
     }
 
     /// The wires that a slot reads.
+    #[inline(always)]
     pub(crate) fn reads(&self, kind: SlotKind) -> Reads
         requires wiring { IsWiring self.now }
         requires inside { Inside (session_in self.now) (slot_of_kind kind) }
         ensures { AreReads (session_in self.now) (slot_of_kind kind) result.0 result.1 result.2 }
     {
-        if let SlotKind::Gate(t) = kind {
-            if self.is_prepared(t) {
-                let first = self.mask_wire(t, Side::First);
-                let second = self.mask_wire(t, Side::Second);
-                return (Some(first), Some(second), Some(self.product_wire(t)));
+        match kind {
+            SlotKind::Gate(t) => self.gate_reads(t),
+            other => {
+                let (first, second) = self.early_reads(other);
+                (first, second, None)
             }
         }
-        let (first, second) = self.early_reads(kind);
+    }
+
+    // The same in the slot of gate `t`.
+    #[inline(always)]
+    fn gate_reads(&self, t: u32) -> Reads
+        requires wiring { IsWiring self.now }
+        requires within { t < length self.now.gates.items }
+        ensures { AreReads (session_in self.now) (At_gate t) result.0 result.1 result.2 }
+    {
+        if self.is_prepared(t) {
+            let first = self.mask_wire(t, Side::First);
+            let second = self.mask_wire(t, Side::Second);
+            return (Some(first), Some(second), Some(self.product_wire(t)));
+        }
+        let (first, second) = read_wires(self.gates[t as usize]);
         (first, second, None)
     }
 
     /// The wire that a slot sets.
+    #[inline(always)]
     pub(crate) fn sets(&self, kind: SlotKind) -> Option<u32>
         requires wiring { IsWiring self.now }
         requires inside { Inside (session_in self.now) (slot_of_kind kind) }
@@ -136,6 +158,7 @@ impl Wiring {
     }
 
     /// The wire that a slot completes once what others post of it was taken.
+    #[inline(always)]
     pub(crate) fn completes(&self, kind: SlotKind) -> Option<u32>
         requires wiring { IsWiring self.now }
         requires inside { Inside (session_in self.now) (slot_of_kind kind) }
@@ -149,6 +172,7 @@ impl Wiring {
     }
 
     /// Whether a slot joins words only when what others post was taken.
+    #[inline(always)]
     pub(crate) fn is_join(&self, kind: SlotKind) -> bool
         requires { Inside (session_in self.now) (slot_of_kind kind) }
         ensures { result ≡ is_join (session_in self.now) (slot_of_kind kind) }
@@ -160,6 +184,7 @@ impl Wiring {
     }
 
     /// Whether a slot may set a wire before it takes anything.
+    #[inline(always)]
     pub(crate) fn sets_early(&self, kind: SlotKind) -> bool
         requires wiring { IsWiring self.now }
         requires inside { Inside (session_in self.now) (slot_of_kind kind) }
@@ -169,6 +194,7 @@ impl Wiring {
     }
 
     /// The wires of slot `k`.
+    #[inline(always)]
     pub(crate) fn touched(&self, k: u32) -> Touched
         requires wiring { IsWiring self.now }
         requires within { k < session_slots (session_in self.now) }

@@ -1,5 +1,5 @@
 -- Instructions at gates, one after another.
-use Rattle.std.proofs.Common.{◌≡◌, ◌≢◌, ℕ, ◌<◌, ◌≤◌, List, refl, sym, ap, ◌∙◌, subst, inl, inr, arith}
+use Rattle.std.proofs.Common.{◌≡◌, ◌≢◌, ℕ, ◌+◌, ◌-◌, ◌<◌, ◌≤◌, Bool, true, false, if◌then◌else◌, List, refl, sym, ap, ◌∙◌, subst, inl, inr, arith}
 use Rattle.std.proofs.lemmas.Bool.{cases_lt}
 use Rattle.job_plan.specs.Plans.{Plan, slot}
 use Rattle.message_board.specs.Seats.{Sitting}
@@ -40,6 +40,12 @@ moved_place l d place h is = record {
 -- a desk goes by few instructions
 pub few_done : (l : Given) (d : Desk) → IsDesk l d → d.position < 4294967295
 few_done l d h = (stands l d h).position
+
+-- a desk that went on has less before it, and one that did not goes round no more
+pub fewer : (p q : ℕ) (goes before : Bool) → before ≡ true → p ≤ q → (goes ≡ true → p < q) → q < 4294967295 → 4294967296 - q + (if goes then 1 else 0) < 4294967296 - p + (if before then 1 else 0)
+fewer p q true true is forth on few = let more = on refl in omega (arith, more, few)
+fewer p q false true is forth on few = omega (arith, forth, few)
+fewer p q goes false is forth on few = absurd (let clash : false ≡ true = is in cc)
 
 -- another memory that fits changes nothing of where the desk stands
 pub stands_with : (plan : Plan) (d : Desk) (m : Memory) → Stands plan d → IsMemoryOf plan d.session m → Stands plan (record d { memory = m })

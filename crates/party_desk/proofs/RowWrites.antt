@@ -1,5 +1,5 @@
 -- Writes into a row of a table.
-use Rattle.std.proofs.Common.{◌≡◌, ℕ, ◌+◌, ◌-◌, ◌*◌, ◌<◌, ◌≤◌, ◌≢◌, nat_eq, nat_lt, if◌then◌else◌, List, length, sym, ap, ap₂, ◌∙◌, subst, arith, take, drop, ◌++◌, get_or-set_other, get_or-set_same, get_or, set}
+use Rattle.std.proofs.Common.{◌≡◌, ℕ, ◌+◌, ◌-◌, ◌*◌, ◌<◌, ◌≤◌, ◌≢◌, nat_eq, nat_lt, if◌then◌else◌, List, length, sym, ap, ap₂, ◌∙◌, subst, arith, take, drop, ◌++◌, get_or-set_other, get_or-set_same, get_or, length-set, set}
 use Rattle.std.proofs.lemmas.Bool.{cases_eq, cases_lt, cond-true, cond-false, eq-eqb, ne_eqb, lt-ltb, le-ltb}
 use Rattle.std.specs.Prelude.{slice_index}
 use Rattle.std.proofs.lemmas.List.{get_or_append_left, get_or-append_right, get_or-drop, get_or-take, length-take-le}
@@ -116,3 +116,17 @@ row_range m table ys v k all long inside u j lj =
             ∙ sym (ap (λ g. g j) (set_there (row m table) v u (slice_index ys) ne))
       ]
     ]
+
+-- three entries, written one after another, are the row
+pub three_filled : (table : List ℕ) (v : ℕ) (new : ℕ → ℕ) (x y z : ℕ) → (v + 1) * 3 ≤ length table → x ≡ new 0 → y ≡ new 1 → z ≡ new 2
+    → SameRows 3 (row 3 (set (set (set table (v * 3) x) (v * 3 + 1) y) (v * 3 + 2) z)) (set_at (row 3 table) v new)
+three_filled table v new x y z there first second third =
+    let m : ℕ = 3 in
+    let before = row m table in
+    let start : v * m + 0 ≡ v * m = omega arith in
+    let long = length-set table (v * m) x in
+    let still_long = length-set (set table (v * m) x) (v * m + 1) y in
+    let one = subst (λ n. SameRows m (row m (set table n x)) (filled_to before v new 1)) start (fill_step m table before v new 0 x (fill_start m before v new) (omega arith) (omega (arith, there)) first) in
+    let two = fill_step m _ before v new 1 y one (omega arith) (omega (arith, there, long)) second in
+    let all = fill_step m _ before v new 2 z two (omega arith) (omega (arith, there, long, still_long)) third in
+    λ u i l. all u i l ∙ fill_end m before v new u i l

@@ -5,7 +5,8 @@ use Rattle.circuit_model.specs.Circuits.{is_product}
 use Rattle.job_session.specs.Batches.{IsBatch}
 use Rattle.job_session.specs.Sessions.{Session, owners, gate, session_slot, session_slots}
 use Rattle.job_session.specs.Sessions.Slot.{At_gate}
-use Rattle.job_plan.specs.declared.pattern.Pattern.TheVariants.{Multiplied}
+use Rattle.job_plan.specs.declared.pattern.Pattern.{Pattern}
+use Rattle.job_plan.specs.declared.pattern.Pattern.TheVariants.{Multiplied, Silent}
 use Rattle.job_plan.specs.Plans.{Plan, scheme, session}
 use Rattle.secret_sharing.specs.Schemes.{has_pair}
 use Rattle.message_board.specs.Pairs.{Knows, Grows}
@@ -220,3 +221,7 @@ pub record AreGatesFrom (s : Session) (k e : ℕ) (gates : List Gate) : Type 0 w
   pub is : (t : ℕ) → t < length gates → AreLinear gates t
       → (s.prepared && is_product (gate_in gates t).operation) ≡ false → IsSlotOf s (k + t) (gate_in gates t)
   pub to : k + length gates ≤ e
+
+-- a slot of this pattern is of no gate, and of no product of masks
+abbrev pub IsBeside : Pattern → Type 0
+IsBeside pattern = (pattern ≢ Multiplied) × (pattern ≢ Silent)

@@ -127,8 +127,8 @@ impl Desk {
     ghost use Rattle.party_desk.specs.Walks.{IsAmongGates, IsBefore, IsSending, IsAtTake};
     ghost use Rattle.party_desk.specs.Walks.{HasLooked, NothingToCompute, WentOn, DoesHead, DoesSilentHead};
 
-    /// Does the instructions that come next as long as they are of gates, until one waits for a message, and answers
-    /// how many they were. Afterwards no own product, no sum and no linear gate comes next, nor a take of a product
+    /// Does the instructions that come next, until one waits for a message or none is left, and answers how many they
+    /// were. Afterwards no own product, no sum and no linear gate comes next, nor a take of a product
     /// whose word the seat knows.
     #[inline(always)]
     pub fn walk_gates<W: Promise, T: SlotItem<W>>(
@@ -152,12 +152,35 @@ impl Desk {
         let before = self.position;
         let mut goes = true;
         while goes {
-            goes = match self.place.half() {
-                Half::Head => self.walk_head(plan, board, seat),
-                Half::Tail => self.walk_tail(plan, board, seat),
+            goes = if self.is_beside() {
+                self.walk_beside(plan, board, seat)
+            } else {
+                self.walk_half(plan, board, seat)
             };
         }
         self.position - before
+    }
+
+    // In a half of a gate's slot, what the party does there, and the linear gates that come next. It answers whether it
+    // went on.
+    #[inline(always)]
+    fn walk_half<W: Promise, T: SlotItem<W>>(
+        &mut self,
+        plan: &Plan,
+        board: &Board<W, T>,
+        seat: &mut BoardSeat<W, T>,
+    ) -> bool
+        requires may { CanWalk plan.now (W.list board.now.about.world) self.old }
+        requires seat { IsSeatOf board.now seat.old }
+        ensures seat { IsSeatOf board.now seat.new }
+        ensures went { ForWalking plan.now (W.list board.now.about.world) self.old
+            (λ given. WentOn given seat.old self.old seat.new self.new result) }
+        ensures still { self.new.position ≡ self.old.position → self.new ≡ self.old }
+    {
+        match self.place.half() {
+            Half::Head => self.walk_head(plan, board, seat),
+            Half::Tail => self.walk_tail(plan, board, seat),
+        }
     }
 
     // In a head of a gate, what the party does there, and the linear gates that come next in heads. It answers whether

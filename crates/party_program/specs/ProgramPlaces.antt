@@ -9,7 +9,8 @@ use Rattle.job_session.specs.declared.source.Source.TheVariants.{Carried}
 use Rattle.job_session.specs.Sessions.{Session, owners, readers, session_slots, source}
 use Rattle.job_session.specs.Sessions.Slot.{Input}
 use Rattle.job_session.specs.Batches.{IsInBatch}
-use Rattle.job_plan.specs.Plans.{Plan, keeping_slot, session, slot_number, slots}
+use Rattle.secret_sharing.specs.Schemes.{has_pair}
+use Rattle.job_plan.specs.Plans.{Plan, deals_in, keeping_slot, scheme, session, slot, slot_number, slots}
 use Rattle.job_plan.specs.Numbers.{deals_before}
 use Rattle.job_plan.specs.Firsts.{first}
 use Rattle.job_plan.specs.Patterns.{pattern_at, Occurs}
@@ -18,6 +19,7 @@ use Rattle.party_program.specs.declared.half.Half.{Half}
 use Rattle.party_program.specs.declared.half.Half.TheVariants.{Head, Tail}
 use Rattle.party_program.specs.declared.program.Program.{Program}
 use Rattle.party_program.specs.declared.place.Place.{Place}
+use Rattle.party_program.specs.declared.deals.ProductCounts.{ProductCounts}
 use Rattle.party_program.specs.declared.deals.SessionSteps.{SessionSteps}
 use Rattle.party_program.specs.declared.deals.Tally.{Tally}
 use Rattle.party_program.specs.declared.step.Step.{Step}
@@ -126,6 +128,29 @@ pub record AreDeals (plan : Plan) (p s k : ℕ) (list : Vec ℕ) (tally : Tally)
 -- the same for the party and the session of these steps
 abbrev pub AreDealsTo : SessionSteps → ℕ → Vec ℕ → Tally → Type 0
 AreDealsTo own k list tally = AreDeals own.plan.now own.party own.session k list tally
+
+-- the party has so many instructions and deals in slot k
+pub record HasInSlot (own : SessionSteps) (k count deals : ℕ) : Type 0 where
+  pub there : k < slots own.plan.now own.session
+  pub instructions : count ≡ length (slot_program own.plan.now own.party own.session k)
+  pub dealt : deals ≡ (if deals_in own.plan.now own.session own.party (slot own.plan.now own.session k) then 1 else 0)
+
+-- in each of the slots k and k + 1 it has so many instructions and no deal, and in the next one so many of both
+abbrev pub HasInThree : SessionSteps → ℕ → ℕ → ℕ → ℕ → Type 0
+HasInThree own k each last deals = HasInSlot own k each 0 × HasInSlot own (k + 1) each 0 × HasInSlot own (k + 2) last deals
+
+-- how many instructions the party has in a slot of this pattern
+abbrev pub steps_in : SessionSteps → Pattern → ℕ
+steps_in own pattern =
+    length (steps own.plan.now own.party Head pattern) + length (steps own.plan.now own.party Tail pattern)
+
+-- the party's instructions in each slot of what a prepared product needs, and its deals in that of the product of masks
+pub record AreProductCounts (own : SessionSteps) (counts : ProductCounts) : Type 0 where
+  pub mask : counts.mask ≡ steps_in own HandedOut
+  pub product : counts.product ≡ steps_in own Multiplied
+  pub opening : counts.opening ≡ steps_in own OpenedToAll
+  pub join : counts.join ≡ steps_in own Joined
+  pub deals : counts.deals ≡ (if has_pair (scheme own.plan.now) own.party then 1 else 0)
 
 -- the program of party p in session s of a plan within the limits
 pub record IsProgram (plan : Plan) (p s : ℕ) (program : Program) : Type 0 where

@@ -1,11 +1,13 @@
 //! How many deals stand before each slot.
-ghost use Rattle.std.specs.Prelude.{◌≡◌, ◌+◌, ◌<◌, ◌≤◌, IfOk, length};
+ghost use Rattle.std.specs.Prelude.{◌≡◌, ℕ, ◌+◌, ◌<◌, ◌≤◌, true, IfOk, length};
 ghost use Rattle.secret_sharing.specs.Schemes.{has_pair};
 ghost use Rattle.job_plan.specs.Plans as plans;
 ghost use Rattle.job_session.specs.Sessions.{owners};
+ghost use Rattle.job_session.specs.SlotNumbers.{first_input, first_of_gate};
 ghost use Rattle.job_plan.specs.Plans.{scheme, slots};
 ghost use Rattle.party_program.specs.PartySteps.{deals_in_pattern};
 ghost use Rattle.party_program.specs.ProgramPlaces.{AreDealsTo, AreSessionSteps, HasNoneBeside, instructions_before, session_of};
+ghost use Rattle.party_program.specs.ProgramPlaces.{AreProductCounts, HasInSlot, HasInThree};
 ghost use Rattle.job_plan.specs.Numbers.{deals_before};
 ghost use Rattle.list_laws.specs.Lists.{listed};
 
@@ -30,6 +32,17 @@ pub(crate) struct Tally {
     pub(crate) deals: u32,
 }
 
+/// How many instructions a party has in each slot of what a prepared product needs, and how many deals in that of the
+/// product of its masks.
+#[derive(Clone, Copy)]
+pub(crate) struct ProductCounts {
+    pub(crate) mask: usize,
+    pub(crate) product: usize,
+    pub(crate) opening: usize,
+    pub(crate) join: usize,
+    pub(crate) deals: u32,
+}
+
 /// How many deals the party makes before each slot of the session, and how many instructions it has in all slots.
 pub(crate) fn list_deals(
     alloc: Global,
@@ -45,24 +58,155 @@ pub(crate) fn list_deals(
 {
     let plan = own.plan;
     let _ = plan.parties();
-    let part = plan.part(own.session);
-    let inputs = part.input_wires() as u32;
-    let outputs = inputs + part.gates().len() as u32;
     let slots = plan.slots(own.session);
     let mut list = Vec::with_capacity(alloc, slots as usize)?;
     let mut tally = Tally {
         instructions: 0,
         deals: 0,
     };
-    let mut done = 0;
-    // Without slots of prepared products, those of the gates stand together behind the inputs.
-    if slots == outputs + part.output_wires() as u32 + part.kept().len() as u32 {
-        push_slots(own, 0, inputs, &mut list, &mut tally);
-        push_gates(own, &mut list, &mut tally);
-        done = outputs;
-    }
+    let done = push_most(own, &mut list, &mut tally);
     push_slots(own, done, slots, &mut list, &mut tally);
     Ok((list, tally.instructions))
+}
+
+// Adds those before the slots up to the first output, and answers which slot that is.
+fn push_most(own: &SessionSteps<'_>, list: &mut Vec<u32>, tally: &mut Tally) -> u32
+    requires steps { AreSessionSteps own.now }
+    requires before { AreDealsTo own.now 0 list.old tally.old }
+    ensures there { result ≤ slots own.now.plan.now own.now.session }
+    ensures added { AreDealsTo own.now result list.new tally.new }
+{
+    let plan = own.plan;
+    let _ = (plan.parties(), plan.slots(own.session));
+    let part = plan.part(own.session);
+    if part.is_prepared() {
+        push_prepared(own, list, tally);
+        return part.first_output_slot();
+    }
+    let inputs = part.input_wires() as u32;
+    push_slots(own, 0, inputs, list, tally);
+    push_gates(own, list, tally);
+    inputs + part.gates().len() as u32
+}
+
+// The same where products are prepared.
+fn push_prepared(own: &SessionSteps<'_>, list: &mut Vec<u32>, tally: &mut Tally)
+    requires steps { AreSessionSteps own.now }
+    requires prepared { (session_of own.now).prepared ≡ true }
+    requires before { AreDealsTo own.now 0 list.old tally.old }
+    ensures { AreDealsTo own.now (first_of_gate (session_of own.now) (length (session_of own.now).gates))
+        list.new tally.new }
+{
+    let plan = own.plan;
+    let _ = plan.parties();
+    let part = plan.part(own.session);
+    let counts = count_products(own);
+    push_masks(own, counts, list, tally);
+    push_slots(
+        own,
+        part.first_input_slot(),
+        part.first_gate_slot(),
+        list,
+        tally,
+    );
+    push_prepared_gates(own, counts, list, tally);
+}
+
+// How many instructions and deals the party has in the slots of what a prepared product needs.
+fn count_products(own: &SessionSteps<'_>) -> ProductCounts
+    requires { AreSessionSteps own.now }
+    ensures { AreProductCounts own.now result }
+{
+    let SessionSteps { heads, tails, .. } = *own;
+    ProductCounts {
+        mask: heads.of_mask().len() + tails.of_mask().len(),
+        product: heads.of_product().len() + tails.of_product().len(),
+        opening: heads.of_opening().len() + tails.of_opening().len(),
+        join: heads.of_join().len() + tails.of_join().len(),
+        deals: u32::from(own.plan.multiplies(own.party)),
+    }
+}
+
+// Adds those before the slots of masks and of their products.
+fn push_masks(own: &SessionSteps<'_>, counts: ProductCounts, list: &mut Vec<u32>, tally: &mut Tally)
+    requires steps { AreSessionSteps own.now }
+    requires counts { AreProductCounts own.now counts }
+    requires prepared { (session_of own.now).prepared ≡ true }
+    requires before { AreDealsTo own.now 0 list.old tally.old }
+    ensures { AreDealsTo own.now (first_input (session_of own.now)) list.new tally.new }
+{
+    let _ = own.plan.parties();
+    for gate in own.plan.part(own.session).gates() {
+        if gate.operation.is_product() {
+            push_three(own, counts.mask, counts.product, counts.deals, list, tally);
+        }
+    }
+}
+
+// Adds those before the slots of gates and of what is opened for them.
+fn push_prepared_gates(
+    own: &SessionSteps<'_>,
+    counts: ProductCounts,
+    list: &mut Vec<u32>,
+    tally: &mut Tally,
+)
+    requires steps { AreSessionSteps own.now }
+    requires counts { AreProductCounts own.now counts }
+    requires prepared { (session_of own.now).prepared ≡ true }
+    requires before { AreDealsTo own.now (first_of_gate (session_of own.now) 0) list.old tally.old }
+    ensures { AreDealsTo own.now (first_of_gate (session_of own.now) (length (session_of own.now).gates))
+        list.new tally.new }
+{
+    let _ = own.plan.parties();
+    for gate in own.plan.part(own.session).gates() {
+        if gate.operation.is_product() {
+            push_three(own, counts.opening, counts.join, 0, list, tally);
+        } else {
+            push_slot(own, 1, 0, list, tally);
+        }
+    }
+}
+
+// Adds those before three slots: in each of the first two the party has so many instructions and no deal, and in the last
+// one so many of both.
+#[inline(always)]
+fn push_three(
+    own: &SessionSteps<'_>,
+    each: usize,
+    last: usize,
+    deals: u32,
+    list: &mut Vec<u32>,
+    tally: &mut Tally,
+)
+    requires steps { AreSessionSteps own.now }
+    requires next { (k : ℕ) × HasInThree own.now k each last deals × AreDealsTo own.now k list.old tally.old }
+    ensures { (k : ℕ) → HasInThree own.now k each last deals → AreDealsTo own.now k list.old tally.old
+        → AreDealsTo own.now (k + 3) list.new tally.new }
+{
+    push_slot(own, each, 0, list, tally);
+    push_slot(own, each, 0, list, tally);
+    push_slot(own, last, deals, list, tally);
+}
+
+// Adds those before one slot, in which the party has so many instructions and deals.
+#[inline(always)]
+fn push_slot(
+    own: &SessionSteps<'_>,
+    count: usize,
+    deals: u32,
+    list: &mut Vec<u32>,
+    tally: &mut Tally,
+)
+    requires steps { AreSessionSteps own.now }
+    requires next { (k : ℕ) × HasInSlot own.now k count deals × AreDealsTo own.now k list.old tally.old }
+    ensures { (k : ℕ) → HasInSlot own.now k count deals → AreDealsTo own.now k list.old tally.old
+        → AreDealsTo own.now (k + 1) list.new tally.new }
+{
+    let plan = own.plan;
+    let _ = (plan.parties(), plan.slots(own.session));
+    list.push_reserved(tally.deals);
+    tally.instructions += count as u32;
+    tally.deals += deals;
 }
 
 // Adds the deals before each of the slots from this one on to that one.

@@ -1,7 +1,7 @@
 //! The steps of a party in heads, or in tails, for each pattern of a session's slots.
 ghost use Rattle.std.specs.Prelude.{◌≡◌, ℕ, ◌<◌, IfOk, OnOk, length};
 ghost use Rattle.list_laws.specs.Lists.{listed};
-ghost use Rattle.job_plan.specs.declared.pattern.Pattern.TheVariants.{Dealt, Multiplied, Opened};
+ghost use Rattle.job_plan.specs.declared.pattern.Pattern.TheVariants.{Dealt, Multiplied, Opened, HandedOut, OpenedToAll, Joined};
 ghost use Rattle.job_plan.specs.Plans.{slots};
 ghost use Rattle.job_plan.specs.Patterns.{pattern_at, Occurs};
 ghost use Rattle.party_program.specs.PartySteps.{steps};
@@ -101,8 +101,32 @@ impl StepTable {
         self.multiplied.as_slice()
     }
 
-    /// How many steps the party has in a slot of a linear gate or of a product that is dealt; of another pattern it
-    /// tells nothing.
+    /// What the party does in a slot of a mask.
+    pub(crate) fn of_mask(&self) -> &[Step]
+        ensures { (plan : plans.Plan) (p s : ℕ) (half : halves.Half) → AreSteps plan p s half self.now
+            → result.now ≡ steps plan p half HandedOut }
+    {
+        self.handed_out.as_slice()
+    }
+
+    /// What the party does in a slot of what is opened of a prepared product.
+    pub(crate) fn of_opening(&self) -> &[Step]
+        ensures { (plan : plans.Plan) (p s : ℕ) (half : halves.Half) → AreSteps plan p s half self.now
+            → result.now ≡ steps plan p half OpenedToAll }
+    {
+        self.opened_to_all.as_slice()
+    }
+
+    /// What the party does in the own slot of a prepared product.
+    pub(crate) fn of_join(&self) -> &[Step]
+        ensures { (plan : plans.Plan) (p s : ℕ) (half : halves.Half) → AreSteps plan p s half self.now
+            → result.now ≡ steps plan p half Joined }
+    {
+        self.joined.as_slice()
+    }
+
+    /// How many steps the party has in a slot of a linear gate, of a product that is dealt, or of what a prepared product
+    /// needs more; of another pattern it tells nothing.
     pub(crate) fn gate_count(&self, pattern: Pattern) -> usize
         ensures { (plan : plans.Plan) (p s : ℕ) (half : halves.Half) → AreSteps plan p s half self.now → 0 < result
             → result ≡ length (steps plan p half pattern) }
@@ -110,8 +134,10 @@ impl StepTable {
         match pattern {
             Pattern::Silent => self.silent.as_slice().len(),
             Pattern::Multiplied => self.of_product().len(),
+            Pattern::HandedOut => self.handed_out.as_slice().len(),
+            Pattern::OpenedToAll => self.opened_to_all.as_slice().len(),
+            Pattern::Joined => self.joined.as_slice().len(),
             Pattern::Dealt(_) | Pattern::Opened(_) => 0,
-            Pattern::HandedOut | Pattern::OpenedToAll | Pattern::Joined => 0,
             Pattern::Held | Pattern::Received => 0,
         }
     }

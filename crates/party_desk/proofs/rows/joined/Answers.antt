@@ -1,10 +1,7 @@
 use Rattle.std.proofs.Common.{◌≡◌, ℕ, ◌+◌, ◌*◌, ◌%◌, ◌^◌, if◌then◌else◌, ◌∙◌, refl, sym, ap, arith}
-use Rattle.mpc_ring.proofs.Remainders.{Same, mods_of_same, same_add, same_mod, same_refl, same_trans}
+use Rattle.mpc_ring.proofs.Remainders.{Same, mods_of_same, same_add, same_refl, same_trans}
+use Rattle.party_desk.proofs.RingSums.{same_word}
 use Rattle.party_desk.proofs.rows.joined.Goals as goal
-
--- a word of the ring is what it was made of, but for a multiple of the modulus
-same_word : (q r n : ℕ) → r ≡ n % q → Same q r n
-same_word q r n is = same_trans (same_refl q r (n % q) is) (same_mod q n)
 
 -- the sum of c, d * b and e * a
 summed : (q a b c d e by_first by_second begun : ℕ) → by_first ≡ d * b % q → by_second ≡ e * a % q → begun ≡ (c + by_first) % q → Same q (begun + by_second) (c + d * b + e * a)

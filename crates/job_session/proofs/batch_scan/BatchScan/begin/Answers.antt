@@ -1,4 +1,4 @@
-use Rattle.std.proofs.Common.{◌≡◌, ◌-◌, true, ◌||◌, inl, inr, refl, ◌∙◌, ap, arith}
+use Rattle.std.proofs.Common.{◌≡◌, ◌-◌, true, ◌||◌, inl, inr, ◌∙◌, ap, arith}
 use Rattle.std.proofs.lemmas.Bool.{or_left, or_right, or_from}
 use Rattle.job_session.specs.Wirings.{session_in, is_named}
 use Rattle.job_session.proofs.RowNames.{few_slots}
@@ -23,11 +23,11 @@ waits-requires-clause-few c =
     let s = session_in c.args.wiring.now in
     omega (arith, c.requires.scan.first, batch_within s (c.args.k - 1), few_slots s c.requires.wiring.wired)
 
-pub end_batch-requires : goal.end_batch-requires
-end_batch-requires c = omega (arith, c.requires.scan.ended, batch_within (session_in c.args.wiring.now) (c.args.k - 1))
+pub begin_batch-requires : goal.begin_batch-requires
+begin_batch-requires c = omega (arith, c.requires.scan.ended, batch_within (session_in c.args.wiring.now) (c.args.k - 1))
 
-pub returns-in_ok-end_batch : goal.returns-in_ok-end_batch
-returns-in_ok-end_batch c =
+pub returns-in_ok-begin_batch : goal.returns-in_ok-begin_batch
+returns-in_ok-begin_batch c =
     let s = session_in c.args.wiring.now in
     let b = c.waits.result || c.args.before_join in
     let by = batch_by_stamps s c.args.k c.args.reads.0 c.args.reads.1 c.args.before_join c.args.self.now b c.requires.reads c.requires.scan c.requires.before_join (ap (λ x. x || c.args.before_join) c.waits.ensures) in
@@ -35,7 +35,7 @@ returns-in_ok-end_batch c =
       | inl waits ↦ or_left c.waits.result c.args.before_join waits
       | inr join ↦ or_right c.waits.result c.args.before_join join.1
     ] in
-    batch_begins s c.args.k c.args.self.now _ c.requires.slot (by.0 is) c.requires.scan refl (ap (λ v. v.items) c.end_batch.ensures.stamps) refl c.in_ok-end_batch.ensures.ends
+    batch_begins s c.args.k c.args.self.now _ c.requires.slot (by.0 is) c.requires.scan c.in_ok-begin_batch.ensures.first (ap (λ v. v.items) c.in_ok-begin_batch.ensures.stamps) c.in_ok-begin_batch.ensures.joins c.in_ok-begin_batch.ensures.ends
 
 pub returns-else-before_join : goal.returns-else-before_join
 returns-else-before_join c =

@@ -1,7 +1,7 @@
 use Rattle.std.proofs.Common.{◌<◌, ◌^◌, All}
 use Rattle.secret_sharing.specs.Prepared.{joined_summand}
 use Rattle.party_desk.specs.Rows.{row, SameRows, filled_to}
-use Rattle.party_desk.proofs.rows.join_row.Given as goal
+use Rattle.party_desk.proofs.rows.join_each.Given as goal
 
 -- the summands below i are joined
 abbrev pub invariant-loop-i : goal.invariant-loop-i

@@ -1,13 +1,10 @@
-use Rattle.std.proofs.Common.{◌≡◌, ℕ, ◌+◌, ◌*◌, ◌%◌, ◌<◌, ◌^◌, nat_eq, if◌then◌else◌, ◌∙◌, arith}
+use Rattle.std.proofs.Common.{ℕ, ◌+◌, ◌*◌, ◌<◌, ◌^◌, ◌∙◌, arith}
 use Rattle.std.proofs.lemmas.List.Elements.{All-set}
 use Rattle.secret_sharing.specs.Prepared.{joined_summand}
 use Rattle.party_desk.specs.Rows.{row}
+use Rattle.party_desk.proofs.RingSums.{same_summand}
 use Rattle.party_desk.proofs.RowWrites.{fill_step, fill_unread}
-use Rattle.party_desk.proofs.rows.join_row.Goals as goal
-
--- a summand hangs on those of the masks and their product
-same_summand : (q d e i a b c x y z : ℕ) → a ≡ x → b ≡ y → c ≡ z → (c + d * b + e * a + (if nat_eq i 0 then d * e else 0)) % q ≡ (z + d * y + e * x + (if nat_eq i 0 then d * e else 0)) % q
-same_summand q d e i a b c x y z p q' r j = (r j + d * q' j + e * p j + (if nat_eq i 0 then d * e else 0)) % q
+use Rattle.party_desk.proofs.rows.join_each.Goals as goal
 
 pub loop-i-preserved : goal.loop-i-preserved
 loop-i-preserved c =
